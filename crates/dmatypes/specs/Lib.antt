@@ -1,0 +1,12 @@
+pub mod Page
+pub mod Rights
+pub mod Numbers
+pub mod World
+pub mod Conditions
+pub mod Allows
+pub mod Step
+pub mod History
+pub mod Grammar
+pub mod Reading
+pub mod Spelled
+pub mod Text

@@ -1,0 +1,21 @@
+//! Pages, frames, calls and replies of a manager of DMA addresses, the script lines that say calls,
+//! and the lines that are written for replies. `specs/` has the model that every contract of the
+//! repository speaks of.
+#![tactic(auto)]
+
+mod call;
+mod fields;
+mod line;
+mod page;
+mod refusal;
+mod reply;
+mod reply_line;
+mod rights;
+
+pub use call::{Access, Call, Mode, Segment, Whim};
+pub use line::parse_line;
+pub use page::{Frame, Page, PageRange};
+pub use refusal::{Fault, Refusal};
+pub use reply::{Event, Reply};
+pub use reply_line::event_line;
+pub use rights::Rights;
