@@ -20,26 +20,22 @@ fault_of accesses.Write = faults.Write
 abbrev pub host_of : Target → ℕ → ℕ
 host_of t address = byte_address t.frame (offset_of address)
 
--- the page is live with the right, and this is its host address
-abbrev pub IsLiveHost : Domain → ℕ → Access → ℕ → Type 0
-IsLiveHost v address access host =
-    (t : Target) × IsLive v (page_of address) t × Permits t.rights access × (host ≡ host_of t address)
+-- the page of the address is live with the right, with this target
+abbrev pub IsLiveFor : Domain → ℕ → Access → Target → Type 0
+IsLiveFor v address access t = IsLive v (page_of address) t × Permits t.rights access
 
--- the page is in a record with the right, and this is that record's host address
-abbrev pub IsRetiredHost : Domain → ℕ → Access → ℕ → Type 0
-IsRetiredHost v address access host =
-    (t : Target) × IsRetired v (page_of address) t × Permits t.rights access × (host ≡ host_of t address)
-
-abbrev pub HasLiveHost : Domain → ℕ → Access → Type 0
-HasLiveHost v address access = (host : ℕ) × IsLiveHost v address access host
+-- it is in a record with the right, with this target
+abbrev pub IsRetiredFor : Domain → ℕ → Access → Target → Type 0
+IsRetiredFor v address access t = IsRetired v (page_of address) t × Permits t.rights access
 
 -- within the width: a live page with the right has only its host address; else a page in a record with
 -- the right has that record's host address or the fault; else there is only the fault
 abbrev pub AllowsWithin : Domain → ℕ → Access → Reply → Type 0
 AllowsWithin v address access reply =
-    ((host : ℕ) × IsLiveHost v address access host × (reply ≡ Host host))
-    ⊎ ((HasLiveHost v address access → ⊥) × (host : ℕ) × IsRetiredHost v address access host × (reply ≡ Host host))
-    ⊎ ((HasLiveHost v address access → ⊥) × (reply ≡ Faulted (fault_of access)))
+    ((t : Target) × IsLiveFor v address access t × (reply ≡ Host (host_of t address)))
+    ⊎ (((t : Target) → IsLiveFor v address access t → ⊥)
+      × (((t : Target) × IsRetiredFor v address access t × (reply ≡ Host (host_of t address)))
+        ⊎ (reply ≡ Faulted (fault_of access))))
 
 -- in a domain: beyond its width there is only the one fault
 abbrev pub AllowsIn : Domain → ℕ → Access → Reply → Type 0

@@ -6,6 +6,7 @@ use Rattle.dmatypes.specs.declared.call.Segment.{Segment}
 use Rattle.dmatypes.specs.declared.refusal.Refusal.{Refusal}
 use Rattle.dmatypes.specs.declared.refusal.Refusal.TheVariants as refusals
 use Rattle.dmatypes.specs.Page.{IsInWindow}
+use Rattle.dmatypes.specs.Rights.{AreRights}
 use Rattle.dmatypes.specs.World.{World, AreFreePages}
 
 -- ---- of maps
@@ -26,22 +27,21 @@ IsBadMap segments order rights =
     ⊎ (4096 < total_pages segments)
     ⊎ SomeHas (λ s. 2 ^ 24 < s.frame + s.pages) segments
     ⊎ (9 < order)
-    ⊎ (rights ≡ 0)
-    ⊎ (3 < rights)
+    ⊎ (AreRights rights → ⊥)
 
--- every range of so many pages at a multiple of 2^order has a member that is no free page
+-- no range of so many pages at a multiple of 2^order has free pages only
 abbrev pub HasNoRange : World → ℕ → ℕ → ℕ → Type 0
 HasNoRange w domain pages order =
     IsSomeAnd (w.domains domain) (λ v. (s : ℕ) → s % 2 ^ order ≡ 0 → AreFreePages v (record { first = s; pages = pages }) → ⊥)
 
 -- ---- the condition of each refusal, at each call
 
-abbrev pub IsRefusedMap : World → ℕ → List Segment → ℕ → ℕ → Refusal → Type 0
-IsRefusedMap w domain segments order rights refusals.NoDomain = IsNone (w.domains domain)
-IsRefusedMap w domain segments order rights refusals.BadRange = IsBadMap segments order rights
-IsRefusedMap w domain segments order rights refusals.FrameOwned = SomeHas (λ s. s.frame < w.frames) segments
-IsRefusedMap w domain segments order rights refusals.NoRange = HasNoRange w domain (total_pages segments) order
-IsRefusedMap w domain segments order rights _ = ⊥
+abbrev pub StandsAtMap : World → ℕ → List Segment → ℕ → ℕ → Refusal → Type 0
+StandsAtMap w domain segments order rights refusals.NoDomain = IsNone (w.domains domain)
+StandsAtMap w domain segments order rights refusals.BadRange = IsBadMap segments order rights
+StandsAtMap w domain segments order rights refusals.FrameOwned = SomeHas (λ s. s.frame < w.table_frames) segments
+StandsAtMap w domain segments order rights refusals.NoRange = HasNoRange w domain (total_pages segments) order
+StandsAtMap w domain segments order rights _ = ⊥
 
 unfoldable pub Stands : World → Call → Refusal → Type 0
 Stands w (calls.Domain mode) refusals.TooManyDomains = (d : ℕ) → 1 ≤ d → d ≤ 15 → IsSome (w.domains d)
@@ -51,7 +51,7 @@ Stands w (calls.Attach device domain) refusals.NoDomain = IsNone (w.domains doma
 Stands w (calls.Attach device domain) refusals.Busy = IsSome (w.devices device)
 Stands w (calls.Attach device domain) _ = ⊥
 Stands w (calls.Map domain frame pages order rights) refusal =
-    IsRefusedMap w domain (record { frame = frame; pages = pages } ∷ []) order rights refusal
+    StandsAtMap w domain (record { frame = frame; pages = pages } ∷ []) order rights refusal
 Stands w (calls.Dma device address access whim) refusals.NoDevice = 15 < device
 Stands w (calls.Dma device address access whim) refusals.Window = IsInWindow address
 Stands w (calls.Dma device address access whim) _ = ⊥
@@ -79,9 +79,9 @@ NoneStands P (r ∷ rs) = (P r → ⊥) × NoneStands P rs
 abbrev pub IsRefused : World → Call → Refusal → Type 0
 IsRefused w call refusal = IsFirst (Stands w call) (order_of call) refusal
 
--- no condition of the call stands
-abbrev pub IsAccepted : World → Call → Type 0
-IsAccepted w call = NoneStands (Stands w call) (order_of call)
+-- none of the conditions that the world decides stands
+abbrev pub NoConditionStands : World → Call → Type 0
+NoConditionStands w call = NoneStands (Stands w call) (order_of call)
 
 -- the refusals that a call may meet below the model
 abbrev pub MayMeet : Call → Refusal → Type 0

@@ -49,6 +49,7 @@ number text = if starts_with nat_eq text (codes "0x")
     then (if is_hexadecimal (drop 2 text) then below_2_64 (digits_value 16 (drop 2 text)) else None)
     else (if is_decimal text then below_2_64 (digits_value 10 text) else None)
 
+-- a mode; `lazy` is said by no line yet
 abbrev pub mode : List ℕ → Option Mode
 mode text = if is_word text (codes "strict") then Some modes.Strict else None
 

@@ -7,7 +7,7 @@ use Rattle.dmatypes.specs.declared.reply.Reply.{Reply}
 use Rattle.dmatypes.specs.declared.reply.Reply.TheVariants.{Made, Done, Mapped, Refused}
 use Rattle.dmatypes.specs.Page.{byte_address}
 use Rattle.dmatypes.specs.World.{World, AreFreePages, empty_domain, put, mapped, with_domain}
-use Rattle.dmatypes.specs.Conditions.{total_pages, IsRefused, IsAccepted, MayMeet}
+use Rattle.dmatypes.specs.Conditions.{total_pages, IsRefused, NoConditionStands, MayMeet}
 use Rattle.dmatypes.specs.Allows.{Allows}
 
 -- any unused id of 1 to 15
@@ -32,8 +32,8 @@ Answers w (calls.Dma device address access whim) reply = Allows w device address
 -- the reply is allowed to the call: the first refusal whose condition stands, and nothing else where one
 -- stands; else a refusal that is decided below the model, or an answer
 unfoldable pub IsStep : World → Call → Reply → Type 0
-IsStep w call (Refused refusal) = IsRefused w call refusal ⊎ (IsAccepted w call × MayMeet call refusal)
-IsStep w call reply = IsAccepted w call × Answers w call reply
+IsStep w call (Refused refusal) = IsRefused w call refusal ⊎ (NoConditionStands w call × MayMeet call refusal)
+IsStep w call reply = NoConditionStands w call × Answers w call reply
 
 -- the world after a call and its reply
 unfoldable pub next : World → Call → Reply → World

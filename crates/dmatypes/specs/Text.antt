@@ -7,7 +7,7 @@ use Rattle.dmatypes.specs.declared.reply.Reply.{Reply}
 use Rattle.dmatypes.specs.declared.reply.Reply.TheVariants.{Made, Done, Mapped, Host, Faulted, Refused}
 use Rattle.dmatypes.specs.Numbers.{fault_number, refusal_number}
 
--- an address: `0x`, and its digits in base 16, in lower case and without leading zeros
+-- an address below 2^64: `0x`, and its digits in base 16, in lower case and without leading zeros
 abbrev pub address_text : ℕ → List ℕ
 address_text a = codes "0x" ++ digits 16 false a
 

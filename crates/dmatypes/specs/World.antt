@@ -1,5 +1,6 @@
 -- Domains and the world, as their callers see them. A finite map is a function to `Option`.
 use Rattle.std.specs.Prelude.{◌≡◌, ◌==◌, ◌&&◌, ◌⊎◌, ℕ, ◌+◌, ◌-◌, nat_le, nat_lt, Bool, List, [], ◌∷◌, Option, Some, None, if◌then◌else◌}
+use Rattle.std.specs.Option.{option_or}
 use Rattle.dmatypes.specs.declared.call.Mode.{Mode}
 use Rattle.dmatypes.specs.declared.call.Segment.{Segment}
 use Rattle.dmatypes.specs.Page.{Range, IsWithin, IsPage}
@@ -30,7 +31,7 @@ pub record Ticket : Type 0 where
 -- the number of table frames, the domains by id, the domain of each attached device, and the open
 -- tickets, whose order means nothing
 pub record World : Type 0 where
-  pub frames : ℕ
+  pub table_frames : ℕ
   pub domains : ℕ → Option Domain
   pub devices : ℕ → Option ℕ
   pub tickets : List Ticket
@@ -47,7 +48,7 @@ IsLive v p t = v.live p ≡ Some t
 
 -- the page is in a record, with this target
 abbrev pub IsRetired : Domain → ℕ → Target → Type 0
-IsRetired v p t = (r : Retired) × IsIn r v.retired × (r.targets p ≡ Some t)
+IsRetired v p t = (r : Retired) × IsIn r v.retired × IsWithin r.range p × (r.targets p ≡ Some t)
 
 -- the page is neither live nor in a record
 pub record IsFree (v : Domain) (p : ℕ) : Type 0 where
@@ -62,7 +63,7 @@ AreFreePages v range = (p : ℕ) → IsWithin range p → IsPage p × IsFree v p
 
 -- the world with table frames and nothing else
 abbrev pub empty : ℕ → World
-empty frames = record { frames = frames; domains = λ d. None; devices = λ v. None; tickets = [] }
+empty frames = record { table_frames = frames; domains = λ d. None; devices = λ v. None; tickets = [] }
 
 abbrev pub empty_domain : Mode → Domain
 empty_domain mode = record { mode = mode; live = λ p. None; retired = []; begun = 0 }
@@ -82,14 +83,10 @@ placed (s ∷ ss) first rights p =
     then Some (record { frame = s.frame + (p - first); rights = rights })
     else placed ss (first + s.pages) rights p
 
--- the first map where it has an entry, else the second
-abbrev pub or_else : Option Target → Option Target → Option Target
-or_else None t = t
-or_else (Some s) t = Some s
 
 -- the segments become live
 abbrev pub mapped : List Segment → ℕ → ℕ → Domain → Domain
-mapped segments first rights v = record v { live = λ p. or_else (placed segments first rights p) (v.live p) }
+mapped segments first rights v = record v { live = λ p. option_or (placed segments first rights p) (v.live p) }
 
 -- one domain changes
 abbrev pub change_of : (Domain → Domain) → Option Domain → Option Domain

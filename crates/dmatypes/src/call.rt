@@ -33,7 +33,7 @@ pub struct Segment {
 }
 
 /// A call of a manager.
-#[derive(Clone, Copy, Debug, PartialEq, Eq)]
+#[derive(Clone, Debug, PartialEq, Eq, Drop)]
 pub enum Call {
     /// Makes a domain.
     Domain(Mode),

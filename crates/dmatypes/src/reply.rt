@@ -21,7 +21,7 @@ pub enum Reply {
 }
 
 /// A call and its answer, as a history holds them.
-#[derive(Clone, Copy, Debug, PartialEq, Eq)]
+#[derive(Clone, Debug, PartialEq, Eq, Drop)]
 pub struct Event {
     pub call: Call,
     pub reply: Reply,

@@ -1,0 +1,29 @@
+-- An event more at the end of a history.
+use Rattle.std.proofs.Common.{◌≡◌, ℕ, ◌+◌, ◌<◌, ◌≤◌, List, [], ◌∷◌, ◌++◌, length, refl, ap, sym, ◌∙◌, subst, arith, length-append}
+use Rattle.dmatypes.specs.declared.reply.Event.{Event}
+use Rattle.dmatypes.specs.World.{World, empty}
+use Rattle.dmatypes.specs.Step.{IsStep, next}
+use Rattle.dmatypes.specs.History.{after_from, after, IsLegalFrom, IsLegal}
+use Rattle.dmatypes.proofs.Histories.{after_from-push, IsLegalFrom-push}
+use Rattle.manager.specs.Machine.{Machine, IsNew}
+use Rattle.manager.specs.Fits.{Fits}
+use Rattle.manager.specs.Steps.{Does, Goes, GoesTo}
+use Rattle.manager.specs.Kept.{Account, IsKept}
+
+Goes-push : (m : Machine) (es : List Event) (s : Machine) (e : Event) (t : Machine) → Goes m es s → Does s e.call e.reply t → Goes m (es ++ e ∷ []) t
+Goes-push m [] s e t same does = (t, (subst (λ (x : Machine). Does x e.call e.reply t) (sym same) does, refl))
+Goes-push m (x ∷ es) s e t goes does = (goes.0, (goes.1.0, Goes-push goes.0 es s e t goes.1.1 does))
+
+-- one call more keeps what a book keeps
+pub IsKept-push : (frames room : ℕ) (a : Account) (e : Event) (t : Machine) (now : List Event) → now ≡ a.history ++ e ∷ [] → IsKept frames room a → length a.history < room → Does a.state e.call e.reply t
+    → IsKept frames room (record { history = now; state = t })
+IsKept-push frames room a e t now is kept less does =
+    let both = does.steps (after frames a.history) kept.fits in
+    let more : length now ≡ length a.history + 1 = ap length is ∙ length-append a.history (e ∷ []) in
+    record {
+      legal = rw is (IsLegalFrom-push (empty frames) a.history e kept.legal both.0);
+      fits = rw is (rw (after_from-push (empty frames) a.history e) both.1);
+      goes = let g = kept.goes in (g.0, (g.1.0, rw is (Goes-push g.0 a.history a.state e t g.1.1 does)));
+      within = omega (arith, more);
+      calls = omega (arith, more, kept.calls, does.calls);
+    }

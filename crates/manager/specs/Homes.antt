@@ -1,0 +1,40 @@
+-- The places of domains.
+use Rattle.std.specs.Prelude.{◌≡◌, ◌⊎◌, ℕ, ◌+◌, ◌-◌, ◌*◌, ◌/◌, ◌^◌, ◌<◌, ◌≤◌, ◌==◌, List, [], ◌∷◌, length, Option, Some, None, Result, Ok, Err, slice_get, if◌then◌else◌}
+use Rattle.std.specs.Option.{option_and_then}
+use Rattle.dmatypes.specs.declared.call.Access.{Access}
+use Rattle.dmatypes.specs.declared.call.Mode.{Mode}
+use Rattle.dmatypes.specs.declared.refusal.Fault.{Fault}
+use Rattle.dmatypes.specs.declared.refusal.Fault.TheVariants as faults
+use Rattle.dmatypes.specs.Allows.{fault_of, host_of}
+use Rattle.dmatypes.specs.Page.{IsBeyond, page_of}
+use Rattle.dmatypes.specs.Rights.{Permits}
+use Rattle.dmatypes.specs.World.{Target}
+use Rattle.manager.specs.declared.runs.Run.{Run}
+use Rattle.manager.specs.Runs.{target_at}
+
+-- the place of a domain: its mode, where there is one, and its live runs
+pub record Place : Type 0 where
+  pub mode : Option Mode
+  pub runs : List Run
+
+-- the place, where a domain is there
+abbrev pub used : Option Place → Option Place
+used None = None
+used (Some h) = option_and_then (λ m. Some h) h.mode
+
+-- the place of the domain of an id: domains 1 to 15 stand at places 0 to 14
+abbrev pub place_of : List Place → ℕ → Option Place
+place_of homes d = if d == 0 then None else used (slice_get homes (d - 1))
+
+-- what a request meets at a page
+abbrev pub ReachesPage : Option Target → ℕ → Access → Result ℕ Fault → Type 0
+ReachesPage None address access answer = answer ≡ Err (fault_of access)
+ReachesPage (Some t) address access answer =
+    (Permits t.rights access × (answer ≡ Ok (host_of t address))) ⊎ ((Permits t.rights access → ⊥) × (answer ≡ Err (fault_of access)))
+
+-- what it meets in a domain, where there is one
+abbrev pub Reaches : Option Place → ℕ → Access → Result ℕ Fault → Type 0
+Reaches None address access answer = answer ≡ Err faults.NotAttached
+Reaches (Some h) address access answer =
+    (IsBeyond address × (answer ≡ Err faults.BeyondWidth))
+    ⊎ ((address < 2 ^ 39) × ReachesPage (target_at h.runs (page_of address)) address access answer)

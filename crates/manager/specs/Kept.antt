@@ -1,0 +1,46 @@
+-- What a book keeps, and what contracts see of managers, seeds and shares.
+use Rattle.std.specs.Prelude.{◌≡◌, ◌≤◌, ℕ, List, length}
+use Rattle.dmatypes.specs.declared.reply.Event.{Event}
+use Rattle.dmatypes.specs.History.{after, IsLegal}
+use Rattle.manager.specs.Machine.{Machine}
+use Rattle.manager.specs.Fits.{Fits}
+use Rattle.manager.specs.Steps.{GoesTo}
+
+-- what contracts see of a book: its history, and its state
+pub record Account : Type 0 where
+  pub history : List Event
+  pub state : Machine
+
+-- what contracts see of a share: how many calls it counted
+pub record Hand : Type 0 where
+  pub calls : ℕ
+
+-- what a configuration says
+pub record Limits : Type 0 where
+  pub frames : ℕ
+  pub calls : ℕ
+  pub shares : ℕ
+
+pub record IsWithinLimits (c : Limits) : Type 0 where
+  pub least_frames : 16 ≤ c.frames
+  pub most_frames : c.frames ≤ 4096
+  pub least_calls : 1 ≤ c.calls
+  pub most_calls : c.calls ≤ 1048576
+  pub least_shares : 1 ≤ c.shares
+  pub most_shares : c.shares ≤ 64
+
+-- one manager's numbers, and the name of its ledger
+pub record Names : Type 0 where
+  pub name : ℕ
+  pub shares : ℕ
+  pub room : ℕ
+  pub frames : ℕ
+
+-- the history is legal, the state fits the world after it, the history goes along states from a new one
+-- to this one, it is no longer than the room, and the state has counted its calls
+pub record IsKept (frames room : ℕ) (a : Account) : Type 0 where
+  pub legal : IsLegal frames a.history
+  pub fits : Fits a.state (after frames a.history)
+  pub goes : GoesTo frames a.history a.state
+  pub within : length a.history ≤ room
+  pub calls : a.state.calls ≡ length a.history

@@ -1,0 +1,65 @@
+-- What contracts see of the state.
+use Rattle.std.specs.Prelude.{◌≡◌, ℕ, ◌<◌, List, [], length, replicate, Option, Some, None, slice_get, Result, Ok, Err}
+use Rattle.std.specs.Option.{option_flatten}
+use Rattle.dmatypes.specs.declared.call.Call.{Call}
+use Rattle.dmatypes.specs.declared.call.Call.TheVariants as calls
+use Rattle.dmatypes.specs.declared.refusal.Fault.{Fault}
+use Rattle.dmatypes.specs.declared.refusal.Refusal.{Refusal}
+use Rattle.dmatypes.specs.declared.refusal.Refusal.TheVariants as refusals
+use Rattle.dmatypes.specs.declared.reply.Reply.{Reply}
+use Rattle.dmatypes.specs.declared.reply.Reply.TheVariants.{Made, Done, Mapped, Host, Faulted, Refused}
+use Rattle.manager.specs.Homes.{Place, place_of}
+
+-- the number of table frames, the places of domains 1 to 15, the domain of each attached device, and how
+-- many calls were made
+pub record Machine : Type 0 where
+  pub frames : ℕ
+  pub homes : List Place
+  pub devices : List (Option ℕ)
+  pub calls : ℕ
+
+abbrev pub vacant : Place
+vacant = record { mode = None; runs = [] }
+
+-- the domain that a device is attached to
+abbrev pub device_at : List (Option ℕ) → ℕ → Option ℕ
+device_at devices v = option_flatten (slice_get devices v)
+
+-- no domain, no device, no call
+abbrev pub IsNew : ℕ → Machine → Type 0
+IsNew frames m = m ≡ record { frames = frames; homes = replicate 15 vacant; devices = replicate 16 None; calls = 0 }
+
+-- how many live runs a domain has
+abbrev pub run_count : Option Place → ℕ
+run_count None = 0
+run_count (Some h) = length h.runs
+
+-- what the model leaves open: table frames never lack, and a map is refused for its pieces exactly where
+-- its domain has as many runs as it can
+unfoldable pub Exact : Machine → Call → Reply → Type 0
+Exact m (calls.Map domain frame pages order rights) (Mapped address) = run_count (place_of m.homes domain) < 1021
+Exact m (calls.Map domain frame pages order rights) (Refused refusals.TooManyPieces) = run_count (place_of m.homes domain) ≡ 1021
+Exact m call (Refused refusals.NoFrames) = ⊥
+Exact m call reply = Unit {0}
+
+-- ---- the methods' answers, as replies
+
+abbrev pub made_reply : Result ℕ Refusal → Reply
+made_reply (Ok d) = Made d
+made_reply (Err r) = Refused r
+
+abbrev pub done_reply : {U : Type 0} → Result U Refusal → Reply
+done_reply (Ok u) = Done
+done_reply (Err r) = Refused r
+
+abbrev pub mapped_reply : Result ℕ Refusal → Reply
+mapped_reply (Ok a) = Mapped a
+mapped_reply (Err r) = Refused r
+
+abbrev pub reached_reply : Result ℕ Fault → Reply
+reached_reply (Ok a) = Host a
+reached_reply (Err f) = Faulted f
+
+abbrev pub request_reply : Result (Result ℕ Fault) Refusal → Reply
+request_reply (Ok answer) = reached_reply answer
+request_reply (Err r) = Refused r

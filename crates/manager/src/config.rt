@@ -1,0 +1,115 @@
+//! How large a manager is to be, and what it is made of.
+
+ghost use Rattle.std.specs.Prelude.{◌≡◌, ◌≤◌, ℕ, IsSome, IfSome, IfOk, ◌↔◌};
+ghost use Rattle.manager.specs.Kept.{Limits, IsWithinLimits, Names};
+
+use std::alloc::{AllocError, Global};
+use std::marker::Model;
+use std::sync::ledger::Blank;
+
+/// Table frames (16 to 4,096), calls in the history (1 to 1,048,576), and shares (1 to 64).
+#[derive(Clone, Copy)]
+pub struct Config {
+    frames: u64,
+    calls: u64,
+    shares: u64,
+}
+
+impl Model for Config {
+    ghost use Rattle.manager.specs.Kept.{Limits, IsWithinLimits};
+
+    ghost Value = { Limits };
+
+    ghost view = { λ c. record { frames = c.frames; calls = c.calls; shares = c.shares } };
+
+    ghost invariant = { λ c. IsWithinLimits (record { frames = c.frames; calls = c.calls; shares = c.shares }) };
+
+    ghost inverse = { λ v. record { frames = v.frames; calls = v.calls; shares = v.shares } };
+}
+
+impl Config {
+    /// A configuration; `None` exactly where a number is outside its limits.
+    pub fn new(frames: u64, calls: u64, shares: u64) -> Option<Config>
+        ensures some { IsSome result ↔ IsWithinLimits (record { frames = frames; calls = calls; shares = shares }) }
+        ensures numbers { IfSome result (λ c. c ≡ record { frames = frames; calls = calls; shares = shares }) }
+    {
+        if (16..=4096).contains(&frames)
+            && (1..=1_048_576).contains(&calls)
+            && (1..=64).contains(&shares)
+        {
+            Some(Config {
+                frames,
+                calls,
+                shares,
+            })
+        } else {
+            None
+        }
+    }
+
+    /// How many table frames there are.
+    pub fn frames(&self) -> u64
+        ensures value { result ≡ self.now.frames }
+        ensures within { IsWithinLimits self.now }
+    {
+        self.frames
+    }
+
+    /// For how many calls the history has room.
+    pub fn calls(&self) -> u64
+        ensures value { result ≡ self.now.calls }
+        ensures within { IsWithinLimits self.now }
+    {
+        self.calls
+    }
+
+    /// How many shares are made.
+    pub fn shares(&self) -> u64
+        ensures value { result ≡ self.now.shares }
+        ensures within { IsWithinLimits self.now }
+    {
+        self.shares
+    }
+}
+
+/// What a manager is made of, before a type stands for it.
+#[derive(Drop)]
+pub struct Seed {
+    config: Config,
+    blank: Blank,
+}
+
+impl Model for Seed {
+    ghost use Rattle.std.specs.Prelude.{◌≡◌};
+    ghost use Rattle.manager.specs.Kept.{IsWithinLimits, Names};
+
+    ghost Value = { Names };
+
+    ghost view = { λ s. record { name = s.blank.name; shares = s.config.shares; room = s.config.calls; frames = s.config.frames } };
+
+    ghost invariant = { λ s. (s.blank.parts ≡ s.config.shares) × IsWithinLimits s.config };
+}
+
+impl Seed {
+    /// The seed of a manager of this size.
+    pub fn new(_alloc: Global, config: Config) -> Result<Seed, AllocError>
+        ensures shares { IfOk result (λ s. s.shares ≡ config.shares) }
+        ensures room { IfOk result (λ s. s.room ≡ config.calls) }
+        ensures frames { IfOk result (λ s. s.frames ≡ config.frames) }
+    {
+        Ok(Seed {
+            config,
+            blank: Blank::new(config.shares()),
+        })
+    }
+
+    /// Its configuration, and the ledger that a type is to stand for.
+    pub(crate) fn parts(self) -> (Config, Blank)
+        ensures config { (result.0.shares ≡ self.shares) × (result.0.calls ≡ self.room) × (result.0.frames ≡ self.frames) }
+        ensures blank { (result.1.name ≡ self.name) × (result.1.parts ≡ self.shares) }
+        ensures within { IsWithinLimits result.0 }
+    {
+        let Seed { config, blank } = self;
+        (config, blank)
+    }
+}

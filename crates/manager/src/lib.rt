@@ -1,0 +1,22 @@
+//! The manager: a sequential state, the history of its calls, and the shares by which it is called.
+#![tactic(auto)]
+
+mod book;
+mod config;
+mod home;
+mod manager;
+mod owner;
+mod request;
+mod runs;
+mod share;
+mod state;
+mod wanted;
+
+pub use book::{Book, HistoryFull};
+pub use config::{Config, Seed};
+pub use manager::{History, Made, Manager, SharesOut};
+pub use owner::Owner;
+pub use share::Share;
+
+
+

@@ -1,0 +1,236 @@
+//! The sequential manager, one method a call.
+
+ghost use Rattle.std.specs.Prelude.{◌≡◌, ◌+◌, ◌<◌, ◌≤◌, ◌^◌, ◌==◌, ℕ, IfOk, IfSome, IfNone, length, slice_get, replicate, Some, None, IsSome};
+ghost use Rattle.std.specs.Option.{option_and_then};
+ghost use Rattle.dmatypes.specs.declared.call.Call.TheVariants as calls;
+ghost use Rattle.manager.specs.Homes.{Place, Reaches, place_of};
+ghost use Rattle.manager.specs.Machine.{Machine, IsNew, device_at, done_reply, made_reply, mapped_reply, request_reply, vacant};
+ghost use Rattle.manager.specs.Steps.{Does};
+
+use crate::home::Home;
+use crate::request::judge;
+use dmatypes::{Access, Call, Fault, Mode, Refusal, Reply, Whim};
+use std::alloc::{AllocError, Global};
+use std::marker::Model;
+
+/// Domains, attached devices, and the number of calls made.
+#[derive(Drop)]
+pub(crate) struct State {
+    frames: u64,
+    homes: Vec<Home>,
+    devices: [Option<u64>; 16],
+    calls: u64,
+}
+
+impl Model for State {
+    ghost use Rattle.std.specs.Prelude.{◌≡◌, vec_len};
+    ghost use Rattle.manager.specs.Machine.{Machine};
+
+    ghost Value = { Machine };
+
+    ghost view = { λ s. record { frames = s.frames; homes = s.homes.items; devices = s.devices; calls = s.calls } };
+
+    ghost invariant = { λ s. vec_len s.homes ≡ 15 };
+}
+
+impl State {
+    /// A state with no domain and no attached device.
+    pub(crate) fn new(alloc: Global, frames: u64) -> Result<State, AllocError>
+        ensures { IfOk result (IsNew frames) }
+    {
+        Ok(State {
+            frames,
+            homes: vacant_homes(alloc)?,
+            devices: [None; 16],
+            calls: 0,
+        })
+    }
+
+    /// Makes an empty domain, and answers its id.
+    pub(crate) fn domain(&mut self, mode: Mode) -> Result<u64, Refusal>
+        requires { self.old.calls < 1048576 }
+        ensures { Does self.old (calls.Domain mode) (made_reply result) self.new }
+    {
+        self.calls += 1;
+        let Some(index) = first_vacant(self.homes.as_slice()) else {
+            return Err(Refusal::TooManyDomains);
+        };
+        self.homes[index].open(mode);
+        Ok(index as u64 + 1)
+    }
+
+    /// Attaches a device to a domain.
+    pub(crate) fn attach(&mut self, device: u64, domain: u64) -> Result<(), Refusal>
+        requires { self.old.calls < 1048576 }
+        ensures { Does self.old (calls.Attach device domain) (done_reply result) self.new }
+    {
+        self.calls += 1;
+        if device > 15 {
+            return Err(Refusal::NoDevice);
+        }
+        let Some(_index) = index_of(self.homes.as_slice(), domain) else {
+            return Err(Refusal::NoDomain);
+        };
+        let None = self.devices[device as usize] else {
+            return Err(Refusal::Busy);
+        };
+        self.devices[device as usize] = Some(domain);
+        Ok(())
+    }
+
+    /// Maps pages, and answers the byte address of the first.
+    pub(crate) fn map(
+        &mut self,
+        domain: u64,
+        frame: u64,
+        pages: u64,
+        order: u64,
+        rights: u64,
+    ) -> Result<u64, Refusal>
+        requires { self.old.calls < 1048576 }
+        ensures { Does self.old (calls.Map domain frame pages order rights) (mapped_reply result) self.new }
+    {
+        self.calls += 1;
+        let Some(index) = index_of(self.homes.as_slice(), domain) else {
+            return Err(Refusal::NoDomain);
+        };
+        let wanted = judge(self.frames, frame, pages, order, rights)?;
+        let first = self.homes[index].place(wanted)?;
+        Ok(4096 * first)
+    }
+
+    /// A device's request: the host byte address, or the fault.
+    pub(crate) fn dma(
+        &mut self,
+        device: u64,
+        address: u64,
+        access: Access,
+        _whim: Whim,
+    ) -> Result<Result<u64, Fault>, Refusal>
+        requires { self.old.calls < 1048576 }
+        ensures { Does self.old (calls.Dma device address access _whim) (request_reply result) self.new }
+    {
+        self.calls += 1;
+        if device > 15 {
+            return Err(Refusal::NoDevice);
+        }
+        if 0xFEE0_0000 <= address && address <= 0xFEEF_FFFF {
+            return Err(Refusal::Window);
+        }
+        Ok(reach(
+            self.homes.as_slice(),
+            self.devices[device as usize],
+            address,
+            access,
+        ))
+    }
+
+    /// Makes a call.
+    pub(crate) fn perform(&mut self, call: &Call) -> Reply
+        requires { self.old.calls < 1048576 }
+        ensures { Does self.old call.now result self.new }
+    {
+        match call {
+            Call::Domain(mode) => made(self.domain(*mode)),
+            Call::Attach { device, domain } => done(self.attach(*device, *domain)),
+            Call::Map {
+                domain,
+                frame,
+                pages,
+                order,
+                rights,
+            } => mapped(self.map(*domain, *frame, *pages, *order, *rights)),
+            Call::Dma {
+                device,
+                address,
+                access,
+                whim,
+            } => requested(self.dma(*device, *address, *access, *whim)),
+        }
+    }
+}
+
+fn made(answer: Result<u64, Refusal>) -> Reply
+    ensures { result ≡ made_reply answer }
+{
+    match answer {
+        Ok(domain) => Reply::Made(domain),
+        Err(refusal) => Reply::Refused(refusal),
+    }
+}
+
+fn done(answer: Result<(), Refusal>) -> Reply
+    ensures { result ≡ done_reply answer }
+{
+    match answer {
+        Ok(()) => Reply::Done,
+        Err(refusal) => Reply::Refused(refusal),
+    }
+}
+
+fn mapped(answer: Result<u64, Refusal>) -> Reply
+    ensures { result ≡ mapped_reply answer }
+{
+    match answer {
+        Ok(address) => Reply::Mapped(address),
+        Err(refusal) => Reply::Refused(refusal),
+    }
+}
+
+fn requested(answer: Result<Result<u64, Fault>, Refusal>) -> Reply
+    ensures { result ≡ request_reply answer }
+{
+    match answer {
+        Ok(Ok(host)) => Reply::Host(host),
+        Ok(Err(fault)) => Reply::Faulted(fault),
+        Err(refusal) => Reply::Refused(refusal),
+    }
+}
+
+// 15 places with no domain.
+fn vacant_homes(alloc: Global) -> Result<Vec<Home>, AllocError>
+    ensures { IfOk result (λ v. v.items ≡ replicate 15 vacant) }
+{
+    let mut homes = Vec::with_capacity(alloc, 15)?;
+    for _index in 0..15u64 {
+        homes.push(Home::new(alloc)?)?;
+    }
+    Ok(homes)
+}
+
+// The index of the first place with no domain.
+fn first_vacant(homes: &[Home]) -> Option<usize>
+    ensures vacant { IfSome result (λ i. (i < length homes.now) × (place_of homes.now (i + 1) ≡ None)) }
+    ensures none { IfNone result ((d : ℕ) → 1 ≤ d → d ≤ length homes.now → IsSome (place_of homes.now d)) }
+{
+    homes.iter().position(|home| !home.is_used())
+}
+
+// The index of the place of a domain, where there is one.
+fn index_of(homes: &[Home], domain: u64) -> Option<usize>
+    ensures some { IfSome result (λ i. (domain ≡ i + 1) × (i < length homes.now) × (place_of homes.now domain ≡ slice_get homes.now i)) }
+    ensures none { IfNone result (place_of homes.now domain ≡ None) }
+{
+    if domain == 0 || domain > homes.len() as u64 {
+        return None;
+    }
+    let index = (domain - 1) as usize;
+    if homes[index].is_used() {
+        Some(index)
+    } else {
+        None
+    }
+}
+
+// What a request of a device meets that is attached to a domain, or to nothing.
+fn reach(homes: &[Home], attached: Option<u64>, address: u64, access: Access) -> Result<u64, Fault>
+    ensures { Reaches (option_and_then (place_of homes.now) attached) address access result }
+{
+    let Some(domain) = attached else {
+        return Err(Fault::NotAttached);
+    };
+    let Some(index) = index_of(homes, domain) else {
+        return Err(Fault::NotAttached);
+    };
+    homes[index].reach(address, access)
+}
