@@ -48,3 +48,7 @@ Spells line (calls.Dma device address access whim) =
 -- a line of at most 512 bytes that a call spells says this call
 abbrev pub SpelledIsSaid : Type 0
 SpelledIsSaid = (line : List ℕ) (call : Call) → length line ≤ 512 → Spells line call → says line ≡ Some call
+
+-- a line says no other call: one that says a call has at most 512 bytes, and the call spells it
+abbrev pub SaidIsSpelled : Type 0
+SaidIsSpelled = (line : List ℕ) (call : Call) → says line ≡ Some call → (length line ≤ 512) × Spells line call
