@@ -1,7 +1,7 @@
 -- The texts of a number: what they say, and that no other text says it.
 use Rattle.std.proofs.Common.{◌≡◌, inl, inr, ℕ, ◌^◌, ◌<◌, ◌≤◌, true, false, cond, List, [], ◌∷◌, ◌++◌, length, take, drop, Some, None, refl, sym, ap, subst, ◌∙◌, arith}
 use Rattle.std.specs.Prelude.{◌==◌, ◌&&◌, ◌||◌, not, nat_lt, nat_le, nat_eq, slice_index, codes, decimal}
-use Rattle.std.specs.List.{list_all, starts_with}
+use Rattle.std.specs.List.{AllByRecursion, list_all, starts_with}
 use Rattle.std.specs.Char.{is_ascii_digit, digit_value}
 use Rattle.std.specs.Str.Parse.{AllDigits, digits_value}
 use Rattle.std.proofs.lemmas.List.{take-append-drop}
@@ -12,9 +12,41 @@ use Rattle.std.proofs.lemmas.Fmt.{decimal_is_IsNumeral, first_decimal, decimal_d
 use Rattle.std.proofs.lemmas.Int.Digits.{digits_value-lt}
 use Rattle.std.proofs.lemmas.Str.Parse.{digit_from_value, numerals_by_value, tells_digits}
 use Rattle.dmatypes.specs.Grammar.{below_2_64, is_decimal, is_hexadecimal, is_hexadecimal_digit, number}
-use Rattle.dmatypes.specs.Spelled.{IsNumber}
+use Rattle.dmatypes.specs.Spelled.{AreHexadecimalDigits, IsHexadecimalDigit, IsNumber}
 use Rattle.dmatypes.proofs.Digits.{decimal_numeral, hexadecimal_numeral}
 use Rattle.dmatypes.proofs.Joining.{HasNoSpace}
+
+-- ---- digits of base 16, as the grammar tests them
+
+digit_tested : (c : ℕ) → IsHexadecimalDigit c → is_hexadecimal_digit c ≡ true
+digit_tested c (inl h) = or_left (nat_le 48 c && nat_le c 57) (nat_le 97 c && nat_le c 102) (and_from (nat_le 48 c) (nat_le c 57) (le-leb 48 c h.0) (le-leb c 57 h.1))
+digit_tested c (inr h) = or_right (nat_le 48 c && nat_le c 57) (nat_le 97 c && nat_le c 102) (and_from (nat_le 97 c) (nat_le c 102) (le-leb 97 c h.0) (le-leb c 102 h.1))
+
+digit_is : (c : ℕ) → is_hexadecimal_digit c ≡ true → IsHexadecimalDigit c
+digit_is c e =
+    elim (or_cases (nat_le 48 c && nat_le c 57) (nat_le 97 c && nat_le c 102) e) [
+      | inl digit ↦ let both = and_parts (nat_le 48 c) (nat_le c 57) digit in inl (leb-true 48 c both.0, leb-true c 57 both.1)
+      | inr letter ↦ let both = and_parts (nat_le 97 c) (nat_le c 102) letter in inr (leb-true 97 c both.0, leb-true c 102 both.1)
+    ]
+
+digits_tested : (ds : List ℕ) → AllByRecursion IsHexadecimalDigit ds → list_all is_hexadecimal_digit ds ≡ true
+digits_tested [] h = refl
+digits_tested (c ∷ cs) h = and_from (is_hexadecimal_digit c) (list_all is_hexadecimal_digit cs) (digit_tested c h.0) (digits_tested cs h.1)
+
+digits_are : (ds : List ℕ) → list_all is_hexadecimal_digit ds ≡ true → AllByRecursion IsHexadecimalDigit ds
+digits_are [] e = tt
+digits_are (c ∷ cs) e = let both = and_parts (is_hexadecimal_digit c) (list_all is_hexadecimal_digit cs) e in (digit_is c both.0, digits_are cs both.1)
+
+hexadecimal_tested : (ds : List ℕ) → AreHexadecimalDigits ds → is_hexadecimal ds ≡ true
+unfolding is_hexadecimal
+hexadecimal_tested ds h = and_from (nat_lt 0 (length ds) && nat_le (length ds) 16) (list_all is_hexadecimal_digit ds) (and_from (nat_lt 0 (length ds)) (nat_le (length ds) 16) (lt-ltb 0 (length ds) h.0) (le-leb (length ds) 16 h.1)) (digits_tested ds h.2)
+
+hexadecimal_is : (ds : List ℕ) → is_hexadecimal ds ≡ true → AreHexadecimalDigits ds
+unfolding is_hexadecimal
+hexadecimal_is ds e =
+    let both = and_parts (nat_lt 0 (length ds) && nat_le (length ds) 16) (list_all is_hexadecimal_digit ds) e in
+    let ends = and_parts (nat_lt 0 (length ds)) (nat_le (length ds) 16) both.0 in
+    (ltb-true 0 (length ds) ends.0, leb-true (length ds) 16 ends.1, digits_are ds both.1)
 
 -- ---- no text of a number has a space
 
@@ -29,7 +61,7 @@ pub number_no_space : (text : List ℕ) (n : ℕ) → IsNumber text n → HasNoS
 number_no_space text n (inl h) =
     subst HasNoSpace (sym h.0) (digits_no_space 10 (decimal n) (omega arith) (decimal_is_IsNumeral n h.1).0.1)
 number_no_space text n (inr h) =
-    subst HasNoSpace (sym h.1) (refl, (refl, digits_no_space 16 h.0 (omega arith) (hexadecimal_numeral h.0 h.2).0.1))
+    subst HasNoSpace (sym h.1) (refl, (refl, digits_no_space 16 h.0 (omega arith) (hexadecimal_numeral h.0 (hexadecimal_tested h.0 h.2)).0.1))
 
 -- ---- decimal digits
 
@@ -69,19 +101,13 @@ number_decimal n small =
 
 -- ---- digits of base 16
 
-hexadecimal_length : (ds : List ℕ) → is_hexadecimal ds ≡ true → length ds ≤ 16
-unfolding is_hexadecimal
-hexadecimal_length ds h =
-    let both = and_parts (nat_lt 0 (length ds) && nat_le (length ds) 16) (list_all is_hexadecimal_digit ds) h in
-    leb-true (length ds) 16 (and_parts (nat_lt 0 (length ds)) (nat_le (length ds) 16) both.0).1
-
-hexadecimal_small : (ds : List ℕ) → is_hexadecimal ds ≡ true → digits_value 16 ds < 2 ^ 64
+hexadecimal_small : (ds : List ℕ) → AreHexadecimalDigits ds → digits_value 16 ds < 2 ^ 64
 hexadecimal_small ds h =
-    omega (arith, digits_value-lt 16 ds (hexadecimal_numeral ds h).0.1, pow-le-pow_right {n = 16} (omega arith) (hexadecimal_length ds h))
+    omega (arith, digits_value-lt 16 ds (hexadecimal_numeral ds (hexadecimal_tested ds h)).0.1, pow-le-pow_right {n = 16} (omega arith) h.1)
 
-number_hexadecimal : (ds : List ℕ) → is_hexadecimal ds ≡ true → number (codes "0x" ++ ds) ≡ Some (digits_value 16 ds)
+number_hexadecimal : (ds : List ℕ) → AreHexadecimalDigits ds → number (codes "0x" ++ ds) ≡ Some (digits_value 16 ds)
 unfolding number
-number_hexadecimal ds h = rw (h, lt-ltb (digits_value 16 ds) (2 ^ 64) (hexadecimal_small ds h)) refl
+number_hexadecimal ds h = rw (hexadecimal_tested ds h, lt-ltb (digits_value 16 ds) (2 ^ 64) (hexadecimal_small ds h)) refl
 
 -- ---- each text of a number
 
@@ -123,7 +149,7 @@ decimal_text text n e =
 hexadecimal_text : (text : List ℕ) (n : ℕ) → text ≡ codes "0x" ++ drop 2 text → cond (is_hexadecimal (drop 2 text)) (below_2_64 (digits_value 16 (drop 2 text))) None ≡ Some n → IsNumber text n
 hexadecimal_text text n prefixed e =
     elim (is_hexadecimal (drop 2 text)) as (λ b. is_hexadecimal (drop 2 text) ≡ b → cond b (below_2_64 (digits_value 16 (drop 2 text))) None ≡ Some n → IsNumber text n) [
-      | true ↦ λ is h. inr (drop 2 text, prefixed, is, (below_is (digits_value 16 (drop 2 text)) n h).1)
+      | true ↦ λ is h. inr (drop 2 text, prefixed, hexadecimal_is (drop 2 text) is, (below_is (digits_value 16 (drop 2 text)) n h).1)
       | false ↦ λ is h. absurd cc
     ] refl e
 
