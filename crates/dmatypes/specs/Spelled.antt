@@ -1,18 +1,27 @@
 -- The lines that spell a call, told from the call: the grammar from its other side.
 use Rattle.std.specs.Prelude.{◌≡◌, ◌⊎◌, ℕ, ◌^◌, ◌<◌, ◌≤◌, Bool, Some, true, false, List, [], ◌∷◌, ◌++◌, length, codes, decimal}
+use Rattle.std.specs.List.{AllByRecursion}
 use Rattle.std.specs.Str.Parse.{digits_value}
 use Rattle.dmatypes.specs.declared.call.Access.{Access}
 use Rattle.dmatypes.specs.declared.call.Access.TheVariants as accesses
 use Rattle.dmatypes.specs.declared.call.Mode.TheVariants as modes
 use Rattle.dmatypes.specs.declared.call.Call.{Call}
 use Rattle.dmatypes.specs.declared.call.Call.TheVariants as calls
-use Rattle.dmatypes.specs.Grammar.{is_hexadecimal, says}
+use Rattle.dmatypes.specs.Grammar.{says}
 
--- a text of a number below 2^64: its decimal digits, or 1 to 16 digits of base 16 behind `0x`
+-- 0 to 9 or a to f
+abbrev pub IsHexadecimalDigit : ℕ → Type 0
+IsHexadecimalDigit c = ((48 ≤ c) × (c ≤ 57)) ⊎ ((97 ≤ c) × (c ≤ 102))
+
+-- 1 to 16 such digits
+abbrev pub AreHexadecimalDigits : List ℕ → Type 0
+AreHexadecimalDigits ds = (1 ≤ length ds) × (length ds ≤ 16) × AllByRecursion IsHexadecimalDigit ds
+
+-- a text of a number below 2^64: its decimal digits, or digits of base 16 behind `0x`
 abbrev pub IsNumber : List ℕ → ℕ → Type 0
 IsNumber text n =
     ((text ≡ decimal n) × (n < 2 ^ 64))
-    ⊎ ((ds : List ℕ) × (text ≡ codes "0x" ++ ds) × (is_hexadecimal ds ≡ true) × (digits_value 16 ds ≡ n))
+    ⊎ ((ds : List ℕ) × (text ≡ codes "0x" ++ ds) × AreHexadecimalDigits ds × (digits_value 16 ds ≡ n))
 
 abbrev pub IsRightsText : List ℕ → ℕ → Type 0
 IsRightsText text rights =
@@ -48,3 +57,7 @@ Spells line (calls.Dma device address access whim) =
 -- a line of at most 512 bytes that a call spells says this call
 abbrev pub SpelledIsSaid : Type 0
 SpelledIsSaid = (line : List ℕ) (call : Call) → length line ≤ 512 → Spells line call → says line ≡ Some call
+
+-- a line says no other call: one that says a call has at most 512 bytes, and the call spells it
+abbrev pub SaidIsSpelled : Type 0
+SaidIsSpelled = (line : List ℕ) (call : Call) → says line ≡ Some call → (length line ≤ 512) × Spells line call

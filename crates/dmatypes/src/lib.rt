@@ -5,6 +5,7 @@
 
 mod call;
 mod fields;
+pub mod laws;
 mod line;
 mod page;
 mod refusal;
