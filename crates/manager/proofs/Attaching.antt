@@ -1,14 +1,13 @@
 -- A device is attached.
-use Rattle.std.proofs.Common.{◌≡◌, ◌≢◌, ℕ, ◌+◌, ◌<◌, ◌≤◌, ◌⊎◌, inl, inr, List, length, Option, Some, None, refl, sym, ap, ◌∙◌, arith, slice_get, slice_set, IsSome}
+use Rattle.std.proofs.Common.{◌≡◌, ℕ, ◌+◌, ◌<◌, ◌≤◌, inl, inr, List, length, Option, Some, None, refl, ap, ◌∙◌, arith, slice_set}
 use Rattle.dmatypes.specs.declared.call.Call.TheVariants as calls
 use Rattle.dmatypes.specs.declared.reply.Reply.TheVariants.{Done, Refused}
 use Rattle.dmatypes.specs.declared.refusal.Refusal.TheVariants as refusals
-use Rattle.dmatypes.specs.World.{World, put}
+use Rattle.dmatypes.specs.World.{put}
 use Rattle.dmatypes.specs.Conditions.{Stands}
 use Rattle.dmatypes.specs.Step.{IsStep, Answers, next}
 use Rattle.manager.specs.Homes.{Place, place_of}
 use Rattle.manager.specs.Machine.{Machine, Exact, device_at}
-use Rattle.manager.specs.Fits.{Fits}
 use Rattle.manager.specs.Steps.{Does}
 use Rattle.manager.proofs.Lists.{get_set, get_set_other, put_same, put_other, same_or_not, is_none, is_some, not_none, not_some}
 use Rattle.manager.proofs.Places.{both_absent, both_there}
@@ -22,17 +21,21 @@ pub attach_no_domain : (m t : Machine) (device domain : ℕ) → t ≡ counted m
     → Does m (calls.Attach device domain) (Refused refusals.NoDomain) t
 unfolding Exact IsStep Stands
 attach_no_domain m t device domain is small none = refuses m t (calls.Attach device domain) refusals.NoDomain is tt
-    (λ w fits. inl (inr (λ big. absurd (omega (arith, big, small)),
-      inl (is_none (w.domains domain) (both_absent (place_of m.homes domain) (w.domains domain) (fits.domains domain) none), refl))))
+    (λ w fits. inl (inr (
+      λ big. absurd (omega (arith, big, small)),
+      inl (is_none (w.domains domain) (both_absent (place_of m.homes domain) (w.domains domain) (fits.domains domain) none), refl),
+    )))
 
 pub attach_busy : (m t : Machine) (device domain : ℕ) (h : Place) (d : ℕ) → t ≡ counted m → device ≤ 15 → place_of m.homes domain ≡ Some h → device_at m.devices device ≡ Some d
     → Does m (calls.Attach device domain) (Refused refusals.Busy) t
 unfolding Exact IsStep Stands
 attach_busy m t device domain h d is small there busy = refuses m t (calls.Attach device domain) refusals.Busy is tt
     (λ w fits.
-      let v = both_there (place_of m.homes domain) (w.domains domain) h (fits.domains domain) there in
-      inl (inr (λ big. absurd (omega (arith, big, small)),
-        inr (not_none (w.domains domain) v.0 v.1, inl (is_some (w.devices device) d (fits.devices device ∙ busy), refl)))))
+    let v = both_there (place_of m.homes domain) (w.domains domain) h (fits.domains domain) there in
+    inl (inr (
+      λ big. absurd (omega (arith, big, small)),
+      inr (not_none (w.domains domain) v.0 v.1, inl (is_some (w.devices device) d (fits.devices device ∙ busy), refl)),
+    )))
 
 device_set : (devices : List (Option ℕ)) (device domain : ℕ) → device < length devices → (v : ℕ) → put device (Some domain) (device_at devices) v ≡ device_at (slice_set devices device (Some domain)) v
 device_set devices device domain less v =
@@ -54,16 +57,15 @@ pub attaches : (m t : Machine) (device domain : ℕ) (h : Place) → device ≤ 
 unfolding Exact IsStep Stands Answers next
 attaches m t device domain h small many there free is = record {
   steps = λ w fits.
-    let v = both_there (place_of m.homes domain) (w.domains domain) h (fits.domains domain) there in
-    (
-      ((λ big. absurd (omega (arith, big, small)), (not_none (w.domains domain) v.0 v.1, (not_some (w.devices device) (fits.devices device ∙ free), tt))), refl),
-      rw is (record {
-        frames = fits.frames;
-        domains = fits.domains;
-        devices = λ x. put_along device domain w.devices (device_at m.devices) fits.devices x ∙ device_set m.devices device domain (omega (arith, small, many)) x;
-        tickets = fits.tickets;
-      })
-    );
+      let v = both_there (place_of m.homes domain) (w.domains domain) h (fits.domains domain) there in (
+        ((λ big. absurd (omega (arith, big, small)), (not_none (w.domains domain) v.0 v.1, (not_some (w.devices device) (fits.devices device ∙ free), tt))), refl),
+        rw is (record {
+          frames = fits.frames;
+          domains = fits.domains;
+          devices = λ x. put_along device domain w.devices (device_at m.devices) fits.devices x ∙ device_set m.devices device domain (omega (arith, small, many)) x;
+          tickets = fits.tickets;
+        }),
+      );
   exact = tt;
   calls = ap (λ (x : Machine). x.calls) is;
 }

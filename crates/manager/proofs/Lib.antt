@@ -1,7 +1,9 @@
 pub mod Push
-pub mod RoundUp
 pub mod Lists
 pub mod Places
 pub mod Refusing
 pub mod Making
 pub mod Attaching
+pub mod RunLists
+pub mod Mapping
+pub mod Requests

@@ -1,6 +1,6 @@
 -- Places of a list, and maps with an entry put in.
-use Rattle.std.proofs.Common.{◌≡◌, ◌≢◌, ℕ, zero, suc, ◌<◌, ◌⊎◌, inl, inr, List, [], ◌∷◌, length, Option, Some, None, refl, sym, ap, ◌∙◌, arith, slice_get, slice_set, IsNone, IsSome}
-use Rattle.std.proofs.lemmas.Option.{none-some, same_Some}
+use Rattle.std.proofs.Common.{◌≡◌, ◌≢◌, ℕ, zero, suc, ◌<◌, ◌⊎◌, inl, inr, List, [], ◌∷◌, length, Option, Some, None, refl, sym, ap, arith, slice_get, slice_set, IsNone, IsSome}
+use Rattle.std.proofs.lemmas.Option.{same_Some}
 use Rattle.std.proofs.lemmas.Bool.{ne_eqb, eq-eqb}
 use Rattle.std.proofs.lemmas.Bool.Decides.{eqb_tells}
 use Rattle.dmatypes.specs.World.{put}
@@ -24,7 +24,7 @@ pub put_other : {A : Type 0} (key : ℕ) (entry : Option A) (map : ℕ → Optio
 put_other key entry map k ne = rw (ne_eqb k key ne) refl
 
 pub same_or_not : (a b : ℕ) → (a ≡ b) ⊎ (a ≢ b)
-same_or_not a b = elim (eqb_tells a b) [ | inl x ↦ inl x.1 | inr x ↦ inr x.1 ]
+same_or_not a b = elim (eqb_tells a b) [ inl x ↦ inl x.1 | inr x ↦ inr x.1 ]
 
 pub is_none : {A : Type 0} (o : Option A) → o ≡ None → IsNone o
 is_none None e = refl
@@ -41,3 +41,8 @@ is_some (Some y) x e = refl
 pub not_some : {A : Type 0} (o : Option A) → o ≡ None → IsSome o → ⊥
 not_some None e n = absurd cc
 not_some (Some y) e n = absurd cc
+
+pub set_again : {X : Type 0} (xs : List X) (i : ℕ) (x : X) → slice_get xs i ≡ Some x → slice_set xs i x ≡ xs
+set_again [] i x h = refl
+set_again (z ∷ xs) zero x h = ap (λ y. y ∷ xs) (sym (same_Some z x h))
+set_again (z ∷ xs) (suc i) x h = ap (λ ys. z ∷ ys) (set_again xs i x h)

@@ -1,18 +1,18 @@
 -- A domain is made.
-use Rattle.std.proofs.Common.{◌≡◌, ℕ, ◌+◌, ◌<◌, ◌≤◌, ◌⊎◌, inl, inr, List, [], length, Option, Some, None, refl, sym, ap, ◌∙◌, arith, slice_set, IsSome}
+use Rattle.std.proofs.Common.{◌≡◌, ℕ, ◌+◌, ◌<◌, ◌≤◌, inl, [], length, Option, Some, None, refl, ap, arith, slice_set, IsSome}
 use Rattle.dmatypes.specs.declared.call.Call.TheVariants as calls
 use Rattle.dmatypes.specs.declared.call.Mode.{Mode}
 use Rattle.dmatypes.specs.declared.reply.Reply.TheVariants.{Made, Refused}
 use Rattle.dmatypes.specs.declared.refusal.Refusal.TheVariants as refusals
-use Rattle.dmatypes.specs.World.{World, Domain, empty_domain}
+use Rattle.dmatypes.specs.World.{Domain, empty_domain}
 use Rattle.dmatypes.specs.Conditions.{Stands}
 use Rattle.dmatypes.specs.Step.{IsStep, Answers, next}
 use Rattle.manager.specs.Homes.{Place, place_of}
 use Rattle.manager.specs.Machine.{Machine, Exact}
-use Rattle.manager.specs.Fits.{Both, Fits}
+use Rattle.manager.specs.Fits.{Both}
 use Rattle.manager.specs.Steps.{Does}
-use Rattle.manager.proofs.Lists.{is_none, is_some, not_some}
-use Rattle.manager.proofs.Places.{place_set, both_absent, both_there, fits_put}
+use Rattle.manager.proofs.Lists.{is_none, not_some}
+use Rattle.manager.proofs.Places.{place_set, both_absent, fits_put}
 use Rattle.manager.proofs.Refusing.{counted, refuses}
 
 -- where a place is used, the world has the domain
@@ -35,13 +35,14 @@ makes m t mode i many less free is =
     let new : Place = record { mode = Some mode; runs = [] } in
     record {
       steps = λ w fits.
-        let absent : w.domains (i + 1) ≡ None = both_absent (place_of m.homes (i + 1)) (w.domains (i + 1)) (fits.domains (i + 1)) free in
-        (
-          (((λ all. not_some (w.domains (i + 1)) absent (all (i + 1) (omega arith) (omega (arith, less, many)))), tt),
-            (i + 1, (omega arith, omega (arith, less, many), is_none (w.domains (i + 1)) absent), refl)),
-          rw is (fits_put m w (slice_set m.homes i new) (i + 1) (m.calls + 1) new (empty_domain mode) fits (place_set m.homes i new less refl)
-            (record { mode = refl; live = λ p. refl; retired = refl; begun = refl }))
-        );
+          let absent : w.domains (i + 1) ≡ None = both_absent (place_of m.homes (i + 1)) (w.domains (i + 1)) (fits.domains (i + 1)) free in (
+            (
+              ((λ all. not_some (w.domains (i + 1)) absent (all (i + 1) (omega arith) (omega (arith, less, many)))), tt),
+              (i + 1, (omega arith, omega (arith, less, many), is_none (w.domains (i + 1)) absent), refl),
+            ),
+            rw is (fits_put m w (slice_set m.homes i new) (i + 1) (m.calls + 1) new (empty_domain mode) fits (place_set m.homes i new less refl)
+                (record { mode = refl; live = λ p. refl; retired = refl; begun = refl })),
+          );
       exact = tt;
       calls = ap (λ (x : Machine). x.calls) is;
     }

@@ -1,7 +1,7 @@
 -- Places and the domains of a world, once one of them changes.
-use Rattle.std.proofs.Common.{◌≡◌, ◌≢◌, ℕ, zero, suc, ◌+◌, ◌-◌, ◌<◌, ◌≤◌, ◌⊎◌, inl, inr, List, length, Option, Some, None, refl, sym, ap, subst, ◌∙◌, arith, slice_get, slice_set, get_or}
+use Rattle.std.proofs.Common.{◌≡◌, ℕ, zero, suc, ◌+◌, ◌-◌, ◌<◌, inl, inr, List, length, Option, Some, None, refl, sym, subst, ◌∙◌, arith, slice_get, slice_set, get_or}
 use Rattle.std.proofs.lemmas.Bool.{ne_eqb}
-use Rattle.std.proofs.lemmas.Option.{none-some, same_Some, slice_get-get_or, slice_get_cases}
+use Rattle.std.proofs.lemmas.Option.{same_Some, slice_get-get_or, slice_get_cases}
 use Rattle.dmatypes.specs.World.{World, Domain, put}
 use Rattle.manager.specs.Homes.{Place, used, place_of}
 use Rattle.manager.specs.Machine.{Machine, device_at}
@@ -19,8 +19,13 @@ place_set homes i h less there (suc e) =
     elim (same_or_not e i) [
       | inl same ↦ let at : suc e ≡ i + 1 = omega (arith, same) in
           rw (at, put_same (i + 1) (Some h) (place_of homes), place_at (slice_set homes i h) i, get_set homes i h less) there
-      | inr ne ↦ rw (put_other (i + 1) (Some h) (place_of homes) (suc e) (λ same. ne (omega (arith, same))), next,
-          place_at (slice_set homes i h) e, place_at homes e, get_set_other homes i e h ne) refl
+      | inr ne ↦ rw (
+        put_other (i + 1) (Some h) (place_of homes) (suc e) (λ same. ne (omega (arith, same))),
+        next,
+        place_at (slice_set homes i h) e,
+        place_at homes e,
+        get_set_other homes i e h ne,
+      ) refl
     ]
 
 pub both_there : (o : Option Place) (p : Option Domain) (h : Place) → Both o p → o ≡ Some h → (v : Domain) × (p ≡ Some v) × Mirrors h v

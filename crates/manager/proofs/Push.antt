@@ -1,13 +1,11 @@
 -- An event more at the end of a history.
-use Rattle.std.proofs.Common.{◌≡◌, ℕ, ◌+◌, ◌<◌, ◌≤◌, List, [], ◌∷◌, ◌++◌, length, refl, ap, sym, ◌∙◌, subst, arith, length-append}
+use Rattle.std.proofs.Common.{◌≡◌, ℕ, ◌+◌, ◌<◌, List, [], ◌∷◌, ◌++◌, length, refl, ap, sym, ◌∙◌, subst, arith, length-append}
 use Rattle.dmatypes.specs.declared.reply.Event.{Event}
-use Rattle.dmatypes.specs.World.{World, empty}
-use Rattle.dmatypes.specs.Step.{IsStep, next}
-use Rattle.dmatypes.specs.History.{after_from, after, IsLegalFrom, IsLegal}
+use Rattle.dmatypes.specs.World.{empty}
+use Rattle.dmatypes.specs.History.{after}
 use Rattle.dmatypes.proofs.Histories.{after_from-push, IsLegalFrom-push}
-use Rattle.manager.specs.Machine.{Machine, IsNew}
-use Rattle.manager.specs.Fits.{Fits}
-use Rattle.manager.specs.Steps.{Does, Goes, GoesTo}
+use Rattle.manager.specs.Machine.{Machine}
+use Rattle.manager.specs.Steps.{Does, Goes}
 use Rattle.manager.specs.Kept.{Account, IsKept}
 
 Goes-push : (m : Machine) (es : List Event) (s : Machine) (e : Event) (t : Machine) → Goes m es s → Does s e.call e.reply t → Goes m (es ++ e ∷ []) t

@@ -1,5 +1,5 @@
 -- A refused call: the state counts it and stays.
-use Rattle.std.proofs.Common.{◌≡◌, ℕ, ◌+◌, refl, subst, sym, ap}
+use Rattle.std.proofs.Common.{◌≡◌, ◌+◌, refl, ap}
 use Rattle.dmatypes.specs.declared.call.Call.{Call}
 use Rattle.dmatypes.specs.declared.call.Call.TheVariants as calls
 use Rattle.dmatypes.specs.declared.reply.Reply.TheVariants.{Refused}

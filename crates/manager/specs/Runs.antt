@@ -1,7 +1,7 @@
 -- The live runs of a domain: pages that one map made live, in the order of their pages.
-use Rattle.std.specs.Prelude.{◌≡◌, ◌⊎◌, ℕ, ◌+◌, ◌-◌, ◌%◌, ◌^◌, ◌<◌, ◌≤◌, List, [], ◌∷◌, Option, Some, None, if◌then◌else◌}
-use Rattle.dmatypes.specs.Page.{Range, IsWithin, IsPage, IsPageRange}
-use Rattle.dmatypes.specs.Rights.{AreRights, bits_of}
+use Rattle.std.specs.Prelude.{◌≡◌, ◌⊎◌, ℕ, ◌+◌, ◌-◌, ◌%◌, ◌<◌, ◌≤◌, List, [], ◌∷◌, Option, Some, None, if◌then◌else◌}
+use Rattle.dmatypes.specs.Page.{IsWithin, IsPage, IsPageRange}
+use Rattle.dmatypes.specs.Rights.{bits_of}
 use Rattle.dmatypes.specs.World.{Target, is_within}
 use Rattle.manager.specs.declared.runs.Run.{Run}
 

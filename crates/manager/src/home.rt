@@ -5,7 +5,7 @@ ghost use Rattle.dmatypes.specs.Allows.{fault_of};
 ghost use Rattle.manager.specs.Homes.{Reaches};
 ghost use Rattle.manager.specs.Placing.{IsPlaced};
 
-use crate::runs::{Run, insert, lowest_place, target};
+use crate::runs::{Run, insert, lowest_place, target, unit_of};
 use crate::wanted::Wanted;
 use dmatypes::{Access, Fault, Mode, PageRange, Refusal};
 use std::alloc::{AllocError, Global};
@@ -67,7 +67,8 @@ impl Home {
     pub(crate) fn place(&mut self, wanted: Wanted) -> Result<u64, Refusal>
         ensures { IsPlaced self.old wanted result self.new }
     {
-        let Some(place) = lowest_place(self.runs.as_slice(), wanted.pages, 1 << wanted.order) else {
+        let Some(place) = lowest_place(self.runs.as_slice(), wanted.pages, unit_of(wanted.order))
+        else {
             return Err(Refusal::NoRange);
         };
         if self.runs.len() == MOST_RUNS {

@@ -17,6 +17,3 @@ pub use config::{Config, Seed};
 pub use manager::{History, Made, Manager, SharesOut};
 pub use owner::Owner;
 pub use share::Share;
-
-
-

@@ -90,12 +90,17 @@ fn round_up(page: u64, unit: u64) -> u64
     ensures near { result < page + unit }
 {
     let over = page % unit;
-    if over == 0 { page } else { page + (unit - over) }
+    if over == 0 {
+        page
+    } else {
+        page + (unit - over)
+    }
 }
 
 /// The host frame that the runs map a page to, and the rights there.
 pub(crate) fn target(runs: &[Run], page: u64) -> Option<(u64, Rights)>
-    ensures { target_of result ≡ target_at runs.now page }
+    ensures target { target_of result ≡ target_at runs.now page }
+    ensures near { IfSome result (λ t. t.0 < 2 ^ 32) }
 {
     for run in runs {
         let first = run.range.first();
@@ -115,4 +120,14 @@ pub(crate) fn insert(runs: &mut Vec<Run>, index: usize, run: Run)
     ensures capacity { vec_capacity runs.old ≤ vec_capacity runs.new }
 {
     runs.insert(index, run).unwrap();
+}
+
+/// The pages of an alignment of this order.
+pub(crate) fn unit_of(order: u64) -> u64
+    requires { order ≤ 9 }
+    ensures value { result ≡ 2 ^ order }
+    ensures some { 1 ≤ result }
+    ensures few { result ≤ 512 }
+{
+    1 << order
 }

@@ -1,6 +1,7 @@
 //! The sequential manager, one method a call.
 
-ghost use Rattle.std.specs.Prelude.{◌≡◌, ◌+◌, ◌<◌, ◌≤◌, ◌^◌, ◌==◌, ℕ, IfOk, IfSome, IfNone, length, slice_get, replicate, Some, None, IsSome};
+ghost use Rattle.std.specs.Prelude.{◌≡◌, ◌+◌, ◌<◌, ◌≤◌, ◌^◌, ◌==◌, ℕ, IfOk, IfSome, IfNone, length, slice_get, replicate, Some, None, IsSome, IsTrue, ◌↔◌};
+ghost use Rattle.dmatypes.specs.Page.{IsInWindow};
 ghost use Rattle.std.specs.Option.{option_and_then};
 ghost use Rattle.dmatypes.specs.declared.call.Call.TheVariants as calls;
 ghost use Rattle.manager.specs.Homes.{Place, Reaches, place_of};
@@ -94,8 +95,14 @@ impl State {
         let Some(index) = index_of(self.homes.as_slice(), domain) else {
             return Err(Refusal::NoDomain);
         };
-        let wanted = judge(self.frames, frame, pages, order, rights)?;
-        let first = self.homes[index].place(wanted)?;
+        let wanted = match judge(self.frames, frame, pages, order, rights) {
+            Ok(wanted) => wanted,
+            Err(refusal) => return Err(refusal),
+        };
+        let first = match self.homes[index].place(wanted) {
+            Ok(first) => first,
+            Err(refusal) => return Err(refusal),
+        };
         Ok(4096 * first)
     }
 
@@ -114,7 +121,7 @@ impl State {
         if device > 15 {
             return Err(Refusal::NoDevice);
         }
-        if 0xFEE0_0000 <= address && address <= 0xFEEF_FFFF {
+        if is_in_window(address) {
             return Err(Refusal::Window);
         }
         Ok(reach(
@@ -233,4 +240,11 @@ fn reach(homes: &[Home], attached: Option<u64>, address: u64, access: Access) ->
         return Err(Fault::NotAttached);
     };
     homes[index].reach(address, access)
+}
+
+// Whether the address lies in the interrupt address range.
+fn is_in_window(address: u64) -> bool
+    ensures { IsTrue result ↔ IsInWindow address }
+{
+    0xFEE0_0000 <= address && address <= 0xFEEF_FFFF
 }

@@ -1,5 +1,4 @@
-use Rattle.std.proofs.Common.{◌≡◌, ◌<◌, ◌+◌, None, Some, ap, length, refl, rules, slice_set, arith, sym}
-use Rattle.manager.specs.Homes.{Place}
+use Rattle.std.proofs.Common.{◌≡◌, ◌<◌, None, Some, length, refl, rules, arith}
 use Rattle.manager.specs.Machine.{Machine}
 use Rattle.manager.proofs.Attaching.{attach_no_device, attach_no_domain, attach_busy, attaches}
 use Rattle.manager.proofs.Places.{found, device_is}
@@ -18,7 +17,7 @@ returns-in_default-devices c =
     let h = found c.self.inside.homes.items c.args.domain c.in-Some._index some.2 some.1 in
     let less : c.args.device < length c.self.inside.devices = search rules in
     rw (← c.self.view_is) (attach_busy _ _ c.args.device c.args.domain h.0 c.in_default-devices.field-0 refl c.if-device-gt15.false h.1
-      (device_is c.self.inside.devices c.args.device (Some c.in_default-devices.field-0) less c.in_default-devices.is))
+    (device_is c.self.inside.devices c.args.device (Some c.in_default-devices.field-0) less c.in_default-devices.is))
 
 pub returns : goal.returns
 returns c =
@@ -27,4 +26,4 @@ returns c =
     let many : length c.self.inside.devices ≡ 16 = search rules in
     let m : Machine = record { frames = c.self.inside.frames; homes = c.self.inside.homes.items; devices = c.self.inside.devices; calls = c.self.inside.calls } in
     rw (← c.self.view_is) (attaches m _ c.args.device c.args.domain h.0 c.if-device-gt15.false many h.1
-      (device_is c.self.inside.devices c.args.device None (omega (arith, many, c.if-device-gt15.false)) c.in-None.is) refl)
+    (device_is c.self.inside.devices c.args.device None (omega (arith, many, c.if-device-gt15.false)) c.in-None.is) refl)

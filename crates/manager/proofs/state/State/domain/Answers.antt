@@ -15,4 +15,4 @@ returns c =
     let many : length c.self.inside.homes.items ≡ 15 = search rules in
     let at = rw c.as_slice.ensures.value at c.in-Some.ensures.vacant in
     rw (← c.self.view_is) (makes m _ c.args.mode c.in-Some.index many at.0 at.1
-      (ap (λ (h : Place). record { frames = c.self.inside.frames; homes = slice_set c.self.inside.homes.items c.in-Some.index h; devices = c.self.inside.devices; calls = c.self.inside.calls + 1 }) c.open.ensures))
+    (ap (λ (h : Place). record { frames = c.self.inside.frames; homes = slice_set c.self.inside.homes.items c.in-Some.index h; devices = c.self.inside.devices; calls = c.self.inside.calls + 1 }) c.open.ensures))
