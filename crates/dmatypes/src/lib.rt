@@ -10,7 +10,7 @@ mod line;
 mod page;
 mod refusal;
 mod reply;
-mod reply_line;
+mod reply_text;
 mod rights;
 
 pub use call::{Access, Call, Mode, Segment, Whim};
@@ -18,5 +18,5 @@ pub use line::parse_line;
 pub use page::{Frame, Page, PageRange};
 pub use refusal::{Fault, Refusal};
 pub use reply::{Event, Reply};
-pub use reply_line::event_line;
+pub use reply_text::{event_line, reply_line};
 pub use rights::Rights;

@@ -9,13 +9,20 @@ use crate::reply::{Event, Reply};
 use arrayvec::ArrayString;
 use itoa::Buffer;
 
-/// Replaces the text by the line of the event's reply.
-#[tactic(auto, unfolding(crate::specs::Text::line_of))]
+/// Replaces the text by the line of the event's reply, with its newline.
 pub fn event_line(event: &Event, line: &mut ArrayString<64>)
     ensures { line.new.bytes ≡ line_of event.now.reply }
 {
+    reply_line(event.reply, line);
+}
+
+/// Replaces the text by the line of a reply, with its newline.
+#[tactic(auto, unfolding(crate::specs::Text::line_of))]
+pub fn reply_line(reply: Reply, line: &mut ArrayString<64>)
+    ensures { line.new.bytes ≡ line_of reply }
+{
     line.clear();
-    match event.reply {
+    match reply {
         Reply::Made(domain) => {
             line.push_str("domain ");
             push_decimal(line, domain);

@@ -1,0 +1,143 @@
+-- A run, between two lines, and how it ends.
+use Rattle.std.proofs.Common.{◌≡◌, ◌≢◌, ℕ, ◌+◌, ◌-◌, ◌^◌, ◌<◌, min, List, [], ◌∷◌, ◌++◌, length, Option, Some, None, Result, Ok, Err, refl, sym, ap, subst, ◌∙◌, arith, append_assoc}
+use Rattle.std.specs.Io.KnownBytes.{Appends, Consumes, IsAtEnd}
+use Rattle.std.proofs.lemmas.List.{append-nil, length-append}
+use Rattle.dmatypes.specs.declared.call.Call.{Call}
+use Rattle.dmatypes.specs.Grammar.{says}
+use Rattle.manager.specs.Kept.{Account, IsKept}
+use Rattle.vtdm.specs.declared.error.RunError.{RunError}
+use Rattle.vtdm.specs.declared.error.RunError.TheVariants as errors
+use Rattle.vtdm.specs.Bytes.{IsUnbroken, Sent}
+use Rattle.vtdm.specs.Run.{Size, LineSays, ScriptSays, BeginsBadly, AnswersOne, Ran, RanKnown, WroteAll, WroteFront}
+use Rattle.vtdm.proofs.Known.{sent_nothing, sent_more, consumes_nothing, consumes_more}
+use Rattle.vtdm.proofs.Scripts.{script_rest, script_then, bad_line, cut_line, long_line}
+use Rattle.vtdm.proofs.Answering.{Entered, entered_none, entered_more, answers}
+
+-- the whole lines that were read say calls, and those are answered
+pub record Going (size : Size) (old left before : Option (List ℕ)) (pending : List ℕ) (after : Option (List ℕ)) (block : List ℕ) (account : Account) (number : ℕ) : Type 0 where
+  pub calls : List Call
+  pub taken : List ℕ
+  pub written : List ℕ
+  pub read : Consumes old left taken
+  pub wrote : Sent before after pending block written
+  pub script : ScriptSays taken calls []
+  pub kept : IsKept size.frames size.room account
+  pub entered : Entered size.room account.history calls written
+  pub place : number ≡ min (length calls + 1) (2 ^ 64 - 1)
+
+pub begins : (size : Size) (old before : Option (List ℕ)) (pending : List ℕ) (account : Account) → IsKept size.frames size.room account → account.history ≡ [] → Going size old old before pending before pending account 1
+begins size old before pending account kept none = record {
+  calls = [];
+  taken = [];
+  written = [];
+  read = consumes_nothing old;
+  wrote = sent_nothing before pending;
+  script = refl;
+  kept = kept;
+  entered = rw none (entered_none size.room);
+  place = refl;
+}
+
+-- ---- what is to show where the bytes are known
+
+pub known : {U : Type 0} (size : Size) (old left before : Option (List ℕ)) (pending : List ℕ) (after : Option (List ℕ)) (block taken written : List ℕ) (result : Result U RunError) → Consumes old left taken → Sent before after pending block written
+    → ((input rest from to : List ℕ) → left ≡ Some rest → input ≡ taken ++ rest → ((front : List ℕ) × (to ≡ from ++ front) × (front ++ block ≡ pending ++ written)) → Ran size input rest from pending to written result)
+    → RanKnown size old left before pending after result
+known size None left before pending after block taken written result c s h = tt
+known size (Some input) None before pending after block taken written result c s h = absurd c
+known size (Some input) (Some rest) None pending after block taken written result c s h = tt
+known size (Some input) (Some rest) (Some from) pending None block taken written result c s h = absurd s.1
+known size (Some input) (Some rest) (Some from) pending (Some to) block taken written result c s h = (written, h input rest from to refl c (s.0, s.1, s.2))
+
+wrote_all : (from to pending written : List ℕ) → ((front : List ℕ) × (to ≡ from ++ front) × (front ++ [] ≡ pending ++ written)) → WroteAll from pending to written
+wrote_all from to pending written s = s.1 ∙ ap (λ (r : List ℕ). from ++ r) (sym (append-nil s.0) ∙ s.2)
+
+-- ---- the ends
+
+pub ends : {U : Type 0} (size : Size) (old left left' before : Option (List ℕ)) (pending : List ℕ) (after after' : Option (List ℕ)) (block : List ℕ) (account : Account) (number : ℕ) (u : U) → Going size old left before pending after block account number
+    → Consumes left left' [] → IsAtEnd left' → Sent after after' block [] [] → RanKnown size old left' before pending after' (Ok u)
+ends size old left left' before pending after after' block account number u g none at_end sent =
+    known size old left' before pending after' [] (g.taken ++ []) (g.written ++ []) (Ok u) (consumes_more old left left' g.taken [] g.read none) (sent_more before after after' pending block [] g.written [] g.wrote sent) (λ input rest from to is e s.
+    let nothing : rest ≡ [] = subst IsAtEnd is at_end in
+    (wrote_all from to pending (g.written ++ []) s, record {
+      calls = g.calls;
+      script = subst (λ (b : List ℕ). ScriptSays b g.calls []) (sym (e ∙ ap (λ (r : List ℕ). (g.taken ++ []) ++ r) nothing ∙ append-nil (g.taken ++ []) ∙ append-nil g.taken)) g.script;
+      answers = rw (append-nil g.written) (answers size account g.calls g.written g.kept g.entered);
+      all_read = nothing;
+    }))
+
+pub fails_reading : (U : Type 0) (size : Size) (old left left' before : Option (List ℕ)) (pending : List ℕ) (after after' : Option (List ℕ)) (block : List ℕ) (account : Account) (number : ℕ) (line : List ℕ) → Going size old left before pending after block account number
+    → Consumes left left' line → IsUnbroken line → Sent after after' block [] [] → RanKnown {U = U} size old left' before pending after' (Err errors.Read)
+fails_reading U size old left left' before pending after after' block account number line g more whole sent =
+    known size old left' before pending after' [] (g.taken ++ line) (g.written ++ []) (Err errors.Read) (consumes_more old left left' g.taken line g.read more) (sent_more before after after' pending block [] g.written [] g.wrote sent) (λ input rest from to is e s.
+    (wrote_all from to pending (g.written ++ []) s, record {
+      taken = g.taken ++ line;
+      parts = e;
+      calls = g.calls;
+      rest = line;
+      script = script_rest g.taken g.calls line g.script;
+      no_more = whole;
+      answers = rw (append-nil g.written) (answers size account g.calls g.written g.kept g.entered);
+    }))
+
+-- a bad line, whatever was read of it
+stops : (U : Type 0) (size : Size) (old left left' before : Option (List ℕ)) (pending : List ℕ) (after after' : Option (List ℕ)) (block : List ℕ) (account : Account) (number : ℕ) (line : List ℕ) → Going size old left before pending after block account number
+    → Consumes left left' line → Sent after after' block [] [] → ((rest : List ℕ) → left' ≡ Some rest → BeginsBadly (line ++ rest)) → RanKnown {U = U} size old left' before pending after' (Err (errors.BadLine number))
+stops U size old left left' before pending after after' block account number line g more sent bad =
+    known size old left' before pending after' [] (g.taken ++ line) (g.written ++ []) (Err (errors.BadLine number)) (consumes_more old left left' g.taken line g.read more) (sent_more before after after' pending block [] g.written [] g.wrote sent) (λ input rest from to is e s.
+    (wrote_all from to pending (g.written ++ []) s, record {
+      calls = g.calls;
+      rest = line ++ rest;
+      script = subst (λ (b : List ℕ). ScriptSays b g.calls (line ++ rest)) (sym (e ∙ append_assoc g.taken line rest)) (script_rest g.taken g.calls (line ++ rest) g.script);
+      bad = bad rest is;
+      place = g.place;
+      answers = rw (append-nil g.written) (answers size account g.calls g.written g.kept g.entered);
+    }))
+
+pub stops_cut : (U : Type 0) (size : Size) (old left left' before : Option (List ℕ)) (pending : List ℕ) (after after' : Option (List ℕ)) (block : List ℕ) (account : Account) (number : ℕ) (line : List ℕ) → Going size old left before pending after block account number
+    → Consumes left left' line → IsUnbroken line → line ≢ [] → IsAtEnd left' → Sent after after' block [] [] → RanKnown {U = U} size old left' before pending after' (Err (errors.BadLine number))
+stops_cut U size old left left' before pending after after' block account number line g more whole some at_end sent =
+    stops U size old left left' before pending after after' block account number line g more sent (λ rest is.
+      let nothing : rest ≡ [] = subst IsAtEnd is at_end in
+      subst BeginsBadly (sym (ap (λ (r : List ℕ). line ++ r) nothing ∙ append-nil line)) (cut_line line whole some))
+
+pub stops_long : (U : Type 0) (size : Size) (old left left' before : Option (List ℕ)) (pending : List ℕ) (after after' : Option (List ℕ)) (block : List ℕ) (account : Account) (number : ℕ) (line : List ℕ) (b : ℕ) → Going size old left before pending after block account number
+    → Consumes left left' (line ++ b ∷ []) → IsUnbroken (line ++ b ∷ []) → length line ≡ 512 → Sent after after' block [] [] → RanKnown {U = U} size old left' before pending after' (Err (errors.BadLine number))
+stops_long U size old left left' before pending after after' block account number line b g more whole long sent =
+    stops U size old left left' before pending after after' block account number (line ++ b ∷ []) g more sent (λ rest is.
+      long_line (line ++ b ∷ []) rest whole (omega (arith, long, length-append line (b ∷ []))))
+
+pub stops_unsaid : (U : Type 0) (size : Size) (old left left' before : Option (List ℕ)) (pending : List ℕ) (after after' : Option (List ℕ)) (block : List ℕ) (account : Account) (number : ℕ) (line : List ℕ) → Going size old left before pending after block account number
+    → Consumes left left' (line ++ 10 ∷ []) → IsUnbroken line → says line ≡ None → Sent after after' block [] [] → RanKnown {U = U} size old left' before pending after' (Err (errors.BadLine number))
+stops_unsaid U size old left left' before pending after after' block account number line g more whole unsaid sent =
+    stops U size old left left' before pending after after' block account number (line ++ 10 ∷ []) g more sent (λ rest is.
+      rw (append_assoc line (10 ∷ []) rest) (bad_line line rest whole unsaid))
+
+-- a write failed: of the answers to the whole lines before, a beginning is written
+pub fails_writing : (U : Type 0) (size : Size) (old left left' before : Option (List ℕ)) (pending : List ℕ) (after after' : Option (List ℕ)) (block block' : List ℕ) (account : Account) (number : ℕ) (line : List ℕ) → Going size old left before pending after block account number
+    → Consumes left left' line → Sent after after' block block' [] → RanKnown {U = U} size old left' before pending after' (Err errors.Write)
+fails_writing U size old left left' before pending after after' block block' account number line g more sent =
+    known size old left' before pending after' block' (g.taken ++ line) (g.written ++ []) (Err errors.Write) (consumes_more old left left' g.taken line g.read more) (sent_more before after after' pending block block' g.written [] g.wrote sent) (λ input rest from to is e s.
+    ((s.0, block', s.1, s.2), record {
+      calls = g.calls;
+      rest = line ++ rest;
+      script = subst (λ (b : List ℕ). ScriptSays b g.calls (line ++ rest)) (sym (e ∙ append_assoc g.taken line rest)) (script_rest g.taken g.calls (line ++ rest) g.script);
+      answers = rw (append-nil g.written) (answers size account g.calls g.written g.kept g.entered);
+    }))
+
+-- ---- one line more
+
+pub goes_on : (size : Size) (old left left' before : Option (List ℕ)) (pending : List ℕ) (after after' after'' : Option (List ℕ)) (block block' block'' : List ℕ) (account account' : Account) (number : ℕ) (line : List ℕ) (call : Call) (text : List ℕ) → Going size old left before pending after block account number
+    → Consumes left left' (line ++ 10 ∷ []) → LineSays line call → Sent after after' block block' [] → IsKept size.frames size.room account' → AnswersOne size.room account account' call text → Sent after' after'' block' block'' text
+    → Going size old left' before pending after'' block'' account' (min (number + 1) (2 ^ 64 - 1))
+goes_on size old left left' before pending after after' after'' block block' block'' account account' number line call text g more said sent kept one put = record {
+  calls = g.calls ++ call ∷ [];
+  taken = g.taken ++ (line ++ 10 ∷ []);
+  written = g.written ++ text;
+  read = consumes_more old left left' g.taken (line ++ 10 ∷ []) g.read more;
+  wrote = rw (append-nil g.written) at (sent_more before after' after'' pending block' block'' (g.written ++ []) text (sent_more before after after' pending block block' g.written [] g.wrote sent) put);
+  script = script_then (g.taken ++ (line ++ 10 ∷ [])) g.calls (line ++ 10 ∷ []) line [] call (script_rest g.taken g.calls (line ++ 10 ∷ []) g.script) refl said;
+  kept = kept;
+  entered = entered_more size.room account account' g.calls g.written call text g.entered one;
+  place = omega (arith, g.place, length-append g.calls (call ∷ []));
+}

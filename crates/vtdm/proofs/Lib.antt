@@ -1,0 +1,4 @@
+pub mod Known
+pub mod Scripts
+pub mod Answering
+pub mod Going

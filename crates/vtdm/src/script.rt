@@ -1,0 +1,155 @@
+//! A script, from its first line to the first bad one.
+
+ghost use Rattle.std.specs.Prelude.{◌≡◌, ◌↔◌, ◌≤◌, ◌⊎◌, [], Err, true, false, length, IsErrOf};
+ghost use Rattle.std.specs.Io.KnownBytes.{prepend_known};
+ghost use Rattle.manager.specs.Kept.{IsKept, Names};
+ghost use Rattle.vtdm.specs.Bytes.{Sent};
+ghost use Rattle.vtdm.specs.Run.{AnswersOne, RanKnown};
+
+use crate::counted::{Counted, Failed};
+use crate::error::RunError;
+use crate::lines::{LineEnd, next_line};
+use arrayvec::{ArrayString, ArrayVec};
+use dmatypes::{Call, Refusal, Reply, parse_line, reply_line};
+use manager::{Book, Config, HistoryFull, Made, Manager, Owner, Seed, Share};
+use std::alloc::Global;
+use std::io::{Read, Write};
+use std::marker::Brand;
+use std::sync::Wait;
+
+/// Reads a script to its first bad line, and writes one line for each line, on a manager of its own. All
+/// answers to the lines that were read are written before the next read.
+///
+/// A bad line ends the work, as does a failed read: the lines before it are answered. After a failed
+/// write, or with no memory for the manager, a beginning of the answers is written.
+pub fn run<T: Wait, R: Read, W: Write>(
+    rt: &T,
+    alloc: Global,
+    reader: &mut Counted<R>,
+    writer: &mut Counted<W>,
+    config: Config,
+) -> Result<(), RunError>
+    requires one { config.shares ≡ 1 }
+    requires reader { reader.old.failed ≡ false }
+    requires writer { writer.old.failed ≡ false }
+    ensures told { RanKnown (record { frames = config.frames; room = config.calls })
+        (prepend_known reader.old.block (R.remaining reader.old.inner)) (prepend_known reader.new.block (R.remaining reader.new.inner))
+        (W.contents writer.old.inner) writer.old.block (W.contents writer.new.inner) result }
+    ensures reader { (reader.new.failed ≡ true) ↔ IsErrOf result RunError.Read }
+    ensures writer { (writer.new.failed ≡ true) ↔ IsErrOf result RunError.Write }
+{
+    let Ok(seed) = Seed::new(alloc, config) else {
+        return Err(RunError::NoMemory);
+    };
+    run_owned::<Brand, T, R, W>(rt, alloc, reader, writer, seed)
+}
+
+// The same, over an owner that names the manager.
+fn run_owned<B: Owner, T: Wait, R: Read, W: Write>(
+    rt: &T,
+    alloc: Global,
+    reader: &mut Counted<R>,
+    writer: &mut Counted<W>,
+    seed: Seed,
+) -> Result<(), RunError>
+    requires name { seed.name ≡ B.name }
+    requires parts { seed.shares ≡ B.parts }
+    requires shares { seed.shares ≡ B.shares }
+    requires room { seed.room ≡ B.room }
+    requires frames { seed.frames ≡ B.frames }
+    requires one { seed.shares ≡ 1 }
+    requires reader { reader.old.failed ≡ false }
+    requires writer { writer.old.failed ≡ false }
+    ensures told { RanKnown (record { frames = seed.frames; room = seed.room })
+        (prepend_known reader.old.block (R.remaining reader.old.inner)) (prepend_known reader.new.block (R.remaining reader.new.inner))
+        (W.contents writer.old.inner) writer.old.block (W.contents writer.new.inner) result }
+    ensures reader { (reader.new.failed ≡ true) ↔ IsErrOf result RunError.Read }
+    ensures writer { (writer.new.failed ≡ true) ↔ IsErrOf result RunError.Write }
+{
+    let Ok(Made {
+        manager,
+        mut shares,
+    }) = Manager::<B>::new(alloc, seed)
+    else {
+        return Err(RunError::NoMemory);
+    };
+    let Some(mut mine) = shares.pop() else {
+        unreachable!()
+    };
+    let mut guard = manager.lock(rt);
+    let book = &mut *guard;
+    book.audit(&mut mine);
+    answer_lines(rt, book, &mut mine, reader, writer)
+}
+
+// One line for each line, to the end or the first bad one. The lock is held from the first to the last.
+fn answer_lines<B: Owner, T: Wait, R: Read, W: Write>(
+    rt: &T,
+    book: &mut Book<B>,
+    mine: &mut Share<B>,
+    reader: &mut Counted<R>,
+    writer: &mut Counted<W>,
+) -> Result<(), RunError>
+    requires none { book.old.history ≡ [] }
+    requires reader { reader.old.failed ≡ false }
+    requires writer { writer.old.failed ≡ false }
+    ensures told { RanKnown (record { frames = B.frames; room = B.room })
+        (prepend_known reader.old.block (R.remaining reader.old.inner)) (prepend_known reader.new.block (R.remaining reader.new.inner))
+        (W.contents writer.old.inner) writer.old.block (W.contents writer.new.inner) result }
+    ensures reader { (reader.new.failed ≡ true) ↔ IsErrOf result RunError.Read }
+    ensures writer { (writer.new.failed ≡ true) ↔ IsErrOf result RunError.Write }
+{
+    let mut line = ArrayVec::new();
+    let mut text = ArrayString::new();
+    let mut number = 1u64;
+    book.keeps();
+    for _ in rt.forever() {
+        match next_line(reader, writer, &mut line) {
+            Ok(LineEnd::Newline) => {}
+            Ok(LineEnd::Nothing) => return Ok(()),
+            Ok(LineEnd::Cut) => return Err(RunError::BadLine(number)),
+            Ok(LineEnd::Long) => return stop_at(writer, number),
+            Err(error) => return Err(error),
+        }
+        let Some(call) = parse_line(line.as_slice()) else {
+            return stop_at(writer, number);
+        };
+        answer(book, mine, call, &mut text);
+        match writer.put(text.as_str().as_bytes()) {
+            Ok(()) => {}
+            Err(Failed) => return Err(RunError::Write),
+        }
+        number = number.saturating_add(1);
+    }
+    unreachable!()
+}
+
+// A bad line: what is still to be written is written first.
+fn stop_at<W: Write>(writer: &mut Counted<W>, number: u64) -> Result<(), RunError>
+    ensures sent { Sent (W.contents writer.old.inner) (W.contents writer.new.inner) writer.old.block writer.new.block [] }
+    ensures stopped { ((result ≡ Err (RunError.BadLine number)) × (writer.new.block ≡ []) × (writer.new.failed ≡ writer.old.failed))
+        ⊎ ((result ≡ Err RunError.Write) × (writer.new.failed ≡ true)) }
+{
+    match writer.flush() {
+        Ok(()) => Err(RunError::BadLine(number)),
+        Err(Failed) => Err(RunError::Write),
+    }
+}
+
+// One call of the book, and the line of its answer.
+fn answer<B: Owner>(
+    book: &mut Book<B>,
+    mine: &mut Share<B>,
+    call: Call,
+    text: &mut ArrayString<64>,
+)
+    ensures one { AnswersOne B.room book.old book.new call text.new.bytes }
+    ensures kept { IsKept B.frames B.room book.new }
+{
+    let reply = match book.call(mine, call) {
+        Ok((_, reply)) => reply,
+        Err(HistoryFull) => Reply::Refused(Refusal::HistoryFull),
+    };
+    book.keeps();
+    reply_line(reply, text);
+}
