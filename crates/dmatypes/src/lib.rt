@@ -3,6 +3,7 @@
 //! repository speaks of.
 #![tactic(auto)]
 
+mod block;
 mod call;
 mod fields;
 mod line;
@@ -11,7 +12,9 @@ mod refusal;
 mod reply;
 mod reply_line;
 mod rights;
+mod width;
 
+pub use block::aligned_block;
 pub use call::{Access, Call, Mode, Segment, Whim};
 pub use line::parse_line;
 pub use page::{Frame, Page, PageRange};
@@ -19,3 +22,4 @@ pub use refusal::{Fault, Refusal};
 pub use reply::{Event, Reply};
 pub use reply_line::event_line;
 pub use rights::Rights;
+pub use width::Width;
