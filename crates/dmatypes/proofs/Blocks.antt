@@ -103,3 +103,7 @@ code_block r first pages is_first are_pages is_range =
       (smallest_block r (first + (pages - 1)) m (omega (arith, ends.some)) ends.some
         (subst (λ s. bit_xor s (first + (pages - 1)) < 2 ^ m) is_first bits.1)
         (subst (λ s. 2 ^ m ≤ 2 * bit_xor s (first + (pages - 1)) + 1) is_first bits.2)))
+
+-- a block that holds a range begins at or before its first page
+pub first_before : (b : Block) (r : Range) → 1 ≤ r.pages → Holds b r → b.first ≤ r.first
+first_before b r some holds = (holds r.first (omega arith, omega arith)).0

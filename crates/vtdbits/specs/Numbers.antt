@@ -1,5 +1,5 @@
 -- The numbers that words are made of, beside frames and rights.
-use Rattle.std.specs.Prelude.{ℕ, ◌^◌, ◌<◌, ◌≤◌, ◌⊎◌, Bool, true, false}
+use Rattle.std.specs.Prelude.{ℕ, ◌%◌, ◌^◌, ◌<◌, ◌≤◌, ◌⊎◌, ◌==◌, ◌&&◌, ◌||◌, nat_le, nat_lt, Bool, true, false}
 use Rattle.dmatypes.specs.Block.{Block, IsAligned}
 
 -- the id of a domain
@@ -22,3 +22,14 @@ IsPageBlock b = (b.order ≤ 9) × (b.first < 2 ^ 36) × IsAligned b
 abbrev pub bit_of : Bool → ℕ
 bit_of false = 0
 bit_of true = 1
+
+-- ---- the same as tests
+
+abbrev pub is_domain_id : ℕ → Bool
+is_domain_id d = nat_le 1 d && nat_le d 15
+
+abbrev pub is_wide_page : ℕ → Bool
+is_wide_page p = nat_le 1 p && nat_lt p (2 ^ 36) && (nat_lt p 0xFEE00 || nat_lt 0xFEEFF p)
+
+abbrev pub is_page_block : Block → Bool
+is_page_block b = nat_le b.order 9 && nat_lt b.first (2 ^ 36) && (b.first % 2 ^ b.order == 0)

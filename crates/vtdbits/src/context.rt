@@ -1,7 +1,7 @@
 //! Entries of the row of contexts.
 
 ghost use Rattle.std.specs.Prelude.{◌≡◌, IfSome, IfNone};
-ghost use Rattle.vtdbits.specs.Context.{number_of_width};
+ghost use Rattle.vtdbits.specs.Context.{number_of_width, width_of_number};
 
 use crate::bits::field;
 use crate::number::DomainId;
@@ -22,12 +22,14 @@ pub enum ContextEntry {
 }
 
 impl ContextEntry {
-    ghost use Rattle.vtdbits.specs.Context.{Spells};
+    ghost use Rattle.vtdbits.specs.Context.{Spells, context_of};
 
     /// The entry that two words spell, if they spell one.
+    #[tactic(auto, unfolding(crate::specs::Context::context_of))]
     pub fn decode(words: Words) -> Option<ContextEntry>
         ensures some { IfSome result (Spells words) }
         ensures none { IfNone result ((e : ContextEntry) → Spells words e → ⊥) }
+        ensures read { result ≡ context_of words }
     {
         if words.low == 0 && words.high == 0 {
             return Some(ContextEntry::Absent);
@@ -46,8 +48,10 @@ impl ContextEntry {
     }
 
     /// The words that spell it.
+    #[tactic(auto, unfolding(crate::specs::Context::context_of))]
     pub fn encode(self) -> Words
-        ensures { Spells result self }
+        ensures spells { Spells result self }
+        ensures read { context_of result ≡ Some self }
     {
         match self {
             ContextEntry::Absent => Words { low: 0, high: 0 },
@@ -76,6 +80,7 @@ fn width_number(width: Width) -> u64
 fn width_of(number: u64) -> Option<Width>
     ensures some { IfSome result (λ w. number ≡ number_of_width w) }
     ensures none { IfNone result ((w : Width) → number ≡ number_of_width w → ⊥) }
+    ensures read { result ≡ width_of_number number }
 {
     match number {
         1 => Some(Width::W39),

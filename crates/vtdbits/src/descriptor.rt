@@ -35,23 +35,31 @@ pub enum Descriptor {
 
 // The low bits of each form: the kind, the granularity, and in every IOTLB descriptor both drain bits.
 const CONTEXT_GLOBAL: u64 = 0x11;
+
 const CONTEXT_DOMAIN: u64 = 0x21;
+
 const CONTEXT_DEVICE: u64 = 0x31;
+
 const IOTLB_GLOBAL: u64 = 0xd2;
+
 const IOTLB_DOMAIN: u64 = 0xe2;
+
 const IOTLB_PAGES: u64 = 0xf2;
+
 const WAIT: u64 = 0x25;
 
 // Where every wait writes its status: the first address behind the host frames.
 const STATUS_ADDRESS: u64 = 1 << 36;
 
 impl Descriptor {
-    ghost use Rattle.vtdbits.specs.Descriptor.{Spells};
+    ghost use Rattle.vtdbits.specs.Descriptor.{Spells, descriptor_of};
 
     /// The descriptor that two words spell, if they spell one.
+    #[tactic(auto, unfolding(crate::specs::Descriptor::descriptor_of))]
     pub fn decode(words: Words) -> Option<Descriptor>
         ensures some { IfSome result (Spells words) }
         ensures none { IfNone result ((d : Descriptor) → Spells words d → ⊥) }
+        ensures read { result ≡ descriptor_of words }
     {
         match field(words.low, 0, 16) {
             CONTEXT_GLOBAL if words.low >> 16 == 0 && words.high == 0 => {
@@ -66,7 +74,9 @@ impl Descriptor {
                 let device = DeviceNumber::new(words.low >> 35)?;
                 Some(Descriptor::ContextDevice { domain, device })
             }
-            IOTLB_GLOBAL if words.low >> 16 == 0 && words.high == 0 => Some(Descriptor::IotlbGlobal),
+            IOTLB_GLOBAL if words.low >> 16 == 0 && words.high == 0 => Some(
+                Descriptor::IotlbGlobal,
+            ),
             IOTLB_DOMAIN if words.high == 0 => {
                 let domain = DomainId::new(words.low >> 16)?;
                 Some(Descriptor::IotlbDomain(domain))
@@ -89,8 +99,10 @@ impl Descriptor {
     }
 
     /// The words that spell it.
+    #[tactic(auto, unfolding(crate::specs::Descriptor::descriptor_of))]
     pub fn encode(self) -> Words
-        ensures { Spells result self }
+        ensures spells { Spells result self }
+        ensures read { descriptor_of result ≡ Some self }
     {
         match self {
             Descriptor::ContextGlobal => Words {

@@ -10,6 +10,8 @@ mod entry;
 mod number;
 mod port;
 mod spellings;
+#[cfg(test)]
+mod tests;
 mod translation;
 mod words;
 

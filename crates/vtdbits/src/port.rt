@@ -69,12 +69,14 @@ pub struct PortWord {
 }
 
 impl PortWord {
-    ghost use Rattle.vtdbits.specs.Port.{Spells};
+    ghost use Rattle.vtdbits.specs.Port.{Spells, port_of};
 
     /// What a word states, if it is a spelling.
+    #[tactic(auto, unfolding(crate::specs::Port::port_of))]
     pub fn decode(word: u64) -> Option<PortWord>
         ensures some { IfSome result (Spells word) }
         ensures none { IfNone result ((p : PortWord) → Spells word p → ⊥) }
+        ensures read { result ≡ port_of word }
     {
         let rights = Rights::from_number(field(word, 0, 2))?;
         let frame = Frame::new(field(word, 2, 24))?;
@@ -86,8 +88,10 @@ impl PortWord {
     }
 
     /// The word that spells it.
+    #[tactic(auto, unfolding(crate::specs::Port::port_of))]
     pub fn encode(self) -> u64
-        ensures { Spells result self }
+        ensures spells { Spells result self }
+        ensures read { port_of result ≡ Some self }
     {
         let rights = u64::from(self.translation.rights().bits());
         rights + (self.translation.frame().number() << 2) + (self.page.number() << 26)

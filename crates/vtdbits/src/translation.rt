@@ -1,6 +1,6 @@
 //! What a leaf states of its pages.
 
-ghost use Rattle.std.specs.Prelude.{◌≡◌, ◌%◌};
+ghost use Rattle.std.specs.Prelude.{◌≡◌, ◌+◌, ◌%◌, ◌<◌};
 ghost use Rattle.dmatypes.specs.Rights.{AreRights, bits_of};
 ghost use Rattle.vtdbits.specs.Translation.{target};
 
@@ -84,6 +84,18 @@ impl LargeTranslation {
         ensures { result ≡ target frame (bits_of rights) }
     {
         LargeTranslation { frame, rights }
+    }
+
+    /// What it states of the page at this place among its 512.
+    pub fn page(self, place: u64) -> Translation
+        requires { place < 512 }
+        ensures { result ≡ target (self.frame + place) self.rights }
+    {
+        let frame = Frame::new(self.frame.number() + place).unwrap();
+        Translation {
+            frame,
+            rights: self.rights,
+        }
     }
 
     /// The first host frame.
