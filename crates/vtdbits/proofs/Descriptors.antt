@@ -1,5 +1,5 @@
 -- What words of the queue spell.
-use Rattle.std.proofs.Common.{◌≡◌, ℕ, ◌≤◌, Option, Some, None, sym, ◌∙◌, subst, inl, inr, ◌/◌, ◌%◌, ◌^◌, ◌==◌, true, arith}
+use Rattle.std.proofs.Common.{◌≡◌, Some, None, sym, ◌∙◌, subst, inl, inr, ◌/◌, ◌%◌, ◌^◌, ◌==◌, true, arith}
 use Rattle.std.proofs.lemmas.Bool.Decides.{nat_tests}
 use Rattle.vtdbits.proofs.Cascades.{if_some, same_some, not_some, none_read}
 use Rattle.vtdbits.specs.Descriptor.{Spells, descriptor_of, is_global, is_of_domain, is_of_device, is_of_pages, is_wait, block_in}

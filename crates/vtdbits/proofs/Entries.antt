@@ -1,5 +1,5 @@
 -- What words of second-stage tables spell.
-use Rattle.std.proofs.Common.{◌≡◌, ℕ, ◌/◌, ◌%◌, ◌^◌, ◌-◌, Bool, true, ◌&&◌, nat_le, nat_lt, ◌==◌, Option, Some, None, refl, sym, ap, subst, ◌∙◌, arith, unwrap_or, inl, inr}
+use Rattle.std.proofs.Common.{◌≡◌, ℕ, ◌/◌, ◌%◌, ◌^◌, ◌-◌, true, ◌&&◌, nat_le, nat_lt, ◌==◌, Option, Some, None, refl, sym, ap, subst, ◌∙◌, arith, unwrap_or, inl, inr}
 use Rattle.std.proofs.lemmas.Bool.Decides.{nat_tests}
 use Rattle.vtdbits.proofs.Cascades.{if_some, same_some, not_some, none_read}
 use Rattle.dmatypes.specs.World.{Target}

@@ -1,7 +1,7 @@
 -- Spellings of descriptors.
 use Rattle.std.specs.Prelude.{◌≡◌, ℕ, ◌+◌, ◌*◌, ◌/◌, ◌%◌, ◌^◌, ◌<◌, ◌==◌, ◌&&◌, nat_le, nat_lt, Bool, if◌then◌else◌, Option, Some, None}
 use Rattle.dmatypes.specs.Block.{Block, block}
-use Rattle.vtdbits.specs.Numbers.{IsDomainId, IsDevice, IsPageBlock, bit_of, is_domain_id, is_page_block}
+use Rattle.vtdbits.specs.Numbers.{IsDomainId, IsDevice, IsPageBlock, bit_of_flag, is_domain_id, is_page_block}
 use Rattle.vtdbits.specs.declared.words.Words.{Words}
 use Rattle.vtdbits.specs.declared.descriptor.Descriptor.{Descriptor}
 use Rattle.vtdbits.specs.declared.descriptor.Descriptor.TheVariants.{ContextGlobal, ContextDomain, ContextDevice, IotlbGlobal, IotlbDomain, IotlbPages, Wait}
@@ -19,7 +19,8 @@ Spells words (IotlbDomain domain) =
     IsDomainId domain × (words.low ≡ 0xe2 + 2 ^ 16 * domain) × (words.high ≡ 0)
 Spells words (IotlbPages domain pages hint) =
     IsDomainId domain × IsPageBlock pages
-    × (words.low ≡ 0xf2 + 2 ^ 16 * domain) × (words.high ≡ 2 ^ 12 * pages.first + 2 ^ 6 * bit_of hint + pages.order)
+    × (words.low ≡ 0xf2 + 2 ^ 16 * domain)
+    × (words.high ≡ 2 ^ 12 * pages.first + 2 ^ 6 * bit_of_flag hint + pages.order)
 Spells words (Wait status) =
     (status < 2 ^ 32) × (words.low ≡ 0x25 + 2 ^ 32 * status) × (words.high ≡ 2 ^ 36)
 
@@ -60,7 +61,8 @@ unfoldable pub descriptor_of : Words → Option Descriptor
 descriptor_of words =
     if is_global 0x11 words then Some ContextGlobal
     else (if is_of_domain 0x21 words then Some (ContextDomain (words.low / 2 ^ 16))
-    else (if is_of_device 0x31 words then Some (ContextDevice (words.low / 2 ^ 16 % 2 ^ 16) (words.low / 2 ^ 35))
+    else (if is_of_device 0x31 words
+    then Some (ContextDevice (words.low / 2 ^ 16 % 2 ^ 16) (words.low / 2 ^ 35))
     else (if is_global 0xd2 words then Some IotlbGlobal
     else (if is_of_domain 0xe2 words then Some (IotlbDomain (words.low / 2 ^ 16))
     else (if is_of_pages 0xf2 words

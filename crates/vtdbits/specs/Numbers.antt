@@ -19,9 +19,9 @@ abbrev pub IsPageBlock : Block → Type 0
 IsPageBlock b = (b.order ≤ 9) × (b.first < 2 ^ 36) × IsAligned b
 
 -- a flag's bit
-abbrev pub bit_of : Bool → ℕ
-bit_of false = 0
-bit_of true = 1
+abbrev pub bit_of_flag : Bool → ℕ
+bit_of_flag false = 0
+bit_of_flag true = 1
 
 -- ---- the same as tests
 

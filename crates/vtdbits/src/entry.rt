@@ -30,6 +30,7 @@ impl SsEntry {
     ghost use Rattle.vtdbits.specs.Entry.{Spells, MayStandAt, entry_of, look};
 
     /// The entry that a word spells in a table of a level, if it spells one.
+    #[inline]
     #[tactic(auto, unfolding(crate::specs::Entry::entry_of, crate::specs::Entry::look))]
     pub fn decode(level: u64, word: u64) -> Option<SsEntry>
         ensures some { IfSome result (Spells level word) }
@@ -55,6 +56,7 @@ impl SsEntry {
     }
 
     /// The word that spells it, at each level where it may stand.
+    #[inline]
     #[tactic(auto, unfolding(crate::specs::Entry::entry_of, crate::specs::Entry::look))]
     pub fn encode(self) -> u64
         ensures spells { (level : ℕ) → MayStandAt level self → Spells level result self }

@@ -72,6 +72,7 @@ impl PortWord {
     ghost use Rattle.vtdbits.specs.Port.{Spells, port_of};
 
     /// What a word states, if it is a spelling.
+    #[inline]
     #[tactic(auto, unfolding(crate::specs::Port::port_of))]
     pub fn decode(word: u64) -> Option<PortWord>
         ensures some { IfSome result (Spells word) }
@@ -88,6 +89,7 @@ impl PortWord {
     }
 
     /// The word that spells it.
+    #[inline]
     #[tactic(auto, unfolding(crate::specs::Port::port_of))]
     pub fn encode(self) -> u64
         ensures spells { Spells result self }

@@ -1,4 +1,4 @@
-use Rattle.std.proofs.Common.{◌*◌, ◌/◌, ◌^◌, ◌-◌, ◌%◌, bit_and, ap, ◌∙◌}
+use Rattle.std.proofs.Common.{◌/◌, ◌^◌, ◌-◌, bit_and, ap, ◌∙◌}
 use Rattle.std.proofs.lemmas.Nat.{and_mask, one_shl}
 use Rattle.vtdbits.proofs.bits.field.Goals as goal
 
