@@ -7,3 +7,4 @@ pub mod Digits
 pub mod Hexadecimal
 pub mod Ranges
 pub mod Histories
+pub mod Blocks

@@ -3,6 +3,7 @@
 //! repository speaks of.
 #![tactic(auto)]
 
+mod block;
 mod call;
 mod fields;
 pub mod laws;
@@ -12,7 +13,9 @@ mod refusal;
 mod reply;
 mod reply_text;
 mod rights;
+mod width;
 
+pub use block::aligned_block;
 pub use call::{Access, Call, Mode, Segment, Whim};
 pub use line::parse_line;
 pub use page::{Frame, Page, PageRange};
@@ -20,3 +23,4 @@ pub use refusal::{Fault, Refusal};
 pub use reply::{Event, Reply};
 pub use reply_text::{event_line, reply_line};
 pub use rights::Rights;
+pub use width::Width;

@@ -1,0 +1,5 @@
+pub mod Cascades
+pub mod Entries
+pub mod Contexts
+pub mod Descriptors
+pub mod Ports
