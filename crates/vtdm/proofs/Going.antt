@@ -1,14 +1,15 @@
 -- A run, between two lines, and how it ends.
-use Rattle.std.proofs.Common.{◌≡◌, ◌≢◌, ℕ, ◌+◌, ◌-◌, ◌^◌, ◌<◌, min, List, [], ◌∷◌, ◌++◌, length, Option, Some, None, Result, Ok, Err, refl, sym, ap, subst, ◌∙◌, arith, append_assoc}
-use Rattle.std.specs.Io.KnownBytes.{Appends, Consumes, IsAtEnd}
+use Rattle.std.proofs.Common.{◌≡◌, ◌≢◌, ℕ, ◌+◌, ◌-◌, ◌^◌, min, List, [], ◌∷◌, ◌++◌, length, Option, Some, None, Result, Ok, Err, refl, sym, ap, subst, ◌∙◌, ◌⊎◌, inl, inr, replicate, arith, append_assoc}
+use Rattle.std.specs.Io.KnownBytes.{Consumes, IsAtEnd}
 use Rattle.std.proofs.lemmas.List.{append-nil, length-append}
 use Rattle.dmatypes.specs.declared.call.Call.{Call}
 use Rattle.dmatypes.specs.Grammar.{says}
 use Rattle.manager.specs.Kept.{Account, IsKept}
 use Rattle.vtdm.specs.declared.error.RunError.{RunError}
 use Rattle.vtdm.specs.declared.error.RunError.TheVariants as errors
-use Rattle.vtdm.specs.Bytes.{IsUnbroken, Sent}
-use Rattle.vtdm.specs.Run.{Size, LineSays, ScriptSays, BeginsBadly, AnswersOne, Ran, RanKnown, WroteAll, WroteFront}
+use Rattle.vtdm.specs.Bytes.{IsAnswered, IsUnbroken, Sent}
+use Rattle.manager.specs.Machine.{Machine, vacant}
+use Rattle.vtdm.specs.Run.{Answers, Size, LineSays, ScriptSays, BeginsBadly, AnswersOne, Ran, RanKnown, WroteAll}
 use Rattle.vtdm.proofs.Known.{sent_nothing, sent_more, consumes_nothing, consumes_more}
 use Rattle.vtdm.proofs.Scripts.{script_rest, script_then, bad_line, cut_line, long_line}
 use Rattle.vtdm.proofs.Answering.{Entered, entered_none, entered_more, answers}
@@ -141,3 +142,53 @@ goes_on size old left left' before pending after after' after'' block block' blo
   entered = entered_more size.room account account' g.calls g.written call text g.entered one;
   place = omega (arith, g.place, length-append g.calls (call ∷ []));
 }
+
+-- ---- by what a step answered
+
+-- a read or a write failed while the next line was read
+pub fails : (U L : Type 0) (size : Size) (old left left' before : Option (List ℕ)) (pending : List ℕ) (after after' : Option (List ℕ)) (block block' : List ℕ) (account : Account) (number : ℕ) (line : List ℕ) (error : RunError) (read : Result L RunError) → Going size old left before pending after block account number
+    → Consumes left left' line → IsUnbroken line → Sent after after' block block' [] → IsAnswered block' (Err error) → read ≡ Err error → ((read ≡ Err errors.Read) ⊎ (read ≡ Err errors.Write))
+    → RanKnown {U = U} size old left' before pending after' (Err error)
+fails U L size old left left' before pending after after' block block' account number line errors.Read read g more whole sent answered is which =
+    fails_reading U size old left left' before pending after after' block account number line g more whole (subst (λ (b : List ℕ). Sent after after' block b []) answered sent)
+fails U L size old left left' before pending after after' block block' account number line errors.Write read g more whole sent answered is which =
+    fails_writing U size old left left' before pending after after' block block' account number line g more sent
+fails U L size old left left' before pending after after' block block' account number line (errors.BadLine k) read g more whole sent answered is (inl e) = absurd cc
+fails U L size old left left' before pending after after' block block' account number line (errors.BadLine k) read g more whole sent answered is (inr e) = absurd cc
+fails U L size old left left' before pending after after' block block' account number line errors.NoMemory read g more whole sent answered is (inl e) = absurd cc
+fails U L size old left left' before pending after after' block block' account number line errors.NoMemory read g more whole sent answered is (inr e) = absurd cc
+
+-- a bad line stops the run, or the write that comes first fails
+pub stopped : (U : Type 0) (size : Size) (old left left' before : Option (List ℕ)) (pending : List ℕ) (after after' after'' : Option (List ℕ)) (block block' block'' : List ℕ) (account : Account) (number : ℕ) (line : List ℕ) (result : Result U RunError) (F G : Type 0) → Going size old left before pending after block account number
+    → Consumes left left' line → Sent after after' block block' [] → Sent after' after'' block' block'' [] → (((result ≡ Err (errors.BadLine number)) × (block'' ≡ []) × F) ⊎ ((result ≡ Err errors.Write) × G))
+    → (Sent after after'' block [] [] → RanKnown {U = U} size old left' before pending after'' (Err (errors.BadLine number))) → RanKnown size old left' before pending after'' result
+stopped U size old left left' before pending after after' after'' block block' block'' account number line result F G g more sent flushed (inl h) bad =
+    let both = sent_more after after' after'' block block' block'' [] [] sent flushed in
+    rw h.0 (bad (subst (λ (b : List ℕ). Sent after after'' block b []) h.1 both))
+stopped U size old left left' before pending after after' after'' block block' block'' account number line result F G g more sent flushed (inr h) bad =
+    rw h.0 (fails_writing U size old left left' before pending after after'' block block'' account number line g more (sent_more after after' after'' block block' block'' [] [] sent flushed))
+
+abbrev new_state : ℕ → Machine
+new_state frames = record { frames = frames; homes = replicate 15 vacant; devices = replicate 16 None; calls = 0 }
+
+-- no line is answered
+none_called : (size : Size) → Answers size [] []
+none_called size = record {
+  history = [];
+  state = new_state size.frames;
+  legal = tt;
+  along = (new_state size.frames, (refl, refl));
+  calls_are = (entered_none size.room).calls_are;
+  text_is = (entered_none size.room).text_is;
+}
+
+-- nothing was made
+pub no_memory : (U : Type 0) (size : Size) (old before : Option (List ℕ)) (pending : List ℕ) → RanKnown {U = U} size old old before pending before (Err errors.NoMemory)
+no_memory U size None before pending = tt
+no_memory U size (Some input) None pending = tt
+no_memory U size (Some input) (Some from) pending = ([], (([], pending, sym (append-nil from), sym (append-nil pending)), record {
+  calls = [];
+  rest = input;
+  script = refl;
+  answers = none_called size;
+}))

@@ -1,2 +1,0 @@
-use Rattle.std.proofs.Common.{◌+◌, ◌≤◌, ◌-◌, length, arith, length-drop, rules, sym, ap, ◌∙◌, ◌≡◌, drop}
-use Rattle.vtdm.proofs.block.Block.advance.Goals as goal

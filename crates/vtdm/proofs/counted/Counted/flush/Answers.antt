@@ -1,4 +1,4 @@
-use Rattle.std.proofs.Common.{[], ◌≡◌, drop, sym, ap, ◌∙◌}
+use Rattle.std.proofs.Common.{[]}
 use Rattle.vtdm.proofs.Known.{sent_front}
 use Rattle.vtdm.proofs.counted.Counted.flush.Goals as goal
 
