@@ -59,72 +59,80 @@ pub ends : {U : Type 0} (size : Size) (old left left' before : Option (List ℕ)
     → Consumes left left' [] → IsAtEnd left' → Sent after after' block [] [] → RanKnown size old left' before pending after' (Ok u)
 ends size old left left' before pending after after' block account number u g none at_end sent =
     known size old left' before pending after' [] (g.taken ++ []) (g.written ++ []) (Ok u) (consumes_more old left left' g.taken [] g.read none) (sent_more before after after' pending block [] g.written [] g.wrote sent) (λ input rest from to is e s.
-    let nothing : rest ≡ [] = subst IsAtEnd is at_end in
-    (wrote_all from to pending (g.written ++ []) s, record {
-      calls = g.calls;
-      script = subst (λ (b : List ℕ). ScriptSays b g.calls []) (sym (e ∙ ap (λ (r : List ℕ). (g.taken ++ []) ++ r) nothing ∙ append-nil (g.taken ++ []) ∙ append-nil g.taken)) g.script;
-      answers = rw (append-nil g.written) (answers size account g.calls g.written g.kept g.entered);
-      all_read = nothing;
-    }))
+    let nothing : rest ≡ [] = subst IsAtEnd is at_end in (
+      wrote_all from to pending (g.written ++ []) s,
+      record {
+        calls = g.calls;
+        script = subst (λ (b : List ℕ). ScriptSays b g.calls []) (sym (e ∙ ap (λ (r : List ℕ). (g.taken ++ []) ++ r) nothing ∙ append-nil (g.taken ++ []) ∙ append-nil g.taken)) g.script;
+        answers = rw (append-nil g.written) (answers size account g.calls g.written g.kept g.entered);
+        all_read = nothing;
+      },
+    ))
 
 pub fails_reading : (U : Type 0) (size : Size) (old left left' before : Option (List ℕ)) (pending : List ℕ) (after after' : Option (List ℕ)) (block : List ℕ) (account : Account) (number : ℕ) (line : List ℕ) → Going size old left before pending after block account number
     → Consumes left left' line → IsUnbroken line → Sent after after' block [] [] → RanKnown {U = U} size old left' before pending after' (Err errors.Read)
 fails_reading U size old left left' before pending after after' block account number line g more whole sent =
-    known size old left' before pending after' [] (g.taken ++ line) (g.written ++ []) (Err errors.Read) (consumes_more old left left' g.taken line g.read more) (sent_more before after after' pending block [] g.written [] g.wrote sent) (λ input rest from to is e s.
-    (wrote_all from to pending (g.written ++ []) s, record {
-      taken = g.taken ++ line;
-      parts = e;
-      calls = g.calls;
-      rest = line;
-      script = script_rest g.taken g.calls line g.script;
-      no_more = whole;
-      answers = rw (append-nil g.written) (answers size account g.calls g.written g.kept g.entered);
-    }))
+    known size old left' before pending after' [] (g.taken ++ line) (g.written ++ []) (Err errors.Read) (consumes_more old left left' g.taken line g.read more) (sent_more before after after' pending block [] g.written [] g.wrote sent) (λ input rest from to is e s. (
+      wrote_all from to pending (g.written ++ []) s,
+      record {
+        taken = g.taken ++ line;
+        parts = e;
+        calls = g.calls;
+        rest = line;
+        script = script_rest g.taken g.calls line g.script;
+        no_more = whole;
+        answers = rw (append-nil g.written) (answers size account g.calls g.written g.kept g.entered);
+      },
+    ))
 
 -- a bad line, whatever was read of it
 stops : (U : Type 0) (size : Size) (old left left' before : Option (List ℕ)) (pending : List ℕ) (after after' : Option (List ℕ)) (block : List ℕ) (account : Account) (number : ℕ) (line : List ℕ) → Going size old left before pending after block account number
     → Consumes left left' line → Sent after after' block [] [] → ((rest : List ℕ) → left' ≡ Some rest → BeginsBadly (line ++ rest)) → RanKnown {U = U} size old left' before pending after' (Err (errors.BadLine number))
 stops U size old left left' before pending after after' block account number line g more sent bad =
-    known size old left' before pending after' [] (g.taken ++ line) (g.written ++ []) (Err (errors.BadLine number)) (consumes_more old left left' g.taken line g.read more) (sent_more before after after' pending block [] g.written [] g.wrote sent) (λ input rest from to is e s.
-    (wrote_all from to pending (g.written ++ []) s, record {
-      calls = g.calls;
-      rest = line ++ rest;
-      script = subst (λ (b : List ℕ). ScriptSays b g.calls (line ++ rest)) (sym (e ∙ append_assoc g.taken line rest)) (script_rest g.taken g.calls (line ++ rest) g.script);
-      bad = bad rest is;
-      place = g.place;
-      answers = rw (append-nil g.written) (answers size account g.calls g.written g.kept g.entered);
-    }))
+    known size old left' before pending after' [] (g.taken ++ line) (g.written ++ []) (Err (errors.BadLine number)) (consumes_more old left left' g.taken line g.read more) (sent_more before after after' pending block [] g.written [] g.wrote sent) (λ input rest from to is e s. (
+      wrote_all from to pending (g.written ++ []) s,
+      record {
+        calls = g.calls;
+        rest = line ++ rest;
+        script = subst (λ (b : List ℕ). ScriptSays b g.calls (line ++ rest)) (sym (e ∙ append_assoc g.taken line rest)) (script_rest g.taken g.calls (line ++ rest) g.script);
+        bad = bad rest is;
+        place = g.place;
+        answers = rw (append-nil g.written) (answers size account g.calls g.written g.kept g.entered);
+      },
+    ))
 
 pub stops_cut : (U : Type 0) (size : Size) (old left left' before : Option (List ℕ)) (pending : List ℕ) (after after' : Option (List ℕ)) (block : List ℕ) (account : Account) (number : ℕ) (line : List ℕ) → Going size old left before pending after block account number
     → Consumes left left' line → IsUnbroken line → line ≢ [] → IsAtEnd left' → Sent after after' block [] [] → RanKnown {U = U} size old left' before pending after' (Err (errors.BadLine number))
 stops_cut U size old left left' before pending after after' block account number line g more whole some at_end sent =
     stops U size old left left' before pending after after' block account number line g more sent (λ rest is.
-      let nothing : rest ≡ [] = subst IsAtEnd is at_end in
-      subst BeginsBadly (sym (ap (λ (r : List ℕ). line ++ r) nothing ∙ append-nil line)) (cut_line line whole some))
+    let nothing : rest ≡ [] = subst IsAtEnd is at_end in
+    subst BeginsBadly (sym (ap (λ (r : List ℕ). line ++ r) nothing ∙ append-nil line)) (cut_line line whole some))
 
 pub stops_long : (U : Type 0) (size : Size) (old left left' before : Option (List ℕ)) (pending : List ℕ) (after after' : Option (List ℕ)) (block : List ℕ) (account : Account) (number : ℕ) (line : List ℕ) (b : ℕ) → Going size old left before pending after block account number
     → Consumes left left' (line ++ b ∷ []) → IsUnbroken (line ++ b ∷ []) → length line ≡ 512 → Sent after after' block [] [] → RanKnown {U = U} size old left' before pending after' (Err (errors.BadLine number))
 stops_long U size old left left' before pending after after' block account number line b g more whole long sent =
     stops U size old left left' before pending after after' block account number (line ++ b ∷ []) g more sent (λ rest is.
-      long_line (line ++ b ∷ []) rest whole (omega (arith, long, length-append line (b ∷ []))))
+    long_line (line ++ b ∷ []) rest whole (omega (arith, long, length-append line (b ∷ []))))
 
 pub stops_unsaid : (U : Type 0) (size : Size) (old left left' before : Option (List ℕ)) (pending : List ℕ) (after after' : Option (List ℕ)) (block : List ℕ) (account : Account) (number : ℕ) (line : List ℕ) → Going size old left before pending after block account number
     → Consumes left left' (line ++ 10 ∷ []) → IsUnbroken line → says line ≡ None → Sent after after' block [] [] → RanKnown {U = U} size old left' before pending after' (Err (errors.BadLine number))
 stops_unsaid U size old left left' before pending after after' block account number line g more whole unsaid sent =
     stops U size old left left' before pending after after' block account number (line ++ 10 ∷ []) g more sent (λ rest is.
-      rw (append_assoc line (10 ∷ []) rest) (bad_line line rest whole unsaid))
+    rw (append_assoc line (10 ∷ []) rest) (bad_line line rest whole unsaid))
 
 -- a write failed: of the answers to the whole lines before, a beginning is written
 pub fails_writing : (U : Type 0) (size : Size) (old left left' before : Option (List ℕ)) (pending : List ℕ) (after after' : Option (List ℕ)) (block block' : List ℕ) (account : Account) (number : ℕ) (line : List ℕ) → Going size old left before pending after block account number
     → Consumes left left' line → Sent after after' block block' [] → RanKnown {U = U} size old left' before pending after' (Err errors.Write)
 fails_writing U size old left left' before pending after after' block block' account number line g more sent =
-    known size old left' before pending after' block' (g.taken ++ line) (g.written ++ []) (Err errors.Write) (consumes_more old left left' g.taken line g.read more) (sent_more before after after' pending block block' g.written [] g.wrote sent) (λ input rest from to is e s.
-    ((s.0, block', s.1, s.2), record {
-      calls = g.calls;
-      rest = line ++ rest;
-      script = subst (λ (b : List ℕ). ScriptSays b g.calls (line ++ rest)) (sym (e ∙ append_assoc g.taken line rest)) (script_rest g.taken g.calls (line ++ rest) g.script);
-      answers = rw (append-nil g.written) (answers size account g.calls g.written g.kept g.entered);
-    }))
+    known size old left' before pending after' block' (g.taken ++ line) (g.written ++ []) (Err errors.Write) (consumes_more old left left' g.taken line g.read more) (sent_more before after after' pending block block' g.written [] g.wrote sent) (λ input rest from to is e s. (
+      (s.0, block', s.1, s.2),
+      record {
+        calls = g.calls;
+        rest = line ++ rest;
+        script = subst (λ (b : List ℕ). ScriptSays b g.calls (line ++ rest)) (sym (e ∙ append_assoc g.taken line rest)) (script_rest g.taken g.calls (line ++ rest) g.script);
+        answers = rw (append-nil g.written) (answers size account g.calls g.written g.kept g.entered);
+      },
+    ))
 
 -- ---- one line more
 
@@ -186,9 +194,15 @@ none_called size = record {
 pub no_memory : (U : Type 0) (size : Size) (old before : Option (List ℕ)) (pending : List ℕ) → RanKnown {U = U} size old old before pending before (Err errors.NoMemory)
 no_memory U size None before pending = tt
 no_memory U size (Some input) None pending = tt
-no_memory U size (Some input) (Some from) pending = ([], (([], pending, sym (append-nil from), sym (append-nil pending)), record {
-  calls = [];
-  rest = input;
-  script = refl;
-  answers = none_called size;
-}))
+no_memory U size (Some input) (Some from) pending = (
+  [],
+  (
+    ([], pending, sym (append-nil from), sym (append-nil pending)),
+    record {
+      calls = [];
+      rest = input;
+      script = refl;
+      answers = none_called size;
+    },
+  ),
+)

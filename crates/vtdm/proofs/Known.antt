@@ -28,15 +28,19 @@ sent_nothing before block = ([], appends_nothing before, sym (append-nil block))
 
 -- one text behind the other
 pub sent_more : (x y z : Option (List ℕ)) (a b c s t : List ℕ) → Sent x y a b s → Sent y z b c t → Sent x z a c (s ++ t)
-sent_more x y z a b c s t p q =
-    (p.0 ++ q.0, appends_more x y z p.0 q.0 p.1 q.1,
-      append_assoc p.0 q.0 c ∙ ap (λ (r : List ℕ). p.0 ++ r) q.2 ∙ sym (append_assoc p.0 b t) ∙ ap (λ (r : List ℕ). r ++ t) p.2 ∙ append_assoc a s t)
+sent_more x y z a b c s t p q = (
+  p.0 ++ q.0,
+  appends_more x y z p.0 q.0 p.1 q.1,
+  append_assoc p.0 q.0 c ∙ ap (λ (r : List ℕ). p.0 ++ r) q.2 ∙ sym (append_assoc p.0 b t) ∙ ap (λ (r : List ℕ). r ++ t) p.2 ∙ append_assoc a s t,
+)
 
 -- a write took the front of the block
 pub sent_front : (x y z : Option (List ℕ)) (a b text : List ℕ) (count : ℕ) → Sent x y a b text → Appends y z (take count b) → Sent x z a (drop count b) text
-sent_front x y z a b text count p q =
-    (p.0 ++ take count b, appends_more x y z p.0 (take count b) p.1 q,
-      append_assoc p.0 (take count b) (drop count b) ∙ ap (λ (r : List ℕ). p.0 ++ r) (take-append-drop count b) ∙ p.2)
+sent_front x y z a b text count p q = (
+  p.0 ++ take count b,
+  appends_more x y z p.0 (take count b) p.1 q,
+  append_assoc p.0 (take count b) (drop count b) ∙ ap (λ (r : List ℕ). p.0 ++ r) (take-append-drop count b) ∙ p.2,
+)
 
 -- ---- a reader
 

@@ -66,10 +66,12 @@ fn run_owned<B: Owner, T: Wait, R: Read, W: Write>(
     ensures reader { (reader.new.failed ≡ true) ↔ IsErrOf result RunError.Read }
     ensures writer { (writer.new.failed ≡ true) ↔ IsErrOf result RunError.Write }
 {
-    let Ok(Made {
-        manager,
-        mut shares,
-    }) = Manager::<B>::new(alloc, seed)
+    let Ok(
+        Made {
+            manager,
+            mut shares,
+        },
+    ) = Manager::<B>::new(alloc, seed)
     else {
         return Err(RunError::NoMemory);
     };
@@ -137,12 +139,7 @@ fn stop_at<W: Write>(writer: &mut Counted<W>, number: u64) -> Result<(), RunErro
 }
 
 // One call of the book, and the line of its answer.
-fn answer<B: Owner>(
-    book: &mut Book<B>,
-    mine: &mut Share<B>,
-    call: Call,
-    text: &mut ArrayString<64>,
-)
+fn answer<B: Owner>(book: &mut Book<B>, mine: &mut Share<B>, call: Call, text: &mut ArrayString<64>)
     ensures one { AnswersOne B.room book.old book.new call text.new.bytes }
     ensures kept { IsKept B.frames B.room book.new }
 {

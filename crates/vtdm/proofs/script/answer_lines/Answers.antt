@@ -18,13 +18,13 @@ returns-in-Ok-Cut-clause-told g c =
     let h = rw c.in-Ok-Cut.field-0-is at c.in-Ok-Cut.ensures.bytes in
     let empty = rw c.in-Ok-Cut.field-0-is at c.in-Ok-Cut.ensures.answered in
     stops_cut _ _ _ _ _ _ _ _ _ _ c.loop.book c.loop.number c.next_line.new.line.items c.loop.invariant.going h.0 h.1 h.2 h.3
-      (subst (λ (b : List ℕ). Sent (g.W.Write.contents c.loop.writer.inner) (g.W.Write.contents c.next_line.new.writer.inner) c.loop.writer.block b []) empty c.in-Ok-Cut.ensures.sent)
+    (subst (λ (b : List ℕ). Sent (g.W.Write.contents c.loop.writer.inner) (g.W.Write.contents c.next_line.new.writer.inner) c.loop.writer.block b []) empty c.in-Ok-Cut.ensures.sent)
 
 pub returns-in-Ok-Long-clause-told : goal.returns-in-Ok-Long-clause-told
 returns-in-Ok-Long-clause-told g c =
     let h = rw c.in-Ok-Long.field-0-is at c.in-Ok-Long.ensures.bytes in
     stopped _ _ _ _ _ _ _ _ _ _ _ _ _ c.loop.book c.loop.number (c.next_line.new.line.items ++ h.0 ∷ []) c.stop_at.result _ _ c.loop.invariant.going h.1 c.in-Ok-Long.ensures.sent c.stop_at.ensures.sent c.stop_at.ensures.stopped
-      (λ sent. stops_long _ _ _ _ _ _ _ _ _ _ c.loop.book c.loop.number c.next_line.new.line.items h.0 c.loop.invariant.going h.1 h.2 h.3 sent)
+    (λ sent. stops_long _ _ _ _ _ _ _ _ _ _ c.loop.book c.loop.number c.next_line.new.line.items h.0 c.loop.invariant.going h.1 h.2 h.3 sent)
 
 pub returns-in-Err-clause-told : goal.returns-in-Err-clause-told
 returns-in-Err-clause-told g c =
@@ -35,13 +35,13 @@ returns-in_default-clause-told g c =
     let h = rw c.in-Ok-Newline.field-0-is at c.in-Ok-Newline.ensures.bytes in
     let unsaid = ap says (sym c.as_slice.ensures.value) ∙ sym c.parse_line.ensures ∙ c.in_default.is in
     stopped _ _ _ _ _ _ _ _ _ _ _ _ _ c.loop.book c.loop.number (c.next_line.new.line.items ++ 10 ∷ []) c.stop_at-in_default.result _ _ c.loop.invariant.going h.0 c.in-Ok-Newline.ensures.sent c.stop_at-in_default.ensures.sent c.stop_at-in_default.ensures.stopped
-      (λ sent. stops_unsaid _ _ _ _ _ _ _ _ _ _ c.loop.book c.loop.number c.next_line.new.line.items c.loop.invariant.going h.0 h.1 unsaid sent)
+    (λ sent. stops_unsaid _ _ _ _ _ _ _ _ _ _ c.loop.book c.loop.number c.next_line.new.line.items c.loop.invariant.going h.0 h.1 unsaid sent)
 
 pub returns-in-Err-put-clause-told : goal.returns-in-Err-put-clause-told
 returns-in-Err-put-clause-told g c =
     let h = rw c.in-Ok-Newline.field-0-is at c.in-Ok-Newline.ensures.bytes in
     fails_writing _ _ _ _ _ _ _ _ _ _ _ c.loop.book c.loop.number (c.next_line.new.line.items ++ 10 ∷ []) c.loop.invariant.going h.0
-      (sent_more _ _ _ _ _ _ [] [] c.in-Ok-Newline.ensures.sent c.in-Err-put.ensures.sent)
+    (sent_more _ _ _ _ _ _ [] [] c.in-Ok-Newline.ensures.sent c.in-Err-put.ensures.sent)
 
 pub loop-preserved : goal.loop-preserved
 loop-preserved g c =

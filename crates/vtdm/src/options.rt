@@ -1,0 +1,95 @@
+//! The command line.
+
+ghost use Rattle.std.specs.Prelude.{◌≡◌, IfSome};
+
+use clap::{Arg, ArgMatches, Command, value_parser};
+use manager::Config;
+use std::alloc::{AllocError, Global};
+
+/// What is asked for on the command line.
+#[derive(Clone, Copy, Debug, PartialEq, Eq)]
+pub(crate) struct Options {
+    /// The number of table frames.
+    pub(crate) frames: u64,
+    /// For how many calls the history has room.
+    pub(crate) calls: u64,
+}
+
+const ABOUT: &str =
+    "Keeps DMA address domains of a simulated VT-d unit, and answers a script of calls.";
+
+const SCRIPT: &str = "\
+A script is read from standard input, a call a line, and each line is answered by one line on
+standard output as soon as it is read. Fields are separated by one space. Numbers are decimal,
+or hexadecimal behind 0x; R is r, w or rw; X is r or w.
+
+  domain strict       makes a domain: 'domain D'
+  attach V D          attaches device V (0 to 15) to domain D: 'ok'
+  map D F N O R       maps N pages of domain D to host frames from F on, at a multiple of 2^O
+                      pages: 'map A', the byte address of the first page
+  dma V A X [look] [fill]
+                      device V reads or writes byte address A, using and filling the unit's
+                      caches as the words say: 'host A', or 'fault N'
+                      (2 not attached, 4 beyond the width, 5 a write, 6 a read not permitted)
+
+A call that can't be done is answered 'refused N':
+  1 no such domain         4 not attached        7 no free range       10 not live
+  2 no such device         5 bad range           8 no table frames     11 interrupt window
+  3 busy                   6 frame is a table's  9 too many pieces     12 too many domains
+  15 the history is full
+
+Exit status: 0 done; 1 input or output failed; 2 a bad line (its number is on standard error)
+or a bad command line; 3 no memory.";
+
+/// The program's command line, without the program's name.
+pub(crate) fn command<'a>(alloc: Global) -> Result<Command<'a>, AllocError> {
+    let run = Command::new(alloc, "run")
+        .about("Answers a script, one line for each line")
+        .after_help(SCRIPT)
+        .bin_name("vtdm run")?
+        .arg(frames(alloc))?
+        .arg(calls(alloc))?;
+    Command::new(alloc, "vtdm")
+        .about(ABOUT)
+        .after_help(SCRIPT)
+        .no_binary_name(true)
+        .subcommand_required(true)
+        .subcommand(run)
+}
+
+fn frames<'a>(alloc: Global) -> Arg<'a> {
+    Arg::new(alloc, "frames")
+        .long("frames")
+        .value_name("T")
+        .help("Table frames, 16 to 4096: host frames 0 to T - 1, which can't be mapped")
+        .value_parser(value_parser!(u64).range(16..=4096))
+        .default_value("64")
+}
+
+fn calls<'a>(alloc: Global) -> Arg<'a> {
+    Arg::new(alloc, "calls")
+        .long("calls")
+        .value_name("N")
+        .help("Room of the history in calls, 1 to 1048576; further calls are refused")
+        .value_parser(value_parser!(u64).range(1..=1_048_576))
+        .default_value("65536")
+}
+
+/// The options of `run`, where that command was given.
+pub(crate) fn options_of(matches: &ArgMatches) -> Option<Options> {
+    let (name, given) = matches.subcommand()?;
+    if name != "run" {
+        return None;
+    }
+    Some(Options {
+        frames: given.get_one::<u64>("frames")?,
+        calls: given.get_one::<u64>("calls")?,
+    })
+}
+
+/// The configuration of a manager with one share.
+pub(crate) fn config_of(options: Options) -> Option<Config>
+    ensures { IfSome result (λ c. (c.frames ≡ options.frames) × (c.calls ≡ options.calls) × (c.shares ≡ 1)) }
+{
+    Config::new(options.frames, options.calls, 1)
+}

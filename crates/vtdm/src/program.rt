@@ -1,0 +1,82 @@
+//! The whole program, over its words.
+
+use crate::counted::Counted;
+use crate::error::RunError;
+use crate::options::{Options, command, config_of, options_of};
+use crate::script::run;
+use clap::error::ErrorKind;
+use std::alloc::Global;
+use std::io::{Read, Write};
+use std::sync::Wait;
+
+// The exit statuses.
+const DONE: u8 = 0;
+
+const FAILED: u8 = 1;
+
+const BAD: u8 = 2;
+
+const NO_MEMORY: u8 = 3;
+
+/// Runs the program over its words, without the program's name among them, and answers its exit status.
+/// The words are judged before anything is read.
+pub fn program<T: Wait, R: Read + Drop, W: Write + Drop, E: Write + Drop>(
+    rt: &T,
+    alloc: Global,
+    words: &[&str],
+    input: R,
+    mut output: W,
+    mut errors: E,
+) -> u8 {
+    let Ok(command) = command(alloc) else {
+        return fail(&mut errors, RunError::NoMemory);
+    };
+    match command.try_get_matches_from(words) {
+        Ok(matches) => match options_of(&matches) {
+            Some(options) => run_script(rt, alloc, options, input, output, errors),
+            None => BAD,
+        },
+        Err(error) => {
+            if error.kind() == ErrorKind::OutOfMemory {
+                return fail(&mut errors, RunError::NoMemory);
+            }
+            if error.use_stderr() {
+                let _ = write!(errors, "{error}");
+                return BAD;
+            }
+            match write!(output, "{error}") {
+                Ok(()) => DONE,
+                Err(_) => fail(&mut errors, RunError::Write),
+            }
+        }
+    }
+}
+
+// Says why the program stops, and with which status. A failure to say it is passed over.
+fn fail<E: Write>(errors: &mut E, error: RunError) -> u8 {
+    let _ = writeln!(errors, "{error}");
+    match error {
+        RunError::BadLine(_) => BAD,
+        RunError::Read | RunError::Write => FAILED,
+        RunError::NoMemory => NO_MEMORY,
+    }
+}
+
+fn run_script<T: Wait, R: Read + Drop, W: Write + Drop, E: Write + Drop>(
+    rt: &T,
+    alloc: Global,
+    options: Options,
+    input: R,
+    output: W,
+    mut errors: E,
+) -> u8 {
+    let Some(config) = config_of(options) else {
+        return BAD;
+    };
+    let mut reader = Counted::new(input);
+    let mut writer = Counted::new(output);
+    match run(rt, alloc, &mut reader, &mut writer, config) {
+        Ok(()) => DONE,
+        Err(error) => fail(&mut errors, error),
+    }
+}

@@ -1,0 +1,335 @@
+//! Scripts and their answers, statuses, and readers and writers that fail.
+
+ghost use Rattle.std.specs.Prelude.{◌≡◌, IfSome, Some};
+
+use crate::counted::Counted;
+use crate::error::RunError;
+use crate::options::{Options, config_of};
+use crate::program::program;
+use crate::script::run;
+use manager::Config;
+use std::alloc::{AllocError, Global};
+use std::io;
+use std::io::{Read, Write};
+use std::process::Abort;
+use std::sync::Wait;
+use std::test::Fail;
+
+// The default configuration, but for the room of the history.
+fn config(calls: u64) -> Option<Config>
+    ensures { IfSome result (λ c. c.shares ≡ 1) }
+{
+    config_of(Options { frames: 64, calls })
+}
+
+// What a script is answered, with ample memory.
+fn answers<T: Wait>(
+    rt: &T,
+    alloc: Global,
+    script: &[u8],
+    calls: u64,
+) -> Result<(Result<(), RunError>, Vec<u8>), AllocError> {
+    let mut written = Vec::new(alloc);
+    let mut reader = Counted::new(script);
+    let mut writer = Counted::new(&mut written);
+    let result = match config(calls) {
+        Some(config) => run(rt, alloc, &mut reader, &mut writer, config),
+        None => Ok(()),
+    };
+    drop(writer);
+    Ok((result, written))
+}
+
+const FIRST_MAP: &[u8] =
+    b"domain strict\nattach 3 1\nmap 1 0x100 1 0 rw\ndma 3 0x1234 r look fill\n";
+
+#[test]
+fn scripts_are_answered(rt: HostRuntime) -> Result<(), Fail> {
+    let rows: [(&[u8], &[u8]); 6] = [
+        (b"", b""),
+        (FIRST_MAP, b"domain 1\nok\nmap 0x1000\nhost 0x100234\n"),
+        (
+            b"domain strict\nattach 3 1\nmap 1 0x100 1 0 r\ndma 3 0x1000 w\ndma 3 0x1fff r\n",
+            b"domain 1\nok\nmap 0x1000\nfault 5\nhost 0x100fff\n",
+        ),
+        (
+            b"domain strict\nattach 3 1\ndma 5 0x1000 r\ndma 3 0x8000000000 r\ndma 3 0x7ffffff000 w\ndma 16 0x1000 r\n",
+            b"domain 1\nok\nfault 2\nfault 4\nfault 5\nrefused 2\n",
+        ),
+        (
+            b"domain strict\nattach 3 1\ndma 3 0xfee00000 r\ndma 3 0xfeefffff w\ndma 3 0xfef00000 r\n",
+            b"domain 1\nok\nrefused 11\nrefused 11\nfault 6\n",
+        ),
+        (
+            b"domain strict\nmap 1 0xffffff 1 0 r\nmap 1 0xffffff 2 0 r\nmap 1 0x100 4097 0 r\nmap 1 0x100 0 0 r\nmap 1 0x3f 1 0 r\n",
+            b"domain 1\nmap 0x1000\nrefused 5\nrefused 5\nrefused 5\nrefused 6\n",
+        ),
+    ];
+    for (script, wanted) in rows {
+        let (result, written) = answers(&rt, rt.alloc(), script, 65536)?;
+        assert_eq!(rt; result, Ok(()));
+        assert_eq!(rt; written.as_slice(), wanted);
+    }
+    Ok(())
+}
+
+// 255 maps of 4,096 pages at multiples of 2^9, of which none crosses the interrupt address range.
+#[test]
+fn maps_go_round_the_window(rt: HostRuntime) -> Result<(), Fail> {
+    let mut script = Vec::from_slice(rt.alloc(), b"domain strict\n".as_slice())?;
+    for _ in 0..255u64 {
+        script.extend_from_slice(b"map 1 0x1000 4096 9 r\n".as_slice())?;
+    }
+    let (result, written) = answers(&rt, rt.alloc(), script.as_slice(), 65536)?;
+    assert_eq!(rt; result, Ok(()));
+    let lines: Vec<&[u8]> = written
+        .as_slice()
+        .split(|byte| *byte == b'\n')
+        .collect(rt.alloc())?;
+    assert_eq!(rt; lines.len(), 257);
+    assert_eq!(rt; lines[1], b"map 0x200000".as_slice());
+    assert_eq!(rt; lines[254], b"map 0xfd200000".as_slice());
+    assert_eq!(rt; lines[255], b"map 0xff000000".as_slice());
+    Ok(())
+}
+
+#[test]
+fn a_full_history_refuses(rt: HostRuntime) -> Result<(), Fail> {
+    let script = b"domain strict\nattach 3 1\nmap 1 0x100 1 0 rw\ndma 3 0x1000 r\n";
+    let (result, written) = answers(&rt, rt.alloc(), script.as_slice(), 3)?;
+    assert_eq!(rt; result, Ok(()));
+    assert_eq!(rt;
+        written.as_slice(),
+        b"domain 1\nok\nmap 0x1000\nrefused 15\n".as_slice()
+    );
+    Ok(())
+}
+
+#[test]
+fn bad_lines_stop(rt: HostRuntime) -> Result<(), Fail> {
+    let long = [b'0'; 513];
+    let mut too_long = Vec::from_slice(rt.alloc(), long.as_slice())?;
+    too_long.push(b'\n')?;
+    let rows: [(&[u8], u64); 14] = [
+        (b"\n", 1),
+        (b"domain strict", 1),
+        (b"domain strict\r\n", 1),
+        (b"domain lazy\n", 1),
+        (b"domain  strict\n", 1),
+        (b"domain strict \n", 1),
+        (b"flush 1\n", 1),
+        (b"attach 03 1\n", 1),
+        (b"attach 0x 1\n", 1),
+        (b"attach 18446744073709551616 1\n", 1),
+        (b"attach 0xffffffffffffffff 1\ndma 0 0 x\n", 2),
+        (b"domain strict\nmap 1 0x100 1 0 wr\n", 2),
+        (b"\xff\n", 1),
+        (too_long.as_slice(), 1),
+    ];
+    for (script, number) in rows {
+        let (result, _) = answers(&rt, rt.alloc(), script, 9)?;
+        assert_eq!(rt; result, Err(RunError::BadLine(number)));
+    }
+    Ok(())
+}
+
+// Gives its bytes three at a time, and fails at one call.
+#[derive(Drop)]
+struct Flaky<'a> {
+    rest: &'a [u8],
+    good: u64,
+}
+
+impl Read for Flaky<'_> {
+    ghost remaining = { λ f. Some f.rest.now };
+
+    fn read(&mut self, buf: &mut [u8]) -> io::Result<usize> {
+        if self.good == 0 {
+            return Err(io::Error::from(io::ErrorKind::Other));
+        }
+        self.good -= 1;
+        if buf.len() < 3 {
+            return self.rest.read(buf);
+        }
+        self.rest.read(&mut buf[..3])
+    }
+}
+
+// Holds what is written, and takes nothing from one call on.
+#[derive(Drop)]
+struct Limited {
+    held: Vec<u8>,
+    good: u64,
+}
+
+impl Write for Limited {
+    ghost contents = { λ f. Some f.held.items };
+
+    fn write(&mut self, buf: &[u8]) -> io::Result<usize> {
+        if self.good == 0 {
+            return Ok(0);
+        }
+        self.good -= 1;
+        self.held.write(buf)
+    }
+
+    fn flush(&mut self) -> io::Result<()> {
+        Ok(())
+    }
+}
+
+// All whole lines that were read are answered, wherever a read fails.
+#[test]
+fn a_read_fails(rt: HostRuntime) -> Result<(), Fail> {
+    let wanted = b"domain 1\nok\nmap 0x1000\nhost 0x100234\n";
+    for good in 0..24u64 {
+        let mut written = Vec::new(rt.alloc());
+        let mut reader = Counted::new(Flaky {
+            rest: FIRST_MAP,
+            good,
+        });
+        let mut writer = Counted::new(&mut written);
+        let Some(config) = config(9) else {
+            return Err(Fail::from("within the limits"));
+        };
+        let result = run(&rt, rt.alloc(), &mut reader, &mut writer, config);
+        assert_eq!(rt; result, Err(RunError::Read));
+        assert!(rt; reader.failed());
+        assert!(rt; !writer.failed());
+        let read = (3 * good) as usize;
+
+        drop(writer);
+        let lines = FIRST_MAP
+            .iter()
+            .take(read)
+            .filter(|byte| **byte == b'\n')
+            .count();
+        let answered = written.iter().filter(|byte| **byte == b'\n').count();
+        assert_eq!(rt; answered, lines);
+        assert!(rt; wanted.as_slice().starts_with(written.as_slice()));
+    }
+    Ok(())
+}
+
+// A beginning of the answers is written, wherever a write fails.
+#[test]
+fn a_write_fails(rt: HostRuntime) -> Result<(), Fail> {
+    for good in 0..5u64 {
+        let mut reader = Counted::new(Flaky {
+            rest: FIRST_MAP,
+            good: 100,
+        });
+        let mut writer = Counted::new(Limited {
+            held: Vec::new(rt.alloc()),
+            good,
+        });
+        let Some(config) = config(9) else {
+            return Err(Fail::from("within the limits"));
+        };
+        let result = run(&rt, rt.alloc(), &mut reader, &mut writer, config);
+        assert_eq!(rt; result.is_err(), good < 4);
+        assert_eq!(rt; writer.failed(), good < 4);
+        assert!(rt; !reader.failed());
+    }
+    Ok(())
+}
+
+#[test]
+fn statuses(rt: HostRuntime) -> Result<(), Fail> {
+    let rows: [(&[&str], &[u8], u8, &[u8], &[u8]); 4] = [
+        (
+            &["run"],
+            FIRST_MAP,
+            0,
+            b"domain 1\nok\nmap 0x1000\nhost 0x100234\n",
+            b"",
+        ),
+        (
+            &["run"],
+            b"domain strict\nattach 3 1",
+            2,
+            b"domain 1\n",
+            b"line 2\n",
+        ),
+        (
+            &["run", "--frames", "16", "--calls", "1"],
+            b"domain strict\ndomain strict\n",
+            0,
+            b"domain 1\nrefused 15\n",
+            b"",
+        ),
+        (
+            &["run", "--frames=256"],
+            b"domain strict\nmap 1 0xff 1 0 r\nmap 1 0x100 1 0 r\n",
+            0,
+            b"domain 1\nrefused 6\nmap 0x1000\n",
+            b"",
+        ),
+    ];
+    for (words, script, status, output, errors) in rows {
+        let mut written = Vec::new(rt.alloc());
+        let mut told = Vec::new(rt.alloc());
+        assert_eq!(rt;
+            program(&rt, rt.alloc(), words, script, &mut written, &mut told),
+            status
+        );
+        assert_eq!(rt; written.as_slice(), output);
+        assert_eq!(rt; told.as_slice(), errors);
+    }
+    Ok(())
+}
+
+// A bad command line is told on standard error and reads nothing; help is output.
+#[test]
+fn command_lines(rt: HostRuntime) -> Result<(), Fail> {
+    let rows: [(&[&str], u8); 10] = [
+        (&["run", "--frames", "15"], 2),
+        (&["run", "--frames", "4097"], 2),
+        (&["run", "--calls", "0"], 2),
+        (&["run", "--calls", "1048577"], 2),
+        (&["run", "--calls", "x"], 2),
+        (&["run", "--call", "1"], 2),
+        (&["report"], 2),
+        (&[], 2),
+        (&["--help"], 0),
+        (&["run", "--help"], 0),
+    ];
+    for (words, status) in rows {
+        let mut written = Vec::new(rt.alloc());
+        let mut told = Vec::new(rt.alloc());
+        assert_eq!(rt;
+            program(&rt, rt.alloc(), words, FIRST_MAP, &mut written, &mut told),
+            status
+        );
+        assert_eq!(rt; written.is_empty(), status == 2);
+        assert_eq!(rt; told.is_empty(), status == 0);
+    }
+    Ok(())
+}
+
+// Input and output that fail, as the statuses tell them.
+#[test]
+fn failing_ends(rt: HostRuntime) -> Result<(), Fail> {
+    let mut written = Vec::new(rt.alloc());
+    let mut told = Vec::new(rt.alloc());
+    let input = Flaky {
+        rest: FIRST_MAP,
+        good: 1,
+    };
+    assert_eq!(rt;
+        program(&rt, rt.alloc(), &["run"], input, &mut written, &mut told),
+        1
+    );
+    assert_eq!(rt; told.as_slice(), b"input failed\n".as_slice());
+    let mut told = Vec::new(rt.alloc());
+    let output = Limited {
+        held: Vec::new(rt.alloc()),
+        good: 0,
+    };
+    assert_eq!(rt;
+        program(&rt, rt.alloc(), &["run"], FIRST_MAP, output, &mut told),
+        1
+    );
+    assert_eq!(rt; told.as_slice(), b"output failed\n".as_slice());
+    Ok(())
+}
