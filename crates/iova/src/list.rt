@@ -215,6 +215,7 @@ pub(crate) fn free(pieces: &mut Vec<Piece>, at: usize)
     requires ordered { IsOrdered 1 pieces.old.items }
     requires bounded { All (λ p. p.last < 2 ^ 40) pieces.old.items }
     requires at { at < length pieces.old.items }
+    requires room { length pieces.old.items ≤ vec_capacity pieces.old }
     ensures items { HoldsAt (λ p. pieces.new.items ≡ with_free p pieces.old.items) pieces.old.items at }
     ensures capacity { vec_capacity pieces.new ≡ vec_capacity pieces.old }
 {
