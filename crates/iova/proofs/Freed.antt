@@ -12,6 +12,7 @@ use Rattle.iova.proofs.Pieces.{order, put_inside, put_under, put_past}
 use Rattle.iova.proofs.Puts.{StandsAlone}
 use Rattle.iova.proofs.Among.{in_le, in_one, in_other, in_state, is_apart, put_keeps, put_only}
 use Rattle.iova.proofs.Index.{any_default, in_at}
+use Rattle.iova.proofs.Place.{IsPlace, place_of}
 use Rattle.iova.proofs.FreeRange.{free_end_alone, free_end_free, free_end_ge, free_start_alone, free_start_free, free_start_le}
 use Rattle.iova.proofs.Keep.{NoneCut, is_some, length_put_whole, space_put}
 
@@ -147,3 +148,12 @@ length_joined ps i from to low high o h e f x y =
     let is : with_piece (record { first = low.first; last = high.last; state = Free }) ps ≡ with_free q ps =
       ap (λ n. with_piece (record { first = n; last = high.last; state = Free }) ps) l ∙ ap (λ n. with_piece (record { first = free_start ps q.first; last = n; state = Free }) ps) m in
     omega (arith, ap length is, length_with_free q ps o (in_at ps i low h))
+
+-- ---- the piece at the place of its first page
+
+pub freed_place : (a : AddressSpace) (q : Piece) (first i : ℕ) (xs : List Piece) → IsSpace a → IsIn q a.pieces → first ≡ q.first → xs ≡ a.pieces → IsPlace xs first i → (i < length a.pieces) × ((d : Piece) → get_or a.pieces i d ≡ q)
+freed_place a q first i xs sp m e f w = place_of 1 a.pieces i q sp.ordered m (subst (λ ps. IsPlace ps q.first i) f (subst (λ n. IsPlace xs n i) e w))
+
+pub freed_is : (a : AddressSpace) (q : Piece) (first i : ℕ) (xs new : List Piece) → IsSpace a → IsIn q a.pieces → first ≡ q.first → xs ≡ a.pieces → IsPlace xs first i
+  → ((d : Piece) → new ≡ with_free (get_or a.pieces i d) a.pieces) → new ≡ with_free q a.pieces
+freed_is a q first i xs new sp m e f w is = is q ∙ ap (λ p. with_free p a.pieces) ((freed_place a q first i xs sp m e f w).1 q)
