@@ -10,7 +10,7 @@ use Rattle.iova.specs.Pieces.{AllIn, Holds, IsOrdered, is_free, piece_of, state_
 use Rattle.iova.specs.Space.{AddressSpace, IsSpace, IsTooMany, MayRetire}
 use Rattle.iova.specs.Changes.{Becomes, Retires, Takes}
 use Rattle.iova.proofs.Pieces.{order, put_inside, put_under, put_past}
-use Rattle.iova.proofs.Among.{gains_one, in_le, is_apart, put_keeps}
+use Rattle.iova.proofs.Among.{gains_one, in_le, is_apart, put_keeps, put_piece}
 use Rattle.iova.proofs.Place.{IsPlace, place_holds, place_le}
 use Rattle.iova.proofs.Keep.{is_some, space_range}
 
@@ -38,6 +38,7 @@ takes old new range sp pos all e =
     subst (λ a. Takes old a range) (sym e) (record {
       free = all;
       is = refl;
+      piece = put_piece range.first (range.first + range.pages - 1) Live old.pieces;
       states = put_states range Live old.pieces sp.ordered pos;
       in_use = λ q n. gains_one range Live Free old.pieces q sp.ordered pos all n;
     })
@@ -49,6 +50,7 @@ pub retires : (old new : AddressSpace) (range : Range) → IsSpace old → 1 ≤
 retires old new range sp pos all e =
     subst (λ a. Retires old a range) (sym e) (record {
       is = refl;
+      piece = put_piece range.first (range.first + range.pages - 1) Retired old.pieces;
       states = put_states range Retired old.pieces sp.ordered pos;
       retired = λ q r. gains_one range Retired Live old.pieces q sp.ordered pos all (retired_live q.state r);
       apart = λ q m n. let a = in_le 1 q old.pieces sp.ordered m in
