@@ -1,5 +1,5 @@
 -- The lowest aligned start.
-use Rattle.std.proofs.Common.{◌≡◌, ℕ, suc, ◌+◌, ◌*◌, ◌/◌, ◌%◌, ◌<◌, ◌≤◌, ◌⊎◌, List, [], ◌∷◌, length, drop, get_or, Some, ap, sym, ◌∙◌, inl, inr, subst, refl, arith, IsTrue, false, drop-cons, add-one}
+use Rattle.std.proofs.Common.{◌≡◌, ℕ, suc, ◌+◌, ◌*◌, ◌/◌, ◌%◌, ◌<◌, ◌≤◌, List, [], ◌∷◌, length, drop, get_or, Some, ap, sym, ◌∙◌, inl, inr, subst, refl, arith, IsTrue, false, drop-cons, add-one}
 use Rattle.std.proofs.Math.Nat.{div-add-mod, mul-le-mul_left, lt_of_mul-lt-mul_left}
 use Rattle.std.proofs.Math.ListN.{drop_of_length-le}
 use Rattle.iova.specs.declared.piece.PageState.{PageState}
@@ -8,7 +8,7 @@ use Rattle.iova.specs.declared.piece.Piece.{Piece}
 use Rattle.iova.specs.Pieces.{is_free, state_at, Touches, IsOrdered}
 use Rattle.iova.specs.Space.{IsFit, IsLowestFit}
 use Rattle.iova.proofs.Pieces.{order, state-here, state-past, state-nil, state_none}
-use Rattle.iova.proofs.Puts.{none_some, free_is}
+use Rattle.iova.proofs.Puts.{none_some}
 
 -- the first multiple of the unit from a page on
 abbrev pub IsRoundUp : ℕ → ℕ → ℕ → Type 0
@@ -19,15 +19,20 @@ quotient : (m unit : ℕ) → m % unit ≡ 0 → m ≡ unit * (m / unit)
 quotient m unit e = sym (div-add-mod m unit) ∙ ap (λ r. unit * (m / unit) + r) e ∙ omega arith
 
 pub round_up : (page unit up : ℕ) → up % unit ≡ 0 → page ≤ up → up < page + unit → IsRoundUp page unit up
-round_up page unit up e l h = (e, l, (λ other f k. elim (order up other) [
-    inl x ↦ x
-  | inr x ↦
-      let q : up ≡ unit * (up / unit) = quotient up unit e in
-      let r : other ≡ unit * (other / unit) = quotient other unit f in
-      let less : other / unit < up / unit = lt_of_mul-lt-mul_left unit (omega (arith, q, r, x)) in
-      let more : unit * (other / unit + 1) ≤ unit * (up / unit) = mul-le-mul_left unit (omega (arith, less)) in
-      let next : unit * (other / unit + 1) ≡ unit * (other / unit) + unit = grind arith in
-      absurd (omega (arith, q, r, more, next, h, k)) ]))
+round_up page unit up e l h = (
+  e,
+  l,
+  (λ other f k. elim (order up other) [
+    | inl x ↦ x
+    | inr x ↦
+        let q : up ≡ unit * (up / unit) = quotient up unit e in
+        let r : other ≡ unit * (other / unit) = quotient other unit f in
+        let less : other / unit < up / unit = lt_of_mul-lt-mul_left unit (omega (arith, q, r, x)) in
+        let more : unit * (other / unit + 1) ≤ unit * (up / unit) = mul-le-mul_left unit (omega (arith, less)) in
+        let next : unit * (other / unit + 1) ≡ unit * (other / unit) + unit = grind arith in
+        absurd (omega (arith, q, r, more, next, h, k))
+  ]),
+)
 
 -- no aligned range of that length lies in the piece, or it isn't free
 abbrev pub HasNoRoom : Piece → ℕ → ℕ → Type 0
@@ -42,34 +47,40 @@ pub touching : (p : Piece) (ps : List Piece) → IsOrdered (p.last + 1) ps → I
 touching p [] o f e = absurd (none_some [] (p.last + 1) Free (state-nil (p.last + 1)) e)
 touching p (q ∷ ps) o f e =
     elim (order q.first (p.last + 1)) [
-      inl h ↦ (f, is_free_at q.state (sym (state-here q ps (p.last + 1) h (omega arith)) ∙ e), omega arith)
-    | inr h ↦ absurd (none_some (q ∷ ps) (p.last + 1) Free (state_none q.first (q ∷ ps) (p.last + 1) (omega arith, o.1, o.2, o.3) h) e) ]
+      | inl h ↦ (f, is_free_at q.state (sym (state-here q ps (p.last + 1) h (omega arith)) ∙ e), omega arith)
+      | inr h ↦ absurd (none_some (q ∷ ps) (p.last + 1) Free (state_none q.first (q ∷ ps) (p.last + 1) (omega arith, o.1, o.2, o.3) h) e)
+    ]
 
 pub fits_here : (from : ℕ) (p : Piece) (ps : List Piece) (pages unit up : ℕ) → IsOrdered from (p ∷ ps) → p.state ≡ Free → IsRoundUp p.first unit up → up + pages ≤ p.last + 1 → 1 ≤ pages → IsLowestFit (p ∷ ps) pages unit up
 fits_here from p ps pages unit up o f r h pos = record {
   fit = record { aligned = r.0; free = λ page w. state-here p ps page (omega (arith, r.1, w.0)) (omega (arith, w.1)) ∙ ap (λ u. Some u) f };
   lowest = λ other fits. elim (order p.first other) [
-      inl k ↦ r.2 other fits.aligned k
-    | inr k ↦ absurd (none_some (p ∷ ps) other Free (state_none p.first (p ∷ ps) other (omega arith, o.1, o.2, o.3) k) (fits.free other (omega arith, omega arith))) ];
+    | inl k ↦ r.2 other fits.aligned k
+    | inr k ↦ absurd (none_some (p ∷ ps) other Free (state_none p.first (p ∷ ps) other (omega arith, o.1, o.2, o.3) k) (fits.free other (omega arith, omega arith)))
+  ];
 }
 
 pub fits_tail : (from : ℕ) (p : Piece) (ps : List Piece) (pages unit t : ℕ) → IsOrdered from (p ∷ ps) → HasNoRoom p pages unit → 1 ≤ pages → IsFit (p ∷ ps) pages unit t → IsFit ps pages unit t
 fits_tail from p ps pages unit t o n pos f =
     elim (order p.first t) [
-      inr k ↦ absurd (none_some (p ∷ ps) t Free (state_none p.first (p ∷ ps) t (omega arith, o.1, o.2, o.3) k) (f.free t (omega arith, omega arith)))
-    | inl k ↦ elim (order t p.last) [
-        inr l ↦ record { aligned = f.aligned; free = λ page w. sym (state-past p ps page (omega (arith, w.0))) ∙ f.free page w }
-      | inl l ↦
-          let free : IsTrue (is_free p.state) = is_free_at p.state (sym (state-here p ps t k l) ∙ f.free t (omega arith, omega arith)) in
-          elim (order (t + pages) (p.last + 1)) [
-            inl m ↦ absurd (n free t k f.aligned m)
-          | inr m ↦ absurd (o.2 (touching p ps o.3 free (sym (state-past p ps (p.last + 1) (omega arith)) ∙ f.free (p.last + 1) (omega arith, m)))) ] ] ]
+      | inr k ↦ absurd (none_some (p ∷ ps) t Free (state_none p.first (p ∷ ps) t (omega arith, o.1, o.2, o.3) k) (f.free t (omega arith, omega arith)))
+      | inl k ↦ elim (order t p.last) [
+        | inr l ↦ record { aligned = f.aligned; free = λ page w. sym (state-past p ps page (omega (arith, w.0))) ∙ f.free page w }
+        | inl l ↦
+            let free : IsTrue (is_free p.state) = is_free_at p.state (sym (state-here p ps t k l) ∙ f.free t (omega arith, omega arith)) in
+            elim (order (t + pages) (p.last + 1)) [
+              | inl m ↦ absurd (n free t k f.aligned m)
+              | inr m ↦ absurd (o.2 (touching p ps o.3 free (sym (state-past p ps (p.last + 1) (omega arith)) ∙ f.free (p.last + 1) (omega arith, m))))
+            ]
+      ]
+    ]
 
 pub fits_cons : (from : ℕ) (p : Piece) (ps : List Piece) (pages unit t : ℕ) → IsOrdered from (p ∷ ps) → 1 ≤ pages → IsFit ps pages unit t → IsFit (p ∷ ps) pages unit t
 fits_cons from p ps pages unit t o pos f =
     elim (order t p.last) [
-      inl k ↦ absurd (none_some ps t Free (state_none (p.last + 1) ps t o.3 (omega arith)) (f.free t (omega arith, omega arith)))
-    | inr k ↦ record { aligned = f.aligned; free = λ page w. state-past p ps page (omega (arith, w.0)) ∙ f.free page w } ]
+      | inl k ↦ absurd (none_some ps t Free (state_none (p.last + 1) ps t o.3 (omega arith)) (f.free t (omega arith, omega arith)))
+      | inr k ↦ record { aligned = f.aligned; free = λ page w. state-past p ps page (omega (arith, w.0)) ∙ f.free page w }
+    ]
 
 -- the pieces from an index on have the fits of all
 pub record Ahead (all rest : List Piece) (pages unit : ℕ) : Type 0 where
@@ -113,7 +124,7 @@ not_free p pages unit e free t a b l = absurd (cc)
 pub step_at : (all : List Piece) (i : ℕ) (d : Piece) (pages unit : ℕ) → i < length all → 1 ≤ pages → HasNoRoom (get_or all i d) pages unit → Ahead all (drop i all) pages unit → Ahead all (drop (i + 1) all) pages unit
 step_at all i d pages unit h pos n a =
     subst (λ k. Ahead all (drop k all) pages unit) (sym (add-one i))
-      (ahead_more all (get_or all i d) (drop (suc i) all) pages unit pos n (subst (λ l. Ahead all l pages unit) (drop-cons all i d h) a))
+    (ahead_more all (get_or all i d) (drop (suc i) all) pages unit pos n (subst (λ l. Ahead all l pages unit) (drop-cons all i d h) a))
 
 pub here_at : (all : List Piece) (i : ℕ) (d : Piece) (pages unit up : ℕ) → i < length all → 1 ≤ pages → Ahead all (drop i all) pages unit → (get_or all i d).state ≡ Free → IsRoundUp (get_or all i d).first unit up → up + pages ≤ (get_or all i d).last + 1 → IsLowestFit all pages unit up
 here_at all i d pages unit up h pos a f r m =

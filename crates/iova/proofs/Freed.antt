@@ -1,9 +1,9 @@
 -- What freeing a piece leaves of a space.
-use Rattle.std.proofs.Common.{◌≡◌, ◌≢◌, ℕ, ◌+◌, ◌-◌, ◌<◌, ◌≤◌, ◌⊎◌, ◌↔◌, List, length, get_or, Some, IsSome, refl, ap, sym, ◌∙◌, inl, inr, subst, arith, lit≤}
-use Rattle.dmatypes.specs.Page.{Range, IsWithin}
+use Rattle.std.proofs.Common.{◌≡◌, ℕ, ◌+◌, ◌-◌, ◌<◌, ◌≤◌, List, length, get_or, Some, IsSome, refl, ap, sym, ◌∙◌, inl, inr, subst, arith, lit≤}
+use Rattle.dmatypes.specs.Page.{Range}
 use Rattle.dmatypes.specs.World.{IsIn}
 use Rattle.iova.specs.declared.piece.PageState.{PageState}
-use Rattle.iova.specs.declared.piece.PageState.TheVariants.{Free, Live, Retired}
+use Rattle.iova.specs.declared.piece.PageState.TheVariants.{Free}
 use Rattle.iova.specs.declared.piece.Piece.{Piece}
 use Rattle.iova.specs.Pieces.{Holds, IsOrdered, free_end, free_start, piece_of, state_at, with_free, with_piece}
 use Rattle.iova.specs.Space.{AddressSpace, IsSpace}
@@ -40,10 +40,12 @@ joined q ps o m =
       inside = λ page x. in_state 1 q ps page o m x.0 x.1;
       past = λ page x y. (free_end_free 1 q.last ps page o x y).1;
       some = λ page x y. elim (order q.first page) [
-          inr u ↦ is_some ps page Free (free_start_free 1 q.first ps page o x u)
+        | inr u ↦ is_some ps page Free (free_start_free 1 q.first ps page o x u)
         | inl u ↦ elim (order page q.last) [
-            inl v ↦ is_some ps page q.state (in_state 1 q ps page o m u v)
-          | inr v ↦ is_some ps page Free (free_end_free 1 q.last ps page o v y).1 ] ];
+          | inl v ↦ is_some ps page q.state (in_state 1 q ps page o m u v)
+          | inr v ↦ is_some ps page Free (free_end_free 1 q.last ps page o v y).1
+        ]
+      ];
       alone = λ f. ((λ s. free_start_alone 1 q ps o (lit≤ tt) m s), (λ s. free_end_alone 1 q ps o m s));
     }
 
@@ -52,23 +54,26 @@ joined_whole : (q : Piece) (ps : List Piece) → IsOrdered 1 ps → IsIn q ps �
 joined_whole q ps o m j p n =
     let lo : ℕ = free_start ps q.first in
     let hi : ℕ = free_end ps q.last in
-    let a = in_le 1 q ps o m in
-    ((λ x y. elim (order q.first lo) [
-        inr z ↦
-          let here : state_at ps lo ≡ Some p.state = in_state 1 p ps lo o n (omega (arith, x)) y in
-          let before : state_at ps (lo - 1) ≡ Some p.state = in_state 1 p ps (lo - 1) o n (omega (arith, x)) (omega (arith, y)) in
-          free_start_alone 1 q ps o (lit≤ tt) m (before ∙ sym here ∙ j.under lo (omega arith) z)
-      | inl z ↦
-          let same : p ≡ q = in_one 1 p q ps lo o n m (omega (arith, x), y) (z, omega (arith, j.low, a.1)) in
-          let f : p.first ≡ q.first = ap (λ r. r.first) same in omega (arith, f, x, z) ]),
+    let a = in_le 1 q ps o m in (
+      (λ x y. elim (order q.first lo) [
+        | inr z ↦
+            let here : state_at ps lo ≡ Some p.state = in_state 1 p ps lo o n (omega (arith, x)) y in
+            let before : state_at ps (lo - 1) ≡ Some p.state = in_state 1 p ps (lo - 1) o n (omega (arith, x)) (omega (arith, y)) in
+            free_start_alone 1 q ps o (lit≤ tt) m (before ∙ sym here ∙ j.under lo (omega arith) z)
+        | inl z ↦
+            let same : p ≡ q = in_one 1 p q ps lo o n m (omega (arith, x), y) (z, omega (arith, j.low, a.1)) in
+            let f : p.first ≡ q.first = ap (λ r. r.first) same in omega (arith, f, x, z)
+      ]),
       (λ x y. elim (order hi q.last) [
-        inr z ↦
-          let here : state_at ps hi ≡ Some p.state = in_state 1 p ps hi o n x (omega (arith, y)) in
-          let behind : state_at ps (hi + 1) ≡ Some p.state = in_state 1 p ps (hi + 1) o n (omega (arith, x)) (omega (arith, y)) in
-          free_end_alone 1 q ps o m (behind ∙ sym here ∙ j.past hi z (omega arith))
-      | inl z ↦
-          let same : p ≡ q = in_one 1 p q ps hi o n m (x, omega (arith, y)) (omega (arith, j.high, a.1), z) in
-          let f : p.last ≡ q.last = ap (λ r. r.last) same in omega (arith, f, y, z) ]))
+        | inr z ↦
+            let here : state_at ps hi ≡ Some p.state = in_state 1 p ps hi o n x (omega (arith, y)) in
+            let behind : state_at ps (hi + 1) ≡ Some p.state = in_state 1 p ps (hi + 1) o n (omega (arith, x)) (omega (arith, y)) in
+            free_end_alone 1 q ps o m (behind ∙ sym here ∙ j.past hi z (omega arith))
+        | inl z ↦
+            let same : p ≡ q = in_one 1 p q ps hi o n m (x, omega (arith, y)) (omega (arith, j.high, a.1), z) in
+            let f : p.last ≡ q.last = ap (λ r. r.last) same in omega (arith, f, y, z)
+      ]),
+    )
 
 -- no more pieces than before
 pub length_with_free : (q : Piece) (ps : List Piece) → IsOrdered 1 ps → IsIn q ps → length (with_free q ps) ≤ length ps
@@ -92,14 +97,18 @@ freed_states range s ps o pos m =
     record {
       inside = λ page w. put_inside lo hi Free ps page (omega (arith, j.low, w.0)) (omega (arith, j.high, w.1));
       outside = λ page n. elim (order range.first page) [
-          inr x ↦ elim (order lo page) [
-              inr y ↦ put_under 1 lo hi Free ps page o j.wide y
-            | inl y ↦ put_inside lo hi Free ps page y (omega (arith, j.high, x)) ∙ sym (j.under page y x) ]
+        | inr x ↦ elim (order lo page) [
+          | inr y ↦ put_under 1 lo hi Free ps page o j.wide y
+          | inl y ↦ put_inside lo hi Free ps page y (omega (arith, j.high, x)) ∙ sym (j.under page y x)
+        ]
         | inl x ↦ elim (order (range.first + range.pages) page) [
-            inr y ↦ absurd (n (x, y))
+          | inr y ↦ absurd (n (x, y))
           | inl y ↦ elim (order page hi) [
-              inr z ↦ put_past 1 lo hi Free ps page o j.wide z
-            | inl z ↦ put_inside lo hi Free ps page (omega (arith, j.low, x)) z ∙ sym (j.past page (omega (arith, y, pos)) z) ] ] ];
+            | inr z ↦ put_past 1 lo hi Free ps page o j.wide z
+            | inl z ↦ put_inside lo hi Free ps page (omega (arith, j.low, x)) z ∙ sym (j.past page (omega (arith, y, pos)) z)
+          ]
+        ]
+      ];
     }
 
 -- the pieces in use stay but for the one that is freed
@@ -109,23 +118,33 @@ freed_pieces q ps o m r n =
     let lo : ℕ = free_start ps q.first in
     let hi : ℕ = free_end ps q.last in
     let a = in_le 1 q ps o m in
-    let whole = joined_whole q ps o m j in
-    ((λ k. elim (put_only lo hi Free r ps o k) [
-        inl e ↦ absurd (n (ap (λ p. p.state) e))
-      | inr x ↦ elim x [
-          inl y ↦ (y.0, (λ e. elim y.1 [
-              inl z ↦ let f : r.last ≡ q.last = ap (λ p. p.last) e in omega (arith, f, z, j.low, a.1)
-            | inr z ↦ let f : r.first ≡ q.first = ap (λ p. p.first) e in omega (arith, f, z, j.high, a.1) ]))
-        | inr y ↦ elim y [
-            inl z ↦ absurd ((whole z.of z.among).0 z.under z.past)
-          | inr z ↦ absurd ((whole z.of z.among).1 z.under z.past) ] ] ]),
+    let whole = joined_whole q ps o m j in (
+      (λ k. elim (put_only lo hi Free r ps o k) [
+        | inl e ↦ absurd (n (ap (λ p. p.state) e))
+        | inr x ↦ elim x [
+          | inl y ↦ (
+            y.0,
+            (λ e. elim y.1 [
+              | inl z ↦ let f : r.last ≡ q.last = ap (λ p. p.last) e in omega (arith, f, z, j.low, a.1)
+              | inr z ↦ let f : r.first ≡ q.first = ap (λ p. p.first) e in omega (arith, f, z, j.high, a.1)
+            ]),
+          )
+          | inr y ↦ elim y [
+            | inl z ↦ absurd ((whole z.of z.among).0 z.under z.past)
+            | inr z ↦ absurd ((whole z.of z.among).1 z.under z.past)
+          ]
+        ]
+      ]),
       (λ k.
-        let b = in_le 1 r ps o k.0 in
-        put_keeps lo hi Free r ps o k.0 (is_apart r lo hi b.1 j.wide (λ page w x y. elim (order q.first page) [
-            inr u ↦ in_other r ps page Free o k.0 (j.under page x u) n w
-          | inl u ↦ elim (order page q.last) [
-              inl v ↦ k.1 (in_one 1 r q ps page o k.0 m w (u, v))
-            | inr v ↦ in_other r ps page Free o k.0 (j.past page v y) n w ] ]))))
+          let b = in_le 1 r ps o k.0 in
+          put_keeps lo hi Free r ps o k.0 (is_apart r lo hi b.1 j.wide (λ page w x y. elim (order q.first page) [
+            | inr u ↦ in_other r ps page Free o k.0 (j.under page x u) n w
+            | inl u ↦ elim (order page q.last) [
+              | inl v ↦ k.1 (in_one 1 r q ps page o k.0 m w (u, v))
+              | inr v ↦ in_other r ps page Free o k.0 (j.past page v y) n w
+            ]
+          ]))),
+    )
 
 pub frees : (old new : AddressSpace) (range : Range) (s : PageState) → IsSpace old → 1 ≤ range.pages → IsIn (piece_of range s) old.pieces → new ≡ record old { pieces = with_free (piece_of range s) old.pieces } → Frees old new range s
 frees old new range s sp pos m e =
@@ -139,14 +158,14 @@ frees old new range s sp pos m e =
 
 -- the pieces from the first of those that become one to the last of them
 pub length_joined : (ps : List Piece) (i from to : ℕ) (low high : Piece) → IsOrdered 1 ps → i < length ps → low ≡ get_or ps from low → high ≡ get_or ps to high
-  → ((d : Piece) → (get_or ps from d).first ≡ free_start ps (get_or ps i d).first) → ((d : Piece) → (get_or ps to d).last ≡ free_end ps (get_or ps i d).last)
-  → length (with_piece (record { first = low.first; last = high.last; state = Free }) ps) ≤ length ps
+    → ((d : Piece) → (get_or ps from d).first ≡ free_start ps (get_or ps i d).first) → ((d : Piece) → (get_or ps to d).last ≡ free_end ps (get_or ps i d).last)
+    → length (with_piece (record { first = low.first; last = high.last; state = Free }) ps) ≤ length ps
 length_joined ps i from to low high o h e f x y =
     let q : Piece = get_or ps i low in
     let l : low.first ≡ free_start ps q.first = ap (λ p. p.first) e ∙ x low in
     let m : high.last ≡ free_end ps q.last = ap (λ p. p.last) f ∙ y high ∙ ap (λ p. free_end ps p.last) (any_default ps i high low h) in
     let is : with_piece (record { first = low.first; last = high.last; state = Free }) ps ≡ with_free q ps =
-      ap (λ n. with_piece (record { first = n; last = high.last; state = Free }) ps) l ∙ ap (λ n. with_piece (record { first = free_start ps q.first; last = n; state = Free }) ps) m in
+    ap (λ n. with_piece (record { first = n; last = high.last; state = Free }) ps) l ∙ ap (λ n. with_piece (record { first = free_start ps q.first; last = n; state = Free }) ps) m in
     omega (arith, ap length is, length_with_free q ps o (in_at ps i low h))
 
 -- ---- the piece at the place of its first page
@@ -155,5 +174,5 @@ pub freed_place : (a : AddressSpace) (q : Piece) (first i : ℕ) (xs : List Piec
 freed_place a q first i xs sp m e f w = place_of 1 a.pieces i q sp.ordered m (subst (λ ps. IsPlace ps q.first i) f (subst (λ n. IsPlace xs n i) e w))
 
 pub freed_is : (a : AddressSpace) (q : Piece) (first i : ℕ) (xs new : List Piece) → IsSpace a → IsIn q a.pieces → first ≡ q.first → xs ≡ a.pieces → IsPlace xs first i
-  → ((d : Piece) → new ≡ with_free (get_or a.pieces i d) a.pieces) → new ≡ with_free q a.pieces
+    → ((d : Piece) → new ≡ with_free (get_or a.pieces i d) a.pieces) → new ≡ with_free q a.pieces
 freed_is a q first i xs new sp m e f w is = is q ∙ ap (λ p. with_free p a.pieces) ((freed_place a q first i xs sp m e f w).1 q)

@@ -11,6 +11,7 @@ use crate::piece::{PageState, Piece};
 
 /// The last page before the interrupt address range, and the first one after it.
 const BELOW_WINDOW: u64 = 0xFEDFF;
+
 const ABOVE_WINDOW: u64 = 0xFEF00;
 
 /// A start of free pages, and the index of the piece that they lie in.

@@ -2,14 +2,12 @@
 
 ghost use Rattle.std.specs.Prelude.{◌≡◌, ◌≢◌, ℕ, ◌+◌, ◌^◌, ◌<◌, ◌≤◌, ◌↔◌, length, Some, IsSome, IfOk, OnErr, IsOk, Ok, Err};
 
-use std::alloc::{AllocError, Global};
-use std::marker::Model;
-
-use dmatypes::{Page, PageRange};
-use thiserror::Error;
-
 use crate::list;
 use crate::piece::{PageState, Piece};
+use dmatypes::{Page, PageRange};
+use std::alloc::{AllocError, Global};
+use std::marker::Model;
+use thiserror::Error;
 
 /// How many pieces a space has room for (own).
 const MOST_PIECES: usize = 1024;
@@ -95,7 +93,7 @@ impl Space {
         ensures pieces { result.now ≡ self.now.pieces }
         ensures space { IsSpace self.now }
     {
-        &self.pieces
+        self.pieces.as_slice()
     }
 
     /// How many pieces it has.
@@ -103,7 +101,7 @@ impl Space {
         ensures count { result ≡ length self.now.pieces }
         ensures few { result ≤ 1024 }
     {
-        self.pieces.len()
+        self.pieces().len()
     }
 
     /// What a page is; `None` exactly where it is past the last one.
@@ -187,20 +185,29 @@ impl Space {
     }
 
     /// Frees a range that is one live piece. After a `take` the space is as it was before it.
-    pub fn undo_take(&mut self, range: PageRange)
-        requires { IsIn (piece_of range PageState.Live) self.old.pieces }
-        ensures freed { Frees self.old self.new range PageState.Live }
-        ensures undone { (before : AddressSpace) → IsSpace before → Takes before self.old range → self.new ≡ before }
+    pub fn undo_take(&mut self, taken: PageRange)
+        requires { IsIn (piece_of taken PageState.Live) self.old.pieces }
+        ensures freed { Frees self.old self.new taken PageState.Live }
+        ensures undone { (before : AddressSpace) → IsSpace before → Takes before self.old taken → self.new ≡ before }
         ensures space { IsSpace self.old × IsSpace self.new }
     {
-        let at = list::place(&self.pieces, range.first());
-        list::free(&mut self.pieces, at);
+        self.free(taken);
     }
 
     /// Frees a range that is one retired piece.
     pub fn release(&mut self, range: PageRange)
         requires { IsIn (piece_of range PageState.Retired) self.old.pieces }
         ensures freed { Frees self.old self.new range PageState.Retired }
+        ensures space { IsSpace self.old × IsSpace self.new }
+    {
+        self.free(range);
+    }
+
+    // Frees a range that is one piece.
+    fn free(&mut self, range: PageRange)
+        requires { (state : PageState) × IsIn (piece_of range state) self.old.pieces }
+        ensures freed { (state : PageState) → IsIn (piece_of range state) self.old.pieces → Frees self.old self.new range state }
+        ensures range { IsPageRange range }
         ensures space { IsSpace self.old × IsSpace self.new }
     {
         let at = list::place(&self.pieces, range.first());

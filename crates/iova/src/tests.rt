@@ -47,7 +47,10 @@ fn keeps_out_of_the_window(rt: HostRuntime) -> Result<(), Fail> {
     let mut space = Space::new(rt.alloc(), LAST)?;
     assert_eq!(rt; space.piece_count(), 2);
     for count in 1..254u64 {
-        assert_eq!(rt; number(space.take(4096, 9)), Ok(0x200 + (count - 1) * 0x1000));
+        assert_eq!(rt;
+            number(space.take(4096, 9)),
+            Ok(0x200 + (count - 1) * 0x1000)
+        );
     }
     assert_eq!(rt; number(space.take(4096, 9)), Ok(0xFD200));
     assert_eq!(rt; number(space.take(4096, 9)), Ok(0xFF000));

@@ -1,4 +1,4 @@
-use Rattle.std.proofs.Common.{arith, ◌≡◌, ◌≤◌, ◌<◌, length, List, get_or, subst, ap}
+use Rattle.std.proofs.Common.{arith, ◌≡◌, length, get_or, subst, ap}
 use Rattle.iova.specs.declared.piece.Piece.{Piece}
 use Rattle.iova.specs.Pieces.{free_end, free_start}
 use Rattle.iova.proofs.FreeRange.{piece_holds}
@@ -16,7 +16,7 @@ put-requires-clause-last c d =
 pub put-requires-clause-room : goal.put-requires-clause-room
 put-requires-clause-room c =
     let first : (d : Piece) → (get_or c.args.pieces.now.items c.free_from-from.result d).first ≡ free_start c.args.pieces.now.items (get_or c.args.pieces.now.items c.args.at d).first =
-      λ d. subst (λ ps. (get_or ps c.free_from-from.result d).first ≡ free_start ps (get_or ps c.args.at d).first) c.deref.ensures.value (c.free_from-from.ensures.first d) in
+    λ d. subst (λ ps. (get_or ps c.free_from-from.result d).first ≡ free_start ps (get_or ps c.args.at d).first) c.deref.ensures.value (c.free_from-from.ensures.first d) in
     let last : (d : Piece) → (get_or c.args.pieces.now.items c.free_to-to.result d).last ≡ free_end c.args.pieces.now.items (get_or c.args.pieces.now.items c.args.at d).last =
-      λ d. subst (λ ps. (get_or ps c.free_to-to.result d).last ≡ free_end ps (get_or ps c.args.at d).last) c.deref-2.ensures.value (c.free_to-to.ensures.last d) in
+    λ d. subst (λ ps. (get_or ps c.free_to-to.result d).last ≡ free_end ps (get_or ps c.args.at d).last) c.deref-2.ensures.value (c.free_to-to.ensures.last d) in
     omega (arith, length_joined c.args.pieces.now.items c.args.at c.free_from-from.result c.free_to-to.result c.index.result.now c.index-2.result.now c.requires.ordered c.requires.at c.index.ensures c.index-2.ensures first last, c.requires.room)

@@ -1,4 +1,4 @@
-use Rattle.std.proofs.Common.{arith, ◌≡◌, ◌+◌, ◌-◌, ◌<◌, sym, ◌∙◌, inl, inr}
+use Rattle.std.proofs.Common.{arith, sym, ◌∙◌, inl, inr}
 use Rattle.iova.specs.declared.piece.PageState.TheVariants.{Free}
 use Rattle.iova.specs.declared.piece.Piece.{Piece}
 use Rattle.iova.proofs.FreeRange.{alone_below, free_start_here, joins_below}
@@ -18,5 +18,6 @@ returns-then-before-pieces-clause-first c =
 pub returns-else-is_free-clause-first : goal.returns-else-is_free-clause-first
 returns-else-is_free-clause-first c =
     alone_below c.args.pieces.now c.args.at blank c.requires.ordered c.requires.at (omega (arith, c.if-at-eq0.false)) (elim c.else-is_free.branch [
-      else-is_free-via-then-is_free+else-before-pieces w ↦ inr w.if-before-pieces.false
-    | else-is_free-via-else-is_free w ↦ inl (sym c.is_free.ensures ∙ w.if-is_free.false) ])
+      | else-is_free-via-then-is_free+else-before-pieces w ↦ inr w.if-before-pieces.false
+      | else-is_free-via-else-is_free w ↦ inl (sym c.is_free.ensures ∙ w.if-is_free.false)
+    ])

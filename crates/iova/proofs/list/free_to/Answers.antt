@@ -1,4 +1,4 @@
-use Rattle.std.proofs.Common.{arith, ◌≡◌, ◌+◌, ◌<◌, ◌≤◌, suc, length, sym, ◌∙◌, inl, inr}
+use Rattle.std.proofs.Common.{arith, sym, ◌∙◌, inl, inr}
 use Rattle.iova.specs.declared.piece.PageState.TheVariants.{Free}
 use Rattle.iova.specs.declared.piece.Piece.{Piece}
 use Rattle.iova.proofs.FreeRange.{alone_above, free_end_here, joins_above}
@@ -18,5 +18,6 @@ returns-then-pieces-at-clause-last c =
 pub returns-else-is_free-clause-last : goal.returns-else-is_free-clause-last
 returns-else-is_free-clause-last c =
     alone_above c.args.pieces.now c.args.at blank c.requires.ordered c.requires.at (elim c.else-is_free.branch [
-      else-is_free-via-then-is_free+else-pieces-at w ↦ inr w.if-pieces-at.false
-    | else-is_free-via-else-is_free w ↦ inl (sym c.is_free.ensures ∙ w.if-is_free.false) ])
+      | else-is_free-via-then-is_free+else-pieces-at w ↦ inr w.if-pieces-at.false
+      | else-is_free-via-else-is_free w ↦ inl (sym c.is_free.ensures ∙ w.if-is_free.false)
+    ])

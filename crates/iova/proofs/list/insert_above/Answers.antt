@@ -1,4 +1,4 @@
-use Rattle.std.proofs.Common.{arith, ◌≡◌, ◌++◌, ◌+◌, ◌-◌, length, take, drop, [], ◌∷◌, ap, sym, ◌∙◌}
+use Rattle.std.proofs.Common.{arith, ◌++◌, length, take, drop, [], ap, sym, ◌∙◌}
 use Rattle.std.proofs.lemmas.List.{take-append-drop}
 use Rattle.iova.proofs.Pieces.{part_above-cut, part_above-nil, part_above-skip}
 use Rattle.iova.proofs.list.insert_above.Goals as goal

@@ -1,4 +1,4 @@
-use Rattle.std.proofs.Common.{arith, ◌≡◌, ◌++◌, ◌+◌, ◌-◌, length, take, drop, [], ◌∷◌, ap, sym, ◌∙◌}
+use Rattle.std.proofs.Common.{arith, ◌++◌, length, take, drop, [], ap, sym, ◌∙◌}
 use Rattle.std.proofs.lemmas.List.{take-append-drop}
 use Rattle.iova.proofs.Pieces.{part_below-cut, part_below-none}
 use Rattle.iova.proofs.list.insert_below.Goals as goal

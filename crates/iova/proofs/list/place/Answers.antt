@@ -1,7 +1,5 @@
-use Rattle.std.proofs.Common.{rules, arith, ◌≡◌, ℕ, ◌+◌, ◌*◌, ◌<◌, ◌≤◌, length, slice_index_or, take, drop, List, ◌-◌, ◌/◌, add-one, sym, subst}
+use Rattle.std.proofs.Common.{arith, ℕ, ◌+◌, ◌<◌, length, take, ◌-◌, ◌/◌, add-one, sym, subst}
 use Rattle.std.specs.List.{AllByRecursion}
-use Rattle.iova.specs.declared.piece.Piece.{Piece}
-use Rattle.iova.specs.Pieces.{IsOrdered, state_at}
 use Rattle.iova.proofs.Pieces.{ended}
 use Rattle.iova.proofs.list.place.Goals as goal
 

@@ -1,5 +1,4 @@
-use Rattle.std.proofs.Common.{rules, arith, ◌≡◌, ℕ, ◌+◌, ◌<◌, ◌≤◌, length, sym}
-use Rattle.iova.specs.Pieces.{state_at}
+use Rattle.std.proofs.Common.{arith, ◌<◌, length, sym}
 use Rattle.iova.proofs.Place.{state_end, state_index, state_gap}
 use Rattle.iova.proofs.list.state_of.Goals as goal
 

@@ -1,8 +1,7 @@
-use Rattle.std.proofs.Common.{arith, ◌≡◌, ℕ, ◌+◌, ◌<◌, ◌≤◌, ◌^◌, length, subst, sym, ◌∙◌}
+use Rattle.std.proofs.Common.{arith, ◌<◌, ◌^◌, subst, sym}
 use Rattle.std.specs.List.{All, HoldsAt}
 use Rattle.dmatypes.specs.Page.{Range}
 use Rattle.iova.specs.declared.piece.PageState.TheVariants.{Live}
-use Rattle.iova.specs.declared.piece.Piece.{Piece}
 use Rattle.iova.specs.Pieces.{AllIn, Holds}
 use Rattle.iova.specs.Space.{AddressSpace}
 use Rattle.iova.proofs.Keep.{is_some, space_bounded}
@@ -20,5 +19,5 @@ cuts_piece-requires-clause-first c =
     let live : AllIn Live range a.pieces = subst (λ ps. AllIn Live range ps) c.deref-2.ensures.value c.in-Some.ensures.live in
     let place : IsPlace c.deref.result.now c.first-first.result c.place-from.result = record { within = c.place-from.ensures.within; before = c.place-from.ensures.before; here = c.place-from.ensures.here } in
     let there = place_holds a.pieces c.place-from.result range.first c.self.invariant.0.ordered (is_some a.pieces range.first Live (live range.first (omega arith, omega (arith, c.pages.ensures.value, c.pages.ensures.range.some))))
-      (subst (λ ps. IsPlace ps range.first c.place-from.result) c.deref.ensures.value place) in
+    (subst (λ ps. IsPlace ps range.first c.place-from.result) c.deref.ensures.value place) in
     subst (λ ps. HoldsAt (λ p. Holds p c.first-first.result) ps c.place-from.result) (sym c.deref-then-len-gt-MOST_PIECES_TO_CUT.ensures.value) there.1

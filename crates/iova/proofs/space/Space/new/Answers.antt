@@ -1,4 +1,4 @@
-use Rattle.std.proofs.Common.{rules, arith, ◌≤◌, subst, sym}
+use Rattle.std.proofs.Common.{rules, subst, sym}
 use Rattle.iova.specs.Space.{AllFree, IsSpace}
 use Rattle.iova.proofs.NewSpace.{new_space_is}
 use Rattle.iova.proofs.space.Space.new.Goals as goal

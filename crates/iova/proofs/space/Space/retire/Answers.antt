@@ -1,8 +1,8 @@
-use Rattle.std.proofs.Common.{arith, ◌≡◌, ℕ, ◌+◌, ◌-◌, ◌<◌, ◌≤◌, length, List, ap, subst, sym, ◌∙◌}
+use Rattle.std.proofs.Common.{arith, ◌≡◌, ℕ, ◌+◌, ◌-◌, ◌≤◌, List, ap, subst, sym}
 use Rattle.dmatypes.specs.Page.{Range}
 use Rattle.iova.specs.declared.piece.PageState.TheVariants.{Free, Live, Retired}
 use Rattle.iova.specs.declared.piece.Piece.{Piece}
-use Rattle.iova.specs.Pieces.{Holds, piece_of, with_piece}
+use Rattle.iova.specs.Pieces.{piece_of, with_piece}
 use Rattle.iova.specs.Space.{AddressSpace, IsSpace, MayRetire}
 use Rattle.iova.specs.Changes.{Retires}
 use Rattle.iova.proofs.Place.{IsPlace}
@@ -30,8 +30,8 @@ put-requires-clause-from c =
     let range : Range = record { first = c.first-first.result; pages = c.pages.result } in
     let is : range ≡ c.args.range = same_range c.first-first.result c.pages.result c.args.range c.first-first.ensures.value c.pages.ensures.value in
     let r = read a range c.deref.result.now c.deref-2.result.now c.place-from.result c.place-to.result c.self.invariant.0 (omega (arith, c.pages.ensures.value, c.pages.ensures.range.some))
-      (subst (λ v. MayRetire v range) (ap (λ v. v.pieces) (sym c.self.view_is)) (subst (λ k. MayRetire c.args.self.now.pieces k) (sym is) c.requires)) c.deref.ensures.value c.deref-2.ensures.value
-      (record { within = c.place-from.ensures.within; before = c.place-from.ensures.before; here = c.place-from.ensures.here }) (record { within = c.place-to.ensures.within; before = c.place-to.ensures.before; here = c.place-to.ensures.here }) in
+    (subst (λ v. MayRetire v range) (ap (λ v. v.pieces) (sym c.self.view_is)) (subst (λ k. MayRetire c.args.self.now.pieces k) (sym is) c.requires)) c.deref.ensures.value c.deref-2.ensures.value
+    (record { within = c.place-from.ensures.within; before = c.place-from.ensures.before; here = c.place-from.ensures.here }) (record { within = c.place-to.ensures.within; before = c.place-to.ensures.before; here = c.place-to.ensures.here }) in
     r.lies.le
 
 pub put-requires-clause-to : goal.put-requires-clause-to
@@ -40,8 +40,8 @@ put-requires-clause-to c =
     let range : Range = record { first = c.first-first.result; pages = c.pages.result } in
     let is : range ≡ c.args.range = same_range c.first-first.result c.pages.result c.args.range c.first-first.ensures.value c.pages.ensures.value in
     let r = read a range c.deref.result.now c.deref-2.result.now c.place-from.result c.place-to.result c.self.invariant.0 (omega (arith, c.pages.ensures.value, c.pages.ensures.range.some))
-      (subst (λ v. MayRetire v range) (ap (λ v. v.pieces) (sym c.self.view_is)) (subst (λ k. MayRetire c.args.self.now.pieces k) (sym is) c.requires)) c.deref.ensures.value c.deref-2.ensures.value
-      (record { within = c.place-from.ensures.within; before = c.place-from.ensures.before; here = c.place-from.ensures.here }) (record { within = c.place-to.ensures.within; before = c.place-to.ensures.before; here = c.place-to.ensures.here }) in
+    (subst (λ v. MayRetire v range) (ap (λ v. v.pieces) (sym c.self.view_is)) (subst (λ k. MayRetire c.args.self.now.pieces k) (sym is) c.requires)) c.deref.ensures.value c.deref-2.ensures.value
+    (record { within = c.place-from.ensures.within; before = c.place-from.ensures.before; here = c.place-from.ensures.here }) (record { within = c.place-to.ensures.within; before = c.place-to.ensures.before; here = c.place-to.ensures.here }) in
     r.lies.to
 
 pub put-requires-clause-first : goal.put-requires-clause-first
@@ -50,8 +50,8 @@ put-requires-clause-first c =
     let range : Range = record { first = c.first-first.result; pages = c.pages.result } in
     let is : range ≡ c.args.range = same_range c.first-first.result c.pages.result c.args.range c.first-first.ensures.value c.pages.ensures.value in
     let r = read a range c.deref.result.now c.deref-2.result.now c.place-from.result c.place-to.result c.self.invariant.0 (omega (arith, c.pages.ensures.value, c.pages.ensures.range.some))
-      (subst (λ v. MayRetire v range) (ap (λ v. v.pieces) (sym c.self.view_is)) (subst (λ k. MayRetire c.args.self.now.pieces k) (sym is) c.requires)) c.deref.ensures.value c.deref-2.ensures.value
-      (record { within = c.place-from.ensures.within; before = c.place-from.ensures.before; here = c.place-from.ensures.here }) (record { within = c.place-to.ensures.within; before = c.place-to.ensures.before; here = c.place-to.ensures.here }) in
+    (subst (λ v. MayRetire v range) (ap (λ v. v.pieces) (sym c.self.view_is)) (subst (λ k. MayRetire c.args.self.now.pieces k) (sym is) c.requires)) c.deref.ensures.value c.deref-2.ensures.value
+    (record { within = c.place-from.ensures.within; before = c.place-from.ensures.before; here = c.place-from.ensures.here }) (record { within = c.place-to.ensures.within; before = c.place-to.ensures.before; here = c.place-to.ensures.here }) in
     r.lies.first
 
 pub put-requires-clause-last : goal.put-requires-clause-last
@@ -60,8 +60,8 @@ put-requires-clause-last c =
     let range : Range = record { first = c.first-first.result; pages = c.pages.result } in
     let is : range ≡ c.args.range = same_range c.first-first.result c.pages.result c.args.range c.first-first.ensures.value c.pages.ensures.value in
     let r = read a range c.deref.result.now c.deref-2.result.now c.place-from.result c.place-to.result c.self.invariant.0 (omega (arith, c.pages.ensures.value, c.pages.ensures.range.some))
-      (subst (λ v. MayRetire v range) (ap (λ v. v.pieces) (sym c.self.view_is)) (subst (λ k. MayRetire c.args.self.now.pieces k) (sym is) c.requires)) c.deref.ensures.value c.deref-2.ensures.value
-      (record { within = c.place-from.ensures.within; before = c.place-from.ensures.before; here = c.place-from.ensures.here }) (record { within = c.place-to.ensures.within; before = c.place-to.ensures.before; here = c.place-to.ensures.here }) in
+    (subst (λ v. MayRetire v range) (ap (λ v. v.pieces) (sym c.self.view_is)) (subst (λ k. MayRetire c.args.self.now.pieces k) (sym is) c.requires)) c.deref.ensures.value c.deref-2.ensures.value
+    (record { within = c.place-from.ensures.within; before = c.place-from.ensures.before; here = c.place-from.ensures.here }) (record { within = c.place-to.ensures.within; before = c.place-to.ensures.before; here = c.place-to.ensures.here }) in
     r.lies.last
 
 pub put-requires-clause-room : goal.put-requires-clause-room
@@ -70,8 +70,8 @@ put-requires-clause-room c =
     let range : Range = record { first = c.first-first.result; pages = c.pages.result } in
     let is : range ≡ c.args.range = same_range c.first-first.result c.pages.result c.args.range c.first-first.ensures.value c.pages.ensures.value in
     let r = read a range c.deref.result.now c.deref-2.result.now c.place-from.result c.place-to.result c.self.invariant.0 (omega (arith, c.pages.ensures.value, c.pages.ensures.range.some))
-      (subst (λ v. MayRetire v range) (ap (λ v. v.pieces) (sym c.self.view_is)) (subst (λ k. MayRetire c.args.self.now.pieces k) (sym is) c.requires)) c.deref.ensures.value c.deref-2.ensures.value
-      (record { within = c.place-from.ensures.within; before = c.place-from.ensures.before; here = c.place-from.ensures.here }) (record { within = c.place-to.ensures.within; before = c.place-to.ensures.before; here = c.place-to.ensures.here }) in
+    (subst (λ v. MayRetire v range) (ap (λ v. v.pieces) (sym c.self.view_is)) (subst (λ k. MayRetire c.args.self.now.pieces k) (sym is) c.requires)) c.deref.ensures.value c.deref-2.ensures.value
+    (record { within = c.place-from.ensures.within; before = c.place-from.ensures.before; here = c.place-from.ensures.here }) (record { within = c.place-to.ensures.within; before = c.place-to.ensures.before; here = c.place-to.ensures.here }) in
     omega (arith, r.space.few, c.self.invariant.1)
 
 pub invariant_of-self : goal.invariant_of-self
@@ -80,8 +80,8 @@ invariant_of-self c =
     let range : Range = record { first = c.first-first.result; pages = c.pages.result } in
     let is : range ≡ c.args.range = same_range c.first-first.result c.pages.result c.args.range c.first-first.ensures.value c.pages.ensures.value in
     let r = read a range c.deref.result.now c.deref-2.result.now c.place-from.result c.place-to.result c.self.invariant.0 (omega (arith, c.pages.ensures.value, c.pages.ensures.range.some))
-      (subst (λ v. MayRetire v range) (ap (λ v. v.pieces) (sym c.self.view_is)) (subst (λ k. MayRetire c.args.self.now.pieces k) (sym is) c.requires)) c.deref.ensures.value c.deref-2.ensures.value
-      (record { within = c.place-from.ensures.within; before = c.place-from.ensures.before; here = c.place-from.ensures.here }) (record { within = c.place-to.ensures.within; before = c.place-to.ensures.before; here = c.place-to.ensures.here }) in
+    (subst (λ v. MayRetire v range) (ap (λ v. v.pieces) (sym c.self.view_is)) (subst (λ k. MayRetire c.args.self.now.pieces k) (sym is) c.requires)) c.deref.ensures.value c.deref-2.ensures.value
+    (record { within = c.place-from.ensures.within; before = c.place-from.ensures.before; here = c.place-from.ensures.here }) (record { within = c.place-to.ensures.within; before = c.place-to.ensures.before; here = c.place-to.ensures.here }) in
     (subst (λ ps. IsSpace (record a { pieces = ps })) (sym c.put.ensures.items) r.space, omega (arith, c.put.ensures.capacity, c.self.invariant.1))
 
 pub returns-clause-retired : goal.returns-clause-retired
@@ -90,8 +90,8 @@ returns-clause-retired c =
     let range : Range = record { first = c.first-first.result; pages = c.pages.result } in
     let is : range ≡ c.args.range = same_range c.first-first.result c.pages.result c.args.range c.first-first.ensures.value c.pages.ensures.value in
     let r = read a range c.deref.result.now c.deref-2.result.now c.place-from.result c.place-to.result c.self.invariant.0 (omega (arith, c.pages.ensures.value, c.pages.ensures.range.some))
-      (subst (λ v. MayRetire v range) (ap (λ v. v.pieces) (sym c.self.view_is)) (subst (λ k. MayRetire c.args.self.now.pieces k) (sym is) c.requires)) c.deref.ensures.value c.deref-2.ensures.value
-      (record { within = c.place-from.ensures.within; before = c.place-from.ensures.before; here = c.place-from.ensures.here }) (record { within = c.place-to.ensures.within; before = c.place-to.ensures.before; here = c.place-to.ensures.here }) in
+    (subst (λ v. MayRetire v range) (ap (λ v. v.pieces) (sym c.self.view_is)) (subst (λ k. MayRetire c.args.self.now.pieces k) (sym is) c.requires)) c.deref.ensures.value c.deref-2.ensures.value
+    (record { within = c.place-from.ensures.within; before = c.place-from.ensures.before; here = c.place-from.ensures.here }) (record { within = c.place-to.ensures.within; before = c.place-to.ensures.before; here = c.place-to.ensures.here }) in
     let new : AddressSpace = record a { pieces = c.put.new.pieces.items } in
     subst (λ k. Retires c.args.self.now new k) is (subst (λ v. Retires v new range) c.self.view_is (retires a new range c.self.invariant.0 r.some r.may.live (ap (λ ps. record a { pieces = ps }) c.put.ensures.items)))
 
@@ -101,6 +101,6 @@ returns-clause-space c =
     let range : Range = record { first = c.first-first.result; pages = c.pages.result } in
     let is : range ≡ c.args.range = same_range c.first-first.result c.pages.result c.args.range c.first-first.ensures.value c.pages.ensures.value in
     let r = read a range c.deref.result.now c.deref-2.result.now c.place-from.result c.place-to.result c.self.invariant.0 (omega (arith, c.pages.ensures.value, c.pages.ensures.range.some))
-      (subst (λ v. MayRetire v range) (ap (λ v. v.pieces) (sym c.self.view_is)) (subst (λ k. MayRetire c.args.self.now.pieces k) (sym is) c.requires)) c.deref.ensures.value c.deref-2.ensures.value
-      (record { within = c.place-from.ensures.within; before = c.place-from.ensures.before; here = c.place-from.ensures.here }) (record { within = c.place-to.ensures.within; before = c.place-to.ensures.before; here = c.place-to.ensures.here }) in
+    (subst (λ v. MayRetire v range) (ap (λ v. v.pieces) (sym c.self.view_is)) (subst (λ k. MayRetire c.args.self.now.pieces k) (sym is) c.requires)) c.deref.ensures.value c.deref-2.ensures.value
+    (record { within = c.place-from.ensures.within; before = c.place-from.ensures.before; here = c.place-from.ensures.here }) (record { within = c.place-to.ensures.within; before = c.place-to.ensures.before; here = c.place-to.ensures.here }) in
     (subst (λ v. IsSpace v) c.self.view_is c.self.invariant.0, subst (λ ps. IsSpace (record a { pieces = ps })) (sym c.put.ensures.items) r.space)

@@ -1,8 +1,7 @@
-use Rattle.std.proofs.Common.{rules, arith, ◌≡◌, ℕ, ◌+◌, ◌-◌, ◌<◌, ◌≤◌, ◌^◌, length, Bool, true, false, IsTrue, Option, Some, IsSome, IfSome, ap, subst, sym, ◌∙◌}
+use Rattle.std.proofs.Common.{arith, ◌≡◌, ℕ, ◌<◌, ◌^◌, Bool, true, false, IsTrue, Option, Some, IfSome, ap, subst, sym}
 use Rattle.std.specs.List.{All}
-use Rattle.dmatypes.specs.Page.{IsPage, IsPageRange, Range}
+use Rattle.dmatypes.specs.Page.{IsPageRange, Range}
 use Rattle.iova.specs.declared.piece.PageState.TheVariants.{Free, Live}
-use Rattle.iova.specs.declared.piece.Piece.{Piece}
 use Rattle.iova.specs.Pieces.{AllIn, piece_of, with_piece}
 use Rattle.iova.specs.Space.{AddressSpace, CutsPiece, IsSpace, IsTooMany}
 use Rattle.iova.specs.Changes.{Takes}
@@ -45,9 +44,10 @@ put-requires-clause-room c =
     let range : Range = record { first = c.in-Some.fit.start; pages = c.args.pages } in
     let free : AllIn Free range a.pieces = subst (λ ps. AllIn Free range ps) c.deref.ensures.value c.in-Some.ensures.lowest.fit.free in
     let room : IsTooMany a.pieces range → ⊥ = elim c.else-len-gt-MOST_PIECES_TO_CUT.branch [
-          else-len-gt-MOST_PIECES_TO_CUT-via-then-len-gt-MOST_PIECES_TO_CUT+else-cuts_piece w ↦ λ t. no_cut w.cuts_piece.result (CutsPiece a.pieces range)
-            (subst (λ ps. CutsPiece ps range → IsTrue w.cuts_piece.result) w.deref-then-len-gt-MOST_PIECES_TO_CUT.ensures.value w.cuts_piece.ensures.1) w.if-cuts_piece.false t.0
-        | else-len-gt-MOST_PIECES_TO_CUT-via-else-len-gt-MOST_PIECES_TO_CUT w ↦ λ t. omega (arith, c.len.ensures, w.if-len-gt-MOST_PIECES_TO_CUT.false, t.1) ] in
+      | else-len-gt-MOST_PIECES_TO_CUT-via-then-len-gt-MOST_PIECES_TO_CUT+else-cuts_piece w ↦ λ t. no_cut w.cuts_piece.result (CutsPiece a.pieces range)
+          (subst (λ ps. CutsPiece ps range → IsTrue w.cuts_piece.result) w.deref-then-len-gt-MOST_PIECES_TO_CUT.ensures.value w.cuts_piece.ensures.1) w.if-cuts_piece.false t.0
+      | else-len-gt-MOST_PIECES_TO_CUT-via-else-len-gt-MOST_PIECES_TO_CUT w ↦ λ t. omega (arith, c.len.ensures, w.if-len-gt-MOST_PIECES_TO_CUT.false, t.1)
+    ] in
     let space : IsSpace (record a { pieces = with_piece (piece_of range Live) a.pieces }) = space_taken a range c.self.invariant.0 c.requires.some_pages free room in
     omega (arith, space.few, c.self.invariant.1)
 
@@ -64,9 +64,10 @@ invariant_of-self c =
     let range : Range = record { first = c.in-Some.fit.start; pages = c.args.pages } in
     let free : AllIn Free range a.pieces = subst (λ ps. AllIn Free range ps) c.deref.ensures.value c.in-Some.ensures.lowest.fit.free in
     let room : IsTooMany a.pieces range → ⊥ = elim c.else-len-gt-MOST_PIECES_TO_CUT.branch [
-          else-len-gt-MOST_PIECES_TO_CUT-via-then-len-gt-MOST_PIECES_TO_CUT+else-cuts_piece w ↦ λ t. no_cut w.cuts_piece.result (CutsPiece a.pieces range)
-            (subst (λ ps. CutsPiece ps range → IsTrue w.cuts_piece.result) w.deref-then-len-gt-MOST_PIECES_TO_CUT.ensures.value w.cuts_piece.ensures.1) w.if-cuts_piece.false t.0
-        | else-len-gt-MOST_PIECES_TO_CUT-via-else-len-gt-MOST_PIECES_TO_CUT w ↦ λ t. omega (arith, c.len.ensures, w.if-len-gt-MOST_PIECES_TO_CUT.false, t.1) ] in
+      | else-len-gt-MOST_PIECES_TO_CUT-via-then-len-gt-MOST_PIECES_TO_CUT+else-cuts_piece w ↦ λ t. no_cut w.cuts_piece.result (CutsPiece a.pieces range)
+          (subst (λ ps. CutsPiece ps range → IsTrue w.cuts_piece.result) w.deref-then-len-gt-MOST_PIECES_TO_CUT.ensures.value w.cuts_piece.ensures.1) w.if-cuts_piece.false t.0
+      | else-len-gt-MOST_PIECES_TO_CUT-via-else-len-gt-MOST_PIECES_TO_CUT w ↦ λ t. omega (arith, c.len.ensures, w.if-len-gt-MOST_PIECES_TO_CUT.false, t.1)
+    ] in
     let space : IsSpace (record a { pieces = with_piece (piece_of range Live) a.pieces }) = space_taken a range c.self.invariant.0 c.requires.some_pages free room in
     (subst (λ ps. IsSpace (record a { pieces = ps })) (sym c.put.ensures.items) space, omega (arith, c.put.ensures.capacity, c.self.invariant.1))
 
@@ -84,7 +85,7 @@ returns-clause-taken c =
     let free : AllIn Free range a.pieces = subst (λ ps. AllIn Free range ps) c.deref.ensures.value c.in-Some.ensures.lowest.fit.free in
     let new : AddressSpace = record a { pieces = c.put.new.pieces.items } in
     subst (λ n. Takes c.args.self.now new (record { first = n; pages = c.args.pages })) (sym (start_is c.new.result c.unwrap.result c.in-Some.fit.start c.unwrap.ensures c.new.ensures.value))
-      (subst (λ v. Takes v new range) c.self.view_is (takes a new range c.self.invariant.0 c.requires.some_pages free (ap (λ ps. record a { pieces = ps }) c.put.ensures.items)))
+    (subst (λ v. Takes v new range) c.self.view_is (takes a new range c.self.invariant.0 c.requires.some_pages free (ap (λ ps. record a { pieces = ps }) c.put.ensures.items)))
 
 pub returns-clause-space : goal.returns-clause-space
 returns-clause-space c =
@@ -92,8 +93,9 @@ returns-clause-space c =
     let range : Range = record { first = c.in-Some.fit.start; pages = c.args.pages } in
     let free : AllIn Free range a.pieces = subst (λ ps. AllIn Free range ps) c.deref.ensures.value c.in-Some.ensures.lowest.fit.free in
     let room : IsTooMany a.pieces range → ⊥ = elim c.else-len-gt-MOST_PIECES_TO_CUT.branch [
-          else-len-gt-MOST_PIECES_TO_CUT-via-then-len-gt-MOST_PIECES_TO_CUT+else-cuts_piece w ↦ λ t. no_cut w.cuts_piece.result (CutsPiece a.pieces range)
-            (subst (λ ps. CutsPiece ps range → IsTrue w.cuts_piece.result) w.deref-then-len-gt-MOST_PIECES_TO_CUT.ensures.value w.cuts_piece.ensures.1) w.if-cuts_piece.false t.0
-        | else-len-gt-MOST_PIECES_TO_CUT-via-else-len-gt-MOST_PIECES_TO_CUT w ↦ λ t. omega (arith, c.len.ensures, w.if-len-gt-MOST_PIECES_TO_CUT.false, t.1) ] in
+      | else-len-gt-MOST_PIECES_TO_CUT-via-then-len-gt-MOST_PIECES_TO_CUT+else-cuts_piece w ↦ λ t. no_cut w.cuts_piece.result (CutsPiece a.pieces range)
+          (subst (λ ps. CutsPiece ps range → IsTrue w.cuts_piece.result) w.deref-then-len-gt-MOST_PIECES_TO_CUT.ensures.value w.cuts_piece.ensures.1) w.if-cuts_piece.false t.0
+      | else-len-gt-MOST_PIECES_TO_CUT-via-else-len-gt-MOST_PIECES_TO_CUT w ↦ λ t. omega (arith, c.len.ensures, w.if-len-gt-MOST_PIECES_TO_CUT.false, t.1)
+    ] in
     let space : IsSpace (record a { pieces = with_piece (piece_of range Live) a.pieces }) = space_taken a range c.self.invariant.0 c.requires.some_pages free room in
     (subst (λ v. IsSpace v) c.self.view_is c.self.invariant.0, subst (λ ps. IsSpace (record a { pieces = ps })) (sym c.put.ensures.items) space)
