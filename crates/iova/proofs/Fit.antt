@@ -89,9 +89,6 @@ pub record Ahead (all rest : List Piece) (pages unit : ℕ) : Type 0 where
   pub into : (t : ℕ) → IsFit all pages unit t → IsFit rest pages unit t
   pub back : (t : ℕ) → IsFit rest pages unit t → IsFit all pages unit t
 
-pub ahead_all : (from : ℕ) (ps : List Piece) (pages unit : ℕ) → IsOrdered from ps → Ahead ps ps pages unit
-ahead_all from ps pages unit o = record { from = from; ordered = o; into = λ t f. f; back = λ t f. f }
-
 pub ahead_more : (all : List Piece) (p : Piece) (ps : List Piece) (pages unit : ℕ) → 1 ≤ pages → HasNoRoom p pages unit → Ahead all (p ∷ ps) pages unit → Ahead all ps pages unit
 ahead_more all p ps pages unit pos n a = record {
   from = p.last + 1;

@@ -9,9 +9,10 @@ ghost use Rattle.iova.specs.Space.{CutsPiece, IsFit, IsLowestFit, new_space};
 
 use crate::piece::{PageState, Piece};
 
-/// The last page before the interrupt address range, and the first one after it.
+/// The last page before the interrupt address range.
 const BELOW_WINDOW: u64 = 0xFEDFF;
 
+/// The first page after it.
 const ABOVE_WINDOW: u64 = 0xFEF00;
 
 /// A start of free pages, and the index of the piece that they lie in.

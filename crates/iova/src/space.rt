@@ -58,7 +58,7 @@ impl Model for Space {
 }
 
 impl Space {
-    ghost use Rattle.dmatypes.specs.Page.{IsPageRange, IsWithin};
+    ghost use Rattle.dmatypes.specs.Page.{IsPageRange, IsWithin, Range};
     ghost use Rattle.dmatypes.specs.World.{IsIn};
     ghost use Rattle.iova.specs.Pieces.{AllIn, piece_of, state_at};
     ghost use Rattle.iova.specs.Space.{AddressSpace, AllFree, IsFit, IsLowestFit, IsSpace, IsTooMany, MayRetire, new_space};
@@ -194,10 +194,11 @@ impl Space {
         self.free(taken);
     }
 
-    /// Frees a range that is one retired piece.
+    /// Frees a range that is one retired piece. What may be retired before it may be retired after it.
     pub fn release(&mut self, range: PageRange)
         requires { IsIn (piece_of range PageState.Retired) self.old.pieces }
         ensures freed { Frees self.old self.new range PageState.Retired }
+        ensures retirable { (other : Range) → MayRetire self.old.pieces other → MayRetire self.new.pieces other }
         ensures space { IsSpace self.old × IsSpace self.new }
     {
         self.free(range);
