@@ -1,0 +1,217 @@
+//! The address space of a domain.
+
+ghost use Rattle.std.specs.Prelude.{◌≡◌, ◌≢◌, ℕ, ◌+◌, ◌^◌, ◌<◌, ◌≤◌, ◌↔◌, length, Some, IsSome, IfOk, OnErr, IsOk, Ok, Err};
+
+use crate::list;
+use crate::piece::{PageState, Piece};
+use dmatypes::{Page, PageRange};
+use std::alloc::{AllocError, Global};
+use std::marker::Model;
+use thiserror::Error;
+
+/// How many pieces a space has room for (own).
+const MOST_PIECES: usize = 1024;
+
+/// How many pieces may be there where one is cut (own): a cut can make two more.
+const MOST_PIECES_TO_CUT: usize = 1022;
+
+/// Why no pages are taken.
+#[derive(Clone, Copy, Debug, PartialEq, Eq, Error)]
+pub enum TakeError {
+    /// No aligned range of so many free pages exists.
+    #[error("no aligned range of so many free pages")]
+    NoRange,
+    /// Taking the lowest such range would cut a piece, and there are more than 1,022.
+    #[error("too many pieces")]
+    TooManyPieces,
+}
+
+/// Why a range can't be retired.
+#[derive(Clone, Copy, Debug, PartialEq, Eq, Error)]
+pub enum RetireError {
+    /// A page of the range isn't live.
+    #[error("a page of the range isn't live")]
+    NotLive,
+    /// The range cuts a piece, and there are more than 1,022.
+    #[error("too many pieces")]
+    TooManyPieces,
+}
+
+/// The pages of a domain's addresses, as at most 1,024 pieces (own). A live piece is made by one `take`, a
+/// retired piece is one retired range, and free neighbours are one piece.
+#[derive(Drop)]
+pub struct Space {
+    last: u64,
+    pieces: Vec<Piece>,
+}
+
+impl Model for Space {
+    ghost use Rattle.std.specs.Prelude.{◌≤◌};
+    ghost use Rattle.std.specs.Vec.{vec_capacity};
+    ghost use Rattle.iova.specs.Space.{AddressSpace, IsSpace};
+
+    ghost Value = { AddressSpace };
+
+    ghost view = { λ a. record { last = a.last; pieces = a.pieces.items } };
+
+    ghost invariant = { λ a. IsSpace (record { last = a.last; pieces = a.pieces.items }) × (1024 ≤ vec_capacity a.pieces) };
+}
+
+impl Space {
+    ghost use Rattle.dmatypes.specs.Page.{IsPageRange, IsWithin, Range};
+    ghost use Rattle.dmatypes.specs.World.{IsIn};
+    ghost use Rattle.iova.specs.Pieces.{AllIn, piece_of, state_at};
+    ghost use Rattle.iova.specs.Space.{AddressSpace, AllFree, IsFit, IsLowestFit, IsSpace, IsTooMany, MayRetire, new_space};
+    ghost use Rattle.iova.specs.Changes.{Frees, Retires, Takes};
+
+    /// A space of the pages up to a last one, all free. It takes the memory for all its pieces; no other call
+    /// takes any.
+    pub fn new(alloc: Global, last: u64) -> Result<Space, AllocError>
+        requires some { 1 ≤ last }
+        requires narrow { last < 2 ^ 27 }
+        ensures new { IfOk result (λ space. space ≡ new_space last) }
+        ensures free { IfOk result AllFree }
+        ensures space { IfOk result IsSpace }
+    {
+        let mut pieces = Vec::with_capacity(alloc, MOST_PIECES)?;
+        list::fill(&mut pieces, last);
+        Ok(Space { last, pieces })
+    }
+
+    /// Makes it new: all its pages are free.
+    pub fn reset(&mut self)
+        ensures new { self.new ≡ new_space self.old.last }
+        ensures free { AllFree self.new }
+        ensures space { IsSpace self.new }
+    {
+        self.pieces.clear();
+        list::fill(&mut self.pieces, self.last);
+    }
+
+    /// Its pieces in the order of their pages.
+    pub fn pieces(&self) -> &[Piece]
+        ensures pieces { result.now ≡ self.now.pieces }
+        ensures space { IsSpace self.now }
+    {
+        self.pieces.as_slice()
+    }
+
+    /// How many pieces it has.
+    pub fn piece_count(&self) -> usize
+        ensures count { result ≡ length self.now.pieces }
+        ensures few { result ≤ 1024 }
+    {
+        self.pieces().len()
+    }
+
+    /// What a page is; `None` exactly where it is past the last one.
+    pub fn state_of(&self, page: Page) -> Option<PageState>
+        ensures state { result ≡ state_at self.now.pieces page }
+        ensures some { IsSome result ↔ (page ≤ self.now.last) }
+    {
+        list::state_of(&self.pieces, page.number())
+    }
+
+    /// Makes so many free pages, 1 to 4,096, one live piece, and answers the first of them: the lowest that is
+    /// a multiple of 2^order (order 0 to 9). Where it is refused, nothing has changed.
+    pub fn take(&mut self, pages: u64, order: u64) -> Result<Page, TakeError>
+        requires some_pages { 1 ≤ pages }
+        requires few_pages { pages ≤ 4096 }
+        requires order { order ≤ 9 }
+
+        // The start, and what the space then is.
+        ensures lowest { IfOk result (IsLowestFit self.old.pieces pages (2 ^ order)) }
+        ensures range { IfOk result (λ start. IsPageRange (record { first = start; pages = pages })) }
+        ensures taken { IfOk result (λ start. Takes self.old self.new (record { first = start; pages = pages })) }
+        ensures space { IsSpace self.old × IsSpace self.new }
+
+        // The refusals.
+        ensures no_range { (result ≡ Err TakeError.NoRange) ↔ ((start : ℕ) → IsFit self.old.pieces pages (2 ^ order) start → ⊥) }
+        ensures too_many { (result ≡ Err TakeError.TooManyPieces) ↔ ((start : ℕ) × IsLowestFit self.old.pieces pages (2 ^ order) start × IsTooMany self.old.pieces (record { first = start; pages = pages })) }
+        ensures unchanged { OnErr result (self.new ≡ self.old) }
+    {
+        let Some(fit) = list::lowest_fit(&self.pieces, pages, 1 << order) else {
+            return Err(TakeError::NoRange);
+        };
+        if self.pieces.len() > MOST_PIECES_TO_CUT
+            && list::cuts_piece(&self.pieces, fit.at, fit.at, fit.start, pages)
+        {
+            return Err(TakeError::TooManyPieces);
+        }
+        let piece = Piece {
+            first: fit.start,
+            last: fit.start + pages - 1,
+            state: PageState::Live,
+        };
+        list::put(&mut self.pieces, fit.at, fit.at, piece);
+        Ok(Page::new(fit.start).unwrap())
+    }
+
+    /// Whether a range can be retired.
+    pub fn may_retire(&self, range: PageRange) -> Result<(), RetireError>
+        ensures ok { IsOk result ↔ MayRetire self.now.pieces range }
+        ensures not_live { (result ≡ Err RetireError.NotLive) ↔ ((page : ℕ) × IsWithin range page × (state_at self.now.pieces page ≢ Some PageState.Live)) }
+        ensures too_many { (result ≡ Err RetireError.TooManyPieces) ↔ (AllIn PageState.Live range self.now.pieces × IsTooMany self.now.pieces range) }
+    {
+        let first = range.first();
+        let from = list::place(&self.pieces, first);
+        let Some(to) = list::live_end(&self.pieces, from, first, range.pages()) else {
+            return Err(RetireError::NotLive);
+        };
+        if self.pieces.len() > MOST_PIECES_TO_CUT
+            && list::cuts_piece(&self.pieces, from, to, first, range.pages())
+        {
+            return Err(RetireError::TooManyPieces);
+        }
+        Ok(())
+    }
+
+    /// Makes a range of live pages one retired piece.
+    pub fn retire(&mut self, range: PageRange)
+        requires { MayRetire self.old.pieces range }
+        ensures retired { Retires self.old self.new range }
+        ensures space { IsSpace self.old × IsSpace self.new }
+    {
+        let first = range.first();
+        let last = first + range.pages() - 1;
+        let from = list::place(&self.pieces, first);
+        let to = list::place(&self.pieces, last);
+        let piece = Piece {
+            first,
+            last,
+            state: PageState::Retired,
+        };
+        list::put(&mut self.pieces, from, to, piece);
+    }
+
+    /// Frees a range that is one live piece. After a `take` the space is as it was before it.
+    pub fn undo_take(&mut self, taken: PageRange)
+        requires { IsIn (piece_of taken PageState.Live) self.old.pieces }
+        ensures freed { Frees self.old self.new taken PageState.Live }
+        ensures undone { (before : AddressSpace) → IsSpace before → Takes before self.old taken → self.new ≡ before }
+        ensures space { IsSpace self.old × IsSpace self.new }
+    {
+        self.free(taken);
+    }
+
+    /// Frees a range that is one retired piece. What may be retired before it may be retired after it.
+    pub fn release(&mut self, range: PageRange)
+        requires { IsIn (piece_of range PageState.Retired) self.old.pieces }
+        ensures freed { Frees self.old self.new range PageState.Retired }
+        ensures retirable { (other : Range) → MayRetire self.old.pieces other → MayRetire self.new.pieces other }
+        ensures space { IsSpace self.old × IsSpace self.new }
+    {
+        self.free(range);
+    }
+
+    // Frees a range that is one piece.
+    fn free(&mut self, range: PageRange)
+        requires { (state : PageState) × IsIn (piece_of range state) self.old.pieces }
+        ensures freed { (state : PageState) → IsIn (piece_of range state) self.old.pieces → Frees self.old self.new range state }
+        ensures range { IsPageRange range }
+        ensures space { IsSpace self.old × IsSpace self.new }
+    {
+        let at = list::place(&self.pieces, range.first());
+        list::free(&mut self.pieces, at);
+    }
+}
