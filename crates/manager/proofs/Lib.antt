@@ -7,3 +7,4 @@ pub mod Attaching
 pub mod RunLists
 pub mod Mapping
 pub mod Requests
+pub mod HomeKeeps

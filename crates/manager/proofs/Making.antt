@@ -1,5 +1,5 @@
 -- A domain is made.
-use Rattle.std.proofs.Common.{◌≡◌, ℕ, ◌+◌, ◌<◌, ◌≤◌, inl, [], length, Option, Some, None, refl, ap, arith, slice_set, IsSome}
+use Rattle.std.proofs.Common.{◌≡◌, ℕ, ◌+◌, ◌<◌, ◌≤◌, inl, length, Option, Some, None, refl, ap, arith, slice_set, IsSome}
 use Rattle.dmatypes.specs.declared.call.Call.TheVariants as calls
 use Rattle.dmatypes.specs.declared.call.Mode.{Mode}
 use Rattle.dmatypes.specs.declared.reply.Reply.TheVariants.{Made, Refused}
@@ -7,7 +7,7 @@ use Rattle.dmatypes.specs.declared.refusal.Refusal.TheVariants as refusals
 use Rattle.dmatypes.specs.World.{Domain, empty_domain}
 use Rattle.dmatypes.specs.Conditions.{Stands}
 use Rattle.dmatypes.specs.Step.{IsStep, Answers, next}
-use Rattle.manager.specs.Homes.{Place, place_of}
+use Rattle.manager.specs.Homes.{Place, place_of, vacant}
 use Rattle.manager.specs.Machine.{Machine, Exact}
 use Rattle.manager.specs.Fits.{Both}
 use Rattle.manager.specs.Steps.{Does}
@@ -28,11 +28,11 @@ no_id m t mode is many all = refuses m t (calls.Domain mode) refusals.TooManyDom
     (λ w fits. inl (inl ((λ d low high. used_there (place_of m.homes d) (w.domains d) (fits.domains d) (all d low (omega (arith, high, many)))), refl)))
 
 pub makes : (m t : Machine) (mode : Mode) (i : ℕ) → length m.homes ≡ 15 → i < length m.homes → place_of m.homes (i + 1) ≡ None
-    → t ≡ record { frames = m.frames; homes = slice_set m.homes i (record { mode = Some mode; runs = [] }); devices = m.devices; calls = m.calls + 1 }
+    → t ≡ record { frames = m.frames; homes = slice_set m.homes i (record vacant { mode = Some mode }); devices = m.devices; calls = m.calls + 1 }
     → Does m (calls.Domain mode) (Made (i + 1)) t
 unfolding Exact IsStep Stands Answers next
 makes m t mode i many less free is =
-    let new : Place = record { mode = Some mode; runs = [] } in
+    let new : Place = record vacant { mode = Some mode } in
     record {
       steps = λ w fits.
           let absent : w.domains (i + 1) ≡ None = both_absent (place_of m.homes (i + 1)) (w.domains (i + 1)) (fits.domains (i + 1)) free in (

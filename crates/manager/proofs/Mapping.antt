@@ -14,7 +14,7 @@ use Rattle.manager.specs.Homes.{Place, place_of, used}
 use Rattle.manager.specs.Judged.{IsBad, IsJudged, Wants}
 use Rattle.manager.specs.Machine.{Machine, Exact}
 use Rattle.manager.specs.Fits.{Mirrors}
-use Rattle.manager.specs.Placing.{IsPlaced, Places}
+use Rattle.manager.specs.Placing.{IsCrowded, IsPlaced, IsTaken, Places}
 use Rattle.manager.specs.Runs.{IsFit, target_at}
 use Rattle.manager.specs.Steps.{Does}
 use Rattle.manager.proofs.Lists.{is_none, not_none}
@@ -91,7 +91,7 @@ map_no_range m t domain frame pages order rights h is there good high none = ref
     )))
 
 pub map_too_many : (m t : Machine) (domain frame pages order rights : ℕ) (h : Place) (s : ℕ) → t ≡ counted m → place_of m.homes domain ≡ Some h → (IsBad frame pages order rights → ⊥) → m.frames ≤ frame
-    → IsFit h.runs pages (2 ^ order) s → length h.runs ≡ 1021 → Does m (calls.Map domain frame pages order rights) (Refused refusals.TooManyPieces) t
+    → IsFit h.runs pages (2 ^ order) s → IsCrowded h.space.pieces pages order → Does m (calls.Map domain frame pages order rights) (Refused refusals.TooManyPieces) t
 unfolding Exact IsStep Stands
 map_too_many m t domain frame pages order rights h s is there good high fit many = refuses m t (calls.Map domain frame pages order rights) refusals.TooManyPieces is (rw there many)
     (λ w fits.
@@ -120,7 +120,9 @@ pub maps : (m t : Machine) (frame pages order rights i : ℕ) (h new : Place) (w
     → Does m (calls.Map (i + 1) frame pages order rights) (Mapped (4096 * first)) t
 unfolding Exact IsStep Stands Answers next
 maps m t frame pages order rights i h new wanted first less there good high wants places is =
-    let fit : IsFit h.runs pages (2 ^ order) first = rw (wants.pages_are, wants.order_is) at places.lowest.fits in
+    let fit : IsFit h.runs pages (2 ^ order) first = rw (wants.pages_are, wants.order_is) at places.fit in
+    let taken : IsTaken h.space.pieces pages order first = rw (wants.pages_are, wants.order_is) at places.taken in
+    let page : 4096 * first / 4096 ≡ first = omega arith in
     let at_start : 4096 * first ≡ 4096 * first + 0 = omega arith in
     record {
       steps = λ w fits.
@@ -134,7 +136,7 @@ maps m t frame pages order rights i h new wanted first less there good high want
             rw (is, v.1) (fits_put m w (slice_set m.homes i new) (i + 1) (m.calls + 1) new (mapped (record { frame = frame; pages = pages } ∷ []) (4096 * first / 4096) rights v.0) fits
                 (place_set m.homes i new less (used_still h new v.0 v.2 places.mode)) (maps_mirror h new wanted v.0 first frame pages order rights v.2 wants places)),
           );
-      exact = rw there places.room;
+      exact = rw (there, page) taken;
       calls = ap (λ (x : Machine). x.calls) is;
     }
 
@@ -152,5 +154,6 @@ map_misplaced m t domain frame pages order rights h new wanted refusals.NoRange 
     map_no_range m t domain frame pages order rights h (is misplaced.0) there good high (rw (wants.pages_are, wants.order_is) at misplaced.1)
 map_misplaced m t domain frame pages order rights h new wanted refusals.TooManyPieces there good high wants misplaced is =
     let fit : IsFit h.runs pages (2 ^ order) misplaced.2.0 = rw (wants.pages_are, wants.order_is) at misplaced.2.1 in
-    map_too_many m t domain frame pages order rights h misplaced.2.0 (is misplaced.0) there good high fit misplaced.1
+    let crowded : IsCrowded h.space.pieces pages order = rw (wants.pages_are, wants.order_is) at misplaced.1 in
+    map_too_many m t domain frame pages order rights h misplaced.2.0 (is misplaced.0) there good high fit crowded
 map_misplaced m t domain frame pages order rights h new wanted _ there good high wants misplaced is = absurd misplaced

@@ -1,21 +1,41 @@
 -- The places of domains.
-use Rattle.std.specs.Prelude.{◌≡◌, ◌⊎◌, ℕ, ◌-◌, ◌^◌, ◌<◌, ◌==◌, List, Option, Some, None, Result, Ok, Err, slice_get, if◌then◌else◌}
+use Rattle.std.specs.Prelude.{◌≡◌, ◌⊎◌, ℕ, ◌-◌, ◌^◌, ◌<◌, ◌==◌, List, [], Option, Some, None, Result, Ok, Err, slice_get, if◌then◌else◌}
 use Rattle.std.specs.Option.{option_and_then}
 use Rattle.dmatypes.specs.declared.call.Access.{Access}
 use Rattle.dmatypes.specs.declared.call.Mode.{Mode}
 use Rattle.dmatypes.specs.declared.refusal.Fault.{Fault}
 use Rattle.dmatypes.specs.declared.refusal.Fault.TheVariants as faults
 use Rattle.dmatypes.specs.Allows.{fault_of, host_of}
-use Rattle.dmatypes.specs.Page.{IsBeyond, page_of}
+use Rattle.dmatypes.specs.Page.{IsBeyond, IsPageRange, page_of}
 use Rattle.dmatypes.specs.Rights.{Permits}
-use Rattle.dmatypes.specs.World.{Target}
+use Rattle.dmatypes.specs.World.{IsIn, Target}
+use Rattle.iova.specs.declared.piece.PageState.TheVariants.{Free, Live, Retired}
+use Rattle.iova.specs.Pieces.{piece_of, state_at}
+use Rattle.iova.specs.Space.{AddressSpace, IsSpace, new_space}
 use Rattle.manager.specs.declared.runs.Run.{Run}
-use Rattle.manager.specs.Runs.{target_at}
+use Rattle.manager.specs.Runs.{BeginApart, target_at}
 
--- the place of a domain: its mode, where there is one, and its live runs
+-- the place of a domain: its mode, where there is one, its address space, and its live runs
 pub record Place : Type 0 where
   pub mode : Option Mode
+  pub space : AddressSpace
   pub runs : List Run
+
+-- the address space has all pages, and a live piece for each run; a page is free there where no run holds
+-- it, and live where one does
+pub record IsHome (h : Place) : Type 0 where
+  pub space : IsSpace h.space
+  pub whole : h.space.last ≡ 2 ^ 27 - 1
+  pub ranges : (r : Run) → IsIn r h.runs → IsPageRange r.range
+  pub pieces : (r : Run) → IsIn r h.runs → IsIn (piece_of r.range Live) h.space.pieces
+  pub apart : BeginApart h.runs
+  pub free : (p : ℕ) → state_at h.space.pieces p ≡ Some Free → target_at h.runs p ≡ None
+  pub live : (p : ℕ) → state_at h.space.pieces p ≡ Some Live → (t : Target) × (target_at h.runs p ≡ Some t)
+  pub not_retired : (p : ℕ) → state_at h.space.pieces p ≡ Some Retired → ⊥
+
+-- a place with no domain
+abbrev pub vacant : Place
+vacant = record { mode = None; space = new_space (2 ^ 27 - 1); runs = [] }
 
 -- the place, where a domain is there
 abbrev pub used : Option Place → Option Place

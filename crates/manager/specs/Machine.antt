@@ -1,5 +1,5 @@
 -- What contracts see of the state.
-use Rattle.std.specs.Prelude.{◌≡◌, ℕ, ◌<◌, List, [], length, replicate, Option, Some, None, slice_get, Result, Ok, Err}
+use Rattle.std.specs.Prelude.{◌≡◌, ℕ, ◌/◌, List, replicate, IsSomeAnd, Option, None, slice_get, Result, Ok, Err}
 use Rattle.std.specs.Option.{option_flatten}
 use Rattle.dmatypes.specs.declared.call.Call.{Call}
 use Rattle.dmatypes.specs.declared.call.Call.TheVariants as calls
@@ -8,7 +8,8 @@ use Rattle.dmatypes.specs.declared.refusal.Refusal.{Refusal}
 use Rattle.dmatypes.specs.declared.refusal.Refusal.TheVariants as refusals
 use Rattle.dmatypes.specs.declared.reply.Reply.{Reply}
 use Rattle.dmatypes.specs.declared.reply.Reply.TheVariants.{Made, Done, Mapped, Host, Faulted, Refused}
-use Rattle.manager.specs.Homes.{Place, place_of}
+use Rattle.manager.specs.Homes.{Place, place_of, vacant}
+use Rattle.manager.specs.Placing.{IsCrowded, IsTaken}
 
 -- the number of table frames, the places of domains 1 to 15, the domain of each attached device, and how
 -- many calls were made
@@ -18,9 +19,6 @@ pub record Machine : Type 0 where
   pub devices : List (Option ℕ)
   pub calls : ℕ
 
-abbrev pub vacant : Place
-vacant = record { mode = None; runs = [] }
-
 -- the domain that a device is attached to
 abbrev pub device_at : List (Option ℕ) → ℕ → Option ℕ
 device_at devices v = option_flatten (slice_get devices v)
@@ -29,16 +27,13 @@ device_at devices v = option_flatten (slice_get devices v)
 abbrev pub IsNew : ℕ → Machine → Type 0
 IsNew frames m = m ≡ record { frames = frames; homes = replicate 15 vacant; devices = replicate 16 None; calls = 0 }
 
--- how many live runs a domain has
-abbrev pub run_count : Option Place → ℕ
-run_count None = 0
-run_count (Some h) = length h.runs
-
--- what the model leaves open: table frames never lack, and a map is refused for its pieces exactly where
--- its domain has as many runs as it can
+-- what the model leaves open: table frames never lack, and a map, which takes the lowest start, is refused
+-- for its pieces exactly where the range there cuts a piece and there are more than 1,022
 unfoldable pub Exact : Machine → Call → Reply → Type 0
-Exact m (calls.Map domain frame pages order rights) (Mapped address) = run_count (place_of m.homes domain) < 1021
-Exact m (calls.Map domain frame pages order rights) (Refused refusals.TooManyPieces) = run_count (place_of m.homes domain) ≡ 1021
+Exact m (calls.Map domain frame pages order rights) (Mapped address) =
+    IsSomeAnd (place_of m.homes domain) (λ h. IsTaken h.space.pieces pages order (address / 4096))
+Exact m (calls.Map domain frame pages order rights) (Refused refusals.TooManyPieces) =
+    IsSomeAnd (place_of m.homes domain) (λ h. IsCrowded h.space.pieces pages order)
 Exact m call (Refused refusals.NoFrames) = ⊥
 Exact m call reply = Unit {0}
 

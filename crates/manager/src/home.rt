@@ -1,45 +1,50 @@
 //! The place of one domain.
 
-ghost use Rattle.std.specs.Prelude.{◌≡◌, [], IfOk, Some, None, is_some};
+ghost use Rattle.std.specs.Prelude.{◌≡◌, IfOk, Some, is_some};
 ghost use Rattle.dmatypes.specs.Allows.{fault_of};
-ghost use Rattle.manager.specs.Homes.{Reaches};
+ghost use Rattle.manager.specs.Homes.{Reaches, vacant};
 ghost use Rattle.manager.specs.Placing.{IsPlaced};
 
-use crate::runs::{Run, insert, lowest_place, target, unit_of};
+use crate::runs::{Run, target};
 use crate::wanted::Wanted;
 use dmatypes::{Access, Fault, Mode, PageRange, Refusal};
+use iova::{Space, TakeError};
 use std::alloc::{AllocError, Global};
 use std::marker::Model;
 
-// How many live runs a domain has at most.
-const MOST_RUNS: usize = 1021;
+// The last page of a domain of 39-bit addresses.
+const LAST_PAGE: u64 = (1 << 27) - 1;
 
-/// The place of one domain: its mode, where there is one, and its live runs.
+// How many live runs a domain has at most: one for each piece of its address space.
+const MOST_RUNS: usize = 1024;
+
+/// The place of one domain: its mode, where there is one, its address space, and its live runs.
 #[derive(Drop)]
 pub(crate) struct Home {
     mode: Option<Mode>,
+    space: Space,
     runs: Vec<Run>,
 }
 
 impl Model for Home {
-    ghost use Rattle.std.specs.Prelude.{◌≤◌, vec_len, vec_capacity};
-    ghost use Rattle.manager.specs.Homes.{Place};
-    ghost use Rattle.manager.specs.Runs.{IsAscending};
+    ghost use Rattle.std.specs.Prelude.{◌≤◌, vec_capacity};
+    ghost use Rattle.manager.specs.Homes.{IsHome, Place};
 
     ghost Value = { Place };
 
-    ghost view = { λ h. record { mode = h.mode; runs = h.runs.items } };
+    ghost view = { λ h. record { mode = h.mode; space = h.space; runs = h.runs.items } };
 
-    ghost invariant = { λ h. IsAscending 1 h.runs.items × (vec_len h.runs ≤ 1021) × (1021 ≤ vec_capacity h.runs) };
+    ghost invariant = { λ h. IsHome (record { mode = h.mode; space = h.space; runs = h.runs.items }) × (1024 ≤ vec_capacity h.runs) };
 }
 
 impl Home {
-    /// A place with no domain, and with room for all its runs.
+    /// A place with no domain, and with room for all its pieces and runs.
     pub(crate) fn new(alloc: Global) -> Result<Home, AllocError>
-        ensures { IfOk result (λ h. h ≡ record { mode = None; runs = [] }) }
+        ensures { IfOk result (λ h. h ≡ vacant) }
     {
         Ok(Home {
             mode: None,
+            space: Space::new(alloc, LAST_PAGE)?,
             runs: Vec::with_capacity(alloc, MOST_RUNS)?,
         })
     }
@@ -53,9 +58,10 @@ impl Home {
 
     /// Makes an empty domain here.
     pub(crate) fn open(&mut self, mode: Mode)
-        ensures { self.new ≡ record { mode = Some mode; runs = [] } }
+        ensures { self.new ≡ record vacant { mode = Some mode } }
     {
         self.mode = Some(mode);
+        self.space.reset();
         self.runs.clear();
     }
 }
@@ -63,27 +69,24 @@ impl Home {
 impl Home {
     /// Makes so many pages live at the lowest aligned start where they are free, and answers the first of
     /// them. Changes nothing where it refuses: `NoRange` where there is none, else `TooManyPieces` where
-    /// there are as many runs as there can be.
+    /// the address space would be cut into too many pieces.
     pub(crate) fn place(&mut self, wanted: Wanted) -> Result<u64, Refusal>
         ensures { IsPlaced self.old wanted result self.new }
     {
-        let Some(place) = lowest_place(self.runs.as_slice(), wanted.pages, unit_of(wanted.order))
-        else {
-            return Err(Refusal::NoRange);
+        let first = match self.space.take(wanted.pages, wanted.order) {
+            Ok(first) => first.number(),
+            Err(TakeError::NoRange) => return Err(Refusal::NoRange),
+            Err(TakeError::TooManyPieces) => return Err(Refusal::TooManyPieces),
         };
-        if self.runs.len() == MOST_RUNS {
-            return Err(Refusal::TooManyPieces);
-        }
-        let Some(range) = PageRange::new(place.first, wanted.pages) else {
+        let Some(range) = PageRange::new(first, wanted.pages) else {
             unreachable!()
         };
-        let run = Run {
+        self.runs.push_reserved(Run {
             range,
             frame: wanted.frame,
             rights: wanted.rights,
-        };
-        insert(&mut self.runs, place.index, run);
-        Ok(place.first)
+        });
+        Ok(first)
     }
 
     /// What a request meets in this domain: the host byte address, or the fault.

@@ -17,3 +17,6 @@ pub use config::{Config, Seed};
 pub use manager::{History, Made, Manager, SharesOut};
 pub use owner::Owner;
 pub use share::Share;
+
+#[cfg(test)]
+mod tests;

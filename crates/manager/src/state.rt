@@ -4,8 +4,8 @@ ghost use Rattle.std.specs.Prelude.{◌≡◌, ◌+◌, ◌<◌, ◌≤◌, ◌^
 ghost use Rattle.dmatypes.specs.Page.{IsInWindow};
 ghost use Rattle.std.specs.Option.{option_and_then};
 ghost use Rattle.dmatypes.specs.declared.call.Call.TheVariants as calls;
-ghost use Rattle.manager.specs.Homes.{Place, Reaches, place_of};
-ghost use Rattle.manager.specs.Machine.{Machine, IsNew, device_at, done_reply, made_reply, mapped_reply, request_reply, vacant};
+ghost use Rattle.manager.specs.Homes.{Place, Reaches, place_of, vacant};
+ghost use Rattle.manager.specs.Machine.{Machine, IsNew, device_at, done_reply, made_reply, mapped_reply, request_reply};
 ghost use Rattle.manager.specs.Steps.{Does};
 
 use crate::home::Home;

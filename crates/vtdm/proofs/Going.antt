@@ -8,7 +8,8 @@ use Rattle.manager.specs.Kept.{Account, IsKept}
 use Rattle.vtdm.specs.declared.error.RunError.{RunError}
 use Rattle.vtdm.specs.declared.error.RunError.TheVariants as errors
 use Rattle.vtdm.specs.Bytes.{IsAnswered, IsUnbroken, Sent}
-use Rattle.manager.specs.Machine.{Machine, vacant}
+use Rattle.manager.specs.Homes.{vacant}
+use Rattle.manager.specs.Machine.{Machine}
 use Rattle.vtdm.specs.Run.{Answers, Size, LineSays, ScriptSays, BeginsBadly, AnswersOne, Ran, RanKnown, WroteAll}
 use Rattle.vtdm.proofs.Known.{sent_nothing, sent_more, consumes_nothing, consumes_more}
 use Rattle.vtdm.proofs.Scripts.{script_rest, script_then, bad_line, cut_line, long_line}

@@ -1,5 +1,5 @@
 use Rattle.std.proofs.Common.{◌≡◌, replicate}
-use Rattle.manager.specs.Machine.{vacant}
+use Rattle.manager.specs.Homes.{vacant}
 use Rattle.manager.proofs.state.vacant_homes.Given as goal
 
 abbrev pub invariant-loop-index : goal.invariant-loop-index

@@ -1,0 +1,224 @@
+//! Managers that threads share.
+
+ghost use Rattle.std.specs.Prelude.{◌≡◌};
+ghost use Rattle.manager.specs.Kept.{Names};
+
+use super::*;
+use dmatypes::{Access, Call, Fault, Mode, Refusal, Reply, Whim};
+use std::alloc::{AllocError, Global};
+use std::marker::Brand;
+use std::process::Abort;
+use std::sync::Wait;
+use std::test::Fail;
+use std::thread::{Threads, join};
+
+// One page at the lowest start.
+fn one_page(domain: u64) -> Call {
+    Call::Map {
+        domain,
+        frame: 0x1000,
+        pages: 1,
+        order: 0,
+        rights: 3,
+    }
+}
+
+// 100 maps of one page in domain 1, and the addresses that they are answered.
+fn hundred_maps<B: Owner>(
+    rt: &impl Wait,
+    alloc: Global,
+    manager: &Manager<B>,
+    mine: Share<B>,
+) -> (Share<B>, Result<Vec<u64>, AllocError>) {
+    let mut mine = mine;
+    let mut addresses = Vec::new(alloc);
+    for _ in 0..100u64 {
+        if let Ok((_, Reply::Mapped(address))) = manager.call(rt, &mut mine, one_page(1)) {
+            if addresses.push(address).is_err() {
+                return (mine, Err(AllocError));
+            }
+        }
+    }
+    (mine, Ok(addresses))
+}
+
+#[test]
+fn two_threads_share_a_manager(rt: HostRuntime) -> Result<(), Fail> {
+    let config = Config::new(64, 1000, 2).ok_or("within the limits")?;
+    let seed = Seed::new(rt.alloc(), config)?;
+    shared_by_two::<Brand, _>(&rt, rt.alloc(), seed)
+}
+
+fn shared_by_two<B: Owner + Send + Sync, R: Threads + Wait + Abort + Sync>(
+    rt: &R,
+    alloc: Global,
+    seed: Seed,
+) -> Result<(), Fail>
+    requires name { seed.name ≡ B.name }
+    requires parts { seed.shares ≡ B.parts }
+    requires shares { seed.shares ≡ B.shares }
+    requires room { seed.room ≡ B.room }
+    requires frames { seed.frames ≡ B.frames }
+{
+    let Made {
+        manager,
+        mut shares,
+    } = Manager::<B>::new(alloc, seed)?;
+    let mut one = shares.pop().ok_or("a share")?;
+    let two = shares.pop().ok_or("a share")?;
+    let made = manager.call(rt, &mut one, Call::Domain(Mode::Strict));
+    assert_eq!(rt; made, Ok((1, Reply::Made(1))));
+    let shared = &manager;
+    let (first, second) = join(
+        rt,
+        || hundred_maps(rt, alloc, shared, one),
+        || hundred_maps(rt, alloc, shared, two),
+    );
+    assert_eq!(rt; first.0.calls(), 101);
+    assert_eq!(rt; second.0.calls(), 100);
+    let mut addresses = first.1?;
+    addresses.extend_from_slice(second.1?.as_slice())?;
+    addresses.sort()?;
+    assert_eq!(rt; addresses.len(), 200);
+    assert!(rt;
+        addresses
+            .as_slice()
+            .windows(2)
+            .all(|pair| pair.first() != pair.last())
+    );
+    shares.push(first.0)?;
+    let Err(
+        SharesOut {
+            manager,
+            mut shares,
+        },
+    ) = manager.finish(shares)
+    else {
+        return Err(Fail::from("one share is not enough"));
+    };
+    shares.push(second.0)?;
+    let Ok(history) = manager.finish(shares) else {
+        return Err(Fail::from("both shares are enough"));
+    };
+    assert_eq!(rt; history.events().len(), 201);
+    Ok(())
+}
+
+#[test]
+fn limits_of_a_configuration(rt: HostRuntime) {
+    for (frames, calls, shares, within) in [
+        (16, 1, 1, true),
+        (4096, 1_048_576, 64, true),
+        (15, 1, 1, false),
+        (4097, 1, 1, false),
+        (16, 0, 1, false),
+        (16, 1_048_577, 1, false),
+        (16, 1, 0, false),
+        (16, 1, 65, false),
+    ] {
+        assert_eq!(rt; Config::new(frames, calls, shares).is_some(), within);
+    }
+}
+
+#[test]
+fn calls_of_one_share(rt: HostRuntime) -> Result<(), Fail> {
+    let config = Config::new(64, 1022, 1).ok_or("within the limits")?;
+    let seed = Seed::new(rt.alloc(), config)?;
+    called_by_one::<Brand, _>(&rt, rt.alloc(), seed)
+}
+
+// Each call through the book that the lock guards, a domain with as many pieces as it can have, and a
+// full history.
+fn called_by_one<B: Owner, R: Wait + Abort>(rt: &R, alloc: Global, seed: Seed) -> Result<(), Fail>
+    requires name { seed.name ≡ B.name }
+    requires parts { seed.shares ≡ B.parts }
+    requires shares { seed.shares ≡ B.shares }
+    requires room { seed.room ≡ B.room }
+    requires frames { seed.frames ≡ B.frames }
+{
+    let Made {
+        manager,
+        mut shares,
+    } = Manager::<B>::new(alloc, seed)?;
+    let mut mine = shares.pop().ok_or("a share")?;
+    {
+        let mut guard = manager.lock(rt);
+        let book = &mut *guard;
+        assert_eq!(rt;
+            book.call(&mut mine, Call::Domain(Mode::Lazy)),
+            Ok((1, Reply::Made(1)))
+        );
+        for k in 1..1022u64 {
+            let answer = book.call(&mut mine, one_page(1));
+            let wanted = Reply::Mapped(k * 4096);
+            assert_eq!(rt; answer, Ok((k + 1, wanted)));
+        }
+        assert_eq!(rt; book.call(&mut mine, one_page(1)), Err(HistoryFull));
+        assert_eq!(rt; book.events().len(), 1022);
+    }
+    assert_eq!(rt; mine.calls(), 1022);
+    Ok(())
+}
+
+#[test]
+fn pieces_run_out(rt: HostRuntime) -> Result<(), Fail> {
+    let config = Config::new(64, 2000, 1).ok_or("within the limits")?;
+    let seed = Seed::new(rt.alloc(), config)?;
+    crowded::<Brand, _>(&rt, rt.alloc(), seed)
+}
+
+// The 1,022nd piece of one page is one too many; devices go on.
+fn crowded<B: Owner, R: Wait + Abort>(rt: &R, alloc: Global, seed: Seed) -> Result<(), Fail>
+    requires name { seed.name ≡ B.name }
+    requires parts { seed.shares ≡ B.parts }
+    requires shares { seed.shares ≡ B.shares }
+    requires room { seed.room ≡ B.room }
+    requires frames { seed.frames ≡ B.frames }
+{
+    let Made {
+        manager,
+        mut shares,
+    } = Manager::<B>::new(alloc, seed)?;
+    let mut mine = shares.pop().ok_or("a share")?;
+    let _ = manager.call(rt, &mut mine, Call::Domain(Mode::Strict));
+    for _ in 0..1021u64 {
+        let _ = manager.call(rt, &mut mine, one_page(1));
+    }
+    let last = manager.call(rt, &mut mine, one_page(1));
+    assert_eq!(rt; last, Ok((1023, Reply::Refused(Refusal::TooManyPieces))));
+    let attach = Call::Attach {
+        device: 3,
+        domain: 1,
+    };
+    assert_eq!(rt;
+        manager.call(rt, &mut mine, attach),
+        Ok((1024, Reply::Done))
+    );
+    let request = Call::Dma {
+        device: 3,
+        address: 0x3fd123,
+        access: Access::Write,
+        whim: Whim {
+            look: false,
+            fill: false,
+        },
+    };
+    assert_eq!(rt;
+        manager.call(rt, &mut mine, request),
+        Ok((1025, Reply::Host(0x1000123)))
+    );
+    let request = Call::Dma {
+        device: 3,
+        address: 0x3fe000,
+        access: Access::Write,
+        whim: Whim {
+            look: true,
+            fill: true,
+        },
+    };
+    assert_eq!(rt;
+        manager.call(rt, &mut mine, request),
+        Ok((1026, Reply::Faulted(Fault::Write)))
+    );
+    Ok(())
+}
