@@ -93,6 +93,26 @@ fn maps_go_round_the_window(rt: HostRuntime) -> Result<(), Fail> {
     Ok(())
 }
 
+// Each map of one page cuts the last free piece, until there are 1,023 pieces.
+#[test]
+fn pieces_run_out(rt: HostRuntime) -> Result<(), Fail> {
+    let mut script = Vec::from_slice(rt.alloc(), b"domain strict\n".as_slice())?;
+    for _ in 0..1022u64 {
+        script.extend_from_slice(b"map 1 0x100 1 0 r\n".as_slice())?;
+    }
+    let (result, written) = answers(&rt, rt.alloc(), script.as_slice(), 65536)?;
+    assert_eq!(rt; result, Ok(()));
+    let lines: Vec<&[u8]> = written
+        .as_slice()
+        .split(|byte| *byte == b'\n')
+        .collect(rt.alloc())?;
+    assert_eq!(rt; lines.len(), 1024);
+    assert_eq!(rt; lines[1], b"map 0x1000".as_slice());
+    assert_eq!(rt; lines[1021], b"map 0x3fd000".as_slice());
+    assert_eq!(rt; lines[1022], b"refused 9".as_slice());
+    Ok(())
+}
+
 #[test]
 fn a_full_history_refuses(rt: HostRuntime) -> Result<(), Fail> {
     let script = b"domain strict\nattach 3 1\nmap 1 0x100 1 0 rw\ndma 3 0x1000 r\n";
