@@ -1,7 +1,9 @@
 -- What a book keeps, and what contracts see of managers, seeds and shares.
-use Rattle.std.specs.Prelude.{◌≡◌, ◌≤◌, ℕ, List, length}
+use Rattle.std.specs.Prelude.{◌≡◌, ◌≤◌, ◌++◌, ◌∷◌, [], ℕ, List, length}
+use Rattle.dmatypes.specs.declared.call.Call.{Call}
 use Rattle.dmatypes.specs.declared.reply.Event.{Event}
-use Rattle.dmatypes.specs.History.{after, IsLegal}
+use Rattle.dmatypes.specs.declared.reply.Reply.{Reply}
+use Rattle.dmatypes.specs.History.{after, event, IsLegal}
 use Rattle.manager.specs.Machine.{Machine}
 use Rattle.manager.specs.Fits.{Fits}
 use Rattle.manager.specs.Steps.{GoesTo}
@@ -44,3 +46,9 @@ pub record IsKept (frames room : ℕ) (a : Account) : Type 0 where
   pub goes : GoesTo frames a.history a.state
   pub within : length a.history ≤ room
   pub calls : a.state.calls ≡ length a.history
+
+-- a legal history of so many events ends with this call and its reply
+pub record EndsLegally (frames : ℕ) (call : Call) (reply : Reply) (number : ℕ) : Type 0 where
+  pub before : List Event
+  pub legal : IsLegal frames (before ++ event call reply ∷ [])
+  pub number_is : number ≡ length (before ++ event call reply ∷ [])
