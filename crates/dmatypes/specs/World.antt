@@ -83,7 +83,6 @@ placed (s ∷ ss) first rights p =
     then Some (record { frame = s.frame + (p - first); rights = rights })
     else placed ss (first + s.pages) rights p
 
-
 -- the segments become live
 abbrev pub mapped : List Segment → ℕ → ℕ → Domain → Domain
 mapped segments first rights v = record v { live = λ p. option_or (placed segments first rights p) (v.live p) }

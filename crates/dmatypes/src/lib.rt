@@ -24,3 +24,6 @@ pub use reply::{Event, Reply};
 pub use reply_text::{event_line, reply_line};
 pub use rights::Rights;
 pub use width::Width;
+
+#[cfg(test)]
+mod tests;
