@@ -16,7 +16,7 @@ mod rights;
 mod width;
 
 pub use block::aligned_block;
-pub use call::{Access, Call, Mode, Segment, Whim};
+pub use call::{Access, Cache, Call, Mode, Segment, Whim};
 pub use line::parse_line;
 pub use page::{Frame, Page, PageRange};
 pub use refusal::{Fault, Refusal};
