@@ -25,6 +25,17 @@ pub struct Whim {
     pub fill: bool,
 }
 
+/// The unit's caches, of which one loses an entry at an eviction.
+#[derive(Clone, Copy, Debug, PartialEq, Eq)]
+pub enum Cache {
+    /// Leaves of trees: what pages are mapped to.
+    Leaf,
+    /// Tables below the roots.
+    NonLeaf,
+    /// Devices with their domains and roots.
+    Context,
+}
+
 /// So many pages from a host frame on.
 #[derive(Clone, Copy, Debug, PartialEq, Eq, Default)]
 pub struct Segment {

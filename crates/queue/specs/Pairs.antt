@@ -1,0 +1,25 @@
+-- A queue of descriptors in the pairs of words of one page.
+use Rattle.std.specs.Prelude.{◌≡◌, ℕ, ◌+◌, ◌-◌, ◌%◌, ◌<◌, List, ◌++◌, length, take, drop, All, IsSome}
+use Rattle.std.specs.List.{filter_map}
+use Rattle.vtdbits.specs.declared.descriptor.Descriptor.{Descriptor}
+use Rattle.vtdbits.specs.declared.words.Words.{Words}
+use Rattle.vtdbits.specs.Descriptor.{descriptor_of}
+
+-- so many elements from a place on, around the list's end
+unfoldable pub window : {A : Type 0} → ℕ → ℕ → List A → List A
+window place count xs = take count (drop place xs ++ take place xs)
+
+-- the pairs from the head up to the tail, around the page's end
+abbrev pub pairs_between : ℕ → ℕ → List Words → List Words
+pairs_between head tail page = window head ((tail + 256 - head) % 256) page
+
+-- the descriptors that they spell
+abbrev pub waiting_in : ℕ → ℕ → List Words → List Descriptor
+waiting_in head tail page = filter_map descriptor_of (pairs_between head tail page)
+
+-- head and tail are places of the page, and each pair between them spells a descriptor
+pub record IsRing (head tail : ℕ) (page : List Words) : Type 0 where
+  pub head_inside : head < 256
+  pub tail_inside : tail < 256
+  pub pairs : length page ≡ 256
+  pub spelled : All (λ w. IsSome (descriptor_of w)) (pairs_between head tail page)

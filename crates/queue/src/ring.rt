@@ -1,0 +1,117 @@
+//! The ring and its status.
+
+ghost use Rattle.std.specs.Prelude.{◌≡◌, ◌+◌, ◌%◌, ◌<◌, ◌≤◌, ◌↔◌, [], ◌∷◌, ◌++◌, length, IsTrue, IsErr, IfSome, IfNone, OnOk, OnErr};
+ghost use Rattle.queue.specs.Queue.{queue};
+
+use crate::error::RingFull;
+use std::marker::Model;
+use vtdbits::{Descriptor, Words};
+
+// How many pairs of words one page holds.
+const PAIRS: usize = 256;
+
+/// A queue of descriptors, as the words of one page of 256 pairs, and the status that the last wait left.
+/// The pairs from the head up to the tail wait, around the page's end; one pair stays free, so that a full
+/// ring can be told from an empty one.
+#[derive(Debug, Drop)]
+pub struct Ring {
+    page: [Words; PAIRS],
+    head: usize,
+    tail: usize,
+    status: u32,
+}
+
+// Clauses see the descriptors that wait, oldest first, and the status.
+impl Model for Ring {
+    ghost use Rattle.queue.specs.Queue.{Queue, queue};
+    ghost use Rattle.queue.specs.Pairs.{IsRing, waiting_in};
+
+    ghost Value = { Queue };
+
+    ghost view = { λ r. queue (waiting_in r.head r.tail r.page) r.status };
+
+    ghost invariant = { λ r. IsRing r.head r.tail r.page };
+}
+
+impl Ring {
+    /// How many descriptors can wait.
+    pub const CAPACITY: u64 = 255;
+
+    /// A ring in which nothing waits, with the status 0. It takes no memory of its own.
+    pub fn new() -> Ring
+        ensures { result ≡ queue [] 0 }
+    {
+        Ring {
+            page: [Words { low: 0, high: 0 }; PAIRS],
+            head: 0,
+            tail: 0,
+            status: 0,
+        }
+    }
+
+    /// Appends a descriptor; where the ring is full, nothing changes.
+    pub fn submit(&mut self, descriptor: Descriptor) -> Result<(), RingFull>
+        ensures full { IsErr result ↔ (length self.old.waiting ≡ Self.CAPACITY) }
+        ensures ok { OnOk result (self.new ≡ queue (self.old.waiting ++ descriptor ∷ []) self.old.status) }
+        ensures err { OnErr result (self.new ≡ self.old) }
+    {
+        let next = following(self.tail);
+        if next == self.head {
+            return Err(RingFull);
+        }
+        self.page[self.tail] = descriptor.encode();
+        self.tail = next;
+        Ok(())
+    }
+
+    /// Takes the oldest descriptor, if one waits.
+    pub fn fetch(&mut self) -> Option<Descriptor>
+        ensures some { IfSome result (λ d. self.old ≡ queue (d ∷ self.new.waiting) self.new.status) }
+        ensures none { IfNone result (self.old.waiting ≡ []) }
+        ensures unchanged { IfNone result (self.new ≡ self.old) }
+    {
+        if self.head == self.tail {
+            return None;
+        }
+        let words = self.page[self.head];
+        self.head = following(self.head);
+        Descriptor::decode(words)
+    }
+
+    /// How many descriptors wait.
+    pub fn pending(&self) -> u64
+        ensures count { result ≡ length self.now.waiting }
+        ensures few { length self.now.waiting ≤ Self.CAPACITY }
+    {
+        ((self.tail + PAIRS - self.head) % PAIRS) as u64
+    }
+
+    /// The number of the last wait that was done, 0 before the first.
+    pub fn status(&self) -> u32
+        ensures { result ≡ self.now.status }
+    {
+        self.status
+    }
+
+    /// Sets the status, as a wait does that the unit has reached.
+    pub fn complete(&mut self, value: u32)
+        ensures { self.new ≡ queue self.old.waiting value }
+    {
+        self.status = value;
+    }
+
+    /// Whether the wait of this number is done. Waits are numbered from 1 as they are submitted.
+    pub fn wait_done(&self, number: u32) -> bool
+        ensures { IsTrue result ↔ (number ≤ self.now.status) }
+    {
+        number <= self.status
+    }
+}
+
+// The place behind a place of the page, around its end.
+fn following(place: usize) -> usize
+    requires { place < PAIRS }
+    ensures { result ≡ (place + 1) % PAIRS }
+{
+    (place + 1) % PAIRS
+}

@@ -1,0 +1,82 @@
+-- What the unit remembers.
+use Rattle.std.specs.Prelude.{◌≡◌, ℕ, ◌%◌, ◌^◌, ◌<◌, ◌≤◌, ◌⊎◌, List, [], remove}
+use Rattle.dmatypes.specs.Rights.{AreRights}
+use Rattle.dmatypes.specs.declared.call.Cache.{Cache}
+use Rattle.dmatypes.specs.declared.call.Cache.TheVariants as kinds
+
+-- a leaf that a walk met: the domain, the pages from a first one on that it stands for, and what they are
+-- mapped to: the frames from one on, one after the other, and the rights
+pub record Leaf : Type 0 where
+  pub domain : ℕ
+  pub first : ℕ
+  pub pages : ℕ
+  pub frame : ℕ
+  pub rights : ℕ
+
+abbrev pub leaf : ℕ → ℕ → ℕ → ℕ → ℕ → Leaf
+leaf domain first pages frame rights =
+    record { domain = domain; first = first; pages = pages; frame = frame; rights = rights }
+
+-- a table below a root that a walk passed: the domain, the pages from a first one on that it covers (its
+-- span), its level and its frame
+pub record NonLeaf : Type 0 where
+  pub domain : ℕ
+  pub first : ℕ
+  pub pages : ℕ
+  pub level : ℕ
+  pub frame : ℕ
+
+abbrev pub non_leaf : ℕ → ℕ → ℕ → ℕ → ℕ → NonLeaf
+non_leaf domain first pages level frame =
+    record { domain = domain; first = first; pages = pages; level = level; frame = frame }
+
+-- a device's context: the domain that it is attached to, and the frame of that domain's root
+pub record Context : Type 0 where
+  pub device : ℕ
+  pub domain : ℕ
+  pub root : ℕ
+
+abbrev pub context : ℕ → ℕ → ℕ → Context
+context device domain root = record { device = device; domain = domain; root = root }
+
+-- what is remembered, in the order in which it came
+pub record Caches : Type 0 where
+  pub leaves : List Leaf
+  pub non_leaves : List NonLeaf
+  pub contexts : List Context
+
+abbrev pub caches : List Leaf → List NonLeaf → List Context → Caches
+caches leaves non_leaves contexts =
+    record { leaves = leaves; non_leaves = non_leaves; contexts = contexts }
+
+abbrev pub nothing : Caches
+nothing = caches [] [] []
+
+-- the caches without the entry at a place of one of them
+abbrev pub without : Cache → ℕ → Caches → Caches
+without kinds.Leaf place c = record c { leaves = remove c.leaves place }
+without kinds.NonLeaf place c = record c { non_leaves = remove c.non_leaves place }
+without kinds.Context place c = record c { contexts = remove c.contexts place }
+
+-- the unit: what it remembers, and how many steps it made
+pub record UnitState : Type 0 where
+  pub caches : Caches
+  pub steps : ℕ
+
+abbrev pub unit_state : Caches → ℕ → UnitState
+unit_state caches steps = record { caches = caches; steps = steps }
+
+-- ---- what a leaf and a table can be
+
+-- one page, or 512 onto as many frames from an aligned one on
+pub record IsLeaf (l : Leaf) : Type 0 where
+  pub first : l.first < 2 ^ 36
+  pub pages : (l.pages ≡ 1) ⊎ ((l.pages ≡ 512) × (l.frame % 512 ≡ 0))
+  pub rights : AreRights l.rights
+
+-- a table of level 1 or 2
+pub record IsNonLeaf (t : NonLeaf) : Type 0 where
+  pub first : t.first < 2 ^ 36
+  pub pages : t.pages ≤ 2 ^ 18
+  pub low : 1 ≤ t.level
+  pub high : t.level ≤ 2

@@ -1,0 +1,137 @@
+//! What the unit remembers.
+
+ghost use Rattle.std.specs.Prelude.{◌≡◌, ◌-◌, ◌%◌, ◌^◌, ◌<◌, ◌≤◌};
+ghost use Rattle.unit.specs.Caches.{leaf, non_leaf, context};
+
+use dmatypes::{Frame, Rights};
+use std::marker::Model;
+use vtdbits::{DeviceNumber, DomainId, LargeTranslation, Translation};
+
+/// A leaf that a walk met: the pages that it stands for, and what they are mapped to, one frame after the
+/// other.
+#[derive(Clone, Copy, Debug, PartialEq, Eq)]
+pub(crate) struct CachedLeaf {
+    pub(crate) domain: DomainId,
+    pub(crate) first: u64,
+    pub(crate) pages: u64,
+    pub(crate) frame: Frame,
+    pub(crate) rights: Rights,
+}
+
+impl Model for CachedLeaf {
+    ghost use Rattle.dmatypes.specs.Rights.{bits_of};
+    ghost use Rattle.unit.specs.Caches.{Leaf, IsLeaf, leaf};
+
+    ghost Value = { Leaf };
+
+    ghost view = { λ l. leaf l.domain l.first l.pages l.frame (bits_of l.rights) };
+
+    ghost invariant = { λ l. IsLeaf (leaf l.domain l.first l.pages l.frame (bits_of l.rights)) };
+
+    ghost inverse = { λ v. record { domain = v.domain; first = v.first; pages = v.pages; frame = v.frame; rights = record { 0 = v.rights } } };
+}
+
+impl CachedLeaf {
+    /// The leaf of one page of a domain.
+    pub(crate) fn small(domain: DomainId, page: u64, to: Translation) -> CachedLeaf
+        requires { page < 2 ^ 36 }
+        ensures { result ≡ leaf domain page 1 to.frame to.rights }
+    {
+        CachedLeaf {
+            domain,
+            first: page,
+            pages: 1,
+            frame: to.frame(),
+            rights: to.rights(),
+        }
+    }
+
+    /// The leaf of the 512 pages of a domain around a page, aligned.
+    pub(crate) fn large(domain: DomainId, page: u64, to: LargeTranslation) -> CachedLeaf
+        requires { page < 2 ^ 36 }
+        ensures { result ≡ leaf domain (page - page % 512) 512 to.frame to.rights }
+    {
+        CachedLeaf {
+            domain,
+            first: page - page % 512,
+            pages: 512,
+            frame: to.frame(),
+            rights: to.rights(),
+        }
+    }
+}
+
+// A blank for the unused places of a list.
+impl Default for CachedLeaf {
+    fn default() -> CachedLeaf {
+        CachedLeaf {
+            domain: DomainId::new(1).unwrap(),
+            first: 0,
+            pages: 1,
+            frame: Frame::new(0).unwrap(),
+            rights: Rights::READ,
+        }
+    }
+}
+
+/// A table below a root that a walk passed: the pages that it covers, its level and its frame.
+#[derive(Clone, Copy, Debug, PartialEq, Eq)]
+pub(crate) struct CachedNonLeaf {
+    pub(crate) domain: DomainId,
+    pub(crate) first: u64,
+    pub(crate) pages: u64,
+    pub(crate) level: u64,
+    pub(crate) frame: Frame,
+}
+
+impl Model for CachedNonLeaf {
+    ghost use Rattle.unit.specs.Caches.{NonLeaf, IsNonLeaf, non_leaf};
+
+    ghost Value = { NonLeaf };
+
+    ghost view = { λ t. non_leaf t.domain t.first t.pages t.level t.frame };
+
+    ghost invariant = { λ t. IsNonLeaf (non_leaf t.domain t.first t.pages t.level t.frame) };
+
+    ghost inverse = { λ v. record { domain = v.domain; first = v.first; pages = v.pages; level = v.level; frame = v.frame } };
+}
+
+impl Default for CachedNonLeaf {
+    fn default() -> CachedNonLeaf {
+        CachedNonLeaf {
+            domain: DomainId::new(1).unwrap(),
+            first: 0,
+            pages: 512,
+            level: 1,
+            frame: Frame::new(0).unwrap(),
+        }
+    }
+}
+
+/// A device's context: its domain, and the frame of the domain's root.
+#[derive(Clone, Copy, Debug, PartialEq, Eq)]
+pub(crate) struct CachedContext {
+    pub(crate) device: DeviceNumber,
+    pub(crate) domain: DomainId,
+    pub(crate) root: Frame,
+}
+
+impl Model for CachedContext {
+    ghost use Rattle.unit.specs.Caches.{Context, context};
+
+    ghost Value = { Context };
+
+    ghost view = { λ c. context c.device c.domain c.root };
+
+    ghost inverse = { λ v. record { device = v.device; domain = v.domain; root = v.root } };
+}
+
+impl Default for CachedContext {
+    fn default() -> CachedContext {
+        CachedContext {
+            device: DeviceNumber::new(0).unwrap(),
+            domain: DomainId::new(1).unwrap(),
+            root: Frame::new(0).unwrap(),
+        }
+    }
+}
