@@ -1,6 +1,7 @@
 //! The command line.
 
-ghost use Rattle.std.specs.Prelude.{◌≡◌, IfSome};
+ghost use Rattle.std.specs.Prelude.{◌≡◌, ◌↔◌, IsSome, IfSome};
+ghost use Rattle.manager.specs.Kept.{IsWithinLimits};
 
 use clap::{Arg, ArgMatches, Command, value_parser};
 use manager::Config;
@@ -87,9 +88,10 @@ pub(crate) fn options_of(matches: &ArgMatches) -> Option<Options> {
     })
 }
 
-/// The configuration of a manager with one share.
+/// The configuration of a manager with one share; `None` exactly where a number is outside its limits.
 pub(crate) fn config_of(options: Options) -> Option<Config>
-    ensures { IfSome result (λ c. (c.frames ≡ options.frames) × (c.calls ≡ options.calls) × (c.shares ≡ 1)) }
+    ensures some { IsSome result ↔ IsWithinLimits (record { frames = options.frames; calls = options.calls; shares = 1 }) }
+    ensures numbers { IfSome result (λ c. c ≡ record { frames = options.frames; calls = options.calls; shares = 1 }) }
 {
     Config::new(options.frames, options.calls, 1)
 }

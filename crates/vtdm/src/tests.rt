@@ -9,6 +9,7 @@ use crate::program::program;
 use crate::script::run;
 use manager::Config;
 use std::alloc::{AllocError, Global};
+use std::cell::Cell;
 use std::io;
 use std::io::{Read, Write};
 use std::process::Abort;
@@ -231,6 +232,91 @@ fn a_write_fails(rt: HostRuntime) -> Result<(), Fail> {
         assert_eq!(rt; writer.failed(), good < 4);
         assert!(rt; !reader.failed());
     }
+    Ok(())
+}
+
+// How many lines were handed out whole and how many were answered, and whether more was read before
+// they were as many.
+#[derive(Drop)]
+struct Talk {
+    asked: Cell<u64>,
+    answered: Cell<u64>,
+    late: Cell<bool>,
+}
+
+fn newlines(bytes: &[u8]) -> u64 {
+    bytes.iter().filter(|byte| **byte == b'\n').count() as u64
+}
+
+// Hands out its bytes three at a time.
+#[derive(Drop)]
+struct Asker<'a> {
+    rest: &'a [u8],
+    talk: &'a Talk,
+}
+
+impl Read for Asker<'_> {
+    ghost remaining = { λ a. Some a.rest.now };
+
+    fn read(&mut self, buf: &mut [u8]) -> io::Result<usize> {
+        let asked = self.talk.asked.get();
+        if self.talk.answered.get() != asked {
+            self.talk.late.set(true);
+        }
+        if buf.len() < 3 {
+            return self.rest.read(buf);
+        }
+        let count = self.rest.read(&mut buf[..3])?;
+        let given = buf
+            .iter()
+            .take(count)
+            .filter(|byte| **byte == b'\n')
+            .count() as u64;
+        self.talk.asked.set(asked.saturating_add(given));
+        Ok(count)
+    }
+}
+
+// Counts the lines that are written.
+#[derive(Drop)]
+struct Teller<'a> {
+    talk: &'a Talk,
+}
+
+impl Write for Teller<'_> {
+    fn write(&mut self, buf: &[u8]) -> io::Result<usize> {
+        let answered = self.talk.answered.get();
+        self.talk
+            .answered
+            .set(answered.saturating_add(newlines(buf)));
+        Ok(buf.len())
+    }
+
+    fn flush(&mut self) -> io::Result<()> {
+        Ok(())
+    }
+}
+
+// Each line that was handed out whole is answered before more is read.
+#[test]
+fn answers_come_before_the_next_read(rt: HostRuntime) -> Result<(), Fail> {
+    let talk = Talk {
+        asked: Cell::new(0),
+        answered: Cell::new(0),
+        late: Cell::new(false),
+    };
+    let mut reader = Counted::new(Asker {
+        rest: FIRST_MAP,
+        talk: &talk,
+    });
+    let mut writer = Counted::new(Teller { talk: &talk });
+    let Some(config) = config(9) else {
+        return Err(Fail::from("within the limits"));
+    };
+    let result = run(&rt, rt.alloc(), &mut reader, &mut writer, config);
+    assert_eq!(rt; result, Ok(()));
+    assert!(rt; !talk.late.get());
+    assert_eq!(rt; talk.answered.get(), 4);
     Ok(())
 }
 
