@@ -7,7 +7,7 @@ use Rattle.dmatypes.specs.World.{put}
 use Rattle.dmatypes.specs.Conditions.{Stands}
 use Rattle.dmatypes.specs.Step.{IsStep, Answers, next}
 use Rattle.manager.specs.Homes.{Place, place_of}
-use Rattle.manager.specs.Machine.{Machine, Exact, device_at}
+use Rattle.manager.specs.Machine.{Machine, Exact, Becomes, device_at}
 use Rattle.manager.specs.Steps.{Does}
 use Rattle.manager.proofs.Lists.{get_set, get_set_other, put_same, put_other, same_or_not, is_none, is_some, not_none, not_some}
 use Rattle.manager.proofs.Places.{both_absent, both_there}
@@ -54,7 +54,7 @@ put_along device domain f g same v =
 pub attaches : (m t : Machine) (device domain : ℕ) (h : Place) → device ≤ 15 → length m.devices ≡ 16 → place_of m.homes domain ≡ Some h → device_at m.devices device ≡ None
     → t ≡ record { frames = m.frames; homes = m.homes; devices = slice_set m.devices device (Some domain); calls = m.calls + 1 }
     → Does m (calls.Attach device domain) Done t
-unfolding Exact IsStep Stands Answers next
+unfolding Exact Becomes IsStep Stands Answers next
 attaches m t device domain h small many there free is = record {
   steps = λ w fits.
       let v = both_there (place_of m.homes domain) (w.domains domain) h (fits.domains domain) there in (
@@ -67,5 +67,6 @@ attaches m t device domain h small many there free is = record {
         }),
       );
   exact = tt;
+  becomes = is;
   calls = ap (λ (x : Machine). x.calls) is;
 }

@@ -1,5 +1,5 @@
 -- A domain is made.
-use Rattle.std.proofs.Common.{◌≡◌, ℕ, ◌+◌, ◌<◌, ◌≤◌, inl, length, Option, Some, None, refl, ap, arith, slice_set, IsSome}
+use Rattle.std.proofs.Common.{◌≡◌, ℕ, ◌+◌, ◌-◌, ◌<◌, ◌≤◌, inl, length, Option, Some, None, refl, ap, arith, slice_set, IsSome}
 use Rattle.dmatypes.specs.declared.call.Call.TheVariants as calls
 use Rattle.dmatypes.specs.declared.call.Mode.{Mode}
 use Rattle.dmatypes.specs.declared.reply.Reply.TheVariants.{Made, Refused}
@@ -8,7 +8,7 @@ use Rattle.dmatypes.specs.World.{Domain, empty_domain}
 use Rattle.dmatypes.specs.Conditions.{Stands}
 use Rattle.dmatypes.specs.Step.{IsStep, Answers, next}
 use Rattle.manager.specs.Homes.{Place, place_of, vacant}
-use Rattle.manager.specs.Machine.{Machine, Exact}
+use Rattle.manager.specs.Machine.{Machine, Exact, Becomes}
 use Rattle.manager.specs.Fits.{Both}
 use Rattle.manager.specs.Steps.{Does}
 use Rattle.manager.proofs.Lists.{is_none, not_some}
@@ -30,7 +30,7 @@ no_id m t mode is many all = refuses m t (calls.Domain mode) refusals.TooManyDom
 pub makes : (m t : Machine) (mode : Mode) (i : ℕ) → length m.homes ≡ 15 → i < length m.homes → place_of m.homes (i + 1) ≡ None
     → t ≡ record { frames = m.frames; homes = slice_set m.homes i (record vacant { mode = Some mode }); devices = m.devices; calls = m.calls + 1 }
     → Does m (calls.Domain mode) (Made (i + 1)) t
-unfolding Exact IsStep Stands Answers next
+unfolding Exact Becomes IsStep Stands Answers next
 makes m t mode i many less free is =
     let new : Place = record vacant { mode = Some mode } in
     record {
@@ -44,5 +44,6 @@ makes m t mode i many less free is =
                 (record { mode = refl; live = λ p. refl; retired = refl; begun = refl })),
           );
       exact = tt;
+      becomes = let place : i + 1 - 1 ≡ i = omega arith in rw place is;
       calls = ap (λ (x : Machine). x.calls) is;
     }

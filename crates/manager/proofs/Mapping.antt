@@ -1,5 +1,5 @@
 -- A map: how it is refused, and what it changes.
-use Rattle.std.proofs.Common.{◌≡◌, ℕ, ◌+◌, ◌*◌, ◌/◌, ◌%◌, ◌^◌, ◌<◌, ◌≤◌, ◌⊎◌, inl, inr, [], ◌∷◌, length, Some, None, Err, refl, sym, ap, ◌∙◌, arith, slice_set}
+use Rattle.std.proofs.Common.{◌≡◌, ℕ, ◌+◌, ◌-◌, ◌*◌, ◌/◌, ◌%◌, ◌^◌, ◌<◌, ◌≤◌, ◌⊎◌, inl, inr, [], ◌∷◌, length, Some, None, Err, refl, sym, ap, ◌∙◌, arith, slice_set}
 use Rattle.std.proofs.lemmas.List.Sums.{sum_by-cons}
 use Rattle.dmatypes.specs.declared.call.Call.TheVariants as calls
 use Rattle.dmatypes.specs.declared.reply.Reply.TheVariants.{Mapped, Refused}
@@ -12,7 +12,7 @@ use Rattle.dmatypes.specs.Step.{IsStep, Answers, next}
 use Rattle.manager.specs.declared.wanted.Wanted.{Wanted}
 use Rattle.manager.specs.Homes.{Place, place_of, used}
 use Rattle.manager.specs.Judged.{IsBad, IsJudged, Wants}
-use Rattle.manager.specs.Machine.{Machine, Exact}
+use Rattle.manager.specs.Machine.{Machine, Exact, Becomes}
 use Rattle.manager.specs.Fits.{Mirrors}
 use Rattle.manager.specs.Placing.{IsCrowded, IsPlaced, IsTaken, Places}
 use Rattle.manager.specs.Runs.{IsFit, target_at}
@@ -118,7 +118,7 @@ pub maps : (m t : Machine) (frame pages order rights i : ℕ) (h new : Place) (w
     → Wants wanted frame pages order rights → Places h wanted first new
     → t ≡ record { frames = m.frames; homes = slice_set m.homes i new; devices = m.devices; calls = m.calls + 1 }
     → Does m (calls.Map (i + 1) frame pages order rights) (Mapped (4096 * first)) t
-unfolding Exact IsStep Stands Answers next
+unfolding Exact Becomes IsStep Stands Answers next
 maps m t frame pages order rights i h new wanted first less there good high wants places is =
     let fit : IsFit h.runs pages (2 ^ order) first = rw (wants.pages_are, wants.order_is) at places.fit in
     let taken : IsTaken h.space.pieces pages order first = rw (wants.pages_are, wants.order_is) at places.taken in
@@ -137,6 +137,7 @@ maps m t frame pages order rights i h new wanted first less there good high want
                 (place_set m.homes i new less (used_still h new v.0 v.2 places.mode)) (maps_mirror h new wanted v.0 first frame pages order rights v.2 wants places)),
           );
       exact = rw (there, page) taken;
+      becomes = let place : i + 1 - 1 ≡ i = omega arith in (h, new, there, rw (page, ← wants.pages_are) places.space, rw place is);
       calls = ap (λ (x : Machine). x.calls) is;
     }
 

@@ -16,7 +16,7 @@ use Rattle.dmatypes.specs.Allows.{Allows, AllowsTo, AllowsWithin, IsLiveFor, dom
 use Rattle.dmatypes.specs.Conditions.{Stands}
 use Rattle.dmatypes.specs.Step.{IsStep, Answers, next}
 use Rattle.manager.specs.Homes.{Place, place_of, Reaches, ReachesPage}
-use Rattle.manager.specs.Machine.{Machine, Exact, device_at, reached_reply}
+use Rattle.manager.specs.Machine.{Machine, Exact, Becomes, device_at, reached_reply}
 use Rattle.manager.specs.Fits.{Both, Fits}
 use Rattle.manager.specs.Runs.{target_at}
 use Rattle.manager.specs.Steps.{Does}
@@ -65,9 +65,11 @@ next_same w device address access whim reply = refl
 
 answered : (m t : Machine) (device address : ℕ) (access : Access) (whim : Whim) (reply : Reply) → t ≡ counted m → Exact m (calls.Dma device address access whim) reply
     → ((w : World) → Fits m w → IsStep w (calls.Dma device address access whim) reply) → Does m (calls.Dma device address access whim) reply t
+unfolding Becomes
 answered m t device address access whim reply is exact step = record {
   steps = λ w fits. (step w fits, rw (next_same w device address access whim reply, is) (fits_counted m w fits));
   exact = exact;
+  becomes = is;
   calls = ap (λ (x : Machine). x.calls) is;
 }
 

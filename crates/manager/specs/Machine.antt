@@ -1,5 +1,5 @@
 -- What contracts see of the state.
-use Rattle.std.specs.Prelude.{◌≡◌, ℕ, ◌/◌, List, replicate, IsSomeAnd, Option, None, slice_get, Result, Ok, Err}
+use Rattle.std.specs.Prelude.{◌≡◌, ℕ, ◌+◌, ◌-◌, ◌/◌, List, replicate, IsSomeAnd, Option, None, Some, slice_get, slice_set, Result, Ok, Err}
 use Rattle.std.specs.Option.{option_flatten}
 use Rattle.dmatypes.specs.declared.call.Call.{Call}
 use Rattle.dmatypes.specs.declared.call.Call.TheVariants as calls
@@ -8,6 +8,7 @@ use Rattle.dmatypes.specs.declared.refusal.Refusal.{Refusal}
 use Rattle.dmatypes.specs.declared.refusal.Refusal.TheVariants as refusals
 use Rattle.dmatypes.specs.declared.reply.Reply.{Reply}
 use Rattle.dmatypes.specs.declared.reply.Reply.TheVariants.{Made, Done, Mapped, Host, Faulted, Refused}
+use Rattle.iova.specs.Changes.{Takes}
 use Rattle.manager.specs.Homes.{Place, place_of, vacant}
 use Rattle.manager.specs.Placing.{IsCrowded, IsTaken}
 
@@ -36,6 +37,20 @@ Exact m (calls.Map domain frame pages order rights) (Refused refusals.TooManyPie
     IsSomeAnd (place_of m.homes domain) (λ h. IsCrowded h.space.pieces pages order)
 Exact m call (Refused refusals.NoFrames) = ⊥
 Exact m call reply = Unit {0}
+
+-- what becomes of the state: a new domain has a whole space at its place, an attached device its domain; a map
+-- changes its domain's place alone, whose space becomes the one with the range taken; nothing else changes,
+-- but for the count of calls
+unfoldable pub Becomes : Machine → Call → Reply → Machine → Type 0
+Becomes m (calls.Domain mode) (Made d) t =
+    t ≡ record m { homes = slice_set m.homes (d - 1) (record vacant { mode = Some mode }); calls = m.calls + 1 }
+Becomes m (calls.Attach device domain) Done t =
+    t ≡ record m { devices = slice_set m.devices device (Some domain); calls = m.calls + 1 }
+Becomes m (calls.Map domain frame pages order rights) (Mapped address) t =
+    (old new : Place) × (place_of m.homes domain ≡ Some old)
+    × Takes old.space new.space (record { first = address / 4096; pages = pages })
+    × (t ≡ record m { homes = slice_set m.homes (domain - 1) new; calls = m.calls + 1 })
+Becomes m call reply t = t ≡ record m { calls = m.calls + 1 }
 
 -- ---- the methods' answers, as replies
 

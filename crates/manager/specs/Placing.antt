@@ -6,6 +6,7 @@ use Rattle.dmatypes.specs.declared.refusal.Refusal.TheVariants as refusals
 use Rattle.dmatypes.specs.declared.rights.Rights.{Rights}
 use Rattle.dmatypes.specs.Rights.{bits_of}
 use Rattle.dmatypes.specs.World.{Target, placed}
+use Rattle.iova.specs.Changes.{Takes}
 use Rattle.iova.specs.declared.piece.Piece.{Piece}
 use Rattle.iova.specs.Space.{IsLowestFit, IsTooMany}
 use Rattle.manager.specs.declared.wanted.Wanted.{Wanted}
@@ -35,6 +36,7 @@ pub record Places (old : Place) (w : Wanted) (first : ℕ) (new : Place) : Type 
   pub taken : IsTaken old.space.pieces w.pages w.order first
   pub fit : IsFit old.runs w.pages (2 ^ w.order) first
   pub mode : new.mode ≡ old.mode
+  pub space : Takes old.space new.space (record { first = first; pages = w.pages })
   pub targets : (p : ℕ) → target_at new.runs p ≡ option_or (wanted_target w first p) (target_at old.runs p)
 
 abbrev pub IsPlaced : Place → Wanted → Result ℕ Refusal → Place → Type 0

@@ -5,7 +5,7 @@ use Rattle.dmatypes.specs.declared.reply.Reply.{Reply}
 use Rattle.dmatypes.specs.declared.reply.Event.{Event}
 use Rattle.dmatypes.specs.World.{World}
 use Rattle.dmatypes.specs.Step.{IsStep, next}
-use Rattle.manager.specs.Machine.{Machine, IsNew, Exact}
+use Rattle.manager.specs.Machine.{Machine, IsNew, Exact, Becomes}
 use Rattle.manager.specs.Fits.{Fits}
 
 -- for every world that the state fits, call and reply are a step from it, and the next state fits the
@@ -13,11 +13,12 @@ use Rattle.manager.specs.Fits.{Fits}
 abbrev pub Steps : Machine → Call → Reply → Machine → Type 0
 Steps m call reply t = (w : World) → Fits m w → IsStep w call reply × Fits t (next w call reply)
 
--- all that a method of the state promises: a step, the exact conditions that the model leaves open, and
--- that one call more is counted
+-- all that a method of the state promises: a step, the exact conditions that the model leaves open, what
+-- becomes of the state, and that one call more is counted
 pub record Does (m : Machine) (call : Call) (reply : Reply) (t : Machine) : Type 0 where
   pub steps : Steps m call reply t
   pub exact : Exact m call reply
+  pub becomes : Becomes m call reply t
   pub calls : t.calls ≡ m.calls + 1
 
 -- the events lead from the first state to the last, each by what a method does

@@ -42,5 +42,6 @@ returns c =
       taken = record { lowest = c.in-Ok.ensures.lowest; room = λ many. let no = c.in-Ok.ensures.too_many.1 (c.in-Ok.first, c.in-Ok.ensures.lowest, many) in cc };
       fit = fit_of_space h c.args.wanted.pages (2 ^ c.args.wanted.order) c.in-Ok.first c.self.invariant.0 c.in-Ok.ensures.lowest.fit;
       mode = refl;
+      space = c.in-Ok.ensures.taken;
       targets = λ p. rw (c.push_reserved.ensures.items, is) (rw is at (push_target c.self.inside.runs.items run p (λ inside. not_held h c.take.new.self c.in-Some.range p c.self.invariant.0 takes inside)));
     })
