@@ -111,6 +111,12 @@ Ran size input left before pending after written (Err errors.Read) = WroteAll be
 Ran size input left before pending after written (Err errors.Write) = WroteFront before pending after written × RanPartly size input written
 Ran size input left before pending after written (Err errors.NoMemory) = WroteFront before pending after written × RanPartly size input written
 
+-- nothing is still to be written, but where a write failed or memory lacked
+abbrev pub IsAllSent : {U : Type 0} → List ℕ → Result U RunError → Type 0
+IsAllSent block (Err errors.Write) = Unit {0}
+IsAllSent block (Err errors.NoMemory) = Unit {0}
+IsAllSent block result = block ≡ []
+
 -- the same where the reader and the writer tell their bytes
 abbrev pub RanKnown : {U : Type 0} → Size → (input left before : Option (List ℕ)) → List ℕ → Option (List ℕ) → Result U RunError → Type 0
 RanKnown size None left before pending after result = Unit {0}

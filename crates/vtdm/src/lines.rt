@@ -36,6 +36,7 @@ pub(crate) fn next_line<R: Read, W: Write>(
     ensures answered { IsAnswered writer.new.block result }
     ensures ok { OnOk result ((reader.new.failed ≡ reader.old.failed) × (writer.new.failed ≡ writer.old.failed)) }
     ensures read { result ≡ Err RunError.Read → (reader.new.failed ≡ true) × (writer.new.failed ≡ writer.old.failed) }
+    ensures used_up { result ≡ Err RunError.Read → reader.new.block ≡ [] }
     ensures write { result ≡ Err RunError.Write → (writer.new.failed ≡ true) × (reader.new.failed ≡ reader.old.failed) }
     ensures no_other { OnErr result ((result ≡ Err RunError.Read) ⊎ (result ≡ Err RunError.Write)) }
 {

@@ -11,14 +11,16 @@ mod script;
 
 use std::alloc::AllocError;
 use std::env;
+use std::io::ErrorKind;
 use std::process::ExitCode;
 
 fn main(rt: HostRuntime) -> ExitCode {
-    let Ok(words) = env::args(&rt) else {
-        return ExitCode::from(3);
+    let words = match env::args(&rt) {
+        Ok(words) => words,
+        Err(error) => return without_words(&rt, error.kind()),
     };
     let Ok(words) = words.collect::<Vec<String>>(rt.alloc()) else {
-        return ExitCode::from(3);
+        return without_words(&rt, ErrorKind::OutOfMemory);
     };
     let texts: Result<Vec<&str>, AllocError> = words
         .iter()
@@ -26,7 +28,7 @@ fn main(rt: HostRuntime) -> ExitCode {
         .map(|word| word.as_str())
         .collect(rt.alloc());
     let Ok(texts) = texts else {
-        return ExitCode::from(3);
+        return without_words(&rt, ErrorKind::OutOfMemory);
     };
     let status = program::program(
         &rt,
@@ -37,6 +39,10 @@ fn main(rt: HostRuntime) -> ExitCode {
         rt.stderr(),
     );
     ExitCode::from(status)
+}
+
+fn without_words(rt: &HostRuntime, kind: ErrorKind) -> ExitCode {
+    ExitCode::from(program::without_words(rt.stderr(), kind))
 }
 
 #[cfg(test)]

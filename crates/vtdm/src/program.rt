@@ -6,6 +6,7 @@ use crate::options::{Options, command, config_of, options_of};
 use crate::script::run;
 use clap::error::ErrorKind;
 use std::alloc::Global;
+use std::io;
 use std::io::{Read, Write};
 use std::sync::Wait;
 
@@ -50,6 +51,16 @@ pub fn program<T: Wait, R: Read + Drop, W: Write + Drop, E: Write + Drop>(
             }
         }
     }
+}
+
+/// The exit status where the words of the command line can't be had, told on standard error: memory lacked,
+/// or a word isn't UTF-8.
+pub fn without_words<E: Write + Drop>(mut errors: E, kind: io::ErrorKind) -> u8 {
+    if kind == io::ErrorKind::OutOfMemory {
+        return fail(&mut errors, RunError::NoMemory);
+    }
+    let _ = writeln!(errors, "error: a word of the command line isn't UTF-8");
+    BAD
 }
 
 // Says why the program stops, and with which status. A failure to say it is passed over.

@@ -4,7 +4,7 @@ ghost use Rattle.std.specs.Prelude.{◌≡◌, ◌↔◌, ◌≤◌, ◌⊎◌, 
 ghost use Rattle.std.specs.Io.KnownBytes.{prepend_known};
 ghost use Rattle.manager.specs.Kept.{IsKept, Names};
 ghost use Rattle.vtdm.specs.Bytes.{Sent};
-ghost use Rattle.vtdm.specs.Run.{AnswersOne, RanKnown};
+ghost use Rattle.vtdm.specs.Run.{AnswersOne, IsAllSent, RanKnown};
 
 use crate::counted::{Counted, Failed};
 use crate::error::RunError;
@@ -37,6 +37,8 @@ pub fn run<T: Wait, R: Read, W: Write>(
         (W.contents writer.old.inner) writer.old.block (W.contents writer.new.inner) result }
     ensures reader { (reader.new.failed ≡ true) ↔ IsErrOf result RunError.Read }
     ensures writer { (writer.new.failed ≡ true) ↔ IsErrOf result RunError.Write }
+    ensures used_up { IsErrOf result RunError.Read → reader.new.block ≡ [] }
+    ensures all_sent { IsAllSent writer.new.block result }
 {
     let Ok(seed) = Seed::new(alloc, config) else {
         return Err(RunError::NoMemory);
@@ -65,6 +67,8 @@ fn run_owned<B: Owner, T: Wait, R: Read, W: Write>(
         (W.contents writer.old.inner) writer.old.block (W.contents writer.new.inner) result }
     ensures reader { (reader.new.failed ≡ true) ↔ IsErrOf result RunError.Read }
     ensures writer { (writer.new.failed ≡ true) ↔ IsErrOf result RunError.Write }
+    ensures used_up { IsErrOf result RunError.Read → reader.new.block ≡ [] }
+    ensures all_sent { IsAllSent writer.new.block result }
 {
     let Ok(
         Made {
@@ -100,6 +104,8 @@ fn answer_lines<B: Owner, T: Wait, R: Read, W: Write>(
         (W.contents writer.old.inner) writer.old.block (W.contents writer.new.inner) result }
     ensures reader { (reader.new.failed ≡ true) ↔ IsErrOf result RunError.Read }
     ensures writer { (writer.new.failed ≡ true) ↔ IsErrOf result RunError.Write }
+    ensures used_up { IsErrOf result RunError.Read → reader.new.block ≡ [] }
+    ensures all_sent { IsAllSent writer.new.block result }
 {
     let mut line = ArrayVec::new();
     let mut text = ArrayString::new();

@@ -46,8 +46,9 @@ const FIRST_MAP: &[u8] =
 
 #[test]
 fn scripts_are_answered(rt: HostRuntime) -> Result<(), Fail> {
-    let rows: [(&[u8], &[u8]); 6] = [
+    let rows: [(&[u8], &[u8]); 7] = [
         (b"", b""),
+        (b"domain strict\ndomain strict\n", b"domain 1\ndomain 2\n"),
         (FIRST_MAP, b"domain 1\nok\nmap 0x1000\nhost 0x100234\n"),
         (
             b"domain strict\nattach 3 1\nmap 1 0x100 1 0 r\ndma 3 0x1000 w\ndma 3 0x1fff r\n",
