@@ -1,0 +1,4 @@
+use Rattle.tables.proofs.entries.+find.Given as goal
+
+abbrev pub decreases-find : goal.decreases-find
+decreases-find l = l.level

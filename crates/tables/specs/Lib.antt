@@ -1,0 +1,10 @@
+pub mod Taken
+pub mod Tree
+pub mod Walks
+pub mod Pool
+pub mod Under
+pub mod Changes
+pub mod Segments
+pub mod Lacks
+pub mod ByEntries
+pub mod Pieces

@@ -1,0 +1,46 @@
+-- Pieces: pages in one span of 512, with what they are mapped to or with what became of them.
+use Rattle.std.specs.Prelude.{◌≡◌, ℕ, ◌+◌, ◌-◌, ◌%◌, ◌<◌, ◌≤◌, Bool, true, false, ◌==◌, ◌&&◌, nat_le, if◌then◌else◌, Option, Some, List, [], ◌∷◌}
+use Rattle.dmatypes.specs.Rights.{bits_of}
+use Rattle.dmatypes.specs.World.{Target}
+use Rattle.vtdbits.specs.Translation.{target}
+use Rattle.vtdbits.specs.declared.entry.SsEntry.{SsEntry}
+use Rattle.vtdbits.specs.declared.entry.SsEntry.TheVariants.{Leaf}
+use Rattle.tables.specs.declared.piece.Piece.{Piece}
+use Rattle.tables.specs.declared.unmapping.Cleared.{Cleared}
+use Rattle.tables.specs.declared.unmapping.Cleared.TheVariants.{Words, Split, Table}
+use Rattle.tables.specs.Tree.{Memory, leaf_from, is_large_leaf}
+use Rattle.tables.specs.Pool.{word, memory}
+
+-- what a piece is to state of a page
+abbrev pub says : Piece → ℕ → Option Target
+says x p = Some (target (x.frame + (p - x.from)) (bits_of x.rights))
+
+-- its leaf of one page
+abbrev pub leaf_at : Piece → ℕ → SsEntry
+leaf_at x p = Leaf (target (x.frame + (p - x.from)) (bits_of x.rights))
+
+-- it can be one leaf of 512 pages
+abbrev pub is_large : Piece → Bool
+is_large x = (x.from % 512 == 0) && (x.to - x.from == 512) && (x.frame % 512 == 0)
+
+-- in a table of level 1 the entries of these pages were written, and no other word changed
+pub record IsRun (old new : List ℕ) (table from to : ℕ) (entry : ℕ → SsEntry) : Type 0 where
+  pub entries : (p : ℕ) → from ≤ p → p < to → memory new 1 table (p % 512) ≡ entry p
+  pub rest : (f k : ℕ) → k < 512 → (f ≡ table → (p : ℕ) → from ≤ p → p < to → p % 512 ≡ k → ⊥) → word new f k ≡ word old f k
+
+-- the table that was cut with a piece
+abbrev pub cut_of : Cleared → List ℕ
+cut_of Words = []
+cut_of Split = []
+cut_of (Table c) = c ∷ []
+
+-- a large leaf was split for it
+abbrev pub was_split : Cleared → Bool
+was_split Words = false
+was_split Split = true
+was_split (Table c) = false
+
+-- how many large leaves are split for it
+unfoldable pub piece_splits : Memory → ℕ → ℕ → ℕ → ℕ → ℕ
+piece_splits m level table from to =
+    if nat_le 512 (to - from) then 0 else (if is_large_leaf (leaf_from m level table from) then 1 else 0)

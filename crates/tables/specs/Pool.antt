@@ -1,0 +1,43 @@
+-- A pool of table frames: its words, the frames that are free, and how many frames it has.
+use Rattle.std.specs.Prelude.{◌≡◌, ℕ, ◌+◌, ◌*◌, ◌<◌, ◌≤◌, ◌==◌, List, length, slice_index, count_by}
+use Rattle.vtdbits.specs.Entry.{look}
+use Rattle.tables.specs.Tree.{Memory, uses}
+
+pub record Stored : Type 0 where
+  pub words : List ℕ
+  pub free : List ℕ
+  pub frames : ℕ
+
+-- the word of a table at an index
+unfoldable pub word : List ℕ → ℕ → ℕ → ℕ
+word words table index = slice_index words (table * 512 + index)
+
+-- what a walk sees there in a table of a level
+unfoldable pub memory : List ℕ → Memory
+memory words level table index = look level (word words table index)
+
+-- how often a list has the frame
+abbrev pub occurs : ℕ → List ℕ → ℕ
+occurs frame frames = count_by (λ x. x == frame) frames
+
+-- every word of the frame is 0
+abbrev pub IsZeroed : List ℕ → ℕ → Type 0
+IsZeroed words frame = (k : ℕ) → k < 512 → word words frame k ≡ 0
+
+-- the free frames are different frames of the pool, and zeroed
+pub record IsPool (pool : Stored) : Type 0 where
+  pub fit : length pool.words ≡ pool.frames * 512
+  pub few : pool.frames ≤ 4096
+  pub once : (f : ℕ) → occurs f pool.free ≤ 1
+  pub within : (f : ℕ) → pool.frames ≤ f → occurs f pool.free ≡ 0
+  pub zeroed : (f : ℕ) → 0 < occurs f pool.free → IsZeroed pool.words f
+
+-- a table of the level whose tables are frames of the pool, each in one place and not free
+pub record IsTree (pool : Stored) (level table : ℕ) : Type 0 where
+  pub once : (f : ℕ) → uses (memory pool.words) level table f + occurs f pool.free ≤ 1
+  pub within : (f : ℕ) → pool.frames ≤ f → uses (memory pool.words) level table f + occurs f pool.free ≡ 0
+
+-- the words of both, but for one
+abbrev pub IsWrite : List ℕ → List ℕ → ℕ → ℕ → ℕ → Type 0
+IsWrite old new table index value =
+    (word new table index ≡ value) × ((f k : ℕ) → k < 512 → (f ≡ table → k ≡ index → ⊥) → word new f k ≡ word old f k)

@@ -1,0 +1,30 @@
+-- Segments of host frames, mapped one after the other from a first page on.
+use Rattle.std.specs.Prelude.{ℕ, ◌+◌, ◌-◌, ◌%◌, ◌^◌, ◌≤◌, Bool, false, ◌&&◌, ◌==◌, nat_le, if◌then◌else◌, Option, Some, None, List, [], ◌∷◌}
+use Rattle.dmatypes.specs.declared.call.Segment.{Segment}
+use Rattle.dmatypes.specs.World.{is_within}
+
+-- what is left of a page's segment from that page on
+unfoldable pub rest_at : List Segment → ℕ → ℕ → Option Segment
+rest_at [] first p = None
+rest_at (s ∷ ss) first p =
+    if is_within (record { first = first; pages = s.pages }) p
+    then Some (record { frame = s.frame + (p - first); pages = first + s.pages - p })
+    else rest_at ss (first + s.pages) p
+
+-- 512 pages of frames from a multiple of 512 on
+abbrev pub fills_large : Option Segment → Bool
+fills_large None = false
+fills_large (Some s) = (s.frame % 512 == 0) && nat_le 512 s.pages
+
+-- a leaf of 512 pages begins at the page, where no table is there
+abbrev pub is_large_at : List Segment → ℕ → ℕ → Bool
+is_large_at segments first p = (p % 512 == 0) && fills_large (rest_at segments first p)
+
+-- each has a page, and its frames are host frames
+abbrev pub AreSegments : List Segment → Type 0
+AreSegments [] = Unit {0}
+AreSegments (s ∷ ss) = (1 ≤ s.pages) × (s.frame + s.pages ≤ 2 ^ 24) × AreSegments ss
+
+-- so many frames from one on
+abbrev pub one_segment : ℕ → ℕ → List Segment
+one_segment frame pages = record { frame = frame; pages = pages } ∷ []

@@ -1,0 +1,74 @@
+//! What an unmap took out of a tree.
+
+ghost use Rattle.std.specs.Prelude.{◌≡◌, ◌+◌, ◌≤◌, [], ◌++◌, ◌||◌, false, length};
+ghost use Rattle.tables.specs.Pieces.{cut_of, was_split};
+
+use crate::unmapping::Cleared;
+use dmatypes::Frame;
+use std::marker::Model;
+
+/// The table frames that an unmap cut, at most 8, and whether it split a leaf of 2 MiB. The frames are
+/// zeroed, and neither free nor used: [`crate::Pool::give_back`] makes them free.
+#[derive(Drop)]
+pub struct Cut {
+    // The first ones count.
+    frames: [Frame; 8],
+    count: usize,
+    split: bool,
+}
+
+impl Model for Cut {
+    ghost use Rattle.std.specs.Prelude.{◌≡◌, ◌≤◌, length, take};
+    ghost use Rattle.tables.specs.Taken.{Taken};
+
+    ghost Value = { Taken };
+
+    ghost view = { λ c. record { frames = take c.count c.frames; split = c.split } };
+
+    ghost invariant = { λ c. (c.count ≤ 8) × (length c.frames ≡ 8) };
+}
+
+impl Cut {
+    // Nothing was cut or split. Some frame stands in the places that don't count.
+    pub(crate) fn none(blank: Frame) -> Cut
+        ensures frames { result.frames ≡ [] }
+        ensures split { result.split ≡ false }
+    {
+        Cut {
+            frames: [blank; 8],
+            count: 0,
+            split: false,
+        }
+    }
+
+    // Notes what became of a piece.
+    pub(crate) fn note(&mut self, cleared: Cleared)
+        requires { length self.old.frames + length (cut_of cleared) ≤ 8 }
+        ensures frames { self.new.frames ≡ self.old.frames ++ cut_of cleared }
+        ensures split { self.new.split ≡ (self.old.split || was_split cleared) }
+    {
+        match cleared {
+            Cleared::Words => {}
+            Cleared::Split => self.split = true,
+            Cleared::Table(frame) => {
+                self.frames[self.count] = frame;
+                self.count += 1;
+            }
+        }
+    }
+
+    /// The table frames.
+    pub fn frames(&self) -> &[Frame]
+        ensures all { result.now ≡ self.now.frames }
+        ensures few { length result.now ≤ 8 }
+    {
+        &self.frames[..self.count]
+    }
+
+    /// Whether a leaf of 2 MiB was split.
+    pub fn split(&self) -> bool
+        ensures { result ≡ self.now.split }
+    {
+        self.split
+    }
+}

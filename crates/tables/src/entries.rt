@@ -1,0 +1,106 @@
+//! Entries of tables, and walks along them.
+
+ghost use Rattle.std.specs.Prelude.{◌≡◌, ◌-◌, ◌/◌, ◌%◌, ◌^◌, ◌<◌, ◌≤◌};
+ghost use Rattle.dmatypes.specs.Rights.{AreRights, bits_of};
+ghost use Rattle.vtdbits.specs.Entry.{look, MayStandAt};
+ghost use Rattle.vtdbits.specs.Translation.{target};
+ghost use Rattle.tables.specs.Tree.{span, index_in, states, leaf_from, table_from, is_large_leaf};
+ghost use Rattle.tables.specs.Pool.{memory, IsTree};
+
+use crate::frames::Pool;
+use dmatypes::{Frame, Rights};
+use vtdbits::{SsEntry, Translation};
+
+/// How many pages a table of the level covers.
+#[tactic(auto, unfolding(crate::specs::Tree::span))]
+pub fn span_of(level: u64) -> u64
+    requires { level ≤ 3 }
+    ensures exact { result ≡ span level }
+    ensures some { 0 < result }
+    ensures few { result ≤ 2 ^ 27 }
+{
+    match level {
+        0 => 1,
+        1 => 512,
+        2 => 1 << 18,
+        _ => 1 << 27,
+    }
+}
+
+/// The index of a page in a table of the level.
+pub fn index_of(level: u64, page: u64) -> u64
+    requires low { 1 ≤ level }
+    requires high { level ≤ 4 }
+    ensures exact { result ≡ index_in (level - 1) page }
+    ensures inside { result < 512 }
+{
+    page / span_of(level - 1) % 512
+}
+
+/// The entry of a table at an index: absent where the word spells none.
+pub fn entry(pool: &Pool, level: u64, table: Frame, index: u64) -> SsEntry
+    requires table { table < pool.now.frames }
+    requires index { index < 512 }
+    ensures is { memory pool.now.words level table index ≡ result }
+    ensures stands { MayStandAt level result }
+{
+    SsEntry::decode(level, pool.read(table, index)).unwrap_or(SsEntry::Absent)
+}
+
+/// The word of a leaf of one page.
+pub fn leaf_word(frame: u64, rights: Rights) -> u64
+    requires frame { frame < 2 ^ 24 }
+    requires rights { AreRights (bits_of rights) }
+    ensures { look 1 result ≡ SsEntry.Leaf (target frame (bits_of rights)) }
+{
+    SsEntry::Leaf(Translation::new(Frame::new(frame).unwrap(), rights)).encode()
+}
+
+/// What a table of the level states of a page.
+pub fn find(pool: &Pool, level: u64, table: Frame, page: u64) -> Option<Translation>
+    requires low { 1 ≤ level }
+    requires high { level ≤ 4 }
+    requires tree { IsTree pool.now level table }
+    ensures { result ≡ states (memory pool.now.words) level table page }
+{
+    match entry(pool, level, table, index_of(level, page)) {
+        SsEntry::Absent => None,
+        SsEntry::Table(below) => find(pool, level - 1, below, page),
+        SsEntry::Leaf(leaf) => Some(leaf),
+        SsEntry::LargeLeaf(leaf) => {
+            let frame = leaf.frame().number() + page % 512;
+            Some(Translation::new(Frame::new(frame).unwrap(), leaf.rights()))
+        }
+    }
+}
+
+/// The table of the wanted level on a page's way from a table of the level.
+pub fn table_at(pool: &Pool, level: u64, table: Frame, page: u64, wanted: u64) -> Option<Frame>
+    requires low { 1 ≤ level }
+    requires high { level ≤ 4 }
+    requires wanted { 1 ≤ wanted }
+    requires tree { IsTree pool.now level table }
+    ensures { result ≡ table_from (memory pool.now.words) level table page wanted }
+{
+    if level == wanted {
+        return Some(table);
+    }
+    match entry(pool, level, table, index_of(level, page)) {
+        SsEntry::Table(below) => table_at(pool, level - 1, below, page, wanted),
+        SsEntry::Absent | SsEntry::Leaf(_) | SsEntry::LargeLeaf(_) => None,
+    }
+}
+
+/// Whether the page's leaf stands for more than one page.
+pub fn is_in_large_leaf(pool: &Pool, level: u64, table: Frame, page: u64) -> bool
+    requires low { 1 ≤ level }
+    requires high { level ≤ 4 }
+    requires tree { IsTree pool.now level table }
+    ensures { result ≡ is_large_leaf (leaf_from (memory pool.now.words) level table page) }
+{
+    match entry(pool, level, table, index_of(level, page)) {
+        SsEntry::Table(below) => is_in_large_leaf(pool, level - 1, below, page),
+        SsEntry::LargeLeaf(_) => true,
+        SsEntry::Absent | SsEntry::Leaf(_) => false,
+    }
+}

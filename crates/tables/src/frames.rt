@@ -1,0 +1,138 @@
+//! The pool of table frames.
+
+ghost use Rattle.std.specs.Prelude.{◌≡◌, ℕ, ◌+◌, ◌<◌, ◌≤◌, length, IfOk};
+ghost use Rattle.tables.specs.Tree.{here};
+ghost use Rattle.tables.specs.Pool.{word, occurs, IsZeroed, IsWrite, IsPool};
+
+use dmatypes::Frame;
+use std::alloc::{AllocError, Global};
+use std::marker::Model;
+
+/// How many words a table frame has: 4 KiB.
+pub const WORDS: u64 = 512;
+
+/// Frames of 512 words for tables. Some of them are free, and these are zeroed; the others are of trees, or
+/// were cut from one and not given back.
+#[derive(Drop)]
+pub struct Pool {
+    words: Vec<u64>,
+    // The free frames come first, in no order.
+    slots: Vec<Frame>,
+    free: usize,
+}
+
+impl Model for Pool {
+    ghost use Rattle.std.specs.Prelude.{◌≤◌, length, take};
+    ghost use Rattle.tables.specs.Pool.{Stored, IsPool};
+
+    ghost Value = { Stored };
+
+    ghost view = { λ a. record { words = a.words.items; free = take a.free a.slots.items; frames = length a.slots.items } };
+
+    ghost invariant = { λ a. IsPool (record { words = a.words.items; free = take a.free a.slots.items; frames = length a.slots.items }) × (a.free ≤ length a.slots.items) };
+}
+
+impl Pool {
+    /// A pool of so many frames, all of them free.
+    pub fn new(alloc: Global, frames: u64) -> Result<Pool, AllocError>
+        requires some { 16 ≤ frames }
+        requires few { frames ≤ 4096 }
+        ensures pool { IfOk result (λ pool. IsPool pool) }
+        ensures frames { IfOk result (λ pool. pool.frames ≡ frames) }
+        ensures free { IfOk result (λ pool. (f : ℕ) → f < frames → occurs f pool.free ≡ 1) }
+        ensures zeroed { IfOk result (λ pool. (f : ℕ) → f < frames → IsZeroed pool.words f) }
+        ensures count { IfOk result (λ pool. length pool.free ≡ frames) }
+    {
+        let words = vec![in alloc; 0u64; (frames * WORDS) as usize]?;
+        let mut slots = Vec::new(alloc);
+        for number in 0..frames {
+            slots.push(Frame::new(number).unwrap())?;
+        }
+        Ok(Pool {
+            words,
+            slots,
+            free: frames as usize,
+        })
+    }
+
+    /// How many frames are free.
+    pub fn free_count(&self) -> u64
+        ensures count { result ≡ length self.now.free }
+        ensures pool { IsPool self.now }
+    {
+        self.free as u64
+    }
+
+    /// The word of a frame at an index; 0 in a frame that the pool doesn't have.
+    pub fn read(&self, frame: Frame, index: u64) -> u64
+        requires { index < 512 }
+        ensures { result ≡ word self.now.words frame index }
+    {
+        let place = (frame.number() * WORDS + index) as usize;
+        if place < self.words.len() {
+            self.words[place]
+        } else {
+            0
+        }
+    }
+
+    /// Sets a word of a frame that isn't free.
+    pub(crate) fn write(&mut self, frame: Frame, index: u64, value: u64)
+        requires frame { frame < self.old.frames }
+        requires index { index < 512 }
+        requires taken { occurs frame self.old.free ≡ 0 }
+        ensures wrote { IsWrite self.old.words self.new.words frame index value }
+        ensures free { self.new.free ≡ self.old.free }
+        ensures frames { self.new.frames ≡ self.old.frames }
+        ensures pool { IsPool self.new }
+    {
+        self.words[(frame.number() * WORDS + index) as usize] = value;
+    }
+
+    /// Takes a free frame.
+    pub(crate) fn take(&mut self) -> Frame
+        requires { 0 < length self.old.free }
+        ensures within { result < self.old.frames }
+        ensures free { (f : ℕ) → occurs f self.new.free + here result f ≡ occurs f self.old.free }
+        ensures count { length self.new.free + 1 ≡ length self.old.free }
+        ensures zeroed { IsZeroed self.new.words result }
+        ensures words { self.new.words ≡ self.old.words }
+        ensures frames { self.new.frames ≡ self.old.frames }
+        ensures old_pool { IsPool self.old }
+        ensures pool { IsPool self.new }
+    {
+        self.free -= 1;
+        self.slots[self.free]
+    }
+
+    /// Gives a zeroed frame back.
+    pub(crate) fn give(&mut self, frame: Frame)
+        requires within { frame < self.old.frames }
+        requires taken { occurs frame self.old.free ≡ 0 }
+        requires zeroed { IsZeroed self.old.words frame }
+        ensures free { (f : ℕ) → occurs f self.new.free ≡ occurs f self.old.free + here frame f }
+        ensures count { length self.new.free ≡ length self.old.free + 1 }
+        ensures words { self.new.words ≡ self.old.words }
+        ensures frames { self.new.frames ≡ self.old.frames }
+        ensures pool { IsPool self.new }
+    {
+        self.slots[self.free] = frame;
+        self.free += 1;
+    }
+
+    /// Makes frames free: different zeroed frames of the pool, neither free nor of a tree.
+    pub fn give_back(&mut self, frames: &[Frame])
+        requires once { (f : ℕ) → occurs f self.old.free + occurs f frames.now ≤ 1 }
+        requires within { (f : ℕ) → 0 < occurs f frames.now → f < self.old.frames }
+        requires zeroed { (f : ℕ) → 0 < occurs f frames.now → IsZeroed self.old.words f }
+        ensures free { (f : ℕ) → occurs f self.new.free ≡ occurs f self.old.free + occurs f frames.now }
+        ensures count { length self.new.free ≡ length self.old.free + length frames.now }
+        ensures words { self.new.words ≡ self.old.words }
+        ensures frames { self.new.frames ≡ self.old.frames }
+        ensures pool { IsPool self.new }
+    {
+        let end = self.free + frames.len();
+        self.slots[self.free..end].copy_from_slice(frames);
+        self.free = end;
+    }
+}

@@ -1,0 +1,257 @@
+//! Pages mapped to host frames, in trees of up to 4 levels, and so of up to 2^36 pages.
+
+ghost use Rattle.std.specs.Prelude.{◌≡◌, ℕ, ◌+◌, ◌-◌, ◌*◌, ◌/◌, ◌%◌, ◌^◌, ◌<◌, ◌≤◌, [], length, if◌then◌else◌, false, None, IsSome, IsErr, OnOk, OnErr, true, ◌↔◌};
+ghost use Rattle.dmatypes.specs.Conditions.{total_pages};
+ghost use Rattle.dmatypes.specs.Rights.{AreRights, bits_of};
+ghost use Rattle.dmatypes.specs.World.{placed};
+ghost use Rattle.tables.specs.Tree.{span, index_in, states, leaf_from, table_from};
+ghost use Rattle.tables.specs.Pool.{memory, occurs, IsPool, IsTree, IsZeroed};
+ghost use Rattle.tables.specs.Changes.{Moves, Maps, Makes};
+ghost use Rattle.tables.specs.Segments.{is_large_at, AreSegments};
+ghost use Rattle.tables.specs.Lacks.{lacking, lacks, lacks_at, map_lacks, sum_spans};
+ghost use Rattle.tables.specs.Pieces.{says, is_large, IsRun, leaf_at};
+
+use crate::entries::{entry, index_of, leaf_word, span_of, table_at};
+use crate::error::NoFrames;
+use crate::frames::Pool;
+use crate::piece::Piece;
+use crate::segments::is_large_at;
+use dmatypes::{Frame, Rights, Segment};
+use vtdbits::{LargeTranslation, SsEntry};
+
+/// Writes the leaves of a piece in a table of level 1.
+pub fn write_run(pool: &mut Pool, table: Frame, piece: Piece)
+    requires table { table < pool.old.frames }
+    requires taken { occurs table pool.old.free ≡ 0 }
+    ensures run { IsRun pool.old.words pool.new.words table piece.from piece.to (leaf_at piece) }
+    ensures free { pool.new.free ≡ pool.old.free }
+    ensures frames { pool.new.frames ≡ pool.old.frames }
+    ensures pool { IsPool pool.new }
+{
+    for page in piece.from..piece.to {
+        let word = leaf_word(piece.frame + (page - piece.from), piece.rights);
+        pool.write(table, page % 512, word);
+    }
+}
+
+/// A new table under an absent entry.
+fn grow(pool: &mut Pool, level: u64, table: Frame, index: u64) -> Frame
+    requires low { 2 ≤ level }
+    requires high { level ≤ 4 }
+    requires tree { IsTree pool.old level table }
+    requires index { index < 512 }
+    requires absent { memory pool.old.words level table index ≡ SsEntry.Absent }
+    requires room { 0 < length pool.old.free }
+    ensures moves { Moves pool.old pool.new level table [] }
+    ensures maps { (from to : ℕ) → from < to → index_in (level - 1) from ≡ index
+        → Maps pool.old pool.new level table from to (states (memory pool.old.words) level table) }
+    ensures leaves { (p : ℕ) → leaf_from (memory pool.new.words) level table p ≡ leaf_from (memory pool.old.words) level table p }
+    ensures names { memory pool.new.words level table index ≡ SsEntry.Table result }
+    ensures zeroed { IsZeroed pool.new.words result }
+    ensures count { length pool.new.free + 1 ≡ length pool.old.free }
+    ensures pool { IsPool pool.new }
+{
+    let below = pool.take();
+    pool.write(table, index, SsEntry::Table(below).encode());
+    below
+}
+
+/// Maps a piece: one walk down, with the tables that it lacks, and one run of words or one leaf of 512 pages.
+pub fn map_piece(pool: &mut Pool, level: u64, table: Frame, piece: Piece)
+    requires low { 1 ≤ level }
+    requires high { level ≤ 4 }
+    requires tree { IsTree pool.old level table }
+    requires absent { (p : ℕ) → piece.from ≤ p → p < piece.to → leaf_from (memory pool.old.words) level table p ≡ None }
+    requires room { lacks_at (memory pool.old.words) level table (is_large piece) piece.from ≤ length pool.old.free }
+    ensures moves { Moves pool.old pool.new level table [] }
+    ensures maps { Maps pool.old pool.new level table piece.from piece.to (says piece) }
+    ensures made { (w : ℕ) → 1 ≤ w → w < level → (w ≡ 1 → is_large piece ≡ false)
+        → IsSome (table_from (memory pool.new.words) level table piece.from w) }
+    ensures spared { 1 < level → is_large piece ≡ true
+        → table_from (memory pool.new.words) level table piece.from 1 ≡ table_from (memory pool.old.words) level table piece.from 1 }
+    ensures count { length pool.new.free + lacks_at (memory pool.old.words) level table (is_large piece) piece.from
+        ≡ length pool.old.free }
+    ensures pool { IsPool pool.new }
+{
+    if level == 1 {
+        write_run(pool, table, piece);
+        return;
+    }
+    let index = index_of(level, piece.from);
+    match entry(pool, level, table, index) {
+        SsEntry::Table(below) => map_piece(pool, level - 1, below, piece),
+        SsEntry::Absent => {
+            if level == 2 && piece.is_large() {
+                write_large(pool, table, index, piece);
+            } else {
+                let below = grow(pool, level, table, index);
+                map_piece(pool, level - 1, below, piece);
+            }
+        }
+        SsEntry::Leaf(_) | SsEntry::LargeLeaf(_) => unreachable!(),
+    }
+}
+
+/// Writes a piece as one leaf of 512 pages in a table of level 2.
+fn write_large(pool: &mut Pool, table: Frame, index: u64, piece: Piece)
+    requires tree { IsTree pool.old 2 table }
+    requires index { index ≡ index_in 1 piece.from }
+    requires absent { memory pool.old.words 2 table index ≡ SsEntry.Absent }
+    requires large { is_large piece ≡ true }
+    ensures moves { Moves pool.old pool.new 2 table [] }
+    ensures maps { Maps pool.old pool.new 2 table piece.from piece.to (says piece) }
+    ensures tables { (p w : ℕ) → table_from (memory pool.new.words) 2 table p w ≡ table_from (memory pool.old.words) 2 table p w }
+    ensures free { pool.new.free ≡ pool.old.free }
+    ensures pool { IsPool pool.new }
+{
+    let frame = Frame::new(piece.frame).unwrap();
+    let leaf = LargeTranslation::new(frame, piece.rights);
+    pool.write(table, index, SsEntry::LargeLeaf(leaf).encode());
+}
+
+/// Whether a page has no table of a level below the root's and needs one.
+fn lacks_table(
+    pool: &Pool,
+    level: u64,
+    root: Frame,
+    segments: &[Segment],
+    first: u64,
+    page: u64,
+    wanted: u64,
+) -> bool
+    requires low { 1 ≤ wanted }
+    requires lower { wanted < level }
+    requires high { level ≤ 4 }
+    requires tree { IsTree pool.now level root }
+    requires segments { AreSegments segments.now }
+    requires within { first + total_pages segments.now ≤ 2 ^ 36 }
+    ensures { (if result then 1 else 0) ≡ lacking (memory pool.now.words) level root (is_large_at segments.now first page) wanted page }
+{
+    if table_at(pool, level, root, page, wanted).is_some() {
+        return false;
+    }
+    wanted != 1 || !is_large_at(segments, first, page)
+}
+
+/// How many tables of a level below a root's are lacking where pages are to be mapped.
+fn spans_lacking(
+    pool: &Pool,
+    level: u64,
+    root: Frame,
+    segments: &[Segment],
+    first: u64,
+    end: u64,
+    wanted: u64,
+) -> u64
+    requires low { 1 ≤ wanted }
+    requires lower { wanted < level }
+    requires high { level ≤ 4 }
+    requires tree { IsTree pool.now level root }
+    requires segments { AreSegments segments.now }
+    requires some { first < end }
+    requires end { end ≡ first + total_pages segments.now }
+    requires within { end ≤ 2 ^ 36 }
+    ensures value { result ≡ sum_spans (λ p. lacking (memory pool.now.words) level root (is_large_at segments.now first p) wanted p) wanted first end }
+    ensures small { result ≤ 2 ^ 36 }
+{
+    let width = span_of(wanted);
+    let mut count = 0;
+    for number in first / width..(end - 1) / width + 1 {
+        let page = number * width;
+        if lacks_table(pool, level, root, segments, first, page, wanted) {
+            count += 1;
+        }
+    }
+    count
+}
+
+/// How many tables are lacking where pages are to be mapped.
+fn tables_lacking(
+    pool: &Pool,
+    level: u64,
+    root: Frame,
+    segments: &[Segment],
+    first: u64,
+    end: u64,
+) -> u64
+    requires low { 1 ≤ level }
+    requires high { level ≤ 4 }
+    requires tree { IsTree pool.now level root }
+    requires segments { AreSegments segments.now }
+    requires some { first < end }
+    requires end { end ≡ first + total_pages segments.now }
+    requires within { end ≤ 2 ^ 36 }
+    ensures { result ≡ lacks (memory pool.now.words) level root (is_large_at segments.now first) first end }
+{
+    let mut count = 0;
+    for wanted in 1..level {
+        count += spans_lacking(pool, level, root, segments, first, end, wanted);
+    }
+    count
+}
+
+/// Maps pages to segments, where no frame is lacking.
+fn map_pieces(
+    pool: &mut Pool,
+    level: u64,
+    root: Frame,
+    segments: &[Segment],
+    first: u64,
+    rights: Rights,
+)
+    requires low { 1 ≤ level }
+    requires high { level ≤ 4 }
+    requires tree { IsTree pool.old level root }
+    requires segments { AreSegments segments.now }
+    requires some { 0 < total_pages segments.now }
+    requires within { first + total_pages segments.now ≤ 2 ^ 36 }
+    requires one_span { first / span level ≡ (first + total_pages segments.now - 1) / span level }
+    requires rights { AreRights (bits_of rights) }
+    requires absent { (p : ℕ) → first ≤ p → p < first + total_pages segments.now → leaf_from (memory pool.old.words) level root p ≡ None }
+    requires room { map_lacks pool.old level root segments.now first ≤ length pool.old.free }
+    ensures moves { Moves pool.old pool.new level root [] }
+    ensures maps { Maps pool.old pool.new level root first (first + total_pages segments.now) (placed segments.now first (bits_of rights)) }
+    ensures makes { Makes pool.old pool.new level root first (first + total_pages segments.now) (is_large_at segments.now first) }
+    ensures count { length pool.new.free + map_lacks pool.old level root segments.now first ≡ length pool.old.free }
+    ensures pool { IsPool pool.new }
+{
+    let mut place = first;
+    while let Some(piece) = Piece::at(segments, first, place, rights) {
+        map_piece(pool, level, root, piece);
+        place = piece.to;
+    }
+}
+
+/// Maps the pages from a first one on to segments, one after the other, all or none.
+pub fn map_segments(
+    pool: &mut Pool,
+    level: u64,
+    root: Frame,
+    segments: &[Segment],
+    first: u64,
+    rights: Rights,
+) -> Result<(), NoFrames>
+    requires low { 1 ≤ level }
+    requires high { level ≤ 4 }
+    requires tree { IsTree pool.old level root }
+    requires segments { AreSegments segments.now }
+    requires some { 0 < total_pages segments.now }
+    requires within { first + total_pages segments.now ≤ 2 ^ 36 }
+    requires one_span { first / span level ≡ (first + total_pages segments.now - 1) / span level }
+    requires rights { AreRights (bits_of rights) }
+    requires absent { (p : ℕ) → first ≤ p → p < first + total_pages segments.now → leaf_from (memory pool.old.words) level root p ≡ None }
+    ensures refused { IsErr result ↔ (length pool.old.free < map_lacks pool.old level root segments.now first) }
+    ensures unchanged { OnErr result (pool.new ≡ pool.old) }
+    ensures moves { Moves pool.old pool.new level root [] }
+    ensures maps { OnOk result (Maps pool.old pool.new level root first (first + total_pages segments.now) (placed segments.now first (bits_of rights))) }
+    ensures makes { OnOk result (Makes pool.old pool.new level root first (first + total_pages segments.now) (is_large_at segments.now first)) }
+    ensures count { OnOk result (length pool.new.free + map_lacks pool.old level root segments.now first ≡ length pool.old.free) }
+    ensures pool { IsPool pool.new }
+{
+    let pages: u64 = segments.iter().map(|segment| segment.pages).sum();
+    if pool.free_count() < tables_lacking(pool, level, root, segments, first, first + pages) {
+        return Err(NoFrames);
+    }
+    map_pieces(pool, level, root, segments, first, rights);
+    Ok(())
+}

@@ -1,0 +1,60 @@
+//! Pieces of what is to be mapped.
+
+ghost use Rattle.std.specs.Prelude.{◌≡◌, ◌+◌, ◌-◌, ◌/◌, ◌^◌, ◌<◌, ◌≤◌};
+ghost use Rattle.dmatypes.specs.Rights.{AreRights, bits_of};
+
+use crate::segments::rest_at;
+use dmatypes::{Rights, Segment};
+
+/// Pages in one span of 512, and the host frames from a first one on that they are to be mapped to.
+#[derive(Clone, Copy)]
+pub struct Piece {
+    pub from: u64,
+    pub to: u64,
+    pub frame: u64,
+    pub rights: Rights,
+    ghost some: { from < to },
+    ghost one_span: { from / 512 ≡ (to - 1) / 512 },
+    ghost pages: { to ≤ 2 ^ 36 },
+    ghost frames: { frame + (to - from) ≤ 2 ^ 24 },
+    ghost may: { AreRights (bits_of rights) },
+}
+
+impl Piece {
+    ghost use Rattle.std.specs.Prelude.{ℕ, ◌*◌, ◌%◌, false, IfSome, IfNone};
+    ghost use Rattle.dmatypes.specs.Conditions.{total_pages};
+    ghost use Rattle.dmatypes.specs.World.{placed};
+    ghost use Rattle.tables.specs.Segments.{AreSegments, is_large_at};
+    ghost use Rattle.tables.specs.Pieces.{says, is_large};
+
+    /// The piece that begins at a page of the segments, which follow one another from a first page on: up to
+    /// the end of the page's segment or of its span.
+    pub fn at(segments: &[Segment], first: u64, page: u64, rights: Rights) -> Option<Piece>
+        requires segments { AreSegments segments.now }
+        requires within { first + total_pages segments.now ≤ 2 ^ 36 }
+        requires after { first ≤ page }
+        requires rights { AreRights (bits_of rights) }
+        ensures none { IfNone result (first + total_pages segments.now ≤ page) }
+        ensures page { IfSome result (λ x. x.from ≡ page) }
+        ensures within { IfSome result (λ x. x.to ≤ first + total_pages segments.now) }
+        ensures placed { IfSome result (λ x. (p : ℕ) → page ≤ p → p < x.to → placed segments.now first (bits_of rights) p ≡ says x p) }
+        ensures large { IfSome result (λ x. is_large x ≡ is_large_at segments.now first page) }
+        ensures inner { IfSome result (λ x. 0 < x.to % 512 → is_large_at segments.now first (512 * (x.to / 512)) ≡ false) }
+    {
+        let rest = rest_at(segments, first, page)?;
+        let to = (page + rest.pages).min((page / 512 + 1) * 512);
+        Some(Piece {
+            from: page,
+            to,
+            frame: rest.frame,
+            rights,
+        })
+    }
+
+    /// Whether it can be one leaf of 512 pages.
+    pub fn is_large(self) -> bool
+        ensures { result ≡ is_large self }
+    {
+        self.from % 512 == 0 && self.to - self.from == 512 && self.frame % 512 == 0
+    }
+}

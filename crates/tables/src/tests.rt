@@ -1,0 +1,65 @@
+//! The row of the table layer.
+
+ghost use Rattle.std.specs.Prelude.{◌≡◌, ◌+◌, ◌<◌, ◌≤◌, ◌^◌};
+
+use crate::{Pool, Tree};
+use dmatypes::{Frame, Page, PageRange, Rights};
+use std::test::Fail;
+
+// A few pages before the interrupt address range.
+fn pages(first: u64, pages: u64) -> PageRange
+    requires some { 1 ≤ pages }
+    requires few { pages ≤ 4096 }
+    requires first { 1 ≤ first }
+    requires low { first + pages ≤ 0x1000 }
+    ensures { result ≡ record { first = first; pages = pages } }
+{
+    PageRange::new(first, pages).unwrap()
+}
+
+fn frame(number: u64) -> Frame
+    requires { number < 2 ^ 24 }
+    ensures { result ≡ number }
+{
+    Frame::new(number).unwrap()
+}
+
+#[test]
+fn split_and_cut(rt: HostRuntime) -> Result<(), Fail> {
+    let mut pool = Pool::new(rt.alloc(), 16)?;
+    let mut tree = Tree::new(&mut pool)?;
+    assert_eq!(rt; pool.free_count(), 15);
+    let rights = Rights::from_number(3).expect(&rt, "both rights");
+    tree.map(&mut pool, pages(0x200, 512), frame(0x400), rights)
+        .expect(&rt, "a free frame");
+    assert_eq!(rt; pool.free_count(), 14);
+
+    assert!(rt; tree.may_unmap(&pool, pages(0x201, 1)).is_ok());
+    let first_cut = tree.unmap(&mut pool, pages(0x201, 1));
+    assert!(rt; first_cut.frames().is_empty() && first_cut.split());
+    assert_eq!(rt; pool.free_count(), 13);
+    let page = Page::new(0x202).expect(&rt, "a page");
+    let (found, _) = tree.walk(&pool, page).expect(&rt, "a leaf");
+    assert_eq!(rt; found.number(), 0x402);
+
+    assert!(rt; tree.may_unmap(&pool, pages(0x202, 510)).is_ok());
+    let second_cut = tree.unmap(&mut pool, pages(0x202, 510));
+    assert!(rt; second_cut.frames().is_empty() && !second_cut.split());
+    assert!(rt; tree.may_unmap(&pool, pages(0x200, 1)).is_ok());
+    let third_cut = tree.unmap(&mut pool, pages(0x200, 1));
+    assert!(rt; third_cut.frames().is_empty() && !third_cut.split());
+    assert_eq!(rt; pool.free_count(), 13);
+
+    tree.map(&mut pool, pages(0x200, 512), frame(0x600), rights)
+        .expect(&rt, "the empty table");
+    assert_eq!(rt; pool.free_count(), 13);
+    assert!(rt; tree.may_unmap(&pool, pages(0x200, 512)).is_ok());
+    let last_cut = tree.unmap(&mut pool, pages(0x200, 512));
+    assert_eq!(rt; last_cut.frames().len(), 1);
+    assert!(rt; !last_cut.split());
+    pool.give_back(last_cut.frames());
+    assert_eq!(rt; pool.free_count(), 14);
+    tree.destroy(&mut pool);
+    assert_eq!(rt; pool.free_count(), 16);
+    Ok(())
+}

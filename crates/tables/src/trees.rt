@@ -1,0 +1,202 @@
+//! Trees of tables in a pool.
+
+ghost use Rattle.std.specs.Prelude.{◌≡◌, ◌↔◌, ℕ, ◌+◌, ◌-◌, ◌/◌, ◌^◌, ◌<◌, ◌≤◌, ◌⊎◌, [], false, Some, None, length, IsErr, IsSome, IfOk, OnOk, OnErr, IfSome, IfNone, IsTrue};
+ghost use Rattle.dmatypes.specs.Conditions.{total_pages};
+ghost use Rattle.dmatypes.specs.Page.{IsPageRange, IsWithin};
+ghost use Rattle.dmatypes.specs.Rights.{AreRights, bits_of};
+ghost use Rattle.dmatypes.specs.World.{placed};
+ghost use Rattle.vtdbits.specs.Translation.{target};
+ghost use Rattle.tables.specs.Tree.{here, span, states, leaf_from, table_from, uses, IsLeafAt, IsTableAt, Found};
+ghost use Rattle.tables.specs.Pool.{word, memory, occurs, IsPool, IsTree};
+ghost use Rattle.tables.specs.Changes.{Moves, Maps, Makes, Unmaps, IsApart, Stays};
+ghost use Rattle.tables.specs.Segments.{AreSegments, is_large_at, one_segment};
+ghost use Rattle.tables.specs.Lacks.{map_lacks, splits};
+
+use crate::cut::Cut;
+use crate::entries::find;
+use crate::error::NoFrames;
+use crate::frames::Pool;
+use crate::mapping::map_segments;
+use crate::unmapping::{leaves_splitting, release, unmap_pieces};
+use dmatypes::{Frame, Page, PageRange, Rights, Segment};
+
+/// The levels of a tree of 39-bit addresses: its root is of level 3.
+const LEVELS: u64 = 3;
+
+/// A tree of tables in a pool, by the frame of its root. Its calls ask that it is a tree of the pool that
+/// they are given.
+#[derive(Drop)]
+pub struct Tree {
+    root: Frame,
+}
+
+impl Tree {
+    /// A tree that maps no page, in one free frame.
+    pub fn new(pool: &mut Pool) -> Result<Tree, NoFrames>
+        ensures refused { IsErr result ↔ (length pool.old.free ≡ 0) }
+        ensures unchanged { OnErr result (pool.new ≡ pool.old) }
+        ensures tree { IfOk result (λ tree. IsTree pool.new LEVELS tree.root) }
+        ensures empty { IfOk result (λ tree. (p : ℕ) → leaf_from (memory pool.new.words) LEVELS tree.root p ≡ None) }
+        ensures tables { IfOk result (λ tree. (p w : ℕ) → w < LEVELS → table_from (memory pool.new.words) LEVELS tree.root p w ≡ None) }
+        ensures frames { IfOk result (λ tree. (f : ℕ) → uses (memory pool.new.words) LEVELS tree.root f ≡ here tree.root f) }
+        ensures free { IfOk result (λ tree. (f : ℕ) → occurs f pool.new.free + here tree.root f ≡ occurs f pool.old.free) }
+        ensures count { OnOk result (length pool.new.free + 1 ≡ length pool.old.free) }
+        ensures words { pool.new.words ≡ pool.old.words }
+        ensures size { pool.new.frames ≡ pool.old.frames }
+        ensures pool { IsPool pool.new }
+    {
+        if pool.free_count() == 0 {
+            return Err(NoFrames);
+        }
+        Ok(Tree { root: pool.take() })
+    }
+
+    /// The frame of its root.
+    pub fn root(&self) -> Frame
+        ensures { result ≡ self.now.root }
+    {
+        self.root
+    }
+
+    /// The host frame and the rights that a page is mapped to.
+    pub fn walk(&self, pool: &Pool, page: Page) -> Option<(Frame, Rights)>
+        requires { IsTree pool.now LEVELS self.now.root }
+        ensures some { IfSome result (λ to. states (memory pool.now.words) LEVELS self.now.root page ≡ Some (target to.0 (bits_of to.1))) }
+        ensures none { IfNone result (states (memory pool.now.words) LEVELS self.now.root page ≡ None) }
+    {
+        find(pool, LEVELS, self.root, page.number()).map(|to| (to.frame(), to.rights()))
+    }
+
+    /// Maps the pages of a range, which are absent, to as many host frames from one on.
+    pub fn map(
+        &mut self,
+        pool: &mut Pool,
+        range: PageRange,
+        frame: Frame,
+        rights: Rights,
+    ) -> Result<(), NoFrames>
+        requires tree { IsTree pool.old LEVELS self.old.root }
+        requires absent { (p : ℕ) → IsWithin range p → states (memory pool.old.words) LEVELS self.old.root p ≡ None }
+        requires frames { frame + range.pages ≤ 2 ^ 24 }
+        requires rights { AreRights (bits_of rights) }
+        ensures refused { IsErr result ↔ (length pool.old.free < map_lacks pool.old LEVELS self.old.root (one_segment frame range.pages) range.first) }
+        ensures unchanged { OnErr result (pool.new ≡ pool.old) }
+        ensures root { self.new ≡ self.old }
+        ensures moves { Moves pool.old pool.new LEVELS self.old.root [] }
+        ensures maps { OnOk result (Maps pool.old pool.new LEVELS self.old.root range.first (range.first + range.pages)
+            (λ p. Some (target (frame + (p - range.first)) (bits_of rights)))) }
+        ensures makes { OnOk result (Makes pool.old pool.new LEVELS self.old.root range.first (range.first + range.pages)
+            (is_large_at (one_segment frame range.pages) range.first)) }
+        ensures count { OnOk result (length pool.new.free + map_lacks pool.old LEVELS self.old.root (one_segment frame range.pages) range.first
+            ≡ length pool.old.free) }
+        ensures leaves { (first pages frame rights : ℕ) → IsLeafAt (memory pool.old.words) LEVELS self.old.root first pages frame rights
+            → IsLeafAt (memory pool.new.words) LEVELS self.old.root first pages frame rights }
+        ensures tables { (first level table : ℕ) → IsTableAt (memory pool.old.words) LEVELS self.old.root first level table
+            → IsTableAt (memory pool.new.words) LEVELS self.old.root first level table }
+        ensures others { (level table : ℕ) → IsTree pool.old level table → IsApart pool.old LEVELS self.old.root level table
+            → Stays pool.old pool.new level table }
+        ensures tree { IsTree pool.new LEVELS self.old.root }
+        ensures pool { IsPool pool.new }
+    {
+        let segment = Segment {
+            frame: frame.number(),
+            pages: range.pages(),
+        };
+        map_segments(pool, LEVELS, self.root, &[segment], range.first(), rights)
+    }
+
+    /// Maps the pages from a start on, which are absent, to 1 to 16 segments, one after the other.
+    pub fn map_list(
+        &mut self,
+        pool: &mut Pool,
+        start: Page,
+        segments: &[Segment],
+        rights: Rights,
+    ) -> Result<(), NoFrames>
+        requires tree { IsTree pool.old LEVELS self.old.root }
+        requires some { 1 ≤ length segments.now }
+        requires few { length segments.now ≤ 16 }
+        requires segments { AreSegments segments.now }
+        requires range { IsPageRange (record { first = start; pages = total_pages segments.now }) }
+        requires absent { (p : ℕ) → start ≤ p → p < start + total_pages segments.now → states (memory pool.old.words) LEVELS self.old.root p ≡ None }
+        requires rights { AreRights (bits_of rights) }
+        ensures refused { IsErr result ↔ (length pool.old.free < map_lacks pool.old LEVELS self.old.root segments.now start) }
+        ensures unchanged { OnErr result (pool.new ≡ pool.old) }
+        ensures root { self.new ≡ self.old }
+        ensures moves { Moves pool.old pool.new LEVELS self.old.root [] }
+        ensures maps { OnOk result (Maps pool.old pool.new LEVELS self.old.root start (start + total_pages segments.now)
+            (placed segments.now start (bits_of rights))) }
+        ensures makes { OnOk result (Makes pool.old pool.new LEVELS self.old.root start (start + total_pages segments.now)
+            (is_large_at segments.now start)) }
+        ensures count { OnOk result (length pool.new.free + map_lacks pool.old LEVELS self.old.root segments.now start ≡ length pool.old.free) }
+        ensures leaves { (first pages frame rights : ℕ) → IsLeafAt (memory pool.old.words) LEVELS self.old.root first pages frame rights
+            → IsLeafAt (memory pool.new.words) LEVELS self.old.root first pages frame rights }
+        ensures tables { (first level table : ℕ) → IsTableAt (memory pool.old.words) LEVELS self.old.root first level table
+            → IsTableAt (memory pool.new.words) LEVELS self.old.root first level table }
+        ensures others { (level table : ℕ) → IsTree pool.old level table → IsApart pool.old LEVELS self.old.root level table
+            → Stays pool.old pool.new level table }
+        ensures tree { IsTree pool.new LEVELS self.old.root }
+        ensures pool { IsPool pool.new }
+    {
+        map_segments(pool, LEVELS, self.root, segments, start.number(), rights)
+    }
+
+    /// Whether the free frames suffice to unmap a range: each leaf of 2 MiB that it meets and doesn't cover
+    /// takes one.
+    pub fn may_unmap(&self, pool: &Pool, range: PageRange) -> Result<(), NoFrames>
+        requires { IsTree pool.now LEVELS self.now.root }
+        ensures { IsErr result ↔ (length pool.now.free < splits (memory pool.now.words) LEVELS self.now.root range.first (range.first + range.pages)) }
+    {
+        let from = range.first();
+        if pool.free_count()
+            < leaves_splitting(pool, LEVELS, self.root, from, from + range.pages())
+        {
+            return Err(NoFrames);
+        }
+        Ok(())
+    }
+
+    /// Unmaps the pages of a range, all of which are there, where `may_unmap` allows it. A table whose span
+    /// the range covers is cut.
+    pub fn unmap(&mut self, pool: &mut Pool, range: PageRange) -> Cut
+        requires tree { IsTree pool.old LEVELS self.old.root }
+        requires there { (p : ℕ) → IsWithin range p → IsSome (states (memory pool.old.words) LEVELS self.old.root p) }
+        requires may { splits (memory pool.old.words) LEVELS self.old.root range.first (range.first + range.pages) ≤ length pool.old.free }
+        ensures root { self.new ≡ self.old }
+        ensures moves { Moves pool.old pool.new LEVELS self.old.root result.frames }
+        ensures unmaps { Unmaps pool.old pool.new LEVELS self.old.root range.first (range.first + range.pages) result.frames }
+        ensures split { IsTrue result.split ↔ (0 < splits (memory pool.old.words) LEVELS self.old.root range.first (range.first + range.pages)) }
+        ensures whole { (p : ℕ) (x : Found) → IsWithin range p → result.split ≡ false
+            → leaf_from (memory pool.old.words) LEVELS self.old.root p ≡ Some x
+            → (q : ℕ) → q / span x.size ≡ p / span x.size → IsWithin range q }
+        ensures count { length pool.new.free + splits (memory pool.old.words) LEVELS self.old.root range.first (range.first + range.pages)
+            ≡ length pool.old.free }
+        ensures leaves { (first pages frame rights : ℕ) → IsLeafAt (memory pool.old.words) LEVELS self.old.root first pages frame rights
+            → (first + pages ≤ range.first) ⊎ (range.first + range.pages ≤ first)
+            → IsLeafAt (memory pool.new.words) LEVELS self.old.root first pages frame rights }
+        ensures tables { (first level table : ℕ) → IsTableAt (memory pool.old.words) LEVELS self.old.root first level table
+            → IsTableAt (memory pool.new.words) LEVELS self.old.root first level table
+            ⊎ ((level ≡ 1) × (range.first ≤ first) × (first + 512 ≤ range.first + range.pages) × (0 < occurs table result.frames)) }
+        ensures others { (level table : ℕ) → IsTree pool.old level table → IsApart pool.old LEVELS self.old.root level table
+            → Stays pool.old pool.new level table }
+        ensures tree { IsTree pool.new LEVELS self.old.root }
+        ensures pool { IsPool pool.new }
+    {
+        let from = range.first();
+        unmap_pieces(pool, LEVELS, self.root, from, from + range.pages())
+    }
+
+    /// Gives all its frames back.
+    pub fn destroy(self, pool: &mut Pool)
+        requires { IsTree pool.old LEVELS self.root }
+        ensures free { (f : ℕ) → occurs f pool.new.free ≡ occurs f pool.old.free + uses (memory pool.old.words) LEVELS self.root f }
+        ensures words { (f k : ℕ) → k < 512 → uses (memory pool.old.words) LEVELS self.root f ≡ 0 → word pool.new.words f k ≡ word pool.old.words f k }
+        ensures others { (level table : ℕ) → IsTree pool.old level table → IsApart pool.old LEVELS self.root level table
+            → Stays pool.old pool.new level table }
+        ensures size { pool.new.frames ≡ pool.old.frames }
+        ensures pool { IsPool pool.new }
+    {
+        let Tree { root } = self;
+        release(pool, LEVELS, root);
+    }
+}

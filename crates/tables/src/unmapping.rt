@@ -1,0 +1,237 @@
+//! Pages unmapped, and tables given back, in trees of up to 4 levels, and so of up to 2^36 pages.
+
+ghost use Rattle.std.specs.Prelude.{◌≡◌, ◌≢◌, ℕ, ◌+◌, ◌-◌, ◌*◌, ◌/◌, ◌%◌, ◌^◌, ◌<◌, ◌≤◌, [], false, length, if◌then◌else◌, IsSome, IsTrue, ◌↔◌};
+ghost use Rattle.tables.specs.Tree.{span, index_in, leaf_from, uses};
+ghost use Rattle.tables.specs.Pool.{word, memory, occurs, IsPool, IsTree};
+ghost use Rattle.tables.specs.Changes.{Moves, Unmaps};
+ghost use Rattle.tables.specs.Lacks.{splitting, splits};
+ghost use Rattle.tables.specs.Under.{IsSplit, used_at};
+ghost use Rattle.tables.specs.Pieces.{IsRun, cut_of, was_split, piece_splits};
+
+use crate::cut::Cut;
+use crate::entries::{entry, index_of, is_in_large_leaf};
+use crate::frames::{Pool, WORDS};
+use crate::mapping::write_run;
+use crate::piece::Piece;
+use dmatypes::Frame;
+use vtdbits::{LargeTranslation, SsEntry};
+
+/// What became of a piece that was unmapped.
+#[derive(Clone, Copy)]
+pub enum Cleared {
+    /// Its entries are absent.
+    Words,
+    /// They are, after the split of a leaf of 512 pages.
+    Split,
+    /// It covered the span of this table, which was cut.
+    Table(Frame),
+}
+
+/// Clears the entries of pages in a table of level 1.
+fn clear_run(pool: &mut Pool, table: Frame, from: u64, to: u64)
+    requires some { from < to }
+    requires one_span { from / 512 ≡ (to - 1) / 512 }
+    requires table { table < pool.old.frames }
+    requires taken { occurs table pool.old.free ≡ 0 }
+    ensures run { IsRun pool.old.words pool.new.words table from to (λ p. SsEntry.Absent) }
+    ensures zeroed { (p : ℕ) → from ≤ p → p < to → word pool.new.words table (p % 512) ≡ 0 }
+    ensures free { pool.new.free ≡ pool.old.free }
+    ensures frames { pool.new.frames ≡ pool.old.frames }
+    ensures pool { IsPool pool.new }
+{
+    for page in from..to {
+        pool.write(table, page % 512, 0);
+    }
+}
+
+/// Spells a leaf of 512 pages by a new table of 512 leaves.
+fn split(pool: &mut Pool, table: Frame, page: u64, leaf: LargeTranslation) -> Frame
+    requires tree { IsTree pool.old 2 table }
+    requires page { page < 2 ^ 36 }
+    requires leaf { memory pool.old.words 2 table (index_in 1 page) ≡ SsEntry.LargeLeaf leaf }
+    requires room { 0 < length pool.old.free }
+    ensures moves { Moves pool.old pool.new 2 table [] }
+    ensures split { IsSplit pool.old pool.new table (index_in 1 page) page result leaf }
+    ensures count { length pool.new.free + 1 ≡ length pool.old.free }
+    ensures pool { IsPool pool.new }
+{
+    let below = pool.take();
+    let from = page / 512 * 512;
+    let piece = Piece {
+        from,
+        to: from + 512,
+        frame: leaf.frame().number(),
+        rights: leaf.rights(),
+    };
+    write_run(pool, below, piece);
+    pool.write(table, index_of(2, page), SsEntry::Table(below).encode());
+    below
+}
+
+/// Unmaps a piece in a table of level 2.
+fn clear_span(pool: &mut Pool, table: Frame, from: u64, to: u64) -> Cleared
+    requires tree { IsTree pool.old 2 table }
+    requires some { from < to }
+    requires one_span { from / 512 ≡ (to - 1) / 512 }
+    requires within { to ≤ 2 ^ 36 }
+    requires there { (p : ℕ) → from ≤ p → p < to → IsSome (leaf_from (memory pool.old.words) 2 table p) }
+    requires room { piece_splits (memory pool.old.words) 2 table from to ≤ length pool.old.free }
+    ensures moves { Moves pool.old pool.new 2 table (cut_of result) }
+    ensures unmaps { Unmaps pool.old pool.new 2 table from to (cut_of result) }
+    ensures split { (if was_split result then 1 else 0) ≡ piece_splits (memory pool.old.words) 2 table from to }
+    ensures count { length pool.new.free + piece_splits (memory pool.old.words) 2 table from to ≡ length pool.old.free }
+    ensures cut { 512 * length (cut_of result) ≤ to - from }
+    ensures pool { IsPool pool.new }
+{
+    let is_whole = to - from == 512;
+    let index = index_of(2, from);
+    match entry(pool, 2, table, index) {
+        SsEntry::Table(below) => {
+            clear_run(pool, below, from, to);
+            if !is_whole {
+                return Cleared::Words;
+            }
+            pool.write(table, index, 0);
+            Cleared::Table(below)
+        }
+        SsEntry::LargeLeaf(leaf) => {
+            if is_whole {
+                pool.write(table, index, 0);
+                return Cleared::Words;
+            }
+            let below = split(pool, table, from, leaf);
+            clear_run(pool, below, from, to);
+            Cleared::Split
+        }
+        SsEntry::Absent | SsEntry::Leaf(_) => unreachable!(),
+    }
+}
+
+/// Unmaps a piece: one walk down, and one run of words or one leaf of 512 pages.
+fn clear_piece(pool: &mut Pool, level: u64, table: Frame, from: u64, to: u64) -> Cleared
+    requires low { 2 ≤ level }
+    requires high { level ≤ 4 }
+    requires tree { IsTree pool.old level table }
+    requires some { from < to }
+    requires one_span { from / 512 ≡ (to - 1) / 512 }
+    requires within { to ≤ 2 ^ 36 }
+    requires there { (p : ℕ) → from ≤ p → p < to → IsSome (leaf_from (memory pool.old.words) level table p) }
+    requires room { piece_splits (memory pool.old.words) level table from to ≤ length pool.old.free }
+    ensures moves { Moves pool.old pool.new level table (cut_of result) }
+    ensures unmaps { Unmaps pool.old pool.new level table from to (cut_of result) }
+    ensures split { (if was_split result then 1 else 0) ≡ piece_splits (memory pool.old.words) level table from to }
+    ensures count { length pool.new.free + piece_splits (memory pool.old.words) level table from to ≡ length pool.old.free }
+    ensures cut { 512 * length (cut_of result) ≤ to - from }
+    ensures pool { IsPool pool.new }
+{
+    if level == 2 {
+        return clear_span(pool, table, from, to);
+    }
+    match entry(pool, level, table, index_of(level, from)) {
+        SsEntry::Table(below) => clear_piece(pool, level - 1, below, from, to),
+        SsEntry::Absent | SsEntry::Leaf(_) | SsEntry::LargeLeaf(_) => unreachable!(),
+    }
+}
+
+/// Unmaps pages that are there, where no frame is lacking.
+pub fn unmap_pieces(pool: &mut Pool, level: u64, root: Frame, from: u64, to: u64) -> Cut
+    requires low { 2 ≤ level }
+    requires high { level ≤ 4 }
+    requires tree { IsTree pool.old level root }
+    requires some { from < to }
+    requires few { to - from ≤ 4096 }
+    requires within { to ≤ 2 ^ 36 }
+    requires one_span { from / span level ≡ (to - 1) / span level }
+    requires there { (p : ℕ) → from ≤ p → p < to → IsSome (leaf_from (memory pool.old.words) level root p) }
+    requires room { splits (memory pool.old.words) level root from to ≤ length pool.old.free }
+    ensures moves { Moves pool.old pool.new level root result.frames }
+    ensures unmaps { Unmaps pool.old pool.new level root from to result.frames }
+    ensures split { IsTrue result.split ↔ (0 < splits (memory pool.old.words) level root from to) }
+    ensures count { length pool.new.free + splits (memory pool.old.words) level root from to ≡ length pool.old.free }
+    ensures pool { IsPool pool.new }
+{
+    let mut cut = Cut::none(root);
+    let mut place = from;
+    while place < to {
+        let next = to.min((place / 512 + 1) * 512);
+        let cleared = clear_piece(pool, level, root, place, next);
+        cut.note(cleared);
+        place = next;
+    }
+    cut
+}
+
+/// Whether a page is in a large leaf, and the pages from one up to another don't cover the 512 from it on.
+fn splits_leaf(pool: &Pool, level: u64, root: Frame, from: u64, to: u64, page: u64) -> bool
+    requires low { 1 ≤ level }
+    requires high { level ≤ 4 }
+    requires tree { IsTree pool.now level root }
+    requires page { page ≤ 2 ^ 36 }
+    ensures { (if result then 1 else 0) ≡ splitting (memory pool.now.words) level root from to page }
+{
+    if from <= page && page + 512 <= to {
+        return false;
+    }
+    is_in_large_leaf(pool, level, root, page)
+}
+
+/// How many large leaves meet the pages and aren't covered by them.
+pub fn leaves_splitting(pool: &Pool, level: u64, root: Frame, from: u64, to: u64) -> u64
+    requires low { 1 ≤ level }
+    requires high { level ≤ 4 }
+    requires tree { IsTree pool.now level root }
+    requires some { from < to }
+    requires within { to ≤ 2 ^ 36 }
+    ensures { result ≡ splits (memory pool.now.words) level root from to }
+{
+    let mut count = 0;
+    for number in from / 512..(to - 1) / 512 + 1 {
+        let page = number * 512;
+        if splits_leaf(pool, level, root, from, to, page) {
+            count += 1;
+        }
+    }
+    count
+}
+
+/// Gives back the frames of a table and of all tables below it.
+#[cycle(releasing)]
+pub fn release(pool: &mut Pool, level: u64, table: Frame)
+    requires low { 1 ≤ level }
+    requires high { level ≤ 4 }
+    requires tree { IsTree pool.old level table }
+    ensures free { (f : ℕ) → occurs f pool.new.free ≡ occurs f pool.old.free + uses (memory pool.old.words) level table f }
+    ensures others { (f k : ℕ) → k < 512 → uses (memory pool.old.words) level table f ≡ 0 → word pool.new.words f k ≡ word pool.old.words f k }
+    ensures frames { pool.new.frames ≡ pool.old.frames }
+    ensures pool { IsPool pool.new }
+{
+    for index in 0..WORDS {
+        release_entry(pool, level, table, index);
+    }
+    pool.give(table);
+}
+
+/// Clears an entry, and gives back what lies below it.
+#[cycle(releasing)]
+fn release_entry(pool: &mut Pool, level: u64, table: Frame, index: u64)
+    requires low { 1 ≤ level }
+    requires high { level ≤ 4 }
+    requires table { table < pool.old.frames }
+    requires taken { occurs table pool.old.free + used_at pool.old level table table index ≡ 0 }
+    requires index { index < 512 }
+    requires below { (c : ℕ) → memory pool.old.words level table index ≡ SsEntry.Table c → IsTree pool.old (level - 1) c }
+    ensures free { (f : ℕ) → occurs f pool.new.free ≡ occurs f pool.old.free + used_at pool.old level table f index }
+    ensures cleared { word pool.new.words table index ≡ 0 }
+    ensures row { (k : ℕ) → k < 512 → k ≢ index → word pool.new.words table k ≡ word pool.old.words table k }
+    ensures others { (f k : ℕ) → k < 512 → f ≢ table → used_at pool.old level table f index ≡ 0 → word pool.new.words f k ≡ word pool.old.words f k }
+    ensures frames { pool.new.frames ≡ pool.old.frames }
+    ensures pool { IsPool pool.new }
+{
+    match entry(pool, level, table, index) {
+        SsEntry::Table(below) => {
+            release(pool, level - 1, below);
+            pool.write(table, index, 0);
+        }
+        SsEntry::Absent | SsEntry::Leaf(_) | SsEntry::LargeLeaf(_) => pool.write(table, index, 0),
+    }
+}
