@@ -1,6 +1,7 @@
 -- What a descriptor makes the unit forget (IOTLB and context-cache invalidation).
 use Rattle.std.specs.Prelude.{ℕ, ◌+◌, ◌^◌, ◌==◌, ◌&&◌, nat_le, nat_lt, Bool, true, false, not, List, [], ◌∷◌, filter}
-use Rattle.dmatypes.specs.Block.{Block}
+use Rattle.dmatypes.specs.Page.{Range, IsWithin}
+use Rattle.dmatypes.specs.Block.{Block, IsInBlock}
 use Rattle.vtdbits.specs.declared.descriptor.Descriptor.{Descriptor}
 use Rattle.vtdbits.specs.declared.descriptor.Descriptor.TheVariants.{ContextGlobal, ContextDomain, ContextDevice, IotlbGlobal, IotlbDomain, IotlbPages, Wait}
 use Rattle.queue.specs.Queue.{Queue, queue}
@@ -13,6 +14,10 @@ lie_in block first pages = nat_le block.first first && nat_le (first + pages) (b
 -- some of them lie in the block
 abbrev pub meet : Block → ℕ → ℕ → Bool
 meet block first pages = nat_lt first (block.first + 2 ^ block.order) && nat_lt block.first (first + pages)
+
+-- a page number of the range lies in the block
+abbrev pub Meets : Block → Range → Type 0
+Meets block range = (p : ℕ) × IsWithin range p × IsInBlock block p
 
 -- ---- what goes
 

@@ -1,3 +1,6 @@
 pub mod Row
 pub mod Caches
 pub mod Filters
+pub mod Lists
+pub mod Walking
+pub mod Answers

@@ -1,8 +1,10 @@
 //! What the unit remembers.
 
-ghost use Rattle.std.specs.Prelude.{◌≡◌, ◌-◌, ◌%◌, ◌^◌, ◌<◌, ◌≤◌};
-ghost use Rattle.unit.specs.Caches.{leaf, non_leaf, context};
+ghost use Rattle.std.specs.Prelude.{◌≡◌, ◌==◌, ◌&&◌, IsTrue, ◌-◌, ◌%◌, ◌^◌, ◌<◌, ◌≤◌};
+ghost use Rattle.unit.specs.Caches.{leaf};
+ghost use Rattle.unit.specs.Walking.{hold, met_non_leaf, stated_by};
 
+use crate::walking::span_of;
 use dmatypes::{Frame, Rights};
 use std::marker::Model;
 use vtdbits::{DeviceNumber, DomainId, LargeTranslation, Translation};
@@ -59,6 +61,22 @@ impl CachedLeaf {
             rights: to.rights(),
         }
     }
+
+    /// Whether it is of a domain and stands for a page.
+    pub(crate) fn holds(&self, domain: DomainId, page: u64) -> bool
+        ensures { result ≡ ((self.now.domain == domain) && hold self.now.first self.now.pages page) }
+    {
+        self.domain == domain && self.first <= page && page < self.first + self.pages
+    }
+
+    /// What it states of a page that it stands for.
+    pub(crate) fn translation(&self, page: u64) -> Translation
+        requires { IsTrue (hold self.now.first self.now.pages page) }
+        ensures { result ≡ stated_by page self.now }
+    {
+        let frame = self.frame.number() + (page - self.first);
+        Translation::new(Frame::new(frame).unwrap(), self.rights)
+    }
 }
 
 // A blank for the unused places of a list.
@@ -96,6 +114,39 @@ impl Model for CachedNonLeaf {
     ghost inverse = { λ v. record { domain = v.domain; first = v.first; pages = v.pages; level = v.level; frame = v.frame } };
 }
 
+impl CachedNonLeaf {
+    /// The table of a level that covers a page of a domain.
+    pub(crate) fn new(domain: DomainId, page: u64, level: u64, frame: Frame) -> CachedNonLeaf
+        requires page { page < 2 ^ 27 }
+        requires low { 1 ≤ level }
+        requires high { level ≤ 2 }
+        ensures { result ≡ met_non_leaf domain page level frame }
+    {
+        let pages = span_of(level);
+        CachedNonLeaf {
+            domain,
+            first: page - page % pages,
+            pages,
+            level,
+            frame,
+        }
+    }
+
+    /// Whether it is of a domain and covers a page.
+    pub(crate) fn holds(&self, domain: DomainId, page: u64) -> bool
+        ensures { result ≡ ((self.now.domain == domain) && hold self.now.first self.now.pages page) }
+    {
+        self.domain == domain && self.first <= page && page < self.first + self.pages
+    }
+
+    /// Whether it is of a level.
+    pub(crate) fn is_at(&self, level: u64) -> bool
+        ensures { result ≡ (self.now.level == level) }
+    {
+        self.level == level
+    }
+}
+
 impl Default for CachedNonLeaf {
     fn default() -> CachedNonLeaf {
         CachedNonLeaf {
@@ -124,6 +175,15 @@ impl Model for CachedContext {
     ghost view = { λ c. context c.device c.domain c.root };
 
     ghost inverse = { λ v. record { device = v.device; domain = v.domain; root = v.root } };
+}
+
+impl CachedContext {
+    /// Whether it is of a device.
+    pub(crate) fn is_of(&self, device: u64) -> bool
+        ensures { result ≡ (self.now.device == device) }
+    {
+        self.device.number() == device
+    }
 }
 
 impl Default for CachedContext {

@@ -6,7 +6,15 @@
 mod contexts;
 mod entries;
 mod filters;
+mod hit;
+pub mod laws;
+mod lists;
+mod lookups;
+mod requests;
+mod telling;
 mod unit;
+mod walking;
 
 pub use contexts::Contexts;
+pub use hit::Hit;
 pub use unit::{Progress, Unit};

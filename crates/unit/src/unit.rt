@@ -1,26 +1,36 @@
 //! The unit and its caches.
 
 ghost use Rattle.std.specs.Prelude.{◌≡◌, ◌↔◌, ◌+◌, ◌^◌, ◌<◌, [], not, filter};
+ghost use Rattle.tables.specs.Pool.{memory};
+ghost use Rattle.unit.specs.Answers.{Answers};
 ghost use Rattle.unit.specs.Caches.{unit_state, nothing, without};
 ghost use Rattle.unit.specs.Filters.{left_by, left_by_first, after_first};
 
+use crate::contexts::Contexts;
 use crate::entries::{CachedContext, CachedLeaf, CachedNonLeaf};
 use crate::filters::{drops_context, drops_leaf, drops_non_leaf};
+use crate::hit::Hit;
+use crate::lists::remember;
+use crate::requests::{LEAVES, context_of, translation_of};
+use crate::telling::tell;
+use crate::walking::NON_LEAVES;
 use arrayvec::ArrayVec;
-use dmatypes::Cache;
+use dmatypes::{Access, Cache, Fault, Whim};
 use queue::Ring;
 use std::marker::Model;
+use tables::Pool;
 use vtdbits::Descriptor;
 
 #[cfg(test)]
+mod request_tests;
+#[cfg(test)]
 mod tests;
 
-// How many entries are remembered of each kind.
-const LEAVES: usize = 64;
-
-const NON_LEAVES: usize = 32;
-
+// How many contexts are remembered.
 const CONTEXTS: usize = 16;
+
+// The first byte address beyond the width of 39 bits.
+const BEYOND: u64 = 1 << 39;
 
 /// Whether a step of the unit did a descriptor.
 #[derive(Clone, Copy, Debug, PartialEq, Eq)]
@@ -60,6 +70,40 @@ impl Unit {
             contexts: ArrayVec::new(),
             steps: 0,
         }
+    }
+
+    /// Translates a device's request at a byte address. With `look` what is remembered serves before the row
+    /// and the tables; with `fill` what served is remembered.
+    pub fn dma(
+        &mut self,
+        pool: &Pool,
+        contexts: &Contexts,
+        device: u64,
+        address: u64,
+        access: Access,
+        whim: Whim,
+    ) -> Result<Hit, Fault>
+        requires { device < 16 }
+        ensures answers { Answers (memory pool.now.words) contexts.now whim.look whim.fill device address access
+            self.old.caches self.new.caches result }
+        ensures steps { self.new.steps ≡ self.old.steps }
+    {
+        let Some(context) = context_of(&self.contexts, contexts, device, whim.look) else {
+            return Err(Fault::NotAttached);
+        };
+        remember(&mut self.contexts, context, whim.fill);
+        if address >= BEYOND {
+            return Err(Fault::BeyondWidth);
+        }
+        let to = translation_of(
+            pool,
+            &mut self.leaves,
+            &mut self.non_leaves,
+            context,
+            address >> 12,
+            whim,
+        );
+        tell(to, address, access)
     }
 
     /// Takes the oldest descriptor of the ring, if one waits, and does it: what it names is forgotten, and a

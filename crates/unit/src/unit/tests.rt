@@ -9,7 +9,7 @@ fn frame_of(rt: &impl Abort, number: u64) -> Frame {
     Frame::new(number).expect(rt, "a frame")
 }
 
-fn domain_of(rt: &impl Abort, number: u64) -> DomainId {
+pub(super) fn domain_of(rt: &impl Abort, number: u64) -> DomainId {
     DomainId::new(number).expect(rt, "a domain")
 }
 
@@ -25,7 +25,7 @@ fn pages_of(rt: &impl Abort, domain: u64, first: u64, order: u8, hint: bool) -> 
     }
 }
 
-fn small(rt: &impl Abort, domain: u64, page: u64) -> CachedLeaf {
+pub(super) fn small(rt: &impl Abort, domain: u64, page: u64) -> CachedLeaf {
     assert!(rt; page < 1 << 27);
     let rights = Rights::from_number(3).expect(rt, "rights");
     CachedLeaf::small(
@@ -35,7 +35,7 @@ fn small(rt: &impl Abort, domain: u64, page: u64) -> CachedLeaf {
     )
 }
 
-fn large(rt: &impl Abort, domain: u64, page: u64) -> CachedLeaf {
+pub(super) fn large(rt: &impl Abort, domain: u64, page: u64) -> CachedLeaf {
     assert!(rt; page < 1 << 27);
     let rights = Rights::from_number(1).expect(rt, "rights");
     let frame = frame_of(rt, 0x400);
@@ -47,7 +47,7 @@ fn large(rt: &impl Abort, domain: u64, page: u64) -> CachedLeaf {
     )
 }
 
-fn table(rt: &impl Abort, domain: u64, first: u64, level: u64) -> CachedNonLeaf {
+pub(super) fn table(rt: &impl Abort, domain: u64, first: u64, level: u64) -> CachedNonLeaf {
     assert!(rt; first < 1 << 27 && (level == 1 || level == 2));
     CachedNonLeaf {
         domain: domain_of(rt, domain),
@@ -58,7 +58,7 @@ fn table(rt: &impl Abort, domain: u64, first: u64, level: u64) -> CachedNonLeaf 
     }
 }
 
-fn context(rt: &impl Abort, device: u64, domain: u64) -> CachedContext {
+pub(super) fn context(rt: &impl Abort, device: u64, domain: u64) -> CachedContext {
     CachedContext {
         device: device_of(rt, device),
         domain: domain_of(rt, domain),
@@ -106,90 +106,100 @@ fn done(rt: &impl Abort, unit: &mut Unit, descriptor: Descriptor) -> u32 {
     ring.status()
 }
 
+// The unit remembers leaves of these first pages and lengths, tables of these first pages and levels, and
+// contexts of these devices.
+pub(super) fn assert_remembered(
+    rt: &impl Abort,
+    unit: &Unit,
+    leaves: &[(u64, u64)],
+    tables: &[(u64, u64)],
+    contexts: &[u64],
+) {
+    assert!(rt;
+        unit.leaves
+            .iter()
+            .map(|leaf| (leaf.first, leaf.pages))
+            .eq(leaves.iter().copied())
+    );
+    assert!(rt;
+        unit.non_leaves
+            .iter()
+            .map(|table| (table.first, table.level))
+            .eq(tables.iter().copied())
+    );
+    assert!(rt;
+        unit.contexts
+            .iter()
+            .map(|context| context.device.number())
+            .eq(contexts.iter().copied())
+    );
+}
+
+// What it remembers: first pages and lengths of leaves, first pages and levels of tables, and devices.
+const LEAVES_THERE: [(u64, u64); 5] = [
+    (0x200, 1),
+    (0x3ff, 1),
+    (0x400, 1),
+    (0x600, 512),
+    (0x200, 1),
+];
+
+const TABLES_THERE: [(u64, u64); 4] = [(0x200, 1), (0, 2), (0x400, 1), (0x200, 1)];
+
+const DEVICES_THERE: [u64; 3] = [3, 4, 5];
+
+// A descriptor leaves these leaves and tables of the filled unit, and every context.
+fn assert_left(
+    rt: &impl Abort,
+    descriptor: Descriptor,
+    leaves: &[(u64, u64)],
+    tables: &[(u64, u64)],
+) {
+    let mut unit = filled_unit(rt);
+    let status = done(rt, &mut unit, descriptor);
+    assert_eq!(rt; status, 0);
+    assert_remembered(rt, &unit, leaves, tables, &DEVICES_THERE);
+}
+
 #[test]
-fn what_descriptors_leave(rt: HostRuntime) {
-    let all_pages = [0x200, 0x3ff, 0x400, 0x600, 0x200].as_slice();
-    let all_tables = [0x200, 0, 0x400, 0x200].as_slice();
-    let all_contexts = [3, 4, 5].as_slice();
-    let none = [].as_slice();
-    for (descriptor, pages, tables, contexts) in [
-        (Descriptor::IotlbGlobal, none, none, all_contexts),
+fn what_iotlb_descriptors_leave(rt: HostRuntime) {
+    let domain = Descriptor::IotlbDomain(domain_of(&rt, 1));
+    assert_left(&rt, Descriptor::IotlbGlobal, &[], &[]);
+    assert_left(&rt, domain, &[(0x200, 1)], &[(0x200, 1)]);
+
+    // A block with two of the small leaves, between the others.
+    let kept = [(0x400, 1), (0x600, 512), (0x200, 1)];
+    let block = pages_of(&rt, 1, 0x200, 9, false);
+    assert_left(&rt, block, &kept, &[(0x400, 1), (0x200, 1)]);
+    let hinted = pages_of(&rt, 1, 0x200, 9, true);
+    assert_left(&rt, hinted, &kept, &TABLES_THERE);
+
+    // The half of the large leaf, and all of it.
+    let half = pages_of(&rt, 1, 0x700, 8, false);
+    let met = [(0x200, 1), (0x400, 1), (0x200, 1)];
+    assert_left(&rt, half, &LEAVES_THERE, &met);
+    let whole = pages_of(&rt, 1, 0x600, 9, true);
+    let smaller = [(0x200, 1), (0x3ff, 1), (0x400, 1), (0x200, 1)];
+    assert_left(&rt, whole, &smaller, &TABLES_THERE);
+}
+
+#[test]
+fn what_other_descriptors_leave(rt: HostRuntime) {
+    let domain = domain_of(&rt, 2);
+    let device = device_of(&rt, 4);
+    for (descriptor, status, devices) in [
+        (Descriptor::ContextGlobal, 0, [].as_slice()),
+        (Descriptor::ContextDomain(domain), 0, [3].as_slice()),
         (
-            Descriptor::IotlbDomain(domain_of(&rt, 1)),
-            [0x200].as_slice(),
-            [0x200].as_slice(),
-            all_contexts,
-        ),
-        (
-            pages_of(&rt, 1, 0x200, 9, false),
-            [0x400, 0x600, 0x200].as_slice(),
-            [0x400, 0x200].as_slice(),
-            all_contexts,
-        ),
-        (
-            pages_of(&rt, 1, 0x200, 9, true),
-            [0x400, 0x600, 0x200].as_slice(),
-            all_tables,
-            all_contexts,
-        ),
-        (
-            pages_of(&rt, 1, 0x700, 8, false),
-            all_pages,
-            [0x200, 0x400, 0x200].as_slice(),
-            all_contexts,
-        ),
-        (
-            pages_of(&rt, 1, 0x600, 9, true),
-            [0x200, 0x3ff, 0x400, 0x200].as_slice(),
-            all_tables,
-            all_contexts,
-        ),
-        (Descriptor::ContextGlobal, all_pages, all_tables, none),
-        (
-            Descriptor::ContextDomain(domain_of(&rt, 2)),
-            all_pages,
-            all_tables,
-            [3].as_slice(),
-        ),
-        (
-            Descriptor::ContextDevice {
-                domain: domain_of(&rt, 2),
-                device: device_of(&rt, 4),
-            },
-            all_pages,
-            all_tables,
+            Descriptor::ContextDevice { domain, device },
+            0,
             [3, 5].as_slice(),
         ),
-        (Descriptor::Wait(7), all_pages, all_tables, all_contexts),
+        (Descriptor::Wait(7), 7, DEVICES_THERE.as_slice()),
     ] {
         let mut unit = filled_unit(&rt);
-        let status = done(&rt, &mut unit, descriptor);
-        assert_eq!(rt;
-            status,
-            if descriptor == Descriptor::Wait(7) {
-                7
-            } else {
-                0
-            }
-        );
-        assert!(rt;
-            unit.leaves
-                .iter()
-                .map(|leaf| leaf.first)
-                .eq(pages.iter().copied())
-        );
-        assert!(rt;
-            unit.non_leaves
-                .iter()
-                .map(|t| t.first)
-                .eq(tables.iter().copied())
-        );
-        assert!(rt;
-            unit.contexts
-                .iter()
-                .map(|c| c.device.number())
-                .eq(contexts.iter().copied())
-        );
+        assert_eq!(rt; done(&rt, &mut unit, descriptor), status);
+        assert_remembered(&rt, &unit, &LEAVES_THERE, &TABLES_THERE, devices);
     }
 }
 
@@ -201,19 +211,9 @@ fn what_evictions_leave(rt: HostRuntime) {
     unit.evict(Cache::NonLeaf, 0);
     unit.evict(Cache::Context, 2);
     unit.evict(Cache::Context, 1 << 63);
-    assert!(rt;
-        unit.leaves
-            .iter()
-            .map(|leaf| leaf.first)
-            .eq([0x200, 0x400, 0x600, 0x200])
-    );
-    assert!(rt;
-        unit.non_leaves
-            .iter()
-            .map(|t| t.first)
-            .eq([0, 0x400, 0x200])
-    );
-    assert!(rt; unit.contexts.iter().map(|c| c.device.number()).eq([3, 4]));
+    let leaves = [(0x200, 1), (0x400, 1), (0x600, 512), (0x200, 1)];
+    let tables = [(0, 2), (0x400, 1), (0x200, 1)];
+    assert_remembered(&rt, &unit, &leaves, &tables, &[3, 4]);
 }
 
 #[test]

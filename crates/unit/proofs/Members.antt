@@ -1,0 +1,74 @@
+-- What is in the caches after a step, an eviction and a request, entry by entry.
+use Rattle.std.proofs.Common.{◌≡◌, ℕ, zero, suc, inl, inr, Bool, true, false, cond, not, List, [], ◌∷◌, filter, remove, Option, Some, None, refl, sym, ap, ◌∙◌, cond}
+use Rattle.std.proofs.lemmas.Option.{same_Some}
+use Rattle.dmatypes.specs.World.{IsIn}
+use Rattle.dmatypes.specs.declared.call.Cache.{Cache}
+use Rattle.dmatypes.specs.declared.call.Cache.TheVariants as kinds
+use Rattle.vtdbits.specs.declared.descriptor.Descriptor.{Descriptor}
+use Rattle.tables.specs.Tree.{Found}
+use Rattle.unit.specs.Caches.{Leaf, NonLeaf, Context, Caches, without}
+use Rattle.unit.specs.Filters.{drops_leaf, drops_non_leaf, drops_context, left_by}
+use Rattle.unit.specs.Walking.{met, met_leaf}
+
+-- ---- lists
+
+by_test : {A : Type 0} (p : A → Bool) (y x : A) (ys : List A) (b : Bool) → p x ≡ b → (IsIn y (filter p ys) → IsIn y ys × (p y ≡ true))
+    → IsIn y (cond b (x ∷ filter p ys) (filter p ys)) → IsIn y (x ∷ ys) × (p y ≡ true)
+by_test p y x ys true e later (inl same) = (inl same, ap p same ∙ e)
+by_test p y x ys true e later (inr h) = let k = later h in (inr k.0, k.1)
+by_test p y x ys false e later h = let k = later h in (inr k.0, k.1)
+
+-- what passes a filter was there, and passes its test
+pub in_filter : {A : Type 0} (p : A → Bool) (y : A) (xs : List A) → IsIn y (filter p xs) → IsIn y xs × (p y ≡ true)
+in_filter p y [] h = absurd h
+in_filter p y (x ∷ xs) h = by_test p y x xs (p x) refl (λ k. in_filter p y xs k) h
+
+-- what a list has without the element at a place was there
+pub in_remove : {A : Type 0} (y : A) (xs : List A) (place : ℕ) → IsIn y (remove xs place) → IsIn y xs
+in_remove y [] zero h = h
+in_remove y [] (suc k) h = h
+in_remove y (x ∷ xs) zero h = inr h
+in_remove y (x ∷ xs) (suc k) (inl same) = inl same
+in_remove y (x ∷ xs) (suc k) (inr h) = inr (in_remove y xs k h)
+
+of_not : (b : Bool) → not b ≡ true → b ≡ false
+of_not true e = sym e
+of_not false e = refl
+
+-- ---- descriptors
+
+-- what a descriptor leaves was there, and the descriptor doesn't drop it
+pub left_leaf : (d : Descriptor) (c : Caches) (l : Leaf) → IsIn l (left_by d c).leaves → IsIn l c.leaves × (drops_leaf d l ≡ false)
+left_leaf d c l h = let k = in_filter (λ l. not (drops_leaf d l)) l c.leaves h in (k.0, of_not (drops_leaf d l) k.1)
+
+pub left_non_leaf : (d : Descriptor) (c : Caches) (t : NonLeaf) → IsIn t (left_by d c).non_leaves → IsIn t c.non_leaves × (drops_non_leaf d t ≡ false)
+left_non_leaf d c t h = let k = in_filter (λ t. not (drops_non_leaf d t)) t c.non_leaves h in (k.0, of_not (drops_non_leaf d t) k.1)
+
+pub left_context : (d : Descriptor) (c : Caches) (x : Context) → IsIn x (left_by d c).contexts → IsIn x c.contexts × (drops_context d x ≡ false)
+left_context d c x h = let k = in_filter (λ x. not (drops_context d x)) x c.contexts h in (k.0, of_not (drops_context d x) k.1)
+
+-- ---- evictions
+
+-- what an eviction leaves was there
+pub without_leaf : (kind : Cache) (place : ℕ) (c : Caches) (l : Leaf) → IsIn l (without kind place c).leaves → IsIn l c.leaves
+without_leaf kinds.Leaf place c l h = in_remove l c.leaves place h
+without_leaf kinds.NonLeaf place c l h = h
+without_leaf kinds.Context place c l h = h
+
+pub without_non_leaf : (kind : Cache) (place : ℕ) (c : Caches) (t : NonLeaf) → IsIn t (without kind place c).non_leaves → IsIn t c.non_leaves
+without_non_leaf kinds.Leaf place c t h = h
+without_non_leaf kinds.NonLeaf place c t h = in_remove t c.non_leaves place h
+without_non_leaf kinds.Context place c t h = h
+
+pub without_context : (kind : Cache) (place : ℕ) (c : Caches) (x : Context) → IsIn x (without kind place c).contexts → IsIn x c.contexts
+without_context kinds.Leaf place c x h = h
+without_context kinds.NonLeaf place c x h = h
+without_context kinds.Context place c x h = in_remove x c.contexts place h
+
+-- ---- requests
+
+-- a leaf that a walk met is that of the entry on the page's way
+pub met_is : (domain page : ℕ) (r : Option Found) (l : Leaf) → met domain page r ≡ Some l
+    → (x : Found) × (r ≡ Some x) × (l ≡ met_leaf domain page x)
+met_is domain page None l e = absurd (cc)
+met_is domain page (Some x) l e = (x, refl, sym (same_Some (met_leaf domain page x) l e))

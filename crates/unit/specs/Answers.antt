@@ -1,0 +1,91 @@
+-- What a request may be answered, and what may be remembered of it.
+use Rattle.std.specs.Prelude.{◌≡◌, ◌≢◌, ℕ, ◌≤◌, ◌⊎◌, Bool, IsTrue, List, Option, Some, Result, Ok, Err, slice_get}
+use Rattle.dmatypes.specs.Allows.{fault_of, host_of}
+use Rattle.dmatypes.specs.Page.{IsBeyond, page_of}
+use Rattle.dmatypes.specs.Rights.{Permits, bits_of}
+use Rattle.dmatypes.specs.World.{IsIn, Target}
+use Rattle.dmatypes.specs.declared.call.Access.{Access}
+use Rattle.dmatypes.specs.declared.refusal.Fault.{Fault}
+use Rattle.dmatypes.specs.declared.refusal.Fault.TheVariants as faults
+use Rattle.dmatypes.specs.declared.width.Width.TheVariants.{W39}
+use Rattle.vtdbits.specs.Translation.{target}
+use Rattle.vtdbits.specs.declared.context.ContextEntry.{ContextEntry}
+use Rattle.vtdbits.specs.declared.context.ContextEntry.TheVariants.{Absent, Present}
+use Rattle.tables.specs.Tree.{Memory, leaf_from, states}
+use Rattle.unit.specs.Caches.{Leaf, NonLeaf, Context, Caches}
+use Rattle.unit.specs.Lists.{Gains}
+use Rattle.unit.specs.Walking.{hold, met, stated_by, IsPassed}
+use Rattle.unit.specs.declared.hit.Hit.{Hit}
+
+-- ---- the context
+
+-- the row's context of a device, or with a look a cached one
+abbrev pub IsContextOf : List ContextEntry → List Context → Bool → ℕ → Context → Type 0
+IsContextOf row cached look device x =
+    (x.device ≡ device)
+    × ((slice_get row device ≡ Some (Present x.root W39 x.domain)) ⊎ (IsTrue look × IsIn x cached))
+
+-- there is neither
+abbrev pub HasNoContext : List ContextEntry → List Context → Bool → ℕ → Type 0
+HasNoContext row cached look device =
+    (slice_get row device ≡ Some Absent)
+    × (IsTrue look → (x : Context) → IsIn x cached → x.device ≢ device)
+
+-- ---- the translation
+
+-- where a walk for a page of a domain begins: at the root, or with a look at a cached table whose span holds
+-- the page
+abbrev pub IsStart : List NonLeaf → Bool → Context → ℕ → ℕ → ℕ → Type 0
+IsStart cached look x page level table =
+    ((level ≡ 3) × (table ≡ x.root))
+    ⊎ (IsTrue look × ((i : NonLeaf) × IsIn i cached × (i.domain ≡ x.domain) × IsTrue (hold i.first i.pages page)
+    × (level ≡ i.level) × (table ≡ i.frame)))
+
+-- no cached table of the domain whose span holds the page is of a lower level
+abbrev pub IsLowest : List NonLeaf → ℕ → ℕ → ℕ → Type 0
+IsLowest cached domain page level =
+    (i : NonLeaf) → IsIn i cached → i.domain ≡ domain → IsTrue (hold i.first i.pages page) → 1 ≤ i.level → level ≤ i.level
+
+-- a cached leaf of the domain states this of the page
+abbrev pub IsStatedByCached : List Leaf → Bool → Context → ℕ → Option Target → Type 0
+IsStatedByCached cached look x page t =
+    IsTrue look × ((l : Leaf) × IsIn l cached × (l.domain ≡ x.domain) × IsTrue (hold l.first l.pages page)
+    × (t ≡ Some (stated_by page l)))
+
+-- a walk that begins there gives the translation of a page; the leaf that it met and the tables that it passed
+-- may be remembered
+pub record IsWalked (m : Memory) (x : Context) (look fill : Bool) (page : ℕ) (leaves leaves' : List Leaf) (tables tables' : List NonLeaf) (t : Option Target) (level table : ℕ) : Type 0 where
+  pub start : IsStart tables look x page level table
+  pub meaning : t ≡ states m level table page
+  pub leaves_gain : Gains fill (λ l. met x.domain page (leaf_from m level table page) ≡ Some l) leaves leaves'
+  pub tables_gain : Gains fill (IsPassed m level table x.domain page) tables tables'
+
+-- the translation of a page is read off a cached leaf, which adds nothing, or off a walk
+abbrev pub IsRead : Memory → Context → Bool → Bool → ℕ → List Leaf → List Leaf → List NonLeaf → List NonLeaf → Option Target → Type 0
+IsRead m x look fill page leaves leaves' tables tables' t =
+    (IsStatedByCached leaves look x page t × (leaves' ≡ leaves) × (tables' ≡ tables))
+    ⊎ ((level : ℕ) × (table : ℕ) × IsWalked m x look fill page leaves leaves' tables tables' t level table)
+
+-- ---- the answer
+
+-- the host address where there is a translation with the right, else the fault
+abbrev pub Tells : Option Target → ℕ → Access → Result Hit Fault → Type 0
+Tells t address access (Ok hit) =
+    (y : Target) × (t ≡ Some y) × Permits y.rights access
+    × (hit.host ≡ host_of y address) × (y ≡ target hit.frame (bits_of hit.rights))
+Tells t address access (Err fault) =
+    (fault ≡ fault_of access) × ((y : Target) → t ≡ Some y → Permits y.rights access → ⊥)
+
+-- with a context: beyond the width there is only the one fault
+abbrev pub AnswersWith : Memory → Context → Bool → Bool → ℕ → Access → Caches → Caches → Result Hit Fault → Type 0
+AnswersWith m x look fill address access old new result =
+    (IsBeyond address × (result ≡ Err faults.BeyondWidth) × (new.leaves ≡ old.leaves) × (new.non_leaves ≡ old.non_leaves))
+    ⊎ ((IsBeyond address → ⊥)
+    × ((t : Option Target) × IsRead m x look fill (page_of address) old.leaves new.leaves old.non_leaves new.non_leaves t × Tells t address access result))
+
+-- without one there is only the one fault, and nothing is remembered
+abbrev pub Answers : Memory → List ContextEntry → Bool → Bool → ℕ → ℕ → Access → Caches → Caches → Result Hit Fault → Type 0
+Answers m row look fill device address access old new result =
+    (HasNoContext row old.contexts look device × (result ≡ Err faults.NotAttached) × (new ≡ old))
+    ⊎ ((x : Context) × IsContextOf row old.contexts look device x × Gains fill (λ y. y ≡ x) old.contexts new.contexts
+    × AnswersWith m x look fill address access old new result)

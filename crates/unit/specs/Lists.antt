@@ -1,0 +1,15 @@
+-- Lists of bounded length that remember.
+use Rattle.std.specs.Prelude.{ℕ, ◌⊎◌, ◌∷◌, [], ◌++◌, Bool, IsTrue, List, length, drop, nat_lt, if◌then◌else◌}
+use Rattle.std.specs.List.{list_any}
+use Rattle.dmatypes.specs.World.{IsIn}
+
+-- a list of at most so many with one more: an entry that is there already isn't added, a new one goes last,
+-- and a full list loses its first entry first
+unfoldable pub with_entry : {A : Type 0} → (A → A → Bool) → ℕ → A → List A → List A
+with_entry same most x xs =
+    if list_any (λ y. same y x) xs then xs
+    else (if nat_lt (length xs) most then xs ++ x ∷ [] else drop 1 xs ++ x ∷ [])
+
+-- what a list gains is of this kind, and it gains only where it is to be filled
+abbrev pub Gains : {A : Type 0} → Bool → (A → Type 0) → List A → List A → Type 0
+Gains {A} fill Used old new = (y : A) → IsIn y new → IsIn y old ⊎ (IsTrue fill × Used y)

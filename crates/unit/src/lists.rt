@@ -1,0 +1,26 @@
+//! Lists of bounded length that remember.
+
+ghost use Rattle.std.specs.Prelude.{◌≡◌, ◌<◌, if◌then◌else◌};
+ghost use Rattle.unit.specs.Lists.{with_entry};
+
+use arrayvec::ArrayVec;
+
+/// Remembers an entry, where `fill` says so: if it isn't there already it goes last, and a full list loses
+/// its first one.
+#[tactic(auto, unfolding(crate::specs::Lists::with_entry))]
+pub(crate) fn remember<T: Copy + Default + PartialEq, const N: usize>(
+    list: &mut ArrayVec<T, N>,
+    entry: T,
+    fill: bool,
+)
+    requires { 0 < N }
+    ensures { list.new.items ≡ (if fill then with_entry T.eq N entry list.old.items else list.old.items) }
+{
+    if !fill || list.contains(&entry) {
+        return;
+    }
+    if list.is_full() {
+        list.remove(0);
+    }
+    list.push(entry);
+}

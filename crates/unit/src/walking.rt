@@ -1,0 +1,81 @@
+//! Walks through the tables of a domain.
+
+ghost use Rattle.std.specs.Prelude.{◌≡◌, ◌-◌, ◌^◌, ◌<◌, ◌≤◌, IsTrue};
+ghost use Rattle.dmatypes.specs.World.{IsIn};
+ghost use Rattle.vtdbits.specs.Entry.{MayStandAt};
+ghost use Rattle.tables.specs.Tree.{span, index_in, leaf_from};
+ghost use Rattle.tables.specs.Pool.{memory};
+ghost use Rattle.unit.specs.Caches.{NonLeaf};
+ghost use Rattle.unit.specs.Walking.{met, IsPassed};
+ghost use Rattle.unit.specs.Lists.{Gains};
+
+use crate::entries::{CachedLeaf, CachedNonLeaf};
+use crate::lists::remember;
+use arrayvec::ArrayVec;
+use dmatypes::Frame;
+use tables::Pool;
+use vtdbits::{DomainId, SsEntry};
+
+/// How many tables are remembered.
+pub(crate) const NON_LEAVES: usize = 32;
+
+/// What a walk is for: a page of a domain, and whether what it passes is remembered.
+#[derive(Clone, Copy)]
+pub(crate) struct Way {
+    pub(crate) domain: DomainId,
+    pub(crate) page: u64,
+    pub(crate) fill: bool,
+}
+
+/// The leaf on the way from a table of a level, if there is one.
+pub(crate) fn walk(
+    pool: &Pool,
+    passed: &mut ArrayVec<CachedNonLeaf, NON_LEAVES>,
+    way: Way,
+    level: u64,
+    table: Frame,
+) -> Option<CachedLeaf>
+    requires page { way.page < 2 ^ 27 }
+    requires low { 1 ≤ level }
+    requires high { level ≤ 3 }
+    ensures leaf { result ≡ met way.domain way.page (leaf_from (memory pool.now.words) level table way.page) }
+    ensures passed { Gains way.fill (IsPassed (memory pool.now.words) level table way.domain way.page) passed.old.items passed.new.items }
+{
+    match entry(pool, level, table, way.page) {
+        SsEntry::Absent => None,
+        SsEntry::Table(below) => {
+            let table = CachedNonLeaf::new(way.domain, way.page, level - 1, below);
+            remember(passed, table, way.fill);
+            walk(pool, passed, way, level - 1, below)
+        }
+        SsEntry::Leaf(leaf) => Some(CachedLeaf::small(way.domain, way.page, leaf)),
+        SsEntry::LargeLeaf(leaf) => Some(CachedLeaf::large(way.domain, way.page, leaf)),
+    }
+}
+
+// The entry of a page in a table of a level: absent where the word spells none, and where the pool has no
+// such table.
+fn entry(pool: &Pool, level: u64, table: Frame, page: u64) -> SsEntry
+    requires low { 1 ≤ level }
+    requires high { level ≤ 3 }
+    ensures is { memory pool.now.words level table (index_in (level - 1) page) ≡ result }
+    ensures stands { MayStandAt level result }
+{
+    let index = page / span_of(level - 1) % 512;
+    SsEntry::decode(level, pool.read(table, index)).unwrap_or(SsEntry::Absent)
+}
+
+/// How many pages a table of a level covers.
+#[tactic(auto, unfolding(tables::specs::Tree::span))]
+pub(crate) fn span_of(level: u64) -> u64
+    requires { level ≤ 2 }
+    ensures exact { result ≡ span level }
+    ensures some { 0 < result }
+    ensures few { result ≤ 2 ^ 18 }
+{
+    match level {
+        0 => 1,
+        1 => 512,
+        _ => 1 << 18,
+    }
+}
