@@ -1,10 +1,11 @@
 pub mod Push
 pub mod Lists
+pub mod Frames
 pub mod Places
+pub mod Pieces
 pub mod Refusing
 pub mod Making
 pub mod Attaching
-pub mod RunLists
 pub mod Mapping
 pub mod Requests
-pub mod HomeKeeps
+pub mod Beginning

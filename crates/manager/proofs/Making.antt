@@ -1,49 +1,99 @@
 -- A domain is made.
-use Rattle.std.proofs.Common.{◌≡◌, ℕ, ◌+◌, ◌-◌, ◌<◌, ◌≤◌, inl, length, Option, Some, None, refl, ap, arith, slice_set, IsSome}
+use Rattle.std.proofs.Common.{◌≡◌, ℕ, ◌+◌, ◌-◌, ◌^◌, ◌<◌, ◌≤◌, inl, inr, List, length, Option, Some, None, refl, ap, ◌∙◌, arith, slice_set, IsSome}
 use Rattle.dmatypes.specs.declared.call.Call.TheVariants as calls
 use Rattle.dmatypes.specs.declared.call.Mode.{Mode}
 use Rattle.dmatypes.specs.declared.reply.Reply.TheVariants.{Made, Refused}
 use Rattle.dmatypes.specs.declared.refusal.Refusal.TheVariants as refusals
-use Rattle.dmatypes.specs.World.{Domain, empty_domain}
+use Rattle.dmatypes.specs.World.{World, Domain, empty_domain, put}
 use Rattle.dmatypes.specs.Conditions.{Stands}
 use Rattle.dmatypes.specs.Step.{IsStep, Answers, next}
-use Rattle.manager.specs.Homes.{Place, place_of, vacant}
-use Rattle.manager.specs.Machine.{Machine, Exact, Becomes}
-use Rattle.manager.specs.Fits.{Both}
+use Rattle.iova.specs.Space.{AllFree, IsSpace, new_space}
+use Rattle.tables.specs.declared.trees.Tree.{Tree}
+use Rattle.tables.specs.Pool.{Stored, memory, occurs, IsPool}
+use Rattle.tables.specs.Tree.{here, leaf_from, stated, uses}
+use Rattle.manager.specs.Homes.{Home, Place, home_of}
+use Rattle.manager.specs.Machine.{Machine, Exact, Becomes, Roots}
+use Rattle.manager.specs.Quarantine.{Both, Quarantine, owned}
 use Rattle.manager.specs.Steps.{Does}
+use Rattle.manager.proofs.Frames.{frames_move}
 use Rattle.manager.proofs.Lists.{is_none, not_some}
-use Rattle.manager.proofs.Places.{place_set, both_absent, fits_put}
+use Rattle.manager.proofs.Pieces.{pieces_new}
+use Rattle.manager.proofs.Places.{home_set, both_absent, quarantine_put}
 use Rattle.manager.proofs.Refusing.{counted, refuses}
 
 -- where a place is used, the world has the domain
-used_there : (o : Option Place) (p : Option Domain) → Both o p → IsSome o → IsSome p
-used_there None p both h = absurd (not_some {A = Place} None refl h)
-used_there (Some h) None both s = absurd both
-used_there (Some h) (Some v) both s = refl
+used_there : (words : List ℕ) (o : Option Home) (p : Option Domain) → Both words o p → IsSome o → IsSome p
+used_there words None p both h = absurd (not_some {A = Home} None refl h)
+used_there words (Some h) None both s = absurd both
+used_there words (Some h) (Some v) both s = refl
 
-pub no_id : (m t : Machine) (mode : Mode) → t ≡ counted m → length m.homes ≡ 15 → ((d : ℕ) → 1 ≤ d → d ≤ length m.homes → IsSome (place_of m.homes d))
+pub no_id : (m t : Machine) (mode : Mode) → t ≡ counted m → length m.homes ≡ 15 → ((d : ℕ) → 1 ≤ d → d ≤ length m.homes → IsSome (home_of m.homes d))
     → Does m (calls.Domain mode) (Refused refusals.TooManyDomains) t
 unfolding Exact IsStep Stands
 no_id m t mode is many all = refuses m t (calls.Domain mode) refusals.TooManyDomains is tt
-    (λ w fits. inl (inl ((λ d low high. used_there (place_of m.homes d) (w.domains d) (fits.domains d) (all d low (omega (arith, high, many)))), refl)))
+    (λ w q. inl (inl ((λ d low high. used_there m.pool.words (home_of m.homes d) (w.domains d) (q.domains d) (all d low (omega (arith, high, many)))), refl)))
 
-pub makes : (m t : Machine) (mode : Mode) (i : ℕ) → length m.homes ≡ 15 → i < length m.homes → place_of m.homes (i + 1) ≡ None
-    → t ≡ record { frames = m.frames; homes = slice_set m.homes i (record vacant { mode = Some mode }); devices = m.devices; calls = m.calls + 1 }
+unused : (m : Machine) (w : World) (i : ℕ) → Quarantine m w → length m.homes ≡ 15 → i < length m.homes → home_of m.homes (i + 1) ≡ None → ((d : ℕ) → 1 ≤ d → d ≤ 15 → IsSome (w.domains d)) → ⊥
+unused m w i q many less free all =
+    let absent : w.domains (i + 1) ≡ None = both_absent m.pool.words (home_of m.homes (i + 1)) (w.domains (i + 1)) (q.domains (i + 1)) free in
+    not_some (w.domains (i + 1)) absent (all (i + 1) (omega arith) (omega (arith, less, many)))
+
+pub no_root : (m t : Machine) (mode : Mode) (i : ℕ) → t ≡ counted m → length m.homes ≡ 15 → i < length m.homes → home_of m.homes (i + 1) ≡ None → length m.pool.free ≡ 0
+    → Does m (calls.Domain mode) (Refused refusals.NoFrames) t
+unfolding Exact IsStep Stands
+no_root m t mode i is many less free empty = refuses m t (calls.Domain mode) refusals.NoFrames is empty
+    (λ w q. inr ((λ all. unused m w i q many less free all, tt), tt))
+
+-- an empty tree in one free frame
+pub record IsEmptyTree (old new : Stored) (root : ℕ) : Type 0 where
+  pub roots : Roots old new root
+  pub empty : (p : ℕ) → leaf_from (memory new.words) 3 root p ≡ None
+  pub frames : (f : ℕ) → uses (memory new.words) 3 root f ≡ here root f
+  pub pool : IsPool new
+
+abbrev pub place_new : Mode → Tree → Place
+place_new mode tree = record { space = new_space (2 ^ 27 - 1); tenant = Some (record { mode = mode; tree = tree }) }
+
+abbrev pub home_new : Mode → Tree → Home
+home_new mode tree = record { mode = mode; space = new_space (2 ^ 27 - 1); root = tree.root }
+
+-- the state with the domain is the state of the world with it
+with_new : (m t : Machine) (w : World) (mode : Mode) (i : ℕ) (tree : Tree) → Quarantine m w → length m.homes ≡ 15 → i < length m.homes → home_of m.homes (i + 1) ≡ None → IsEmptyTree m.pool t.pool tree.root
+    → IsSpace (new_space (2 ^ 27 - 1)) → AllFree (new_space (2 ^ 27 - 1)) → t.homes ≡ slice_set m.homes i (place_new mode tree) → t.devices ≡ m.devices
+    → Quarantine t (record w { domains = put (i + 1) (Some (empty_domain mode)) w.domains })
+with_new m t w mode i tree q many less free grown is_space all homes devices =
+    quarantine_put m t w (i + 1) (home_new mode tree) (empty_domain mode) q devices grown.roots.frames homes_are
+    (frames_move m.pool t.pool (home_of m.homes) (home_of t.homes) (i + 1) (Some (home_new mode tree)) q.frames (omega (arith, less, many)) homes_are grown.roots.frames moves
+    (λ e f ne. ap (λ ws. owned (memory ws) (home_of m.homes e) f) grown.roots.words) grown.pool.zeroed)
+    (record {
+      ids = record { mode = refl; retired = refl; begun = refl };
+      tree = λ p low. ap (stated p) (grown.empty p);
+      pieces = pieces_new (new_space (2 ^ 27 - 1)) mode is_space all refl;
+    })
+    (λ e k ne there p. ap (λ ws. leaf_from (memory ws) 3 k.root p) grown.roots.words)
+  where
+    homes_are : (e : ℕ) → home_of t.homes e ≡ put (i + 1) (Some (home_new mode tree)) (home_of m.homes) e
+    homes_are e = ap (λ hs. home_of hs e) homes ∙ home_set m.homes i (place_new mode tree) less e
+
+    moves : (f : ℕ) → owned (memory t.pool.words) (Some (home_new mode tree)) f + occurs f t.pool.free ≡ owned (memory m.pool.words) (home_of m.homes (i + 1)) f + occurs f m.pool.free
+    moves f = let none : owned (memory m.pool.words) (home_of m.homes (i + 1)) f ≡ 0 = ap (λ (o : Option Home). owned (memory m.pool.words) o f) free in omega (arith, none, grown.frames f, grown.roots.free f)
+
+pub makes : (m t : Machine) (mode : Mode) (i : ℕ) (tree : Tree) → length m.homes ≡ 15 → i < length m.homes → home_of m.homes (i + 1) ≡ None → IsEmptyTree m.pool t.pool tree.root
+    → IsSpace (new_space (2 ^ 27 - 1)) → AllFree (new_space (2 ^ 27 - 1))
+    → t ≡ record { pool = t.pool; homes = slice_set m.homes i (place_new mode tree); devices = m.devices; calls = m.calls + 1 }
     → Does m (calls.Domain mode) (Made (i + 1)) t
 unfolding Exact Becomes IsStep Stands Answers next
-makes m t mode i many less free is =
-    let new : Place = record vacant { mode = Some mode } in
+makes m t mode i tree many less free grown is_space all is =
     record {
-      steps = λ w fits.
-          let absent : w.domains (i + 1) ≡ None = both_absent (place_of m.homes (i + 1)) (w.domains (i + 1)) (fits.domains (i + 1)) free in (
+      steps = λ w q.
+          let absent : w.domains (i + 1) ≡ None = both_absent m.pool.words (home_of m.homes (i + 1)) (w.domains (i + 1)) (q.domains (i + 1)) free in (
             (
-              ((λ all. not_some (w.domains (i + 1)) absent (all (i + 1) (omega arith) (omega (arith, less, many)))), tt),
+              ((λ all. unused m w i q many less free all), tt),
               (i + 1, (omega arith, omega (arith, less, many), is_none (w.domains (i + 1)) absent), refl),
             ),
-            rw is (fits_put m w (slice_set m.homes i new) (i + 1) (m.calls + 1) new (empty_domain mode) fits (place_set m.homes i new less refl)
-                (record { mode = refl; live = λ p. refl; retired = refl; begun = refl })),
+            with_new m t w mode i tree q many less free grown is_space all (ap (λ (x : Machine). x.homes) is) (ap (λ (x : Machine). x.devices) is),
           );
-      exact = tt;
-      becomes = let place : i + 1 - 1 ≡ i = omega arith in rw place is;
+      exact = omega (arith, grown.roots.count);
+      becomes = let place : i + 1 - 1 ≡ i = omega arith in (tree, grown.roots, rw place is);
       calls = ap (λ (x : Machine). x.calls) is;
     }

@@ -16,11 +16,11 @@ Goes-push m (x ∷ es) s e t goes does = (goes.0, (goes.1.0, Goes-push goes.0 es
 pub IsKept-push : (frames room : ℕ) (a : Account) (e : Event) (t : Machine) (now : List Event) → now ≡ a.history ++ e ∷ [] → IsKept frames room a → length a.history < room → Does a.state e.call e.reply t
     → IsKept frames room (record { history = now; state = t })
 IsKept-push frames room a e t now is kept less does =
-    let both = does.steps (after frames a.history) kept.fits in
+    let both = does.steps (after frames a.history) kept.quarantine in
     let more : length now ≡ length a.history + 1 = ap length is ∙ length-append a.history (e ∷ []) in
     record {
       legal = rw is (IsLegalFrom-push (empty frames) a.history e kept.legal both.0);
-      fits = rw is (rw (after_from-push (empty frames) a.history e) both.1);
+      quarantine = rw is (rw (after_from-push (empty frames) a.history e) both.1);
       goes = let g = kept.goes in (g.0, (g.1.0, rw is (Goes-push g.0 a.history a.state e t g.1.1 does)));
       within = omega (arith, more);
       calls = omega (arith, more, kept.calls, does.calls);

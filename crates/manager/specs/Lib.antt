@@ -1,8 +1,7 @@
-pub mod Runs
 pub mod Homes
 pub mod Judged
 pub mod Placing
 pub mod Machine
-pub mod Fits
+pub mod Quarantine
 pub mod Steps
 pub mod Kept

@@ -1,5 +1,5 @@
 -- What contracts see of the state.
-use Rattle.std.specs.Prelude.{◌≡◌, ℕ, ◌+◌, ◌-◌, ◌/◌, List, replicate, IsSomeAnd, Option, None, Some, slice_get, slice_set, Result, Ok, Err}
+use Rattle.std.specs.Prelude.{◌≡◌, ℕ, ◌+◌, ◌-◌, ◌^◌, ◌/◌, ◌<◌, ◌≤◌, List, replicate, IsSomeAnd, Option, None, Some, length, slice_get, slice_set, Result, Ok, Err}
 use Rattle.std.specs.Option.{option_flatten}
 use Rattle.dmatypes.specs.declared.call.Call.{Call}
 use Rattle.dmatypes.specs.declared.call.Call.TheVariants as calls
@@ -8,14 +8,17 @@ use Rattle.dmatypes.specs.declared.refusal.Refusal.{Refusal}
 use Rattle.dmatypes.specs.declared.refusal.Refusal.TheVariants as refusals
 use Rattle.dmatypes.specs.declared.reply.Reply.{Reply}
 use Rattle.dmatypes.specs.declared.reply.Reply.TheVariants.{Made, Done, Mapped, Host, Faulted, Refused}
-use Rattle.iova.specs.Changes.{Takes}
-use Rattle.manager.specs.Homes.{Place, place_of, vacant}
-use Rattle.manager.specs.Placing.{IsCrowded, IsTaken}
+use Rattle.iova.specs.Space.{AddressSpace, new_space}
+use Rattle.tables.specs.declared.trees.Tree.{Tree}
+use Rattle.tables.specs.Pool.{Stored, occurs, IsZeroed}
+use Rattle.tables.specs.Tree.{here}
+use Rattle.manager.specs.Homes.{Home, Place, home_of, vacant}
+use Rattle.manager.specs.Placing.{IsCrowded, IsShort, IsTaken, Places, frames_taken}
 
--- the number of table frames, the places of domains 1 to 15, the domain of each attached device, and how
--- many calls were made
+-- the table frames, the places of domains 1 to 15, the domain of each attached device, and how many calls were
+-- made
 pub record Machine : Type 0 where
-  pub frames : ℕ
+  pub pool : Stored
   pub homes : List Place
   pub devices : List (Option ℕ)
   pub calls : ℕ
@@ -24,32 +27,53 @@ pub record Machine : Type 0 where
 abbrev pub device_at : List (Option ℕ) → ℕ → Option ℕ
 device_at devices v = option_flatten (slice_get devices v)
 
--- no domain, no device, no call
-abbrev pub IsNew : ℕ → Machine → Type 0
-IsNew frames m = m ≡ record { frames = frames; homes = replicate 15 vacant; devices = replicate 16 None; calls = 0 }
+-- all table frames are free and zeroed; there is no domain, no device, no call
+pub record IsNew (frames : ℕ) (m : Machine) : Type 0 where
+  pub frames_are : m.pool.frames ≡ frames
+  pub free : (f : ℕ) → f < frames → occurs f m.pool.free ≡ 1
+  pub past : (f : ℕ) → frames ≤ f → occurs f m.pool.free ≡ 0
+  pub count : length m.pool.free ≡ frames
+  pub zeroed : (f : ℕ) → f < frames → IsZeroed m.pool.words f
+  pub homes_are : m.homes ≡ replicate 15 vacant
+  pub devices_are : m.devices ≡ replicate 16 None
+  pub calls_are : m.calls ≡ 0
 
--- what the model leaves open: table frames never lack, and a map, which takes the lowest start, is refused
--- for its pieces exactly where the range there cuts a piece and there are more than 1,022
+-- what the model leaves open: a domain is refused for its root exactly where no frame is free; a map, which takes
+-- the lowest start, is refused for its pieces exactly where the range there cuts a piece and there are more than
+-- 1,022, and else for its frames exactly where more tables are lacking than frames are free
 unfoldable pub Exact : Machine → Call → Reply → Type 0
+Exact m (calls.Domain mode) (Made d) = 0 < length m.pool.free
+Exact m (calls.Domain mode) (Refused refusals.NoFrames) = length m.pool.free ≡ 0
 Exact m (calls.Map domain frame pages order rights) (Mapped address) =
-    IsSomeAnd (place_of m.homes domain) (λ h. IsTaken h.space.pieces pages order (address / 4096))
+    IsSomeAnd (home_of m.homes domain) (λ h. IsTaken h.space.pieces pages order (address / 4096)
+    × (frames_taken m.pool h.root frame pages (address / 4096) ≤ length m.pool.free))
 Exact m (calls.Map domain frame pages order rights) (Refused refusals.TooManyPieces) =
-    IsSomeAnd (place_of m.homes domain) (λ h. IsCrowded h.space.pieces pages order)
+    IsSomeAnd (home_of m.homes domain) (λ h. IsCrowded h.space.pieces pages order)
+Exact m (calls.Map domain frame pages order rights) (Refused refusals.NoFrames) =
+    IsSomeAnd (home_of m.homes domain) (λ h. IsShort m.pool h.space h.root frame pages order)
 Exact m call (Refused refusals.NoFrames) = ⊥
 Exact m call reply = Unit {0}
 
--- what becomes of the state: a new domain has a whole space at its place, an attached device its domain; a map
--- changes its domain's place alone, whose space becomes the one with the range taken; nothing else changes,
--- but for the count of calls
+-- a free frame became the root of a tree that maps no page
+pub record Roots (pool pool' : Stored) (root : ℕ) : Type 0 where
+  pub free : (f : ℕ) → occurs f pool'.free + here root f ≡ occurs f pool.free
+  pub count : length pool'.free + 1 ≡ length pool.free
+  pub words : pool'.words ≡ pool.words
+  pub frames : pool'.frames ≡ pool.frames
+
+-- what becomes of the state: a new domain has a whole space and an empty tree at its place, an attached device its
+-- domain; a map changes its domain and the table frames alone, as it takes its range and maps it; nothing else
+-- changes, but for the count of calls
 unfoldable pub Becomes : Machine → Call → Reply → Machine → Type 0
 Becomes m (calls.Domain mode) (Made d) t =
-    t ≡ record m { homes = slice_set m.homes (d - 1) (record vacant { mode = Some mode }); calls = m.calls + 1 }
+    (tree : Tree) × Roots m.pool t.pool tree.root
+    × (t ≡ record { pool = t.pool; homes = slice_set m.homes (d - 1) (record { space = new_space (2 ^ 27 - 1); tenant = Some (record { mode = mode; tree = tree }) }); devices = m.devices; calls = m.calls + 1 })
 Becomes m (calls.Attach device domain) Done t =
     t ≡ record m { devices = slice_set m.devices device (Some domain); calls = m.calls + 1 }
 Becomes m (calls.Map domain frame pages order rights) (Mapped address) t =
-    (old new : Place) × (place_of m.homes domain ≡ Some old)
-    × Takes old.space new.space (record { first = address / 4096; pages = pages })
-    × (t ≡ record m { homes = slice_set m.homes (domain - 1) new; calls = m.calls + 1 })
+    (h : Home) × (old : Place) × (space : AddressSpace) × (home_of m.homes domain ≡ Some h) × (slice_get m.homes (domain - 1) ≡ Some old)
+    × Places m.pool h.space h.root frame pages order rights (address / 4096) t.pool space
+    × (t ≡ record { pool = t.pool; homes = slice_set m.homes (domain - 1) (record { space = space; tenant = old.tenant }); devices = m.devices; calls = m.calls + 1 })
 Becomes m call reply t = t ≡ record m { calls = m.calls + 1 }
 
 -- ---- the methods' answers, as replies

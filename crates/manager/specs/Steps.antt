@@ -6,12 +6,12 @@ use Rattle.dmatypes.specs.declared.reply.Event.{Event}
 use Rattle.dmatypes.specs.World.{World}
 use Rattle.dmatypes.specs.Step.{IsStep, next}
 use Rattle.manager.specs.Machine.{Machine, IsNew, Exact, Becomes}
-use Rattle.manager.specs.Fits.{Fits}
+use Rattle.manager.specs.Quarantine.{Quarantine}
 
--- for every world that the state fits, call and reply are a step from it, and the next state fits the
+-- for every world that the state is one of, call and reply are a step from it, and the next state is one of the
 -- world after them
 abbrev pub Steps : Machine → Call → Reply → Machine → Type 0
-Steps m call reply t = (w : World) → Fits m w → IsStep w call reply × Fits t (next w call reply)
+Steps m call reply t = (w : World) → Quarantine m w → IsStep w call reply × Quarantine t (next w call reply)
 
 -- all that a method of the state promises: a step, the exact conditions that the model leaves open, what
 -- becomes of the state, and that one call more is counted

@@ -7,7 +7,6 @@ mod home;
 mod manager;
 mod owner;
 mod request;
-mod runs;
 mod share;
 mod state;
 mod wanted;

@@ -1,11 +1,14 @@
 //! The sequential manager, one method a call.
 
-ghost use Rattle.std.specs.Prelude.{◌≡◌, ◌+◌, ◌<◌, ◌≤◌, ◌^◌, ◌==◌, ℕ, IfOk, IfSome, IfNone, length, slice_get, replicate, Some, None, IsSome, IsTrue, ◌↔◌};
+ghost use Rattle.std.specs.Prelude.{◌≡◌, ◌+◌, ◌<◌, ◌≤◌, ◌^◌, ◌==◌, ℕ, IfOk, IfSome, IfNone, IsSomeAnd, length, slice_get, replicate, Some, None, IsSome, IsTrue, ◌↔◌};
 ghost use Rattle.dmatypes.specs.Page.{IsInWindow};
+ghost use Rattle.dmatypes.specs.World.{empty};
 ghost use Rattle.std.specs.Option.{option_and_then};
 ghost use Rattle.dmatypes.specs.declared.call.Call.TheVariants as calls;
-ghost use Rattle.manager.specs.Homes.{Place, Reaches, place_of, vacant};
+ghost use Rattle.tables.specs.Pool.{IsTree};
+ghost use Rattle.manager.specs.Homes.{Reaches, home_of, home_in, vacant};
 ghost use Rattle.manager.specs.Machine.{Machine, IsNew, device_at, done_reply, made_reply, mapped_reply, request_reply};
+ghost use Rattle.manager.specs.Quarantine.{Quarantine};
 ghost use Rattle.manager.specs.Steps.{Does};
 
 use crate::home::Home;
@@ -13,11 +16,14 @@ use crate::request::judge;
 use dmatypes::{Access, Call, Fault, Mode, Refusal, Reply, Whim};
 use std::alloc::{AllocError, Global};
 use std::marker::Model;
+use tables::{NoFrames, Pool, Tree};
 
-/// Domains, attached devices, and the number of calls made.
+/// Table frames, domains, attached devices, and the number of calls made. Its type keeps that it is a state
+/// of some world.
 #[derive(Drop)]
 pub(crate) struct State {
     frames: u64,
+    pool: Pool,
     homes: Vec<Home>,
     devices: [Option<u64>; 16],
     calls: u64,
@@ -26,21 +32,26 @@ pub(crate) struct State {
 impl Model for State {
     ghost use Rattle.std.specs.Prelude.{◌≡◌, vec_len};
     ghost use Rattle.manager.specs.Machine.{Machine};
+    ghost use Rattle.manager.specs.Quarantine.{IsOfSomeWorld};
 
     ghost Value = { Machine };
 
-    ghost view = { λ s. record { frames = s.frames; homes = s.homes.items; devices = s.devices; calls = s.calls } };
+    ghost view = { λ s. record { pool = s.pool; homes = s.homes.items; devices = s.devices; calls = s.calls } };
 
-    ghost invariant = { λ s. vec_len s.homes ≡ 15 };
+    ghost invariant = { λ s. IsOfSomeWorld (record { pool = s.pool; homes = s.homes.items; devices = s.devices; calls = s.calls }) × (vec_len s.homes ≡ 15) × (s.frames ≡ s.pool.frames) };
 }
 
 impl State {
-    /// A state with no domain and no attached device.
+    /// A state with no domain and no attached device, with so many table frames.
     pub(crate) fn new(alloc: Global, frames: u64) -> Result<State, AllocError>
-        ensures { IfOk result (IsNew frames) }
+        requires some { 16 ≤ frames }
+        requires few { frames ≤ 4096 }
+        ensures new { IfOk result (IsNew frames) }
+        ensures empty { IfOk result (λ state. Quarantine state (empty frames)) }
     {
         Ok(State {
             frames,
+            pool: Pool::new(alloc, frames)?,
             homes: vacant_homes(alloc)?,
             devices: [None; 16],
             calls: 0,
@@ -56,7 +67,11 @@ impl State {
         let Some(index) = first_vacant(self.homes.as_slice()) else {
             return Err(Refusal::TooManyDomains);
         };
-        self.homes[index].open(mode);
+        let tree = match Tree::new(&mut self.pool) {
+            Ok(tree) => tree,
+            Err(NoFrames) => return Err(Refusal::NoFrames),
+        };
+        self.homes[index].open(mode, tree);
         Ok(index as u64 + 1)
     }
 
@@ -99,7 +114,7 @@ impl State {
             Ok(wanted) => wanted,
             Err(refusal) => return Err(refusal),
         };
-        let first = match self.homes[index].place(wanted) {
+        let first = match self.homes[index].map(&mut self.pool, wanted) {
             Ok(first) => first,
             Err(refusal) => return Err(refusal),
         };
@@ -125,6 +140,7 @@ impl State {
             return Err(Refusal::Window);
         }
         Ok(reach(
+            &self.pool,
             self.homes.as_slice(),
             self.devices[device as usize],
             address,
@@ -207,16 +223,16 @@ fn vacant_homes(alloc: Global) -> Result<Vec<Home>, AllocError>
 
 // The index of the first place with no domain.
 fn first_vacant(homes: &[Home]) -> Option<usize>
-    ensures vacant { IfSome result (λ i. (i < length homes.now) × (place_of homes.now (i + 1) ≡ None)) }
-    ensures none { IfNone result ((d : ℕ) → 1 ≤ d → d ≤ length homes.now → IsSome (place_of homes.now d)) }
+    ensures vacant { IfSome result (λ i. (i < length homes.now) × (home_of homes.now (i + 1) ≡ None)) }
+    ensures none { IfNone result ((d : ℕ) → 1 ≤ d → d ≤ length homes.now → IsSome (home_of homes.now d)) }
 {
     homes.iter().position(|home| !home.is_used())
 }
 
 // The index of the place of a domain, where there is one.
 fn index_of(homes: &[Home], domain: u64) -> Option<usize>
-    ensures some { IfSome result (λ i. (domain ≡ i + 1) × (i < length homes.now) × (place_of homes.now domain ≡ slice_get homes.now i)) }
-    ensures none { IfNone result (place_of homes.now domain ≡ None) }
+    ensures some { IfSome result (λ i. (domain ≡ i + 1) × (i < length homes.now) × (home_of homes.now domain ≡ home_in (slice_get homes.now i)) × IsSome (home_of homes.now domain)) }
+    ensures none { IfNone result (home_of homes.now domain ≡ None) }
 {
     if domain == 0 || domain > homes.len() as u64 {
         return None;
@@ -230,8 +246,15 @@ fn index_of(homes: &[Home], domain: u64) -> Option<usize>
 }
 
 // What a request of a device meets that is attached to a domain, or to nothing.
-fn reach(homes: &[Home], attached: Option<u64>, address: u64, access: Access) -> Result<u64, Fault>
-    ensures { Reaches (option_and_then (place_of homes.now) attached) address access result }
+fn reach(
+    pool: &Pool,
+    homes: &[Home],
+    attached: Option<u64>,
+    address: u64,
+    access: Access,
+) -> Result<u64, Fault>
+    requires { (d : ℕ) → attached ≡ Some d → IfSome (home_of homes.now d) (λ h. IsTree pool.now 3 h.root) }
+    ensures { Reaches pool.now.words (option_and_then (home_of homes.now) attached) address access result }
 {
     let Some(domain) = attached else {
         return Err(Fault::NotAttached);
@@ -239,7 +262,7 @@ fn reach(homes: &[Home], attached: Option<u64>, address: u64, access: Access) ->
     let Some(index) = index_of(homes, domain) else {
         return Err(Fault::NotAttached);
     };
-    homes[index].reach(address, access)
+    homes[index].reach(pool, address, access)
 }
 
 // Whether the address lies in the interrupt address range.

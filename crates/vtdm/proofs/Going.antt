@@ -8,8 +8,7 @@ use Rattle.manager.specs.Kept.{Account, IsKept}
 use Rattle.vtdm.specs.declared.error.RunError.{RunError}
 use Rattle.vtdm.specs.declared.error.RunError.TheVariants as errors
 use Rattle.vtdm.specs.Bytes.{IsAnswered, IsUnbroken, Sent}
-use Rattle.manager.specs.Homes.{vacant}
-use Rattle.manager.specs.Machine.{Machine}
+use Rattle.manager.proofs.Beginning.{new_state, new_is_new}
 use Rattle.vtdm.specs.Run.{Answers, Size, LineSays, ScriptSays, BeginsBadly, AnswersOne, Ran, RanKnown, WroteAll}
 use Rattle.vtdm.proofs.Known.{sent_nothing, sent_more, consumes_nothing, consumes_more}
 use Rattle.vtdm.proofs.Scripts.{script_rest, script_then, bad_line, cut_line, long_line}
@@ -177,16 +176,13 @@ stopped U size old left left' before pending after after' after'' block block' b
 stopped U size old left left' before pending after after' after'' block block' block'' account number line result F G g more sent flushed (inr h) bad =
     rw h.0 (fails_writing U size old left left' before pending after after'' block block'' account number line g more (sent_more after after' after'' block block' block'' [] [] sent flushed))
 
-abbrev new_state : ℕ → Machine
-new_state frames = record { frames = frames; homes = replicate 15 vacant; devices = replicate 16 None; calls = 0 }
-
 -- no line is answered
 none_called : (size : Size) → Answers size [] []
 none_called size = record {
   history = [];
   state = new_state size.frames;
   legal = tt;
-  along = (new_state size.frames, (refl, refl));
+  along = (new_state size.frames, (new_is_new size.frames, refl));
   calls_are = (entered_none size.room).calls_are;
   text_is = (entered_none size.room).text_is;
 }

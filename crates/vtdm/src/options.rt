@@ -29,9 +29,9 @@ or hexadecimal behind 0x; R is r, w or rw; X is r or w.
   map D F N O R       maps N pages of domain D to host frames from F on, at a multiple of 2^O
                       pages: 'map A', the byte address of the first page
   dma V A X [look] [fill]
-                      device V reads or writes byte address A, using and filling the unit's
-                      caches as the words say: 'host A', or 'fault N'
-                      (2 not attached, 4 beyond the width, 5 a write, 6 a read not permitted)
+                      device V reads or writes byte address A: 'host A', or 'fault N' (2 not
+                      attached, 4 beyond the width, 5 a write, 6 a read not permitted); the
+                      words are for the unit's caches, which are still to come
 
 A call that can't be done is answered 'refused N':
   1 no such domain         4 not attached        7 no free range       10 not live

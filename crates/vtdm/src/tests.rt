@@ -46,7 +46,7 @@ const FIRST_MAP: &[u8] =
 
 #[test]
 fn scripts_are_answered(rt: HostRuntime) -> Result<(), Fail> {
-    let rows: [(&[u8], &[u8]); 7] = [
+    let rows: [(&[u8], &[u8]); 8] = [
         (b"", b""),
         (b"domain strict\ndomain strict\n", b"domain 1\ndomain 2\n"),
         (FIRST_MAP, b"domain 1\nok\nmap 0x1000\nhost 0x100234\n"),
@@ -65,6 +65,10 @@ fn scripts_are_answered(rt: HostRuntime) -> Result<(), Fail> {
         (
             b"domain strict\nmap 1 0xffffff 1 0 r\nmap 1 0xffffff 2 0 r\nmap 1 0x100 4097 0 r\nmap 1 0x100 0 0 r\nmap 1 0x3f 1 0 r\n",
             b"domain 1\nmap 0x1000\nrefused 5\nrefused 5\nrefused 5\nrefused 6\n",
+        ),
+        (
+            b"domain strict\nattach 3 1\nmap 1 0x400 512 9 rw\ndma 3 0x3ff123 w\ndma 3 0x400000 w\n",
+            b"domain 1\nok\nmap 0x200000\nhost 0x5ff123\nfault 5\n",
         ),
     ];
     for (script, wanted) in rows {
@@ -383,6 +387,52 @@ fn statuses(rt: HostRuntime) -> Result<(), Fail> {
         assert_eq!(rt; written.as_slice(), output);
         assert_eq!(rt; told.as_slice(), errors);
     }
+    Ok(())
+}
+
+const FIFTEEN_DOMAINS: &[u8] =
+    b"domain 1\ndomain 2\ndomain 3\ndomain 4\ndomain 5\ndomain 6\ndomain 7\ndomain 8\ndomain 9\ndomain 10\ndomain 11\ndomain 12\ndomain 13\ndomain 14\ndomain 15\nrefused 12\nrefused 8\nmap 0x200000\n";
+
+// 16 table frames: a root for each domain, then tables for the maps, until none is free.
+#[test]
+fn domains_and_frames_run_out(rt: HostRuntime) -> Result<(), Fail> {
+    let words: &[&str] = &["run", "--frames", "16"];
+    let mut script = Vec::new(rt.alloc());
+    for _ in 0..16u64 {
+        script.extend_from_slice(b"domain strict\n".as_slice())?;
+    }
+    script.extend_from_slice(b"map 1 0x100 1 0 r\nmap 1 0x400 512 9 r\n".as_slice())?;
+    let mut written = Vec::new(rt.alloc());
+    let mut told = Vec::new(rt.alloc());
+    assert_eq!(rt;
+        program(
+            &rt,
+            rt.alloc(),
+            words,
+            script.as_slice(),
+            &mut written,
+            &mut told
+        ),
+        0
+    );
+    assert_eq!(rt; written.as_slice(), FIFTEEN_DOMAINS);
+    let mut few = Vec::from_slice(rt.alloc(), b"domain strict\nmap 1 0x100 1 0 r\n".as_slice())?;
+    for _ in 0..14u64 {
+        few.extend_from_slice(b"domain strict\n".as_slice())?;
+    }
+    let mut written = Vec::new(rt.alloc());
+    assert_eq!(rt;
+        program(
+            &rt,
+            rt.alloc(),
+            words,
+            few.as_slice(),
+            &mut written,
+            &mut told
+        ),
+        0
+    );
+    assert!(rt; written.as_slice().ends_with(b"domain 14\nrefused 8\n"));
     Ok(())
 }
 

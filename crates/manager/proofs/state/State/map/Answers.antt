@@ -1,10 +1,14 @@
-use Rattle.std.proofs.Common.{◌≡◌, ◌+◌, ◌∙◌, Some, List, ap, length, refl, slice_set, slice_get}
+use Rattle.std.proofs.Common.{◌≡◌, ◌+◌, ◌*◌, ◌∙◌, Err, sym, subst, Some, length, refl, rules, arith, slice_set, slice_get}
 use Rattle.std.proofs.lemmas.Option.{slice_get_read}
-use Rattle.manager.specs.Homes.{Place, place_of}
+use Rattle.dmatypes.specs.declared.call.Call.{Call}
+use Rattle.dmatypes.specs.declared.call.Call.TheVariants as calls
+use Rattle.dmatypes.specs.declared.reply.Reply.TheVariants.{Mapped, Refused}
+use Rattle.manager.specs.Judged.{IsJudged}
+use Rattle.manager.specs.Steps.{Does}
 use Rattle.manager.specs.Machine.{Machine}
-use Rattle.manager.proofs.Lists.{set_again}
-use Rattle.manager.proofs.Mapping.{map_no_domain, map_judged, map_misplaced, maps}
-use Rattle.manager.proofs.Places.{found}
+use Rattle.manager.proofs.Mapping.{map_no_domain, map_judged, map_refused, map_done}
+use Rattle.manager.proofs.Places.{can_place, found, some_home}
+use Rattle.manager.proofs.Refusing.{of_some_world, same_frames}
 use Rattle.manager.proofs.state.State.map.Goals as goal
 
 pub returns-in_default : goal.returns-in_default
@@ -14,27 +18,72 @@ returns-in_default c =
 pub returns-in-Err : goal.returns-in-Err
 returns-in-Err c =
     let some = rw c.as_slice.ensures.value at c.in-Some.ensures.some in
-    let h = found c.self.inside.homes.items c.args.domain c.in-Some.index some.2 some.1 in
-    rw (← c.self.view_is) (map_judged _ _ c.args.domain c.args.frame c.args.pages c.args.order c.args.rights h.0 c.in-Err.refusal refl h.1 c.in-Err.ensures)
+    let h = some_home _ some.3 in
+    rw (← c.self.view_is) (map_judged _ _ c.args.domain c.args.frame c.args.pages c.args.order c.args.rights h.0 c.in-Err.refusal refl h.1 (subst (λ n. IsJudged n c.args.frame c.args.pages c.args.order c.args.rights (Err c.in-Err.refusal)) c.self.invariant.2 c.in-Err.ensures))
 
-pub returns-in-Err-place : goal.returns-in-Err-place
-returns-in-Err-place c =
+pub map-requires : goal.map-requires
+map-requires c =
+    let m : Machine = record { pool = c.self.inside.pool; homes = c.self.inside.homes.items; devices = c.self.inside.devices; calls = c.self.inside.calls } in
     let some = rw c.as_slice.ensures.value at c.in-Some.ensures.some in
-    let many : length c.self.inside.homes.items ≡ length c.self.inside.homes.items = refl in
     let at : slice_get c.self.inside.homes.items c.in-Some.index ≡ Some c.index_mut.result.now =
     slice_get_read c.self.inside.homes.items (length c.self.inside.homes.items) c.in-Some.index c.index_mut.result.now refl some.1 c.index_mut.ensures.value in
-    let m : Machine = record { frames = c.self.inside.frames; homes = c.self.inside.homes.items; devices = c.self.inside.devices; calls = c.self.inside.calls } in
-    let after : List Place → Machine = λ homes. record { frames = c.self.inside.frames; homes = homes; devices = c.self.inside.devices; calls = c.self.inside.calls + 1 } in
-    rw (← c.self.view_is) (map_misplaced m _ c.args.domain c.args.frame c.args.pages c.args.order c.args.rights c.index_mut.result.now c.place.new.self c.in-Ok.wanted c.in-Err-place.refusal
-    (some.2 ∙ at) c.in-Ok.ensures.0 c.in-Ok.ensures.1 c.in-Ok.ensures.2 c.in-Err-place.ensures
-    (λ same. ap (λ (h : Place). after (slice_set c.self.inside.homes.items c.in-Some.index h)) same ∙ ap after (set_again c.self.inside.homes.items c.in-Some.index c.index_mut.result.now at)))
+    let many : length c.self.inside.homes.items ≡ 15 = search rules in
+    let h = found c.self.inside.homes.items c.args.domain c.in-Some.index c.index_mut.result.now some.2 some.3 at in
+    rw h.1 (can_place m c.args.domain h.0 c.self.invariant.0 many h.2)
+
+-- ---- a map that is refused for its place
+
+abbrev before_refused : goal.In-Err-map → Machine
+before_refused c = record { pool = c.self.inside.pool; homes = c.self.inside.homes.items; devices = c.self.inside.devices; calls = c.self.inside.calls }
+
+abbrev refused : goal.In-Err-map → Machine
+refused c = record { pool = c.map.new.pool; homes = slice_set c.self.inside.homes.items c.in-Some.index c.map.new.self; devices = c.self.inside.devices; calls = c.self.inside.calls + 1 }
+
+refuses : (c : goal.In-Err-map) → Does (before_refused c) (calls.Map c.args.domain c.args.frame c.args.pages c.args.order c.args.rights) (Refused c.in-Err-map.refusal) (refused c)
+refuses c =
+    let some = rw c.as_slice.ensures.value at c.in-Some.ensures.some in
+    let at : slice_get c.self.inside.homes.items c.in-Some.index ≡ Some c.index_mut.result.now =
+    slice_get_read c.self.inside.homes.items (length c.self.inside.homes.items) c.in-Some.index c.index_mut.result.now refl some.1 c.index_mut.ensures.value in
+    let h = found c.self.inside.homes.items c.args.domain c.in-Some.index c.index_mut.result.now some.2 some.3 at in
+    map_refused (before_refused c) (refused c) c.args.domain c.args.frame c.args.pages c.args.order c.args.rights c.in-Some.index c.index_mut.result.now c.map.new.self h.0 c.map.new.pool c.in-Ok.wanted c.in-Err-map.refusal at h.1 h.2
+    c.in-Ok.ensures.0 (omega (arith, c.in-Ok.ensures.1, c.self.invariant.2)) c.in-Ok.ensures.2 (rw h.1 at c.in-Err-map.ensures.placed) refl
+
+pub returns-in-Err-map : goal.returns-in-Err-map
+returns-in-Err-map c = rw (← c.self.view_is) (refuses c)
+
+pub invariant_of-self-in-Err-map : goal.invariant_of-self-in-Err-map
+invariant_of-self-in-Err-map c =
+    let call : Call = calls.Map c.args.domain c.args.frame c.args.pages c.args.order c.args.rights in (
+      of_some_world (before_refused c) (refused c) call (Refused c.in-Err-map.refusal) (refuses c) c.self.invariant.0,
+      c.self.invariant.1,
+      c.self.invariant.2 ∙ sym (same_frames (before_refused c) (refused c) call (Refused c.in-Err-map.refusal) c.self.invariant.0 (refuses c)),
+    )
+
+-- ---- a map
+
+abbrev before : goal.In-Ok-map → Machine
+before c = record { pool = c.self.inside.pool; homes = c.self.inside.homes.items; devices = c.self.inside.devices; calls = c.self.inside.calls }
+
+abbrev after : goal.In-Ok-map → Machine
+after c = record { pool = c.map.new.pool; homes = slice_set c.self.inside.homes.items c.in-Some.index c.map.new.self; devices = c.self.inside.devices; calls = c.self.inside.calls + 1 }
+
+does : (c : goal.In-Ok-map) → Does (before c) (calls.Map c.args.domain c.args.frame c.args.pages c.args.order c.args.rights) (Mapped (4096 * c.in-Ok-map.first)) (after c)
+does c =
+    let some = rw c.as_slice.ensures.value at c.in-Some.ensures.some in
+    let at : slice_get c.self.inside.homes.items c.in-Some.index ≡ Some c.index_mut.result.now =
+    slice_get_read c.self.inside.homes.items (length c.self.inside.homes.items) c.in-Some.index c.index_mut.result.now refl some.1 c.index_mut.ensures.value in
+    let many : length c.self.inside.homes.items ≡ 15 = search rules in
+    let h = found c.self.inside.homes.items c.args.domain c.in-Some.index c.index_mut.result.now some.2 some.3 at in
+    map_done (before c) (after c) c.args.domain c.args.frame c.args.pages c.args.order c.args.rights c.in-Some.index c.in-Ok-map.first c.index_mut.result.now c.map.new.self h.0 c.map.new.pool c.in-Ok.wanted many some.1 some.0 at h.1 h.2
+    c.in-Ok.ensures.0 (omega (arith, c.in-Ok.ensures.1, c.self.invariant.2)) c.in-Ok.ensures.2 (rw h.1 at c.in-Ok-map.ensures.placed) refl
 
 pub returns : goal.returns
-returns c =
-    let some = rw c.as_slice.ensures.value at c.in-Some.ensures.some in
-    let at : slice_get c.self.inside.homes.items c.in-Some.index ≡ Some c.index_mut.result.now =
-    slice_get_read c.self.inside.homes.items (length c.self.inside.homes.items) c.in-Some.index c.index_mut.result.now refl some.1 c.index_mut.ensures.value in
-    let there : place_of c.self.inside.homes.items (c.in-Some.index + 1) ≡ Some c.index_mut.result.now = rw some.0 at (some.2 ∙ at) in
-    let m : Machine = record { frames = c.self.inside.frames; homes = c.self.inside.homes.items; devices = c.self.inside.devices; calls = c.self.inside.calls } in
-    rw (← c.self.view_is, some.0) (maps m _ c.args.frame c.args.pages c.args.order c.args.rights c.in-Some.index c.index_mut.result.now c.place.new.self c.in-Ok.wanted c.in-Ok-place.first
-    some.1 there c.in-Ok.ensures.0 c.in-Ok.ensures.1 c.in-Ok.ensures.2 c.in-Ok-place.ensures refl)
+returns c = rw (← c.self.view_is) (does c)
+
+pub invariant_of-self-2 : goal.invariant_of-self-2
+invariant_of-self-2 c =
+    let call : Call = calls.Map c.args.domain c.args.frame c.args.pages c.args.order c.args.rights in (
+      of_some_world (before c) (after c) call (Mapped (4096 * c.in-Ok-map.first)) (does c) c.self.invariant.0,
+      c.self.invariant.1,
+      c.self.invariant.2 ∙ sym (same_frames (before c) (after c) call (Mapped (4096 * c.in-Ok-map.first)) c.self.invariant.0 (does c)),
+    )
