@@ -1,11 +1,3 @@
 pub mod Push
-pub mod Lists
-pub mod Frames
-pub mod Places
-pub mod Pieces
-pub mod Refusing
-pub mod Making
-pub mod Attaching
-pub mod Mapping
-pub mod Requests
-pub mod Beginning
+pub mod Starting
+pub mod Reporting

@@ -4,8 +4,10 @@ use Rattle.dmatypes.specs.declared.reply.Event.{Event}
 use Rattle.dmatypes.specs.World.{empty}
 use Rattle.dmatypes.specs.History.{after}
 use Rattle.dmatypes.proofs.Histories.{after_from-push, IsLegalFrom-push}
-use Rattle.manager.specs.Machine.{Machine}
-use Rattle.manager.specs.Steps.{Does, Goes}
+use Rattle.engine.specs.Machine.{Machine}
+use Rattle.engine.specs.Steps.{Does, Goes}
+use Rattle.engine.specs.Whole.{IsWhole}
+use Rattle.engine.proofs.Refusing.{frames_kept}
 use Rattle.manager.specs.Kept.{Account, IsKept}
 
 Goes-push : (m : Machine) (es : List Event) (s : Machine) (e : Event) (t : Machine) → Goes m es s → Does s e.call e.reply t → Goes m (es ++ e ∷ []) t
@@ -13,14 +15,15 @@ Goes-push m [] s e t same does = (t, (subst (λ (x : Machine). Does x e.call e.r
 Goes-push m (x ∷ es) s e t goes does = (goes.0, (goes.1.0, Goes-push goes.0 es s e t goes.1.1 does))
 
 -- one call more keeps what a book keeps
-pub IsKept-push : (frames room : ℕ) (a : Account) (e : Event) (t : Machine) (now : List Event) → now ≡ a.history ++ e ∷ [] → IsKept frames room a → length a.history < room → Does a.state e.call e.reply t
+pub IsKept-push : (frames room : ℕ) (a : Account) (e : Event) (t : Machine) (now : List Event) → now ≡ a.history ++ e ∷ [] → IsKept frames room a → length a.history < room → Does a.state e.call e.reply t → IsWhole t.pool.frames t
     → IsKept frames room (record { history = now; state = t })
-IsKept-push frames room a e t now is kept less does =
+IsKept-push frames room a e t now is kept less does whole =
     let both = does.steps (after frames a.history) kept.quarantine in
     let more : length now ≡ length a.history + 1 = ap length is ∙ length-append a.history (e ∷ []) in
     record {
       legal = rw is (IsLegalFrom-push (empty frames) a.history e kept.legal both.0);
       quarantine = rw is (rw (after_from-push (empty frames) a.history e) both.1);
+      whole = subst (λ n. IsWhole n t) (sym (kept.whole.frames_are ∙ frames_kept a.state t e.call e.reply kept.whole.of_world does)) whole;
       goes = let g = kept.goes in (g.0, (g.1.0, rw is (Goes-push g.0 a.history a.state e t g.1.1 does)));
       within = omega (arith, more);
       calls = omega (arith, more, kept.calls, does.calls);

@@ -4,9 +4,10 @@ use Rattle.dmatypes.specs.declared.call.Call.{Call}
 use Rattle.dmatypes.specs.declared.reply.Event.{Event}
 use Rattle.dmatypes.specs.declared.reply.Reply.{Reply}
 use Rattle.dmatypes.specs.History.{after, event, IsLegal}
-use Rattle.manager.specs.Machine.{Machine}
-use Rattle.manager.specs.Quarantine.{Quarantine}
-use Rattle.manager.specs.Steps.{GoesTo}
+use Rattle.engine.specs.Machine.{Machine}
+use Rattle.engine.specs.Quarantine.{Quarantine}
+use Rattle.engine.specs.Steps.{GoesTo}
+use Rattle.engine.specs.Whole.{IsWhole}
 
 -- what contracts see of a book: its history, and its state
 pub record Account : Type 0 where
@@ -38,11 +39,13 @@ pub record Names : Type 0 where
   pub room : ℕ
   pub frames : ℕ
 
--- the history is legal, the state is one of the world after it, the history goes along states from a new one
--- to this one, it is no longer than the room, and the state has counted its calls
+-- the history is legal, the state is one of the world after it, with 15 places for domains, 16 for devices and nothing
+-- that waits in the ring, the history goes along states from a new one to this one, it is no longer than the room, and
+-- the state has counted its calls
 pub record IsKept (frames room : ℕ) (a : Account) : Type 0 where
   pub legal : IsLegal frames a.history
   pub quarantine : Quarantine a.state (after frames a.history)
+  pub whole : IsWhole frames a.state
   pub goes : GoesTo frames a.history a.state
   pub within : length a.history ≤ room
   pub calls : a.state.calls ≡ length a.history

@@ -2,15 +2,17 @@
 
 ghost use Rattle.std.specs.Prelude.{◌≡◌, ◌+◌, ◌<◌, ◌≤◌, ◌↔◌, ◌++◌, ◌∷◌, [], length, IsErr, IfOk, OnOk, OnErr, All, sum_by, vec_len};
 ghost use Rattle.dmatypes.specs.History.{event};
-ghost use Rattle.manager.specs.Steps.{Does};
+ghost use Rattle.engine.specs.Steps.{Does};
 ghost use Rattle.manager.specs.Kept.{Account, Hand, IsKept};
+ghost use Rattle.manager.specs.Report.{report_text};
 
 use crate::config::Seed;
 use crate::manager::History;
 use crate::owner::Owner;
+use crate::report::Report;
 use crate::share::{Share, cut, merged};
-use crate::state::State;
 use dmatypes::{Call, Event, Reply};
+use engine::State;
 use std::alloc::{AllocError, Global};
 use std::marker::Model;
 use std::sync::ledger;
@@ -75,6 +77,13 @@ impl<B: Owner> Book<B> {
         self.history.as_slice()
     }
 
+    /// Replaces a report's text by what the book holds.
+    pub fn write_report(&self, report: &mut Report)
+        ensures { report.new ≡ report_text (length self.now.history) self.now.state }
+    {
+        report.tell(self.history.len() as u64, &self.state);
+    }
+
     /// What a book keeps, told to its caller.
     pub fn keeps(&self)
         ensures { IsKept B.frames B.room self.now }
@@ -135,6 +144,7 @@ impl<B: Owner> Book<B> {
             return Err(HistoryFull);
         }
         let reply = state.perform(&call);
+        state.keeps();
         history.push_reserved(Event { call, reply });
         counted.add(part, 1);
         *calls += 1;

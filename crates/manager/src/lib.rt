@@ -3,18 +3,17 @@
 
 mod book;
 mod config;
-mod home;
 mod manager;
 mod owner;
-mod request;
+mod report;
+mod report_lines;
 mod share;
-mod state;
-mod wanted;
 
 pub use book::{Book, HistoryFull};
 pub use config::{Config, Seed};
 pub use manager::{History, Made, Manager, SharesOut};
 pub use owner::Owner;
+pub use report::Report;
 pub use share::Share;
 
 #[cfg(test)]

@@ -222,3 +222,43 @@ fn crowded<B: Owner, R: Wait + Abort>(rt: &R, alloc: Global, seed: Seed) -> Resu
     );
     Ok(())
 }
+
+#[test]
+fn snapshots(rt: HostRuntime) -> Result<(), Fail> {
+    let config = Config::new(16, 100, 1).ok_or("within the limits")?;
+    let seed = Seed::new(rt.alloc(), config)?;
+    told_at_moments::<Brand, _>(&rt, rt.alloc(), seed)
+}
+
+// A new manager, and one with as many domains and devices as there can be.
+fn told_at_moments<B: Owner, R: Wait + Abort>(rt: &R, alloc: Global, seed: Seed) -> Result<(), Fail>
+    requires name { seed.name ≡ B.name }
+    requires parts { seed.shares ≡ B.parts }
+    requires shares { seed.shares ≡ B.shares }
+    requires room { seed.room ≡ B.room }
+    requires frames { seed.frames ≡ B.frames }
+{
+    let Made {
+        manager,
+        mut shares,
+    } = Manager::<B>::new(alloc, seed)?;
+    let mut mine = shares.pop().ok_or("a share")?;
+    let report = manager.snapshot(rt, alloc)?;
+    assert_eq!(rt;
+        report.text(),
+        "events 0\nframes 16 free 0 used 0 retired\ntickets 0 open\nring 0 pending\n"
+    );
+    for _ in 0..15u64 {
+        let _ = manager.call(rt, &mut mine, Call::Domain(Mode::Lazy));
+    }
+    for device in 0..16u64 {
+        let attach = Call::Attach { device, domain: 15 };
+        let _ = manager.call(rt, &mut mine, attach);
+    }
+    let report = manager.snapshot(rt, alloc)?;
+    let text = report.text();
+    assert!(rt; text.starts_with("events 31\nframes 1 free 15 used 0 retired\n"));
+    assert!(rt; text.ends_with("device 15 domain 15\n"));
+    assert_eq!(rt; text.lines().count(), 35);
+    Ok(())
+}

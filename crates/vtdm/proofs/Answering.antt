@@ -33,7 +33,7 @@ entered_none room =
       take_nil zero = refl
       take_nil (suc n) = refl
 
-pub answers : (size : Size) (account : Account) (calls : List Call) (written : List ℕ) → IsKept size.frames size.room account → Entered size.room account.history calls written → Answers size calls written
+unfoldable pub answers : (size : Size) (account : Account) (calls : List Call) (written : List ℕ) → IsKept size.frames size.room account → Entered size.room account.history calls written → Answers size calls written
 answers size account calls written kept entered = record {
   history = account.history;
   state = account.state;

@@ -2,7 +2,7 @@
 use Rattle.std.proofs.Common.{◌≡◌, ℕ, ◌≤◌, List, [], ◌∷◌, ◌++◌, length, take, drop, Option, Some, None, refl, sym, ap, ◌∙◌, arith, append_assoc, length-drop}
 use Rattle.std.proofs.lemmas.List.{append-nil, drop_all, take-append-drop}
 use Rattle.std.specs.Io.KnownBytes.{Appends, Consumes, IsAtEnd, prepend_known}
-use Rattle.vtdm.specs.Bytes.{IsUnbroken, Sent}
+use Rattle.vtdm.specs.Bytes.{IsUnbroken, Sent, SentFront}
 
 -- nothing is left past the end, and nowhere else
 pub all_gone : (n : ℕ) (bytes : List ℕ) → n ≡ length bytes → drop n bytes ≡ []
@@ -33,6 +33,17 @@ sent_more x y z a b c s t p q = (
   appends_more x y z p.0 q.0 p.1 q.1,
   append_assoc p.0 q.0 c ∙ ap (λ (r : List ℕ). p.0 ++ r) q.2 ∙ sym (append_assoc p.0 b t) ∙ ap (λ (r : List ℕ). r ++ t) p.2 ∙ append_assoc a s t,
 )
+
+-- nothing more is written
+pub sent_on : (x y z : Option (List ℕ)) (a b c s : List ℕ) → Sent x y a b s → Sent y z b c [] → Sent x z a c s
+sent_on x y z a b c s p q = rw (append-nil s) at (sent_more x y z a b c s [] p q)
+
+-- a front of what was still to be written is one of this and a text behind it
+pub front_without : (x y : Option (List ℕ)) (a b s : List ℕ) → Sent x y a b [] → SentFront x y a s
+front_without x y a b s p = (p.0, b ++ s, p.1, sym (append_assoc p.0 b s) ∙ ap (λ (r : List ℕ). r ++ s) (p.2 ∙ append-nil a))
+
+pub front_with : (x y : Option (List ℕ)) (a b s : List ℕ) → Sent x y a b s → SentFront x y a s
+front_with x y a b s p = (p.0, b, p.1, p.2)
 
 -- a write took the front of the block
 pub sent_front : (x y z : Option (List ℕ)) (a b text : List ℕ) (count : ℕ) → Sent x y a b text → Appends y z (take count b) → Sent x z a (drop count b) text

@@ -2,3 +2,4 @@ pub mod Known
 pub mod Scripts
 pub mod Answering
 pub mod Going
+pub mod Concluding

@@ -33,6 +33,10 @@ TakesLine block rest line longer parts.Long =
 abbrev pub Sent : Option (List ℕ) → Option (List ℕ) → List ℕ → List ℕ → List ℕ → Type 0
 Sent before after block rest text = (front : List ℕ) × Appends before after front × (front ++ rest ≡ block ++ text)
 
+-- of the bytes that were still to be written and a text behind them, a front is written
+abbrev pub SentFront : Option (List ℕ) → Option (List ℕ) → List ℕ → List ℕ → Type 0
+SentFront before after block text = (front : List ℕ) × (rest : List ℕ) × Appends before after front × (front ++ rest ≡ block ++ text)
+
 -- how the next line was read: these bytes of it, and how it ended
 abbrev pub ReadLine : {E : Type 0} → Option (List ℕ) → Option (List ℕ) → List ℕ → Result LineEnd E → Type 0
 ReadLine old new line (Ok Newline) = Consumes old new (line ++ 10 ∷ []) × IsUnbroken line

@@ -1,2 +1,3 @@
 pub mod Bytes
 pub mod Run
+pub mod Reported

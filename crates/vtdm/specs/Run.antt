@@ -10,8 +10,8 @@ use Rattle.dmatypes.specs.Grammar.{says}
 use Rattle.dmatypes.specs.History.{IsLegal, event}
 use Rattle.dmatypes.specs.Text.{line_of, text}
 use Rattle.manager.specs.Kept.{Account}
-use Rattle.manager.specs.Machine.{Machine}
-use Rattle.manager.specs.Steps.{GoesTo}
+use Rattle.engine.specs.Machine.{Machine}
+use Rattle.engine.specs.Steps.{GoesTo}
 use Rattle.vtdm.specs.Bytes.{IsUnbroken}
 use Rattle.vtdm.specs.declared.error.RunError.{RunError}
 use Rattle.vtdm.specs.declared.error.RunError.TheVariants as errors

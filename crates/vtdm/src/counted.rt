@@ -2,7 +2,7 @@
 
 ghost use Rattle.std.specs.Prelude.{◌≡◌, ◌≢◌, ◌≤◌, ◌++◌, [], true, false, length, OnOk, OnErr, IfOk, is_ok, if◌then◌else◌};
 ghost use Rattle.std.specs.Io.KnownBytes.{Appends, Consumes, IsAtEnd};
-ghost use Rattle.vtdm.specs.Bytes.{Filled, Sent, TakesLine};
+ghost use Rattle.vtdm.specs.Bytes.{Filled, Sent, SentFront, TakesLine};
 
 use crate::block::{Block, Full};
 use arrayvec::ArrayVec;
@@ -134,5 +134,21 @@ impl<W: Write> Counted<W> {
         }
         self.block.refill(text);
         Ok(())
+    }
+
+    /// Writes what is still to be written, and a text behind it. Where a write fails, or takes nothing, a front of these
+    /// is written.
+    pub(crate) fn send(&mut self, text: &[u8]) -> Result<(), Failed>
+        requires { length text.now ≤ 4096 }
+        ensures sent { OnOk result (Sent (W.contents self.old.inner) (W.contents self.new.inner) self.old.block [] text.now) }
+        ensures empty { OnOk result (self.new.block ≡ []) }
+        ensures front { OnErr result (SentFront (W.contents self.old.inner) (W.contents self.new.inner) self.old.block text.now) }
+        ensures ok { OnOk result (self.new.failed ≡ self.old.failed) }
+        ensures err { OnErr result (self.new.failed ≡ true) }
+    {
+        match self.put(text) {
+            Ok(()) => self.flush(),
+            Err(failed) => Err(failed),
+        }
     }
 }

@@ -14,7 +14,7 @@ pub enum RunError {
     /// A write failed, or took nothing.
     #[error("output failed")]
     Write,
-    /// There was no memory for the manager.
+    /// There was no memory for the manager, or for the text of its report.
     #[error("no memory")]
     NoMemory,
 }

@@ -7,6 +7,7 @@ mod error;
 mod lines;
 mod options;
 mod program;
+mod report;
 mod script;
 
 use std::alloc::AllocError;

@@ -2,7 +2,8 @@
 
 use crate::counted::Counted;
 use crate::error::RunError;
-use crate::options::{Options, command, config_of, options_of};
+use crate::options::{Options, Task, command, config_of, task_of};
+use crate::report::report;
 use crate::script::run;
 use clap::error::ErrorKind;
 use std::alloc::Global;
@@ -33,8 +34,8 @@ pub fn program<T: Wait, R: Read + Drop, W: Write + Drop, E: Write + Drop>(
         return fail(&mut errors, RunError::NoMemory);
     };
     match command.try_get_matches_from(words) {
-        Ok(matches) => match options_of(&matches) {
-            Some(options) => run_script(rt, alloc, options, input, output, errors),
+        Ok(matches) => match task_of(&matches) {
+            Some((task, options)) => run_task(rt, alloc, task, options, input, output, errors),
             None => BAD,
         },
         Err(error) => {
@@ -73,9 +74,10 @@ fn fail<E: Write>(errors: &mut E, error: RunError) -> u8 {
     }
 }
 
-fn run_script<T: Wait, R: Read + Drop, W: Write + Drop, E: Write + Drop>(
+fn run_task<T: Wait, R: Read + Drop, W: Write + Drop, E: Write + Drop>(
     rt: &T,
     alloc: Global,
+    task: Task,
     options: Options,
     input: R,
     output: W,
@@ -86,7 +88,11 @@ fn run_script<T: Wait, R: Read + Drop, W: Write + Drop, E: Write + Drop>(
     };
     let mut reader = Counted::new(input);
     let mut writer = Counted::new(output);
-    match run(rt, alloc, &mut reader, &mut writer, config) {
+    let end = match task {
+        Task::Run => run(rt, alloc, &mut reader, &mut writer, config),
+        Task::Report => report(rt, alloc, &mut reader, &mut writer, config),
+    };
+    match end {
         Ok(()) => DONE,
         Err(error) => fail(&mut errors, error),
     }

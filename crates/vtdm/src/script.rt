@@ -4,6 +4,7 @@ ghost use Rattle.std.specs.Prelude.{◌≡◌, ◌↔◌, ◌≤◌, ◌⊎◌, 
 ghost use Rattle.std.specs.Io.KnownBytes.{prepend_known};
 ghost use Rattle.manager.specs.Kept.{IsKept, Names};
 ghost use Rattle.vtdm.specs.Bytes.{Sent};
+ghost use Rattle.vtdm.specs.Reported.{WentKnown, shown};
 ghost use Rattle.vtdm.specs.Run.{AnswersOne, IsAllSent, RanKnown};
 
 use crate::counted::{Counted, Failed};
@@ -16,6 +17,13 @@ use std::alloc::Global;
 use std::io::{Read, Write};
 use std::marker::Brand;
 use std::sync::Wait;
+
+/// Whether the answers to a script are written.
+#[derive(Clone, Copy, Debug, PartialEq, Eq)]
+pub(crate) enum Replies {
+    Written,
+    Silent,
+}
 
 /// Reads a script to its first bad line, and writes one line for each line, on a manager of its own. All
 /// answers to the lines that were read are written before the next read.
@@ -85,27 +93,30 @@ fn run_owned<B: Owner, T: Wait, R: Read, W: Write>(
     let mut guard = manager.lock(rt);
     let book = &mut *guard;
     book.audit(&mut mine);
-    answer_lines(rt, book, &mut mine, reader, writer)
+    answer_lines(rt, book, &mut mine, reader, writer, Replies::Written)
 }
 
-// One line for each line, to the end or the first bad one. The lock is held from the first to the last.
-fn answer_lines<B: Owner, T: Wait, R: Read, W: Write>(
+/// Makes the call of each line, to the end or the first bad one, and writes one line for each unless it is to be silent.
+/// The lock is held from the first to the last.
+pub(crate) fn answer_lines<B: Owner, T: Wait, R: Read, W: Write>(
     rt: &T,
     book: &mut Book<B>,
     mine: &mut Share<B>,
     reader: &mut Counted<R>,
     writer: &mut Counted<W>,
+    replies: Replies,
 ) -> Result<(), RunError>
     requires none { book.old.history ≡ [] }
     requires reader { reader.old.failed ≡ false }
     requires writer { writer.old.failed ≡ false }
-    ensures told { RanKnown (record { frames = B.frames; room = B.room })
+    ensures told { WentKnown replies (record { frames = B.frames; room = B.room })
         (prepend_known reader.old.block (R.remaining reader.old.inner)) (prepend_known reader.new.block (R.remaining reader.new.inner))
-        (W.contents writer.old.inner) writer.old.block (W.contents writer.new.inner) result }
+        (W.contents writer.old.inner) writer.old.block (W.contents writer.new.inner) book.new result }
     ensures reader { (reader.new.failed ≡ true) ↔ IsErrOf result RunError.Read }
     ensures writer { (writer.new.failed ≡ true) ↔ IsErrOf result RunError.Write }
     ensures used_up { IsErrOf result RunError.Read → reader.new.block ≡ [] }
     ensures all_sent { IsAllSent writer.new.block result }
+    ensures memory { IsErrOf result RunError.NoMemory → ⊥ }
 {
     let mut line = ArrayVec::new();
     let mut text = ArrayString::new();
@@ -123,7 +134,7 @@ fn answer_lines<B: Owner, T: Wait, R: Read, W: Write>(
             return stop_at(writer, number);
         };
         answer(book, mine, call, &mut text);
-        match writer.put(text.as_str().as_bytes()) {
+        match writer.put(shown(replies, &text)) {
             Ok(()) => {}
             Err(Failed) => return Err(RunError::Write),
         }
@@ -155,4 +166,15 @@ fn answer<B: Owner>(book: &mut Book<B>, mine: &mut Share<B>, call: Call, text: &
     };
     book.keeps();
     reply_line(reply, text);
+}
+
+// What is written of an answer.
+fn shown(replies: Replies, text: &ArrayString<64>) -> &[u8]
+    ensures shown { result.now ≡ shown replies text.now.bytes }
+    ensures short { length result.now ≤ 64 }
+{
+    match replies {
+        Replies::Written => text.as_str().as_bytes(),
+        Replies::Silent => b"",
+    }
 }

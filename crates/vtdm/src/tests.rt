@@ -16,6 +16,9 @@ use std::process::Abort;
 use std::sync::Wait;
 use std::test::Fail;
 
+mod lazy_rows;
+mod rows;
+
 // The default configuration, but for the room of the history.
 fn config(calls: u64) -> Option<Config>
     ensures { IfSome result (λ c. c.shares ≡ 1) }
@@ -99,23 +102,30 @@ fn maps_go_round_the_window(rt: HostRuntime) -> Result<(), Fail> {
     Ok(())
 }
 
-// Each map of one page cuts the last free piece, until there are 1,023 pieces.
+// Each map of one page cuts the last free piece, until there are 1,023 pieces. A page that is unmapped can be
+// mapped again, since that cuts none.
 #[test]
 fn pieces_run_out(rt: HostRuntime) -> Result<(), Fail> {
     let mut script = Vec::from_slice(rt.alloc(), b"domain strict\n".as_slice())?;
     for _ in 0..1022u64 {
         script.extend_from_slice(b"map 1 0x100 1 0 r\n".as_slice())?;
     }
+    script.extend_from_slice(
+        b"unmap 1 0x1000 1\nmap 1 0x100 1 0 r\nmap 1 0x100 1 0 r\n".as_slice(),
+    )?;
     let (result, written) = answers(&rt, rt.alloc(), script.as_slice(), 65536)?;
     assert_eq!(rt; result, Ok(()));
     let lines: Vec<&[u8]> = written
         .as_slice()
         .split(|byte| *byte == b'\n')
         .collect(rt.alloc())?;
-    assert_eq!(rt; lines.len(), 1024);
+    assert_eq!(rt; lines.len(), 1027);
     assert_eq!(rt; lines[1], b"map 0x1000".as_slice());
     assert_eq!(rt; lines[1021], b"map 0x3fd000".as_slice());
     assert_eq!(rt; lines[1022], b"refused 9".as_slice());
+    assert_eq!(rt; lines[1023], b"unmapped 0".as_slice());
+    assert_eq!(rt; lines[1024], b"map 0x1000".as_slice());
+    assert_eq!(rt; lines[1025], b"refused 9".as_slice());
     Ok(())
 }
 
@@ -136,14 +146,18 @@ fn bad_lines_stop(rt: HostRuntime) -> Result<(), Fail> {
     let long = [b'0'; 513];
     let mut too_long = Vec::from_slice(rt.alloc(), long.as_slice())?;
     too_long.push(b'\n')?;
-    let rows: [(&[u8], u64); 14] = [
+    let rows: [(&[u8], u64); 15] = [
         (b"\n", 1),
         (b"domain strict", 1),
         (b"domain strict\r\n", 1),
-        (b"domain lazy\n", 1),
+        (b"domain lazily\n", 1),
         (b"domain  strict\n", 1),
         (b"domain strict \n", 1),
-        (b"flush 1\n", 1),
+        (b"begin 1\n", 1),
+        (
+            b"domain strict\nmaplist 1 0 r 1:1 1:1 1:1 1:1 1:1 1:1 1:1 1:1 1:1 1:1 1:1 1:1 1:1 1:1 1:1 1:1 1:1\n",
+            2,
+        ),
         (b"attach 03 1\n", 1),
         (b"attach 0x 1\n", 1),
         (b"attach 18446744073709551616 1\n", 1),
@@ -390,66 +404,22 @@ fn statuses(rt: HostRuntime) -> Result<(), Fail> {
     Ok(())
 }
 
-const FIFTEEN_DOMAINS: &[u8] =
-    b"domain 1\ndomain 2\ndomain 3\ndomain 4\ndomain 5\ndomain 6\ndomain 7\ndomain 8\ndomain 9\ndomain 10\ndomain 11\ndomain 12\ndomain 13\ndomain 14\ndomain 15\nrefused 12\nrefused 8\nmap 0x200000\n";
-
-// 16 table frames: a root for each domain, then tables for the maps, until none is free.
-#[test]
-fn domains_and_frames_run_out(rt: HostRuntime) -> Result<(), Fail> {
-    let words: &[&str] = &["run", "--frames", "16"];
-    let mut script = Vec::new(rt.alloc());
-    for _ in 0..16u64 {
-        script.extend_from_slice(b"domain strict\n".as_slice())?;
-    }
-    script.extend_from_slice(b"map 1 0x100 1 0 r\nmap 1 0x400 512 9 r\n".as_slice())?;
-    let mut written = Vec::new(rt.alloc());
-    let mut told = Vec::new(rt.alloc());
-    assert_eq!(rt;
-        program(
-            &rt,
-            rt.alloc(),
-            words,
-            script.as_slice(),
-            &mut written,
-            &mut told
-        ),
-        0
-    );
-    assert_eq!(rt; written.as_slice(), FIFTEEN_DOMAINS);
-    let mut few = Vec::from_slice(rt.alloc(), b"domain strict\nmap 1 0x100 1 0 r\n".as_slice())?;
-    for _ in 0..14u64 {
-        few.extend_from_slice(b"domain strict\n".as_slice())?;
-    }
-    let mut written = Vec::new(rt.alloc());
-    assert_eq!(rt;
-        program(
-            &rt,
-            rt.alloc(),
-            words,
-            few.as_slice(),
-            &mut written,
-            &mut told
-        ),
-        0
-    );
-    assert!(rt; written.as_slice().ends_with(b"domain 14\nrefused 8\n"));
-    Ok(())
-}
-
 // A bad command line is told on standard error and reads nothing; help is output.
 #[test]
 fn command_lines(rt: HostRuntime) -> Result<(), Fail> {
-    let rows: [(&[&str], u8); 10] = [
+    let rows: [(&[&str], u8); 12] = [
         (&["run", "--frames", "15"], 2),
         (&["run", "--frames", "4097"], 2),
         (&["run", "--calls", "0"], 2),
         (&["run", "--calls", "1048577"], 2),
         (&["run", "--calls", "x"], 2),
         (&["run", "--call", "1"], 2),
-        (&["report"], 2),
+        (&["report", "--frames", "15"], 2),
+        (&["reports"], 2),
         (&[], 2),
         (&["--help"], 0),
         (&["run", "--help"], 0),
+        (&["report", "--help"], 0),
     ];
     for (words, status) in rows {
         let mut written = Vec::new(rt.alloc());

@@ -5,7 +5,7 @@ use Rattle.vtdm.proofs.script.answer_lines.Given as goal
 
 abbrev pub invariant-loop : goal.invariant-loop
 invariant-loop g l = record {
-  going : Going (record { frames = g.B.Owner.frames; room = g.B.Owner.room }) (prepend_known l.fn.reader.block (g.R.Read.remaining l.fn.reader.inner)) (prepend_known l.reader.block (g.R.Read.remaining l.reader.inner))
+  going : Going l.fn.replies (record { frames = g.B.Owner.frames; room = g.B.Owner.room }) (prepend_known l.fn.reader.block (g.R.Read.remaining l.fn.reader.inner)) (prepend_known l.reader.block (g.R.Read.remaining l.reader.inner))
       (g.W.Write.contents l.fn.writer.inner) l.fn.writer.block (g.W.Write.contents l.writer.inner) l.writer.block l.book l.number;
   reader : l.reader.failed ≡ false;
   writer : l.writer.failed ≡ false;

@@ -1,6 +1,6 @@
 use Rattle.std.proofs.Common.{◌∙◌, rules, arith, sym}
-use Rattle.manager.specs.Machine.{IsNew}
-use Rattle.manager.proofs.Beginning.{kept_new}
+use Rattle.engine.specs.Machine.{IsNew}
+use Rattle.manager.proofs.Starting.{kept_new}
 use Rattle.manager.proofs.book.Book.new.Goals as goal
 
 pub invariant_of-result : goal.invariant_of-result

@@ -1,0 +1,98 @@
+//! A device driver's side of the manager.
+
+ghost use Rattle.std.specs.Prelude.{◌≡◌, ◌+◌, ◌<◌, OnOk, OnErr};
+
+use crate::trouble::Trouble;
+use arrayvec::ArrayVec;
+use dmatypes::{Access, Fault, Mode, Segment, Whim};
+use engine::State;
+use std::alloc::Global;
+
+// So few that a frame which isn't given back is soon missed.
+const TABLE_FRAMES: u64 = 16;
+
+// How many calls a state takes.
+const MOST_CALLS: u64 = 1 << 20;
+
+const DEVICE: u64 = 3;
+
+/// The rights to read and to write.
+const BOTH_RIGHTS: u64 = 3;
+
+/// A driver of a device that is attached to a domain of its own, in a state of its own. The state is asked
+/// for no more calls than it takes.
+#[derive(Drop)]
+pub(crate) struct Driver {
+    state: State,
+    domain: u64,
+    made: u64,
+    ghost counted: { state.calls ≡ made },
+}
+
+impl Driver {
+    pub(crate) fn new(alloc: Global, mode: Mode) -> Result<Driver, Trouble> {
+        let mut state = State::new(alloc, TABLE_FRAMES)?;
+        let domain = state.domain(mode)?;
+        state.attach(DEVICE, domain)?;
+        Ok(Driver {
+            state,
+            domain,
+            made: 2,
+        })
+    }
+
+    /// Maps so many pages from a host frame on, at a multiple of 2^`order` pages, and answers the byte address
+    /// of the first.
+    pub(crate) fn map(&mut self, frame: u64, pages: u64, order: u64) -> Result<u64, Trouble> {
+        count(&mut self.made)?;
+        Ok(
+            self.state
+                .map(self.domain, frame, pages, order, BOTH_RIGHTS)?,
+        )
+    }
+
+    /// Maps the pages of all segments, one segment after the other, at a multiple of 2^`order` pages, and answers the
+    /// byte address of the first.
+    pub(crate) fn map_list(
+        &mut self,
+        segments: &ArrayVec<Segment, 16>,
+        order: u64,
+    ) -> Result<u64, Trouble> {
+        count(&mut self.made)?;
+        Ok(
+            self.state
+                .map_list(self.domain, order, BOTH_RIGHTS, segments)?,
+        )
+    }
+
+    /// Flushes the domain, and answers how many retired records there were.
+    pub(crate) fn flush(&mut self) -> Result<u64, Trouble> {
+        count(&mut self.made)?;
+        Ok(self.state.flush(self.domain)?)
+    }
+
+    /// Unmaps so many pages from a byte address on, and answers how many retired records went for it.
+    pub(crate) fn unmap(&mut self, address: u64, pages: u64) -> Result<u64, Trouble> {
+        count(&mut self.made)?;
+        Ok(self.state.unmap(self.domain, address, pages)?)
+    }
+
+    /// The device reads at a byte address: the host byte address, or the fault.
+    pub(crate) fn read(&mut self, address: u64, whim: Whim) -> Result<Result<u64, Fault>, Trouble> {
+        count(&mut self.made)?;
+        Ok(self.state.dma(DEVICE, address, Access::Read, whim)?)
+    }
+}
+
+// Counts a call that is about to be made, where the state takes it.
+fn count(made: &mut u64) -> Result<(), Trouble>
+    ensures few { OnOk result (made.old < 1048576) }
+    ensures counted { OnOk result (made.new ≡ made.old + 1) }
+    ensures unchanged { OnErr result (made.new ≡ made.old) }
+{
+    if *made >= MOST_CALLS {
+        return Err(Trouble::TooManyCalls);
+    }
+    *made += 1;
+    Ok(())
+}

@@ -1,0 +1,124 @@
+//! A map and its unmap.
+
+ghost use Rattle.std.specs.Prelude.{◌<◌};
+
+use crate::driver::Driver;
+use crate::timing::Work;
+use crate::trouble::{Trouble, check};
+use arrayvec::ArrayVec;
+use dmatypes::{Mode, Segment};
+use std::alloc::Global;
+
+/// What is mapped: so many pages from a host frame on, at a multiple of 2^`order` pages, and so at this byte
+/// address where the domain is empty.
+#[derive(Clone, Copy)]
+pub(crate) struct Shape {
+    pub(crate) frame: u64,
+    pub(crate) pages: u64,
+    pub(crate) order: u64,
+    pub(crate) address: u64,
+}
+
+/// Maps into an empty strict domain, and unmaps again. The pages are free again then, since the next map gets the
+/// same address, and so are the table frames: there are too few for many rounds that each keep one.
+#[derive(Drop)]
+pub(crate) struct Mapping {
+    driver: Driver,
+    shape: Shape,
+}
+
+impl Mapping {
+    pub(crate) fn new(alloc: Global, shape: Shape) -> Result<Mapping, Trouble> {
+        Ok(Mapping {
+            driver: Driver::new(alloc, Mode::Strict)?,
+            shape,
+        })
+    }
+}
+
+impl Work for Mapping {
+    fn once(&mut self) -> Result<(), Trouble> {
+        let Shape {
+            frame,
+            pages,
+            order,
+            address,
+        } = self.shape;
+        let mapped = self.driver.map(frame, pages, order)?;
+        check(mapped == address)?;
+        let released = self.driver.unmap(address, pages)?;
+        check(released == 0)
+    }
+}
+
+// So many segments of one page each, as many as a map takes.
+const SEGMENTS: u64 = 16;
+
+// The frames of two segments that follow one another are so far apart.
+const STRIDE: u64 = 3;
+
+/// Maps a list of segments of one page each into an empty strict domain, and unmaps them at once.
+#[derive(Drop)]
+pub(crate) struct Listing {
+    driver: Driver,
+    segments: ArrayVec<Segment, 16>,
+}
+
+impl Listing {
+    pub(crate) fn new(alloc: Global) -> Result<Listing, Trouble> {
+        let mut segments = ArrayVec::new();
+        for index in 0..SEGMENTS {
+            let frame = 0x1001 + STRIDE * index;
+            check(segments.try_push(Segment { frame, pages: 1 }).is_ok())?;
+        }
+        Ok(Listing {
+            driver: Driver::new(alloc, Mode::Strict)?,
+            segments,
+        })
+    }
+}
+
+impl Work for Listing {
+    fn once(&mut self) -> Result<(), Trouble> {
+        let mapped = self.driver.map_list(&self.segments, 0)?;
+        check(mapped == 0x1000)?;
+        let released = self.driver.unmap(mapped, SEGMENTS)?;
+        check(released == 0)
+    }
+}
+
+// So many records a lazy domain keeps.
+const RECORDS: u64 = 256;
+
+/// Maps one page into a lazy domain and unmaps it, and flushes once 256 pages are put off. No page is handed out again
+/// before that.
+#[derive(Drop)]
+pub(crate) struct Deferred {
+    driver: Driver,
+    put_off: u64,
+    ghost few: { put_off < 256 },
+}
+
+impl Deferred {
+    pub(crate) fn new(alloc: Global) -> Result<Deferred, Trouble> {
+        Ok(Deferred {
+            driver: Driver::new(alloc, Mode::Lazy)?,
+            put_off: 0,
+        })
+    }
+}
+
+impl Work for Deferred {
+    fn once(&mut self) -> Result<(), Trouble> {
+        let mapped = self.driver.map(0x1001, 1, 0)?;
+        check(mapped == 0x1000 * (self.put_off + 1))?;
+        let released = self.driver.unmap(mapped, 1)?;
+        check(released == 0)?;
+        if self.put_off + 1 < RECORDS {
+            self.put_off += 1;
+            return Ok(());
+        }
+        self.put_off = 0;
+        check(self.driver.flush()? == RECORDS)
+    }
+}

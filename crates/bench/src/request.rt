@@ -1,0 +1,53 @@
+//! A device's request.
+
+use crate::driver::Driver;
+use crate::timing::Work;
+use crate::trouble::{Trouble, check};
+use dmatypes::{Mode, Whim};
+use std::alloc::Global;
+
+// Where the one page is mapped to.
+const FRAME: u64 = 0x1001;
+
+const OFFSET: u64 = 0x234;
+
+// The bytes of a page, and the byte address of page 1.
+const PAGE: u64 = 4096;
+
+// The byte address in host memory.
+const HOST: u64 = PAGE * FRAME + OFFSET;
+
+/// Reads at an address of the one live page. The unit remembers the page's leaf, with its tables and the context.
+#[derive(Drop)]
+pub(crate) struct Request {
+    driver: Driver,
+    address: u64,
+    whim: Whim,
+}
+
+impl Request {
+    pub(crate) fn new(alloc: Global, look: bool) -> Result<Request, Trouble> {
+        let mut driver = Driver::new(alloc, Mode::Strict)?;
+        let address = driver.map(FRAME, 1, 0)?;
+        check(address == PAGE)?;
+        let address = PAGE + OFFSET;
+        let filling = Whim {
+            look: false,
+            fill: true,
+        };
+        let host = driver.read(address, filling)?;
+        check(host == Ok(HOST))?;
+        Ok(Request {
+            driver,
+            address,
+            whim: Whim { look, fill: false },
+        })
+    }
+}
+
+impl Work for Request {
+    fn once(&mut self) -> Result<(), Trouble> {
+        let host = self.driver.read(self.address, self.whim)?;
+        check(host == Ok(HOST))
+    }
+}

@@ -1,0 +1,100 @@
+-- A device is detached, and its context is forgotten.
+use Rattle.std.proofs.Common.{◌≡◌, ◌≢◌, ℕ, ◌+◌, ◌<◌, ◌≤◌, inl, inr, false, arith, List, length, Some, None, refl, sym, ap, ◌∙◌, slice_get, slice_set}
+use Rattle.std.proofs.lemmas.Bool.Decides.{nat_tests}
+use Rattle.dmatypes.specs.declared.call.Call.TheVariants as calls
+use Rattle.dmatypes.specs.declared.refusal.Refusal.TheVariants as refusals
+use Rattle.dmatypes.specs.declared.reply.Reply.TheVariants.{Done, Refused}
+use Rattle.dmatypes.specs.Conditions.{Stands}
+use Rattle.dmatypes.specs.Step.{Answers, IsStep, next}
+use Rattle.dmatypes.specs.World.{World, put}
+use Rattle.dmatypes.specs.declared.width.Width.{Width}
+use Rattle.dmatypes.specs.declared.width.Width.TheVariants.{W39}
+use Rattle.tables.specs.Pool.{Stored}
+use Rattle.unit.specs.Caches.{Context}
+use Rattle.unit.specs.Filters.{drops_context}
+use Rattle.vtdbits.specs.declared.context.ContextEntry.{ContextEntry}
+use Rattle.vtdbits.specs.declared.context.ContextEntry.TheVariants.{Absent, Present}
+use Rattle.vtdbits.specs.declared.descriptor.Descriptor.TheVariants.{ContextDevice}
+use Rattle.engine.specs.declared.iommu.Iommu.{Iommu}
+use Rattle.engine.specs.Ending.{Invalidates}
+use Rattle.engine.specs.Machine.{Becomes, Exact, Machine}
+use Rattle.engine.specs.Quarantine.{Quarantine, attached}
+use Rattle.engine.specs.Steps.{Does}
+use Rattle.engine.proofs.Lists.{get_set, get_set_other, is_none, not_none, put_other, put_same, same_or_not}
+use Rattle.engine.proofs.Purging.{Purges, purges_sent}
+use Rattle.engine.proofs.Refusing.{counted, refuses}
+
+dropped_context : (domain device : ℕ) (x : Context) → x.device ≡ device → drops_context (ContextDevice domain device) x ≡ false → ⊥
+dropped_context domain device x same left = grind (arith, nat_tests)
+
+module _ (m t : Machine) (w : World) (device domain : ℕ) (q : Quarantine m w) (small : device < length m.row) (row : t.row ≡ slice_set m.row device Absent) (purges : Purges (ContextDevice domain device) m.unit.caches t.unit.caches)
+    (homes : t.homes ≡ m.homes) (pool : t.pool ≡ m.pool) where
+  entry_then : (x : ℕ) → x ≢ device → slice_get t.row x ≡ slice_get m.row x
+  entry_then x ne = ap (λ r. slice_get r x) row ∙ get_set_other m.row device x Absent ne
+
+  gone : (x : ℕ) → x ≡ device → slice_get t.row x ≡ Some Absent
+  gone x same = ap (λ r. slice_get r x) row ∙ ap (slice_get (slice_set m.row device Absent)) same ∙ get_set m.row device Absent small
+
+  devices : (x : ℕ) → put device None w.devices x ≡ attached (slice_get t.row x)
+  devices x = elim (same_or_not x device) [
+    | inl same ↦ rw (gone x same, same, put_same device None w.devices) refl
+    | inr ne ↦ rw (put_other device None w.devices x ne, entry_then x ne) (q.contexts.devices x)
+  ]
+
+  was_there : (x root e : ℕ) → slice_get t.row x ≡ Some (Present root W39 e) → slice_get m.row x ≡ Some (Present root W39 e)
+  was_there x root e at = elim (same_or_not x device) [
+    | inl same ↦ absurd (clash root e (sym (gone x same) ∙ at))
+    | inr ne ↦ sym (entry_then x ne) ∙ at
+  ]
+    where
+      clash : (root e : ℕ) → Some Absent ≡ Some (Present root W39 e) → ⊥
+      clash root e same = cc
+
+  pub device_gone : Quarantine t (record w { devices = put device None w.devices })
+  device_gone = record {
+    table_frames = q.table_frames ∙ sym (ap (λ (p : Stored). p.frames) pool);
+    domains = rw (homes, pool) q.domains;
+    caches = record {
+      leaves = λ l inside. rw (homes, pool) (q.caches.leaves l (purges.leaves l inside).0);
+      tables = λ i inside. rw (homes, pool) (q.caches.tables i (purges.tables i inside).0);
+    };
+    contexts = record {
+      devices = devices;
+      roots = λ x root e at. rw homes (q.contexts.roots x root e (was_there x root e at));
+      cached = λ x inside. let left = purges.contexts x inside in entry_then x.device (λ same. dropped_context domain device x same left.1) ∙ q.contexts.cached x left.0;
+    };
+    frames = rw (homes, pool) q.frames;
+    tickets = q.tickets;
+  }
+
+-- ---- the call
+
+-- there is one width
+pub only_width : (w : Width) → w ≡ W39
+only_width W39 = refl
+
+pub detach_no_device : (m t : Machine) (device : ℕ) → t ≡ counted m → 15 < device → Does m (calls.Detach device) (Refused refusals.NoDevice) t
+unfolding Exact IsStep Stands
+detach_no_device m t device is big = refuses m t (calls.Detach device) refusals.NoDevice is tt (λ w q. inl (inl (big, refl)))
+
+pub detach_not_attached : (m t : Machine) (device : ℕ) (entry : ContextEntry) → t ≡ counted m → device ≤ 15 → slice_get m.row device ≡ Some entry → attached (Some entry) ≡ None → Does m (calls.Detach device) (Refused refusals.NotAttached) t
+unfolding Exact IsStep Stands
+detach_not_attached m t device entry is small at free = refuses m t (calls.Detach device) refusals.NotAttached is tt
+    (λ w q. inl (inr (λ big. absurd (omega (arith, big, small)), inl (is_none (w.devices device) (q.contexts.devices device ∙ ap attached at ∙ free), refl))))
+
+-- the state without the entry, and with another unit
+abbrev pub detached : Machine → ℕ → List ContextEntry → Iommu → Machine
+detached m device row x = record m { row = row; ring = x.ring; unit = x.unit; sent = x.sent; calls = m.calls + 1 }
+
+pub detach_does : (m : Machine) (device root domain : ℕ) (row : List ContextEntry) (x : Iommu) → device ≤ 15 → length m.row ≡ 16 → slice_get m.row device ≡ Some (Present root W39 domain) → row ≡ slice_set m.row device Absent
+    → Invalidates m.ring m.unit m.sent (ContextDevice domain device) x.ring x.unit x.sent → Does m (calls.Detach device) Done (detached m device row x)
+unfolding Exact Becomes IsStep Stands Answers next
+detach_does m device root domain row x small many at is invalidates = record {
+  steps = λ w q. (
+    ((λ big. absurd (omega (arith, big, small)), (not_none (w.devices device) domain (q.contexts.devices device ∙ ap attached at), tt)), refl),
+    device_gone m (detached m device row x) w device domain q (omega (arith, small, many)) is (purges_sent m.ring.waiting (ContextDevice domain device) x.sent m.unit.caches x.unit.caches invalidates.caches) refl refl,
+  );
+  exact = tt;
+  becomes = (domain, root, at, invalidates, ap (λ r. detached m device r x) is);
+  calls = refl;
+}

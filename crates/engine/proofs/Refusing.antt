@@ -1,0 +1,103 @@
+-- A refused call: the state counts it and stays.
+use Rattle.std.proofs.Common.{◌≡◌, ℕ, ◌+◌, ◌∙◌, length, refl, sym, ap, arith}
+use Rattle.dmatypes.specs.declared.call.Call.{Call}
+use Rattle.dmatypes.specs.declared.call.Call.TheVariants as calls
+use Rattle.dmatypes.specs.declared.reply.Reply.{Reply}
+use Rattle.dmatypes.specs.declared.reply.Reply.TheVariants.{Made, Done, Mapped, Unmapped, Flushed, Refused}
+use Rattle.dmatypes.specs.declared.refusal.Refusal.{Refusal}
+use Rattle.dmatypes.specs.World.{World}
+use Rattle.dmatypes.specs.Step.{IsStep, next}
+use Rattle.engine.specs.Machine.{Machine, Exact, Becomes}
+use Rattle.engine.specs.Quarantine.{IsOfSomeWorld, Quarantine}
+use Rattle.engine.specs.Whole.{IsWhole}
+use Rattle.queue.specs.Queue.{Queue}
+use Rattle.engine.specs.Steps.{Does}
+
+-- the same state, with one call more counted
+abbrev pub counted : Machine → Machine
+counted m = record m { calls = m.calls + 1 }
+
+pub quarantine_counted : (m : Machine) (w : World) → Quarantine m w → Quarantine (counted m) w
+quarantine_counted m w q = record {
+  table_frames = q.table_frames;
+  domains = q.domains;
+  caches = record { leaves = q.caches.leaves; tables = q.caches.tables };
+  contexts = record { devices = q.contexts.devices; roots = q.contexts.roots; cached = q.contexts.cached };
+  frames = q.frames;
+  tickets = q.tickets;
+}
+
+pub next_refused : (w : World) (call : Call) (refusal : Refusal) → next w call (Refused refusal) ≡ w
+unfolding next
+next_refused w (calls.Domain mode) refusal = refl
+next_refused w (calls.Drop domain) refusal = refl
+next_refused w (calls.Attach device domain) refusal = refl
+next_refused w (calls.Detach device) refusal = refl
+next_refused w (calls.MapList domain order rights segments) refusal = refl
+next_refused w (calls.Flush domain) refusal = refl
+next_refused w (calls.Map domain frame pages order rights) refusal = refl
+next_refused w (calls.Dma device address access whim) refusal = refl
+next_refused w (calls.Unmap domain address pages) refusal = refl
+next_refused w (calls.Evict kind place) refusal = refl
+
+becomes_counted : (m t : Machine) (call : Call) (refusal : Refusal) → t ≡ counted m → Becomes m call (Refused refusal) t
+unfolding Becomes
+becomes_counted m t (calls.Domain mode) refusal is = is
+becomes_counted m t (calls.Drop domain) refusal is = is
+becomes_counted m t (calls.Attach device domain) refusal is = is
+becomes_counted m t (calls.Detach device) refusal is = is
+becomes_counted m t (calls.MapList domain order rights segments) refusal is = is
+becomes_counted m t (calls.Flush domain) refusal is = is
+becomes_counted m t (calls.Map domain frame pages order rights) refusal is = is
+becomes_counted m t (calls.Dma device address access whim) refusal is = is
+becomes_counted m t (calls.Unmap domain address pages) refusal is = is
+becomes_counted m t (calls.Evict kind place) refusal is = is
+
+pub refuses : (m t : Machine) (call : Call) (refusal : Refusal) → t ≡ counted m → Exact m call (Refused refusal)
+    → ((w : World) → Quarantine m w → IsStep w call (Refused refusal)) → Does m call (Refused refusal) t
+refuses m t call refusal is exact step = record {
+  steps = λ w q. (step w q, rw (next_refused w call refusal, is) (quarantine_counted m w q));
+  exact = exact;
+  becomes = becomes_counted m t call refusal is;
+  calls = ap (λ (x : Machine). x.calls) is;
+}
+
+next_frames : (w : World) (call : Call) (reply : Reply) → (next w call reply).table_frames ≡ w.table_frames
+unfolding next
+next_frames w (calls.Domain mode) (Made d) = refl
+next_frames w (calls.Domain mode) _ = refl
+next_frames w (calls.Drop domain) Done = refl
+next_frames w (calls.Drop domain) _ = refl
+next_frames w (calls.Detach device) Done = refl
+next_frames w (calls.Detach device) _ = refl
+next_frames w (calls.MapList domain order rights segments) (Mapped address) = refl
+next_frames w (calls.MapList domain order rights segments) _ = refl
+next_frames w (calls.Flush domain) (Flushed released) = refl
+next_frames w (calls.Flush domain) _ = refl
+next_frames w (calls.Attach device domain) Done = refl
+next_frames w (calls.Attach device domain) _ = refl
+next_frames w (calls.Map domain frame pages order rights) (Mapped address) = refl
+next_frames w (calls.Map domain frame pages order rights) _ = refl
+next_frames w (calls.Dma device address access whim) reply = refl
+next_frames w (calls.Unmap domain address pages) (Unmapped released) = refl
+next_frames w (calls.Unmap domain address pages) _ = refl
+next_frames w (calls.Evict kind place) reply = refl
+
+-- there are as many table frames as before
+pub frames_kept : (m t : Machine) (call : Call) (reply : Reply) → IsOfSomeWorld m → Does m call reply t → m.pool.frames ≡ t.pool.frames
+frames_kept m t call reply (w, q) does = sym q.table_frames ∙ sym (next_frames w call reply) ∙ (does.steps w q).1.table_frames
+
+-- what the type of a state keeps, after a call that sends nothing
+pub whole_quiet : (frames : ℕ) (m t : Machine) (call : Call) (reply : Reply) → IsWhole frames m → Does m call reply t → length t.homes ≡ length m.homes → length t.row ≡ length m.row → t.ring ≡ m.ring → t.sent ≡ m.sent → t.unit.steps ≡ m.unit.steps
+    → IsWhole frames t
+whole_quiet frames m t call reply whole does homes row ring sent steps =
+    record {
+      of_world = (next whole.of_world.0 call reply, (does.steps whole.of_world.0 whole.of_world.1).1);
+      places = homes ∙ whole.places;
+      devices = row ∙ whole.devices;
+      frames_are = whole.frames_are ∙ frames_kept m t call reply whole.of_world does;
+      idle = ap (λ (r : Queue). r.waiting) ring ∙ whole.idle;
+      status = (let same = ap (λ (r : Queue). r.status) ring in omega (arith, same, sent, whole.status));
+      sent = omega (arith, sent, whole.sent, does.calls);
+      steps = omega (arith, steps, whole.steps, does.calls);
+    }

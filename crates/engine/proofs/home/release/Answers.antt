@@ -1,0 +1,20 @@
+use Rattle.engine.proofs.home.release.Goals as goal
+
+-- src/home.rt:151:5
+pub give_back-requires-clause-once : goal.give_back-requires-clause-once
+give_back-requires-clause-once c = rw (c.frames.ensures.all) c.requires.once
+
+-- src/home.rt:151:5
+pub give_back-requires-clause-within : goal.give_back-requires-clause-within
+give_back-requires-clause-within c = rw (c.frames.ensures.all) c.requires.within
+
+-- src/home.rt:144:1
+pub returns-clause-released : goal.returns-clause-released
+returns-clause-released c = record {
+  frees = c.release.ensures.freed;
+  is_space = c.release.ensures.space.1;
+  free = rw (← c.frames.ensures.all) c.give_back.ensures.free;
+  words = c.give_back.ensures.words;
+  frames = c.give_back.ensures.frames;
+  is_pool = c.give_back.ensures.pool;
+}

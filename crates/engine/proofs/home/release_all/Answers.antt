@@ -1,0 +1,14 @@
+use Rattle.std.proofs.Common.{◌∙◌}
+use Rattle.engine.proofs.Releasable.{releasing_one, releasing_step}
+use Rattle.engine.proofs.home.release_all.Goals as goal
+
+pub release-requires : goal.release-requires
+release-requires c =
+    releasing_one c.args.pool.now c.loop-record.pool c.args.space.now c.loop-record.space c.args.records.now.items c.pop.new.self.items c.in-Some.record (rw c.in-Some.ensures.items at c.loop-record.invariant.0)
+
+pub loop-record-preserved : goal.loop-record-preserved
+loop-record-preserved c = (
+  releasing_step c.args.pool.now c.loop-record.pool c.args.space.now c.loop-record.space c.args.records.now.items c.pop.new.self.items c.in-Some.record (rw c.in-Some.ensures.items at c.loop-record.invariant.0)
+      c.release.new.pool c.release.new.space c.release.ensures.released c.release.ensures.retirable c.release.ensures.more,
+  c.pop.ensures.capacity ∙ c.loop-record.invariant.1,
+)

@@ -1,0 +1,42 @@
+use Rattle.std.proofs.Common.{◌≡◌, ◌≤◌, ◌<◌, ◌∙◌, ⊎_elim, Some, ap, length, refl, slice_get}
+use Rattle.std.proofs.lemmas.Bool.{cases_lt}
+use Rattle.std.proofs.lemmas.List.{length-set}
+use Rattle.dmatypes.specs.declared.call.Call.TheVariants as calls
+use Rattle.dmatypes.specs.declared.reply.Reply.TheVariants.{Done}
+use Rattle.dmatypes.specs.declared.width.Width.TheVariants.{W39}
+use Rattle.vtdbits.specs.declared.context.ContextEntry.TheVariants.{Absent, Present}
+use Rattle.vtdbits.specs.declared.descriptor.Descriptor.TheVariants.{ContextDevice}
+use Rattle.engine.specs.Ending.{Invalidates}
+use Rattle.engine.specs.Machine.{Machine}
+use Rattle.engine.specs.Steps.{Does}
+use Rattle.engine.proofs.Detaching.{detach_does, detach_no_device, detach_not_attached, detached, only_width}
+use Rattle.engine.proofs.Sent.{whole_sends}
+use Rattle.engine.proofs.state.State.detach.Goals as goal
+
+pub returns-in_default : goal.returns-in_default
+returns-in_default c =
+    let big : 15 < c.args.device = ⊎_elim (λ (big : 15 < c.args.device). big) (λ (small : c.args.device ≤ 15). let some = c.in_default.ensures.some.1 small in absurd cc) (cases_lt 15 c.args.device) in
+    rw (← c.self.view_is) (detach_no_device _ _ c.args.device refl big)
+
+pub returns-in_default-get : goal.returns-in_default-get
+returns-in_default-get c = rw (← c.self.view_is) (detach_not_attached _ _ c.args.device Absent refl (c.in-Some.ensures.some.0 refl) c.in_default-get.ensures refl)
+
+abbrev before : goal.After-invalidate → Machine
+before c = record { pool = c.self.inside.pool; homes = c.self.inside.homes.items; row = c.self.inside.contexts; ring = c.self.inside.iommu.ring; unit = c.self.inside.iommu.unit; sent = c.self.inside.iommu.sent; calls = c.self.inside.calls }
+
+sent : (c : goal.After-invalidate) → Invalidates c.self.inside.iommu.ring c.self.inside.iommu.unit c.self.inside.iommu.sent (ContextDevice c.in-Present.domain c.args.device) c.invalidate.new.self.ring c.invalidate.new.self.unit c.invalidate.new.self.sent
+sent c = rw (← c.in-Some.ensures.value) c.invalidate.ensures
+
+does : (c : goal.After-invalidate) → Does (before c) (calls.Detach c.args.device) Done (detached (before c) c.args.device c.clear.new.self c.invalidate.new.self)
+does c =
+    let at : slice_get c.self.inside.contexts c.args.device ≡ Some (Present c.in-Present.root W39 c.in-Present.domain) =
+    c.in-Present.ensures ∙ ap (λ w. Some (Present c.in-Present.root w c.in-Present.domain)) (only_width c.in-Present.width) in
+    detach_does (before c) c.args.device c.in-Present.root c.in-Present.domain c.clear.new.self c.invalidate.new.self (c.in-Some.ensures.some.0 refl) c.self.invariant.devices at c.clear.ensures (sent c)
+
+pub invariant_of-self-2 : goal.invariant_of-self-2
+invariant_of-self-2 c =
+    whole_sends c.self.inside.frames (before c) (detached (before c) c.args.device c.clear.new.self c.invalidate.new.self) (calls.Detach c.args.device) Done (ContextDevice c.in-Present.domain c.args.device) c.self.invariant (does c) refl
+    (ap length c.clear.ensures ∙ length-set c.self.inside.contexts c.args.device Absent) (sent c)
+
+pub returns : goal.returns
+returns c = rw (← c.self.view_is) (does c)

@@ -1,0 +1,35 @@
+use Rattle.std.proofs.Common.{◌≡◌, ◌+◌, ◌∙◌, ap, true, false, sym, refl}
+use Rattle.dmatypes.specs.Page.{IsInWindow}
+use Rattle.dmatypes.specs.declared.call.Call.TheVariants as calls
+use Rattle.unit.specs.Caches.{unit_state}
+use Rattle.engine.specs.Machine.{Machine, host_in, reached_reply}
+use Rattle.engine.specs.Steps.{Does}
+use Rattle.engine.proofs.Answered.{request_does, request_no_device, request_window}
+use Rattle.engine.proofs.Refusing.{whole_quiet}
+use Rattle.engine.proofs.state.State.dma.Goals as goal
+
+pub returns-then-device-gt15 : goal.returns-then-device-gt15
+returns-then-device-gt15 c = rw (← c.self.view_is) (request_no_device _ _ c.args.device c.args.address c.args.access c.args.whim refl c.if-device-gt15.true)
+
+pub returns-then-is_in_window : goal.returns-then-is_in_window
+returns-then-is_in_window c =
+    rw (← c.self.view_is) (request_window _ _ c.args.device c.args.address c.args.access c.args.whim refl c.if-device-gt15.false (c.is_in_window.ensures.0 c.if-is_in_window.true))
+
+abbrev before : goal.After-host_in → Machine
+before c = record { pool = c.self.inside.pool; homes = c.self.inside.homes.items; row = c.self.inside.contexts; ring = c.self.inside.iommu.ring; unit = c.self.inside.iommu.unit; sent = c.self.inside.iommu.sent; calls = c.self.inside.calls }
+
+abbrev after : goal.After-host_in → Machine
+after c = record { pool = c.self.inside.pool; homes = c.self.inside.homes.items; row = c.self.inside.contexts; ring = c.self.inside.iommu.ring; unit = c.dma-answer.new.self; sent = c.self.inside.iommu.sent; calls = c.self.inside.calls + 1 }
+
+does : (c : goal.After-host_in) → Does (before c) (calls.Dma c.args.device c.args.address c.args.access c.args.whim) (reached_reply (host_in c.dma-answer.result)) (after c)
+does c =
+    let outside : IsInWindow c.args.address → ⊥ = λ inside. let both : true ≡ false = sym (c.is_in_window.ensures.1 inside) ∙ c.if-is_in_window.false in cc in
+    request_does (before c) (after c) c.args.device c.args.address c.args.access c.args.whim c.dma-answer.result c.if-device-gt15.false outside c.dma-answer.ensures.answers
+    (ap (λ steps. record (before c) { unit = unit_state c.dma-answer.new.self.caches steps; calls = c.self.inside.calls + 1 }) c.dma-answer.ensures.steps)
+
+pub returns : goal.returns
+returns c = rw (← c.self.view_is, c.host_in.ensures) (does c)
+
+pub invariant_of-self-2 : goal.invariant_of-self-2
+invariant_of-self-2 c =
+    whole_quiet c.self.inside.frames (before c) (after c) (calls.Dma c.args.device c.args.address c.args.access c.args.whim) (reached_reply (host_in c.dma-answer.result)) c.self.invariant (does c) refl refl refl refl c.dma-answer.ensures.steps

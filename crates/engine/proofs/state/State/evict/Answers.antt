@@ -1,0 +1,25 @@
+use Rattle.std.proofs.Common.{◌+◌, ap, refl}
+use Rattle.dmatypes.specs.declared.call.Call.TheVariants as calls
+use Rattle.dmatypes.specs.declared.reply.Reply.TheVariants.{Done}
+use Rattle.unit.specs.Caches.{UnitState}
+use Rattle.engine.specs.Machine.{Machine}
+use Rattle.engine.specs.Steps.{Does}
+use Rattle.engine.proofs.Answered.{evict_does}
+use Rattle.engine.proofs.Refusing.{whole_quiet}
+use Rattle.engine.proofs.state.State.evict.Goals as goal
+
+abbrev before : goal.After-evict → Machine
+before c = record { pool = c.self.inside.pool; homes = c.self.inside.homes.items; row = c.self.inside.contexts; ring = c.self.inside.iommu.ring; unit = c.self.inside.iommu.unit; sent = c.self.inside.iommu.sent; calls = c.self.inside.calls }
+
+abbrev after : goal.After-evict → Machine
+after c = record { pool = c.self.inside.pool; homes = c.self.inside.homes.items; row = c.self.inside.contexts; ring = c.self.inside.iommu.ring; unit = c.evict.new.self; sent = c.self.inside.iommu.sent; calls = c.self.inside.calls + 1 }
+
+does : (c : goal.After-evict) → Does (before c) (calls.Evict c.args.kind c.args.place) Done (after c)
+does c = evict_does (before c) (after c) c.args.kind c.args.place (ap (λ (u : UnitState). record (before c) { unit = u; calls = c.self.inside.calls + 1 }) c.evict.ensures)
+
+pub returns : goal.returns
+returns c = rw (← c.self.view_is) (does c)
+
+pub invariant_of-self : goal.invariant_of-self
+invariant_of-self c =
+    whole_quiet c.self.inside.frames (before c) (after c) (calls.Evict c.args.kind c.args.place) Done c.self.invariant (does c) refl refl refl refl (ap (λ (u : UnitState). u.steps) c.evict.ensures)

@@ -1,0 +1,10 @@
+pub mod Homes
+pub mod Judged
+pub mod Placing
+pub mod Ending
+pub mod Ready
+pub mod Machine
+pub mod Quarantine
+pub mod Whole
+pub mod Steps
+pub mod Totals

@@ -1,0 +1,54 @@
+-- What the parts of the state ask of their callers before pages end, are released, or the unit is run. Whoever reads
+-- what the state does needs none of it: each state has it.
+use Rattle.std.specs.Prelude.{◌≡◌, ◌≢◌, ℕ, ◌+◌, ◌^◌, ◌<◌, ◌≤◌, List, [], ◌∷◌, Some, IsSome}
+use Rattle.dmatypes.specs.Page.{Range}
+use Rattle.dmatypes.specs.World.{IsIn}
+use Rattle.iova.specs.declared.piece.PageState.TheVariants.{Live, Retired}
+use Rattle.iova.specs.Pieces.{piece_of, state_at}
+use Rattle.iova.specs.Space.{AddressSpace, IsSpace}
+use Rattle.tables.specs.Pool.{Stored, memory, occurs, IsTree, IsZeroed}
+use Rattle.tables.specs.Tree.{states}
+use Rattle.tables.specs.Taken.{Taken}
+use Rattle.engine.specs.declared.iommu.Iommu.{Iommu}
+use Rattle.engine.specs.declared.record.Record.{Record}
+use Rattle.engine.specs.Ending.{ReleasesAll}
+use Rattle.engine.specs.Homes.{Home, held_in}
+
+-- its tree is one of the pool, and maps each live page
+pub record CanCut (pool : Stored) (space : AddressSpace) (root : ℕ) : Type 0 where
+  pub tree : IsTree pool 3 root
+  pub there : (p : ℕ) → state_at space.pieces p ≡ Some Live → IsSome (states (memory pool.words) 3 root p)
+
+-- the range is one retired piece, and what was cut are different zeroed frames of the pool that are not free
+pub record IsReleasable (pool : Stored) (space : AddressSpace) (range : Range) (cut : Taken) : Type 0 where
+  pub piece : IsIn (piece_of range Retired) space.pieces
+  pub once : (f : ℕ) → occurs f pool.free + occurs f cut.frames ≤ 1
+  pub within : (f : ℕ) → 0 < occurs f cut.frames → f < pool.frames
+  pub zeroed : (f : ℕ) → 0 < occurs f cut.frames → IsZeroed pool.words f
+
+-- no two of the records are of one piece
+unfoldable pub AllDiffer : List Record → Type 0
+AllDiffer [] = Unit {0}
+AllDiffer (r ∷ rs) = ((q : Record) → IsIn q rs → piece_of r.range Retired ≢ piece_of q.range Retired) × AllDiffer rs
+
+-- each of the records can be released, whichever went before it
+pub record AreReleasable (pool : Stored) (space : AddressSpace) (records : List Record) : Type 0 where
+  pub is_space : IsSpace space
+  pub pieces : (r : Record) → IsIn r records → IsIn (piece_of r.range Retired) space.pieces
+  pub differ : AllDiffer records
+  pub once : (f : ℕ) → occurs f pool.free + held_in records f ≤ 1
+  pub within : (f : ℕ) → 0 < held_in records f → f < pool.frames
+  pub zeroed : (f : ℕ) → 0 < occurs f pool.free + held_in records f → IsZeroed pool.words f
+
+-- nothing waits, what was sent is done, and numbers are left for a wait and for two steps of the unit
+pub record IsReady (x : Iommu) : Type 0 where
+  pub idle : x.ring.waiting ≡ []
+  pub done : x.ring.status ≤ x.sent
+  pub few : x.sent + 1 < 2 ^ 32
+  pub steps : x.unit.steps + 2 ≤ 2 ^ 63
+
+-- its live pages can be cut from its tree, its records released, and then too its live pages be cut
+pub record CanUnmap (pool : Stored) (h : Home) : Type 0 where
+  pub cut : CanCut pool h.space h.root
+  pub releasable : AreReleasable pool h.space h.records
+  pub emptied : (pool' : Stored) (space' : AddressSpace) → ReleasesAll pool h.space h.records pool' space' → CanCut pool' space' h.root

@@ -1,0 +1,31 @@
+-- What a method of the state does, and which states a history goes along.
+use Rattle.std.specs.Prelude.{◌≡◌, ℕ, ◌+◌, List, [], ◌∷◌}
+use Rattle.dmatypes.specs.declared.call.Call.{Call}
+use Rattle.dmatypes.specs.declared.reply.Reply.{Reply}
+use Rattle.dmatypes.specs.declared.reply.Event.{Event}
+use Rattle.dmatypes.specs.World.{World}
+use Rattle.dmatypes.specs.Step.{IsStep, next}
+use Rattle.engine.specs.Machine.{Machine, IsNew, Exact, Becomes}
+use Rattle.engine.specs.Quarantine.{Quarantine}
+
+-- for every world that the state is one of, call and reply are a step from it, and the next state is one of the
+-- world after them
+abbrev pub Steps : Machine → Call → Reply → Machine → Type 0
+Steps m call reply t = (w : World) → Quarantine m w → IsStep w call reply × Quarantine t (next w call reply)
+
+-- all that a method of the state promises: a step, the exact conditions that the model leaves open, what
+-- becomes of the state, and that one call more is counted
+pub record Does (m : Machine) (call : Call) (reply : Reply) (t : Machine) : Type 0 where
+  pub steps : Steps m call reply t
+  pub exact : Exact m call reply
+  pub becomes : Becomes m call reply t
+  pub calls : t.calls ≡ m.calls + 1
+
+-- the events lead from the first state to the last, each by what a method does
+abbrev pub Goes : Machine → List Event → Machine → Type 0
+Goes m [] t = m ≡ t
+Goes m (e ∷ es) t = (s : Machine) × (Does m e.call e.reply s × Goes s es t)
+
+-- they lead from some new state to the last
+abbrev pub GoesTo : ℕ → List Event → Machine → Type 0
+GoesTo frames events t = (m : Machine) × (IsNew frames m × Goes m events t)

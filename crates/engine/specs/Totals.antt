@@ -1,0 +1,50 @@
+-- What a report tells of the state.
+use Rattle.std.specs.Prelude.{ℕ, ◌+◌, ◌-◌, List, Option, None, Some, length, sum_by}
+use Rattle.iova.specs.declared.piece.PageState.{PageState}
+use Rattle.iova.specs.declared.piece.PageState.TheVariants.{Free, Live, Retired}
+use Rattle.iova.specs.declared.piece.Piece.{Piece}
+use Rattle.engine.specs.declared.record.Record.{Record}
+use Rattle.engine.specs.declared.state.totals.DomainTotals.{DomainTotals}
+use Rattle.engine.specs.declared.state.totals.Totals.{Totals}
+use Rattle.engine.specs.Homes.{Home, Place}
+use Rattle.engine.specs.Machine.{Machine}
+
+-- so many pages, where they are live
+abbrev pub live_as : PageState → ℕ → ℕ
+live_as Free pages = 0
+live_as Live pages = pages
+live_as Retired pages = 0
+
+abbrev pub live_in : Piece → ℕ
+live_in p = live_as p.state (p.last + 1 - p.first)
+
+-- how many pages of the pieces are live
+abbrev pub live_pages : List Piece → ℕ
+live_pages pieces = sum_by live_in pieces
+
+-- how many table frames records hold
+abbrev pub held_by : List Record → ℕ
+held_by records = sum_by (λ (r : Record). length r.cut.frames) records
+
+-- how many table frames the records of all domains hold
+abbrev pub held_by_all : List Place → ℕ
+held_by_all homes = sum_by (λ (p : Place). held_by p.records) homes
+
+-- the table frames that are free, and that records hold; the others are used. No call opens a ticket yet
+abbrev pub totals_of : Machine → Totals
+totals_of m = record {
+  free = length m.pool.free;
+  used = m.pool.frames - length m.pool.free - held_by_all m.homes;
+  held = held_by_all m.homes;
+  tickets = 0;
+  pending = length m.ring.waiting;
+}
+
+abbrev pub domain_totals_of : Option Home → Option DomainTotals
+domain_totals_of None = None
+domain_totals_of (Some h) = Some (record {
+  mode = h.mode;
+  live = live_pages h.space.pieces;
+  retired = length h.records;
+  pieces = length h.space.pieces;
+})

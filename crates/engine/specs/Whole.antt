@@ -1,0 +1,16 @@
+-- What the type of a state keeps.
+use Rattle.std.specs.Prelude.{◌≡◌, ℕ, ◌*◌, ◌≤◌, [], length}
+use Rattle.engine.specs.Machine.{Machine}
+use Rattle.engine.specs.Quarantine.{IsOfSomeWorld}
+
+-- it is a state of some world, with the places of domains 1 to 15, the entries of devices 0 to 15 and so many table
+-- frames; nothing waits between calls; no more waits were sent than calls made, and 130 steps of the unit for each
+pub record IsWhole (frames : ℕ) (m : Machine) : Type 0 where
+  pub of_world : IsOfSomeWorld m
+  pub places : length m.homes ≡ 15
+  pub devices : length m.row ≡ 16
+  pub frames_are : frames ≡ m.pool.frames
+  pub idle : m.ring.waiting ≡ []
+  pub status : m.ring.status ≤ m.sent
+  pub sent : m.sent ≤ m.calls
+  pub steps : m.unit.steps ≤ 130 * m.calls

@@ -1,0 +1,62 @@
+//! The unit and the ring before it, as the manager uses them.
+
+ghost use Rattle.std.specs.Prelude.{◌≡◌, ℕ, ◌+◌, ◌<◌, ◌≤◌, ◌^◌, ◌∷◌, []};
+ghost use Rattle.engine.specs.Ending.{Invalidates, left_by_all};
+ghost use Rattle.engine.specs.Ready.{IsReady};
+ghost use Rattle.queue.specs.Queue.{queue};
+ghost use Rattle.unit.specs.Caches.{nothing, unit_state};
+ghost use Rattle.unit.specs.Filters.{status_after};
+ghost use Rattle.vtdbits.specs.declared.descriptor.Descriptor.TheVariants.{Wait};
+
+use queue::Ring;
+use unit::Unit;
+use vtdbits::Descriptor;
+
+/// The ring of descriptors, the unit that takes from it, and the number of the last wait that was sent.
+#[derive(Drop)]
+pub(crate) struct Iommu {
+    pub(crate) ring: Ring,
+    pub(crate) unit: Unit,
+    pub(crate) sent: u32,
+}
+
+impl Iommu {
+    /// Nothing waits, and the unit remembers nothing.
+    pub(crate) fn new() -> Iommu
+        ensures { result ≡ record { ring = queue [] 0; unit = unit_state nothing 0; sent = 0 } }
+    {
+        Iommu {
+            ring: Ring::new(),
+            unit: Unit::new(),
+            sent: 0,
+        }
+    }
+
+    /// Sends a descriptor that is no wait and then a wait, and runs the unit until the wait is done. Nothing waits
+    /// before, and nothing waits then.
+    pub(crate) fn invalidate(&mut self, descriptor: Descriptor)
+        requires ready { IsReady self.old }
+        requires no_wait { (status : ℕ) → status_after descriptor status ≡ status }
+        ensures { Invalidates self.old.ring self.old.unit self.old.sent descriptor self.new.ring self.new.unit self.new.sent }
+    {
+        self.sent += 1;
+        work_off(&mut self.ring, &mut self.unit, self.sent, descriptor);
+    }
+}
+
+// The same, with a wait of this number.
+fn work_off(ring: &mut Ring, unit: &mut Unit, number: u32, descriptor: Descriptor)
+    requires idle { ring.old.waiting ≡ [] }
+    requires later { ring.old.status < number }
+    requires no_wait { (status : ℕ) → status_after descriptor status ≡ status }
+    requires steps { unit.old.steps + 2 ≤ 2 ^ 63 }
+    ensures ring { ring.new ≡ queue [] number }
+    ensures caches { unit.new.caches ≡ left_by_all (descriptor ∷ Wait number ∷ []) unit.old.caches }
+    ensures steps { unit.new.steps ≡ unit.old.steps + 2 }
+{
+    let _ = ring.submit(descriptor);
+    let _ = ring.submit(Descriptor::Wait(number));
+    while !ring.wait_done(number) {
+        unit.step(ring);
+    }
+}

@@ -1,0 +1,13 @@
+//! The sequential manager: table frames, domains with their address spaces and trees, and the devices that are
+//! attached to them. Each method of the state is a step of the model.
+#![tactic(auto)]
+
+mod home;
+mod iommu;
+mod record;
+mod request;
+mod sending;
+mod state;
+mod wanted;
+
+pub use state::{DomainTotals, State, Totals};

@@ -1,0 +1,49 @@
+//! Which descriptor an unmap sends.
+
+ghost use Rattle.std.specs.Prelude.{◌≡◌, ◌<◌, ◌^◌};
+ghost use Rattle.dmatypes.specs.Block.{block};
+ghost use Rattle.engine.specs.Ending.{IsBlockOf, IsSent, hint_of};
+
+use dmatypes::{PageRange, aligned_block};
+use tables::Cut;
+use vtdbits::{Descriptor, DomainId, PageBlock};
+
+// The order of a block of 512 pages, as a leaf of 2 MiB maps them, and the greatest that a descriptor names.
+const LARGE: u8 = 9;
+
+/// The descriptor of a strict unmap: page-selective for the smallest aligned block that holds the range, and where a
+/// leaf of 2 MiB was split for at least 512 pages; beyond 512 pages domain-selective. The invalidation hint is set
+/// exactly where no table was cut and no leaf was split.
+pub(crate) fn descriptor_of(domain: DomainId, range: PageRange, cut: &Cut) -> Descriptor
+    ensures { IsSent domain range cut.now result }
+{
+    let (first, order) = block_of(range, cut.split());
+    match PageBlock::new(first, order) {
+        Some(block) => Descriptor::IotlbPages {
+            domain,
+            block,
+            hint: hint_of(cut),
+        },
+        None => Descriptor::IotlbDomain(domain),
+    }
+}
+
+// The first page number and the order of the block.
+fn block_of(range: PageRange, split: bool) -> (u64, u8)
+    ensures block { IsBlockOf range split (block result.0 result.1) }
+    ensures near { result.0 < 2 ^ 36 }
+{
+    let (first, order) = aligned_block(range);
+    if split && order < LARGE {
+        (first >> LARGE << LARGE, LARGE)
+    } else {
+        (first, order)
+    }
+}
+
+// Whether nothing was cut and nothing split.
+fn hint_of(cut: &Cut) -> bool
+    ensures { result ≡ hint_of cut.now }
+{
+    cut.frames().is_empty() && !cut.split()
+}

@@ -1,0 +1,472 @@
+//! The sequential manager, one method a call.
+
+ghost use Rattle.std.specs.Prelude.{◌≡◌, ◌+◌, ◌%◌, ◌<◌, ◌≤◌, ◌^◌, ◌==◌, ℕ, IfOk, IfSome, IfNone, IsSomeAnd, length, slice_get, replicate, Some, None, IsSome, IsFalse, IsTrue, ◌↔◌};
+ghost use Rattle.dmatypes.specs.Conditions.{IsBadUnmap};
+ghost use Rattle.dmatypes.specs.Page.{IsInWindow, IsPageRange, range_at};
+ghost use Rattle.dmatypes.specs.World.{empty};
+ghost use Rattle.dmatypes.specs.declared.call.Call.TheVariants as calls;
+ghost use Rattle.dmatypes.specs.declared.reply.Reply.TheVariants.{Done};
+ghost use Rattle.engine.specs.Homes.{home_of, home_in, vacant};
+ghost use Rattle.engine.specs.Machine.{IsNew, done_reply, flushed_reply, host_in, unmapped_reply, made_reply, mapped_reply, request_reply};
+ghost use Rattle.engine.specs.Quarantine.{Quarantine, attached};
+ghost use Rattle.engine.specs.Steps.{Does};
+ghost use Rattle.engine.specs.Whole.{IsWhole};
+
+use crate::home::Home;
+use crate::iommu::Iommu;
+use crate::request::judge;
+use arrayvec::ArrayVec;
+use dmatypes::{Access, Cache, Call, Fault, Mode, PageRange, Refusal, Reply, Segment, Whim, Width};
+use std::alloc::{AllocError, Global};
+use std::marker::Model;
+use tables::{NoFrames, Pool, Tree};
+use unit::{Contexts, Hit};
+use vtdbits::{ContextEntry, Descriptor, DeviceNumber, DomainId};
+
+mod totals;
+
+pub use totals::{DomainTotals, Totals};
+
+/// Table frames, domains, the row of context entries, the ring and the unit, and the number of calls made. Its type
+/// keeps that it is a state of some world.
+#[derive(Drop)]
+pub struct State {
+    frames: u64,
+    pool: Pool,
+    homes: Vec<Home>,
+    contexts: Contexts,
+    iommu: Iommu,
+    calls: u64,
+}
+
+impl Model for State {
+    ghost use Rattle.engine.specs.Machine.{Machine};
+    ghost use Rattle.engine.specs.Whole.{IsWhole};
+
+    ghost Value = { Machine };
+
+    ghost view = { λ s. record { pool = s.pool; homes = s.homes.items; row = s.contexts; ring = s.iommu.ring; unit = s.iommu.unit; sent = s.iommu.sent; calls = s.calls } };
+
+    ghost invariant = { λ s. IsWhole s.frames (record { pool = s.pool; homes = s.homes.items; row = s.contexts; ring = s.iommu.ring; unit = s.iommu.unit; sent = s.iommu.sent; calls = s.calls }) };
+}
+
+impl State {
+    /// A state with no domain and no attached device, with so many table frames.
+    pub fn new(alloc: Global, frames: u64) -> Result<State, AllocError>
+        requires some { 16 ≤ frames }
+        requires few { frames ≤ 4096 }
+        ensures new { IfOk result (IsNew frames) }
+        ensures empty { IfOk result (λ state. Quarantine state (empty frames)) }
+    {
+        Ok(State {
+            frames,
+            pool: Pool::new(alloc, frames)?,
+            homes: vacant_homes(alloc)?,
+            contexts: Contexts::new(),
+            iommu: Iommu::new(),
+            calls: 0,
+        })
+    }
+
+    /// Makes an empty domain, and answers its id, 1 to 15. Refuses with `TooManyDomains` where all ids are in use, else
+    /// with `NoFrames` where no table frame is free.
+    pub fn domain(&mut self, mode: Mode) -> Result<u64, Refusal>
+        requires { self.old.calls < 1048576 }
+        ensures { Does self.old (calls.Domain mode) (made_reply result) self.new }
+    {
+        self.calls += 1;
+        let Some(index) = first_vacant(self.homes.as_slice()) else {
+            return Err(Refusal::TooManyDomains);
+        };
+        let tree = match Tree::new(&mut self.pool) {
+            Ok(tree) => tree,
+            Err(NoFrames) => return Err(Refusal::NoFrames),
+        };
+        self.homes[index].open(mode, tree);
+        Ok(index as u64 + 1)
+    }
+
+    /// Attaches a device, 0 to 15, to a domain. Refuses with `NoDevice`, `NoDomain`, or `Busy` where it is attached, the
+    /// first of these that stands.
+    pub fn attach(&mut self, device: u64, domain: u64) -> Result<(), Refusal>
+        requires { self.old.calls < 1048576 }
+        ensures { Does self.old (calls.Attach device domain) (done_reply result) self.new }
+    {
+        self.calls += 1;
+        if device > 15 {
+            return Err(Refusal::NoDevice);
+        }
+        let Some(index) = index_of(self.homes.as_slice(), domain) else {
+            return Err(Refusal::NoDomain);
+        };
+        let ContextEntry::Absent = self.contexts.get(device) else {
+            return Err(Refusal::Busy);
+        };
+        let entry = ContextEntry::Present {
+            root: self.homes[index].root(),
+            width: Width::W39,
+            domain: DomainId::new(domain).unwrap(),
+        };
+        self.contexts.set(device, entry);
+        Ok(())
+    }
+
+    /// Detaches a device, 0 to 15, from its domain, and has the unit forget its context. Refuses with `NoDevice`, else
+    /// with `NotAttached`.
+    pub fn detach(&mut self, device: u64) -> Result<(), Refusal>
+        requires { self.old.calls < 1048576 }
+        ensures { Does self.old (calls.Detach device) (done_reply result) self.new }
+    {
+        self.calls += 1;
+        let Some(number) = DeviceNumber::new(device) else {
+            return Err(Refusal::NoDevice);
+        };
+        let ContextEntry::Present { domain, .. } = self.contexts.get(device) else {
+            return Err(Refusal::NotAttached);
+        };
+        self.contexts.clear(device);
+        self.iommu.invalidate(Descriptor::ContextDevice {
+            domain,
+            device: number,
+        });
+        Ok(())
+    }
+
+    /// Ends a domain to which no device is attached, with all its pages, and gives all its table frames back. Refuses
+    /// with `NoDomain`, or `Busy` where a device is attached.
+    pub fn drop_domain(&mut self, domain: u64) -> Result<(), Refusal>
+        requires { self.old.calls < 1048576 }
+        ensures { Does self.old (calls.Drop domain) (done_reply result) self.new }
+    {
+        self.calls += 1;
+        let Some(index) = index_of(self.homes.as_slice(), domain) else {
+            return Err(Refusal::NoDomain);
+        };
+        let id = DomainId::new(domain).unwrap();
+        if is_attached(&self.contexts, id) {
+            return Err(Refusal::Busy);
+        }
+        self.homes[index].close(&mut self.pool, &mut self.iommu, id);
+        Ok(())
+    }
+
+    /// Maps 1 to 4,096 pages, from a host frame on, at the lowest free multiple of 2^`order` pages, and answers the byte
+    /// address of the first. The rights are 1 to read, 2 to write, 3 for both. Refuses as `map_list` does.
+    pub fn map(
+        &mut self,
+        domain: u64,
+        frame: u64,
+        pages: u64,
+        order: u64,
+        rights: u64,
+    ) -> Result<u64, Refusal>
+        requires { self.old.calls < 1048576 }
+        ensures { Does self.old (calls.Map domain frame pages order rights) (mapped_reply result) self.new }
+    {
+        self.map_segments(domain, order, rights, &[Segment { frame, pages }])
+    }
+
+    /// Maps the pages of all segments, 1 to 4,096 together, one segment after the other, at the lowest free multiple of
+    /// 2^`order` pages, and answers the byte address of the first. Refuses, and maps nothing, with `NoDomain`, `BadRange`
+    /// (what no map can ask for), `FrameOwned` (a segment begins at a table frame), `NoRange`, `TooManyPieces` (the address
+    /// space would be cut into too many), or `NoFrames` (the tables that are lacking are more than the free frames), the
+    /// first of these that stands.
+    pub fn map_list(
+        &mut self,
+        domain: u64,
+        order: u64,
+        rights: u64,
+        segments: &ArrayVec<Segment, 16>,
+    ) -> Result<u64, Refusal>
+        requires { self.old.calls < 1048576 }
+        ensures { Does self.old (calls.MapList domain order rights segments.now) (mapped_reply result) self.new }
+    {
+        self.map_segments(domain, order, rights, segments.as_slice())
+    }
+
+    fn map_segments(
+        &mut self,
+        domain: u64,
+        order: u64,
+        rights: u64,
+        segments: &[Segment],
+    ) -> Result<u64, Refusal>
+        requires counts { self.old.calls < 1048576 }
+        requires few { length segments.now ≤ 16 }
+        ensures { Does self.old (calls.MapList domain order rights (record { items = segments.now })) (mapped_reply result) self.new }
+    {
+        self.calls += 1;
+        let Some(index) = index_of(self.homes.as_slice(), domain) else {
+            return Err(Refusal::NoDomain);
+        };
+        let wanted = match judge(self.frames, segments, order, rights) {
+            Ok(wanted) => wanted,
+            Err(refusal) => return Err(refusal),
+        };
+        let first = match self.homes[index].map(&mut self.pool, segments, wanted) {
+            Ok(first) => first,
+            Err(refusal) => return Err(refusal),
+        };
+        Ok(4096 * first)
+    }
+
+    /// A device's request at a byte address: the host byte address, or the fault. Refuses with `NoDevice`, or `Window` where
+    /// the address is in the interrupt address range.
+    pub fn dma(
+        &mut self,
+        device: u64,
+        address: u64,
+        access: Access,
+        whim: Whim,
+    ) -> Result<Result<u64, Fault>, Refusal>
+        requires { self.old.calls < 1048576 }
+        ensures { Does self.old (calls.Dma device address access whim) (request_reply result) self.new }
+    {
+        self.calls += 1;
+        if device > 15 {
+            return Err(Refusal::NoDevice);
+        }
+        if is_in_window(address) {
+            return Err(Refusal::Window);
+        }
+        let answer = self
+            .iommu
+            .unit
+            .dma(&self.pool, &self.contexts, device, address, access, whim);
+        Ok(host_in(answer))
+    }
+
+    /// Ends so many live pages of a domain, from a byte address on, and answers how many retired records went for it. In
+    /// a strict domain the pages are invalidated and free when it answers; in a lazy one they become its last record,
+    /// and where 256 were there, these are flushed first. Refuses, and ends nothing, with `NoDomain`, `BadRange` (no
+    /// multiple of 4,096, or a range that can't be mapped at once), `NotLive`, `TooManyPieces`, or `NoFrames` (more leaves
+    /// of 2 MiB are to be split than frames are free), the first of these that stands.
+    pub fn unmap(&mut self, domain: u64, address: u64, pages: u64) -> Result<u64, Refusal>
+        requires { self.old.calls < 1048576 }
+        ensures { Does self.old (calls.Unmap domain address pages) (unmapped_reply result) self.new }
+    {
+        self.calls += 1;
+        let Some(index) = index_of(self.homes.as_slice(), domain) else {
+            return Err(Refusal::NoDomain);
+        };
+        let Some(range) = range_at(address, pages) else {
+            return Err(Refusal::BadRange);
+        };
+        let id = DomainId::new(domain).unwrap();
+        self.homes[index].unmap(&mut self.pool, &mut self.iommu, id, range)
+    }
+
+    /// Releases all retired records of a domain, once the unit has forgotten what it remembers of the domain, and
+    /// answers how many there were. Refuses with `NoDomain`.
+    pub fn flush(&mut self, domain: u64) -> Result<u64, Refusal>
+        requires { self.old.calls < 1048576 }
+        ensures { Does self.old (calls.Flush domain) (flushed_reply result) self.new }
+    {
+        self.calls += 1;
+        let Some(index) = index_of(self.homes.as_slice(), domain) else {
+            return Err(Refusal::NoDomain);
+        };
+        let id = DomainId::new(domain).unwrap();
+        Ok(self.homes[index].flush(&mut self.pool, &mut self.iommu, id))
+    }
+
+    /// The entry at a place of one of the unit's caches is forgotten, if there is one.
+    pub fn evict(&mut self, kind: Cache, place: u64)
+        requires { self.old.calls < 1048576 }
+        ensures { Does self.old (calls.Evict kind place) Done self.new }
+    {
+        self.calls += 1;
+        self.iommu.unit.evict(kind, place);
+    }
+
+    /// What the type of a state keeps, told to its caller.
+    pub fn keeps(&self)
+        ensures { IsWhole self.now.pool.frames self.now }
+    {
+        let _ = &self.frames;
+    }
+
+    /// Makes a call.
+    pub fn perform(&mut self, call: &Call) -> Reply
+        requires { self.old.calls < 1048576 }
+        ensures { Does self.old call.now result self.new }
+    {
+        match call {
+            Call::Domain(mode) => made(self.domain(*mode)),
+            Call::Drop { domain } => done(self.drop_domain(*domain)),
+            Call::Attach { device, domain } => done(self.attach(*device, *domain)),
+            Call::Detach { device } => done(self.detach(*device)),
+            Call::Map {
+                domain,
+                frame,
+                pages,
+                order,
+                rights,
+            } => mapped(self.map(*domain, *frame, *pages, *order, *rights)),
+            Call::MapList {
+                domain,
+                order,
+                rights,
+                segments,
+            } => mapped(self.map_list(*domain, *order, *rights, segments)),
+            Call::Unmap {
+                domain,
+                address,
+                pages,
+            } => unmapped(self.unmap(*domain, *address, *pages)),
+            Call::Flush { domain } => flushed(self.flush(*domain)),
+            Call::Dma {
+                device,
+                address,
+                access,
+                whim,
+            } => requested(self.dma(*device, *address, *access, *whim)),
+            Call::Evict { kind, place } => {
+                self.evict(*kind, *place);
+                Reply::Done
+            }
+        }
+    }
+}
+
+fn made(answer: Result<u64, Refusal>) -> Reply
+    ensures { result ≡ made_reply answer }
+{
+    match answer {
+        Ok(domain) => Reply::Made(domain),
+        Err(refusal) => Reply::Refused(refusal),
+    }
+}
+
+fn done(answer: Result<(), Refusal>) -> Reply
+    ensures { result ≡ done_reply answer }
+{
+    match answer {
+        Ok(()) => Reply::Done,
+        Err(refusal) => Reply::Refused(refusal),
+    }
+}
+
+fn mapped(answer: Result<u64, Refusal>) -> Reply
+    ensures { result ≡ mapped_reply answer }
+{
+    match answer {
+        Ok(address) => Reply::Mapped(address),
+        Err(refusal) => Reply::Refused(refusal),
+    }
+}
+
+fn unmapped(answer: Result<u64, Refusal>) -> Reply
+    ensures { result ≡ unmapped_reply answer }
+{
+    match answer {
+        Ok(released) => Reply::Unmapped(released),
+        Err(refusal) => Reply::Refused(refusal),
+    }
+}
+
+fn flushed(answer: Result<u64, Refusal>) -> Reply
+    ensures { result ≡ flushed_reply answer }
+{
+    match answer {
+        Ok(released) => Reply::Flushed(released),
+        Err(refusal) => Reply::Refused(refusal),
+    }
+}
+
+fn requested(answer: Result<Result<u64, Fault>, Refusal>) -> Reply
+    ensures { result ≡ request_reply answer }
+{
+    match answer {
+        Ok(Ok(host)) => Reply::Host(host),
+        Ok(Err(fault)) => Reply::Faulted(fault),
+        Err(refusal) => Reply::Refused(refusal),
+    }
+}
+
+// 15 places with no domain.
+fn vacant_homes(alloc: Global) -> Result<Vec<Home>, AllocError>
+    ensures { IfOk result (λ v. v.items ≡ replicate 15 vacant) }
+{
+    let mut homes = Vec::with_capacity(alloc, 15)?;
+    for _index in 0..15u64 {
+        homes.push(Home::new(alloc)?)?;
+    }
+    Ok(homes)
+}
+
+// The index of the first place with no domain.
+fn first_vacant(homes: &[Home]) -> Option<usize>
+    ensures vacant { IfSome result (λ i. (i < length homes.now) × (home_of homes.now (i + 1) ≡ None)) }
+    ensures none { IfNone result ((d : ℕ) → 1 ≤ d → d ≤ length homes.now → IsSome (home_of homes.now d)) }
+{
+    homes.iter().position(|home| !home.is_used())
+}
+
+// The index of the place of a domain, where there is one.
+fn index_of(homes: &[Home], domain: u64) -> Option<usize>
+    ensures some { IfSome result (λ i. (domain ≡ i + 1) × (i < length homes.now) × (home_of homes.now domain ≡ home_in (slice_get homes.now i)) × IsSome (home_of homes.now domain)) }
+    ensures none { IfNone result (home_of homes.now domain ≡ None) }
+{
+    if domain == 0 || domain > homes.len() as u64 {
+        return None;
+    }
+    let index = (domain - 1) as usize;
+    if homes[index].is_used() {
+        Some(index)
+    } else {
+        None
+    }
+}
+
+// Whether a device is attached to the domain.
+fn is_attached(contexts: &Contexts, id: DomainId) -> bool
+    requires { length contexts.now ≡ 16 }
+    ensures some { IsTrue result → (v : ℕ) × (attached (slice_get contexts.now v) ≡ Some id) }
+    ensures none { IsFalse result → (v : ℕ) → attached (slice_get contexts.now v) ≡ Some id → ⊥ }
+{
+    for device in 0..16u64 {
+        if attaches(contexts.get(device), id) {
+            return true;
+        }
+    }
+    false
+}
+
+// Whether the entry attaches its device to the domain.
+fn attaches(entry: ContextEntry, id: DomainId) -> bool
+    ensures { IsTrue result ↔ attached (Some entry) ≡ Some id }
+{
+    match entry {
+        ContextEntry::Present { domain, .. } => domain == id,
+        ContextEntry::Absent => false,
+    }
+}
+
+// The pages of an unmap, where it names some.
+fn range_at(address: u64, pages: u64) -> Option<PageRange>
+    ensures some { IfSome result (λ range. (address % 4096 ≡ 0) × (range ≡ range_at address pages) × IsPageRange (range_at address pages)) }
+    ensures none { IfNone result (IsBadUnmap address pages) }
+{
+    if address % 4096 != 0 {
+        return None;
+    }
+    PageRange::new(address / 4096, pages)
+}
+
+// The host byte address of a hit.
+fn host_in(answer: Result<Hit, Fault>) -> Result<u64, Fault>
+    ensures { result ≡ host_in answer }
+{
+    match answer {
+        Ok(hit) => Ok(hit.host),
+        Err(fault) => Err(fault),
+    }
+}
+
+// Whether the address lies in the interrupt address range.
+fn is_in_window(address: u64) -> bool
+    ensures { IsTrue result ↔ IsInWindow address }
+{
+    0xFEE0_0000 <= address && address <= 0xFEEF_FFFF
+}

@@ -1,0 +1,18 @@
+//! What a map can ask for.
+
+ghost use Rattle.std.specs.Prelude.{◌≤◌};
+ghost use Rattle.dmatypes.specs.Rights.{AreRights, bits_of};
+
+use dmatypes::Rights;
+
+/// So many pages at a multiple of 2^`order`, with these rights.
+#[derive(Clone, Copy)]
+pub(crate) struct Wanted {
+    pub(crate) pages: u64,
+    pub(crate) order: u64,
+    pub(crate) rights: Rights,
+    ghost some_pages: { 1 ≤ pages },
+    ghost few_pages: { pages ≤ 4096 },
+    ghost small_order: { order ≤ 9 },
+    ghost some_right: { AreRights (bits_of rights) },
+}

@@ -1,0 +1,16 @@
+-- A book begins.
+use Rattle.std.proofs.Common.{ℕ, [], refl, arith}
+use Rattle.engine.specs.Machine.{IsNew, Machine}
+use Rattle.engine.proofs.Beginning.{of_empty_world, whole_new}
+use Rattle.manager.specs.Kept.{IsKept}
+
+-- a book of a new state keeps what books keep
+pub kept_new : (frames room : ℕ) (m : Machine) → IsNew frames m → IsKept frames room (record { history = []; state = m })
+kept_new frames room m new = record {
+  legal = tt;
+  quarantine = of_empty_world m frames new;
+  whole = whole_new m frames new;
+  goes = (m, (new, refl));
+  within = omega arith;
+  calls = new.calls_are;
+}

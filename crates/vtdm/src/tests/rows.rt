@@ -1,0 +1,271 @@
+//! Scripts with their answers and their reports.
+
+use super::{FIRST_MAP, Flaky, Limited, answers, config};
+use crate::counted::Counted;
+use crate::error::RunError;
+use crate::program::program;
+use crate::report::report;
+use std::alloc::{AllocError, Global};
+use std::sync::Wait;
+use std::test::Fail;
+
+// The report of a script, with ample memory.
+pub(crate) fn reported<T: Wait>(
+    rt: &T,
+    alloc: Global,
+    script: &[u8],
+) -> Result<(Result<(), RunError>, Vec<u8>), AllocError> {
+    let mut written = Vec::new(alloc);
+    let mut reader = Counted::new(script);
+    let mut writer = Counted::new(&mut written);
+    let result = match config(65536) {
+        Some(config) => report(rt, alloc, &mut reader, &mut writer, config),
+        None => Ok(()),
+    };
+    drop(writer);
+    Ok((result, written))
+}
+
+const EMPTY_REPORT: &[u8] =
+    b"events 0\nframes 64 free 0 used 0 retired\ntickets 0 open\nring 0 pending\n";
+
+const STRICT_UNMAP: &[u8] =
+    b"domain strict\nattach 3 1\nmap 1 0x100 1 0 rw\ndma 3 0x1234 r look fill\nunmap 1 0x1000 1\ndma 3 0x1234 r look\n";
+
+const LARGE_LEAF: &[u8] = b"domain strict\nattach 3 1\nmap 1 0x400 512 9 rw\n";
+
+const SPLIT_LEAF: &[u8] =
+    b"domain strict\nattach 3 1\nmap 1 0x400 512 9 rw\ndma 3 0x201000 r look fill\nunmap 1 0x201000 1\ndma 3 0x201000 r look\ndma 3 0x202000 r look\n";
+
+const BAD_RANGES: &[u8] =
+    b"domain strict\nmap 1 0xffffff 1 0 r\nmap 1 0xffffff 2 0 r\nmap 1 0x100 4097 0 r\nmap 1 0x100 0 0 r\nmap 1 0x3f 1 0 r\nunmap 1 0x0 1\nunmap 1 0x5000 1\n";
+
+const TWO_LEAVES_SPLIT: &[u8] =
+    b"domain strict\nattach 3 1\nmap 1 0x400 1024 9 rw\ndma 3 0x3ff000 r look fill\nunmap 1 0x3ff000 2\ndma 3 0x3ff000 r look\ndma 3 0x401000 w look\n";
+
+// What was mapped is gone when the unmap answers, from the caches too.
+#[test]
+fn unmaps_are_answered(rt: HostRuntime) -> Result<(), Fail> {
+    let rows: [(&[u8], &[u8]); 6] = [
+        (
+            STRICT_UNMAP,
+            b"domain 1\nok\nmap 0x1000\nhost 0x100234\nunmapped 0\nfault 6\n",
+        ),
+        (LARGE_LEAF, b"domain 1\nok\nmap 0x200000\n"),
+        (
+            SPLIT_LEAF,
+            b"domain 1\nok\nmap 0x200000\nhost 0x401000\nunmapped 0\nfault 6\nhost 0x402000\n",
+        ),
+        (
+            BAD_RANGES,
+            b"domain 1\nmap 0x1000\nrefused 5\nrefused 5\nrefused 5\nrefused 6\nrefused 5\nrefused 10\n",
+        ),
+        (
+            TWO_LEAVES_SPLIT,
+            b"domain 1\nok\nmap 0x200000\nhost 0x5ff000\nunmapped 0\nfault 6\nhost 0x601000\n",
+        ),
+        (
+            b"domain strict\nmap 1 0x100 1 0 r\nevict leaf 0\nevict nonleaf 31\nevict context 18446744073709551615\nunmap 1 0x1000 1\nunmap 1 0x1000 1\nunmap 2 0x1000 1\n",
+            b"domain 1\nmap 0x1000\nok\nok\nok\nunmapped 0\nrefused 10\nrefused 1\n",
+        ),
+    ];
+    for (script, wanted) in rows {
+        let (result, written) = answers(&rt, rt.alloc(), script, 65536)?;
+        assert_eq!(rt; result, Ok(()));
+        assert_eq!(rt; written.as_slice(), wanted);
+    }
+    Ok(())
+}
+
+#[test]
+fn scripts_are_reported(rt: HostRuntime) -> Result<(), Fail> {
+    let rows: [(&[u8], &[u8]); 6] = [
+        (b"", EMPTY_REPORT),
+        (
+            STRICT_UNMAP,
+            b"events 6\nframes 61 free 3 used 0 retired\ntickets 0 open\nring 0 pending\ndomain 1 strict live 0 retired 0 pieces 2\ndevice 3 domain 1\n",
+        ),
+        (
+            LARGE_LEAF,
+            b"events 3\nframes 62 free 2 used 0 retired\ntickets 0 open\nring 0 pending\ndomain 1 strict live 512 retired 0 pieces 4\ndevice 3 domain 1\n",
+        ),
+        (
+            SPLIT_LEAF,
+            b"events 7\nframes 61 free 3 used 0 retired\ntickets 0 open\nring 0 pending\ndomain 1 strict live 511 retired 0 pieces 6\ndevice 3 domain 1\n",
+        ),
+        (
+            TWO_LEAVES_SPLIT,
+            b"events 7\nframes 60 free 4 used 0 retired\ntickets 0 open\nring 0 pending\ndomain 1 strict live 1022 retired 0 pieces 6\ndevice 3 domain 1\n",
+        ),
+        (
+            b"domain strict\ndomain strict\nattach 15 2\nattach 0 1\nattach 16 1\ndma 9 0x1000 r\n",
+            b"events 6\nframes 62 free 2 used 0 retired\ntickets 0 open\nring 0 pending\ndomain 1 strict live 0 retired 0 pieces 2\ndomain 2 strict live 0 retired 0 pieces 2\ndevice 0 domain 1\ndevice 15 domain 2\n",
+        ),
+    ];
+    for (script, wanted) in rows {
+        let (result, written) = reported(&rt, rt.alloc(), script)?;
+        assert_eq!(rt; result, Ok(()));
+        assert_eq!(rt; written.as_slice(), wanted);
+    }
+    Ok(())
+}
+
+// The lines before the first bad one are reported.
+#[test]
+fn reports_of_bad_lines(rt: HostRuntime) -> Result<(), Fail> {
+    let one_domain: &[u8] =
+        b"events 1\nframes 63 free 1 used 0 retired\ntickets 0 open\nring 0 pending\ndomain 1 strict live 0 retired 0 pieces 2\n";
+    let rows: [(&[u8], u64, &[u8]); 4] = [
+        (b"\n", 1, EMPTY_REPORT),
+        (b"domain strict", 1, EMPTY_REPORT),
+        (b"domain strict\nreport\ndomain strict\n", 2, one_domain),
+        (b"domain strict\nattach 3 1", 2, one_domain),
+    ];
+    for (script, number, wanted) in rows {
+        let (result, written) = reported(&rt, rt.alloc(), script)?;
+        assert_eq!(rt; result, Err(RunError::BadLine(number)));
+        assert_eq!(rt; written.as_slice(), wanted);
+    }
+    Ok(())
+}
+
+// All whole lines that were read are reported, wherever a read fails.
+#[test]
+fn a_read_fails_before_a_report(rt: HostRuntime) -> Result<(), Fail> {
+    for good in 0..24u64 {
+        let mut written = Vec::new(rt.alloc());
+        let mut reader = Counted::new(Flaky {
+            rest: FIRST_MAP,
+            good,
+        });
+        let mut writer = Counted::new(&mut written);
+        let Some(config) = config(9) else {
+            return Err(Fail::from("within the limits"));
+        };
+        let result = report(&rt, rt.alloc(), &mut reader, &mut writer, config);
+        assert_eq!(rt; result, Err(RunError::Read));
+        assert!(rt; reader.failed());
+        assert!(rt; !writer.failed());
+        drop(writer);
+        let read = (3 * good) as usize;
+        let whole = FIRST_MAP
+            .iter()
+            .take(read)
+            .filter(|byte| **byte == b'\n')
+            .count();
+        let lines: [&[u8]; 5] = [
+            b"events 0\n",
+            b"events 1\n",
+            b"events 2\n",
+            b"events 3\n",
+            b"events 4\n",
+        ];
+        let first = *lines.get(whole).ok_or("four lines")?;
+        assert!(rt; written.as_slice().starts_with(first));
+    }
+    Ok(())
+}
+
+// A beginning of the report is written, wherever a write fails.
+#[test]
+fn a_write_of_a_report_fails(rt: HostRuntime) -> Result<(), Fail> {
+    let mut reader = Counted::new(FIRST_MAP);
+    let mut writer = Counted::new(Limited {
+        held: Vec::new(rt.alloc()),
+        good: 0,
+    });
+    let Some(config) = config(9) else {
+        return Err(Fail::from("within the limits"));
+    };
+    let result = report(&rt, rt.alloc(), &mut reader, &mut writer, config);
+    assert_eq!(rt; result, Err(RunError::Write));
+    assert!(rt; writer.failed());
+    assert!(rt; !reader.failed());
+    Ok(())
+}
+
+#[test]
+fn reports_of_the_program(rt: HostRuntime) -> Result<(), Fail> {
+    let rows: [(&[&str], &[u8], u8, &[u8], &[u8]); 4] = [
+        (&["report"], b"", 0, EMPTY_REPORT, b""),
+        (
+            &["report", "--calls", "3"],
+            b"domain strict\nattach 3 1\nmap 1 0x100 1 0 rw\ndma 3 0x1000 r\n",
+            0,
+            b"events 3\nframes 61 free 3 used 0 retired\ntickets 0 open\nring 0 pending\ndomain 1 strict live 1 retired 0 pieces 3\ndevice 3 domain 1\n",
+            b"",
+        ),
+        (
+            &["report", "--frames", "16"],
+            b"domain strict\nattach 3 1",
+            2,
+            b"events 1\nframes 15 free 1 used 0 retired\ntickets 0 open\nring 0 pending\ndomain 1 strict live 0 retired 0 pieces 2\n",
+            b"line 2\n",
+        ),
+        (
+            &["run"],
+            STRICT_UNMAP,
+            0,
+            b"domain 1\nok\nmap 0x1000\nhost 0x100234\nunmapped 0\nfault 6\n",
+            b"",
+        ),
+    ];
+    for (words, script, status, output, errors) in rows {
+        let mut written = Vec::new(rt.alloc());
+        let mut told = Vec::new(rt.alloc());
+        assert_eq!(rt;
+            program(&rt, rt.alloc(), words, script, &mut written, &mut told),
+            status
+        );
+        assert_eq!(rt; written.as_slice(), output);
+        assert_eq!(rt; told.as_slice(), errors);
+    }
+    Ok(())
+}
+
+const FIFTEEN_DOMAINS: &[u8] =
+    b"domain 1\ndomain 2\ndomain 3\ndomain 4\ndomain 5\ndomain 6\ndomain 7\ndomain 8\ndomain 9\ndomain 10\ndomain 11\ndomain 12\ndomain 13\ndomain 14\ndomain 15\nrefused 12\nrefused 8\nmap 0x200000\nrefused 8\nunmapped 0\n";
+
+// 16 table frames: a root for each domain, then tables for the maps, until none is free.
+#[test]
+fn domains_and_frames_run_out(rt: HostRuntime) -> Result<(), Fail> {
+    let words: &[&str] = &["run", "--frames", "16"];
+    let mut script = Vec::new(rt.alloc());
+    for _ in 0..16u64 {
+        script.extend_from_slice(b"domain strict\n".as_slice())?;
+    }
+    script.extend_from_slice(b"map 1 0x100 1 0 r\nmap 1 0x400 512 9 r\n".as_slice())?;
+    script.extend_from_slice(b"unmap 1 0x200000 1\nunmap 1 0x200000 512\n".as_slice())?;
+    let mut written = Vec::new(rt.alloc());
+    let mut told = Vec::new(rt.alloc());
+    assert_eq!(rt;
+        program(
+            &rt,
+            rt.alloc(),
+            words,
+            script.as_slice(),
+            &mut written,
+            &mut told
+        ),
+        0
+    );
+    assert_eq!(rt; written.as_slice(), FIFTEEN_DOMAINS);
+    let mut few = Vec::from_slice(rt.alloc(), b"domain strict\nmap 1 0x100 1 0 r\n".as_slice())?;
+    for _ in 0..14u64 {
+        few.extend_from_slice(b"domain strict\n".as_slice())?;
+    }
+    let mut written = Vec::new(rt.alloc());
+    assert_eq!(rt;
+        program(
+            &rt,
+            rt.alloc(),
+            words,
+            few.as_slice(),
+            &mut written,
+            &mut told
+        ),
+        0
+    );
+    assert!(rt; written.as_slice().ends_with(b"domain 14\nrefused 8\n"));
+    Ok(())
+}
