@@ -42,6 +42,38 @@ fn hundred_maps<B: Owner>(
     (mine, Ok(addresses))
 }
 
+// Whether no two of the addresses are the same.
+fn all_differ(addresses: &mut Vec<u64>) -> Result<bool, AllocError> {
+    addresses.sort()?;
+    let differ = addresses
+        .as_slice()
+        .windows(2)
+        .all(|pair| pair.first() != pair.last());
+    Ok(differ)
+}
+
+// Hands in all shares but the last, which isn't enough, and then all: how many events there were.
+fn finished<B: Owner>(
+    manager: Manager<B>,
+    shares: Vec<Share<B>>,
+    last: Share<B>,
+) -> Result<usize, Fail> {
+    let Err(
+        SharesOut {
+            manager,
+            mut shares,
+        },
+    ) = manager.finish(shares)
+    else {
+        return Err(Fail::from("a share is missing"));
+    };
+    shares.push(last)?;
+    let Ok(history) = manager.finish(shares) else {
+        return Err(Fail::from("all shares are enough"));
+    };
+    Ok(history.events().len())
+}
+
 #[test]
 fn two_threads_share_a_manager(rt: HostRuntime) -> Result<(), Fail> {
     let config = Config::new(64, 1000, 2).ok_or("within the limits")?;
@@ -78,29 +110,10 @@ fn shared_by_two<B: Owner + Send + Sync, R: Threads + Wait + Abort + Sync>(
     assert_eq!(rt; second.0.calls(), 100);
     let mut addresses = first.1?;
     addresses.extend_from_slice(second.1?.as_slice())?;
-    addresses.sort()?;
     assert_eq!(rt; addresses.len(), 200);
-    assert!(rt;
-        addresses
-            .as_slice()
-            .windows(2)
-            .all(|pair| pair.first() != pair.last())
-    );
+    assert!(rt; all_differ(&mut addresses)?);
     shares.push(first.0)?;
-    let Err(
-        SharesOut {
-            manager,
-            mut shares,
-        },
-    ) = manager.finish(shares)
-    else {
-        return Err(Fail::from("one share is not enough"));
-    };
-    shares.push(second.0)?;
-    let Ok(history) = manager.finish(shares) else {
-        return Err(Fail::from("both shares are enough"));
-    };
-    assert_eq!(rt; history.events().len(), 201);
+    assert_eq!(rt; finished(manager, shares, second.0)?, 201);
     Ok(())
 }
 
@@ -168,6 +181,19 @@ fn pieces_run_out(rt: HostRuntime) -> Result<(), Fail> {
 }
 
 // The 1,022nd piece of one page is one too many; devices go on.
+// A write of device 3, through the caches and remembered where so asked.
+fn write_at(address: u64, cached: bool) -> Call {
+    Call::Dma {
+        device: 3,
+        address,
+        access: Access::Write,
+        whim: Whim {
+            look: cached,
+            fill: cached,
+        },
+    }
+}
+
 fn crowded<B: Owner, R: Wait + Abort>(rt: &R, alloc: Global, seed: Seed) -> Result<(), Fail>
     requires name { seed.name ≡ B.name }
     requires parts { seed.shares ≡ B.parts }
@@ -194,30 +220,12 @@ fn crowded<B: Owner, R: Wait + Abort>(rt: &R, alloc: Global, seed: Seed) -> Resu
         manager.call(rt, &mut mine, attach),
         Ok((1024, Reply::Done))
     );
-    let request = Call::Dma {
-        device: 3,
-        address: 0x3fd123,
-        access: Access::Write,
-        whim: Whim {
-            look: false,
-            fill: false,
-        },
-    };
     assert_eq!(rt;
-        manager.call(rt, &mut mine, request),
+        manager.call(rt, &mut mine, write_at(0x3fd123, false)),
         Ok((1025, Reply::Host(0x1000123)))
     );
-    let request = Call::Dma {
-        device: 3,
-        address: 0x3fe000,
-        access: Access::Write,
-        whim: Whim {
-            look: true,
-            fill: true,
-        },
-    };
     assert_eq!(rt;
-        manager.call(rt, &mut mine, request),
+        manager.call(rt, &mut mine, write_at(0x3fe000, true)),
         Ok((1026, Reply::Faulted(Fault::Write)))
     );
     Ok(())

@@ -78,6 +78,12 @@ fn entries_and_their_words(rt: HostRuntime) {
     ] {
         assert!(rt; is_entry(level, word, entry), "{word} at level {level}");
     }
+    let last = large_translation(&rt, 0x400, 1).page(511);
+    assert_eq!(rt; last, translation_of(&rt, 0x5ff, 1));
+}
+
+#[test]
+fn words_of_no_entry(rt: HostRuntime) {
     for (level, word) in [
         (1, 0x0000_0000_0010_0000),
         (2, 0x0000_0000_0010_0000),
@@ -92,8 +98,6 @@ fn entries_and_their_words(rt: HostRuntime) {
             "{word} at level {level}"
         );
     }
-    let last = large_translation(&rt, 0x400, 1).page(511);
-    assert_eq!(rt; last, translation_of(&rt, 0x5ff, 1));
 }
 
 #[test]

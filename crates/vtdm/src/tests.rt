@@ -44,6 +44,20 @@ fn answers<T: Wait>(
     Ok((result, written))
 }
 
+// Each script is answered so, with ample memory.
+fn check_answers<T: Wait + Abort>(
+    rt: &T,
+    alloc: Global,
+    rows: &[(&[u8], &[u8])],
+) -> Result<(), Fail> {
+    for (script, wanted) in rows {
+        let (result, written) = answers(rt, alloc, *script, 65536)?;
+        assert_eq!(rt; result, Ok(()));
+        assert_eq!(rt; written.as_slice(), *wanted);
+    }
+    Ok(())
+}
+
 const FIRST_MAP: &[u8] =
     b"domain strict\nattach 3 1\nmap 1 0x100 1 0 rw\ndma 3 0x1234 r look fill\n";
 
@@ -74,12 +88,7 @@ fn scripts_are_answered(rt: HostRuntime) -> Result<(), Fail> {
             b"domain 1\nok\nmap 0x200000\nhost 0x5ff123\nfault 5\n",
         ),
     ];
-    for (script, wanted) in rows {
-        let (result, written) = answers(&rt, rt.alloc(), script, 65536)?;
-        assert_eq!(rt; result, Ok(()));
-        assert_eq!(rt; written.as_slice(), wanted);
-    }
-    Ok(())
+    check_answers(&rt, rt.alloc(), rows.as_slice())
 }
 
 // 255 maps of 4,096 pages at multiples of 2^9, of which none crosses the interrupt address range.
@@ -361,31 +370,23 @@ fn answers_come_before_the_next_read(rt: HostRuntime) -> Result<(), Fail> {
 
 #[test]
 fn statuses(rt: HostRuntime) -> Result<(), Fail> {
+    let first_answers: &[u8] = b"domain 1\nok\nmap 0x1000\nhost 0x100234\n";
+    let two_domains: &[u8] = b"domain strict\ndomain strict\n";
+    let two_maps: &[u8] = b"domain strict\nmap 1 0xff 1 0 r\nmap 1 0x100 1 0 r\n";
+    let cut: &[u8] = b"domain strict\nattach 3 1";
     let rows: [(&[&str], &[u8], u8, &[u8], &[u8]); 4] = [
-        (
-            &["run"],
-            FIRST_MAP,
-            0,
-            b"domain 1\nok\nmap 0x1000\nhost 0x100234\n",
-            b"",
-        ),
-        (
-            &["run"],
-            b"domain strict\nattach 3 1",
-            2,
-            b"domain 1\n",
-            b"line 2\n",
-        ),
+        (&["run"], FIRST_MAP, 0, first_answers, b""),
+        (&["run"], cut, 2, b"domain 1\n", b"line 2\n"),
         (
             &["run", "--frames", "16", "--calls", "1"],
-            b"domain strict\ndomain strict\n",
+            two_domains,
             0,
             b"domain 1\nrefused 15\n",
             b"",
         ),
         (
             &["run", "--frames=256"],
-            b"domain strict\nmap 1 0xff 1 0 r\nmap 1 0x100 1 0 r\n",
+            two_maps,
             0,
             b"domain 1\nrefused 6\nmap 0x1000\n",
             b"",

@@ -1,7 +1,7 @@
 //! Scripts of lazy domains, of ended ones, and of maps of several segments.
 
-use super::answers;
 use super::rows::reported;
+use super::{answers, check_answers};
 use std::alloc::Global;
 use std::io::Write;
 use std::test::Fail;
@@ -24,12 +24,7 @@ fn lazy_unmaps_are_answered(rt: HostRuntime) -> Result<(), Fail> {
         ),
         (b"domain strict\nflush 1\n", b"domain 1\nflushed 0\n"),
     ];
-    for (script, wanted) in rows {
-        let (result, written) = answers(&rt, rt.alloc(), script, 65536)?;
-        assert_eq!(rt; result, Ok(()));
-        assert_eq!(rt; written.as_slice(), wanted);
-    }
-    Ok(())
+    check_answers(&rt, rt.alloc(), rows.as_slice())
 }
 
 // A map and an unmap of each of so many pages, one after the other.
@@ -111,14 +106,10 @@ fn domains_and_devices_go(rt: HostRuntime) -> Result<(), Fail> {
             b"domain 1\ndomain 2\nok\nmap 0x1000\nhost 0x100000\nok\nok\nfault 6\n",
         ),
     ];
-    for (script, wanted) in rows {
-        let (result, written) = answers(&rt, rt.alloc(), script, 65536)?;
-        assert_eq!(rt; result, Ok(()));
-        assert_eq!(rt; written.as_slice(), wanted);
-    }
-    Ok(())
+    check_answers(&rt, rt.alloc(), rows.as_slice())
 }
 
+// The pages of segments follow one another.
 #[test]
 fn segments_are_mapped(rt: HostRuntime) -> Result<(), Fail> {
     let script: &[u8] =
@@ -129,41 +120,46 @@ fn segments_are_mapped(rt: HostRuntime) -> Result<(), Fail> {
         written.as_slice(),
         b"domain 1\nok\nmap 0x1000\nhost 0x200010\nhost 0x201000\n".as_slice()
     );
-    // The line, its answer, and the table frames that are free then.
-    let rows: [(&[u8], &[u8], &[u8]); 5] = [
+    Ok(())
+}
+
+const SIXTEEN_SEGMENTS: &[u8] =
+    b"maplist 1 4 rw 0x10f:1 0x10e:1 0x10d:1 0x10c:1 0x10b:1 0x10a:1 0x109:1 0x108:1 0x107:1 0x106:1 0x105:1 0x104:1 0x103:1 0x102:1 0x101:1 0x100:1\n";
+
+// Lines of segments in a new domain, their answers, and how many table frames are free then.
+#[test]
+fn segments_take_frames(rt: HostRuntime) -> Result<(), Fail> {
+    let rows: [(&[u8], &[u8], &[u8]); 6] = [
+        (SIXTEEN_SEGMENTS, b"map 0x10000\n", b"61"),
         (
-            b"domain strict\nmaplist 1 9 rw 0x400:512 0x800:512\n",
-            b"domain 1\nmap 0x200000\n",
-            b"events 2\nframes 62 free",
+            b"maplist 1 9 rw 0x400:512 0x800:512\n",
+            b"map 0x200000\n",
+            b"62",
         ),
         (
-            b"domain strict\nmaplist 1 9 rw 0x400:256 0x500:256\n",
-            b"domain 1\nmap 0x200000\n",
-            b"events 2\nframes 61 free",
+            b"maplist 1 9 rw 0x400:256 0x500:256\n",
+            b"map 0x200000\n",
+            b"61",
         ),
+        (b"maplist 1 0 rw 0x100:1 0x3f:1\n", b"refused 6\n", b"63"),
         (
-            b"domain strict\nmaplist 1 0 rw 0x100:1 0x3f:1\n",
-            b"domain 1\nrefused 6\n",
-            b"events 2\nframes 63 free",
+            b"maplist 1 0 r 0x100:4096 0x2000:1\n",
+            b"refused 5\n",
+            b"63",
         ),
-        (
-            b"domain strict\nmaplist 1 0 r 0x100:4096 0x2000:1\n",
-            b"domain 1\nrefused 5\n",
-            b"events 2\nframes 63 free",
-        ),
-        (
-            b"domain strict\nmaplist 1 0 r 0x100:1 0x200:0\n",
-            b"domain 1\nrefused 5\n",
-            b"events 2\nframes 63 free",
-        ),
+        (b"maplist 1 0 r 0x100:1 0x200:0\n", b"refused 5\n", b"63"),
     ];
-    for (script, wanted, first) in rows {
-        let (result, written) = answers(&rt, rt.alloc(), script, 65536)?;
+    for (line, answer, free) in rows {
+        let mut script = Vec::from_slice(rt.alloc(), b"domain strict\n".as_slice())?;
+        script.extend_from_slice(line)?;
+        let (result, written) = answers(&rt, rt.alloc(), script.as_slice(), 65536)?;
         assert_eq!(rt; result, Ok(()));
-        assert_eq!(rt; written.as_slice(), wanted);
-        let (result, report) = reported(&rt, rt.alloc(), script)?;
+        assert!(rt; written.as_slice().ends_with(answer));
+        let (result, report) = reported(&rt, rt.alloc(), script.as_slice())?;
         assert_eq!(rt; result, Ok(()));
-        assert!(rt; report.as_slice().starts_with(first));
+        let second = report.as_slice().split(|byte| *byte == b'\n').nth(1);
+        let told = second.ok_or("a second line")?;
+        assert!(rt; told.starts_with(b"frames ") && told[7..].starts_with(free));
     }
     Ok(())
 }

@@ -1,6 +1,6 @@
 //! Scripts with their answers and their reports.
 
-use super::{FIRST_MAP, Flaky, Limited, answers, config};
+use super::{FIRST_MAP, Flaky, Limited, check_answers, config};
 use crate::counted::Counted;
 use crate::error::RunError;
 use crate::program::program;
@@ -69,12 +69,7 @@ fn unmaps_are_answered(rt: HostRuntime) -> Result<(), Fail> {
             b"domain 1\nmap 0x1000\nok\nok\nok\nunmapped 0\nrefused 10\nrefused 1\n",
         ),
     ];
-    for (script, wanted) in rows {
-        let (result, written) = answers(&rt, rt.alloc(), script, 65536)?;
-        assert_eq!(rt; result, Ok(()));
-        assert_eq!(rt; written.as_slice(), wanted);
-    }
-    Ok(())
+    check_answers(&rt, rt.alloc(), rows.as_slice())
 }
 
 #[test]
@@ -166,21 +161,29 @@ fn a_read_fails_before_a_report(rt: HostRuntime) -> Result<(), Fail> {
     Ok(())
 }
 
-// A beginning of the report is written, wherever a write fails.
+// What a failed write of the report says is told in the place of a failed read or of a bad line.
 #[test]
 fn a_write_of_a_report_fails(rt: HostRuntime) -> Result<(), Fail> {
-    let mut reader = Counted::new(FIRST_MAP);
-    let mut writer = Counted::new(Limited {
-        held: Vec::new(rt.alloc()),
-        good: 0,
-    });
-    let Some(config) = config(9) else {
-        return Err(Fail::from("within the limits"));
-    };
-    let result = report(&rt, rt.alloc(), &mut reader, &mut writer, config);
-    assert_eq!(rt; result, Err(RunError::Write));
-    assert!(rt; writer.failed());
-    assert!(rt; !reader.failed());
+    let bad: &[u8] = b"domain strict\nreport\n";
+    let rows: [(&[u8], u64, bool); 3] = [
+        (FIRST_MAP, 100, false),
+        (bad, 100, false),
+        (FIRST_MAP, 1, true),
+    ];
+    for (rest, good, stops) in rows {
+        let mut reader = Counted::new(Flaky { rest, good });
+        let mut writer = Counted::new(Limited {
+            held: Vec::new(rt.alloc()),
+            good: 0,
+        });
+        let Some(config) = config(9) else {
+            return Err(Fail::from("within the limits"));
+        };
+        let result = report(&rt, rt.alloc(), &mut reader, &mut writer, config);
+        assert_eq!(rt; result, Err(RunError::Write));
+        assert!(rt; writer.failed());
+        assert_eq!(rt; reader.failed(), stops);
+    }
     Ok(())
 }
 
@@ -226,46 +229,39 @@ fn reports_of_the_program(rt: HostRuntime) -> Result<(), Fail> {
 const FIFTEEN_DOMAINS: &[u8] =
     b"domain 1\ndomain 2\ndomain 3\ndomain 4\ndomain 5\ndomain 6\ndomain 7\ndomain 8\ndomain 9\ndomain 10\ndomain 11\ndomain 12\ndomain 13\ndomain 14\ndomain 15\nrefused 12\nrefused 8\nmap 0x200000\nrefused 8\nunmapped 0\n";
 
+// What the program answers to a script, with 16 table frames.
+fn with_few_frames<T: Wait>(rt: &T, alloc: Global, script: &[u8]) -> (u8, Vec<u8>) {
+    let words: &[&str] = &["run", "--frames", "16"];
+    let mut written = Vec::new(alloc);
+    let mut told = Vec::new(alloc);
+    let status = program(rt, alloc, words, script, &mut written, &mut told);
+    (status, written)
+}
+
 // 16 table frames: a root for each domain, then tables for the maps, until none is free.
 #[test]
 fn domains_and_frames_run_out(rt: HostRuntime) -> Result<(), Fail> {
-    let words: &[&str] = &["run", "--frames", "16"];
     let mut script = Vec::new(rt.alloc());
     for _ in 0..16u64 {
         script.extend_from_slice(b"domain strict\n".as_slice())?;
     }
     script.extend_from_slice(b"map 1 0x100 1 0 r\nmap 1 0x400 512 9 r\n".as_slice())?;
     script.extend_from_slice(b"unmap 1 0x200000 1\nunmap 1 0x200000 512\n".as_slice())?;
-    let mut written = Vec::new(rt.alloc());
-    let mut told = Vec::new(rt.alloc());
-    assert_eq!(rt;
-        program(
-            &rt,
-            rt.alloc(),
-            words,
-            script.as_slice(),
-            &mut written,
-            &mut told
-        ),
-        0
-    );
+    let (status, written) = with_few_frames(&rt, rt.alloc(), script.as_slice());
+    assert_eq!(rt; status, 0);
     assert_eq!(rt; written.as_slice(), FIFTEEN_DOMAINS);
-    let mut few = Vec::from_slice(rt.alloc(), b"domain strict\nmap 1 0x100 1 0 r\n".as_slice())?;
+    Ok(())
+}
+
+// A map takes two tables, so that no frame is left for a 15th domain's root.
+#[test]
+fn frames_run_out_before_domains(rt: HostRuntime) -> Result<(), Fail> {
+    let mut script = Vec::from_slice(rt.alloc(), b"domain strict\nmap 1 0x100 1 0 r\n".as_slice())?;
     for _ in 0..14u64 {
-        few.extend_from_slice(b"domain strict\n".as_slice())?;
+        script.extend_from_slice(b"domain strict\n".as_slice())?;
     }
-    let mut written = Vec::new(rt.alloc());
-    assert_eq!(rt;
-        program(
-            &rt,
-            rt.alloc(),
-            words,
-            few.as_slice(),
-            &mut written,
-            &mut told
-        ),
-        0
-    );
+    let (status, written) = with_few_frames(&rt, rt.alloc(), script.as_slice());
+    assert_eq!(rt; status, 0);
     assert!(rt; written.as_slice().ends_with(b"domain 14\nrefused 8\n"));
     Ok(())
 }
