@@ -255,6 +255,7 @@ impl Home {
     }
 
     // Ends a range of live pages of the domain that is here, as `end` does.
+    #[inline(always)]
     fn end(&mut self, pool: &mut Pool, range: PageRange) -> Cut
         requires { IsSomeAnd (home_with self.old.space self.old.records self.old.tenant) (λ h. CanCut pool.old h.space h.root × IsJudgedEnd pool.old h.space h.root range (Ok tt)) }
         ensures cuts { IsSomeAnd (home_with self.old.space self.old.records self.old.tenant) (λ h. Cuts pool.old h.space h.root range result pool.new self.new.space) }

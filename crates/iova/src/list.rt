@@ -134,6 +134,7 @@ pub(crate) fn cuts_piece(pieces: &[Piece], from: usize, to: usize, first: u64, p
 
 /// Puts a piece over others. Its first and its last page lie in the pieces at two indexes, and what these have
 /// below and above it stays.
+#[inline(always)]
 pub(crate) fn put(pieces: &mut Vec<Piece>, from: usize, to: usize, piece: Piece)
     requires ordered { IsOrdered 1 pieces.old.items }
     requires bounded { piece.last < 2 ^ 40 }

@@ -205,6 +205,7 @@ impl Space {
     }
 
     // Frees a range that is one piece.
+    #[inline(always)]
     fn free(&mut self, range: PageRange)
         requires { (state : PageState) × IsIn (piece_of range state) self.old.pieces }
         ensures freed { (state : PageState) → IsIn (piece_of range state) self.old.pieces → Frees self.old self.new range state }

@@ -223,6 +223,7 @@ fn map_pieces(
 }
 
 /// Maps the pages from a first one on to segments, one after the other, all or none.
+#[inline(always)]
 pub fn map_segments(
     pool: &mut Pool,
     level: u64,
