@@ -118,9 +118,9 @@ impl Unit {
         let Some(descriptor) = ring.fetch() else {
             return Progress::Idle;
         };
-        self.forget(descriptor);
-        if let Descriptor::Wait(number) = &descriptor {
-            ring.complete(*number);
+        match descriptor {
+            Descriptor::Wait(number) => ring.complete(number),
+            _ => self.forget(descriptor),
         }
         Progress::Did
     }

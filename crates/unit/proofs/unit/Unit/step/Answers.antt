@@ -1,0 +1,23 @@
+use Rattle.std.proofs.Common.{◌≡◌, ℕ, ◌+◌, Bool, true, List, [], ◌∷◌, refl, sym, ap, ◌∙◌, not, filter}
+use Rattle.queue.specs.Queue.{Queue}
+use Rattle.vtdbits.specs.declared.descriptor.Descriptor.{Descriptor}
+use Rattle.vtdbits.specs.declared.descriptor.Descriptor.TheVariants.{Wait}
+use Rattle.unit.specs.Caches.{UnitState, unit_state, Caches, caches}
+use Rattle.unit.specs.Filters.{left_by, left_by_first}
+use Rattle.unit.proofs.unit.Unit.step.Goals as goal
+
+filter_all : {X : Type 0} (xs : List X) → filter (λ _. true) xs ≡ xs
+filter_all [] = refl
+filter_all (x ∷ xs) = ap (λ ys. x ∷ ys) (filter_all xs)
+
+-- a wait drops nothing
+left_wait : (n : ℕ) (k : Caches) → left_by (Wait n) k ≡ k
+left_wait n k = λ i. caches (filter_all k.leaves i) (filter_all k.non_leaves i) (filter_all k.contexts i)
+
+pub returns-in-Wait-clause-unit : goal.returns-in-Wait-clause-unit
+returns-in-Wait-clause-unit c =
+    let now = c.args.self.now in
+    ap (λ (u : UnitState). unit_state u.caches (u.steps + 1)) c.self.view_is
+    ∙ ap (λ (k : Caches). unit_state k (now.steps + 1)) (sym (left_wait c.in-Wait.number now.caches))
+    ∙ ap (λ (d : Descriptor). unit_state (left_by d now.caches) (now.steps + 1)) (sym c.in-Wait.is)
+    ∙ ap (λ (q : Queue). unit_state (left_by_first q.waiting now.caches) (now.steps + 1)) (sym c.in-Some.ensures.some)
