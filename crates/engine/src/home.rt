@@ -329,6 +329,7 @@ fn place(
 }
 
 /// Retires a range of live pages in the address space, and unmaps it in the tree.
+#[inline(always)]
 fn end(space: &mut Space, tree: &mut Tree, pool: &mut Pool, range: PageRange) -> Cut
     requires can { CanCut pool.old space.old tree.old.root }
     requires may { IsJudgedEnd pool.old space.old tree.old.root range (Ok tt) }
@@ -341,6 +342,7 @@ fn end(space: &mut Space, tree: &mut Tree, pool: &mut Pool, range: PageRange) ->
 }
 
 /// Releases the pages of a range, and the table frames that were cut with them.
+#[inline(always)]
 pub(crate) fn release(space: &mut Space, pool: &mut Pool, range: PageRange, cut: &Cut)
     requires { IsReleasable pool.old space.old range cut.now }
     ensures released { Releases pool.old space.old range cut.now pool.new space.new }

@@ -155,6 +155,7 @@ pub(crate) fn put(pieces: &mut Vec<Piece>, from: usize, to: usize, piece: Piece)
 }
 
 /// Removes the pieces behind one index up to another.
+#[inline(always)]
 fn remove_behind(pieces: &mut Vec<Piece>, from: usize, to: usize)
     requires from { from ≤ to }
     requires to { to < length pieces.old.items }
@@ -162,8 +163,18 @@ fn remove_behind(pieces: &mut Vec<Piece>, from: usize, to: usize)
     ensures capacity { vec_capacity pieces.new ≡ vec_capacity pieces.old }
 {
     if from < to {
-        drop(pieces.drain(from + 1..to + 1));
+        remove_some(pieces, from, to);
     }
+}
+
+/// The same, where there are some.
+fn remove_some(pieces: &mut Vec<Piece>, from: usize, to: usize)
+    requires from { from < to }
+    requires to { to < length pieces.old.items }
+    ensures items { pieces.new.items ≡ take (from + 1) pieces.old.items ++ drop (to + 1) pieces.old.items }
+    ensures capacity { vec_capacity pieces.new ≡ vec_capacity pieces.old }
+{
+    drop(pieces.drain(from + 1..to + 1));
 }
 
 /// Inserts what is left of a piece above one of its pages, if anything is.

@@ -114,6 +114,7 @@ impl Space {
 
     /// Makes so many free pages, 1 to 4,096, one live piece, and answers the first of them: the lowest that is
     /// a multiple of 2^order (order 0 to 9). Where it is refused, nothing has changed.
+    #[inline(always)]
     pub fn take(&mut self, pages: u64, order: u64) -> Result<Page, TakeError>
         requires some_pages { 1 ≤ pages }
         requires few_pages { pages ≤ 4096 }
@@ -167,6 +168,7 @@ impl Space {
     }
 
     /// Makes a range of live pages one retired piece.
+    #[inline(always)]
     pub fn retire(&mut self, range: PageRange)
         requires { MayRetire self.old.pieces range }
         ensures retired { Retires self.old self.new range }
@@ -195,6 +197,7 @@ impl Space {
     }
 
     /// Frees a range that is one retired piece. What may be retired before it may be retired after it.
+    #[inline(always)]
     pub fn release(&mut self, range: PageRange)
         requires { IsIn (piece_of range PageState.Retired) self.old.pieces }
         ensures freed { Frees self.old self.new range PageState.Retired }
