@@ -10,7 +10,7 @@ use Rattle.std.proofs.Common.{List}
 use Rattle.dmatypes.specs.declared.call.Segment.{Segment}
 use Rattle.tables.specs.Pool.{Stored, memory}
 use Rattle.tables.specs.Segments.{is_large_at}
-use Rattle.tables.specs.Lacks.{sum_spans, lacking, splitting, splits}
+use Rattle.tables.specs.Lacks.{sum_spans, lacking, lacks, splitting, splits}
 use Rattle.tables.proofs.Steps.{span-one, same_or_not}
 use Rattle.tables.proofs.Total.{total_same, total-suc, total-zero, total_part, total_le_more}
 
@@ -251,3 +251,53 @@ none_split m level t from to p low high none =
     let part = total_part (λ j. g ((from / 512 + j) * 512)) ((to - 1) / 512 + 1 - from / 512) (p / 512 - from / 512) (omega arith) in
     let here : g ((from / 512 + (p / 512 - from / 512)) * 512) ≡ g (p / 512 * 512) = ap (λ (j : ℕ). g (j * 512)) (omega arith) in
     omega arith
+
+-- values of at most 1 sum to no more than their number
+pub total_few : (g : ℕ → ℕ) (n : ℕ) → ((i : ℕ) → g i ≤ 1) → total g n ≤ n
+total_few g zero few = omega (arith, total-zero g)
+total_few g (suc n) few = omega (arith, total-suc g n, total_few g n few, few n)
+
+pub sum_few : (g : ℕ → ℕ) (w from to : ℕ) → ((p : ℕ) → g p ≤ 1) → sum_spans g w from to ≤ (to - 1) / span w + 1 - from / span w
+unfolding sum_spans
+sum_few g w from to few = total_few (λ k. g ((from / span w + k) * span w)) ((to - 1) / span w + 1 - from / span w) (λ i. few ((from / span w + i) * span w))
+
+cond_few : (a b : Bool) → cond a 0 (cond b 0 1) ≤ 1
+cond_few true b = omega arith
+cond_few false true = omega arith
+cond_few false false = omega arith
+
+cond_one : (a b : Bool) → cond a 0 (cond b 1 0) ≤ 1
+cond_one true b = omega arith
+cond_one false true = omega arith
+cond_one false false = omega arith
+
+pub lacking_few : (m : Memory) (level root : ℕ) (large : Bool) (w p : ℕ) → lacking m level root large w p ≤ 1
+unfolding lacking
+lacking_few m level root large w p = cond_few _ _
+
+splitting_few : (m : Memory) (level root from to p : ℕ) → splitting m level root from to p ≤ 1
+unfolding splitting
+splitting_few m level root from to p = cond_one _ _
+
+pub splits_few : (m : Memory) (level root from to : ℕ) → splits m level root from to ≤ (to - 1) / 512 + 1 - from / 512
+unfolding splits
+splits_few m level root from to =
+    let few = sum_few (splitting m level root from to) 1 from to (splitting_few m level root from to) in
+    let same : (to - 1) / span 1 + 1 - from / span 1 ≡ (to - 1) / 512 + 1 - from / 512 = ap (λ (n : ℕ). (to - 1) / n + 1 - from / n) span-one in
+    omega arith
+
+-- the tables of one level that a map lacks
+unfoldable pub level_lacks : Memory → ℕ → ℕ → (ℕ → Bool) → ℕ → ℕ → ℕ → ℕ
+level_lacks m level root large first end v = sum_spans (λ p. lacking m level root (large p) (v + 1) p) (v + 1) first end
+
+pub level_few : (m : Memory) (level root : ℕ) (large : ℕ → Bool) (first end v width : ℕ) → width ≡ span (v + 1)
+    → level_lacks m level root large first end v ≤ (end - 1) / width + 1 - first / width
+unfolding level_lacks
+level_few m level root large first end v width e =
+    let few = sum_few (λ p. lacking m level root (large p) (v + 1) p) (v + 1) first end (λ p. lacking_few m level root (large p) (v + 1) p) in
+    let same : (end - 1) / span (v + 1) + 1 - first / span (v + 1) ≡ (end - 1) / width + 1 - first / width = ap (λ (n : ℕ). (end - 1) / n + 1 - first / n) (sym e) in
+    omega arith
+
+pub lacks_levels : (m : Memory) (level root : ℕ) (large : ℕ → Bool) (first end n : ℕ) → n ≡ level - 1 → lacks m level root large first end ≡ total (level_lacks m level root large first end) n
+unfolding lacks level_lacks
+lacks_levels m level root large first end n e = ap (total (level_lacks m level root large first end)) (sym e)

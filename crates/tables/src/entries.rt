@@ -57,21 +57,30 @@ pub fn leaf_word(frame: u64, rights: Rights) -> u64
 }
 
 /// What a table of the level states of a page.
+#[inline(always)]
 pub fn find(pool: &Pool, level: u64, table: Frame, page: u64) -> Option<Translation>
     requires low { 1 ≤ level }
     requires high { level ≤ 4 }
     requires tree { IsTree pool.now level table }
     ensures { result ≡ states (memory pool.now.words) level table page }
 {
-    match entry(pool, level, table, index_of(level, page)) {
-        SsEntry::Absent => None,
-        SsEntry::Table(below) => find(pool, level - 1, below, page),
-        SsEntry::Leaf(leaf) => Some(leaf),
-        SsEntry::LargeLeaf(leaf) => {
-            let frame = leaf.frame().number() + page % 512;
-            Some(Translation::new(Frame::new(frame).unwrap(), leaf.rights()))
+    let mut height = level;
+    let mut at = table;
+    while height > 0 {
+        match entry(pool, height, at, index_of(height, page)) {
+            SsEntry::Absent => return None,
+            SsEntry::Table(below) => {
+                at = below;
+                height -= 1;
+            }
+            SsEntry::Leaf(leaf) => return Some(leaf),
+            SsEntry::LargeLeaf(leaf) => {
+                let frame = leaf.frame().number() + page % 512;
+                return Some(Translation::new(Frame::new(frame).unwrap(), leaf.rights()));
+            }
         }
     }
+    unreachable!()
 }
 
 /// The table of the wanted level on a page's way from a table of the level.

@@ -1,10 +1,10 @@
 //! Pages mapped to host frames, in trees of up to 4 levels, and so of up to 2^36 pages.
 
-ghost use Rattle.std.specs.Prelude.{◌≡◌, ℕ, ◌+◌, ◌-◌, ◌*◌, ◌/◌, ◌%◌, ◌^◌, ◌<◌, ◌≤◌, [], length, if◌then◌else◌, false, None, IsSome, IsErr, OnOk, OnErr, true, ◌↔◌};
+ghost use Rattle.std.specs.Prelude.{◌≡◌, ℕ, Bool, ◌+◌, ◌-◌, ◌*◌, ◌/◌, ◌%◌, ◌^◌, ◌<◌, ◌≤◌, [], length, if◌then◌else◌, false, None, IsSome, IsErr, OnOk, OnErr, true, ◌↔◌};
 ghost use Rattle.dmatypes.specs.Conditions.{total_pages};
 ghost use Rattle.dmatypes.specs.Rights.{AreRights, bits_of};
 ghost use Rattle.dmatypes.specs.World.{placed};
-ghost use Rattle.tables.specs.Tree.{span, index_in, states, leaf_from, table_from};
+ghost use Rattle.tables.specs.Tree.{Memory, span, index_in, states, leaf_from, table_from};
 ghost use Rattle.tables.specs.Pool.{memory, occurs, IsPool, IsTree, IsZeroed};
 ghost use Rattle.tables.specs.Changes.{Moves, Maps, Makes};
 ghost use Rattle.tables.specs.Segments.{is_large_at, AreSegments};
@@ -57,24 +57,24 @@ fn grow(pool: &mut Pool, level: u64, table: Frame, index: u64) -> Frame
 }
 
 /// Maps a piece: one walk down, with the tables that it lacks, and one run of words or one leaf of 512 pages.
-pub fn map_piece(pool: &mut Pool, level: u64, table: Frame, piece: Piece)
+pub fn map_piece(pool: &mut Pool, level: u64, table: Frame, piece: &Piece)
     requires low { 1 ≤ level }
     requires high { level ≤ 4 }
     requires tree { IsTree pool.old level table }
-    requires absent { (p : ℕ) → piece.from ≤ p → p < piece.to → leaf_from (memory pool.old.words) level table p ≡ None }
-    requires room { lacks_at (memory pool.old.words) level table (is_large piece) piece.from ≤ length pool.old.free }
+    requires absent { (p : ℕ) → piece.now.from ≤ p → p < piece.now.to → leaf_from (memory pool.old.words) level table p ≡ None }
+    requires room { lacks_at (memory pool.old.words) level table (is_large piece.now) piece.now.from ≤ length pool.old.free }
     ensures moves { Moves pool.old pool.new level table [] }
-    ensures maps { Maps pool.old pool.new level table piece.from piece.to (says piece) }
-    ensures made { (w : ℕ) → 1 ≤ w → w < level → (w ≡ 1 → is_large piece ≡ false)
-        → IsSome (table_from (memory pool.new.words) level table piece.from w) }
-    ensures spared { 1 < level → is_large piece ≡ true
-        → table_from (memory pool.new.words) level table piece.from 1 ≡ table_from (memory pool.old.words) level table piece.from 1 }
-    ensures count { length pool.new.free + lacks_at (memory pool.old.words) level table (is_large piece) piece.from
+    ensures maps { Maps pool.old pool.new level table piece.now.from piece.now.to (says piece.now) }
+    ensures made { (w : ℕ) → 1 ≤ w → w < level → (w ≡ 1 → is_large piece.now ≡ false)
+        → IsSome (table_from (memory pool.new.words) level table piece.now.from w) }
+    ensures spared { 1 < level → is_large piece.now ≡ true
+        → table_from (memory pool.new.words) level table piece.now.from 1 ≡ table_from (memory pool.old.words) level table piece.now.from 1 }
+    ensures count { length pool.new.free + lacks_at (memory pool.old.words) level table (is_large piece.now) piece.now.from
         ≡ length pool.old.free }
     ensures pool { IsPool pool.new }
 {
     if level == 1 {
-        write_run(pool, table, piece);
+        write_run(pool, table, *piece);
         return;
     }
     let index = index_of(level, piece.from);
@@ -93,13 +93,13 @@ pub fn map_piece(pool: &mut Pool, level: u64, table: Frame, piece: Piece)
 }
 
 /// Writes a piece as one leaf of 512 pages in a table of level 2.
-fn write_large(pool: &mut Pool, table: Frame, index: u64, piece: Piece)
+fn write_large(pool: &mut Pool, table: Frame, index: u64, piece: &Piece)
     requires tree { IsTree pool.old 2 table }
-    requires index { index ≡ index_in 1 piece.from }
+    requires index { index ≡ index_in 1 piece.now.from }
     requires absent { memory pool.old.words 2 table index ≡ SsEntry.Absent }
-    requires large { is_large piece ≡ true }
+    requires large { is_large piece.now ≡ true }
     ensures moves { Moves pool.old pool.new 2 table [] }
-    ensures maps { Maps pool.old pool.new 2 table piece.from piece.to (says piece) }
+    ensures maps { Maps pool.old pool.new 2 table piece.now.from piece.now.to (says piece.now) }
     ensures tables { (p w : ℕ) → table_from (memory pool.new.words) 2 table p w ≡ table_from (memory pool.old.words) 2 table p w }
     ensures free { pool.new.free ≡ pool.old.free }
     ensures pool { IsPool pool.new }
@@ -190,7 +190,25 @@ fn tables_lacking(
     count
 }
 
+/// No fewer tables than can be lacking where pages are to be mapped: one for each span of a lower level that they
+/// meet.
+fn most_lacking(level: u64, first: u64, end: u64) -> u64
+    requires low { 1 ≤ level }
+    requires high { level ≤ 4 }
+    requires some { first < end }
+    requires within { end ≤ 2 ^ 36 }
+    ensures { (m : Memory) (root : ℕ) (large : ℕ → Bool) → lacks m level root large first end ≤ result }
+{
+    let mut most = 0;
+    for wanted in 1..level {
+        let width = span_of(wanted);
+        most += (end - 1) / width + 1 - first / width;
+    }
+    most
+}
+
 /// Maps pages to segments, where no frame is lacking.
+#[inline(always)]
 fn map_pieces(
     pool: &mut Pool,
     level: u64,
@@ -217,7 +235,7 @@ fn map_pieces(
 {
     let mut place = first;
     while let Some(piece) = Piece::at(segments, first, place, rights) {
-        map_piece(pool, level, root, piece);
+        map_piece(pool, level, root, &piece);
         place = piece.to;
     }
 }
@@ -250,7 +268,11 @@ pub fn map_segments(
     ensures pool { IsPool pool.new }
 {
     let pages: u64 = segments.iter().map(|segment| segment.pages).sum();
-    if pool.free_count() < tables_lacking(pool, level, root, segments, first, first + pages) {
+    let free = pool.free_count();
+    let end = first + pages;
+    if free < most_lacking(level, first, end)
+        && free < tables_lacking(pool, level, root, segments, first, end)
+    {
         return Err(NoFrames);
     }
     map_pieces(pool, level, root, segments, first, rights);

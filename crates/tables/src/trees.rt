@@ -17,7 +17,7 @@ use crate::entries::find;
 use crate::error::NoFrames;
 use crate::frames::Pool;
 use crate::mapping::map_segments;
-use crate::unmapping::{leaves_splitting, release, unmap_pieces};
+use crate::unmapping::{leaves_splitting, release, spans_met, unmap_pieces};
 use dmatypes::{Frame, Page, PageRange, Rights, Segment};
 
 /// The levels of a tree of 39-bit addresses: its root is of level 3.
@@ -148,8 +148,9 @@ impl Tree {
         ensures { IsErr result ↔ (length pool.now.free < splits (memory pool.now.words) LEVELS self.now.root range.first (range.first + range.pages)) }
     {
         let from = range.first();
-        if pool.free_count()
-            < leaves_splitting(pool, LEVELS, self.root, from, from + range.pages())
+        let to = from + range.pages();
+        let free = pool.free_count();
+        if free < spans_met(from, to) && free < leaves_splitting(pool, LEVELS, self.root, from, to)
         {
             return Err(NoFrames);
         }
@@ -158,6 +159,7 @@ impl Tree {
 
     /// Unmaps the pages of a range, all of which are there, where `may_unmap` allows it. A table whose span
     /// the range covers is cut.
+    #[inline(always)]
     pub fn unmap(&mut self, pool: &mut Pool, range: PageRange) -> Cut
         requires tree { IsTree pool.old LEVELS self.old.root }
         requires there { (p : ℕ) → IsWithin range p → IsSome (states (memory pool.old.words) LEVELS self.old.root p) }

@@ -1,7 +1,7 @@
 //! Pages unmapped, and tables given back, in trees of up to 4 levels, and so of up to 2^36 pages.
 
 ghost use Rattle.std.specs.Prelude.{◌≡◌, ◌≢◌, ℕ, ◌+◌, ◌-◌, ◌*◌, ◌/◌, ◌%◌, ◌^◌, ◌<◌, ◌≤◌, [], false, length, if◌then◌else◌, IsSome, IsTrue, ◌↔◌};
-ghost use Rattle.tables.specs.Tree.{span, index_in, leaf_from, uses};
+ghost use Rattle.tables.specs.Tree.{Memory, span, index_in, leaf_from, uses};
 ghost use Rattle.tables.specs.Pool.{word, memory, occurs, IsPool, IsTree};
 ghost use Rattle.tables.specs.Changes.{Moves, Unmaps};
 ghost use Rattle.tables.specs.Lacks.{splitting, splits};
@@ -134,6 +134,7 @@ fn clear_piece(pool: &mut Pool, level: u64, table: Frame, from: u64, to: u64) ->
 }
 
 /// Unmaps pages that are there, where no frame is lacking.
+#[inline(always)]
 pub fn unmap_pieces(pool: &mut Pool, level: u64, root: Frame, from: u64, to: u64) -> Cut
     requires low { 2 ≤ level }
     requires high { level ≤ 4 }
@@ -192,6 +193,15 @@ pub fn leaves_splitting(pool: &Pool, level: u64, root: Frame, from: u64, to: u64
         }
     }
     count
+}
+
+/// How many spans of 512 pages the pages meet: no fewer than the large leaves that meet them and aren't covered.
+pub fn spans_met(from: u64, to: u64) -> u64
+    requires some { from < to }
+    requires within { to ≤ 2 ^ 36 }
+    ensures { (m : Memory) (level root : ℕ) → splits m level root from to ≤ result }
+{
+    (to - 1) / 512 + 1 - from / 512
 }
 
 /// Gives back the frames of a table and of all tables below it.

@@ -1,0 +1,7 @@
+use Rattle.std.proofs.Common.{ℕ, ◌≤◌}
+use Rattle.tables.specs.Tree.{Memory}
+use Rattle.tables.proofs.Sums.{splits_few}
+use Rattle.tables.proofs.unmapping.spans_met.Goals as goal
+
+pub returns : goal.returns
+returns c m level root = splits_few m level root c.args.from c.args.to
