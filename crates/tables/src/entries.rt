@@ -44,7 +44,7 @@ pub fn entry(pool: &Pool, level: u64, table: Frame, index: u64) -> SsEntry
     ensures is { memory pool.now.words level table index ≡ result }
     ensures stands { MayStandAt level result }
 {
-    SsEntry::decode(level, pool.read(table, index)).unwrap_or(SsEntry::Absent)
+    SsEntry::decode(level, pool.word_of(table, index)).unwrap_or(SsEntry::Absent)
 }
 
 /// The word of a leaf of one page.

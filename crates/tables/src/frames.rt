@@ -76,6 +76,15 @@ impl Pool {
         }
     }
 
+    /// The word of a frame of the pool at an index.
+    pub(crate) fn word_of(&self, frame: Frame, index: u64) -> u64
+        requires frame { frame < self.now.frames }
+        requires index { index < 512 }
+        ensures { result ≡ word self.now.words frame index }
+    {
+        self.words[(frame.number() * WORDS + index) as usize]
+    }
+
     /// Sets a word of a frame that isn't free.
     pub(crate) fn write(&mut self, frame: Frame, index: u64, value: u64)
         requires frame { frame < self.old.frames }
