@@ -1,6 +1,7 @@
 pub mod Total
 pub mod Here
 pub mod Store
+pub mod Patched
 pub mod Given
 pub mod Walks
 pub mod Near

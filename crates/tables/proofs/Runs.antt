@@ -1,11 +1,11 @@
 -- A run of entries written in a table of level 1, and one leaf of 512 pages.
-use Rattle.std.proofs.Common.{◌≡◌, ◌≢◌, ℕ, ◌+◌, ◌/◌, ◌%◌, ◌<◌, ◌≤◌, inl, inr, ⊎_elim, Some, None, List, [], refl, sym, ap, subst, ◌∙◌, arith, mod-lt}
+use Rattle.std.proofs.Common.{◌≡◌, ◌≢◌, ℕ, ◌+◌, ◌-◌, ◌/◌, ◌%◌, ◌<◌, ◌≤◌, inl, inr, ⊎_elim, Some, None, List, [], refl, sym, ap, subst, ◌∙◌, arith, mod-lt}
 use Rattle.dmatypes.specs.World.{Target}
 use Rattle.vtdbits.specs.Entry.{look}
 use Rattle.vtdbits.specs.declared.entry.SsEntry.{SsEntry}
 use Rattle.vtdbits.specs.declared.entry.SsEntry.TheVariants.{Absent, Table, Leaf, LargeLeaf}
 use Rattle.tables.specs.Tree.{Memory, index_in, leaf_of, table_of, leaf_from, table_from, stated, here}
-use Rattle.tables.specs.Pool.{Stored, word, memory, occurs, IsWrite}
+use Rattle.tables.specs.Pool.{Stored, word, memory, occurs, IsRest}
 use Rattle.tables.specs.Changes.{Moves, Maps, IsOutside}
 use Rattle.tables.specs.Pieces.{IsRun}
 use Rattle.tables.proofs.Here.{here-same}
@@ -76,39 +76,14 @@ run_maps old new t from to entry says run one leaves = record {
   clear = λ p w wide far. table_one (memory old.words) (memory new.words) t p w;
 }
 
-pub run_start : (words : List ℕ) (t from : ℕ) (entry : ℕ → SsEntry) → IsRun words words t from from entry
-run_start words t from entry = record {
-  entries = λ p low high. absurd (omega (arith, low, high));
-  rest = λ f k k_in other. refl;
-}
-
--- one more entry of a run
-pub run_more : (first old new : List ℕ) (t from mid value : ℕ) (entry : ℕ → SsEntry) → from ≤ mid → from / 512 ≡ mid / 512
-    → IsRun first old t from mid entry → IsWrite old new t (mid % 512) value → look 1 value ≡ entry mid → IsRun first new t from (mid + 1) entry
-run_more first old new t from mid value entry lo one run wrote is = record {
+-- a run by the places of its words
+pub run_of : (old new : List ℕ) (t from to : ℕ) (entry : ℕ → SsEntry) → from < to → from / 512 ≡ (to - 1) / 512
+    → ((k : ℕ) → k < to - from → look 1 (word new t (from % 512 + k)) ≡ entry (from + k)) → IsRest old new t (from % 512) (to - from) → IsRun old new t from to entry
+run_of old new t from to entry some one words rest = record {
   entries = λ p low high.
-      ⊎_elim
-      (λ (e : p ≡ mid). subst (λ q. memory new 1 t (q % 512) ≡ entry q) (sym e) (memory_at new 1 t (mid % 512) ∙ ap (look 1) wrote.0 ∙ is))
-      (λ (ne : p ≢ mid).
-      same_entry old new 1 t (p % 512) (wrote.1 t (p % 512) (mod-lt p (omega arith)) (λ _ e. ne (one_page p mid (between p low (omega arith)) e)))
-      ∙ run.entries p low (omega arith))
-      (same_or_not p mid);
+      let place : p % 512 ≡ from % 512 + (p - from) = omega arith in
+      let page : from + (p - from) ≡ p = omega arith in
+      memory_at new 1 t (p % 512) ∙ ap (λ k. look 1 (word new t k)) place ∙ words (p - from) (omega arith) ∙ ap entry page;
   rest = λ f k k_in other.
-      wrote.1 f k k_in (λ e at. other e mid lo (omega arith) (sym at))
-      ∙ run.rest f k k_in (λ e p low high at. other e p low (omega arith) at);
+      rest f k k_in (λ e low high. other e (from + (k - from % 512)) (omega arith) (omega arith) (omega arith));
 }
-  where
-    between : (p : ℕ) → from ≤ p → p ≤ mid → p / 512 ≡ mid / 512
-    between p low high = omega arith
-
--- one more cleared word
-pub zeroed_more : (old new : List ℕ) (t from mid : ℕ) → from / 512 ≡ mid / 512
-    → ((p : ℕ) → from ≤ p → p < mid → word old t (p % 512) ≡ 0) → IsWrite old new t (mid % 512) 0
-    → (p : ℕ) → from ≤ p → p < mid + 1 → word new t (p % 512) ≡ 0
-zeroed_more old new t from mid one before wrote p low high =
-    ⊎_elim
-    (λ (e : p ≡ mid). ap (λ q. word new t (q % 512)) e ∙ wrote.0)
-    (λ (ne : p ≢ mid).
-    let span : p / 512 ≡ mid / 512 = omega arith in
-    wrote.1 t (p % 512) (mod-lt p (omega arith)) (λ _ e. ne (one_page p mid span e)) ∙ before p low (omega arith))
-    (same_or_not p mid)

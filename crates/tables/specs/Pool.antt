@@ -41,3 +41,8 @@ pub record IsTree (pool : Stored) (level table : ℕ) : Type 0 where
 abbrev pub IsWrite : List ℕ → List ℕ → ℕ → ℕ → ℕ → Type 0
 IsWrite old new table index value =
     (word new table index ≡ value) × ((f k : ℕ) → k < 512 → (f ≡ table → k ≡ index → ⊥) → word new f k ≡ word old f k)
+
+-- the words of both, but for so many of a table from an index on
+abbrev pub IsRest : List ℕ → List ℕ → ℕ → ℕ → ℕ → Type 0
+IsRest old new table from count =
+    (f k : ℕ) → k < 512 → (f ≡ table → from ≤ k → k < from + count → ⊥) → word new f k ≡ word old f k

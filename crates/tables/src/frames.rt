@@ -1,12 +1,17 @@
 //! The pool of table frames.
 
-ghost use Rattle.std.specs.Prelude.{◌≡◌, ℕ, ◌+◌, ◌<◌, ◌≤◌, length, IfOk};
+ghost use Rattle.std.specs.Prelude.{◌≡◌, ℕ, ◌+◌, ◌<◌, ◌≤◌, ◌^◌, length, slice_index, IfOk};
+ghost use Rattle.dmatypes.specs.Rights.{AreRights, bits_of};
+ghost use Rattle.vtdbits.specs.Entry.{look};
+ghost use Rattle.vtdbits.specs.Translation.{target};
 ghost use Rattle.tables.specs.Tree.{here};
-ghost use Rattle.tables.specs.Pool.{word, occurs, IsZeroed, IsWrite, IsPool};
+ghost use Rattle.tables.specs.Pool.{word, occurs, IsZeroed, IsWrite, IsRest, IsPool};
 
-use dmatypes::Frame;
+use crate::entries::leaf_word;
+use dmatypes::{Frame, Rights};
 use std::alloc::{AllocError, Global};
 use std::marker::Model;
+use vtdbits::SsEntry;
 
 /// How many words a table frame has: 4 KiB.
 pub const WORDS: u64 = 512;
@@ -98,6 +103,50 @@ impl Pool {
         self.words[(frame.number() * WORDS + index) as usize] = value;
     }
 
+    /// Clears so many words of a frame that isn't free, from an index on.
+    pub(crate) fn clear(&mut self, frame: Frame, from: u64, count: u64)
+        requires frame { frame < self.old.frames }
+        requires within { from + count ≤ 512 }
+        requires taken { occurs frame self.old.free ≡ 0 }
+        ensures cleared { (k : ℕ) → k < count → word self.new.words frame (from + k) ≡ 0 }
+        ensures rest { IsRest self.old.words self.new.words frame from count }
+        ensures free { self.new.free ≡ self.old.free }
+        ensures frames { self.new.frames ≡ self.old.frames }
+        ensures pool { IsPool self.new }
+    {
+        let start = (frame.number() * WORDS + from) as usize;
+        self.words[start..start + count as usize].fill(0);
+    }
+
+    /// Spells leaves of one page each in so many words of a frame that isn't free, from an index on: host frames that
+    /// follow one another from a first one on.
+    pub(crate) fn write_leaves(
+        &mut self,
+        frame: Frame,
+        from: u64,
+        count: u64,
+        first: u64,
+        rights: Rights,
+    )
+        requires frame { frame < self.old.frames }
+        requires within { from + count ≤ 512 }
+        requires taken { occurs frame self.old.free ≡ 0 }
+        requires frames { first + count ≤ 2 ^ 24 }
+        requires rights { AreRights (bits_of rights) }
+        ensures leaves { (k : ℕ) → k < count → look 1 (word self.new.words frame (from + k)) ≡ SsEntry.Leaf (target (first + k) (bits_of rights)) }
+        ensures rest { IsRest self.old.words self.new.words frame from count }
+        ensures free { self.new.free ≡ self.old.free }
+        ensures frames { self.new.frames ≡ self.old.frames }
+        ensures pool { IsPool self.new }
+    {
+        let start = (frame.number() * WORDS + from) as usize;
+        spell_leaves(
+            &mut self.words[start..start + count as usize],
+            first,
+            rights,
+        );
+    }
+
     /// Takes a free frame.
     pub(crate) fn take(&mut self) -> Frame
         requires { 0 < length self.old.free }
@@ -143,5 +192,17 @@ impl Pool {
         let end = self.free + frames.len();
         self.slots[self.free..end].copy_from_slice(frames);
         self.free = end;
+    }
+}
+
+/// Spells leaves of one page each: host frames that follow one another from a first one on.
+fn spell_leaves(words: &mut [u64], first: u64, rights: Rights)
+    requires frames { first + length words.old ≤ 2 ^ 24 }
+    requires rights { AreRights (bits_of rights) }
+    ensures length { length words.new ≡ length words.old }
+    ensures leaves { (k : ℕ) → k < length words.old → look 1 (slice_index words.new k) ≡ SsEntry.Leaf (target (first + k) (bits_of rights)) }
+{
+    for (k, word) in words.iter_mut().enumerate() {
+        *word = leaf_word(first + k as u64, rights);
     }
 }

@@ -11,7 +11,7 @@ ghost use Rattle.tables.specs.Segments.{is_large_at, AreSegments};
 ghost use Rattle.tables.specs.Lacks.{lacking, lacks, lacks_at, map_lacks, sum_spans};
 ghost use Rattle.tables.specs.Pieces.{says, is_large, IsRun, leaf_at};
 
-use crate::entries::{entry, index_of, leaf_word, span_of, table_at};
+use crate::entries::{entry, index_of, span_of, table_at};
 use crate::error::NoFrames;
 use crate::frames::Pool;
 use crate::piece::Piece;
@@ -28,10 +28,13 @@ pub fn write_run(pool: &mut Pool, table: Frame, piece: Piece)
     ensures frames { pool.new.frames ≡ pool.old.frames }
     ensures pool { IsPool pool.new }
 {
-    for page in piece.from..piece.to {
-        let word = leaf_word(piece.frame + (page - piece.from), piece.rights);
-        pool.write(table, page % 512, word);
-    }
+    pool.write_leaves(
+        table,
+        piece.from % 512,
+        piece.to - piece.from,
+        piece.frame,
+        piece.rights,
+    );
 }
 
 /// A new table under an absent entry.

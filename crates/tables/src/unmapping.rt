@@ -39,9 +39,7 @@ fn clear_run(pool: &mut Pool, table: Frame, from: u64, to: u64)
     ensures frames { pool.new.frames ≡ pool.old.frames }
     ensures pool { IsPool pool.new }
 {
-    for page in from..to {
-        pool.write(table, page % 512, 0);
-    }
+    pool.clear(table, from % 512, to - from);
 }
 
 /// Spells a leaf of 512 pages by a new table of 512 leaves.

@@ -1,27 +1,14 @@
-use Rattle.std.proofs.Common.{◌≡◌, ◌/◌, ap, ◌∙◌, arith, refl}
-use Rattle.tables.specs.Pool.{occurs}
+use Rattle.std.proofs.Common.{◌≡◌, ◌+◌, ◌-◌, ap, ◌∙◌, arith}
+use Rattle.dmatypes.specs.Rights.{bits_of}
+use Rattle.vtdbits.specs.Translation.{target}
+use Rattle.vtdbits.specs.declared.entry.SsEntry.TheVariants.{Leaf}
 use Rattle.tables.specs.Pieces.{leaf_at}
-use Rattle.tables.proofs.Runs.{run_start, run_more}
+use Rattle.tables.proofs.Runs.{run_of}
 use Rattle.tables.proofs.mapping.write_run.Goals as goal
 
-pub loop-page-init : goal.loop-page-init
-loop-page-init c = record {
-  run = run_start c.args.pool.now.words c.args.table c.args.piece.from (leaf_at c.args.piece);
-  free = refl;
-  frames = refl;
-  pool = λ some. absurd (omega (arith, some));
-}
-
-pub write-requires-clause-taken : goal.write-requires-clause-taken
-write-requires-clause-taken c = ap (occurs c.args.table) c.loop-page.invariant.free ∙ c.requires.taken
-
-pub loop-page-preserved : goal.loop-page-preserved
-loop-page-preserved c =
-    let span : c.args.piece.from / 512 ≡ c.loop-page.page / 512 = omega (arith, c.args.piece.one_span) in
-    record {
-      run = run_more c.args.pool.now.words c.loop-page.pool.words c.write.new.self.words c.args.table c.args.piece.from c.loop-page.page c.leaf_word-word.result (leaf_at c.args.piece)
-          c.loop-page.auto.page span c.loop-page.invariant.run c.write.ensures.wrote c.leaf_word-word.ensures;
-      free = c.write.ensures.free ∙ c.loop-page.invariant.free;
-      frames = c.write.ensures.frames ∙ c.loop-page.invariant.frames;
-      pool = λ _. c.write.ensures.pool;
-    }
+pub returns-clause-run : goal.returns-clause-run
+returns-clause-run c =
+    run_of c.args.pool.now.words c.write_leaves.new.self.words c.args.table c.args.piece.from c.args.piece.to (leaf_at c.args.piece)
+    c.args.piece.some c.args.piece.one_span (λ k k_in.
+        let page : c.args.piece.frame + k ≡ c.args.piece.frame + (c.args.piece.from + k - c.args.piece.from) = omega arith in
+        c.write_leaves.ensures.leaves k k_in ∙ ap (λ n. Leaf (target n (bits_of c.args.piece.rights))) page) c.write_leaves.ensures.rest
