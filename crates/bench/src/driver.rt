@@ -8,8 +8,8 @@ use dmatypes::{Access, Fault, Mode, Segment, Whim};
 use engine::State;
 use std::alloc::Global;
 
-// So few that a frame which isn't given back is soon missed.
-const TABLE_FRAMES: u64 = 16;
+/// So few table frames that one which isn't given back is soon missed.
+pub(crate) const TABLE_FRAMES: u64 = 16;
 
 // How many calls a state takes.
 const MOST_CALLS: u64 = 1 << 20;
@@ -17,7 +17,7 @@ const MOST_CALLS: u64 = 1 << 20;
 const DEVICE: u64 = 3;
 
 /// The rights to read and to write.
-const BOTH_RIGHTS: u64 = 3;
+pub(crate) const BOTH_RIGHTS: u64 = 3;
 
 /// A driver of a device that is attached to a domain of its own, in a state of its own. The state is asked
 /// for no more calls than it takes.
@@ -84,8 +84,8 @@ impl Driver {
     }
 }
 
-// Counts a call that is about to be made, where the state takes it.
-fn count(made: &mut u64) -> Result<(), Trouble>
+/// Counts a call that is about to be made, where the state takes it.
+pub(crate) fn count(made: &mut u64) -> Result<(), Trouble>
     ensures few { OnOk result (made.old < 1048576) }
     ensures counted { OnOk result (made.new ≡ made.old + 1) }
     ensures unchanged { OnErr result (made.new ≡ made.old) }

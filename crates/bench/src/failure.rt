@@ -13,6 +13,9 @@ pub(crate) enum Failure {
     /// A write failed.
     #[error("output failed")]
     Output,
+    /// No line of the table has the name that was asked for.
+    #[error("no line has this name")]
+    NoSubject,
     /// The subject of this name can't be measured.
     #[error("{0}: {1}")]
     Subject(&'static str, Trouble),

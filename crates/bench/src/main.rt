@@ -1,8 +1,10 @@
 //! `bench`: measures what calls cost, and checks their answers while it does.
 #![tactic(auto)]
 
+mod crowding;
 mod driver;
 mod failure;
+mod managing;
 mod mapping;
 mod options;
 mod program;

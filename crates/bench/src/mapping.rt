@@ -87,23 +87,55 @@ impl Work for Listing {
     }
 }
 
-// So many records a lazy domain keeps.
-const RECORDS: u64 = 256;
+// The pages of a leaf of 2 MiB, and where the first such leaf of an empty domain is mapped.
+const LARGE_LEAF_PAGES: u64 = 512;
 
-/// Maps one page into a lazy domain and unmaps it, and flushes once 256 pages are put off. No page is handed out again
-/// before that.
+const FIRST_LARGE_LEAF: u64 = 0x20_0000;
+
+/// Maps a leaf of 2 MiB, unmaps its first page, which splits it, maps that page again, into the table that the split
+/// made, and unmaps them all.
+#[derive(Drop)]
+pub(crate) struct Splitting {
+    driver: Driver,
+}
+
+impl Splitting {
+    pub(crate) fn new(alloc: Global) -> Result<Splitting, Trouble> {
+        Ok(Splitting {
+            driver: Driver::new(alloc, Mode::Strict)?,
+        })
+    }
+}
+
+impl Work for Splitting {
+    fn once(&mut self) -> Result<(), Trouble> {
+        let leaf = self.driver.map(0x1000, LARGE_LEAF_PAGES, 9)?;
+        check(leaf == FIRST_LARGE_LEAF)?;
+        self.driver.unmap(leaf, 1)?;
+        let page = self.driver.map(0x1001, 1, 9)?;
+        check(page == leaf)?;
+        let released = self.driver.unmap(leaf, LARGE_LEAF_PAGES)?;
+        check(released == 0)
+    }
+}
+
+/// Maps one page into a lazy domain and unmaps it, and flushes once so many pages are put off. No page is handed out
+/// again before that.
 #[derive(Drop)]
 pub(crate) struct Deferred {
     driver: Driver,
     put_off: u64,
+    most: u64,
     ghost few: { put_off < 256 },
 }
 
 impl Deferred {
-    pub(crate) fn new(alloc: Global) -> Result<Deferred, Trouble> {
+    /// So many pages are put off before a flush, 1 to 256.
+    pub(crate) fn new(alloc: Global, most: u64) -> Result<Deferred, Trouble> {
         Ok(Deferred {
             driver: Driver::new(alloc, Mode::Lazy)?,
             put_off: 0,
+            most,
         })
     }
 }
@@ -114,11 +146,15 @@ impl Work for Deferred {
         check(mapped == 0x1000 * (self.put_off + 1))?;
         let released = self.driver.unmap(mapped, 1)?;
         check(released == 0)?;
-        if self.put_off + 1 < RECORDS {
+        if self.put_off + 1 < self.most.min(MOST_RECORDS) {
             self.put_off += 1;
             return Ok(());
         }
+        let put_off = self.put_off + 1;
         self.put_off = 0;
-        check(self.driver.flush()? == RECORDS)
+        check(self.driver.flush()? == put_off)
     }
 }
+
+// How many records a lazy domain keeps at most.
+const MOST_RECORDS: u64 = 256;

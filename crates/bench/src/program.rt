@@ -1,15 +1,18 @@
 //! The whole program, over its words.
 
 use crate::failure::Failure;
-use crate::options::{command, rounds_of};
-use crate::subject::SUBJECTS;
-use crate::trouble::Trouble;
+use crate::options::{MOST_TURNS, Options, command, options_of};
+use crate::subject::{SUBJECTS, Subject};
+use crate::timing::Tenths;
+use crate::trouble::{Trouble, check};
+use arrayvec::ArrayVec;
 use clap::Error;
 use clap::error::ErrorKind;
 use std::alloc::Global;
 use std::io;
 use std::io::Write;
 use std::num::NonZeroU32;
+use std::sync::Wait;
 use std::time::Clock;
 
 // The exit statuses.
@@ -25,10 +28,10 @@ const NO_MEMORY: u8 = 3;
 // domain keeps records, so that it is flushed.
 const CHECK_ROUNDS: u32 = 300;
 
-const HEADING: &str = "a round                                      nanoseconds";
+const HEADING: &str = "nanoseconds a round                               least      median";
 
 /// Runs the program over its words, without the program's name among them, and answers its exit status.
-pub(crate) fn program<C: Clock, W: Write + Drop, E: Write + Drop>(
+pub(crate) fn program<C: Clock + Wait, W: Write + Drop, E: Write + Drop>(
     clock: &C,
     alloc: Global,
     words: &[&str],
@@ -39,7 +42,10 @@ pub(crate) fn program<C: Clock, W: Write + Drop, E: Write + Drop>(
         return fail(&mut errors, Failure::NoMemory);
     };
     let done = match command.try_get_matches_from(words) {
-        Ok(matches) => run(clock, alloc, rounds_of(&matches), &mut output),
+        Ok(matches) => match options_of(&matches) {
+            Some(options) => run(clock, alloc, options, &mut output),
+            None => Err(Failure::NoSubject),
+        },
         Err(error) => return without_matches(&error, &mut output, &mut errors),
     };
     match done {
@@ -79,48 +85,81 @@ fn fail<E: Write>(errors: &mut E, failure: Failure) -> u8 {
     let _ = writeln!(errors, "{failure}");
     match failure {
         Failure::NoMemory | Failure::Subject(_, Trouble::NoMemory) => NO_MEMORY,
+        Failure::NoSubject => BAD,
         Failure::Output | Failure::Subject(..) => FAILED,
     }
 }
 
-// Writes the table of so many rounds; where none are asked for, does a few, whose answers are compared, and says
-// that they were right.
-fn run<C: Clock, W: Write>(
+// Writes the table of what is asked for; with no rounds, does a few, whose answers are compared, and says that they
+// were right.
+fn run<C: Clock + Wait, W: Write>(
     clock: &C,
     alloc: Global,
-    rounds: Option<NonZeroU32>,
+    options: Options,
     output: &mut W,
 ) -> Result<(), Failure> {
-    match rounds {
-        Some(rounds) => measure_all(clock, alloc, rounds, output),
+    match options.rounds {
+        Some(rounds) => measure_all(clock, alloc, rounds, options, output),
         None => {
             let rounds = NonZeroU32::new(CHECK_ROUNDS).unwrap();
-            measure_all(clock, alloc, rounds, &mut io::sink())?;
+            let once = Options {
+                turns: 1,
+                ..options
+            };
+            measure_all(clock, alloc, rounds, once, &mut io::sink())?;
             writeln!(output, "all answers are right")?;
             Ok(())
         }
     }
 }
 
-// Writes a line for each subject: its name, and the nanoseconds that a round takes.
-fn measure_all<C: Clock, W: Write>(
+// Writes a line for each subject that is asked for: its name, and what a round takes.
+fn measure_all<C: Clock + Wait, W: Write>(
     clock: &C,
     alloc: Global,
     rounds: NonZeroU32,
+    options: Options,
     output: &mut W,
 ) -> Result<(), Failure> {
     writeln!(output, "{HEADING}")?;
-    for subject in SUBJECTS {
-        match subject.measure(clock, alloc, rounds) {
-            Ok(nanos) => write_row(output, subject.name, nanos)?,
+    for (place, subject) in SUBJECTS.into_iter().enumerate() {
+        if options.only.is_some_and(|only| only != place) {
+            continue;
+        }
+        match turns(clock, alloc, rounds, options.turns, subject) {
+            Ok((least, median)) => write_row(output, subject.name, least, median)?,
             Err(trouble) => return Err(Failure::Subject(subject.name, trouble)),
         }
     }
     Ok(())
 }
 
+// The least and the median of several turns of a subject.
+fn turns<C: Clock + Wait>(
+    clock: &C,
+    alloc: Global,
+    rounds: NonZeroU32,
+    count: usize,
+    subject: Subject,
+) -> Result<(Tenths, Tenths), Trouble> {
+    let mut taken: ArrayVec<Tenths, MOST_TURNS> = ArrayVec::new();
+    for _ in 0..count {
+        let each = subject.measure(clock, alloc, rounds)?;
+        check(taken.try_push(each).is_ok())?;
+    }
+    taken.sort_unstable();
+    let least = taken.first().ok_or(Trouble::Wrong)?;
+    let median = taken.get(taken.len() / 2).ok_or(Trouble::Wrong)?;
+    Ok((*least, *median))
+}
+
 // Writes one line of the table.
-fn write_row<W: Write>(output: &mut W, name: &str, nanos: u128) -> Result<(), Failure> {
-    writeln!(output, "{name:<44}{nanos:>12}")?;
+fn write_row<W: Write>(
+    output: &mut W,
+    name: &str,
+    least: Tenths,
+    median: Tenths,
+) -> Result<(), Failure> {
+    writeln!(output, "{name:<44}{least:>11}{median:>12}")?;
     Ok(())
 }

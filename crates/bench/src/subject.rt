@@ -1,13 +1,16 @@
 //! What is measured.
 
-use crate::mapping::{Deferred, Listing, Mapping, Shape};
+use crate::crowding::Crowded;
+use crate::managing::{Way, time_manager};
+use crate::mapping::{Deferred, Listing, Mapping, Shape, Splitting};
 use crate::request::Request;
 use crate::taking::Taking;
-use crate::timing::time;
+use crate::timing::{Tenths, time};
 use crate::trouble::Trouble;
 use crate::walking::Walking;
 use std::alloc::Global;
 use std::num::NonZeroU32;
+use std::sync::Wait;
 use std::time::Clock;
 
 /// One thing that is measured, with its name in the table.
@@ -21,17 +24,21 @@ pub(crate) struct Subject {
 enum Kind {
     Map(Shape),
     MapList,
-    MapLazily,
+    MapCrowded,
+    Split,
+    // With a flush after so many rounds.
+    MapLazily(u64),
     // Behind so many live pieces.
     Take(u32),
     Walk,
     // Whether the unit may look in its caches.
     Request(bool),
+    Manage(Way),
 }
 
 /// All that is measured, in the table's order. The maps begin at frames behind the table frames; leaves of 2 MiB
 /// come where the frame is a multiple of 512.
-pub(crate) const SUBJECTS: [Subject; 13] = [
+pub(crate) const SUBJECTS: [Subject; 18] = [
     Subject {
         name: "map and unmap 1 page",
         kind: Kind::Map(Shape {
@@ -82,8 +89,20 @@ pub(crate) const SUBJECTS: [Subject; 13] = [
         kind: Kind::MapList,
     },
     Subject {
-        name: "map and unmap 1 page lazily, 256 a flush",
-        kind: Kind::MapLazily,
+        name: "map and unmap 1 page, full caches",
+        kind: Kind::MapCrowded,
+    },
+    Subject {
+        name: "split a leaf of 2 MiB, map the page again",
+        kind: Kind::Split,
+    },
+    Subject {
+        name: "map and unmap lazily, 256 a flush",
+        kind: Kind::MapLazily(256),
+    },
+    Subject {
+        name: "map and unmap lazily, 16 a flush",
+        kind: Kind::MapLazily(16),
     },
     Subject {
         name: "take and release behind 16 live pieces",
@@ -109,23 +128,34 @@ pub(crate) const SUBJECTS: [Subject; 13] = [
         name: "dma answered by a walk",
         kind: Kind::Request(false),
     },
+    Subject {
+        name: "map and unmap 1 page, under one guard",
+        kind: Kind::Manage(Way::Guarded),
+    },
+    Subject {
+        name: "map and unmap 1 page, a lock each call",
+        kind: Kind::Manage(Way::Locking),
+    },
 ];
 
 impl Subject {
-    /// Nanoseconds that each of so many rounds takes by the clock. What is measured is made anew for them.
-    pub(crate) fn measure<C: Clock>(
+    /// What each of so many rounds takes by the clock. What is measured is made anew for them.
+    pub(crate) fn measure<C: Clock + Wait>(
         &self,
         clock: &C,
         alloc: Global,
         rounds: NonZeroU32,
-    ) -> Result<u128, Trouble> {
+    ) -> Result<Tenths, Trouble> {
         match self.kind {
             Kind::Map(shape) => time(clock, rounds, &mut Mapping::new(alloc, shape)?),
             Kind::MapList => time(clock, rounds, &mut Listing::new(alloc)?),
-            Kind::MapLazily => time(clock, rounds, &mut Deferred::new(alloc)?),
+            Kind::MapCrowded => time(clock, rounds, &mut Crowded::new(alloc)?),
+            Kind::Split => time(clock, rounds, &mut Splitting::new(alloc)?),
+            Kind::MapLazily(most) => time(clock, rounds, &mut Deferred::new(alloc, most)?),
             Kind::Take(live) => time(clock, rounds, &mut Taking::new(alloc, live)?),
             Kind::Walk => time(clock, rounds, &mut Walking::new(alloc)?),
             Kind::Request(look) => time(clock, rounds, &mut Request::new(alloc, look)?),
+            Kind::Manage(way) => time_manager(clock, alloc, rounds, way),
         }
     }
 }

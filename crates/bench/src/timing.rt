@@ -1,10 +1,11 @@
 //! Time: what is done again and again, and what each round of it takes.
 
-ghost use Rattle.std.specs.Prelude.{◌≡◌, ◌/◌};
+ghost use Rattle.std.specs.Prelude.{◌≡◌, ◌*◌, ◌/◌};
 ghost use Rattle.std.specs.Duration.{as_nanos};
 ghost use Rattle.std.specs.NonZero.{non_zero_u32_get};
 
 use crate::trouble::Trouble;
+use std::fmt;
 use std::num::NonZeroU32;
 use std::time::{Clock, Duration, Instant};
 
@@ -14,23 +15,33 @@ pub(crate) trait Work {
     fn once(&mut self) -> Result<(), Trouble>;
 }
 
-/// Nanoseconds that each of so many rounds takes by the clock, rounded down.
+/// What a round takes, in tenths of a nanosecond, rounded down.
+#[derive(Clone, Copy, Debug, Default, PartialEq, Eq, PartialOrd, Ord)]
+pub(crate) struct Tenths(u128);
+
+impl fmt::Display for Tenths {
+    fn fmt<W: fmt::Write>(&self, formatter: &mut fmt::Formatter<W>) -> fmt::Result {
+        write!(formatter, "{}.{}", self.0 / 10, self.0 % 10)
+    }
+}
+
+/// What each of so many rounds takes by the clock.
 pub(crate) fn time<C: Clock, W: Work>(
     clock: &C,
     rounds: NonZeroU32,
     work: &mut W,
-) -> Result<u128, Trouble> {
+) -> Result<Tenths, Trouble> {
     let start = Instant::now(clock)?;
     for _ in 0..rounds.get() {
         work.once()?;
     }
     let spent = start.elapsed(clock)?;
-    Ok(nanos_each(spent, rounds))
+    Ok(each(spent, rounds))
 }
 
-// Nanoseconds of each of so many equal parts, rounded down.
-fn nanos_each(spent: Duration, parts: NonZeroU32) -> u128
-    ensures { result ≡ as_nanos spent / non_zero_u32_get parts }
+// What each of so many equal parts takes.
+fn each(spent: Duration, parts: NonZeroU32) -> Tenths
+    ensures { result.0 ≡ 10 * as_nanos spent / non_zero_u32_get parts }
 {
-    spent.as_nanos() / u128::from(parts.get())
+    Tenths(10 * spent.as_nanos() / u128::from(parts.get()))
 }

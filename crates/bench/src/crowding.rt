@@ -1,0 +1,116 @@
+//! A map and its unmap while the unit's caches are full.
+
+ghost use Rattle.std.specs.Prelude.{◌≡◌, ◌+◌, ◌<◌};
+
+use crate::driver::{BOTH_RIGHTS, count};
+use crate::timing::Work;
+use crate::trouble::{Trouble, check};
+use dmatypes::{Access, Mode, Whim};
+use engine::State;
+use std::alloc::Global;
+
+// Enough for two domains with 15 tables of the lowest level each, and one more.
+const TABLE_FRAMES: u64 = 64;
+
+// The devices of each domain: 16 contexts together.
+const DEVICES: u64 = 8;
+
+// Each domain has this many tables of the lowest level, and one above them: 32 tables together.
+const SPANS: u64 = 15;
+
+// Each domain has this many leaves in the cache: 64 leaves together.
+const LEAVES: u64 = 32;
+
+// The bytes of a page, and of a span of 512 pages.
+const PAGE: u64 = 0x1000;
+
+const SPAN: u64 = 0x20_0000;
+
+// So many pages are mapped in each span, which is enough for the leaves.
+const SPAN_PAGES: u64 = 3;
+
+/// Maps one page into a strict domain, and unmaps it again, while the caches hold 64 leaves, 32 tables and 16
+/// contexts, half of them of this domain, half of another. The unmap drops none of them.
+#[derive(Drop)]
+pub(crate) struct Crowded {
+    state: State,
+    domain: u64,
+    made: u64,
+    ghost counted: { state.calls ≡ made },
+}
+
+impl Crowded {
+    pub(crate) fn new(alloc: Global) -> Result<Crowded, Trouble> {
+        let mut crowded = Crowded {
+            state: State::new(alloc, TABLE_FRAMES)?,
+            domain: 0,
+            made: 0,
+        };
+        crowded.fill_half(0)?;
+        crowded.fill_half(DEVICES)?;
+        Ok(crowded)
+    }
+
+    // Makes a domain with devices from a first one on, maps pages in each span, and has the devices read until half of
+    // the caches is filled.
+    fn fill_half(&mut self, first: u64) -> Result<(), Trouble>
+        requires { first < 9 }
+    {
+        count(&mut self.made)?;
+        self.domain = self.state.domain(Mode::Strict)?;
+        self.attach_from(first)?;
+        self.map_spans()?;
+        self.read_pages(first)
+    }
+
+    fn attach_from(&mut self, first: u64) -> Result<(), Trouble>
+        requires { first < 9 }
+    {
+        for device in first..first + DEVICES {
+            count(&mut self.made)?;
+            self.state.attach(device, self.domain)?;
+        }
+        Ok(())
+    }
+
+    fn map_spans(&mut self) -> Result<(), Trouble> {
+        for span in 1..=SPANS {
+            count(&mut self.made)?;
+            let mapped = self
+                .state
+                .map(self.domain, 0x1001, SPAN_PAGES, 9, BOTH_RIGHTS)?;
+            check(mapped == SPAN * span)?;
+        }
+        Ok(())
+    }
+
+    fn read_pages(&mut self, first: u64) -> Result<(), Trouble>
+        requires { first < 9 }
+    {
+        for leaf in 0..LEAVES {
+            let page = leaf / SPANS;
+            let address = SPAN * (leaf % SPANS + 1) + PAGE * page;
+            let filling = Whim {
+                look: false,
+                fill: true,
+            };
+            count(&mut self.made)?;
+            let host = self
+                .state
+                .dma(first + leaf % DEVICES, address, Access::Read, filling)?;
+            check(host == Ok(PAGE * (0x1001 + page)))?;
+        }
+        Ok(())
+    }
+}
+
+impl Work for Crowded {
+    fn once(&mut self) -> Result<(), Trouble> {
+        count(&mut self.made)?;
+        let mapped = self.state.map(self.domain, 0x1001, 1, 0, BOTH_RIGHTS)?;
+        check(mapped == PAGE)?;
+        count(&mut self.made)?;
+        let released = self.state.unmap(self.domain, mapped, 1)?;
+        check(released == 0)
+    }
+}

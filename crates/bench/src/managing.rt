@@ -1,0 +1,135 @@
+//! A map and its unmap by a manager, with its history.
+
+ghost use Rattle.std.specs.Prelude.{◌≡◌};
+
+use crate::driver::{BOTH_RIGHTS, TABLE_FRAMES};
+use crate::timing::{Tenths, Work, time};
+use crate::trouble::{Trouble, check};
+use dmatypes::{Call, Mode, Reply};
+use manager::{Book, Config, HistoryFull, Made, Manager, Owner, Seed, Share};
+use std::alloc::Global;
+use std::marker::Brand;
+use std::num::NonZeroU32;
+use std::sync::Wait;
+use std::time::Clock;
+
+/// How a manager is called.
+#[derive(Clone, Copy)]
+pub(crate) enum Way {
+    /// Under one guard for all rounds.
+    Guarded,
+    /// Each call takes the lock.
+    Locking,
+}
+
+/// What each of so many rounds takes, each a map of one page into a strict domain and its unmap.
+pub(crate) fn time_manager<C: Clock + Wait>(
+    clock: &C,
+    alloc: Global,
+    rounds: NonZeroU32,
+    way: Way,
+) -> Result<Tenths, Trouble> {
+    let calls = 1 + 2 * u64::from(rounds.get());
+    let config = Config::new(TABLE_FRAMES, calls, 1).ok_or(Trouble::TooManyCalls)?;
+    let seed = Seed::new(alloc, config)?;
+    time_owned::<Brand, C>(clock, alloc, rounds, way, seed)
+}
+
+// The same, over an owner that names the manager.
+fn time_owned<B: Owner, C: Clock + Wait>(
+    clock: &C,
+    alloc: Global,
+    rounds: NonZeroU32,
+    way: Way,
+    seed: Seed,
+) -> Result<Tenths, Trouble>
+    requires name { seed.name ≡ B.name }
+    requires parts { seed.shares ≡ B.parts }
+    requires shares { seed.shares ≡ B.shares }
+    requires room { seed.room ≡ B.room }
+    requires frames { seed.frames ≡ B.frames }
+{
+    let Made {
+        manager,
+        mut shares,
+    } = Manager::<B>::new(alloc, seed)?;
+    let mut mine = shares.pop().ok_or(Trouble::Wrong)?;
+    let made = manager.call(clock, &mut mine, Call::Domain(Mode::Strict));
+    check(made == Ok((1, Reply::Made(1))))?;
+    match way {
+        Way::Locking => {
+            let mut pairs = Locking {
+                clock,
+                manager: &manager,
+                mine: &mut mine,
+            };
+            time(clock, rounds, &mut pairs)
+        }
+        Way::Guarded => {
+            let mut guard = manager.lock(clock);
+            let mut pairs = Guarded {
+                book: &mut *guard,
+                mine: &mut mine,
+            };
+            time(clock, rounds, &mut pairs)
+        }
+    }
+}
+
+// Where the one page is mapped.
+const ADDRESS: u64 = 0x1000;
+
+const MAP: Call = Call::Map {
+    domain: 1,
+    frame: 0x1001,
+    pages: 1,
+    order: 0,
+    rights: BOTH_RIGHTS,
+};
+
+const UNMAP: Call = Call::Unmap {
+    domain: 1,
+    address: ADDRESS,
+    pages: 1,
+};
+
+// Whether a call was answered as it must be.
+fn check_reply(answer: Result<(u64, Reply), HistoryFull>, wanted: Reply) -> Result<(), Trouble> {
+    match answer {
+        Ok((_, reply)) => check(reply == wanted),
+        Err(HistoryFull) => Err(Trouble::TooManyCalls),
+    }
+}
+
+// Each call takes the lock.
+#[derive(Drop)]
+struct Locking<'a, B: Owner, C: Wait> {
+    clock: &'a C,
+    manager: &'a Manager<B>,
+    mine: &'a mut Share<B>,
+}
+
+impl<'a, B: Owner, C: Wait> Work for Locking<'a, B, C> {
+    fn once(&mut self) -> Result<(), Trouble> {
+        let answer = self.manager.call(self.clock, self.mine, MAP);
+        check_reply(answer, Reply::Mapped(ADDRESS))?;
+        let answer = self.manager.call(self.clock, self.mine, UNMAP);
+        check_reply(answer, Reply::Unmapped(0))
+    }
+}
+
+// All calls are made while the lock is held.
+#[derive(Drop)]
+struct Guarded<'a, B: Owner> {
+    book: &'a mut Book<B>,
+    mine: &'a mut Share<B>,
+}
+
+impl<'a, B: Owner> Work for Guarded<'a, B> {
+    fn once(&mut self) -> Result<(), Trouble> {
+        let answer = self.book.call(self.mine, MAP);
+        check_reply(answer, Reply::Mapped(ADDRESS))?;
+        let answer = self.book.call(self.mine, UNMAP);
+        check_reply(answer, Reply::Unmapped(0))
+    }
+}
