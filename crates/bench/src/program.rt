@@ -160,6 +160,13 @@ fn write_row<W: Write>(
     least: Tenths,
     median: Tenths,
 ) -> Result<(), Failure> {
-    writeln!(output, "{name:<44}{least:>11}{median:>12}")?;
+    writeln!(
+        output,
+        "{name:<44}{:>9}.{}{:>10}.{}",
+        least.whole(),
+        least.rest(),
+        median.whole(),
+        median.rest(),
+    )?;
     Ok(())
 }

@@ -5,7 +5,6 @@ ghost use Rattle.std.specs.Duration.{as_nanos};
 ghost use Rattle.std.specs.NonZero.{non_zero_u32_get};
 
 use crate::trouble::Trouble;
-use std::fmt;
 use std::num::NonZeroU32;
 use std::time::{Clock, Duration, Instant};
 
@@ -19,9 +18,15 @@ pub(crate) trait Work {
 #[derive(Clone, Copy, Debug, Default, PartialEq, Eq, PartialOrd, Ord)]
 pub(crate) struct Tenths(u128);
 
-impl fmt::Display for Tenths {
-    fn fmt<W: fmt::Write>(&self, formatter: &mut fmt::Formatter<W>) -> fmt::Result {
-        write!(formatter, "{}.{}", self.0 / 10, self.0 % 10)
+impl Tenths {
+    /// Whole nanoseconds.
+    pub(crate) fn whole(self) -> u128 {
+        self.0 / 10
+    }
+
+    /// The tenths beyond them, 0 to 9.
+    pub(crate) fn rest(self) -> u128 {
+        self.0 % 10
     }
 }
 
