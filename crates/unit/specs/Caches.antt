@@ -58,13 +58,15 @@ without kinds.Leaf place c = record c { leaves = remove c.leaves place }
 without kinds.NonLeaf place c = record c { non_leaves = remove c.non_leaves place }
 without kinds.Context place c = record c { contexts = remove c.contexts place }
 
--- the unit: what it remembers, and how many steps it made
+-- the unit: what it remembers, how many steps it made, and how many descriptors it did in them, one in each that found
+-- one
 pub record UnitState : Type 0 where
   pub caches : Caches
   pub steps : ℕ
+  pub done : ℕ
 
-abbrev pub unit_state : Caches → ℕ → UnitState
-unit_state caches steps = record { caches = caches; steps = steps }
+abbrev pub unit_state : Caches → ℕ → ℕ → UnitState
+unit_state caches steps done = record { caches = caches; steps = steps; done = done }
 
 -- ---- what a leaf and a table can be
 
