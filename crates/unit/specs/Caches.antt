@@ -1,5 +1,5 @@
 -- What the unit remembers.
-use Rattle.std.specs.Prelude.{◌≡◌, ℕ, ◌%◌, ◌^◌, ◌<◌, ◌≤◌, ◌⊎◌, List, [], remove}
+use Rattle.std.specs.Prelude.{◌≡◌, ℕ, ◌%◌, ◌^◌, ◌<◌, ◌≤◌, ◌⊎◌, List, [], length, remove}
 use Rattle.dmatypes.specs.Rights.{AreRights}
 use Rattle.dmatypes.specs.declared.call.Cache.{Cache}
 use Rattle.dmatypes.specs.declared.call.Cache.TheVariants as kinds
@@ -48,6 +48,28 @@ pub record Caches : Type 0 where
 abbrev pub caches : List Leaf → List NonLeaf → List Context → Caches
 caches leaves non_leaves contexts =
     record { leaves = leaves; non_leaves = non_leaves; contexts = contexts }
+
+-- how many leaves, tables and contexts are remembered at most
+abbrev pub most_leaves : ℕ
+most_leaves = 64
+
+abbrev pub most_non_leaves : ℕ
+most_non_leaves = 32
+
+abbrev pub most_contexts : ℕ
+most_contexts = 16
+
+-- no more are
+pub record AreFew (c : Caches) : Type 0 where
+  pub leaves : length c.leaves ≤ most_leaves
+  pub non_leaves : length c.non_leaves ≤ most_non_leaves
+  pub contexts : length c.contexts ≤ most_contexts
+
+-- there are places for so many
+pub record HavePlaces (leaves non_leaves contexts : ℕ) : Type 0 where
+  pub for_leaves : leaves ≡ most_leaves
+  pub for_non_leaves : non_leaves ≡ most_non_leaves
+  pub for_contexts : contexts ≡ most_contexts
 
 abbrev pub nothing : Caches
 nothing = caches [] [] []

@@ -26,7 +26,7 @@ mod request_tests;
 #[cfg(test)]
 mod tests;
 
-// How many contexts are remembered.
+// How many contexts are remembered at most (own).
 const CONTEXTS: usize = 16;
 
 // The first byte address beyond the width of 39 bits.
@@ -52,14 +52,20 @@ pub struct Unit {
     idle: u64,
 }
 
-// Clauses see the three lists, the number of all steps, and the number of descriptors done.
+// Clauses see the three lists, the number of all steps, and the number of descriptors done. A list has a place for each
+// entry that it may remember.
 impl Model for Unit {
     ghost use Rattle.std.specs.Prelude.{◌+◌};
-    ghost use Rattle.unit.specs.Caches.{UnitState, unit_state, caches};
+    ghost use Rattle.unit.specs.Caches.{AreFew, HavePlaces, UnitState, unit_state, caches};
+    ghost use Rattle.unit.specs.declared.requests.TheConstants.{LEAVES};
+    ghost use Rattle.unit.specs.declared.unit.TheConstants.{CONTEXTS};
+    ghost use Rattle.unit.specs.declared.walking.TheConstants.{NON_LEAVES};
 
     ghost Value = { UnitState };
 
     ghost view = { λ u. unit_state (caches u.leaves.items u.non_leaves.items u.contexts.items) (u.done + u.idle) u.done };
+
+    ghost invariant = { λ u. AreFew (caches u.leaves.items u.non_leaves.items u.contexts.items) × HavePlaces LEAVES NON_LEAVES CONTEXTS };
 }
 
 impl Unit {
