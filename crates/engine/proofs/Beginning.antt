@@ -96,7 +96,7 @@ many zero = refl
 many (suc n) = omega (arith, length-append (frames_up n) (n ∷ []), many n)
 
 pub new_state : ℕ → Machine
-new_state frames = record { pool = record { words = replicate (frames * 512) 0; free = frames_up frames; frames = frames }; homes = replicate 15 vacant; row = replicate 16 Absent; ring = queue [] 0; unit = unit_state nothing 0; sent = 0; calls = 0 }
+new_state frames = record { pool = record { words = replicate (frames * 512) 0; free = frames_up frames; frames = frames }; homes = replicate 15 vacant; row = replicate 16 Absent; ring = queue [] 0 []; unit = unit_state nothing 0 0; sent = 0; calls = 0 }
 
 pub new_is_new : (frames : ℕ) → IsNew frames (new_state frames)
 unfolding new_state

@@ -1,6 +1,6 @@
 -- How an unmap ends a range: in the tree and the address space, by what it sends to the unit, and what then comes
 -- free.
-use Rattle.std.specs.Prelude.{◌≡◌, ◌≢◌, ◌↔◌, ℕ, ◌+◌, ◌<◌, ◌≤◌, ◌⊎◌, ◌++◌, Bool, true, false, IsTrue, not, ◌&&◌, List, [], ◌∷◌, length, Option, None, Some, Result, Ok, Err}
+use Rattle.std.specs.Prelude.{◌≡◌, ◌≢◌, ◌↔◌, ℕ, ◌+◌, ◌-◌, ◌<◌, ◌≤◌, ◌⊎◌, ◌++◌, Bool, true, false, IsTrue, not, ◌&&◌, List, [], ◌∷◌, length, reverse, take, Option, None, Some, Result, Ok, Err}
 use Rattle.dmatypes.specs.Block.{Block, Holds, IsAligned}
 use Rattle.dmatypes.specs.Page.{Range, IsWithin}
 use Rattle.dmatypes.specs.World.{IsIn}
@@ -84,13 +84,18 @@ unfoldable pub left_by_all : List Descriptor → Caches → Caches
 left_by_all [] c = c
 left_by_all (d ∷ ds) c = left_by_all ds (left_by d c)
 
--- the descriptor and a wait were sent behind what waited, nothing else was, and the unit has done them all, in at most
--- 130 steps
+-- what was taken, the last one first, once these were too, one after the other: the ring's page still holds 256
+abbrev pub taken_after : List Descriptor → List Descriptor → List Descriptor
+taken_after ds taken = reverse ds ++ take (256 - length ds) taken
+
+-- what waited, then the descriptor, then a wait were taken, in this order, and nothing else was; the unit has done each
+-- of them in a step of its own, with no other step, in at most 130
 pub record Invalidates (ring : Queue) (unit : UnitState) (sent : ℕ) (d : Descriptor) (ring' : Queue) (unit' : UnitState) (sent' : ℕ) : Type 0 where
   pub number : sent' ≡ sent + 1
-  pub done : ring' ≡ queue [] sent'
+  pub done : ring' ≡ queue [] sent' (taken_after (ring.waiting ++ d ∷ Wait sent' ∷ []) ring.taken)
   pub caches : unit'.caches ≡ left_by_all (ring.waiting ++ d ∷ Wait sent' ∷ []) unit.caches
   pub steps : unit'.steps ≡ unit.steps + (length ring.waiting + 2)
+  pub each : unit'.done ≡ unit.done + (length ring.waiting + 2)
   pub few : length ring.waiting + 2 ≤ 130
 
 -- ---- what comes free

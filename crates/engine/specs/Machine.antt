@@ -48,8 +48,8 @@ pub record IsNew (frames : ℕ) (m : Machine) : Type 0 where
   pub zeroed : (f : ℕ) → f < frames → IsZeroed m.pool.words f
   pub homes_are : m.homes ≡ replicate 15 vacant
   pub row_is : m.row ≡ replicate 16 Absent
-  pub ring_is : m.ring ≡ queue [] 0
-  pub unit_is : m.unit ≡ unit_state nothing 0
+  pub ring_is : m.ring ≡ queue [] 0 []
+  pub unit_is : m.unit ≡ unit_state nothing 0 0
   pub sent_is : m.sent ≡ 0
   pub calls_are : m.calls ≡ 0
 
@@ -152,8 +152,8 @@ Becomes m (calls.Dma device address access whim) (Refused refusal) t = t ≡ rec
 Becomes m (calls.Dma device address access whim) reply t =
     (answer : Result Hit Fault) × (reply ≡ reached_reply (host_in answer))
     × Answers (memory m.pool.words) m.row whim.look whim.fill device address access m.unit.caches t.unit.caches answer
-    × (t ≡ record m { unit = unit_state t.unit.caches m.unit.steps; calls = m.calls + 1 })
-Becomes m (calls.Evict kind place) Done t = t ≡ record m { unit = unit_state (without kind place m.unit.caches) m.unit.steps; calls = m.calls + 1 }
+    × (t ≡ record m { unit = unit_state t.unit.caches m.unit.steps m.unit.done; calls = m.calls + 1 })
+Becomes m (calls.Evict kind place) Done t = t ≡ record m { unit = unit_state (without kind place m.unit.caches) m.unit.steps m.unit.done; calls = m.calls + 1 }
 Becomes m call reply t = t ≡ record m { calls = m.calls + 1 }
 
 -- ---- the methods' answers, as replies

@@ -1,6 +1,7 @@
 -- What the parts of the state ask of their callers before pages end, are released, or the unit is run. Whoever reads
 -- what the state does needs none of it: each state has it.
-use Rattle.std.specs.Prelude.{◌≡◌, ◌≢◌, ℕ, ◌+◌, ◌^◌, ◌<◌, ◌≤◌, List, [], ◌∷◌, Some, IsSome}
+use Rattle.std.specs.Prelude.{◌≡◌, ◌≢◌, ℕ, ◌+◌, ◌^◌, ◌<◌, ◌≤◌, List, [], ◌∷◌, ◌++◌, Some, IsSome, IsTrue}
+use Rattle.dmatypes.specs.Block.{Holds, IsAligned}
 use Rattle.dmatypes.specs.Page.{Range}
 use Rattle.dmatypes.specs.World.{IsIn}
 use Rattle.iova.specs.declared.piece.PageState.TheVariants.{Live, Retired}
@@ -9,9 +10,12 @@ use Rattle.iova.specs.Space.{AddressSpace, IsSpace}
 use Rattle.tables.specs.Pool.{Stored, memory, occurs, IsTree, IsZeroed}
 use Rattle.tables.specs.Tree.{states}
 use Rattle.tables.specs.Taken.{Taken}
+use Rattle.queue.specs.Queue.{Queue}
+use Rattle.vtdbits.specs.declared.descriptor.Descriptor.{Descriptor}
+use Rattle.vtdbits.specs.declared.descriptor.Descriptor.TheVariants.{ContextDevice, ContextDomain, ContextGlobal, IotlbDomain, IotlbGlobal, IotlbPages, Wait}
 use Rattle.engine.specs.declared.iommu.Iommu.{Iommu}
 use Rattle.engine.specs.declared.record.Record.{Record}
-use Rattle.engine.specs.Ending.{ReleasesAll}
+use Rattle.engine.specs.Ending.{ReleasesAll, hint_of}
 use Rattle.engine.specs.Homes.{Home, held_in}
 
 -- its tree is one of the pool, and maps each live page
@@ -39,6 +43,42 @@ pub record AreReleasable (pool : Stored) (space : AddressSpace) (records : List 
   pub once : (f : ℕ) → occurs f pool.free + held_in records f ≤ 1
   pub within : (f : ℕ) → 0 < held_in records f → f < pool.frames
   pub zeroed : (f : ℕ) → 0 < occurs f pool.free + held_in records f → IsZeroed pool.words f
+
+-- it names pages, and no device: its IOTLB is invalidated, and not its contexts
+abbrev pub IsOfIotlb : Descriptor → Type 0
+IsOfIotlb IotlbGlobal = Unit {0}
+IsOfIotlb (IotlbDomain domain) = Unit {0}
+IsOfIotlb (IotlbPages domain block hint) = Unit {0}
+IsOfIotlb ContextGlobal = ⊥
+IsOfIotlb (ContextDomain domain) = ⊥
+IsOfIotlb (ContextDevice domain device) = ⊥
+IsOfIotlb (Wait number) = ⊥
+
+-- the descriptor and right behind it the wait of this number were taken, and the wait is done
+pub record IsDone (ring : Queue) (d : Descriptor) (number : ℕ) : Type 0 where
+  pub later : List Descriptor
+  pub earlier : List Descriptor
+  pub taken : ring.taken ≡ later ++ Wait number ∷ d ∷ earlier
+  pub reached : number ≤ ring.status
+
+-- once it is done, the unit can translate no page of the range for the domain any more, nor walk a table that was cut
+-- with it: it names all of the domain, or an aligned block that holds the range, of at least 512 pages where a leaf of
+-- 2 MiB was split, and with the invalidation hint only where no table was cut and no leaf was split
+abbrev pub Covers : ℕ → Range → Taken → Descriptor → Type 0
+Covers domain range cut IotlbGlobal = Unit {0}
+Covers domain range cut (IotlbDomain named) = named ≡ domain
+Covers domain range cut (IotlbPages named block hint) =
+    (named ≡ domain) × IsAligned block × Holds block range × (IsTrue cut.split → 9 ≤ block.order) × (IsTrue hint → IsTrue (hint_of cut))
+Covers domain range cut ContextGlobal = ⊥
+Covers domain range cut (ContextDomain named) = ⊥
+Covers domain range cut (ContextDevice named device) = ⊥
+Covers domain range cut (Wait number) = ⊥
+
+-- the last wait that was sent is done, and the descriptor before it covers the range and what was cut with it
+pub record IsInvalidated (x : Iommu) (domain : ℕ) (range : Range) (cut : Taken) : Type 0 where
+  pub descriptor : Descriptor
+  pub covers : Covers domain range cut descriptor
+  pub done : IsDone x.ring descriptor x.sent
 
 -- nothing waits, what was sent is done, and numbers are left for a wait and for two steps of the unit
 pub record IsReady (x : Iommu) : Type 0 where

@@ -10,8 +10,9 @@ ghost use Rattle.iova.specs.declared.piece.PageState.TheVariants.{Retired};
 ghost use Rattle.iova.specs.Pieces.{piece_of};
 ghost use Rattle.iova.specs.Space.{AllFree, IsSpace, MayRetire, new_space};
 ghost use Rattle.tables.specs.Pool.{IsTree};
-ghost use Rattle.engine.specs.Ending.{Closes, Cuts, Flushes, IsJudgedEnd, IsUnmappedIn, MakesRoom, PutsOff, Releases, ReleasesAll, UnmapsStrictly};
-ghost use Rattle.engine.specs.Ready.{AreReleasable, CanCut, CanUnmap, IsReady, IsReleasable};
+ghost use Rattle.engine.specs.Ending.{Closes, Cuts, Destroys, Flushes, IsJudgedEnd, IsUnmappedIn, MakesRoom, PutsOff, Releases, ReleasesAll, UnmapsStrictly};
+ghost use Rattle.engine.specs.Ready.{AreReleasable, CanCut, CanUnmap, IsDone, IsInvalidated, IsReady, IsReleasable};
+ghost use Rattle.vtdbits.specs.declared.descriptor.Descriptor.TheVariants.{IotlbDomain};
 ghost use Rattle.engine.specs.Homes.{home_with, record_for, vacant};
 ghost use Rattle.engine.specs.Judged.{AreMappable};
 ghost use Rattle.engine.specs.Placing.{CanPlace, IsPlaced, IsPlacedIn};
@@ -152,7 +153,7 @@ impl Home {
     {
         let cut = self.end(pool, range);
         iommu.invalidate(descriptor_of(id, range, &cut));
-        release(&mut self.space, pool, range, &cut);
+        release(&mut self.space, pool, iommu, id, range, &cut);
     }
 
     // The pages become the last record; where there is no room for one, all others go first.
@@ -200,7 +201,7 @@ impl Home {
     {
         let released = self.records.len() as u64;
         iommu.invalidate(Descriptor::IotlbDomain(id));
-        release_all(&mut self.space, pool, &mut self.records);
+        release_all(&mut self.space, pool, iommu, id, &mut self.records);
         released
     }
 
@@ -213,7 +214,7 @@ impl Home {
     {
         self.flush(pool, iommu, id);
         match self.tenant.take() {
-            Some(tenant) => tenant.tree.destroy(pool),
+            Some(tenant) => destroy(tenant.tree, pool, iommu, id),
             None => unreachable!(),
         }
     }
@@ -341,10 +342,19 @@ fn end(space: &mut Space, tree: &mut Tree, pool: &mut Pool, range: PageRange) ->
     tree.unmap(pool, range)
 }
 
-/// Releases the pages of a range, and the table frames that were cut with them.
+/// Releases the pages of a range of a domain, and the table frames that were cut with them. The unit has forgotten them:
+/// it has done the last wait, and before it a descriptor that covers them.
 #[inline(always)]
-pub(crate) fn release(space: &mut Space, pool: &mut Pool, range: PageRange, cut: &Cut)
-    requires { IsReleasable pool.old space.old range cut.now }
+pub(crate) fn release(
+    space: &mut Space,
+    pool: &mut Pool,
+    iommu: &Iommu,
+    id: DomainId,
+    range: PageRange,
+    cut: &Cut,
+)
+    requires can { IsReleasable pool.old space.old range cut.now }
+    requires invalidated { IsInvalidated iommu.now id range cut.now }
     ensures released { Releases pool.old space.old range cut.now pool.new space.new }
     ensures retirable { (other : Range) → MayRetire space.old.pieces other → MayRetire space.new.pieces other }
     ensures more { length pool.old.free ≤ length pool.new.free }
@@ -353,14 +363,33 @@ pub(crate) fn release(space: &mut Space, pool: &mut Pool, range: PageRange, cut:
     pool.give_back(cut.frames());
 }
 
-/// Releases all records, the last one first.
-pub(crate) fn release_all(space: &mut Space, pool: &mut Pool, records: &mut Vec<Record>)
-    requires { AreReleasable pool.old space.old records.old.items }
+/// Destroys the tree of a domain: its table frames are given back. The unit has done the last wait, and before it the
+/// descriptor that names all of the domain.
+#[inline(always)]
+fn destroy(tree: Tree, pool: &mut Pool, iommu: &Iommu, id: DomainId)
+    requires tree { IsTree pool.old 3 tree.root }
+    requires invalidated { IsDone iommu.now.ring (IotlbDomain id) iommu.now.sent }
+    ensures { Destroys pool.old tree.root pool.new }
+{
+    tree.destroy(pool);
+}
+
+/// Releases all records of a domain, the last one first. The unit has done the last wait, and before it the descriptor
+/// that names all of the domain.
+pub(crate) fn release_all(
+    space: &mut Space,
+    pool: &mut Pool,
+    iommu: &Iommu,
+    id: DomainId,
+    records: &mut Vec<Record>,
+)
+    requires can { AreReleasable pool.old space.old records.old.items }
+    requires invalidated { IsDone iommu.now.ring (IotlbDomain id) iommu.now.sent }
     ensures released { ReleasesAll pool.old space.old records.old.items pool.new space.new }
     ensures none { records.new.items ≡ [] }
     ensures room { vec_capacity records.new ≡ vec_capacity records.old }
 {
     while let Some(record) = records.pop() {
-        release(space, pool, record.range, &record.cut);
+        release(space, pool, iommu, id, record.range, &record.cut);
     }
 }

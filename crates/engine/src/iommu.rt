@@ -1,16 +1,16 @@
 //! The unit and the ring before it, as the manager uses them.
 
-ghost use Rattle.std.specs.Prelude.{◌≡◌, ℕ, ◌+◌, ◌<◌, ◌≤◌, ◌^◌, ◌∷◌, []};
+ghost use Rattle.std.specs.Prelude.{◌≡◌, ℕ, ◌+◌, ◌<◌, ◌≤◌, ◌^◌, ◌∷◌, [], Some, slice_get, take};
 ghost use Rattle.engine.specs.Ending.{Invalidates, left_by_all};
-ghost use Rattle.engine.specs.Ready.{IsReady};
+ghost use Rattle.engine.specs.Ready.{IsOfIotlb, IsReady};
 ghost use Rattle.queue.specs.Queue.{queue};
 ghost use Rattle.unit.specs.Caches.{nothing, unit_state};
 ghost use Rattle.unit.specs.Filters.{status_after};
-ghost use Rattle.vtdbits.specs.declared.descriptor.Descriptor.TheVariants.{Wait};
+ghost use Rattle.vtdbits.specs.declared.descriptor.Descriptor.TheVariants.{ContextDevice, Wait};
 
 use queue::Ring;
-use unit::Unit;
-use vtdbits::Descriptor;
+use unit::{Contexts, Unit};
+use vtdbits::{ContextEntry, Descriptor, DeviceNumber, DomainId};
 
 /// The ring of descriptors, the unit that takes from it, and the number of the last wait that was sent.
 #[derive(Drop)]
@@ -23,7 +23,7 @@ pub(crate) struct Iommu {
 impl Iommu {
     /// Nothing waits, and the unit remembers nothing.
     pub(crate) fn new() -> Iommu
-        ensures { result ≡ record { ring = queue [] 0; unit = unit_state nothing 0; sent = 0 } }
+        ensures { result ≡ record { ring = queue [] 0 []; unit = unit_state nothing 0 0; sent = 0 } }
     {
         Iommu {
             ring: Ring::new(),
@@ -32,9 +32,34 @@ impl Iommu {
         }
     }
 
-    /// Sends a descriptor that is no wait and then a wait, and runs the unit until the wait is done. Nothing waits
-    /// before, and nothing waits then.
+    /// Has the unit forget what an IOTLB descriptor names: sends it and then a wait, and runs the unit until the wait is
+    /// done. Nothing waits before, and nothing waits then.
     pub(crate) fn invalidate(&mut self, descriptor: Descriptor)
+        requires ready { IsReady self.old }
+        requires iotlb { IsOfIotlb descriptor }
+        ensures { Invalidates self.old.ring self.old.unit self.old.sent descriptor self.new.ring self.new.unit self.new.sent }
+    {
+        self.send(descriptor);
+    }
+
+    /// Has the unit forget the context of a device of a domain in the same way, once the row's entry of the device is
+    /// absent: a request could bring the context back before.
+    pub(crate) fn forget_context(
+        &mut self,
+        contexts: &Contexts,
+        domain: DomainId,
+        device: DeviceNumber,
+    )
+        requires ready { IsReady self.old }
+        requires absent { slice_get contexts.now device ≡ Some ContextEntry.Absent }
+        ensures { Invalidates self.old.ring self.old.unit self.old.sent (ContextDevice domain device) self.new.ring self.new.unit self.new.sent }
+    {
+        self.send(Descriptor::ContextDevice { domain, device });
+    }
+
+    // Sends a descriptor that is no wait and then a wait, and runs the unit until the wait is done.
+    #[inline(always)]
+    fn send(&mut self, descriptor: Descriptor)
         requires ready { IsReady self.old }
         requires no_wait { (status : ℕ) → status_after descriptor status ≡ status }
         ensures { Invalidates self.old.ring self.old.unit self.old.sent descriptor self.new.ring self.new.unit self.new.sent }
@@ -50,9 +75,10 @@ fn work_off(ring: &mut Ring, unit: &mut Unit, number: u32, descriptor: Descripto
     requires later { ring.old.status < number }
     requires no_wait { (status : ℕ) → status_after descriptor status ≡ status }
     requires steps { unit.old.steps + 2 ≤ 2 ^ 63 }
-    ensures ring { ring.new ≡ queue [] number }
+    ensures ring { ring.new ≡ queue [] number (Wait number ∷ descriptor ∷ take 254 ring.old.taken) }
     ensures caches { unit.new.caches ≡ left_by_all (descriptor ∷ Wait number ∷ []) unit.old.caches }
     ensures steps { unit.new.steps ≡ unit.old.steps + 2 }
+    ensures each { unit.new.done ≡ unit.old.done + 2 }
 {
     let _ = ring.submit(descriptor);
     let _ = ring.submit(Descriptor::Wait(number));

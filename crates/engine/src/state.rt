@@ -21,7 +21,7 @@ use std::alloc::{AllocError, Global};
 use std::marker::Model;
 use tables::{NoFrames, Pool, Tree};
 use unit::{Contexts, Hit};
-use vtdbits::{ContextEntry, Descriptor, DeviceNumber, DomainId};
+use vtdbits::{ContextEntry, DeviceNumber, DomainId};
 
 mod totals;
 
@@ -125,10 +125,7 @@ impl State {
             return Err(Refusal::NotAttached);
         };
         self.contexts.clear(device);
-        self.iommu.invalidate(Descriptor::ContextDevice {
-            domain,
-            device: number,
-        });
+        self.iommu.forget_context(&self.contexts, domain, number);
         Ok(())
     }
 

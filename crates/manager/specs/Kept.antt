@@ -50,6 +50,12 @@ pub record IsKept (frames room : ℕ) (a : Account) : Type 0 where
   pub within : length a.history ≤ room
   pub calls : a.state.calls ≡ length a.history
 
+-- a book of these numbers keeps all that a book keeps, and its history has no room left
+pub record IsFull (frames room : ℕ) : Type 0 where
+  pub account : Account
+  pub kept : IsKept frames room account
+  pub full : length account.history ≡ room
+
 -- a legal history of so many events ends with this call and its reply
 pub record EndsLegally (frames : ℕ) (call : Call) (reply : Reply) (number : ℕ) : Type 0 where
   pub before : List Event

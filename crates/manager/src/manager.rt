@@ -2,7 +2,7 @@
 
 ghost use Rattle.std.specs.Prelude.{◌≡◌, ◌+◌, ◌<◌, ◌≤◌, ◌↔◌, length, IsErr, IfOk, IfErr, MatchResult, OnOk, OnErr, All, sum_by, vec_len};
 ghost use Rattle.std.specs.Sync.Mutex.{mutex_guard_value};
-ghost use Rattle.manager.specs.Kept.{Account, EndsLegally, Hand, IsKept};
+ghost use Rattle.manager.specs.Kept.{Account, EndsLegally, Hand, IsFull, IsKept};
 
 use crate::book::{Book, HistoryFull};
 use crate::config::Seed;
@@ -93,7 +93,7 @@ impl<B: Owner> Manager<B> {
     }
 
     /// Makes a call under the lock. A legal history, of as many events as the number says, ends with it and
-    /// its reply.
+    /// its reply. Where it is refused, a legal history is as long as the room.
     pub fn call<R: Wait>(
         &self,
         rt: &R,
@@ -103,6 +103,7 @@ impl<B: Owner> Manager<B> {
         ensures ok { OnOk result (mine.new.calls ≡ mine.old.calls + 1) }
         ensures err { OnErr result (mine.new.calls ≡ mine.old.calls) }
         ensures entered { IfOk result (λ r. EndsLegally B.frames call r.1 r.0) }
+        ensures full { OnErr result (IsFull B.frames B.room) }
         ensures number { IfOk result (λ r. (mine.new.calls ≤ r.0) × (r.0 ≤ B.room)) }
         ensures alone { B.shares ≡ 1 → MatchResult result (λ r. r.0 ≡ mine.new.calls) (λ _. mine.new.calls ≡ B.room) }
     {

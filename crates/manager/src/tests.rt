@@ -118,6 +118,42 @@ fn shared_by_two<B: Owner + Send + Sync, R: Threads + Wait + Abort + Sync>(
 }
 
 #[test]
+fn two_shares_fill_the_history(rt: HostRuntime) -> Result<(), Fail> {
+    let config = Config::new(64, 2500, 2).ok_or("within the limits")?;
+    let seed = Seed::new(rt.alloc(), config)?;
+    filled_by_two::<Brand, _>(&rt, rt.alloc(), seed)
+}
+
+// More than a thousand calls by each of two shares, in turn: the last of them finds no room, and not one before.
+fn filled_by_two<B: Owner, R: Wait + Abort>(rt: &R, alloc: Global, seed: Seed) -> Result<(), Fail>
+    requires name { seed.name ≡ B.name }
+    requires parts { seed.shares ≡ B.parts }
+    requires shares { seed.shares ≡ B.shares }
+    requires room { seed.room ≡ B.room }
+    requires frames { seed.frames ≡ B.frames }
+{
+    let Made {
+        manager,
+        mut shares,
+    } = Manager::<B>::new(alloc, seed)?;
+    let mut one = shares.pop().ok_or("a share")?;
+    let mut two = shares.pop().ok_or("a share")?;
+    for turn in 0..1250u64 {
+        let first = manager.call(rt, &mut one, Call::Flush { domain: 1 });
+        let refused = Reply::Refused(Refusal::NoDomain);
+        assert_eq!(rt; first, Ok((2 * turn + 1, refused)));
+        let second = manager.call(rt, &mut two, Call::Flush { domain: 1 });
+        assert_eq!(rt; second, Ok((2 * turn + 2, refused)));
+    }
+    let first = manager.call(rt, &mut one, Call::Flush { domain: 1 });
+    assert_eq!(rt; first, Err(HistoryFull));
+    let second = manager.call(rt, &mut two, Call::Flush { domain: 1 });
+    assert_eq!(rt; second, Err(HistoryFull));
+    assert!(rt; one.calls() == 1250 && two.calls() == 1250);
+    Ok(())
+}
+
+#[test]
 fn limits_of_a_configuration(rt: HostRuntime) {
     for (frames, calls, shares, within) in [
         (16, 1, 1, true),

@@ -1,5 +1,5 @@
 -- A queue of descriptors in the pairs of words of one page.
-use Rattle.std.specs.Prelude.{◌≡◌, ℕ, ◌+◌, ◌-◌, ◌%◌, ◌<◌, List, ◌++◌, length, take, drop, All, IsSome}
+use Rattle.std.specs.Prelude.{◌≡◌, ℕ, ◌+◌, ◌-◌, ◌%◌, ◌<◌, List, [], ◌∷◌, ◌++◌, length, take, drop, reverse, All, Option, None, Some, IsSome}
 use Rattle.std.specs.List.{filter_map}
 use Rattle.vtdbits.specs.declared.descriptor.Descriptor.{Descriptor}
 use Rattle.vtdbits.specs.declared.words.Words.{Words}
@@ -16,6 +16,23 @@ pairs_between head tail page = window head ((tail + 256 - head) % 256) page
 -- the descriptors that they spell
 abbrev pub waiting_in : ℕ → ℕ → List Words → List Descriptor
 waiting_in head tail page = filter_map descriptor_of (pairs_between head tail page)
+
+-- the pairs that are free, from the tail up to the head around the page's end, the one behind the head first
+abbrev pub free_pairs : ℕ → ℕ → List Words → List Words
+free_pairs head tail page = reverse (window tail (256 - (tail + 256 - head) % 256) page)
+
+abbrev pub before : Option Descriptor → List Descriptor → List Descriptor
+before None ds = []
+before (Some d) ds = d ∷ ds
+
+-- the descriptors that the pairs spell, up to the first pair that spells none
+unfoldable pub spelled_first : List Words → List Descriptor
+spelled_first [] = []
+spelled_first (w ∷ ws) = before (descriptor_of w) (spelled_first ws)
+
+-- the descriptors that were taken last, the last one first
+abbrev pub taken_in : ℕ → ℕ → List Words → List Descriptor
+taken_in head tail page = spelled_first (free_pairs head tail page)
 
 -- head and tail are places of the page, and each pair between them spells a descriptor
 pub record IsRing (head tail : ℕ) (page : List Words) : Type 0 where

@@ -1,7 +1,7 @@
 //! The ring and its status.
 
-ghost use Rattle.std.specs.Prelude.{◌≡◌, ◌+◌, ◌%◌, ◌<◌, ◌≤◌, ◌↔◌, [], ◌∷◌, ◌++◌, length, IsTrue, IsErr, IfSome, IfNone, OnOk, OnErr};
-ghost use Rattle.queue.specs.Queue.{queue};
+ghost use Rattle.std.specs.Prelude.{◌≡◌, ◌+◌, ◌%◌, ◌<◌, ◌≤◌, ◌↔◌, [], ◌∷◌, length, IsTrue, IsErr, IfSome, IfNone, OnOk, OnErr};
+ghost use Rattle.queue.specs.Queue.{queue, with_last};
 
 use crate::error::RingFull;
 use std::marker::Model;
@@ -12,7 +12,7 @@ const PAIRS: usize = 256;
 
 /// A queue of descriptors, as the words of one page of 256 pairs, and the status that the last wait left.
 /// The pairs from the head up to the tail wait, around the page's end; one pair stays free, so that a full
-/// ring can be told from an empty one.
+/// ring can be told from an empty one. The free pairs behind the head still hold what was taken last.
 #[derive(Debug, Drop)]
 pub struct Ring {
     page: [Words; PAIRS],
@@ -21,14 +21,15 @@ pub struct Ring {
     status: u32,
 }
 
-// Clauses see the descriptors that wait, oldest first, and the status.
+// Clauses see the descriptors that wait, oldest first, the status, and what was taken, the last one first, as far as
+// the page still holds it.
 impl Model for Ring {
     ghost use Rattle.queue.specs.Queue.{Queue, queue};
-    ghost use Rattle.queue.specs.Pairs.{IsRing, waiting_in};
+    ghost use Rattle.queue.specs.Pairs.{IsRing, taken_in, waiting_in};
 
     ghost Value = { Queue };
 
-    ghost view = { λ r. queue (waiting_in r.head r.tail r.page) r.status };
+    ghost view = { λ r. queue (waiting_in r.head r.tail r.page) r.status (taken_in r.head r.tail r.page) };
 
     ghost invariant = { λ r. IsRing r.head r.tail r.page };
 }
@@ -37,9 +38,9 @@ impl Ring {
     /// How many descriptors can wait.
     pub const CAPACITY: u64 = 255;
 
-    /// A ring in which nothing waits, with the status 0. It takes no memory of its own.
+    /// A ring in which nothing waits and of which nothing was taken, with the status 0. It takes no memory of its own.
     pub fn new() -> Ring
-        ensures { result ≡ queue [] 0 }
+        ensures { result ≡ queue [] 0 [] }
     {
         Ring {
             page: [Words { low: 0, high: 0 }; PAIRS],
@@ -52,7 +53,7 @@ impl Ring {
     /// Appends a descriptor; where the ring is full, nothing changes.
     pub fn submit(&mut self, descriptor: Descriptor) -> Result<(), RingFull>
         ensures full { IsErr result ↔ (length self.old.waiting ≡ Self.CAPACITY) }
-        ensures ok { OnOk result (self.new ≡ queue (self.old.waiting ++ descriptor ∷ []) self.old.status) }
+        ensures ok { OnOk result (self.new ≡ with_last descriptor self.old) }
         ensures err { OnErr result (self.new ≡ self.old) }
     {
         let next = following(self.tail);
@@ -66,7 +67,9 @@ impl Ring {
 
     /// Takes the oldest descriptor, if one waits.
     pub fn fetch(&mut self) -> Option<Descriptor>
-        ensures some { IfSome result (λ d. self.old ≡ queue (d ∷ self.new.waiting) self.new.status) }
+        ensures some { IfSome result (λ d. self.old.waiting ≡ d ∷ self.new.waiting) }
+        ensures taken { IfSome result (λ d. self.new.taken ≡ d ∷ self.old.taken) }
+        ensures status { self.new.status ≡ self.old.status }
         ensures none { IfNone result (self.old.waiting ≡ []) }
         ensures unchanged { IfNone result (self.new ≡ self.old) }
     {
@@ -95,7 +98,7 @@ impl Ring {
 
     /// Sets the status, as a wait does that the unit has reached.
     pub fn complete(&mut self, value: u32)
-        ensures { self.new ≡ queue self.old.waiting value }
+        ensures { self.new ≡ queue self.old.waiting value self.old.taken }
     {
         self.status = value;
     }

@@ -62,6 +62,22 @@ splits old took ran new t i page c value entry x tree a was free words frames ru
       free = c_free;
     }
 
+-- the table before it is linked: it spells the leaf, which is still there
+pub spells_leaf : (took ran : Stored) (page c : ℕ) (entry : ℕ → SsEntry) (x : Target) → IsRun took.words ran.words c (page / 512 * 512) (page / 512 * 512 + 512) entry
+    → ((p : ℕ) → page / 512 * 512 ≤ p → p < page / 512 * 512 + 512 → entry p ≡ Leaf (target (x.frame + p % 512) x.rights))
+    → (i : ℕ) → i < 512 → memory ran.words 1 c i ≡ Leaf (target (x.frame + i) x.rights)
+spells_leaf took ran page c entry x run leaves i small =
+    let p : ℕ = page / 512 * 512 + i in
+    let at : p % 512 ≡ i = omega arith in
+    subst (λ k. memory ran.words 1 c k ≡ Leaf (target (x.frame + k) x.rights)) at (run.entries p (omega arith) (omega arith) ∙ leaves p (omega arith) (omega arith))
+
+pub leaf_stays : (old took ran : Stored) (t i page c : ℕ) (entry : ℕ → SsEntry) (x : Target) → IsTree old 2 t → i < 512 → memory old.words 2 t i ≡ LargeLeaf x
+    → ((f : ℕ) → occurs f took.free + here c f ≡ occurs f old.free) → took.words ≡ old.words → IsRun took.words ran.words c (page / 512 * 512) (page / 512 * 512 + 512) entry
+    → memory ran.words 2 t i ≡ LargeLeaf x
+leaf_stays old took ran t i page c entry x tree small was free words run =
+    let apart : c ≡ t → ⊥ = λ e. let same : occurs c old.free ≡ occurs t old.free = ap (λ y. occurs y old.free) e in omega (arith, free c, here-same c, root_apart old 1 t i tree small) in
+    same_entry old.words ran.words 2 t i (run.rest t i small (λ e p low high at. apart (sym e)) ∙ ap (λ ws. word ws t i) words) ∙ was
+
 -- it states the same
 split_states : (old new : Stored) (t i from c p : ℕ) (x : Target) → IsTree old 2 t → i < 512 → i ≡ index_in 1 from → IsSplit old new t i from c x → p / span 2 ≡ from / span 2
     → states (memory new.words) 2 t p ≡ states (memory old.words) 2 t p

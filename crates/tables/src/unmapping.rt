@@ -2,7 +2,9 @@
 
 ghost use Rattle.std.specs.Prelude.{◌≡◌, ◌≢◌, ℕ, ◌+◌, ◌-◌, ◌*◌, ◌/◌, ◌%◌, ◌^◌, ◌<◌, ◌≤◌, [], false, length, if◌then◌else◌, IsSome, IsTrue, ◌↔◌};
 ghost use Rattle.tables.specs.Tree.{Memory, span, index_in, leaf_from, uses};
-ghost use Rattle.tables.specs.Pool.{word, memory, occurs, IsPool, IsTree};
+ghost use Rattle.tables.specs.Pool.{word, memory, occurs, IsPool, IsTree, IsWrite};
+ghost use Rattle.vtdbits.specs.Entry.{look};
+ghost use Rattle.vtdbits.specs.Translation.{target};
 ghost use Rattle.tables.specs.Changes.{Moves, Unmaps};
 ghost use Rattle.tables.specs.Lacks.{splitting, splits};
 ghost use Rattle.tables.specs.Under.{IsSplit, used_at};
@@ -62,8 +64,23 @@ fn split(pool: &mut Pool, table: Frame, page: u64, leaf: LargeTranslation) -> Fr
         rights: leaf.rights(),
     };
     write_run(pool, below, piece);
-    pool.write(table, index_of(2, page), SsEntry::Table(below).encode());
+    link(pool, table, page, below, leaf);
     below
+}
+
+/// Writes the entry of a table in the place of a leaf of 512 pages, once its 512 entries spell what the leaf does.
+#[inline(always)]
+fn link(pool: &mut Pool, table: Frame, page: u64, below: Frame, leaf: LargeTranslation)
+    requires table { table < pool.old.frames }
+    requires taken { occurs table pool.old.free ≡ 0 }
+    requires leaf { memory pool.old.words 2 table (index_in 1 page) ≡ SsEntry.LargeLeaf leaf }
+    requires filled { (i : ℕ) → i < 512 → memory pool.old.words 1 below i ≡ SsEntry.Leaf (target (leaf.frame + i) leaf.rights) }
+    ensures wrote { (value : ℕ) × IsWrite pool.old.words pool.new.words table (index_in 1 page) value × (look 2 value ≡ SsEntry.Table below) }
+    ensures free { pool.new.free ≡ pool.old.free }
+    ensures frames { pool.new.frames ≡ pool.old.frames }
+    ensures pool { IsPool pool.new }
+{
+    pool.write(table, index_of(2, page), SsEntry::Table(below).encode());
 }
 
 /// Unmaps a piece in a table of level 2.

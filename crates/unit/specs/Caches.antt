@@ -1,5 +1,5 @@
 -- What the unit remembers.
-use Rattle.std.specs.Prelude.{◌≡◌, ℕ, ◌%◌, ◌^◌, ◌<◌, ◌≤◌, ◌⊎◌, List, [], remove}
+use Rattle.std.specs.Prelude.{◌≡◌, ℕ, ◌%◌, ◌^◌, ◌<◌, ◌≤◌, ◌⊎◌, List, [], length, remove}
 use Rattle.dmatypes.specs.Rights.{AreRights}
 use Rattle.dmatypes.specs.declared.call.Cache.{Cache}
 use Rattle.dmatypes.specs.declared.call.Cache.TheVariants as kinds
@@ -49,6 +49,28 @@ abbrev pub caches : List Leaf → List NonLeaf → List Context → Caches
 caches leaves non_leaves contexts =
     record { leaves = leaves; non_leaves = non_leaves; contexts = contexts }
 
+-- how many leaves, tables and contexts are remembered at most
+abbrev pub most_leaves : ℕ
+most_leaves = 64
+
+abbrev pub most_non_leaves : ℕ
+most_non_leaves = 32
+
+abbrev pub most_contexts : ℕ
+most_contexts = 16
+
+-- no more are
+pub record AreFew (c : Caches) : Type 0 where
+  pub leaves : length c.leaves ≤ most_leaves
+  pub non_leaves : length c.non_leaves ≤ most_non_leaves
+  pub contexts : length c.contexts ≤ most_contexts
+
+-- there are places for so many
+pub record HavePlaces (leaves non_leaves contexts : ℕ) : Type 0 where
+  pub for_leaves : leaves ≡ most_leaves
+  pub for_non_leaves : non_leaves ≡ most_non_leaves
+  pub for_contexts : contexts ≡ most_contexts
+
 abbrev pub nothing : Caches
 nothing = caches [] [] []
 
@@ -58,13 +80,15 @@ without kinds.Leaf place c = record c { leaves = remove c.leaves place }
 without kinds.NonLeaf place c = record c { non_leaves = remove c.non_leaves place }
 without kinds.Context place c = record c { contexts = remove c.contexts place }
 
--- the unit: what it remembers, and how many steps it made
+-- the unit: what it remembers, how many steps it made, and how many descriptors it did in them, one in each that found
+-- one
 pub record UnitState : Type 0 where
   pub caches : Caches
   pub steps : ℕ
+  pub done : ℕ
 
-abbrev pub unit_state : Caches → ℕ → UnitState
-unit_state caches steps = record { caches = caches; steps = steps }
+abbrev pub unit_state : Caches → ℕ → ℕ → UnitState
+unit_state caches steps done = record { caches = caches; steps = steps; done = done }
 
 -- ---- what a leaf and a table can be
 

@@ -76,7 +76,12 @@ status_after IotlbGlobal old = old
 status_after (IotlbDomain domain) old = old
 status_after (IotlbPages domain block hint) old = old
 
+-- the number of descriptors done, after the first of those that wait
+abbrev pub done_after : List Descriptor → ℕ → ℕ
+done_after [] done = done
+done_after (d ∷ ds) done = done + 1
+
 -- the ring after its first descriptor was taken and done
-abbrev pub after_first : List Descriptor → ℕ → Queue
-after_first [] status = queue [] status
-after_first (d ∷ ds) status = queue ds (status_after d status)
+abbrev pub after_first : List Descriptor → ℕ → List Descriptor → Queue
+after_first [] status taken = queue [] status taken
+after_first (d ∷ ds) status taken = queue ds (status_after d status) (d ∷ taken)

@@ -1,6 +1,6 @@
 //! Lists of bounded length that remember.
 
-ghost use Rattle.std.specs.Prelude.{◌≡◌, ◌<◌, if◌then◌else◌};
+ghost use Rattle.std.specs.Prelude.{◌≡◌, ◌<◌, ◌≤◌, if◌then◌else◌, length};
 ghost use Rattle.unit.specs.Lists.{with_entry};
 
 use arrayvec::ArrayVec;
@@ -14,7 +14,8 @@ pub(crate) fn remember<T: Copy + Default + PartialEq, const N: usize>(
     fill: bool,
 )
     requires { 0 < N }
-    ensures { list.new.items ≡ (if fill then with_entry T.eq N entry list.old.items else list.old.items) }
+    ensures items { list.new.items ≡ (if fill then with_entry T.eq N entry list.old.items else list.old.items) }
+    ensures few { length list.old.items ≤ N → length list.new.items ≤ N }
 {
     if !fill || list.contains(&entry) {
         return;

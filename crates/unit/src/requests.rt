@@ -1,6 +1,6 @@
 //! What serves a request: a context, and a translation.
 
-ghost use Rattle.std.specs.Prelude.{◌≡◌, ◌^◌, ◌<◌, ◌≤◌, ◌==◌, ◌&&◌, IfSome, IfNone, IsTrue, find};
+ghost use Rattle.std.specs.Prelude.{◌≡◌, ◌^◌, ◌<◌, ◌≤◌, ◌==◌, ◌&&◌, IfSome, IfNone, IsTrue, find, length};
 ghost use Rattle.tables.specs.Pool.{memory};
 ghost use Rattle.unit.specs.Walking.{hold, stated_by};
 ghost use Rattle.unit.specs.Answers.{HasNoContext, IsContextOf, IsLowest, IsRead, IsStart};
@@ -15,7 +15,7 @@ use dmatypes::{Frame, Whim};
 use tables::Pool;
 use vtdbits::{ContextEntry, DeviceNumber, Translation};
 
-/// How many leaves are remembered.
+/// How many leaves are remembered at most (own).
 pub(crate) const LEAVES: usize = 64;
 
 // The level of a root: addresses have 39 bits.
@@ -62,6 +62,8 @@ pub(crate) fn translation_of(
     requires { page < 2 ^ 27 }
     ensures read { IsRead (memory pool.now.words) context whim.look whim.fill page leaves.old.items leaves.new.items
         tables.old.items tables.new.items result }
+    ensures few_leaves { length leaves.old.items ≤ LEAVES → length leaves.new.items ≤ LEAVES }
+    ensures few_tables { length tables.old.items ≤ NON_LEAVES → length tables.new.items ≤ NON_LEAVES }
     ensures first { IsTrue whim.look → IfSome (find (λ l. (l.domain == context.domain) && hold l.first l.pages page) leaves.old.items)
         (λ l. result ≡ Some (stated_by page l)) }
 {

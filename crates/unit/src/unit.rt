@@ -4,7 +4,7 @@ ghost use Rattle.std.specs.Prelude.{◌≡◌, ◌↔◌, ◌+◌, ◌^◌, ◌<
 ghost use Rattle.tables.specs.Pool.{memory};
 ghost use Rattle.unit.specs.Answers.{Answers};
 ghost use Rattle.unit.specs.Caches.{unit_state, nothing, without};
-ghost use Rattle.unit.specs.Filters.{left_by, left_by_first, after_first};
+ghost use Rattle.unit.specs.Filters.{left_by, left_by_first, after_first, done_after};
 
 use crate::contexts::Contexts;
 use crate::entries::{CachedContext, CachedLeaf, CachedNonLeaf};
@@ -26,7 +26,7 @@ mod request_tests;
 #[cfg(test)]
 mod tests;
 
-// How many contexts are remembered.
+// How many contexts are remembered at most (own).
 const CONTEXTS: usize = 16;
 
 // The first byte address beyond the width of 39 bits.
@@ -41,34 +41,44 @@ pub enum Progress {
     Idle,
 }
 
-/// A unit: what it remembers of contexts, tables and leaves, oldest first, and how many steps it made.
+/// A unit: what it remembers of contexts, tables and leaves, oldest first, how many descriptors it did, and in how many
+/// steps none waited.
 #[derive(Debug, Drop)]
 pub struct Unit {
     leaves: ArrayVec<CachedLeaf, LEAVES>,
     non_leaves: ArrayVec<CachedNonLeaf, NON_LEAVES>,
     contexts: ArrayVec<CachedContext, CONTEXTS>,
-    steps: u64,
+    done: u64,
+    idle: u64,
 }
 
-// Clauses see the three lists and the number of steps.
+// Clauses see the three lists, the number of all steps, and the number of descriptors done. A list has a place for each
+// entry that it may remember.
 impl Model for Unit {
-    ghost use Rattle.unit.specs.Caches.{UnitState, unit_state, caches};
+    ghost use Rattle.std.specs.Prelude.{◌+◌};
+    ghost use Rattle.unit.specs.Caches.{AreFew, HavePlaces, UnitState, unit_state, caches};
+    ghost use Rattle.unit.specs.declared.requests.TheConstants.{LEAVES};
+    ghost use Rattle.unit.specs.declared.unit.TheConstants.{CONTEXTS};
+    ghost use Rattle.unit.specs.declared.walking.TheConstants.{NON_LEAVES};
 
     ghost Value = { UnitState };
 
-    ghost view = { λ u. unit_state (caches u.leaves.items u.non_leaves.items u.contexts.items) u.steps };
+    ghost view = { λ u. unit_state (caches u.leaves.items u.non_leaves.items u.contexts.items) (u.done + u.idle) u.done };
+
+    ghost invariant = { λ u. AreFew (caches u.leaves.items u.non_leaves.items u.contexts.items) × HavePlaces LEAVES NON_LEAVES CONTEXTS };
 }
 
 impl Unit {
     /// A unit that remembers nothing and has made no step.
     pub fn new() -> Unit
-        ensures { result ≡ unit_state nothing 0 }
+        ensures { result ≡ unit_state nothing 0 0 }
     {
         Unit {
             leaves: ArrayVec::new(),
             non_leaves: ArrayVec::new(),
             contexts: ArrayVec::new(),
-            steps: 0,
+            done: 0,
+            idle: 0,
         }
     }
 
@@ -87,6 +97,7 @@ impl Unit {
         ensures answers { Answers (memory pool.now.words) contexts.now whim.look whim.fill device address access
             self.old.caches self.new.caches result }
         ensures steps { self.new.steps ≡ self.old.steps }
+        ensures done { self.new.done ≡ self.old.done }
     {
         let Some(context) = context_of(&self.contexts, contexts, device, whim.look) else {
             return Err(Fault::NotAttached);
@@ -111,13 +122,15 @@ impl Unit {
     pub fn step(&mut self, ring: &mut Ring) -> Progress
         requires { self.old.steps < 2 ^ 63 }
         ensures idle { (result ≡ Progress.Idle) ↔ (ring.old.waiting ≡ []) }
-        ensures unit { self.new ≡ unit_state (left_by_first ring.old.waiting self.old.caches) (self.old.steps + 1) }
-        ensures ring { ring.new ≡ after_first ring.old.waiting ring.old.status }
+        ensures unit { self.new ≡ unit_state (left_by_first ring.old.waiting self.old.caches) (self.old.steps + 1)
+            (done_after ring.old.waiting self.old.done) }
+        ensures ring { ring.new ≡ after_first ring.old.waiting ring.old.status ring.old.taken }
     {
-        self.steps += 1;
         let Some(descriptor) = ring.fetch() else {
+            self.idle += 1;
             return Progress::Idle;
         };
+        self.done += 1;
         match descriptor {
             Descriptor::Wait(number) => ring.complete(number),
             _ => self.forget(descriptor),
@@ -127,7 +140,7 @@ impl Unit {
 
     // Forgets what a descriptor names.
     fn forget(&mut self, descriptor: Descriptor)
-        ensures { self.new ≡ unit_state (left_by descriptor self.old.caches) self.old.steps }
+        ensures { self.new ≡ unit_state (left_by descriptor self.old.caches) self.old.steps self.old.done }
     {
         self.leaves.retain(|leaf| !drops_leaf(descriptor, leaf));
         self.non_leaves
@@ -138,7 +151,7 @@ impl Unit {
 
     /// Forgets the entry at a place of one of the caches, counted from 0 and from the oldest, if there is one.
     pub fn evict(&mut self, kind: Cache, place: u64)
-        ensures { self.new ≡ unit_state (without kind place self.old.caches) self.old.steps }
+        ensures { self.new ≡ unit_state (without kind place self.old.caches) self.old.steps self.old.done }
     {
         let place = place as usize;
         match kind {

@@ -1,6 +1,6 @@
 //! Walks through the tables of a domain.
 
-ghost use Rattle.std.specs.Prelude.{◌≡◌, ◌-◌, ◌^◌, ◌<◌, ◌≤◌, IsTrue};
+ghost use Rattle.std.specs.Prelude.{◌≡◌, ◌-◌, ◌^◌, ◌<◌, ◌≤◌, IsTrue, length};
 ghost use Rattle.dmatypes.specs.World.{IsIn};
 ghost use Rattle.vtdbits.specs.Entry.{MayStandAt};
 ghost use Rattle.tables.specs.Tree.{span, index_in, leaf_from};
@@ -16,7 +16,7 @@ use dmatypes::Frame;
 use tables::Pool;
 use vtdbits::{DomainId, SsEntry};
 
-/// How many tables are remembered.
+/// How many tables are remembered at most (own).
 pub(crate) const NON_LEAVES: usize = 32;
 
 /// What a walk is for: a page of a domain, and whether what it passes is remembered.
@@ -40,6 +40,7 @@ pub(crate) fn walk(
     requires high { level ≤ 3 }
     ensures leaf { result ≡ met way.domain way.page (leaf_from (memory pool.now.words) level table way.page) }
     ensures passed { Gains way.fill (IsPassed (memory pool.now.words) level table way.domain way.page) passed.old.items passed.new.items }
+    ensures few { length passed.old.items ≤ NON_LEAVES → length passed.new.items ≤ NON_LEAVES }
 {
     match entry(pool, level, table, way.page) {
         SsEntry::Absent => None,

@@ -99,9 +99,9 @@ fn filled_unit(rt: &impl Abort) -> Unit {
 fn done(rt: &impl Abort, unit: &mut Unit, descriptor: Descriptor) -> u32 {
     let mut ring = Ring::new();
     assert!(rt; ring.submit(descriptor).is_ok());
-    assert!(rt; unit.steps < 1 << 60);
+    assert!(rt; unit.done < 1 << 60 && unit.idle < 1 << 60);
     assert!(rt; unit.step(&mut ring) == Progress::Did);
-    assert!(rt; unit.steps < 1 << 60);
+    assert!(rt; unit.done < 1 << 60 && unit.idle < 1 << 60);
     assert!(rt; unit.step(&mut ring) == Progress::Idle);
     ring.status()
 }

@@ -1,14 +1,11 @@
 use Rattle.engine.proofs.home.release.Goals as goal
 
--- src/home.rt:151:5
 pub give_back-requires-clause-once : goal.give_back-requires-clause-once
-give_back-requires-clause-once c = rw (c.frames.ensures.all) c.requires.once
+give_back-requires-clause-once c = rw (c.frames.ensures.all) c.requires.can.once
 
--- src/home.rt:151:5
 pub give_back-requires-clause-within : goal.give_back-requires-clause-within
-give_back-requires-clause-within c = rw (c.frames.ensures.all) c.requires.within
+give_back-requires-clause-within c = rw (c.frames.ensures.all) c.requires.can.within
 
--- src/home.rt:144:1
 pub returns-clause-released : goal.returns-clause-released
 returns-clause-released c = record {
   frees = c.release.ensures.freed;

@@ -1,10 +1,14 @@
-use Rattle.std.proofs.Common.{◌∙◌}
+use Rattle.std.proofs.Common.{◌∙◌, refl}
+use Rattle.vtdbits.specs.declared.descriptor.Descriptor.TheVariants.{IotlbDomain}
 use Rattle.engine.proofs.Releasable.{releasing_one, releasing_step}
 use Rattle.engine.proofs.home.release_all.Goals as goal
 
 pub release-requires : goal.release-requires
-release-requires c =
-    releasing_one c.args.pool.now c.loop-record.pool c.args.space.now c.loop-record.space c.args.records.now.items c.pop.new.self.items c.in-Some.record (rw c.in-Some.ensures.items at c.loop-record.invariant.0)
+release-requires c = record {
+  can =
+      releasing_one c.args.pool.now c.loop-record.pool c.args.space.now c.loop-record.space c.args.records.now.items c.pop.new.self.items c.in-Some.record (rw c.in-Some.ensures.items at c.loop-record.invariant.0);
+  invalidated = record { descriptor = IotlbDomain c.args.id; covers = refl; done = c.requires.invalidated };
+}
 
 pub loop-record-preserved : goal.loop-record-preserved
 loop-record-preserved c = (

@@ -33,4 +33,4 @@ pub returns-clause-read : goal.returns-clause-read
 returns-clause-read c =
     read_walked (memory c.args.pool.now.words) c.args.context c.args.whim.look c.args.whim.fill c.args.page c.args.leaves.now.items c.args.tables.now.items
     _ _ c.context.inside.domain c.walk.new.passed.items (ap (λ (x : Context). x.domain) c.context.view_is) (subst (λ (ts : List NonLeaf). IsStart ts c.args.whim.look c.args.context c.args.page c.start_of-level.result.0 c.start_of-level.result.1) c.deref-2.ensures.0 c.start_of-level.ensures.start) c.walk.ensures.passed
-    c.in_ok-leaf.leaf c.translation-2.result c.remember.new.list.items (sym c.in_ok-leaf.was ∙ c.walk.ensures.leaf) (gains_entry _ _ _ _ _ _ c.remember.ensures) c.translation-2.ensures
+    c.in_ok-leaf.leaf c.translation-2.result c.remember.new.list.items (sym c.in_ok-leaf.was ∙ c.walk.ensures.leaf) (gains_entry _ _ _ _ _ _ c.remember.ensures.items) c.translation-2.ensures

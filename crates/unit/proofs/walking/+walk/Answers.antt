@@ -22,7 +22,7 @@ returns-in-Table-clause-passed t c =
     gains_twice c.args.way.fill (IsPassed m c.args.level c.args.table c.args.way.domain c.args.way.page) (λ y. y ≡ c.new-table.result) (IsPassed m (c.args.level - 1) c.in-Table.below c.args.way.domain c.args.way.page) _ _ _
     (λ y e. passed_next m c.args.way.domain c.args.table c.args.way.page c.in-Table.below c.args.level deep c.in-Table.ensures.is y (e ∙ c.new-table.ensures))
     (passed_below m c.args.way.domain c.args.table c.args.way.page c.in-Table.below c.args.level deep c.in-Table.ensures.is)
-    (gains_entry _ _ _ _ _ _ c.remember.ensures)
+    (gains_entry _ _ _ _ _ _ c.remember.ensures.items)
     c.walk.ensures.passed
 
 pub returns-in-Leaf-clause-leaf : goal.returns-in-Leaf-clause-leaf

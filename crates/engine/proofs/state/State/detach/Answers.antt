@@ -21,21 +21,21 @@ returns-in_default c =
 pub returns-in_default-get : goal.returns-in_default-get
 returns-in_default-get c = rw (← c.self.view_is) (detach_not_attached _ _ c.args.device Absent refl (c.in-Some.ensures.some.0 refl) c.in_default-get.ensures refl)
 
-abbrev before : goal.After-invalidate → Machine
+abbrev before : goal.After-forget_context → Machine
 before c = record { pool = c.self.inside.pool; homes = c.self.inside.homes.items; row = c.self.inside.contexts; ring = c.self.inside.iommu.ring; unit = c.self.inside.iommu.unit; sent = c.self.inside.iommu.sent; calls = c.self.inside.calls }
 
-sent : (c : goal.After-invalidate) → Invalidates c.self.inside.iommu.ring c.self.inside.iommu.unit c.self.inside.iommu.sent (ContextDevice c.in-Present.domain c.args.device) c.invalidate.new.self.ring c.invalidate.new.self.unit c.invalidate.new.self.sent
-sent c = rw (← c.in-Some.ensures.value) c.invalidate.ensures
+sent : (c : goal.After-forget_context) → Invalidates c.self.inside.iommu.ring c.self.inside.iommu.unit c.self.inside.iommu.sent (ContextDevice c.in-Present.domain c.args.device) c.forget_context.new.self.ring c.forget_context.new.self.unit c.forget_context.new.self.sent
+sent c = rw (← c.in-Some.ensures.value) c.forget_context.ensures
 
-does : (c : goal.After-invalidate) → Does (before c) (calls.Detach c.args.device) Done (detached (before c) c.args.device c.clear.new.self c.invalidate.new.self)
+does : (c : goal.After-forget_context) → Does (before c) (calls.Detach c.args.device) Done (detached (before c) c.args.device c.clear.new.self c.forget_context.new.self)
 does c =
     let at : slice_get c.self.inside.contexts c.args.device ≡ Some (Present c.in-Present.root W39 c.in-Present.domain) =
     c.in-Present.ensures ∙ ap (λ w. Some (Present c.in-Present.root w c.in-Present.domain)) (only_width c.in-Present.width) in
-    detach_does (before c) c.args.device c.in-Present.root c.in-Present.domain c.clear.new.self c.invalidate.new.self (c.in-Some.ensures.some.0 refl) c.self.invariant.devices at c.clear.ensures (sent c)
+    detach_does (before c) c.args.device c.in-Present.root c.in-Present.domain c.clear.new.self c.forget_context.new.self (c.in-Some.ensures.some.0 refl) c.self.invariant.devices at c.clear.ensures (sent c)
 
 pub invariant_of-self-2 : goal.invariant_of-self-2
 invariant_of-self-2 c =
-    whole_sends c.self.inside.frames (before c) (detached (before c) c.args.device c.clear.new.self c.invalidate.new.self) (calls.Detach c.args.device) Done (ContextDevice c.in-Present.domain c.args.device) c.self.invariant (does c) refl
+    whole_sends c.self.inside.frames (before c) (detached (before c) c.args.device c.clear.new.self c.forget_context.new.self) (calls.Detach c.args.device) Done (ContextDevice c.in-Present.domain c.args.device) c.self.invariant (does c) refl
     (ap length c.clear.ensures ∙ length-set c.self.inside.contexts c.args.device Absent) (sent c)
 
 pub returns : goal.returns

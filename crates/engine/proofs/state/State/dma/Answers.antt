@@ -1,4 +1,4 @@
-use Rattle.std.proofs.Common.{◌≡◌, ◌+◌, ◌∙◌, ap, true, false, sym, refl}
+use Rattle.std.proofs.Common.{◌≡◌, ◌+◌, ◌∙◌, ap, ap₂, true, false, sym, refl}
 use Rattle.dmatypes.specs.Page.{IsInWindow}
 use Rattle.dmatypes.specs.declared.call.Call.TheVariants as calls
 use Rattle.unit.specs.Caches.{unit_state}
@@ -25,7 +25,7 @@ does : (c : goal.After-host_in) → Does (before c) (calls.Dma c.args.device c.a
 does c =
     let outside : IsInWindow c.args.address → ⊥ = λ inside. let both : true ≡ false = sym (c.is_in_window.ensures.1 inside) ∙ c.if-is_in_window.false in cc in
     request_does (before c) (after c) c.args.device c.args.address c.args.access c.args.whim c.dma-answer.result c.if-device-gt15.false outside c.dma-answer.ensures.answers
-    (ap (λ steps. record (before c) { unit = unit_state c.dma-answer.new.self.caches steps; calls = c.self.inside.calls + 1 }) c.dma-answer.ensures.steps)
+    (ap₂ (λ steps done. record (before c) { unit = unit_state c.dma-answer.new.self.caches steps done; calls = c.self.inside.calls + 1 }) c.dma-answer.ensures.steps c.dma-answer.ensures.done)
 
 pub returns : goal.returns
 returns c = rw (← c.self.view_is, c.host_in.ensures) (does c)

@@ -1,8 +1,8 @@
 -- The pair at the head spells the first descriptor that waits.
-use Rattle.std.proofs.Common.{◌≡◌, ◌∙◌, ap, sym, length, arith, Some, List}
+use Rattle.std.proofs.Common.{◌≡◌, ◌∙◌, ◌∷◌, ap, sym, length, arith, Some}
 use Rattle.std.proofs.lemmas.List.{nil_from_length}
-use Rattle.vtdbits.specs.declared.descriptor.Descriptor.{Descriptor}
-use Rattle.queue.specs.Queue.{Queue, queue}
+use Rattle.queue.specs.Queue.{Queue}
+use Rattle.queue.proofs.Taken.{taken_fetched}
 use Rattle.queue.proofs.Waiting.{length-waiting_in, ring_fetched, first_waiting}
 use Rattle.queue.proofs.ring.Ring.fetch.Goals as goal
 
@@ -21,7 +21,9 @@ returns c =
     let first = first_waiting _ _ _ c.self.invariant _ (record { low = 0; high = 0 }) c.following-self-inside.ensures c.if-self.false in
     let read : c.decode.result ≡ Some first.0 = c.decode.ensures.read ∙ first.1 in
     rw read (record {
-      some = sym c.self.view_is ∙ ap (λ (ds : List Descriptor). queue ds c.self.inside.status) first.2;
+      some = sym (ap (λ (q : Queue). q.waiting) c.self.view_is) ∙ first.2;
+      taken = taken_fetched _ _ _ c.self.invariant _ _ _ c.following-self-inside.ensures c.if-self.false first.1 ∙ ap (λ (q : Queue). first.0 ∷ q.taken) c.self.view_is;
+      status = ap (λ (q : Queue). q.status) c.self.view_is;
       none = tt;
       unchanged = tt;
     })

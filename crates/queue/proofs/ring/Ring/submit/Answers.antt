@@ -1,7 +1,9 @@
 -- The pair at the tail is free where the ring isn't full.
-use Rattle.std.proofs.Common.{◌∙◌, ap, length, arith, refl, List, ◌∷◌, [], ◌++◌}
+use Rattle.std.proofs.Common.{◌≡◌, ℕ, ◌∙◌, ◌+◌, ◌-◌, ◌%◌, ap, ap₂, sym, length, take, arith, refl, List, ◌∷◌, [], ◌++◌}
 use Rattle.vtdbits.specs.declared.descriptor.Descriptor.{Descriptor}
 use Rattle.queue.specs.Queue.{Queue, queue}
+use Rattle.queue.specs.Pairs.{taken_in}
+use Rattle.queue.proofs.Taken.{taken_submitted}
 use Rattle.queue.proofs.Waiting.{length-waiting_in, ring_submitted, waiting_submitted}
 use Rattle.queue.proofs.ring.Ring.submit.Goals as goal
 
@@ -25,5 +27,10 @@ returns-clause-full c =
 
 pub returns-clause-ok : goal.returns-clause-ok
 returns-clause-ok c =
-    ap (λ (ds : List Descriptor). queue ds c.self.inside.status) (waiting_submitted _ _ _ c.self.invariant _ _ c.args.descriptor c.following-next.ensures c.if-next-self.false c.encode.ensures.read)
-    ∙ ap (λ (q : Queue). queue (q.waiting ++ c.args.descriptor ∷ []) q.status) c.self.view_is
+    let count : (c.self.inside.tail + 256 - c.self.inside.head) % 256 ≡ length c.args.self.now.waiting =
+    sym (length-waiting_in _ _ _ c.self.invariant) ∙ ap (λ (q : Queue). length q.waiting) c.self.view_is in
+    ap₂ (λ (ds : List Descriptor) (ts : List Descriptor). queue ds c.self.inside.status ts)
+    (waiting_submitted _ _ _ c.self.invariant _ _ c.args.descriptor c.following-next.ensures c.if-next-self.false c.encode.ensures.read)
+    (taken_submitted _ _ _ c.self.invariant _ c.encode.result c.following-next.ensures c.if-next-self.false
+    ∙ ap (λ (n : ℕ). take (255 - n) (taken_in c.self.inside.head c.self.inside.tail c.self.inside.page)) count)
+    ∙ ap (λ (q : Queue). queue (q.waiting ++ c.args.descriptor ∷ []) q.status (take (255 - length c.args.self.now.waiting) q.taken)) c.self.view_is

@@ -21,7 +21,7 @@ returns-then-address-ge-BEYOND-clause-answers c =
     let beyond : IsBeyond c.args.address = omega arith in
     subst (λ (old : Caches). Answers (memory c.args.pool.now.words) c.args.contexts.now c.args.whim.look c.args.whim.fill c.args.device c.args.address c.args.access old (caches c.self.inside.leaves.items c.self.inside.non_leaves.items c.remember.new.list.items) (Err faults.BeyondWidth))
     (ap (λ (u : UnitState). u.caches) c.self.view_is)
-    (inr (c.in-Some.context, serves, gains_entry _ _ _ _ _ _ c.remember.ensures, inl (beyond, refl, refl, refl)))
+    (inr (c.in-Some.context, serves, gains_entry _ _ _ _ _ _ c.remember.ensures.items, inl (beyond, refl, refl, refl)))
 
 pub returns-clause-answers : goal.returns-clause-answers
 returns-clause-answers c =
@@ -30,4 +30,4 @@ returns-clause-answers c =
     let within : IsBeyond c.args.address → ⊥ = λ b. absurd (omega arith) in
     subst (λ (old : Caches). Answers (memory c.args.pool.now.words) c.args.contexts.now c.args.whim.look c.args.whim.fill c.args.device c.args.address c.args.access old (caches c.translation_of-to.new.leaves.items c.translation_of-to.new.tables.items c.remember.new.list.items) c.tell.result)
     (ap (λ (u : UnitState). u.caches) c.self.view_is)
-    (inr (c.in-Some.context, serves, gains_entry _ _ _ _ _ _ c.remember.ensures, inr (within, (c.translation_of-to.result, c.translation_of-to.ensures.read, c.tell.ensures))))
+    (inr (c.in-Some.context, serves, gains_entry _ _ _ _ _ _ c.remember.ensures.items, inr (within, (c.translation_of-to.result, c.translation_of-to.ensures.read, c.tell.ensures))))

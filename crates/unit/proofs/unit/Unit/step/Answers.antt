@@ -1,9 +1,8 @@
-use Rattle.std.proofs.Common.{◌≡◌, ℕ, ◌+◌, Bool, true, List, [], ◌∷◌, refl, sym, ap, ◌∙◌, not, filter}
-use Rattle.queue.specs.Queue.{Queue}
+use Rattle.std.proofs.Common.{◌≡◌, ℕ, ◌+◌, Bool, true, List, [], ◌∷◌, refl, sym, ap, ◌∙◌, not, filter, arith}
 use Rattle.vtdbits.specs.declared.descriptor.Descriptor.{Descriptor}
 use Rattle.vtdbits.specs.declared.descriptor.Descriptor.TheVariants.{Wait}
 use Rattle.unit.specs.Caches.{UnitState, unit_state, Caches, caches}
-use Rattle.unit.specs.Filters.{left_by, left_by_first}
+use Rattle.unit.specs.Filters.{done_after, left_by, left_by_first}
 use Rattle.unit.proofs.unit.Unit.step.Goals as goal
 
 filter_all : {X : Type 0} (xs : List X) → filter (λ _. true) xs ≡ xs
@@ -17,7 +16,9 @@ left_wait n k = λ i. caches (filter_all k.leaves i) (filter_all k.non_leaves i)
 pub returns-in-Wait-clause-unit : goal.returns-in-Wait-clause-unit
 returns-in-Wait-clause-unit c =
     let now = c.args.self.now in
-    ap (λ (u : UnitState). unit_state u.caches (u.steps + 1)) c.self.view_is
-    ∙ ap (λ (k : Caches). unit_state k (now.steps + 1)) (sym (left_wait c.in-Wait.number now.caches))
-    ∙ ap (λ (d : Descriptor). unit_state (left_by d now.caches) (now.steps + 1)) (sym c.in-Wait.is)
-    ∙ ap (λ (q : Queue). unit_state (left_by_first q.waiting now.caches) (now.steps + 1)) (sym c.in-Some.ensures.some)
+    let more : c.self.inside.done + 1 + c.self.inside.idle ≡ c.self.inside.done + c.self.inside.idle + 1 = omega arith in
+    ap (λ (n : ℕ). unit_state (caches c.self.inside.leaves.items c.self.inside.non_leaves.items c.self.inside.contexts.items) n (c.self.inside.done + 1)) more
+    ∙ ap (λ (u : UnitState). unit_state u.caches (u.steps + 1) (u.done + 1)) c.self.view_is
+    ∙ ap (λ (k : Caches). unit_state k (now.steps + 1) (now.done + 1)) (sym (left_wait c.in-Wait.number now.caches))
+    ∙ ap (λ (d : Descriptor). unit_state (left_by d now.caches) (now.steps + 1) (now.done + 1)) (sym c.in-Wait.is)
+    ∙ ap (λ (ds : List Descriptor). unit_state (left_by_first ds now.caches) (now.steps + 1) (done_after ds now.done)) (sym c.in-Some.ensures.some)
