@@ -6,3 +6,4 @@ pub mod Reading
 pub mod Members
 pub mod Used
 pub mod Blocks
+mod Kept

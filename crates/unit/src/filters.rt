@@ -1,50 +1,86 @@
 //! What a descriptor makes the unit forget.
 
-ghost use Rattle.std.specs.Prelude.{◌≡◌, ◌<◌, ◌≤◌, ◌^◌};
+ghost use Rattle.std.specs.Prelude.{◌≡◌, ◌<◌, ◌≤◌, ◌^◌, filter, length, not};
 ghost use Rattle.unit.specs.Filters.{drops_leaf, drops_non_leaf, drops_context, lie_in, meet};
 
 use crate::entries::{CachedContext, CachedLeaf, CachedNonLeaf};
+use arrayvec::ArrayVec;
 use vtdbits::{Descriptor, PageBlock};
 
-/// Whether a leaf goes.
-pub(crate) fn drops_leaf(descriptor: Descriptor, leaf: &CachedLeaf) -> bool
-    ensures { result ≡ drops_leaf descriptor leaf.now }
-{
-    match descriptor {
-        Descriptor::IotlbGlobal => true,
-        Descriptor::IotlbDomain(domain) => leaf.domain == domain,
-        Descriptor::IotlbPages { domain, block, .. } => {
-            leaf.domain == domain && lie_in(block, leaf.first, leaf.pages)
+/// An entry that a descriptor can make the unit forget.
+pub(crate) trait Cached {
+    ghost use Rattle.std.specs.Prelude.{Bool};
+    ghost use Rattle.vtdbits.specs.declared.descriptor.Descriptor.{Descriptor};
+
+    ghost drops: { Descriptor → Self → Bool };
+
+    /// Whether it goes.
+    fn goes(&self, descriptor: Descriptor) -> bool
+        ensures { result ≡ drops descriptor self.now };
+}
+
+impl Cached for CachedLeaf {
+    ghost drops = { drops_leaf };
+
+    fn goes(&self, descriptor: Descriptor) -> bool
+        ensures { result ≡ drops_leaf descriptor self.now }
+    {
+        match descriptor {
+            Descriptor::IotlbGlobal => true,
+            Descriptor::IotlbDomain(domain) => self.domain == domain,
+            Descriptor::IotlbPages { domain, block, .. } => {
+                self.domain == domain && lie_in(block, self.first, self.pages)
+            }
+            _ => false,
         }
-        _ => false,
     }
 }
 
-/// Whether a table goes.
-pub(crate) fn drops_non_leaf(descriptor: Descriptor, table: &CachedNonLeaf) -> bool
-    ensures { result ≡ drops_non_leaf descriptor table.now }
-{
-    match descriptor {
-        Descriptor::IotlbGlobal => true,
-        Descriptor::IotlbDomain(domain) => table.domain == domain,
-        Descriptor::IotlbPages {
-            domain,
-            block,
-            hint,
-        } => table.domain == domain && !hint && meet(block, table.first, table.pages),
-        _ => false,
+impl Cached for CachedNonLeaf {
+    ghost drops = { drops_non_leaf };
+
+    fn goes(&self, descriptor: Descriptor) -> bool
+        ensures { result ≡ drops_non_leaf descriptor self.now }
+    {
+        match descriptor {
+            Descriptor::IotlbGlobal => true,
+            Descriptor::IotlbDomain(domain) => self.domain == domain,
+            Descriptor::IotlbPages {
+                domain,
+                block,
+                hint,
+            } => self.domain == domain && !hint && meet(block, self.first, self.pages),
+            _ => false,
+        }
     }
 }
 
-/// Whether a context goes.
-pub(crate) fn drops_context(descriptor: Descriptor, context: &CachedContext) -> bool
-    ensures { result ≡ drops_context descriptor context.now }
+impl Cached for CachedContext {
+    ghost drops = { drops_context };
+
+    fn goes(&self, descriptor: Descriptor) -> bool
+        ensures { result ≡ drops_context descriptor self.now }
+    {
+        match descriptor {
+            Descriptor::ContextGlobal => true,
+            Descriptor::ContextDomain(domain) => self.domain == domain,
+            Descriptor::ContextDevice { device, .. } => self.device == device,
+            _ => false,
+        }
+    }
+}
+
+/// Forgets the entries of a list that a descriptor drops.
+pub(crate) fn forget<T: Cached + Copy + Default, const N: usize>(
+    list: &mut ArrayVec<T, N>,
+    descriptor: &Descriptor,
+)
+    ensures items { list.new.items ≡ filter (λ entry. not (T.drops descriptor.now entry)) list.old.items }
+    ensures few { length list.new.items ≤ length list.old.items }
 {
-    match descriptor {
-        Descriptor::ContextGlobal => true,
-        Descriptor::ContextDomain(domain) => context.domain == domain,
-        Descriptor::ContextDevice { device, .. } => context.device == device,
-        _ => false,
+    // Most descriptors drop none, and then none is moved.
+    if list.iter().any(|entry| entry.goes(*descriptor)) {
+        list.retain(|entry| !entry.goes(*descriptor));
     }
 }
 

@@ -8,7 +8,7 @@ ghost use Rattle.unit.specs.Filters.{left_by, left_by_first, after_first, done_a
 
 use crate::contexts::Contexts;
 use crate::entries::{CachedContext, CachedLeaf, CachedNonLeaf};
-use crate::filters::{drops_context, drops_leaf, drops_non_leaf};
+use crate::filters::forget;
 use crate::hit::Hit;
 use crate::lists::remember;
 use crate::requests::{LEAVES, context_of, translation_of};
@@ -142,11 +142,9 @@ impl Unit {
     fn forget(&mut self, descriptor: Descriptor)
         ensures { self.new ≡ unit_state (left_by descriptor self.old.caches) self.old.steps self.old.done }
     {
-        self.leaves.retain(|leaf| !drops_leaf(descriptor, leaf));
-        self.non_leaves
-            .retain(|table| !drops_non_leaf(descriptor, table));
-        self.contexts
-            .retain(|context| !drops_context(descriptor, context));
+        forget(&mut self.leaves, &descriptor);
+        forget(&mut self.non_leaves, &descriptor);
+        forget(&mut self.contexts, &descriptor);
     }
 
     /// Forgets the entry at a place of one of the caches, counted from 0 and from the oldest, if there is one.

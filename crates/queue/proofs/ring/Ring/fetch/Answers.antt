@@ -1,6 +1,8 @@
 -- The pair at the head spells the first descriptor that waits.
-use Rattle.std.proofs.Common.{◌≡◌, ◌∙◌, ◌∷◌, ap, sym, length, arith, Some}
+use Rattle.std.proofs.Common.{◌≡◌, ◌∙◌, ◌∷◌, ap, sym, length, arith}
 use Rattle.std.proofs.lemmas.List.{nil_from_length}
+use Rattle.std.proofs.lemmas.Option.{same_Some}
+use Rattle.queue.specs.Pairs.{waiting_in}
 use Rattle.queue.specs.Queue.{Queue}
 use Rattle.queue.proofs.Taken.{taken_fetched}
 use Rattle.queue.proofs.Waiting.{length-waiting_in, ring_fetched, first_waiting}
@@ -16,14 +18,18 @@ returns-then-self-clause-none c =
     let ring = c.self.invariant in
     nil_from_length _ (omega (arith, count, seen))
 
-pub returns : goal.returns
-returns c =
+pub unreachable-requires : goal.unreachable-requires
+unreachable-requires c =
     let first = first_waiting _ _ _ c.self.invariant _ (record { low = 0; high = 0 }) c.following-self-inside.ensures c.if-self.false in
-    let read : c.decode.result ≡ Some first.0 = c.decode.ensures.read ∙ first.1 in
-    rw read (record {
-      some = sym (ap (λ (q : Queue). q.waiting) c.self.view_is) ∙ first.2;
-      taken = taken_fetched _ _ _ c.self.invariant _ _ _ c.following-self-inside.ensures c.if-self.false first.1 ∙ ap (λ (q : Queue). first.0 ∷ q.taken) c.self.view_is;
-      status = ap (λ (q : Queue). q.status) c.self.view_is;
-      none = tt;
-      unchanged = tt;
-    })
+    c.in_default.not-Some first.0 (c.decode.ensures.read ∙ first.1)
+
+pub returns-clause-some : goal.returns-clause-some
+returns-clause-some c =
+    let first = first_waiting _ _ _ c.self.invariant _ (record { low = 0; high = 0 }) c.following-self-inside.ensures c.if-self.false in
+    let one : first.0 ≡ c.in-Some.descriptor = same_Some _ _ (sym first.1 ∙ sym c.decode.ensures.read ∙ c.in-Some.is) in
+    sym (ap (λ (q : Queue). q.waiting) c.self.view_is) ∙ first.2 ∙ ap (λ d. d ∷ waiting_in c.following-self-inside.result c.self.inside.tail c.self.inside.page) one
+
+pub returns-clause-taken : goal.returns-clause-taken
+returns-clause-taken c =
+    taken_fetched _ _ _ c.self.invariant _ _ _ c.following-self-inside.ensures c.if-self.false (sym c.decode.ensures.read ∙ c.in-Some.is)
+    ∙ ap (λ (q : Queue). c.in-Some.descriptor ∷ q.taken) c.self.view_is
