@@ -1,0 +1,12 @@
+use Rattle.std.proofs.Common.{◌≡◌, false}
+use Rattle.std.specs.Io.KnownBytes.{prepend_known}
+use Rattle.script.proofs.Going.{Going}
+use Rattle.script.proofs.answering.answer_lines.Given as goal
+
+abbrev pub invariant-loop : goal.invariant-loop
+invariant-loop g l = record {
+  going : Going l.fn.replies (record { frames = g.B.Owner.frames; room = g.B.Owner.room }) (prepend_known l.fn.reader.block (g.R.Read.remaining l.fn.reader.inner)) (prepend_known l.reader.block (g.R.Read.remaining l.reader.inner))
+      (g.W.Write.contents l.fn.writer.inner) l.fn.writer.block (g.W.Write.contents l.writer.inner) l.writer.block l.book l.number;
+  reader : l.reader.failed ≡ false;
+  writer : l.writer.failed ≡ false;
+}

@@ -1,0 +1,61 @@
+//! Lines out of a reader.
+
+ghost use Rattle.std.specs.Prelude.{◌≡◌, ◌≢◌, ◌⊎◌, [], true, Err, OnOk, OnErr};
+ghost use Rattle.std.specs.Io.KnownBytes.{prepend_known};
+ghost use Rattle.script.specs.Bytes.{IsAnswered, ReadLine, Sent};
+
+use crate::counted::{Counted, Failed, Taken};
+use crate::error::RunError;
+use arrayvec::ArrayVec;
+use std::io::{Read, Write};
+
+/// How a line ended.
+#[derive(Clone, Copy, Debug, PartialEq, Eq)]
+pub(crate) enum LineEnd {
+    /// At a newline.
+    Newline,
+    /// Nothing was left to read.
+    Nothing,
+    /// The bytes ended before a newline.
+    Cut,
+    /// It is longer than 512 bytes.
+    Long,
+}
+
+/// Reads the bytes of the next line, its newline left out. A line that is too long is not read to its end.
+/// What is still to be written is written before each read, so that whoever feeds the reader has all
+/// answers to the lines that it was given.
+pub(crate) fn next_line<R: Read, W: Write>(
+    reader: &mut Counted<R>,
+    writer: &mut Counted<W>,
+    line: &mut ArrayVec<u8, 512>,
+) -> Result<LineEnd, RunError>
+    ensures bytes { ReadLine (prepend_known reader.old.block (R.remaining reader.old.inner))
+        (prepend_known reader.new.block (R.remaining reader.new.inner)) line.new.items result }
+    ensures sent { Sent (W.contents writer.old.inner) (W.contents writer.new.inner) writer.old.block writer.new.block [] }
+    ensures answered { IsAnswered writer.new.block result }
+    ensures ok { OnOk result ((reader.new.failed ≡ reader.old.failed) × (writer.new.failed ≡ writer.old.failed)) }
+    ensures read { result ≡ Err RunError.Read → (reader.new.failed ≡ true) × (writer.new.failed ≡ writer.old.failed) }
+    ensures used_up { result ≡ Err RunError.Read → reader.new.block ≡ [] }
+    ensures write { result ≡ Err RunError.Write → (writer.new.failed ≡ true) × (reader.new.failed ≡ reader.old.failed) }
+    ensures no_other { OnErr result ((result ≡ Err RunError.Read) ⊎ (result ≡ Err RunError.Write)) }
+{
+    line.clear();
+    'reading: loop {
+        match reader.take_line(line) {
+            Taken::Newline => return Ok(LineEnd::Newline),
+            Taken::Long => return Ok(LineEnd::Long),
+            Taken::More => {}
+        }
+        match writer.flush() {
+            Ok(()) => {}
+            Err(Failed) => return Err(RunError::Write),
+        }
+        match reader.fill() {
+            Ok(true) => {}
+            Ok(false) if line.is_empty() => return Ok(LineEnd::Nothing),
+            Ok(false) => return Ok(LineEnd::Cut),
+            Err(Failed) => return Err(RunError::Read),
+        }
+    }
+}

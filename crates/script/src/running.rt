@@ -1,0 +1,189 @@
+//! A script on a manager of its own: a run, or a report.
+
+ghost use Rattle.std.specs.Prelude.{◌≡◌, ◌↔◌, ◌≤◌, ◌⊎◌, [], Err, true, false, length, IsErrOf};
+ghost use Rattle.std.specs.Io.KnownBytes.{prepend_known};
+ghost use Rattle.manager.specs.Kept.{Names};
+ghost use Rattle.script.specs.Reported.{Concludes, ReportedKnown};
+ghost use Rattle.script.specs.Run.{IsAllSent, RanKnown};
+
+use crate::answering::{Replies, answer_lines};
+use crate::counted::{Counted, Failed};
+use crate::error::RunError;
+use manager::{Config, Made, Manager, Owner, Report, Seed};
+use std::alloc::Global;
+use std::io::{Read, Write};
+use std::marker::Brand;
+use std::sync::Wait;
+
+/// Reads a script to its first bad line, and writes one line for each line, on a manager of its own. All
+/// answers to the lines that were read are written before the next read.
+///
+/// A bad line ends the work, as does a failed read: the lines before it are answered. After a failed
+/// write, or with no memory for the manager, a beginning of the answers is written.
+pub fn run<T: Wait, R: Read, W: Write>(
+    rt: &T,
+    alloc: Global,
+    reader: &mut Counted<R>,
+    writer: &mut Counted<W>,
+    config: Config,
+) -> Result<(), RunError>
+    requires one { config.shares ≡ 1 }
+    requires reader { reader.old.failed ≡ false }
+    requires writer { writer.old.failed ≡ false }
+    ensures told { RanKnown (record { frames = config.frames; room = config.calls })
+        (prepend_known reader.old.block (R.remaining reader.old.inner)) (prepend_known reader.new.block (R.remaining reader.new.inner))
+        (W.contents writer.old.inner) writer.old.block (W.contents writer.new.inner) result }
+    ensures reader { (reader.new.failed ≡ true) ↔ IsErrOf result RunError.Read }
+    ensures writer { (writer.new.failed ≡ true) ↔ IsErrOf result RunError.Write }
+    ensures used_up { IsErrOf result RunError.Read → reader.new.block ≡ [] }
+    ensures all_sent { IsAllSent writer.new.block result }
+{
+    let Ok(seed) = Seed::new(alloc, config) else {
+        return Err(RunError::NoMemory);
+    };
+    run_owned::<Brand, T, R, W>(rt, alloc, reader, writer, seed)
+}
+
+// The same, over an owner that names the manager.
+fn run_owned<B: Owner, T: Wait, R: Read, W: Write>(
+    rt: &T,
+    alloc: Global,
+    reader: &mut Counted<R>,
+    writer: &mut Counted<W>,
+    seed: Seed,
+) -> Result<(), RunError>
+    requires name { seed.name ≡ B.name }
+    requires parts { seed.shares ≡ B.parts }
+    requires shares { seed.shares ≡ B.shares }
+    requires room { seed.room ≡ B.room }
+    requires frames { seed.frames ≡ B.frames }
+    requires one { seed.shares ≡ 1 }
+    requires reader { reader.old.failed ≡ false }
+    requires writer { writer.old.failed ≡ false }
+    ensures told { RanKnown (record { frames = seed.frames; room = seed.room })
+        (prepend_known reader.old.block (R.remaining reader.old.inner)) (prepend_known reader.new.block (R.remaining reader.new.inner))
+        (W.contents writer.old.inner) writer.old.block (W.contents writer.new.inner) result }
+    ensures reader { (reader.new.failed ≡ true) ↔ IsErrOf result RunError.Read }
+    ensures writer { (writer.new.failed ≡ true) ↔ IsErrOf result RunError.Write }
+    ensures used_up { IsErrOf result RunError.Read → reader.new.block ≡ [] }
+    ensures all_sent { IsAllSent writer.new.block result }
+{
+    let Ok(
+        Made {
+            manager,
+            mut shares,
+        },
+    ) = Manager::<B>::new(alloc, seed)
+    else {
+        return Err(RunError::NoMemory);
+    };
+    let Some(mut mine) = shares.pop() else {
+        unreachable!()
+    };
+    let mut guard = manager.lock(rt);
+    let book = &mut *guard;
+    book.audit(&mut mine);
+    answer_lines(rt, book, &mut mine, reader, writer, Replies::Written)
+}
+
+/// Reads a script to its first bad line as `run` does, on a manager of its own, and writes no answers, but at the end the
+/// report of what the manager then holds.
+///
+/// After a bad line or a failed read the report of the lines before it is written. All memory is taken before anything
+/// is read or written. After a failed write a beginning of the report is written, and that failure is answered in the
+/// place of any other.
+pub fn report<T: Wait, R: Read, W: Write>(
+    rt: &T,
+    alloc: Global,
+    reader: &mut Counted<R>,
+    writer: &mut Counted<W>,
+    config: Config,
+) -> Result<(), RunError>
+    requires one { config.shares ≡ 1 }
+    requires reader { reader.old.failed ≡ false }
+    requires writer { writer.old.failed ≡ false }
+    ensures told { ReportedKnown (record { frames = config.frames; room = config.calls })
+        (prepend_known reader.old.block (R.remaining reader.old.inner)) (prepend_known reader.new.block (R.remaining reader.new.inner))
+        (W.contents writer.old.inner) writer.old.block (W.contents writer.new.inner) result }
+    ensures read { IsErrOf result RunError.Read → reader.new.failed ≡ true }
+    ensures reader { reader.new.failed ≡ true → IsErrOf result RunError.Read ⊎ IsErrOf result RunError.Write }
+    ensures writer { (writer.new.failed ≡ true) ↔ IsErrOf result RunError.Write }
+    ensures used_up { IsErrOf result RunError.Read → reader.new.block ≡ [] }
+    ensures all_sent { IsAllSent writer.new.block result }
+    ensures no_memory { IsErrOf result RunError.NoMemory → (reader.new ≡ reader.old) × (writer.new ≡ writer.old) }
+{
+    let Ok(text) = Report::new(alloc) else {
+        return Err(RunError::NoMemory);
+    };
+    let Ok(seed) = Seed::new(alloc, config) else {
+        return Err(RunError::NoMemory);
+    };
+    report_owned::<Brand, T, R, W>(rt, alloc, reader, writer, seed, text)
+}
+
+// The same, over an owner that names the manager.
+fn report_owned<B: Owner, T: Wait, R: Read, W: Write>(
+    rt: &T,
+    alloc: Global,
+    reader: &mut Counted<R>,
+    writer: &mut Counted<W>,
+    seed: Seed,
+    mut text: Report,
+) -> Result<(), RunError>
+    requires name { seed.name ≡ B.name }
+    requires parts { seed.shares ≡ B.parts }
+    requires shares { seed.shares ≡ B.shares }
+    requires room { seed.room ≡ B.room }
+    requires frames { seed.frames ≡ B.frames }
+    requires one { seed.shares ≡ 1 }
+    requires reader { reader.old.failed ≡ false }
+    requires writer { writer.old.failed ≡ false }
+    ensures told { ReportedKnown (record { frames = seed.frames; room = seed.room })
+        (prepend_known reader.old.block (R.remaining reader.old.inner)) (prepend_known reader.new.block (R.remaining reader.new.inner))
+        (W.contents writer.old.inner) writer.old.block (W.contents writer.new.inner) result }
+    ensures read { IsErrOf result RunError.Read → reader.new.failed ≡ true }
+    ensures reader { reader.new.failed ≡ true → IsErrOf result RunError.Read ⊎ IsErrOf result RunError.Write }
+    ensures writer { (writer.new.failed ≡ true) ↔ IsErrOf result RunError.Write }
+    ensures used_up { IsErrOf result RunError.Read → reader.new.block ≡ [] }
+    ensures all_sent { IsAllSent writer.new.block result }
+    ensures no_memory { IsErrOf result RunError.NoMemory → (reader.new ≡ reader.old) × (writer.new ≡ writer.old) }
+{
+    let Ok(
+        Made {
+            manager,
+            mut shares,
+        },
+    ) = Manager::<B>::new(alloc, seed)
+    else {
+        return Err(RunError::NoMemory);
+    };
+    let Some(mut mine) = shares.pop() else {
+        unreachable!()
+    };
+    let mut guard = manager.lock(rt);
+    let book = &mut *guard;
+    book.audit(&mut mine);
+    let end = answer_lines(rt, book, &mut mine, reader, writer, Replies::Silent);
+    book.write_report(&mut text);
+    send_report(writer, &text, end)
+}
+
+// Writes a report at the end of a script. Nothing follows a write that failed.
+fn send_report<W: Write>(
+    writer: &mut Counted<W>,
+    text: &Report,
+    end: Result<(), RunError>,
+) -> Result<(), RunError>
+    requires { (writer.old.failed ≡ true) ↔ IsErrOf end RunError.Write }
+    ensures sent { Concludes (W.contents writer.old.inner) (W.contents writer.new.inner) writer.old.block writer.new.block text.now end result }
+    ensures writer { (writer.new.failed ≡ true) ↔ IsErrOf result RunError.Write }
+    ensures same { (result ≡ end) ⊎ (result ≡ Err RunError.Write) }
+{
+    if let Err(RunError::Write) = end {
+        return end;
+    }
+    match writer.send(text.text().as_bytes()) {
+        Ok(()) => end,
+        Err(Failed) => Err(RunError::Write),
+    }
+}
