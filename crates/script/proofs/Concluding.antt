@@ -22,8 +22,8 @@ script_more bytes (call ∷ calls) rest more s =
 partly_end : (size : Size) (input left written : List ℕ) → RanToEnd size input left written → RanPartly size input written
 partly_end size input left written r = record { calls = r.calls; rest = []; script = r.script; answers = r.answers }
 
-partly_bad : (size : Size) (input written : List ℕ) (k : ℕ) → RanToBadLine size input written k → RanPartly size input written
-partly_bad size input written k r = record { calls = r.calls; rest = r.rest; script = r.script; answers = r.answers }
+partly_bad : (size : Size) (input left written : List ℕ) (k : ℕ) → RanToBadLine size input left written k → RanPartly size input written
+partly_bad size input left written k r = record { calls = r.calls; rest = r.rest; script = r.script; answers = r.answers }
 
 partly_read : (size : Size) (input left written : List ℕ) → RanToFailedRead size input left written → RanPartly size input written
 partly_read size input left written r = record {
@@ -79,7 +79,7 @@ concluded U size input left before pending after after' block rest written accou
     ends_so U size input left before pending after after' block rest written (report_text (length account.history) account.state) (Ok u) result (partly_end size input left written w.1.0) is w.0 empty (λ all. (w.1.0, rw is all)) c
 concluded U size input left before pending after after' block rest written account (Err (errors.BadLine k)) result w empty made c =
     let is = report_is account size w.1.0.calls written w.1.0.answers w.1.1 in
-    ends_so U size input left before pending after after' block rest written (report_text (length account.history) account.state) (Err (errors.BadLine k)) result (partly_bad size input written k w.1.0) is w.0 empty (λ all. (w.1.0, rw is all)) c
+    ends_so U size input left before pending after after' block rest written (report_text (length account.history) account.state) (Err (errors.BadLine k)) result (partly_bad size input left written k w.1.0) is w.0 empty (λ all. (w.1.0, rw is all)) c
 concluded U size input left before pending after after' block rest written account (Err errors.Read) result w empty made c =
     let is = report_is account size w.1.0.calls written w.1.0.answers w.1.1 in
     ends_so U size input left before pending after after' block rest written (report_text (length account.history) account.state) (Err errors.Read) result (partly_read size input left written w.1.0) is w.0 empty (λ all. (w.1.0, rw is all)) c

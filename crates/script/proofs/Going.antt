@@ -1,5 +1,5 @@
 -- A run, between two lines, and how it ends.
-use Rattle.std.proofs.Common.{◌≡◌, ◌≢◌, ℕ, ◌+◌, ◌-◌, ◌^◌, min, List, [], ◌∷◌, ◌++◌, length, Option, Some, None, Result, Ok, Err, refl, sym, ap, subst, ◌∙◌, ◌⊎◌, inl, inr, arith, append_assoc}
+use Rattle.std.proofs.Common.{◌≡◌, ◌≢◌, ℕ, ◌+◌, ◌-◌, ◌^◌, ◌≤◌, min, List, [], ◌∷◌, ◌++◌, length, Option, Some, None, Result, Ok, Err, refl, sym, ap, subst, ◌∙◌, ◌⊎◌, inl, inr, arith, append_assoc}
 use Rattle.std.specs.Io.KnownBytes.{Consumes, IsAtEnd}
 use Rattle.std.proofs.lemmas.List.{append-nil, length-append}
 use Rattle.dmatypes.specs.declared.call.Call.{Call}
@@ -9,11 +9,11 @@ use Rattle.script.specs.declared.error.RunError.{RunError}
 use Rattle.script.specs.declared.error.RunError.TheVariants as errors
 use Rattle.script.specs.Bytes.{IsAnswered, IsUnbroken, Sent}
 use Rattle.engine.proofs.Beginning.{new_state, new_is_new}
-use Rattle.script.specs.Run.{Answers, Size, LineSays, ScriptSays, BeginsBadly, AnswersOne, Ran, RanKnown, WroteAll}
+use Rattle.script.specs.Run.{Answers, IsOfOneLine, Size, LineSays, ScriptSays, BeginsBadly, AnswersOne, Ran, RanKnown, WroteAll}
 use Rattle.script.specs.Reported.{Went, WentKnown, shown}
 use Rattle.script.specs.declared.answering.Replies.{Replies}
 use Rattle.script.specs.declared.answering.Replies.TheVariants.{Written, Silent}
-use Rattle.script.proofs.Known.{sent_nothing, sent_more, sent_on, consumes_nothing, consumes_more}
+use Rattle.script.proofs.Known.{unbroken_front, sent_nothing, sent_more, sent_on, consumes_nothing, consumes_more}
 use Rattle.script.proofs.Scripts.{script_rest, script_then, bad_line, cut_line, long_line}
 use Rattle.script.proofs.Entering.{Entered, entered_none, entered_more, answers}
 
@@ -88,9 +88,9 @@ ends replies size old left left' before pending after after' block account numbe
     ))
 
 pub fails_reading : (U : Type 0) (replies : Replies) (size : Size) (old left left' before : Option (List ℕ)) (pending : List ℕ) (after after' : Option (List ℕ)) (block : List ℕ) (account : Account) (number : ℕ) (line : List ℕ) → Going replies size old left before pending after block account number
-    → Consumes left left' line → IsUnbroken line → Sent after after' block [] [] → WentKnown {U = U} replies size old left' before pending after' account (Err errors.Read)
+    → Consumes left left' line → IsUnbroken line → length line ≤ 512 → Sent after after' block [] [] → WentKnown {U = U} replies size old left' before pending after' account (Err errors.Read)
 unfolding answers
-fails_reading U replies size old left left' before pending after after' block account number line g more whole sent =
+fails_reading U replies size old left left' before pending after after' block account number line g more whole few sent =
     known replies size old left' before pending after' [] (g.taken ++ line) g.written account (Err errors.Read) (consumes_more old left left' g.taken line g.read more) (sent_on before after after' pending block [] (shown replies g.written) g.wrote sent) (λ input rest from to is e s. (
       wrote_all from to pending (shown replies g.written) s,
       (
@@ -101,17 +101,26 @@ fails_reading U replies size old left left' before pending after after' block ac
           rest = line;
           script = script_rest g.taken g.calls line g.script;
           no_more = whole;
+          short = few;
           answers = answers size account g.calls g.written g.kept g.entered;
         },
         record { history = refl; state = refl },
       ),
     ))
 
+-- ---- what was taken of a bad line
+
+cut_of_line : (line : List ℕ) → IsUnbroken line → length line ≤ 512 → IsOfOneLine line
+cut_of_line line whole few = record { line = line; last = []; parts = sym (append-nil line); whole = whole; few = few; one = omega arith }
+
+of_line : (line : List ℕ) (b : ℕ) → IsUnbroken line → length line ≤ 512 → IsOfOneLine (line ++ b ∷ [])
+of_line line b whole few = record { line = line; last = b ∷ []; parts = refl; whole = whole; few = few; one = omega arith }
+
 -- a bad line, whatever was read of it
 stops : (U : Type 0) (replies : Replies) (size : Size) (old left left' before : Option (List ℕ)) (pending : List ℕ) (after after' : Option (List ℕ)) (block : List ℕ) (account : Account) (number : ℕ) (line : List ℕ) → Going replies size old left before pending after block account number
-    → Consumes left left' line → Sent after after' block [] [] → ((rest : List ℕ) → left' ≡ Some rest → BeginsBadly (line ++ rest)) → WentKnown {U = U} replies size old left' before pending after' account (Err (errors.BadLine number))
+    → Consumes left left' line → IsOfOneLine line → Sent after after' block [] [] → ((rest : List ℕ) → left' ≡ Some rest → BeginsBadly (line ++ rest)) → WentKnown {U = U} replies size old left' before pending after' account (Err (errors.BadLine number))
 unfolding answers
-stops U replies size old left left' before pending after after' block account number line g more sent bad =
+stops U replies size old left left' before pending after after' block account number line g more one sent bad =
     known replies size old left' before pending after' [] (g.taken ++ line) g.written account (Err (errors.BadLine number)) (consumes_more old left left' g.taken line g.read more) (sent_on before after after' pending block [] (shown replies g.written) g.wrote sent) (λ input rest from to is e s. (
       wrote_all from to pending (shown replies g.written) s,
       (
@@ -120,6 +129,9 @@ stops U replies size old left left' before pending after after' block account nu
           rest = line ++ rest;
           script = subst (λ (b : List ℕ). ScriptSays b g.calls (line ++ rest)) (sym (e ∙ append_assoc g.taken line rest)) (script_rest g.taken g.calls (line ++ rest) g.script);
           bad = bad rest is;
+          taken = line;
+          of_line = one;
+          parts = refl;
           place = g.place;
           answers = answers size account g.calls g.written g.kept g.entered;
         },
@@ -128,22 +140,22 @@ stops U replies size old left left' before pending after after' block account nu
     ))
 
 pub stops_cut : (U : Type 0) (replies : Replies) (size : Size) (old left left' before : Option (List ℕ)) (pending : List ℕ) (after after' : Option (List ℕ)) (block : List ℕ) (account : Account) (number : ℕ) (line : List ℕ) → Going replies size old left before pending after block account number
-    → Consumes left left' line → IsUnbroken line → line ≢ [] → IsAtEnd left' → Sent after after' block [] [] → WentKnown {U = U} replies size old left' before pending after' account (Err (errors.BadLine number))
-stops_cut U replies size old left left' before pending after after' block account number line g more whole some at_end sent =
-    stops U replies size old left left' before pending after after' block account number line g more sent (λ rest is.
+    → Consumes left left' line → IsUnbroken line → length line ≤ 512 → line ≢ [] → IsAtEnd left' → Sent after after' block [] [] → WentKnown {U = U} replies size old left' before pending after' account (Err (errors.BadLine number))
+stops_cut U replies size old left left' before pending after after' block account number line g more whole few some at_end sent =
+    stops U replies size old left left' before pending after after' block account number line g more (cut_of_line line whole few) sent (λ rest is.
     let nothing : rest ≡ [] = subst IsAtEnd is at_end in
     subst BeginsBadly (sym (ap (λ (r : List ℕ). line ++ r) nothing ∙ append-nil line)) (cut_line line whole some))
 
 pub stops_long : (U : Type 0) (replies : Replies) (size : Size) (old left left' before : Option (List ℕ)) (pending : List ℕ) (after after' : Option (List ℕ)) (block : List ℕ) (account : Account) (number : ℕ) (line : List ℕ) (b : ℕ) → Going replies size old left before pending after block account number
     → Consumes left left' (line ++ b ∷ []) → IsUnbroken (line ++ b ∷ []) → length line ≡ 512 → Sent after after' block [] [] → WentKnown {U = U} replies size old left' before pending after' account (Err (errors.BadLine number))
 stops_long U replies size old left left' before pending after after' block account number line b g more whole long sent =
-    stops U replies size old left left' before pending after after' block account number (line ++ b ∷ []) g more sent (λ rest is.
+    stops U replies size old left left' before pending after after' block account number (line ++ b ∷ []) g more (of_line line b (unbroken_front line (b ∷ []) whole) (omega (arith, long))) sent (λ rest is.
     long_line (line ++ b ∷ []) rest whole (omega (arith, long, length-append line (b ∷ []))))
 
 pub stops_unsaid : (U : Type 0) (replies : Replies) (size : Size) (old left left' before : Option (List ℕ)) (pending : List ℕ) (after after' : Option (List ℕ)) (block : List ℕ) (account : Account) (number : ℕ) (line : List ℕ) → Going replies size old left before pending after block account number
-    → Consumes left left' (line ++ 10 ∷ []) → IsUnbroken line → says line ≡ None → Sent after after' block [] [] → WentKnown {U = U} replies size old left' before pending after' account (Err (errors.BadLine number))
-stops_unsaid U replies size old left left' before pending after after' block account number line g more whole unsaid sent =
-    stops U replies size old left left' before pending after after' block account number (line ++ 10 ∷ []) g more sent (λ rest is.
+    → Consumes left left' (line ++ 10 ∷ []) → IsUnbroken line → length line ≤ 512 → says line ≡ None → Sent after after' block [] [] → WentKnown {U = U} replies size old left' before pending after' account (Err (errors.BadLine number))
+stops_unsaid U replies size old left left' before pending after after' block account number line g more whole few unsaid sent =
+    stops U replies size old left left' before pending after after' block account number (line ++ 10 ∷ []) g more (of_line line 10 whole few) sent (λ rest is.
     rw (append_assoc line (10 ∷ []) rest) (bad_line line rest whole unsaid))
 
 -- a write failed: of the answers to the whole lines before, a beginning is written
@@ -184,16 +196,16 @@ goes_on replies size old left left' before pending after after' after'' block bl
 -- a read or a write failed while the next line was read
 pub fails : (U L : Type 0) (replies : Replies) (size : Size) (old left left' before : Option (List ℕ)) (pending : List ℕ) (after after' : Option (List ℕ)) (block block' : List ℕ) (account : Account) (number : ℕ) (line : List ℕ) (error : RunError) (read : Result L RunError)
     → Going replies size old left before pending after block account number
-    → Consumes left left' line → IsUnbroken line → Sent after after' block block' [] → IsAnswered block' (Err error) → read ≡ Err error → ((read ≡ Err errors.Read) ⊎ (read ≡ Err errors.Write))
+    → Consumes left left' line → IsUnbroken line → length line ≤ 512 → Sent after after' block block' [] → IsAnswered block' (Err error) → read ≡ Err error → ((read ≡ Err errors.Read) ⊎ (read ≡ Err errors.Write))
     → WentKnown {U = U} replies size old left' before pending after' account (Err error)
-fails U L replies size old left left' before pending after after' block block' account number line errors.Read read g more whole sent answered is which =
-    fails_reading U replies size old left left' before pending after after' block account number line g more whole (subst (λ (b : List ℕ). Sent after after' block b []) answered sent)
-fails U L replies size old left left' before pending after after' block block' account number line errors.Write read g more whole sent answered is which =
+fails U L replies size old left left' before pending after after' block block' account number line errors.Read read g more whole few sent answered is which =
+    fails_reading U replies size old left left' before pending after after' block account number line g more whole few (subst (λ (b : List ℕ). Sent after after' block b []) answered sent)
+fails U L replies size old left left' before pending after after' block block' account number line errors.Write read g more whole few sent answered is which =
     fails_writing U replies size old left left' before pending after after' block block' account account number line g more sent
-fails U L replies size old left left' before pending after after' block block' account number line (errors.BadLine k) read g more whole sent answered is (inl e) = absurd cc
-fails U L replies size old left left' before pending after after' block block' account number line (errors.BadLine k) read g more whole sent answered is (inr e) = absurd cc
-fails U L replies size old left left' before pending after after' block block' account number line errors.NoMemory read g more whole sent answered is (inl e) = absurd cc
-fails U L replies size old left left' before pending after after' block block' account number line errors.NoMemory read g more whole sent answered is (inr e) = absurd cc
+fails U L replies size old left left' before pending after after' block block' account number line (errors.BadLine k) read g more whole few sent answered is (inl e) = absurd cc
+fails U L replies size old left left' before pending after after' block block' account number line (errors.BadLine k) read g more whole few sent answered is (inr e) = absurd cc
+fails U L replies size old left left' before pending after after' block block' account number line errors.NoMemory read g more whole few sent answered is (inl e) = absurd cc
+fails U L replies size old left left' before pending after after' block block' account number line errors.NoMemory read g more whole few sent answered is (inr e) = absurd cc
 
 -- a bad line stops the run, or the write that comes first fails
 pub stopped : (U : Type 0) (replies : Replies) (size : Size) (old left left' before : Option (List ℕ)) (pending : List ℕ) (after after' after'' : Option (List ℕ)) (block block' block'' : List ℕ) (account : Account) (number : ℕ) (line : List ℕ) (result : Result U RunError) (F G : Type 0)

@@ -86,3 +86,7 @@ ends_known (Some xs) h = h
 pub unbroken_append : (xs ys : List ℕ) → IsUnbroken xs → IsUnbroken ys → IsUnbroken (xs ++ ys)
 unbroken_append [] ys p q = q
 unbroken_append (x ∷ xs) ys p q = (p.0, unbroken_append xs ys p.1 q)
+
+pub unbroken_front : (xs ys : List ℕ) → IsUnbroken (xs ++ ys) → IsUnbroken xs
+unbroken_front [] ys p = tt
+unbroken_front (x ∷ xs) ys p = (p.0, unbroken_front xs ys p.1)

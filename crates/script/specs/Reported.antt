@@ -27,7 +27,7 @@ abbrev pub Went : {U : Type 0} → Replies → Size → (input left before pendi
 Went replies size input left before pending after written account (Ok u) =
     WroteAll before pending after (shown replies written) × ((ran : RanToEnd size input left written) × IsOf account size ran.calls written ran.answers)
 Went replies size input left before pending after written account (Err (errors.BadLine k)) =
-    WroteAll before pending after (shown replies written) × ((ran : RanToBadLine size input written k) × IsOf account size ran.calls written ran.answers)
+    WroteAll before pending after (shown replies written) × ((ran : RanToBadLine size input left written k) × IsOf account size ran.calls written ran.answers)
 Went replies size input left before pending after written account (Err errors.Read) =
     WroteAll before pending after (shown replies written) × ((ran : RanToFailedRead size input left written) × IsOf account size ran.calls written ran.answers)
 Went replies size input left before pending after written account (Err errors.Write) =
@@ -56,7 +56,7 @@ abbrev pub Reported : {U : Type 0} → Size → (input left before pending after
 Reported size input left before pending after written (Ok u) =
     (ran : RanToEnd size input left written) × WroteAll before pending after (report_of size ran.calls written ran.answers)
 Reported size input left before pending after written (Err (errors.BadLine k)) =
-    (ran : RanToBadLine size input written k) × WroteAll before pending after (report_of size ran.calls written ran.answers)
+    (ran : RanToBadLine size input left written k) × WroteAll before pending after (report_of size ran.calls written ran.answers)
 Reported size input left before pending after written (Err errors.Read) =
     (ran : RanToFailedRead size input left written) × WroteAll before pending after (report_of size ran.calls written ran.answers)
 Reported size input left before pending after written (Err errors.Write) =

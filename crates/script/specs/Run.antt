@@ -1,5 +1,5 @@
 -- What a run reads and writes.
-use Rattle.std.specs.Prelude.{◌≡◌, ◌≢◌, ℕ, ◌+◌, ◌-◌, ◌^◌, ◌<◌, ◌⊎◌, min, List, [], ◌∷◌, ◌++◌, length, take, map, replicate, Option, Some, None, Result, Ok, Err}
+use Rattle.std.specs.Prelude.{◌≡◌, ◌≢◌, ℕ, ◌+◌, ◌-◌, ◌^◌, ◌<◌, ◌≤◌, ◌⊎◌, min, List, [], ◌∷◌, ◌++◌, length, take, map, replicate, Option, Some, None, Result, Ok, Err}
 use Rattle.std.specs.List.{flat_map}
 use Rattle.dmatypes.specs.declared.call.Call.{Call}
 use Rattle.dmatypes.specs.declared.reply.Event.{Event}
@@ -68,17 +68,30 @@ pub record RanToEnd (size : Size) (input left written : List ℕ) : Type 0 where
   pub answers : Answers size calls written
   pub all_read : left ≡ []
 
--- the first bad line has this number, and those before it are answered
-pub record RanToBadLine (size : Size) (input written : List ℕ) (number : ℕ) : Type 0 where
+-- these bytes are of one line: at most 512 of them, and one more, which alone may be its newline
+pub record IsOfOneLine (bytes : List ℕ) : Type 0 where
+  pub line : List ℕ
+  pub last : List ℕ
+  pub parts : bytes ≡ line ++ last
+  pub whole : IsUnbroken line
+  pub few : length line ≤ 512
+  pub one : length last ≤ 1
+
+-- the first bad line has this number, and those before it are answered. At most 513 bytes of that line were taken, and
+-- nothing behind them
+pub record RanToBadLine (size : Size) (input left written : List ℕ) (number : ℕ) : Type 0 where
   pub calls : List Call
   pub rest : List ℕ
   pub script : ScriptSays input calls rest
   pub bad : BeginsBadly rest
+  pub taken : List ℕ
+  pub of_line : IsOfOneLine taken
+  pub parts : rest ≡ taken ++ left
   -- the count stops at the greatest u64
   pub place : number ≡ min (length calls + 1) (2 ^ 64 - 1)
   pub answers : Answers size calls written
 
--- the whole lines that were read are answered
+-- the whole lines that were read are answered, and what was read behind them is less than a line
 pub record RanToFailedRead (size : Size) (input left written : List ℕ) : Type 0 where
   pub taken : List ℕ
   pub parts : input ≡ taken ++ left
@@ -86,6 +99,7 @@ pub record RanToFailedRead (size : Size) (input left written : List ℕ) : Type 
   pub rest : List ℕ
   pub script : ScriptSays taken calls rest
   pub no_more : IsUnbroken rest
+  pub short : length rest ≤ 512
   pub answers : Answers size calls written
 
 -- whole lines at the beginning of the script would be answered so
@@ -106,7 +120,7 @@ WroteFront before pending after written = (front rest : List ℕ) × (after ≡ 
 
 abbrev pub Ran : {U : Type 0} → Size → (input left before pending after written : List ℕ) → Result U RunError → Type 0
 Ran size input left before pending after written (Ok u) = WroteAll before pending after written × RanToEnd size input left written
-Ran size input left before pending after written (Err (errors.BadLine k)) = WroteAll before pending after written × RanToBadLine size input written k
+Ran size input left before pending after written (Err (errors.BadLine k)) = WroteAll before pending after written × RanToBadLine size input left written k
 Ran size input left before pending after written (Err errors.Read) = WroteAll before pending after written × RanToFailedRead size input left written
 Ran size input left before pending after written (Err errors.Write) = WroteFront before pending after written × RanPartly size input written
 Ran size input left before pending after written (Err errors.NoMemory) = WroteFront before pending after written × RanPartly size input written

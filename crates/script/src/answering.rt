@@ -7,7 +7,7 @@ ghost use Rattle.script.specs.Bytes.{Sent};
 ghost use Rattle.script.specs.Reported.{WentKnown, shown};
 ghost use Rattle.script.specs.Run.{AnswersOne, IsAllSent};
 
-use crate::counted::{Counted, Failed};
+use crate::counted::Counted;
 use crate::error::RunError;
 use crate::lines::{LineEnd, next_line};
 use arrayvec::{ArrayString, ArrayVec};
@@ -34,13 +34,13 @@ pub(crate) fn answer_lines<B: Owner, T: Wait, R: Read, W: Write>(
     replies: Replies,
 ) -> Result<(), RunError>
     requires none { book.old.history ≡ [] }
-    requires reader { reader.old.failed ≡ false }
-    requires writer { writer.old.failed ≡ false }
+    requires reader { reader.old.wrapped.failed ≡ false }
+    requires writer { writer.old.wrapped.failed ≡ false }
     ensures told { WentKnown replies (record { frames = B.frames; room = B.room })
-        (prepend_known reader.old.block (R.remaining reader.old.inner)) (prepend_known reader.new.block (R.remaining reader.new.inner))
-        (W.contents writer.old.inner) writer.old.block (W.contents writer.new.inner) book.new result }
-    ensures reader { (reader.new.failed ≡ true) ↔ IsErrOf result RunError.Read }
-    ensures writer { (writer.new.failed ≡ true) ↔ IsErrOf result RunError.Write }
+        (prepend_known reader.old.block (R.remaining reader.old.wrapped.inner)) (prepend_known reader.new.block (R.remaining reader.new.wrapped.inner))
+        (W.contents writer.old.wrapped.inner) writer.old.block (W.contents writer.new.wrapped.inner) book.new result }
+    ensures reader { (reader.new.wrapped.failed ≡ true) ↔ IsErrOf result RunError.Read }
+    ensures writer { (writer.new.wrapped.failed ≡ true) ↔ IsErrOf result RunError.Write }
     ensures used_up { IsErrOf result RunError.Read → reader.new.block ≡ [] }
     ensures all_sent { IsAllSent writer.new.block result }
     ensures memory { IsErrOf result RunError.NoMemory → ⊥ }
@@ -72,9 +72,10 @@ pub(crate) fn answer_lines<B: Owner, T: Wait, R: Read, W: Write>(
 
 // A bad line: what is still to be written is written first.
 fn stop_at<W: Write>(writer: &mut Counted<W>, number: u64) -> Result<(), RunError>
-    ensures sent { Sent (W.contents writer.old.inner) (W.contents writer.new.inner) writer.old.block writer.new.block [] }
-    ensures stopped { ((result ≡ Err (RunError.BadLine number)) × (writer.new.block ≡ []) × (writer.new.failed ≡ writer.old.failed))
-        ⊎ ((result ≡ Err RunError.Write) × (writer.new.failed ≡ true)) }
+    requires { writer.old.wrapped.failed ≡ false }
+    ensures sent { Sent (W.contents writer.old.wrapped.inner) (W.contents writer.new.wrapped.inner) writer.old.block writer.new.block [] }
+    ensures stopped { ((result ≡ Err (RunError.BadLine number)) × (writer.new.block ≡ []) × (writer.new.wrapped.failed ≡ writer.old.wrapped.failed))
+        ⊎ ((result ≡ Err RunError.Write) × (writer.new.wrapped.failed ≡ true)) }
 {
     match writer.flush() {
         Ok(()) => Err(RunError::BadLine(number)),

@@ -5,6 +5,7 @@ ghost use Rattle.std.specs.Io.KnownBytes.{Appends, Consumes, IsAtEnd};
 ghost use Rattle.script.specs.Bytes.{Filled, Sent, SentFront, TakesLine};
 
 use crate::block::{Block, Full};
+use crate::wrapped::{Failed, Wrapped};
 use arrayvec::ArrayVec;
 use std::io::{Read, Write};
 
@@ -12,14 +13,9 @@ use std::io::{Read, Write};
 /// still to be written, and tells whether a call of the wrapped one has failed.
 #[derive(Drop)]
 pub struct Counted<T> {
-    inner: T,
+    wrapped: Wrapped<T>,
     block: Block,
-    failed: bool,
 }
-
-/// A call of the wrapped reader or writer failed.
-#[derive(Clone, Copy, Debug, PartialEq, Eq)]
-pub(crate) struct Failed;
 
 /// How far a line was found in a block.
 #[derive(Clone, Copy, Debug, PartialEq, Eq)]
@@ -35,44 +31,41 @@ pub(crate) enum Taken {
 impl<T> Counted<T> {
     /// Wraps a reader or a writer.
     pub fn new(inner: T) -> Counted<T>
-        ensures inner { result.inner ≡ inner }
+        ensures inner { result.wrapped.inner ≡ inner }
         ensures block { result.block ≡ [] }
-        ensures failed { result.failed ≡ false }
+        ensures failed { result.wrapped.failed ≡ false }
     {
         Counted {
-            inner,
+            wrapped: Wrapped::new(inner),
             block: Block::new(),
-            failed: false,
         }
     }
 
     /// Whether a call of the wrapped one has failed: true from the first failing call on.
     pub fn failed(&self) -> bool
-        ensures { result ≡ self.now.failed }
+        ensures { result ≡ self.now.wrapped.failed }
     {
-        self.failed
+        self.wrapped.failed()
     }
 }
 
 impl<R: Read> Counted<R> {
     /// Reads the next block, where the last one is used up; `false` at the end.
     pub(crate) fn fill(&mut self) -> Result<bool, Failed>
-        requires { self.old.block ≡ [] }
-        ensures bytes { Filled (R.remaining self.old.inner) (R.remaining self.new.inner) self.new.block result }
-        ensures ok { OnOk result (self.new.failed ≡ self.old.failed) }
-        ensures err { OnErr result (self.new.failed ≡ true) }
+        requires empty { self.old.block ≡ [] }
+        requires unfailed { self.old.wrapped.failed ≡ false }
+        ensures bytes { Filled (R.remaining self.old.wrapped.inner) (R.remaining self.new.wrapped.inner) self.new.block result }
+        ensures ok { OnOk result (self.new.wrapped.failed ≡ self.old.wrapped.failed) }
+        ensures err { OnErr result (self.new.wrapped.failed ≡ true) }
     {
         let mut bytes = [0u8; 4096];
-        match self.inner.read(&mut bytes) {
+        match self.wrapped.read(&mut bytes) {
             Ok(0) => Ok(false),
             Ok(count) => {
                 self.block.refill(&bytes[..count]);
                 Ok(true)
             }
-            Err(_) => {
-                self.failed = true;
-                Err(Failed)
-            }
+            Err(failed) => Err(failed),
         }
     }
 
@@ -81,8 +74,7 @@ impl<R: Read> Counted<R> {
         requires { length line.old.items ≤ 512 }
         ensures few { length line.new.items ≤ 512 }
         ensures bytes { TakesLine self.old.block self.new.block line.old.items line.new.items result }
-        ensures inner { self.new.inner ≡ self.old.inner }
-        ensures failed { self.new.failed ≡ self.old.failed }
+        ensures wrapped { self.new.wrapped ≡ self.old.wrapped }
     {
         while let Some(byte) = self.block.take() {
             if byte == b'\n' {
@@ -100,18 +92,16 @@ impl<R: Read> Counted<R> {
 impl<W: Write> Counted<W> {
     /// Writes what is still to be written. Where a write fails, or takes nothing, a front of it is written.
     pub(crate) fn flush(&mut self) -> Result<(), Failed>
-        ensures sent { Sent (W.contents self.old.inner) (W.contents self.new.inner) self.old.block self.new.block [] }
+        requires { self.old.wrapped.failed ≡ false }
+        ensures sent { Sent (W.contents self.old.wrapped.inner) (W.contents self.new.wrapped.inner) self.old.block self.new.block [] }
         ensures empty { OnOk result (self.new.block ≡ []) }
-        ensures ok { OnOk result (self.new.failed ≡ self.old.failed) }
-        ensures err { OnErr result (self.new.failed ≡ true) }
+        ensures ok { OnOk result (self.new.wrapped.failed ≡ self.old.wrapped.failed) }
+        ensures err { OnErr result (self.new.wrapped.failed ≡ true) }
     {
         while !self.block.is_empty() {
-            match self.inner.write(self.block.as_slice()) {
-                Ok(0) | Err(_) => {
-                    self.failed = true;
-                    return Err(Failed);
-                }
+            match self.wrapped.write(self.block.as_slice()) {
                 Ok(count) => self.block.advance(count),
+                Err(failed) => return Err(failed),
             }
         }
         Ok(())
@@ -119,11 +109,12 @@ impl<W: Write> Counted<W> {
 
     /// Puts a text behind what is still to be written, which is written first where there is no room.
     pub(crate) fn put(&mut self, text: &[u8]) -> Result<(), Failed>
-        requires { length text.now ≤ 4096 }
-        ensures sent { Sent (W.contents self.old.inner) (W.contents self.new.inner) self.old.block self.new.block
+        requires short { length text.now ≤ 4096 }
+        requires unfailed { self.old.wrapped.failed ≡ false }
+        ensures sent { Sent (W.contents self.old.wrapped.inner) (W.contents self.new.wrapped.inner) self.old.block self.new.block
             (if is_ok result then text.now else []) }
-        ensures ok { OnOk result (self.new.failed ≡ self.old.failed) }
-        ensures err { OnErr result (self.new.failed ≡ true) }
+        ensures ok { OnOk result (self.new.wrapped.failed ≡ self.old.wrapped.failed) }
+        ensures err { OnErr result (self.new.wrapped.failed ≡ true) }
     {
         let Err(Full) = self.block.append(text) else {
             return Ok(());
@@ -139,12 +130,13 @@ impl<W: Write> Counted<W> {
     /// Writes what is still to be written, and a text behind it. Where a write fails, or takes nothing, a front of these
     /// is written.
     pub(crate) fn send(&mut self, text: &[u8]) -> Result<(), Failed>
-        requires { length text.now ≤ 4096 }
-        ensures sent { OnOk result (Sent (W.contents self.old.inner) (W.contents self.new.inner) self.old.block [] text.now) }
+        requires short { length text.now ≤ 4096 }
+        requires unfailed { self.old.wrapped.failed ≡ false }
+        ensures sent { OnOk result (Sent (W.contents self.old.wrapped.inner) (W.contents self.new.wrapped.inner) self.old.block [] text.now) }
         ensures empty { OnOk result (self.new.block ≡ []) }
-        ensures front { OnErr result (SentFront (W.contents self.old.inner) (W.contents self.new.inner) self.old.block text.now) }
-        ensures ok { OnOk result (self.new.failed ≡ self.old.failed) }
-        ensures err { OnErr result (self.new.failed ≡ true) }
+        ensures front { OnErr result (SentFront (W.contents self.old.wrapped.inner) (W.contents self.new.wrapped.inner) self.old.block text.now) }
+        ensures ok { OnOk result (self.new.wrapped.failed ≡ self.old.wrapped.failed) }
+        ensures err { OnErr result (self.new.wrapped.failed ≡ true) }
     {
         match self.put(text) {
             Ok(()) => self.flush(),

@@ -7,6 +7,7 @@ mod counted;
 mod error;
 mod lines;
 mod running;
+mod wrapped;
 
 pub use counted::Counted;
 pub use error::RunError;

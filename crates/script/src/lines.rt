@@ -1,11 +1,12 @@
 //! Lines out of a reader.
 
-ghost use Rattle.std.specs.Prelude.{◌≡◌, ◌≢◌, ◌⊎◌, [], true, Err, OnOk, OnErr};
+ghost use Rattle.std.specs.Prelude.{◌≡◌, ◌≢◌, ◌≤◌, ◌⊎◌, [], true, false, length, Err, OnOk, OnErr};
 ghost use Rattle.std.specs.Io.KnownBytes.{prepend_known};
 ghost use Rattle.script.specs.Bytes.{IsAnswered, ReadLine, Sent};
 
-use crate::counted::{Counted, Failed, Taken};
+use crate::counted::{Counted, Taken};
 use crate::error::RunError;
+use crate::wrapped::Failed;
 use arrayvec::ArrayVec;
 use std::io::{Read, Write};
 
@@ -22,7 +23,7 @@ pub(crate) enum LineEnd {
     Long,
 }
 
-/// Reads the bytes of the next line, its newline left out. A line that is too long is not read to its end.
+/// Reads the bytes of the next line, its newline left out. Of a line that is too long 513 bytes are taken.
 /// What is still to be written is written before each read, so that whoever feeds the reader has all
 /// answers to the lines that it was given.
 pub(crate) fn next_line<R: Read, W: Write>(
@@ -30,14 +31,17 @@ pub(crate) fn next_line<R: Read, W: Write>(
     writer: &mut Counted<W>,
     line: &mut ArrayVec<u8, 512>,
 ) -> Result<LineEnd, RunError>
-    ensures bytes { ReadLine (prepend_known reader.old.block (R.remaining reader.old.inner))
-        (prepend_known reader.new.block (R.remaining reader.new.inner)) line.new.items result }
-    ensures sent { Sent (W.contents writer.old.inner) (W.contents writer.new.inner) writer.old.block writer.new.block [] }
+    requires reader { reader.old.wrapped.failed ≡ false }
+    requires writer { writer.old.wrapped.failed ≡ false }
+    ensures few { length line.new.items ≤ 512 }
+    ensures bytes { ReadLine (prepend_known reader.old.block (R.remaining reader.old.wrapped.inner))
+        (prepend_known reader.new.block (R.remaining reader.new.wrapped.inner)) line.new.items result }
+    ensures sent { Sent (W.contents writer.old.wrapped.inner) (W.contents writer.new.wrapped.inner) writer.old.block writer.new.block [] }
     ensures answered { IsAnswered writer.new.block result }
-    ensures ok { OnOk result ((reader.new.failed ≡ reader.old.failed) × (writer.new.failed ≡ writer.old.failed)) }
-    ensures read { result ≡ Err RunError.Read → (reader.new.failed ≡ true) × (writer.new.failed ≡ writer.old.failed) }
+    ensures ok { OnOk result ((reader.new.wrapped.failed ≡ reader.old.wrapped.failed) × (writer.new.wrapped.failed ≡ writer.old.wrapped.failed)) }
+    ensures read { result ≡ Err RunError.Read → (reader.new.wrapped.failed ≡ true) × (writer.new.wrapped.failed ≡ writer.old.wrapped.failed) }
     ensures used_up { result ≡ Err RunError.Read → reader.new.block ≡ [] }
-    ensures write { result ≡ Err RunError.Write → (writer.new.failed ≡ true) × (reader.new.failed ≡ reader.old.failed) }
+    ensures write { result ≡ Err RunError.Write → (writer.new.wrapped.failed ≡ true) × (reader.new.wrapped.failed ≡ reader.old.wrapped.failed) }
     ensures no_other { OnErr result ((result ≡ Err RunError.Read) ⊎ (result ≡ Err RunError.Write)) }
 {
     line.clear();

@@ -7,7 +7,7 @@ ghost use Rattle.script.specs.Reported.{Concludes, ReportedKnown};
 ghost use Rattle.script.specs.Run.{IsAllSent, RanKnown};
 
 use crate::answering::{Replies, answer_lines};
-use crate::counted::{Counted, Failed};
+use crate::counted::Counted;
 use crate::error::RunError;
 use manager::{Config, Made, Manager, Owner, Report, Seed};
 use std::alloc::Global;
@@ -18,8 +18,9 @@ use std::sync::Wait;
 /// Reads a script to its first bad line, and writes one line for each line, on a manager of its own. All
 /// answers to the lines that were read are written before the next read.
 ///
-/// A bad line ends the work, as does a failed read: the lines before it are answered. After a failed
-/// write, or with no memory for the manager, a beginning of the answers is written.
+/// A bad line ends the work, as does a failed read: the lines before it are answered. Of a bad line at most 513 bytes
+/// are taken, and what follows is left for the next call, in the reader or in its block. After a failed write a beginning
+/// of the answers is written. With no memory for the manager nothing is read or written.
 pub fn run<T: Wait, R: Read, W: Write>(
     rt: &T,
     alloc: Global,
@@ -28,15 +29,16 @@ pub fn run<T: Wait, R: Read, W: Write>(
     config: Config,
 ) -> Result<(), RunError>
     requires one { config.shares ≡ 1 }
-    requires reader { reader.old.failed ≡ false }
-    requires writer { writer.old.failed ≡ false }
+    requires reader { reader.old.wrapped.failed ≡ false }
+    requires writer { writer.old.wrapped.failed ≡ false }
     ensures told { RanKnown (record { frames = config.frames; room = config.calls })
-        (prepend_known reader.old.block (R.remaining reader.old.inner)) (prepend_known reader.new.block (R.remaining reader.new.inner))
-        (W.contents writer.old.inner) writer.old.block (W.contents writer.new.inner) result }
-    ensures reader { (reader.new.failed ≡ true) ↔ IsErrOf result RunError.Read }
-    ensures writer { (writer.new.failed ≡ true) ↔ IsErrOf result RunError.Write }
+        (prepend_known reader.old.block (R.remaining reader.old.wrapped.inner)) (prepend_known reader.new.block (R.remaining reader.new.wrapped.inner))
+        (W.contents writer.old.wrapped.inner) writer.old.block (W.contents writer.new.wrapped.inner) result }
+    ensures reader { (reader.new.wrapped.failed ≡ true) ↔ IsErrOf result RunError.Read }
+    ensures writer { (writer.new.wrapped.failed ≡ true) ↔ IsErrOf result RunError.Write }
     ensures used_up { IsErrOf result RunError.Read → reader.new.block ≡ [] }
     ensures all_sent { IsAllSent writer.new.block result }
+    ensures no_memory { IsErrOf result RunError.NoMemory → (reader.new ≡ reader.old) × (writer.new ≡ writer.old) }
 {
     let Ok(seed) = Seed::new(alloc, config) else {
         return Err(RunError::NoMemory);
@@ -58,15 +60,16 @@ fn run_owned<B: Owner, T: Wait, R: Read, W: Write>(
     requires room { seed.room ≡ B.room }
     requires frames { seed.frames ≡ B.frames }
     requires one { seed.shares ≡ 1 }
-    requires reader { reader.old.failed ≡ false }
-    requires writer { writer.old.failed ≡ false }
+    requires reader { reader.old.wrapped.failed ≡ false }
+    requires writer { writer.old.wrapped.failed ≡ false }
     ensures told { RanKnown (record { frames = seed.frames; room = seed.room })
-        (prepend_known reader.old.block (R.remaining reader.old.inner)) (prepend_known reader.new.block (R.remaining reader.new.inner))
-        (W.contents writer.old.inner) writer.old.block (W.contents writer.new.inner) result }
-    ensures reader { (reader.new.failed ≡ true) ↔ IsErrOf result RunError.Read }
-    ensures writer { (writer.new.failed ≡ true) ↔ IsErrOf result RunError.Write }
+        (prepend_known reader.old.block (R.remaining reader.old.wrapped.inner)) (prepend_known reader.new.block (R.remaining reader.new.wrapped.inner))
+        (W.contents writer.old.wrapped.inner) writer.old.block (W.contents writer.new.wrapped.inner) result }
+    ensures reader { (reader.new.wrapped.failed ≡ true) ↔ IsErrOf result RunError.Read }
+    ensures writer { (writer.new.wrapped.failed ≡ true) ↔ IsErrOf result RunError.Write }
     ensures used_up { IsErrOf result RunError.Read → reader.new.block ≡ [] }
     ensures all_sent { IsAllSent writer.new.block result }
+    ensures no_memory { IsErrOf result RunError.NoMemory → (reader.new ≡ reader.old) × (writer.new ≡ writer.old) }
 {
     let Ok(
         Made {
@@ -100,14 +103,14 @@ pub fn report<T: Wait, R: Read, W: Write>(
     config: Config,
 ) -> Result<(), RunError>
     requires one { config.shares ≡ 1 }
-    requires reader { reader.old.failed ≡ false }
-    requires writer { writer.old.failed ≡ false }
+    requires reader { reader.old.wrapped.failed ≡ false }
+    requires writer { writer.old.wrapped.failed ≡ false }
     ensures told { ReportedKnown (record { frames = config.frames; room = config.calls })
-        (prepend_known reader.old.block (R.remaining reader.old.inner)) (prepend_known reader.new.block (R.remaining reader.new.inner))
-        (W.contents writer.old.inner) writer.old.block (W.contents writer.new.inner) result }
-    ensures read { IsErrOf result RunError.Read → reader.new.failed ≡ true }
-    ensures reader { reader.new.failed ≡ true → IsErrOf result RunError.Read ⊎ IsErrOf result RunError.Write }
-    ensures writer { (writer.new.failed ≡ true) ↔ IsErrOf result RunError.Write }
+        (prepend_known reader.old.block (R.remaining reader.old.wrapped.inner)) (prepend_known reader.new.block (R.remaining reader.new.wrapped.inner))
+        (W.contents writer.old.wrapped.inner) writer.old.block (W.contents writer.new.wrapped.inner) result }
+    ensures read { IsErrOf result RunError.Read → reader.new.wrapped.failed ≡ true }
+    ensures reader { reader.new.wrapped.failed ≡ true → IsErrOf result RunError.Read ⊎ IsErrOf result RunError.Write }
+    ensures writer { (writer.new.wrapped.failed ≡ true) ↔ IsErrOf result RunError.Write }
     ensures used_up { IsErrOf result RunError.Read → reader.new.block ≡ [] }
     ensures all_sent { IsAllSent writer.new.block result }
     ensures no_memory { IsErrOf result RunError.NoMemory → (reader.new ≡ reader.old) × (writer.new ≡ writer.old) }
@@ -136,14 +139,14 @@ fn report_owned<B: Owner, T: Wait, R: Read, W: Write>(
     requires room { seed.room ≡ B.room }
     requires frames { seed.frames ≡ B.frames }
     requires one { seed.shares ≡ 1 }
-    requires reader { reader.old.failed ≡ false }
-    requires writer { writer.old.failed ≡ false }
+    requires reader { reader.old.wrapped.failed ≡ false }
+    requires writer { writer.old.wrapped.failed ≡ false }
     ensures told { ReportedKnown (record { frames = seed.frames; room = seed.room })
-        (prepend_known reader.old.block (R.remaining reader.old.inner)) (prepend_known reader.new.block (R.remaining reader.new.inner))
-        (W.contents writer.old.inner) writer.old.block (W.contents writer.new.inner) result }
-    ensures read { IsErrOf result RunError.Read → reader.new.failed ≡ true }
-    ensures reader { reader.new.failed ≡ true → IsErrOf result RunError.Read ⊎ IsErrOf result RunError.Write }
-    ensures writer { (writer.new.failed ≡ true) ↔ IsErrOf result RunError.Write }
+        (prepend_known reader.old.block (R.remaining reader.old.wrapped.inner)) (prepend_known reader.new.block (R.remaining reader.new.wrapped.inner))
+        (W.contents writer.old.wrapped.inner) writer.old.block (W.contents writer.new.wrapped.inner) result }
+    ensures read { IsErrOf result RunError.Read → reader.new.wrapped.failed ≡ true }
+    ensures reader { reader.new.wrapped.failed ≡ true → IsErrOf result RunError.Read ⊎ IsErrOf result RunError.Write }
+    ensures writer { (writer.new.wrapped.failed ≡ true) ↔ IsErrOf result RunError.Write }
     ensures used_up { IsErrOf result RunError.Read → reader.new.block ≡ [] }
     ensures all_sent { IsAllSent writer.new.block result }
     ensures no_memory { IsErrOf result RunError.NoMemory → (reader.new ≡ reader.old) × (writer.new ≡ writer.old) }
@@ -174,9 +177,9 @@ fn send_report<W: Write>(
     text: &Report,
     end: Result<(), RunError>,
 ) -> Result<(), RunError>
-    requires { (writer.old.failed ≡ true) ↔ IsErrOf end RunError.Write }
-    ensures sent { Concludes (W.contents writer.old.inner) (W.contents writer.new.inner) writer.old.block writer.new.block text.now end result }
-    ensures writer { (writer.new.failed ≡ true) ↔ IsErrOf result RunError.Write }
+    requires { (writer.old.wrapped.failed ≡ true) ↔ IsErrOf end RunError.Write }
+    ensures sent { Concludes (W.contents writer.old.wrapped.inner) (W.contents writer.new.wrapped.inner) writer.old.block writer.new.block text.now end result }
+    ensures writer { (writer.new.wrapped.failed ≡ true) ↔ IsErrOf result RunError.Write }
     ensures same { (result ≡ end) ⊎ (result ≡ Err RunError.Write) }
 {
     if let Err(RunError::Write) = end {

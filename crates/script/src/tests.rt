@@ -14,6 +14,7 @@ use std::process::Abort;
 use std::sync::Wait;
 use std::test::Fail;
 
+mod failing;
 mod lazy_rows;
 mod rows;
 

@@ -18,14 +18,14 @@ returns-in-Ok-Nothing-clause-told g c =
     let h = rw c.in-Ok-Nothing.field-0-is at c.in-Ok-Nothing.ensures.bytes in
     let empty = rw c.in-Ok-Nothing.field-0-is at c.in-Ok-Nothing.ensures.answered in
     ends _ _ _ _ _ _ _ _ _ _ c.loop.book c.loop.number tt c.loop.invariant.going h.0 h.1
-    (subst (λ (b : List ℕ). Sent (g.W.Write.contents c.loop.writer.inner) (g.W.Write.contents c.next_line.new.writer.inner) c.loop.writer.block b []) empty c.in-Ok-Nothing.ensures.sent)
+    (subst (λ (b : List ℕ). Sent (g.W.Write.contents c.loop.writer.wrapped.inner) (g.W.Write.contents c.next_line.new.writer.wrapped.inner) c.loop.writer.block b []) empty c.in-Ok-Nothing.ensures.sent)
 
 pub returns-in-Ok-Cut-clause-told : goal.returns-in-Ok-Cut-clause-told
 returns-in-Ok-Cut-clause-told g c =
     let h = rw c.in-Ok-Cut.field-0-is at c.in-Ok-Cut.ensures.bytes in
     let empty = rw c.in-Ok-Cut.field-0-is at c.in-Ok-Cut.ensures.answered in
-    stops_cut _ _ _ _ _ _ _ _ _ _ _ c.loop.book c.loop.number c.next_line.new.line.items c.loop.invariant.going h.0 h.1 h.2 h.3
-    (subst (λ (b : List ℕ). Sent (g.W.Write.contents c.loop.writer.inner) (g.W.Write.contents c.next_line.new.writer.inner) c.loop.writer.block b []) empty c.in-Ok-Cut.ensures.sent)
+    stops_cut _ _ _ _ _ _ _ _ _ _ _ c.loop.book c.loop.number c.next_line.new.line.items c.loop.invariant.going h.0 h.1 c.in-Ok-Cut.ensures.few h.2 h.3
+    (subst (λ (b : List ℕ). Sent (g.W.Write.contents c.loop.writer.wrapped.inner) (g.W.Write.contents c.next_line.new.writer.wrapped.inner) c.loop.writer.block b []) empty c.in-Ok-Cut.ensures.sent)
 
 pub returns-in-Ok-Long-clause-told : goal.returns-in-Ok-Long-clause-told
 returns-in-Ok-Long-clause-told g c =
@@ -35,14 +35,14 @@ returns-in-Ok-Long-clause-told g c =
 
 pub returns-in-Err-clause-told : goal.returns-in-Err-clause-told
 returns-in-Err-clause-told g c =
-    fails _ _ _ _ _ _ _ _ _ _ _ _ _ c.loop.book c.loop.number c.next_line.new.line.items c.in-Err.error (Err c.in-Err.error) c.loop.invariant.going c.in-Err.ensures.bytes.0 c.in-Err.ensures.bytes.1 c.in-Err.ensures.sent c.in-Err.ensures.answered refl c.in-Err.ensures.no_other
+    fails _ _ _ _ _ _ _ _ _ _ _ _ _ c.loop.book c.loop.number c.next_line.new.line.items c.in-Err.error (Err c.in-Err.error) c.loop.invariant.going c.in-Err.ensures.bytes.0 c.in-Err.ensures.bytes.1 c.in-Err.ensures.few c.in-Err.ensures.sent c.in-Err.ensures.answered refl c.in-Err.ensures.no_other
 
 pub returns-in_default-clause-told : goal.returns-in_default-clause-told
 returns-in_default-clause-told g c =
     let h = rw c.in-Ok-Newline.field-0-is at c.in-Ok-Newline.ensures.bytes in
     let unsaid = ap says (sym c.as_slice.ensures.value) ∙ sym c.parse_line.ensures ∙ c.in_default.is in
     stopped _ _ _ _ _ _ _ _ _ _ _ _ _ _ c.loop.book c.loop.number (c.next_line.new.line.items ++ 10 ∷ []) c.stop_at-in_default.result _ _ c.loop.invariant.going h.0 c.in-Ok-Newline.ensures.sent c.stop_at-in_default.ensures.sent c.stop_at-in_default.ensures.stopped
-    (λ sent. stops_unsaid _ _ _ _ _ _ _ _ _ _ _ c.loop.book c.loop.number c.next_line.new.line.items c.loop.invariant.going h.0 h.1 unsaid sent)
+    (λ sent. stops_unsaid _ _ _ _ _ _ _ _ _ _ _ c.loop.book c.loop.number c.next_line.new.line.items c.loop.invariant.going h.0 h.1 c.in-Ok-Newline.ensures.few unsaid sent)
 
 pub returns-in-Err-put-clause-told : goal.returns-in-Err-put-clause-told
 returns-in-Err-put-clause-told g c =

@@ -5,12 +5,12 @@ use Rattle.script.proofs.lines.next_line.Given as goal
 
 abbrev pub invariant-reading : goal.invariant-reading
 invariant-reading g l = record {
-  read : Consumes (prepend_known l.fn.reader.block (g.R.Read.remaining l.fn.reader.inner)) (prepend_known l.reader.block (g.R.Read.remaining l.reader.inner)) l.line.items;
+  read : Consumes (prepend_known l.fn.reader.block (g.R.Read.remaining l.fn.reader.wrapped.inner)) (prepend_known l.reader.block (g.R.Read.remaining l.reader.wrapped.inner)) l.line.items;
   whole : IsUnbroken l.line.items;
   few : length l.line.items ≤ 512;
-  sent : Sent (g.W.Write.contents l.fn.writer.inner) (g.W.Write.contents l.writer.inner) l.fn.writer.block l.writer.block [];
-  reader : l.reader.failed ≡ l.fn.reader.failed;
-  writer : l.writer.failed ≡ l.fn.writer.failed;
+  sent : Sent (g.W.Write.contents l.fn.writer.wrapped.inner) (g.W.Write.contents l.writer.wrapped.inner) l.fn.writer.block l.writer.block [];
+  reader : l.reader.wrapped.failed ≡ l.fn.reader.wrapped.failed;
+  writer : l.writer.wrapped.failed ≡ l.fn.writer.wrapped.failed;
 }
 
 -- a block that isn't empty makes the line longer

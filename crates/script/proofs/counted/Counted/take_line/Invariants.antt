@@ -7,8 +7,7 @@ abbrev pub invariant-loop-byte : goal.invariant-loop-byte
 invariant-loop-byte g l = record {
   moved : (more : List ℕ) × (l.fn.self.block ≡ more ++ l.self.block) × (l.line.items ≡ l.fn.line.items ++ more) × IsUnbroken more;
   few : length l.line.items ≤ 512;
-  inner : l.self.inner ≡ l.fn.self.inner;
-  failed : l.self.failed ≡ l.fn.self.failed;
+  wrapped : l.self.wrapped ≡ l.fn.self.wrapped;
 }
 
 abbrev pub decreases-loop-byte : goal.decreases-loop-byte
