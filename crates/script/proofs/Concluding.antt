@@ -5,11 +5,15 @@ use Rattle.dmatypes.specs.declared.call.Call.{Call}
 use Rattle.manager.specs.Kept.{Account}
 use Rattle.manager.specs.Report.{report_text}
 use Rattle.script.specs.Bytes.{Sent, SentFront}
-use Rattle.script.specs.Reported.{Concludes, IsOf, Reported, ReportedKnown, Went, WentKnown, report_of}
+use Rattle.script.specs.Reported.{OutputKnown, Concludes, IsOf, Reported, ReportedKnown, Went, WentKnown, replies_of, report_of}
 use Rattle.script.specs.Run.{Answers, IsAllSent, RanPartly, RanToBadLine, RanToEnd, RanToFailedRead, ScriptSays, Size, WroteAll, WroteFront}
 use Rattle.script.specs.declared.error.RunError.{RunError}
 use Rattle.script.specs.declared.error.RunError.TheVariants as errors
-use Rattle.script.specs.declared.answering.Replies.TheVariants.{Silent}
+use Rattle.script.specs.declared.running.Output.{Output}
+use Rattle.script.specs.declared.running.Output.TheVariants as outputs
+use Rattle.script.proofs.Going.{no_memory, run_known}
+use Rattle.script.specs.declared.answering.Replies.{Replies}
+use Rattle.script.specs.declared.answering.Replies.TheVariants.{Silent, Written}
 
 -- ---- whole lines at the beginning of the script
 
@@ -117,3 +121,20 @@ pub nothing_done : (U : Type 0) (size : Size) (old before : Option (List ℕ)) (
 nothing_done U size None before pending = tt
 nothing_done U size (Some input) None pending = tt
 nothing_done U size (Some input) (Some from) pending = ([], (refl, refl))
+
+pub nothing_written : (U : Type 0) (output : Output) (size : Size) (old before : Option (List ℕ)) (pending : List ℕ) → OutputKnown {U = U} output size old old before pending before (Err errors.NoMemory)
+nothing_written U outputs.Answers size old before pending = no_memory U size old before pending
+nothing_written U (outputs.Report text) size old before pending = nothing_done U size old before pending
+
+pub answers_known : (U : Type 0) (output : Output) (replies : Replies) (size : Size) (old left before : Option (List ℕ)) (pending : List ℕ) (after : Option (List ℕ)) (account : Account) (result : Result U RunError) → output ≡ outputs.Answers → replies ≡ replies_of output
+    → WentKnown replies size old left before pending after account result → OutputKnown output size old left before pending after result
+answers_known U outputs.Answers Written size old left before pending after account result is so w = run_known U size old left before pending after account result w
+answers_known U outputs.Answers Silent size old left before pending after account result is so w = absurd cc
+answers_known U (outputs.Report text) replies size old left before pending after account result is so w = absurd cc
+
+pub report_is_known : (U : Type 0) (output : Output) (replies : Replies) (text : List ℕ) (size : Size) (old left before : Option (List ℕ)) (pending : List ℕ) (after after' : Option (List ℕ)) (block rest : List ℕ) (account : Account) (end result : Result U RunError) → output ≡ outputs.Report text → replies ≡ replies_of output
+    → WentKnown replies size old left before pending after account end → IsAllSent block end → end ≢ Err errors.NoMemory → Concludes after after' block rest (report_text (length account.history) account.state) end result → OutputKnown output size old left before pending after' result
+report_is_known U outputs.Answers replies text size old left before pending after after' block rest account end result is so w empty made c = absurd cc
+report_is_known U (outputs.Report text') Written text size old left before pending after after' block rest account end result is so w empty made c = absurd cc
+report_is_known U (outputs.Report text') Silent text size old left before pending after after' block rest account end result is so w empty made c =
+    report_known U size old left before pending after after' block rest account end result w empty made c

@@ -1,12 +1,14 @@
 -- What a report reads and writes.
-use Rattle.std.specs.Prelude.{◌≡◌, ◌⊎◌, ℕ, List, [], length, Option, Some, None, Result, Ok, Err}
+use Rattle.std.specs.Prelude.{◌≡◌, ◌↔◌, ◌⊎◌, ℕ, Bool, true, IsErrOf, List, [], length, Option, Some, None, Result, Ok, Err}
 use Rattle.dmatypes.specs.declared.call.Call.{Call}
 use Rattle.manager.specs.Kept.{Account}
 use Rattle.manager.specs.Report.{report_text}
 use Rattle.script.specs.Bytes.{Sent, SentFront}
-use Rattle.script.specs.Run.{Answers, RanPartly, RanToBadLine, RanToEnd, RanToFailedRead, Size, WroteAll, WroteFront}
+use Rattle.script.specs.Run.{Answers, RanKnown, RanPartly, RanToBadLine, RanToEnd, RanToFailedRead, Size, WroteAll, WroteFront}
 use Rattle.script.specs.declared.error.RunError.{RunError}
 use Rattle.script.specs.declared.error.RunError.TheVariants as errors
+use Rattle.script.specs.declared.running.Output.{Output}
+use Rattle.script.specs.declared.running.Output.TheVariants as outputs
 use Rattle.script.specs.declared.answering.Replies.{Replies}
 use Rattle.script.specs.declared.answering.Replies.TheVariants.{Written, Silent}
 
@@ -78,3 +80,20 @@ abbrev pub Concludes : {U : Type 0} → (before after : Option (List ℕ)) → (
 Concludes before after block rest text (Err errors.Write) result = (result ≡ Err errors.Write) × (after ≡ before)
 Concludes before after block rest text end result =
     ((result ≡ end) × (rest ≡ []) × Sent before after block [] text) ⊎ ((result ≡ Err errors.Write) × SentFront before after block text)
+
+-- ---- a run or a report
+
+-- the answers are written, or the report in their place
+abbrev pub replies_of : Output → Replies
+replies_of outputs.Answers = Written
+replies_of (outputs.Report text) = Silent
+
+-- a script was answered, or its report was written
+abbrev pub OutputKnown : {U : Type 0} → Output → Size → (input left before : Option (List ℕ)) → List ℕ → Option (List ℕ) → Result U RunError → Type 0
+OutputKnown outputs.Answers size input left before pending after result = RanKnown size input left before pending after result
+OutputKnown (outputs.Report text) size input left before pending after result = ReportedKnown size input left before pending after result
+
+-- the reader has failed exactly at `Read`; but where a report can't be written that is told in its place
+abbrev pub ReaderEnds : {U : Type 0} → Output → Bool → Result U RunError → Type 0
+ReaderEnds outputs.Answers failed result = (failed ≡ true) ↔ IsErrOf result errors.Read
+ReaderEnds (outputs.Report text) failed result = (IsErrOf result errors.Read → failed ≡ true) × (failed ≡ true → IsErrOf result errors.Read ⊎ IsErrOf result errors.Write)

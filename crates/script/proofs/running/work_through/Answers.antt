@@ -1,7 +1,7 @@
 use Rattle.std.proofs.Common.{◌≡◌, ℕ, ◌+◌, ◌<◌, List, [], ◌∷◌, ◌++◌, get_or, length, arith, length-append, refl, sym, ap, subst, ◌∙◌}
 use Rattle.std.proofs.Math.Seq.{get_or-append_seam}
-use Rattle.script.proofs.Concluding.{report_known}
-use Rattle.script.proofs.running.report_owned.Goals as goal
+use Rattle.script.proofs.Concluding.{answers_known, nothing_written, report_is_known}
+use Rattle.script.proofs.running.work_through.Goals as goal
 
 -- what all have, the last one has
 last_has : {A : Type 0} (P : A → Type 0) (xs ys : List A) (y : A) → xs ≡ ys ++ y ∷ [] → ((k : ℕ) (d : A) → k < length xs → P (get_or xs k d)) → P y
@@ -19,7 +19,14 @@ answer_lines-end-requires-clause-none g c =
     let one : g.B.Owner.shares ≡ 1 = sym c.requires.shares ∙ c.requires.one in
     rw c.audit.ensures.same (none_in _ (c.audit.ensures.alone one ∙ zero))
 
+pub returns-in_default-clause-told : goal.returns-in_default-clause-told
+returns-in_default-clause-told g c = nothing_written _ c.args.output _ _ _ _
+
+pub returns-in-Answers-clause-told : goal.returns-in-Answers-clause-told
+returns-in-Answers-clause-told g c =
+    rw (c.requires.frames, c.requires.room) (answers_known _ c.args.output c.replies_for.result _ _ _ _ _ _ c.answer_lines-end.new.book c.answer_lines-end.result c.in-Answers.is c.replies_for.ensures c.answer_lines-end.ensures.told)
+
 pub returns-clause-told : goal.returns-clause-told
 returns-clause-told g c =
-    rw (c.requires.frames, c.requires.room) (report_known _ _ _ _ _ c.args.writer.now.block _ _ c.answer_lines-end.new.writer.block c.send_report.new.writer.block c.answer_lines-end.new.book
-    c.answer_lines-end.result c.send_report.result c.answer_lines-end.ensures.told c.answer_lines-end.ensures.all_sent (λ e. c.answer_lines-end.ensures.memory (rw e refl)) (rw c.write_report.ensures at c.send_report.ensures.sent))
+    rw (c.requires.frames, c.requires.room) (report_is_known _ c.args.output c.replies_for.result _ _ _ _ _ _ _ _ c.answer_lines-end.new.writer.block c.send_report.new.writer.block c.answer_lines-end.new.book
+    c.answer_lines-end.result c.send_report.result c.in-Report.is c.replies_for.ensures c.answer_lines-end.ensures.told c.answer_lines-end.ensures.all_sent (λ e. c.answer_lines-end.ensures.memory (rw e refl)) (rw c.write_report.ensures at c.send_report.ensures.sent))
