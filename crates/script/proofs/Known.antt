@@ -1,5 +1,6 @@
 -- Bytes that are known, part by part.
-use Rattle.std.proofs.Common.{◌≡◌, ℕ, ◌≤◌, List, [], ◌∷◌, ◌++◌, length, take, drop, Option, Some, None, refl, sym, ap, ◌∙◌, arith, append_assoc, length-drop}
+use Rattle.std.proofs.Common.{◌≡◌, ℕ, ◌≤◌, List, [], ◌∷◌, ◌++◌, length, take, drop, Option, Some, None, refl, sym, ap, ◌∙◌, arith}
+use Rattle.std.proofs.Common.{append_assoc, length-drop}
 use Rattle.std.proofs.lemmas.List.{append-nil, drop_all, take-append-drop}
 use Rattle.std.specs.Io.KnownBytes.{Appends, Consumes, IsAtEnd, prepend_known}
 use Rattle.script.specs.Bytes.{IsUnbroken, Sent, SentFront}
@@ -31,7 +32,8 @@ pub sent_more : (x y z : Option (List ℕ)) (a b c s t : List ℕ) → Sent x y 
 sent_more x y z a b c s t p q = (
   p.0 ++ q.0,
   appends_more x y z p.0 q.0 p.1 q.1,
-  append_assoc p.0 q.0 c ∙ ap (λ (r : List ℕ). p.0 ++ r) q.2 ∙ sym (append_assoc p.0 b t) ∙ ap (λ (r : List ℕ). r ++ t) p.2 ∙ append_assoc a s t,
+  append_assoc p.0 q.0 c ∙ ap (λ (r : List ℕ). p.0 ++ r) q.2 ∙ sym (append_assoc p.0 b t) ∙ ap (λ (r : List ℕ). r ++ t) p.2
+      ∙ append_assoc a s t,
 )
 
 -- nothing more is written
@@ -46,7 +48,8 @@ pub front_with : (x y : Option (List ℕ)) (a b s : List ℕ) → Sent x y a b s
 front_with x y a b s p = (p.0, b, p.1, p.2)
 
 -- a write took the front of the block
-pub sent_front : (x y z : Option (List ℕ)) (a b text : List ℕ) (count : ℕ) → Sent x y a b text → Appends y z (take count b) → Sent x z a (drop count b) text
+pub sent_front : (x y z : Option (List ℕ)) (a b text : List ℕ) (count : ℕ) → Sent x y a b text → Appends y z (take count b)
+    → Sent x z a (drop count b) text
 sent_front x y z a b text count p q = (
   p.0 ++ take count b,
   appends_more x y z p.0 (take count b) p.1 q,
@@ -66,7 +69,8 @@ consumes_more (Some us) (Some bs) None xs ys p q = absurd q
 consumes_more (Some us) (Some bs) (Some cs) xs ys p q = p ∙ ap (λ (r : List ℕ). xs ++ r) q ∙ sym (append_assoc xs ys cs)
 
 -- bytes of the block were used
-pub consumes_block : (a : Option (List ℕ)) (block used rest : List ℕ) → block ≡ used ++ rest → Consumes (prepend_known block a) (prepend_known rest a) used
+pub consumes_block : (a : Option (List ℕ)) (block used rest : List ℕ) → block ≡ used ++ rest
+    → Consumes (prepend_known block a) (prepend_known rest a) used
 consumes_block None block used rest e = tt
 consumes_block (Some xs) block used rest e = ap (λ (r : List ℕ). r ++ xs) e ∙ append_assoc used rest xs
 

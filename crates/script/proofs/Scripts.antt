@@ -1,5 +1,6 @@
 -- Lines of a script.
-use Rattle.std.proofs.Common.{◌≡◌, ◌≢◌, ℕ, ◌≤◌, ◌<◌, Bool, true, false, cond, List, [], ◌∷◌, ◌++◌, length, Some, None, refl, sym, ap, ◌∙◌, arith, append_assoc}
+use Rattle.std.proofs.Common.{◌≡◌, ◌≢◌, ℕ, ◌≤◌, ◌<◌, Bool, true, false, cond, List, [], ◌∷◌, ◌++◌, length, Some, None, refl, sym, ap, ◌∙◌}
+use Rattle.std.proofs.Common.{arith, append_assoc}
 use Rattle.std.specs.Prelude.{nat_le}
 use Rattle.dmatypes.specs.declared.call.Call.{Call}
 use Rattle.dmatypes.specs.Grammar.{says, fields, call_of}
@@ -13,7 +14,8 @@ script_rest bytes (call ∷ calls) rest s =
     (s.0, s.1 ++ rest, ap (λ (b : List ℕ). b ++ rest) s.2 ∙ append_assoc s.0 (10 ∷ s.1) rest, s.3, script_rest s.1 calls rest s.4)
 
 -- one line more
-pub script_then : (bytes : List ℕ) (calls : List Call) (rest line more : List ℕ) (call : Call) → ScriptSays bytes calls rest → rest ≡ line ++ 10 ∷ more → LineSays line call → ScriptSays bytes (calls ++ call ∷ []) more
+pub script_then : (bytes : List ℕ) (calls : List Call) (rest line more : List ℕ) (call : Call) → ScriptSays bytes calls rest
+    → rest ≡ line ++ 10 ∷ more → LineSays line call → ScriptSays bytes (calls ++ call ∷ []) more
 script_then bytes [] rest line more call s e said = (line, more, s ∙ e, said, refl)
 script_then bytes (first ∷ calls) rest line more call s e said = (s.0, s.1, s.2, s.3, script_then s.1 calls rest line more call s.4 e said)
 
@@ -37,7 +39,8 @@ first_line (c ∷ a) (d ∷ b) x y p q e =
 pub no_shorter : (known x line more : List ℕ) → IsUnbroken known → known ++ x ≡ line ++ 10 ∷ more → length known ≤ length line
 no_shorter [] x line more p e = omega arith
 no_shorter (c ∷ known) x [] more p e = absurd (p.0 (head_is c 10 (known ++ x) more e))
-no_shorter (c ∷ known) x (d ∷ line) more p e = omega (arith, no_shorter known x line more p.1 (tail_is c d (known ++ x) (line ++ 10 ∷ more) e))
+no_shorter (c ∷ known) x (d ∷ line) more p e = omega
+    (arith, no_shorter known x line more p.1 (tail_is c d (known ++ x) (line ++ 10 ∷ more) e))
 
 -- a line that says something is short
 pub says_short : (line : List ℕ) (call : Call) → says line ≡ Some call → length line ≤ 512

@@ -20,25 +20,30 @@ shown Written text = text
 shown Silent text = []
 
 -- the answers come from this history and this state
-pub record IsOf (account : Account) (size : Size) (calls : List Call) (written : List ℕ) (answers : Answers size calls written) : Type 0 where
-  pub history : answers.history ≡ account.history
-  pub state : answers.state ≡ account.state
+pub record IsOf (account : Account) (size : Size) (calls : List Call) (written : List ℕ) (answers : Answers size calls written) : Type 0
+  where
+    pub history : answers.history ≡ account.history
+    pub state : answers.state ≡ account.state
 
 -- a script was gone through as by a run, which would answer so, and it led to this history and this state
 abbrev pub Went : {U : Type 0} → Replies → Size → (input left before pending after written : List ℕ) → Account → Result U RunError → Type 0
 Went replies size input left before pending after written account (Ok u) =
-    WroteAll before pending after (shown replies written) × ((ran : RanToEnd size input left written) × IsOf account size ran.calls written ran.answers)
+    WroteAll before pending after (shown replies written)
+    × ((ran : RanToEnd size input left written) × IsOf account size ran.calls written ran.answers)
 Went replies size input left before pending after written account (Err (errors.BadLine k)) =
-    WroteAll before pending after (shown replies written) × ((ran : RanToBadLine size input left written k) × IsOf account size ran.calls written ran.answers)
+    WroteAll before pending after (shown replies written)
+    × ((ran : RanToBadLine size input left written k) × IsOf account size ran.calls written ran.answers)
 Went replies size input left before pending after written account (Err errors.Read) =
-    WroteAll before pending after (shown replies written) × ((ran : RanToFailedRead size input left written) × IsOf account size ran.calls written ran.answers)
+    WroteAll before pending after (shown replies written)
+    × ((ran : RanToFailedRead size input left written) × IsOf account size ran.calls written ran.answers)
 Went replies size input left before pending after written account (Err errors.Write) =
     WroteFront before pending after (shown replies written) × RanPartly size input written
 Went replies size input left before pending after written account (Err errors.NoMemory) =
     WroteFront before pending after (shown replies written) × RanPartly size input written
 
 -- the same where the reader and the writer tell their bytes
-abbrev pub WentKnown : {U : Type 0} → Replies → Size → (input left before : Option (List ℕ)) → List ℕ → Option (List ℕ) → Account → Result U RunError → Type 0
+abbrev pub WentKnown : {U : Type 0} → Replies → Size → (input left before : Option (List ℕ)) → List ℕ → Option (List ℕ) → Account
+    → Result U RunError → Type 0
 WentKnown replies size None left before pending after account result = Unit {0}
 WentKnown replies size (Some input) None before pending after account result = ⊥
 WentKnown replies size (Some input) (Some left) None pending after account result = Unit {0}
@@ -66,7 +71,8 @@ Reported size input left before pending after written (Err errors.Write) =
 Reported size input left before pending after written (Err errors.NoMemory) = (left ≡ input) × (after ≡ before)
 
 -- the same where the reader and the writer tell their bytes
-abbrev pub ReportedKnown : {U : Type 0} → Size → (input left before : Option (List ℕ)) → List ℕ → Option (List ℕ) → Result U RunError → Type 0
+abbrev pub ReportedKnown : {U : Type 0} → Size → (input left before : Option (List ℕ)) → List ℕ → Option (List ℕ) → Result U RunError
+    → Type 0
 ReportedKnown size None left before pending after result = Unit {0}
 ReportedKnown size (Some input) None before pending after result = ⊥
 ReportedKnown size (Some input) (Some left) None pending after result = Unit {0}
@@ -76,7 +82,8 @@ ReportedKnown size (Some input) (Some left) (Some before) pending (Some after) r
 
 -- the report was written behind what was still to be written, and the end stands; or a front of these, and the write
 -- failed. Nothing follows a write that failed before
-abbrev pub Concludes : {U : Type 0} → (before after : Option (List ℕ)) → (block rest text : List ℕ) → (end result : Result U RunError) → Type 0
+abbrev pub Concludes : {U : Type 0} → (before after : Option (List ℕ)) → (block rest text : List ℕ) → (end result : Result U RunError)
+    → Type 0
 Concludes before after block rest text (Err errors.Write) result = (result ≡ Err errors.Write) × (after ≡ before)
 Concludes before after block rest text end result =
     ((result ≡ end) × (rest ≡ []) × Sent before after block [] text) ⊎ ((result ≡ Err errors.Write) × SentFront before after block text)
@@ -89,11 +96,13 @@ replies_of outputs.Answers = Written
 replies_of (outputs.Report text) = Silent
 
 -- a script was answered, or its report was written
-abbrev pub OutputKnown : {U : Type 0} → Output → Size → (input left before : Option (List ℕ)) → List ℕ → Option (List ℕ) → Result U RunError → Type 0
+abbrev pub OutputKnown : {U : Type 0} → Output → Size → (input left before : Option (List ℕ)) → List ℕ → Option (List ℕ)
+    → Result U RunError → Type 0
 OutputKnown outputs.Answers size input left before pending after result = RanKnown size input left before pending after result
 OutputKnown (outputs.Report text) size input left before pending after result = ReportedKnown size input left before pending after result
 
 -- the reader has failed exactly at `Read`; but where a report can't be written that is told in its place
 abbrev pub ReaderEnds : {U : Type 0} → Output → Bool → Result U RunError → Type 0
 ReaderEnds outputs.Answers failed result = (failed ≡ true) ↔ IsErrOf result errors.Read
-ReaderEnds (outputs.Report text) failed result = (IsErrOf result errors.Read → failed ≡ true) × (failed ≡ true → IsErrOf result errors.Read ⊎ IsErrOf result errors.Write)
+ReaderEnds (outputs.Report text) failed result = (IsErrOf result errors.Read → failed ≡ true)
+    × (failed ≡ true → IsErrOf result errors.Read ⊎ IsErrOf result errors.Write)

@@ -1,5 +1,6 @@
 -- What a run reads and writes.
-use Rattle.std.specs.Prelude.{◌≡◌, ◌≢◌, ℕ, ◌+◌, ◌-◌, ◌^◌, ◌<◌, ◌≤◌, ◌⊎◌, min, List, [], ◌∷◌, ◌++◌, length, take, map, replicate, Option, Some, None, Result, Ok, Err}
+use Rattle.std.specs.Prelude.{◌≡◌, ◌≢◌, ℕ, ◌+◌, ◌-◌, ◌^◌, ◌<◌, ◌≤◌, ◌⊎◌, min, List, [], ◌∷◌, ◌++◌, length, take, map, replicate, Option}
+use Rattle.std.specs.Prelude.{Some, None, Result, Ok, Err}
 use Rattle.std.specs.List.{flat_map}
 use Rattle.dmatypes.specs.declared.call.Call.{Call}
 use Rattle.dmatypes.specs.declared.reply.Event.{Event}
@@ -120,10 +121,13 @@ WroteFront before pending after written = (front rest : List ℕ) × (after ≡ 
 
 abbrev pub Ran : {U : Type 0} → Size → (input left before pending after written : List ℕ) → Result U RunError → Type 0
 Ran size input left before pending after written (Ok u) = WroteAll before pending after written × RanToEnd size input left written
-Ran size input left before pending after written (Err (errors.BadLine k)) = WroteAll before pending after written × RanToBadLine size input left written k
-Ran size input left before pending after written (Err errors.Read) = WroteAll before pending after written × RanToFailedRead size input left written
+Ran size input left before pending after written (Err (errors.BadLine k)) = WroteAll before pending after written
+    × RanToBadLine size input left written k
+Ran size input left before pending after written (Err errors.Read) = WroteAll before pending after written
+    × RanToFailedRead size input left written
 Ran size input left before pending after written (Err errors.Write) = WroteFront before pending after written × RanPartly size input written
-Ran size input left before pending after written (Err errors.NoMemory) = WroteFront before pending after written × RanPartly size input written
+Ran size input left before pending after written (Err errors.NoMemory) = WroteFront before pending after written
+    × RanPartly size input written
 
 -- nothing is still to be written, but where a write failed or memory lacked
 abbrev pub IsAllSent : {U : Type 0} → List ℕ → Result U RunError → Type 0

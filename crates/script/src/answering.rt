@@ -75,7 +75,7 @@ pub(crate) fn answer_lines<B: Owner, T: Wait, R: Read, W: Write>(
 fn stop_at<W: Write>(writer: &mut Counted<W>, number: u64) -> Result<(), RunError>
     requires { writer.old.wrapped.failed ≡ false }
     ensures sent { Sent (W.contents writer.old.wrapped.inner) (W.contents writer.new.wrapped.inner) writer.old.block writer.new.block [] }
-    ensures stopped { ((result ≡ Err (RunError.BadLine number)) × (writer.new.block ≡ []) × (writer.new.wrapped.failed ≡ writer.old.wrapped.failed))
+    ensures stopped { ((result ≡ Err (RunError.BadLine number)) × (writer.new.block ≡ []) × (writer.new.wrapped.failed ≡ false))
         ⊎ ((result ≡ Err RunError.Write) × (writer.new.wrapped.failed ≡ true)) }
 {
     match writer.flush() {

@@ -1,6 +1,6 @@
 //! A reader or a writer that works in blocks, and remembers whether it has failed.
 
-ghost use Rattle.std.specs.Prelude.{◌≡◌, ◌≢◌, ◌≤◌, ◌++◌, [], true, false, length, OnOk, OnErr, IfOk, is_ok, if◌then◌else◌};
+ghost use Rattle.std.specs.Prelude.{◌≡◌, ◌≢◌, ◌≤◌, ◌++◌, [], true, false, length, OnOk, OnErr, IfOk, is_err, is_ok, if◌then◌else◌};
 ghost use Rattle.std.specs.Io.KnownBytes.{Appends, Consumes, IsAtEnd};
 ghost use Rattle.script.specs.Bytes.{Filled, Sent, SentFront, TakesLine};
 
@@ -55,8 +55,7 @@ impl<R: Read> Counted<R> {
         requires empty { self.old.block ≡ [] }
         requires unfailed { self.old.wrapped.failed ≡ false }
         ensures bytes { Filled (R.remaining self.old.wrapped.inner) (R.remaining self.new.wrapped.inner) self.new.block result }
-        ensures ok { OnOk result (self.new.wrapped.failed ≡ self.old.wrapped.failed) }
-        ensures err { OnErr result (self.new.wrapped.failed ≡ true) }
+        ensures failed { self.new.wrapped.failed ≡ is_err result }
     {
         let mut bytes = [0u8; 4096];
         match self.wrapped.read(&mut bytes) {
@@ -95,8 +94,7 @@ impl<W: Write> Counted<W> {
         requires { self.old.wrapped.failed ≡ false }
         ensures sent { Sent (W.contents self.old.wrapped.inner) (W.contents self.new.wrapped.inner) self.old.block self.new.block [] }
         ensures empty { OnOk result (self.new.block ≡ []) }
-        ensures ok { OnOk result (self.new.wrapped.failed ≡ self.old.wrapped.failed) }
-        ensures err { OnErr result (self.new.wrapped.failed ≡ true) }
+        ensures failed { self.new.wrapped.failed ≡ is_err result }
     {
         while !self.block.is_empty() {
             match self.wrapped.write(self.block.as_slice()) {
@@ -113,8 +111,7 @@ impl<W: Write> Counted<W> {
         requires unfailed { self.old.wrapped.failed ≡ false }
         ensures sent { Sent (W.contents self.old.wrapped.inner) (W.contents self.new.wrapped.inner) self.old.block self.new.block
             (if is_ok result then text.now else []) }
-        ensures ok { OnOk result (self.new.wrapped.failed ≡ self.old.wrapped.failed) }
-        ensures err { OnErr result (self.new.wrapped.failed ≡ true) }
+        ensures failed { self.new.wrapped.failed ≡ is_err result }
     {
         let Err(Full) = self.block.append(text) else {
             return Ok(());
@@ -132,11 +129,12 @@ impl<W: Write> Counted<W> {
     pub(crate) fn send(&mut self, text: &[u8]) -> Result<(), Failed>
         requires short { length text.now ≤ 4096 }
         requires unfailed { self.old.wrapped.failed ≡ false }
-        ensures sent { OnOk result (Sent (W.contents self.old.wrapped.inner) (W.contents self.new.wrapped.inner) self.old.block [] text.now) }
+        ensures sent { OnOk result (Sent (W.contents self.old.wrapped.inner) (W.contents self.new.wrapped.inner)
+            self.old.block [] text.now) }
         ensures empty { OnOk result (self.new.block ≡ []) }
-        ensures front { OnErr result (SentFront (W.contents self.old.wrapped.inner) (W.contents self.new.wrapped.inner) self.old.block text.now) }
-        ensures ok { OnOk result (self.new.wrapped.failed ≡ self.old.wrapped.failed) }
-        ensures err { OnErr result (self.new.wrapped.failed ≡ true) }
+        ensures front { OnErr result (SentFront (W.contents self.old.wrapped.inner) (W.contents self.new.wrapped.inner)
+            self.old.block text.now) }
+        ensures failed { self.new.wrapped.failed ≡ is_err result }
     {
         match self.put(text) {
             Ok(()) => self.flush(),

@@ -38,10 +38,10 @@ pub(crate) fn next_line<R: Read, W: Write>(
         (prepend_known reader.new.block (R.remaining reader.new.wrapped.inner)) line.new.items result }
     ensures sent { Sent (W.contents writer.old.wrapped.inner) (W.contents writer.new.wrapped.inner) writer.old.block writer.new.block [] }
     ensures answered { IsAnswered writer.new.block result }
-    ensures ok { OnOk result ((reader.new.wrapped.failed ≡ reader.old.wrapped.failed) × (writer.new.wrapped.failed ≡ writer.old.wrapped.failed)) }
-    ensures read { result ≡ Err RunError.Read → (reader.new.wrapped.failed ≡ true) × (writer.new.wrapped.failed ≡ writer.old.wrapped.failed) }
+    ensures ok { OnOk result ((reader.new.wrapped.failed ≡ false) × (writer.new.wrapped.failed ≡ false)) }
+    ensures read { result ≡ Err RunError.Read → (reader.new.wrapped.failed ≡ true) × (writer.new.wrapped.failed ≡ false) }
     ensures used_up { result ≡ Err RunError.Read → reader.new.block ≡ [] }
-    ensures write { result ≡ Err RunError.Write → (writer.new.wrapped.failed ≡ true) × (reader.new.wrapped.failed ≡ reader.old.wrapped.failed) }
+    ensures write { result ≡ Err RunError.Write → (reader.new.wrapped.failed ≡ false) × (writer.new.wrapped.failed ≡ true) }
     ensures no_other { OnErr result ((result ≡ Err RunError.Read) ⊎ (result ≡ Err RunError.Write)) }
 {
     line.clear();

@@ -162,7 +162,8 @@ fn send_report<W: Write>(
     end: Result<(), RunError>,
 ) -> Result<(), RunError>
     requires { (writer.old.wrapped.failed ≡ true) ↔ IsErrOf end RunError.Write }
-    ensures sent { Concludes (W.contents writer.old.wrapped.inner) (W.contents writer.new.wrapped.inner) writer.old.block writer.new.block text.now end result }
+    ensures sent { Concludes (W.contents writer.old.wrapped.inner) (W.contents writer.new.wrapped.inner)
+        writer.old.block writer.new.block text.now end result }
     ensures writer { (writer.new.wrapped.failed ≡ true) ↔ IsErrOf result RunError.Write }
     ensures same { (result ≡ end) ⊎ (result ≡ Err RunError.Write) }
 {

@@ -11,7 +11,8 @@ use std::test::Fail;
 fn lazy_unmaps_are_answered(rt: HostRuntime) -> Result<(), Fail> {
     let rows: [(&[u8], &[u8]); 4] = [
         (
-            b"domain lazy\nattach 3 1\nmap 1 0x100 1 0 rw\ndma 3 0x1234 r look fill\nunmap 1 0x1000 1\ndma 3 0x1234 r look\ndma 3 0x1234 r\nmap 1 0x200 1 0 rw\nflush 1\nmap 1 0x300 1 0 rw\n",
+            b"domain lazy\nattach 3 1\nmap 1 0x100 1 0 rw\ndma 3 0x1234 r look fill\nunmap 1 0x1000 1\n\
+                dma 3 0x1234 r look\ndma 3 0x1234 r\nmap 1 0x200 1 0 rw\nflush 1\nmap 1 0x300 1 0 rw\n",
             b"domain 1\nok\nmap 0x1000\nhost 0x100234\nunmapped 0\nhost 0x100234\nfault 6\nmap 0x2000\nflushed 1\nmap 0x1000\n",
         ),
         (
@@ -19,7 +20,8 @@ fn lazy_unmaps_are_answered(rt: HostRuntime) -> Result<(), Fail> {
             b"domain 1\nok\nmap 0x1000\nhost 0x100234\nunmapped 0\nok\nfault 6\n",
         ),
         (
-            b"domain lazy\nattach 3 1\nmap 1 0x100 1 0 rw\ndma 3 0x1234 r look fill\nunmap 1 0x1000 1\nflush 1\ndma 3 0x1234 r look\nflush 1\nunmap 1 0x1000 1\nflush 2\n",
+            b"domain lazy\nattach 3 1\nmap 1 0x100 1 0 rw\ndma 3 0x1234 r look fill\nunmap 1 0x1000 1\nflush 1\n\
+                dma 3 0x1234 r look\nflush 1\nunmap 1 0x1000 1\nflush 2\n",
             b"domain 1\nok\nmap 0x1000\nhost 0x100234\nunmapped 0\nflushed 1\nfault 6\nflushed 0\nrefused 10\nrefused 1\n",
         ),
         (b"domain strict\nflush 1\n", b"domain 1\nflushed 0\n"),
@@ -94,15 +96,18 @@ fn tables_are_held_by_records(rt: HostRuntime) -> Result<(), Fail> {
 fn domains_and_devices_go(rt: HostRuntime) -> Result<(), Fail> {
     let rows: [(&[u8], &[u8]); 3] = [
         (
-            b"domain strict\nattach 3 1\nmap 1 0x100 1 0 rw\ndma 3 0x1000 r look fill\ndrop 1\ndetach 3\ndma 3 0x1000 r look\ndrop 1\nmap 1 0x100 1 0 r\n",
+            b"domain strict\nattach 3 1\nmap 1 0x100 1 0 rw\ndma 3 0x1000 r look fill\ndrop 1\ndetach 3\n\
+                dma 3 0x1000 r look\ndrop 1\nmap 1 0x100 1 0 r\n",
             b"domain 1\nok\nmap 0x1000\nhost 0x100000\nrefused 3\nok\nfault 2\nok\nrefused 1\n",
         ),
         (
-            b"detach 16\ndetach 3\ndrop 1\ndomain lazy\nattach 3 1\nmap 1 0x100 1 0 rw\nunmap 1 0x1000 1\ndetach 3\ndrop 1\ndomain strict\nmap 1 0x100 1 0 rw\n",
+            b"detach 16\ndetach 3\ndrop 1\ndomain lazy\nattach 3 1\nmap 1 0x100 1 0 rw\nunmap 1 0x1000 1\n\
+                detach 3\ndrop 1\ndomain strict\nmap 1 0x100 1 0 rw\n",
             b"refused 2\nrefused 4\nrefused 1\ndomain 1\nok\nmap 0x1000\nunmapped 0\nok\nok\ndomain 1\nmap 0x1000\n",
         ),
         (
-            b"domain strict\ndomain strict\nattach 3 1\nmap 1 0x100 1 0 rw\ndma 3 0x1000 r look fill\ndetach 3\nattach 3 2\ndma 3 0x1000 r look\n",
+            b"domain strict\ndomain strict\nattach 3 1\nmap 1 0x100 1 0 rw\ndma 3 0x1000 r look fill\ndetach 3\n\
+                attach 3 2\ndma 3 0x1000 r look\n",
             b"domain 1\ndomain 2\nok\nmap 0x1000\nhost 0x100000\nok\nok\nfault 6\n",
         ),
     ];
@@ -123,8 +128,8 @@ fn segments_are_mapped(rt: HostRuntime) -> Result<(), Fail> {
     Ok(())
 }
 
-const SIXTEEN_SEGMENTS: &[u8] =
-    b"maplist 1 4 rw 0x10f:1 0x10e:1 0x10d:1 0x10c:1 0x10b:1 0x10a:1 0x109:1 0x108:1 0x107:1 0x106:1 0x105:1 0x104:1 0x103:1 0x102:1 0x101:1 0x100:1\n";
+const SIXTEEN_SEGMENTS: &[u8] = b"maplist 1 4 rw 0x10f:1 0x10e:1 0x10d:1 0x10c:1 0x10b:1 0x10a:1 \
+    0x109:1 0x108:1 0x107:1 0x106:1 0x105:1 0x104:1 0x103:1 0x102:1 0x101:1 0x100:1\n";
 
 // Lines of segments in a new domain, their answers, and how many table frames are free then.
 #[test]

@@ -35,13 +35,16 @@ const STRICT_UNMAP: &[u8] =
 const LARGE_LEAF: &[u8] = b"domain strict\nattach 3 1\nmap 1 0x400 512 9 rw\n";
 
 const SPLIT_LEAF: &[u8] =
-    b"domain strict\nattach 3 1\nmap 1 0x400 512 9 rw\ndma 3 0x201000 r look fill\nunmap 1 0x201000 1\ndma 3 0x201000 r look\ndma 3 0x202000 r look\n";
+    b"domain strict\nattach 3 1\nmap 1 0x400 512 9 rw\ndma 3 0x201000 r look fill\nunmap 1 0x201000 1\n\
+        dma 3 0x201000 r look\ndma 3 0x202000 r look\n";
 
 const BAD_RANGES: &[u8] =
-    b"domain strict\nmap 1 0xffffff 1 0 r\nmap 1 0xffffff 2 0 r\nmap 1 0x100 4097 0 r\nmap 1 0x100 0 0 r\nmap 1 0x3f 1 0 r\nunmap 1 0x0 1\nunmap 1 0x5000 1\n";
+    b"domain strict\nmap 1 0xffffff 1 0 r\nmap 1 0xffffff 2 0 r\nmap 1 0x100 4097 0 r\nmap 1 0x100 0 0 r\n\
+        map 1 0x3f 1 0 r\nunmap 1 0x0 1\nunmap 1 0x5000 1\n";
 
 const TWO_LEAVES_SPLIT: &[u8] =
-    b"domain strict\nattach 3 1\nmap 1 0x400 1024 9 rw\ndma 3 0x3ff000 r look fill\nunmap 1 0x3ff000 2\ndma 3 0x3ff000 r look\ndma 3 0x401000 w look\n";
+    b"domain strict\nattach 3 1\nmap 1 0x400 1024 9 rw\ndma 3 0x3ff000 r look fill\nunmap 1 0x3ff000 2\n\
+        dma 3 0x3ff000 r look\ndma 3 0x401000 w look\n";
 
 // What was mapped is gone when the unmap answers, from the caches too.
 #[test]
@@ -65,7 +68,8 @@ fn unmaps_are_answered(rt: HostRuntime) -> Result<(), Fail> {
             b"domain 1\nok\nmap 0x200000\nhost 0x5ff000\nunmapped 0\nfault 6\nhost 0x601000\n",
         ),
         (
-            b"domain strict\nmap 1 0x100 1 0 r\nevict leaf 0\nevict nonleaf 31\nevict context 18446744073709551615\nunmap 1 0x1000 1\nunmap 1 0x1000 1\nunmap 2 0x1000 1\n",
+            b"domain strict\nmap 1 0x100 1 0 r\nevict leaf 0\nevict nonleaf 31\n\
+                evict context 18446744073709551615\nunmap 1 0x1000 1\nunmap 1 0x1000 1\nunmap 2 0x1000 1\n",
             b"domain 1\nmap 0x1000\nok\nok\nok\nunmapped 0\nrefused 10\nrefused 1\n",
         ),
     ];
@@ -78,23 +82,29 @@ fn scripts_are_reported(rt: HostRuntime) -> Result<(), Fail> {
         (b"", EMPTY_REPORT),
         (
             STRICT_UNMAP,
-            b"events 6\nframes 61 free 3 used 0 retired\ntickets 0 open\nring 0 pending\ndomain 1 strict live 0 retired 0 pieces 2\ndevice 3 domain 1\n",
+            b"events 6\nframes 61 free 3 used 0 retired\ntickets 0 open\nring 0 pending\n\
+                domain 1 strict live 0 retired 0 pieces 2\ndevice 3 domain 1\n",
         ),
         (
             LARGE_LEAF,
-            b"events 3\nframes 62 free 2 used 0 retired\ntickets 0 open\nring 0 pending\ndomain 1 strict live 512 retired 0 pieces 4\ndevice 3 domain 1\n",
+            b"events 3\nframes 62 free 2 used 0 retired\ntickets 0 open\nring 0 pending\n\
+                domain 1 strict live 512 retired 0 pieces 4\ndevice 3 domain 1\n",
         ),
         (
             SPLIT_LEAF,
-            b"events 7\nframes 61 free 3 used 0 retired\ntickets 0 open\nring 0 pending\ndomain 1 strict live 511 retired 0 pieces 6\ndevice 3 domain 1\n",
+            b"events 7\nframes 61 free 3 used 0 retired\ntickets 0 open\nring 0 pending\n\
+                domain 1 strict live 511 retired 0 pieces 6\ndevice 3 domain 1\n",
         ),
         (
             TWO_LEAVES_SPLIT,
-            b"events 7\nframes 60 free 4 used 0 retired\ntickets 0 open\nring 0 pending\ndomain 1 strict live 1022 retired 0 pieces 6\ndevice 3 domain 1\n",
+            b"events 7\nframes 60 free 4 used 0 retired\ntickets 0 open\nring 0 pending\n\
+                domain 1 strict live 1022 retired 0 pieces 6\ndevice 3 domain 1\n",
         ),
         (
             b"domain strict\ndomain strict\nattach 15 2\nattach 0 1\nattach 16 1\ndma 9 0x1000 r\n",
-            b"events 6\nframes 62 free 2 used 0 retired\ntickets 0 open\nring 0 pending\ndomain 1 strict live 0 retired 0 pieces 2\ndomain 2 strict live 0 retired 0 pieces 2\ndevice 0 domain 1\ndevice 15 domain 2\n",
+            b"events 6\nframes 62 free 2 used 0 retired\ntickets 0 open\nring 0 pending\n\
+                domain 1 strict live 0 retired 0 pieces 2\ndomain 2 strict live 0 retired 0 pieces 2\n\
+                device 0 domain 1\ndevice 15 domain 2\n",
         ),
     ];
     for (script, wanted) in rows {
@@ -188,7 +198,9 @@ fn a_write_of_a_report_fails(rt: HostRuntime) -> Result<(), Fail> {
 }
 
 const FIFTEEN_DOMAINS: &[u8] =
-    b"domain 1\ndomain 2\ndomain 3\ndomain 4\ndomain 5\ndomain 6\ndomain 7\ndomain 8\ndomain 9\ndomain 10\ndomain 11\ndomain 12\ndomain 13\ndomain 14\ndomain 15\nrefused 12\nrefused 8\nmap 0x200000\nrefused 8\nunmapped 0\n";
+    b"domain 1\ndomain 2\ndomain 3\ndomain 4\ndomain 5\ndomain 6\ndomain 7\ndomain 8\ndomain 9\ndomain 10\n\
+        domain 11\ndomain 12\ndomain 13\ndomain 14\ndomain 15\nrefused 12\nrefused 8\nmap 0x200000\nrefused 8\n\
+        unmapped 0\n";
 
 // What a script is answered with 16 table frames.
 fn with_few_frames<T: Wait>(
