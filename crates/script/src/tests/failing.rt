@@ -128,7 +128,7 @@ fn a_read_fails_once(rt: HostRuntime) -> Result<(), Fail> {
         drop(writer);
         assert!(rt; !watch.late.get());
         assert_eq!(rt; input.calls, bad);
-        let read = FIRST_MAP.len() - input.rest.len();
+        let read = FIRST_MAP.len().saturating_sub(input.rest.len());
         let whole = FIRST_MAP
             .iter()
             .take(read)
