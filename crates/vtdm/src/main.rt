@@ -1,14 +1,8 @@
 //! `vtdm`: answers scripts of calls on a manager of DMA addresses.
 #![tactic(auto)]
 
-mod block;
-mod counted;
-mod error;
-mod lines;
 mod options;
 mod program;
-mod report;
-mod script;
 
 use std::alloc::AllocError;
 use std::env;

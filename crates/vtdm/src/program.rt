@@ -1,11 +1,8 @@
 //! The whole program, over its words.
 
-use crate::counted::Counted;
-use crate::error::RunError;
 use crate::options::{Options, Task, command, config_of, task_of};
-use crate::report::report;
-use crate::script::run;
 use clap::error::ErrorKind;
+use script::{Counted, RunError, report, run};
 use std::alloc::Global;
 use std::io;
 use std::io::{Read, Write};

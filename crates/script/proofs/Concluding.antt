@@ -1,0 +1,174 @@
+-- The report at the end of a script.
+use Rattle.std.proofs.Common.{◌≡◌, ◌≢◌, ℕ, List, [], ◌∷◌, ◌++◌, length, Option, Some, None, Result, Ok, Err, refl, sym, ap, ◌∙◌, ◌⊎◌, inl}
+use Rattle.std.proofs.Common.{inr, append_assoc}
+use Rattle.std.proofs.lemmas.List.{append-nil}
+use Rattle.dmatypes.specs.declared.call.Call.{Call}
+use Rattle.manager.specs.Kept.{Account}
+use Rattle.manager.specs.Report.{report_text}
+use Rattle.script.specs.Bytes.{Sent, SentFront}
+use Rattle.script.specs.Reported.{OutputKnown, Concludes, IsOf, Reported, ReportedKnown, Went, WentKnown, replies_of, report_of}
+use Rattle.script.specs.Run.{Answers, IsAllSent, RanPartly, RanToBadLine, RanToEnd, RanToFailedRead, ScriptSays, Size, WroteAll, WroteFront}
+use Rattle.script.specs.declared.error.RunError.{RunError}
+use Rattle.script.specs.declared.error.RunError.TheVariants as errors
+use Rattle.script.specs.declared.running.Output.{Output}
+use Rattle.script.specs.declared.running.Output.TheVariants as outputs
+use Rattle.script.proofs.Going.{no_memory, run_known}
+use Rattle.script.specs.declared.answering.Replies.{Replies}
+use Rattle.script.specs.declared.answering.Replies.TheVariants.{Silent, Written}
+
+-- ---- whole lines at the beginning of the script
+
+-- more bytes follow
+script_more : (bytes : List ℕ) (calls : List Call) (rest more : List ℕ) → ScriptSays bytes calls rest
+    → ScriptSays (bytes ++ more) calls (rest ++ more)
+script_more bytes [] rest more e = ap (λ (b : List ℕ). b ++ more) e
+script_more bytes (call ∷ calls) rest more s =
+    (s.0, s.1 ++ more, ap (λ (b : List ℕ). b ++ more) s.2 ∙ append_assoc s.0 (10 ∷ s.1) more, s.3, script_more s.1 calls rest more s.4)
+
+partly_end : (size : Size) (input left written : List ℕ) → RanToEnd size input left written → RanPartly size input written
+partly_end size input left written r = record { calls = r.calls; rest = []; script = r.script; answers = r.answers }
+
+partly_bad : (size : Size) (input left written : List ℕ) (k : ℕ) → RanToBadLine size input left written k → RanPartly size input written
+partly_bad size input left written k r = record { calls = r.calls; rest = r.rest; script = r.script; answers = r.answers }
+
+partly_read : (size : Size) (input left written : List ℕ) → RanToFailedRead size input left written → RanPartly size input written
+partly_read size input left written r = record {
+  calls = r.calls;
+  rest = r.rest ++ left;
+  script = rw r.parts (script_more r.taken r.calls r.rest left r.script);
+  answers = r.answers;
+}
+
+-- ---- what is written
+
+-- the report of the answers is that of the history and the state that they come from
+report_is : (account : Account) (size : Size) (calls : List Call) (written : List ℕ) (a : Answers size calls written)
+    → IsOf account size calls written a → report_of size calls written a ≡ report_text (length account.history) account.state
+report_is account size calls written a is = rw (is.history, is.state) refl
+
+-- all of it is, behind what was pending
+all_written : (before pending after after' block text : List ℕ) → WroteAll before pending after [] → block ≡ []
+    → Sent (Some after) (Some after') block [] text → WroteAll before pending after' text
+all_written before pending after after' block text wrote empty s =
+    let front : s.0 ≡ text = sym (append-nil s.0) ∙ s.2 ∙ ap (λ (b : List ℕ). b ++ text) empty in
+    s.1 ∙ ap (λ (a : List ℕ). a ++ s.0) wrote ∙ ap (λ (f : List ℕ). (before ++ (pending ++ [])) ++ f) front
+    ∙ ap (λ (p : List ℕ). (before ++ p) ++ text) (append-nil pending) ∙ append_assoc before pending text
+
+-- a front of it is
+front_written : (before pending after after' block text : List ℕ) → WroteAll before pending after [] → block ≡ []
+    → SentFront (Some after) (Some after') block text → WroteFront before pending after' text
+front_written before pending after after' block text wrote empty s = (
+  pending ++ s.0,
+  s.1,
+  s.2 ∙ ap (λ (a : List ℕ). a ++ s.0) wrote ∙ ap (λ (p : List ℕ). (before ++ p) ++ s.0) (append-nil pending)
+      ∙ append_assoc before pending s.0,
+  append_assoc pending s.0 s.1 ∙ ap (λ (f : List ℕ). pending ++ f) (s.3 ∙ ap (λ (b : List ℕ). b ++ text) empty),
+)
+
+-- nothing of it is
+none_written : (before pending after text : List ℕ) → WroteFront before pending after [] → WroteFront before pending after text
+none_written before pending after text w =
+    (w.0, w.1 ++ text, w.2, sym (append_assoc w.0 w.1 text) ∙ ap (λ (f : List ℕ). f ++ text) (w.3 ∙ append-nil pending))
+
+-- ---- the end
+
+-- the report, or the failure to write it
+ends_so : (U : Type 0) (size : Size) (input left before pending after after' block rest written text : List ℕ)
+    (end result : Result U RunError) (partly : RanPartly size input written) → report_of size partly.calls written partly.answers ≡ text
+    → WroteAll before pending after [] → block ≡ []
+    → (WroteAll before pending after' text → Reported size input left before pending after' written end)
+    → (((result ≡ end) × (rest ≡ []) × Sent (Some after) (Some after') block [] text)
+    ⊎ ((result ≡ Err errors.Write) × SentFront (Some after) (Some after') block text))
+    → Reported size input left before pending after' written result
+ends_so U size input left before pending after after' block rest written text end result partly is wrote empty told (inl h) =
+    rw h.0 (told (all_written before pending after after' block text wrote empty h.2))
+ends_so U size input left before pending after after' block rest written text end result partly is wrote empty told (inr h) =
+    rw h.0 (partly, rw is (front_written before pending after after' block text wrote empty h.1))
+
+concluded : (U : Type 0) (size : Size) (input left before pending after after' block rest written : List ℕ) (account : Account)
+    (end result : Result U RunError) → Went Silent size input left before pending after written account end → IsAllSent block end
+    → end ≢ Err errors.NoMemory → Concludes (Some after) (Some after') block rest (report_text (length account.history) account.state)
+    end result → Reported size input left before pending after' written result
+unfolding partly_end partly_bad partly_read
+concluded U size input left before pending after after' block rest written account (Ok u) result w empty made c =
+    let is = report_is account size w.1.0.calls written w.1.0.answers w.1.1 in
+    ends_so U size input left before pending after after' block rest written (report_text (length account.history) account.state) (Ok u)
+    result (partly_end size input left written w.1.0) is w.0 empty (λ all. (w.1.0, rw is all)) c
+concluded U size input left before pending after after' block rest written account (Err (errors.BadLine k)) result w empty made c =
+    let is = report_is account size w.1.0.calls written w.1.0.answers w.1.1 in
+    ends_so U size input left before pending after after' block rest written (report_text (length account.history) account.state)
+    (Err (errors.BadLine k)) result (partly_bad size input left written k w.1.0) is w.0 empty (λ all. (w.1.0, rw is all)) c
+concluded U size input left before pending after after' block rest written account (Err errors.Read) result w empty made c =
+    let is = report_is account size w.1.0.calls written w.1.0.answers w.1.1 in
+    ends_so U size input left before pending after after' block rest written (report_text (length account.history) account.state)
+    (Err errors.Read) result (partly_read size input left written w.1.0) is w.0 empty (λ all. (w.1.0, rw is all)) c
+concluded U size input left before pending after after' block rest written account (Err errors.Write) result w empty made c = rw c.0
+    (w.1, rw (same after' after c.1) (none_written before pending after _ w.0)) where
+      same : (a b : List ℕ) → Some a ≡ Some b → a ≡ b
+      same a b e = cc
+concluded U size input left before pending after after' block rest written account (Err errors.NoMemory) result w empty made c = absurd
+    (made refl)
+
+-- the writer doesn't lose what it holds
+still_known : (U : Type 0) (after : List ℕ) (block rest text : List ℕ) (end result : Result U RunError)
+    → Concludes (Some after) None block rest text end result → ⊥
+still_known U after block rest text (Ok u) result (inl h) = h.2.1
+still_known U after block rest text (Ok u) result (inr h) = h.1.2
+still_known U after block rest text (Err (errors.BadLine k)) result (inl h) = h.2.1
+still_known U after block rest text (Err (errors.BadLine k)) result (inr h) = h.1.2
+still_known U after block rest text (Err errors.Read) result (inl h) = h.2.1
+still_known U after block rest text (Err errors.Read) result (inr h) = h.1.2
+still_known U after block rest text (Err errors.NoMemory) result (inl h) = h.2.1
+still_known U after block rest text (Err errors.NoMemory) result (inr h) = h.1.2
+still_known U after block rest text (Err errors.Write) result h = none_some after h.1 where
+  none_some : (a : List ℕ) → None ≡ Some a → ⊥
+  none_some a e = cc
+
+pub report_known : (U : Type 0) (size : Size) (old left before : Option (List ℕ)) (pending : List ℕ) (after after' : Option (List ℕ))
+    (block rest : List ℕ) (account : Account) (end result : Result U RunError)
+    → WentKnown Silent size old left before pending after account end → IsAllSent block end
+    → end ≢ Err errors.NoMemory → Concludes after after' block rest (report_text (length account.history) account.state) end result
+    → ReportedKnown size old left before pending after' result
+report_known U size None left before pending after after' block rest account end result w empty made c = tt
+report_known U size (Some input) None before pending after after' block rest account end result w empty made c = absurd w
+report_known U size (Some input) (Some left) None pending after after' block rest account end result w empty made c = tt
+report_known U size (Some input) (Some left) (Some before) pending None after' block rest account end result w empty made c = absurd w
+report_known U size (Some input) (Some left) (Some before) pending (Some after) None block rest account end result w empty made c =
+    absurd (still_known U after block rest _ end result c)
+report_known U size (Some input) (Some left) (Some before) pending (Some after) (Some after') block rest account end result w empty made c =
+    (w.0, concluded U size input left before pending after after' block rest w.0 account end result w.1 empty made c)
+
+-- nothing was read and nothing written
+pub nothing_done : (U : Type 0) (size : Size) (old before : Option (List ℕ)) (pending : List ℕ)
+    → ReportedKnown {U = U} size old old before pending before (Err errors.NoMemory)
+nothing_done U size None before pending = tt
+nothing_done U size (Some input) None pending = tt
+nothing_done U size (Some input) (Some from) pending = ([], (refl, refl))
+
+pub nothing_written : (U : Type 0) (output : Output) (size : Size) (old before : Option (List ℕ)) (pending : List ℕ)
+    → OutputKnown {U = U} output size old old before pending before (Err errors.NoMemory)
+nothing_written U outputs.Answers size old before pending = no_memory U size old before pending
+nothing_written U (outputs.Report text) size old before pending = nothing_done U size old before pending
+
+pub answers_known : (U : Type 0) (output : Output) (replies : Replies) (size : Size) (old left before : Option (List ℕ))
+    (pending : List ℕ) (after : Option (List ℕ)) (account : Account) (result : Result U RunError) → output ≡ outputs.Answers
+    → replies ≡ replies_of output
+    → WentKnown replies size old left before pending after account result → OutputKnown output size old left before pending after result
+answers_known U outputs.Answers Written size old left before pending after account result is so w = run_known U size old left before
+    pending after account result w
+answers_known U outputs.Answers Silent size old left before pending after account result is so w = absurd cc
+answers_known U (outputs.Report text) replies size old left before pending after account result is so w = absurd cc
+
+pub report_is_known : (U : Type 0) (output : Output) (replies : Replies) (text : List ℕ) (size : Size)
+    (old left before : Option (List ℕ)) (pending : List ℕ) (after after' : Option (List ℕ)) (block rest : List ℕ) (account : Account)
+    (end result : Result U RunError) → output ≡ outputs.Report text → replies ≡ replies_of output
+    → WentKnown replies size old left before pending after account end → IsAllSent block end → end ≢ Err errors.NoMemory
+    → Concludes after after' block rest (report_text (length account.history) account.state) end result
+    → OutputKnown output size old left before pending after' result
+report_is_known U outputs.Answers replies text size old left before pending after after' block rest account end result is so w empty made
+    c = absurd cc
+report_is_known U (outputs.Report text') Written text size old left before pending after after' block rest account end result is so w
+    empty made c = absurd cc
+report_is_known U (outputs.Report text') Silent text size old left before pending after after' block rest account end result is so w
+    empty made c =
+    report_known U size old left before pending after after' block rest account end result w empty made c

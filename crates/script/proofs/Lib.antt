@@ -1,0 +1,5 @@
+pub mod Known
+pub mod Scripts
+pub mod Entering
+pub mod Going
+pub mod Concluding

@@ -1,0 +1,74 @@
+use Rattle.std.proofs.Common.{◌++◌, ◌∷◌, [], List, ℕ, Err, refl, sym, ap, subst, ◌∙◌}
+use Rattle.dmatypes.specs.Grammar.{says}
+use Rattle.script.specs.Bytes.{Sent}
+use Rattle.script.specs.Run.{LineSays}
+use Rattle.script.proofs.Known.{sent_more}
+use Rattle.script.proofs.Going.{begins, ends, fails, fails_writing, goes_on, stopped, stops_cut, stops_long, stops_unsaid}
+use Rattle.script.proofs.answering.answer_lines.Goals as goal
+
+pub loop-init : goal.loop-init
+loop-init g c = record {
+  going = begins _ _ _ _ _ c.args.book.now c.keeps.ensures c.requires.none;
+  reader = c.requires.reader;
+  writer = c.requires.writer;
+}
+
+pub returns-in-Ok-Nothing-clause-told : goal.returns-in-Ok-Nothing-clause-told
+returns-in-Ok-Nothing-clause-told g c =
+    let h = rw c.in-Ok-Nothing.field-0-is at c.in-Ok-Nothing.ensures.bytes in
+    let empty = rw c.in-Ok-Nothing.field-0-is at c.in-Ok-Nothing.ensures.answered in
+    ends _ _ _ _ _ _ _ _ _ _ c.loop.book c.loop.number tt c.loop.invariant.going h.0 h.1
+    (subst (λ (b : List ℕ). Sent (g.W.Write.contents c.loop.writer.wrapped.inner)
+    (g.W.Write.contents c.next_line.new.writer.wrapped.inner) c.loop.writer.block b []) empty c.in-Ok-Nothing.ensures.sent)
+
+pub returns-in-Ok-Cut-clause-told : goal.returns-in-Ok-Cut-clause-told
+returns-in-Ok-Cut-clause-told g c =
+    let h = rw c.in-Ok-Cut.field-0-is at c.in-Ok-Cut.ensures.bytes in
+    let empty = rw c.in-Ok-Cut.field-0-is at c.in-Ok-Cut.ensures.answered in
+    stops_cut _ _ _ _ _ _ _ _ _ _ _ c.loop.book c.loop.number c.next_line.new.line.items c.loop.invariant.going h.0 h.1
+    c.in-Ok-Cut.ensures.few h.2 h.3
+    (subst (λ (b : List ℕ). Sent (g.W.Write.contents c.loop.writer.wrapped.inner)
+    (g.W.Write.contents c.next_line.new.writer.wrapped.inner) c.loop.writer.block b []) empty c.in-Ok-Cut.ensures.sent)
+
+pub returns-in-Ok-Long-clause-told : goal.returns-in-Ok-Long-clause-told
+returns-in-Ok-Long-clause-told g c =
+    let h = rw c.in-Ok-Long.field-0-is at c.in-Ok-Long.ensures.bytes in
+    stopped _ _ _ _ _ _ _ _ _ _ _ _ _ _ c.loop.book c.loop.number (c.next_line.new.line.items ++ h.0 ∷ []) c.stop_at.result _ _
+    c.loop.invariant.going h.1 c.in-Ok-Long.ensures.sent c.stop_at.ensures.sent c.stop_at.ensures.stopped
+    (λ sent. stops_long _ _ _ _ _ _ _ _ _ _ _ c.loop.book c.loop.number c.next_line.new.line.items h.0 c.loop.invariant.going h.1 h.2 h.3
+    sent)
+
+pub returns-in-Err-clause-told : goal.returns-in-Err-clause-told
+returns-in-Err-clause-told g c =
+    fails _ _ _ _ _ _ _ _ _ _ _ _ _ c.loop.book c.loop.number c.next_line.new.line.items c.in-Err.error (Err c.in-Err.error)
+    c.loop.invariant.going c.in-Err.ensures.bytes.0 c.in-Err.ensures.bytes.1 c.in-Err.ensures.few c.in-Err.ensures.sent
+    c.in-Err.ensures.answered refl c.in-Err.ensures.no_other
+
+pub returns-in_default-clause-told : goal.returns-in_default-clause-told
+returns-in_default-clause-told g c =
+    let h = rw c.in-Ok-Newline.field-0-is at c.in-Ok-Newline.ensures.bytes in
+    let unsaid = ap says (sym c.as_slice.ensures.value) ∙ sym c.parse_line.ensures ∙ c.in_default.is in
+    stopped _ _ _ _ _ _ _ _ _ _ _ _ _ _ c.loop.book c.loop.number (c.next_line.new.line.items ++ 10 ∷ []) c.stop_at-in_default.result _ _
+    c.loop.invariant.going h.0 c.in-Ok-Newline.ensures.sent c.stop_at-in_default.ensures.sent c.stop_at-in_default.ensures.stopped
+    (λ sent. stops_unsaid _ _ _ _ _ _ _ _ _ _ _ c.loop.book c.loop.number c.next_line.new.line.items c.loop.invariant.going h.0 h.1
+    c.in-Ok-Newline.ensures.few unsaid sent)
+
+pub returns-in-Err-put-clause-told : goal.returns-in-Err-put-clause-told
+returns-in-Err-put-clause-told g c =
+    let h = rw c.in-Ok-Newline.field-0-is at c.in-Ok-Newline.ensures.bytes in
+    fails_writing _ _ _ _ _ _ _ _ _ _ _ _ c.loop.book _ c.loop.number (c.next_line.new.line.items ++ 10 ∷ []) c.loop.invariant.going h.0
+    (sent_more _ _ _ _ _ _ [] [] c.in-Ok-Newline.ensures.sent c.in-Err-put.ensures.sent)
+
+pub loop-preserved : goal.loop-preserved
+loop-preserved g c =
+    let h = rw c.in-Ok-Newline.field-0-is at c.in-Ok-Newline.ensures.bytes in
+    let said : LineSays c.next_line.new.line.items c.in-Some-parse_line.call = record
+    { whole = h.1; said = ap says (sym c.as_slice.ensures.value) ∙ sym c.parse_line.ensures ∙ c.in-Some-parse_line.is } in
+    let put = rw c.shown.ensures.shown at c.in-Ok.ensures.sent in
+    record {
+      going = rw c.saturating_add-number.ensures (goes_on _ _ _ _ _ _ _ _ _ _ _ _ _ c.loop.book c.answer.new.book c.loop.number
+          c.next_line.new.line.items c.in-Some-parse_line.call c.answer.new.text.bytes c.loop.invariant.going h.0 said
+          c.in-Ok-Newline.ensures.sent c.answer.ensures.kept c.answer.ensures.one put);
+      reader = c.in-Ok-Newline.ensures.ok.0;
+      writer = c.in-Ok.ensures.failed;
+    }

@@ -1,0 +1,38 @@
+use Rattle.std.proofs.Common.{◌≡◌, ℕ, ◌<◌, List, [], ◌∷◌, ◌++◌, get_or, length, arith, length-append, refl, sym, ap, subst, ◌∙◌}
+use Rattle.std.proofs.Math.Seq.{get_or-append_seam}
+use Rattle.script.proofs.Concluding.{answers_known, nothing_written, report_is_known}
+use Rattle.script.proofs.running.work_through.Goals as goal
+
+-- what all have, the last one has
+last_has : {A : Type 0} (P : A → Type 0) (xs ys : List A) (y : A) → xs ≡ ys ++ y ∷ []
+    → ((k : ℕ) (d : A) → k < length xs → P (get_or xs k d)) → P y
+last_has P xs ys y e all =
+    let inside : length ys < length xs = omega (arith, ap length e, length-append ys (y ∷ [])) in
+    subst P (ap (λ l. get_or l (length ys) y) e ∙ get_or-append_seam ys y [] y) (all (length ys) y inside)
+
+none_in : {A : Type 0} (xs : List A) → length xs ≡ 0 → xs ≡ []
+none_in [] e = refl
+none_in (x ∷ xs) e = absurd (omega (arith, e))
+
+pub answer_lines-end-requires-clause-none : goal.answer_lines-end-requires-clause-none
+answer_lines-end-requires-clause-none g c =
+    let zero : c.in-Some.mine.calls ≡ 0 = last_has (λ s. s.calls ≡ 0) c.in-Ok.field-0.shares.items c.pop.new.self.items c.in-Some.mine
+    c.in-Some.ensures.items c.in-Ok.ensures.none in
+    let one : g.B.Owner.shares ≡ 1 = sym c.requires.shares ∙ c.requires.one in
+    rw c.audit.ensures.same (none_in _ (c.audit.ensures.alone one ∙ zero))
+
+pub returns-in_default-clause-told : goal.returns-in_default-clause-told
+returns-in_default-clause-told g c = nothing_written _ c.args.output _ _ _ _
+
+pub returns-in-Answers-clause-told : goal.returns-in-Answers-clause-told
+returns-in-Answers-clause-told g c =
+    rw (c.requires.frames, c.requires.room) (answers_known _ c.args.output c.replies_for.result _ _ _ _ _ _ c.answer_lines-end.new.book
+    c.answer_lines-end.result c.in-Answers.is c.replies_for.ensures c.answer_lines-end.ensures.told)
+
+pub returns-clause-told : goal.returns-clause-told
+returns-clause-told g c =
+    rw (c.requires.frames, c.requires.room) (report_is_known _ c.args.output c.replies_for.result _ _ _ _ _ _ _ _
+    c.answer_lines-end.new.writer.block c.send_report.new.writer.block c.answer_lines-end.new.book
+    c.answer_lines-end.result c.send_report.result c.in-Report.is c.replies_for.ensures c.answer_lines-end.ensures.told
+    c.answer_lines-end.ensures.all_sent (λ e. c.answer_lines-end.ensures.memory (rw e refl))
+    (rw c.write_report.ensures at c.send_report.ensures.sent))

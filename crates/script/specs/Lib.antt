@@ -1,0 +1,4 @@
+pub mod Judged
+pub mod Bytes
+pub mod Run
+pub mod Reported

@@ -1,0 +1,144 @@
+//! A reader or a writer that works in blocks, and remembers whether it has failed.
+
+ghost use Rattle.std.specs.Prelude.{◌≡◌, ◌≢◌, ◌≤◌, ◌++◌, [], true, false, length, OnOk, OnErr, IfOk, is_err, is_ok, if◌then◌else◌};
+ghost use Rattle.std.specs.Io.KnownBytes.{Appends, Consumes, IsAtEnd};
+ghost use Rattle.script.specs.Bytes.{Filled, Sent, SentFront, TakesLine};
+
+use crate::block::{Block, Full};
+use crate::wrapped::{Failed, Wrapped};
+use arrayvec::ArrayVec;
+use std::io::{Read, Write};
+
+/// Wraps a reader or a writer, with a block of the bytes that were read and not yet used, or that are
+/// still to be written, and tells whether a call of the wrapped one has failed.
+#[derive(Drop)]
+pub struct Counted<T> {
+    wrapped: Wrapped<T>,
+    block: Block,
+}
+
+/// How far a line was found in a block.
+#[derive(Clone, Copy, Debug, PartialEq, Eq)]
+pub(crate) enum Taken {
+    /// To its newline.
+    Newline,
+    /// To the block's end.
+    More,
+    /// Past 512 bytes.
+    Long,
+}
+
+impl<T> Counted<T> {
+    /// Wraps a reader or a writer.
+    pub fn new(inner: T) -> Counted<T>
+        ensures inner { result.wrapped.inner ≡ inner }
+        ensures block { result.block ≡ [] }
+        ensures failed { result.wrapped.failed ≡ false }
+    {
+        Counted {
+            wrapped: Wrapped::new(inner),
+            block: Block::new(),
+        }
+    }
+
+    /// Whether a call of the wrapped one has failed: true from the first failing call on.
+    pub fn failed(&self) -> bool
+        ensures { result ≡ self.now.wrapped.failed }
+    {
+        self.wrapped.failed()
+    }
+}
+
+impl<R: Read> Counted<R> {
+    /// Reads the next block, where the last one is used up; `false` at the end.
+    pub(crate) fn fill(&mut self) -> Result<bool, Failed>
+        requires empty { self.old.block ≡ [] }
+        requires unfailed { self.old.wrapped.failed ≡ false }
+        ensures bytes { Filled (R.remaining self.old.wrapped.inner) (R.remaining self.new.wrapped.inner) self.new.block result }
+        ensures failed { self.new.wrapped.failed ≡ is_err result }
+    {
+        let mut bytes = [0u8; 4096];
+        match self.wrapped.read(&mut bytes) {
+            Ok(0) => Ok(false),
+            Ok(count) => {
+                self.block.refill(&bytes[..count]);
+                Ok(true)
+            }
+            Err(failed) => Err(failed),
+        }
+    }
+
+    /// Moves bytes of the block to the line's end, up to a newline, which is left out.
+    pub(crate) fn take_line(&mut self, line: &mut ArrayVec<u8, 512>) -> Taken
+        requires { length line.old.items ≤ 512 }
+        ensures few { length line.new.items ≤ 512 }
+        ensures bytes { TakesLine self.old.block self.new.block line.old.items line.new.items result }
+        ensures wrapped { self.new.wrapped ≡ self.old.wrapped }
+    {
+        while let Some(byte) = self.block.take() {
+            if byte == b'\n' {
+                return Taken::Newline;
+            }
+            if line.is_full() {
+                return Taken::Long;
+            }
+            line.push(byte);
+        }
+        Taken::More
+    }
+}
+
+impl<W: Write> Counted<W> {
+    /// Writes what is still to be written. Where a write fails, or takes nothing, a front of it is written.
+    pub(crate) fn flush(&mut self) -> Result<(), Failed>
+        requires { self.old.wrapped.failed ≡ false }
+        ensures sent { Sent (W.contents self.old.wrapped.inner) (W.contents self.new.wrapped.inner) self.old.block self.new.block [] }
+        ensures empty { OnOk result (self.new.block ≡ []) }
+        ensures failed { self.new.wrapped.failed ≡ is_err result }
+    {
+        while !self.block.is_empty() {
+            match self.wrapped.write(self.block.as_slice()) {
+                Ok(count) => self.block.advance(count),
+                Err(failed) => return Err(failed),
+            }
+        }
+        Ok(())
+    }
+
+    /// Puts a text behind what is still to be written, which is written first where there is no room.
+    pub(crate) fn put(&mut self, text: &[u8]) -> Result<(), Failed>
+        requires short { length text.now ≤ 4096 }
+        requires unfailed { self.old.wrapped.failed ≡ false }
+        ensures sent { Sent (W.contents self.old.wrapped.inner) (W.contents self.new.wrapped.inner) self.old.block self.new.block
+            (if is_ok result then text.now else []) }
+        ensures failed { self.new.wrapped.failed ≡ is_err result }
+    {
+        let Err(Full) = self.block.append(text) else {
+            return Ok(());
+        };
+        match self.flush() {
+            Ok(()) => {}
+            Err(failed) => return Err(failed),
+        }
+        self.block.refill(text);
+        Ok(())
+    }
+
+    /// Writes what is still to be written, and a text behind it. Where a write fails, or takes nothing, a front of these
+    /// is written.
+    pub(crate) fn send(&mut self, text: &[u8]) -> Result<(), Failed>
+        requires short { length text.now ≤ 4096 }
+        requires unfailed { self.old.wrapped.failed ≡ false }
+        ensures sent { OnOk result (Sent (W.contents self.old.wrapped.inner) (W.contents self.new.wrapped.inner)
+            self.old.block [] text.now) }
+        ensures empty { OnOk result (self.new.block ≡ []) }
+        ensures front { OnErr result (SentFront (W.contents self.old.wrapped.inner) (W.contents self.new.wrapped.inner)
+            self.old.block text.now) }
+        ensures failed { self.new.wrapped.failed ≡ is_err result }
+    {
+        match self.put(text) {
+            Ok(()) => self.flush(),
+            Err(failed) => Err(failed),
+        }
+    }
+}

@@ -1,0 +1,65 @@
+//! Lines out of a reader.
+
+ghost use Rattle.std.specs.Prelude.{◌≡◌, ◌≢◌, ◌≤◌, ◌⊎◌, [], true, false, length, Err, OnOk, OnErr};
+ghost use Rattle.std.specs.Io.KnownBytes.{prepend_known};
+ghost use Rattle.script.specs.Bytes.{IsAnswered, ReadLine, Sent};
+
+use crate::counted::{Counted, Taken};
+use crate::error::RunError;
+use crate::wrapped::Failed;
+use arrayvec::ArrayVec;
+use std::io::{Read, Write};
+
+/// How a line ended.
+#[derive(Clone, Copy, Debug, PartialEq, Eq)]
+pub(crate) enum LineEnd {
+    /// At a newline.
+    Newline,
+    /// Nothing was left to read.
+    Nothing,
+    /// The bytes ended before a newline.
+    Cut,
+    /// It is longer than 512 bytes.
+    Long,
+}
+
+/// Reads the bytes of the next line, its newline left out. Of a line that is too long 513 bytes are taken.
+/// What is still to be written is written before each read, so that whoever feeds the reader has all
+/// answers to the lines that it was given.
+pub(crate) fn next_line<R: Read, W: Write>(
+    reader: &mut Counted<R>,
+    writer: &mut Counted<W>,
+    line: &mut ArrayVec<u8, 512>,
+) -> Result<LineEnd, RunError>
+    requires reader { reader.old.wrapped.failed ≡ false }
+    requires writer { writer.old.wrapped.failed ≡ false }
+    ensures few { length line.new.items ≤ 512 }
+    ensures bytes { ReadLine (prepend_known reader.old.block (R.remaining reader.old.wrapped.inner))
+        (prepend_known reader.new.block (R.remaining reader.new.wrapped.inner)) line.new.items result }
+    ensures sent { Sent (W.contents writer.old.wrapped.inner) (W.contents writer.new.wrapped.inner) writer.old.block writer.new.block [] }
+    ensures answered { IsAnswered writer.new.block result }
+    ensures ok { OnOk result ((reader.new.wrapped.failed ≡ false) × (writer.new.wrapped.failed ≡ false)) }
+    ensures read { result ≡ Err RunError.Read → (reader.new.wrapped.failed ≡ true) × (writer.new.wrapped.failed ≡ false) }
+    ensures used_up { result ≡ Err RunError.Read → reader.new.block ≡ [] }
+    ensures write { result ≡ Err RunError.Write → (reader.new.wrapped.failed ≡ false) × (writer.new.wrapped.failed ≡ true) }
+    ensures no_other { OnErr result ((result ≡ Err RunError.Read) ⊎ (result ≡ Err RunError.Write)) }
+{
+    line.clear();
+    'reading: loop {
+        match reader.take_line(line) {
+            Taken::Newline => return Ok(LineEnd::Newline),
+            Taken::Long => return Ok(LineEnd::Long),
+            Taken::More => {}
+        }
+        match writer.flush() {
+            Ok(()) => {}
+            Err(Failed) => return Err(RunError::Write),
+        }
+        match reader.fill() {
+            Ok(true) => {}
+            Ok(false) if line.is_empty() => return Ok(LineEnd::Nothing),
+            Ok(false) => return Ok(LineEnd::Cut),
+            Err(Failed) => return Err(RunError::Read),
+        }
+    }
+}

@@ -1,0 +1,177 @@
+//! A script on a manager of its own: a run, or a report.
+
+ghost use Rattle.std.specs.Prelude.{◌≡◌, ◌↔◌, ◌≤◌, ◌⊎◌, [], Err, true, false, length, IsErrOf};
+ghost use Rattle.std.specs.Io.KnownBytes.{prepend_known};
+ghost use Rattle.manager.specs.Kept.{Names};
+ghost use Rattle.script.specs.Reported.{Concludes, OutputKnown, ReaderEnds, ReportedKnown, replies_of};
+ghost use Rattle.script.specs.Run.{IsAllSent, RanKnown};
+
+use crate::answering::{Replies, answer_lines};
+use crate::counted::Counted;
+use crate::error::RunError;
+use crate::wrapped::Failed;
+use manager::{Config, Made, Manager, Owner, Report, Seed};
+use std::alloc::Global;
+use std::io::{Read, Write};
+use std::marker::Brand;
+use std::sync::Wait;
+
+/// What is written for a script.
+#[derive(Drop)]
+pub(crate) enum Output {
+    /// A line for each of its lines.
+    Answers,
+    /// At its end the report of what the manager holds.
+    Report(Report),
+}
+
+/// Reads a script to its first bad line, and writes one line for each line, on a manager of its own. All
+/// answers to the lines that were read are written before the next read.
+///
+/// A bad line ends the work, as does a failed read: the lines before it are answered. Of a bad line at most 513 bytes
+/// are taken, and what follows is left for the next call, in the reader or in its block. After a failed write a beginning
+/// of the answers is written. With no memory for the manager nothing is read or written.
+pub fn run<T: Wait, R: Read, W: Write>(
+    rt: &T,
+    alloc: Global,
+    reader: &mut Counted<R>,
+    writer: &mut Counted<W>,
+    config: Config,
+) -> Result<(), RunError>
+    requires one { config.shares ≡ 1 }
+    requires reader { reader.old.wrapped.failed ≡ false }
+    requires writer { writer.old.wrapped.failed ≡ false }
+    ensures told { RanKnown (record { frames = config.frames; room = config.calls })
+        (prepend_known reader.old.block (R.remaining reader.old.wrapped.inner))
+        (prepend_known reader.new.block (R.remaining reader.new.wrapped.inner))
+        (W.contents writer.old.wrapped.inner) writer.old.block (W.contents writer.new.wrapped.inner) result }
+    ensures reader { (reader.new.wrapped.failed ≡ true) ↔ IsErrOf result RunError.Read }
+    ensures writer { (writer.new.wrapped.failed ≡ true) ↔ IsErrOf result RunError.Write }
+    ensures used_up { IsErrOf result RunError.Read → reader.new.block ≡ [] }
+    ensures all_sent { IsAllSent writer.new.block result }
+    ensures no_memory { IsErrOf result RunError.NoMemory → (reader.new ≡ reader.old) × (writer.new ≡ writer.old) }
+{
+    let Ok(seed) = Seed::new(alloc, config) else {
+        return Err(RunError::NoMemory);
+    };
+    work_through::<Brand, T, R, W>(rt, alloc, reader, writer, seed, Output::Answers)
+}
+
+/// Reads a script to its first bad line as `run` does, on a manager of its own, and writes no answers, but at the end the
+/// report of what the manager then holds.
+///
+/// After a bad line or a failed read the report of the lines before it is written. All memory is taken before anything
+/// is read or written. After a failed write a beginning of the report is written, and that failure is answered in the
+/// place of any other.
+pub fn report<T: Wait, R: Read, W: Write>(
+    rt: &T,
+    alloc: Global,
+    reader: &mut Counted<R>,
+    writer: &mut Counted<W>,
+    config: Config,
+) -> Result<(), RunError>
+    requires one { config.shares ≡ 1 }
+    requires reader { reader.old.wrapped.failed ≡ false }
+    requires writer { writer.old.wrapped.failed ≡ false }
+    ensures told { ReportedKnown (record { frames = config.frames; room = config.calls })
+        (prepend_known reader.old.block (R.remaining reader.old.wrapped.inner))
+        (prepend_known reader.new.block (R.remaining reader.new.wrapped.inner))
+        (W.contents writer.old.wrapped.inner) writer.old.block (W.contents writer.new.wrapped.inner) result }
+    ensures read { IsErrOf result RunError.Read → reader.new.wrapped.failed ≡ true }
+    ensures reader { reader.new.wrapped.failed ≡ true → IsErrOf result RunError.Read ⊎ IsErrOf result RunError.Write }
+    ensures writer { (writer.new.wrapped.failed ≡ true) ↔ IsErrOf result RunError.Write }
+    ensures used_up { IsErrOf result RunError.Read → reader.new.block ≡ [] }
+    ensures all_sent { IsAllSent writer.new.block result }
+    ensures no_memory { IsErrOf result RunError.NoMemory → (reader.new ≡ reader.old) × (writer.new ≡ writer.old) }
+{
+    let Ok(text) = Report::new(alloc) else {
+        return Err(RunError::NoMemory);
+    };
+    let Ok(seed) = Seed::new(alloc, config) else {
+        return Err(RunError::NoMemory);
+    };
+    work_through::<Brand, T, R, W>(rt, alloc, reader, writer, seed, Output::Report(text))
+}
+
+// Makes the manager of a seed, over an owner that names it, works through the script, and writes what is to be written.
+fn work_through<B: Owner, T: Wait, R: Read, W: Write>(
+    rt: &T,
+    alloc: Global,
+    reader: &mut Counted<R>,
+    writer: &mut Counted<W>,
+    seed: Seed,
+    output: Output,
+) -> Result<(), RunError>
+    requires name { seed.name ≡ B.name }
+    requires parts { seed.shares ≡ B.parts }
+    requires shares { seed.shares ≡ B.shares }
+    requires room { seed.room ≡ B.room }
+    requires frames { seed.frames ≡ B.frames }
+    requires one { seed.shares ≡ 1 }
+    requires reader { reader.old.wrapped.failed ≡ false }
+    requires writer { writer.old.wrapped.failed ≡ false }
+    ensures told { OutputKnown output (record { frames = seed.frames; room = seed.room })
+        (prepend_known reader.old.block (R.remaining reader.old.wrapped.inner))
+        (prepend_known reader.new.block (R.remaining reader.new.wrapped.inner))
+        (W.contents writer.old.wrapped.inner) writer.old.block (W.contents writer.new.wrapped.inner) result }
+    ensures reader { ReaderEnds output reader.new.wrapped.failed result }
+    ensures writer { (writer.new.wrapped.failed ≡ true) ↔ IsErrOf result RunError.Write }
+    ensures used_up { IsErrOf result RunError.Read → reader.new.block ≡ [] }
+    ensures all_sent { IsAllSent writer.new.block result }
+    ensures no_memory { IsErrOf result RunError.NoMemory → (reader.new ≡ reader.old) × (writer.new ≡ writer.old) }
+{
+    let Ok(
+        Made {
+            manager,
+            mut shares,
+        },
+    ) = Manager::<B>::new(alloc, seed)
+    else {
+        return Err(RunError::NoMemory);
+    };
+    let Some(mut mine) = shares.pop() else {
+        unreachable!()
+    };
+    let mut guard = manager.lock(rt);
+    let book = &mut *guard;
+    book.audit(&mut mine);
+    let end = answer_lines(rt, book, &mut mine, reader, writer, replies_for(&output));
+    match output {
+        Output::Answers => end,
+        Output::Report(mut text) => {
+            book.write_report(&mut text);
+            send_report(writer, &text, end)
+        }
+    }
+}
+
+// The answers are written, or the report in their place.
+fn replies_for(output: &Output) -> Replies
+    ensures { result ≡ replies_of output.now }
+{
+    match output {
+        Output::Answers => Replies::Written,
+        Output::Report(_) => Replies::Silent,
+    }
+}
+
+// Writes a report at the end of a script. Nothing follows a write that failed.
+fn send_report<W: Write>(
+    writer: &mut Counted<W>,
+    text: &Report,
+    end: Result<(), RunError>,
+) -> Result<(), RunError>
+    requires { (writer.old.wrapped.failed ≡ true) ↔ IsErrOf end RunError.Write }
+    ensures sent { Concludes (W.contents writer.old.wrapped.inner) (W.contents writer.new.wrapped.inner)
+        writer.old.block writer.new.block text.now end result }
+    ensures writer { (writer.new.wrapped.failed ≡ true) ↔ IsErrOf result RunError.Write }
+    ensures same { (result ≡ end) ⊎ (result ≡ Err RunError.Write) }
+{
+    if let Err(RunError::Write) = end {
+        return end;
+    }
+    match writer.send(text.text().as_bytes()) {
+        Ok(()) => end,
+        Err(Failed) => Err(RunError::Write),
+    }
+}

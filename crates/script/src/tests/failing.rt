@@ -1,0 +1,273 @@
+//! Readers and writers that fail once and then work, that work by part, and answers of more than a block.
+
+ghost use Rattle.std.specs.Prelude.{Some};
+
+use super::{FIRST_MAP, answers, config};
+use crate::counted::Counted;
+use crate::error::RunError;
+use crate::running::{report, run};
+use std::cell::Cell;
+use std::io;
+use std::io::{Read, Write};
+use std::test::Fail;
+
+const FIRST_ANSWERS: &[u8] = b"domain 1\nok\nmap 0x1000\nhost 0x100234\n";
+
+// How a call goes wrong.
+#[derive(Clone, Copy, Debug, PartialEq, Eq)]
+enum Hitch {
+    Failure,
+    Nothing,
+}
+
+// Whether a call went wrong, and whether another followed it.
+#[derive(Drop)]
+struct Watch {
+    failed: Cell<bool>,
+    late: Cell<bool>,
+}
+
+impl Watch {
+    fn new() -> Watch {
+        Watch {
+            failed: Cell::new(false),
+            late: Cell::new(false),
+        }
+    }
+
+    fn note(&self, failed: bool) {
+        if self.failed.get() {
+            self.late.set(true);
+        }
+        if failed {
+            self.failed.set(true);
+        }
+    }
+}
+
+// Gives its bytes three at a time, but fails at the call of this number, from 1, in a way that std would try again.
+#[derive(Drop)]
+struct Input<'a> {
+    rest: &'a [u8],
+    bad: u64,
+    calls: u64,
+    watch: &'a Watch,
+}
+
+impl Read for Input<'_> {
+    ghost remaining = { λ f. Some f.rest.now };
+
+    fn read(&mut self, buf: &mut [u8]) -> io::Result<usize> {
+        self.calls = self.calls.saturating_add(1);
+        let fails = self.calls == self.bad;
+        self.watch.note(fails);
+        if fails {
+            return Err(io::Error::from(io::ErrorKind::Interrupted));
+        }
+        if buf.len() < 3 {
+            return self.rest.read(buf);
+        }
+        self.rest.read(&mut buf[..3])
+    }
+}
+
+// Takes three bytes at a time, but goes wrong at the call of this number, from 1.
+#[derive(Drop)]
+struct Output<'a> {
+    held: Vec<u8>,
+    bad: u64,
+    hitch: Hitch,
+    calls: u64,
+    watch: &'a Watch,
+}
+
+impl Write for Output<'_> {
+    ghost contents = { λ f. Some f.held.items };
+
+    fn write(&mut self, buf: &[u8]) -> io::Result<usize> {
+        self.calls = self.calls.saturating_add(1);
+        let fails = self.calls == self.bad;
+        self.watch.note(fails);
+        if fails {
+            return match self.hitch {
+                Hitch::Failure => Err(io::Error::from(io::ErrorKind::Interrupted)),
+                Hitch::Nothing => Ok(0),
+            };
+        }
+        if buf.len() < 3 {
+            return self.held.write(buf);
+        }
+        self.held.write(&buf[..3])
+    }
+
+    fn flush(&mut self) -> io::Result<()> {
+        Ok(())
+    }
+}
+
+// All whole lines that were read are answered, and nothing is read after the failed read.
+#[test]
+fn a_read_fails_once(rt: HostRuntime) -> Result<(), Fail> {
+    for bad in 1..25u64 {
+        let watch = Watch::new();
+        let mut input = Input {
+            rest: FIRST_MAP,
+            bad,
+            calls: 0,
+            watch: &watch,
+        };
+        let mut written = Vec::new(rt.alloc());
+        let mut reader = Counted::new(&mut input);
+        let mut writer = Counted::new(&mut written);
+        let config = config(9).ok_or("within the limits")?;
+        let result = run(&rt, rt.alloc(), &mut reader, &mut writer, config);
+        assert_eq!(rt; result, Err(RunError::Read));
+        assert!(rt; reader.failed());
+        assert!(rt; !writer.failed());
+        drop(reader);
+        drop(writer);
+        assert!(rt; !watch.late.get());
+        assert_eq!(rt; input.calls, bad);
+        let read = FIRST_MAP.len().saturating_sub(input.rest.len());
+        let whole = FIRST_MAP
+            .iter()
+            .take(read)
+            .filter(|byte| **byte == b'\n')
+            .count();
+        let answered = written.iter().filter(|byte| **byte == b'\n').count();
+        assert_eq!(rt; answered, whole);
+        assert!(rt; FIRST_ANSWERS.starts_with(written.as_slice()));
+    }
+    Ok(())
+}
+
+// What was taken before the write that goes wrong is a beginning of the answers, and nothing is read or written after it.
+#[test]
+fn a_write_goes_wrong_once(rt: HostRuntime) -> Result<(), Fail> {
+    for hitch in [Hitch::Failure, Hitch::Nothing] {
+        for bad in 1..14u64 {
+            let watch = Watch::new();
+            let mut input = Input {
+                rest: FIRST_MAP,
+                bad: 0,
+                calls: 0,
+                watch: &watch,
+            };
+            let mut output = Output {
+                held: Vec::new(rt.alloc()),
+                bad,
+                hitch,
+                calls: 0,
+                watch: &watch,
+            };
+            let mut reader = Counted::new(&mut input);
+            let mut writer = Counted::new(&mut output);
+            let config = config(9).ok_or("within the limits")?;
+            let result = run(&rt, rt.alloc(), &mut reader, &mut writer, config);
+            assert_eq!(rt; result, Err(RunError::Write));
+            assert!(rt; !reader.failed());
+            assert!(rt; writer.failed());
+            drop(reader);
+            drop(writer);
+            assert!(rt; !watch.late.get());
+            assert_eq!(rt; output.calls, bad);
+            assert!(rt; FIRST_ANSWERS.starts_with(output.held.as_slice()));
+        }
+    }
+    Ok(())
+}
+
+// A report is written after a read that failed once; a write of it that goes wrong once is the last.
+#[test]
+fn a_report_fails_once(rt: HostRuntime) -> Result<(), Fail> {
+    for (bad_read, bad_write, wanted) in [
+        (0, 0, Ok(())),
+        (5, 0, Err(RunError::Read)),
+        (0, 1, Err(RunError::Write)),
+        (0, 7, Err(RunError::Write)),
+        (5, 2, Err(RunError::Write)),
+    ] {
+        let watch = Watch::new();
+        let other = Watch::new();
+        let mut input = Input {
+            rest: FIRST_MAP,
+            bad: bad_read,
+            calls: 0,
+            watch: &other,
+        };
+        let mut output = Output {
+            held: Vec::new(rt.alloc()),
+            bad: bad_write,
+            hitch: Hitch::Failure,
+            calls: 0,
+            watch: &watch,
+        };
+        let mut reader = Counted::new(&mut input);
+        let mut writer = Counted::new(&mut output);
+        let config = config(9).ok_or("within the limits")?;
+        let result = report(&rt, rt.alloc(), &mut reader, &mut writer, config);
+        assert_eq!(rt; result, wanted);
+        assert_eq!(rt; reader.failed(), bad_read != 0);
+        assert_eq!(rt; writer.failed(), bad_write != 0);
+        drop(reader);
+        drop(writer);
+        assert!(rt; !watch.late.get());
+        assert!(rt; !other.late.get());
+        assert_eq!(rt; output.held.as_slice().ends_with(b"\n"), bad_write == 0);
+    }
+    Ok(())
+}
+
+// A writer that takes three bytes at a time gets all of them.
+#[test]
+fn writes_take_a_part(rt: HostRuntime) -> Result<(), Fail> {
+    let watch = Watch::new();
+    let mut output = Output {
+        held: Vec::new(rt.alloc()),
+        bad: 0,
+        hitch: Hitch::Failure,
+        calls: 0,
+        watch: &watch,
+    };
+    let mut reader = Counted::new(FIRST_MAP);
+    let mut writer = Counted::new(&mut output);
+    let config = config(9).ok_or("within the limits")?;
+    let result = run(&rt, rt.alloc(), &mut reader, &mut writer, config);
+    assert_eq!(rt; result, Ok(()));
+    drop(writer);
+    assert_eq!(rt; output.held.as_slice(), FIRST_ANSWERS);
+    Ok(())
+}
+
+// A block of lines whose answers are longer than a block.
+#[test]
+fn answers_are_longer_than_a_block(rt: HostRuntime) -> Result<(), Fail> {
+    let mut script = Vec::new(rt.alloc());
+    let mut wanted = Vec::new(rt.alloc());
+    for _ in 0..600u64 {
+        script.extend_from_slice(b"flush 1\n".as_slice())?;
+        wanted.extend_from_slice(b"refused 1\n".as_slice())?;
+    }
+    let (result, written) = answers(&rt, rt.alloc(), script.as_slice(), 65536)?;
+    assert_eq!(rt; result, Ok(()));
+    assert_eq!(rt; written.as_slice(), wanted.as_slice());
+    Ok(())
+}
+
+// What follows a bad line is left, for a run that goes on with it.
+#[test]
+fn lines_behind_a_bad_one_are_left(rt: HostRuntime) -> Result<(), Fail> {
+    let script: &[u8] = b"domain strict\nno line\ndomain lazy\nattach 3 1\n";
+    let mut written = Vec::new(rt.alloc());
+    let mut reader = Counted::new(script);
+    let mut writer = Counted::new(&mut written);
+    let first = config(9).ok_or("within the limits")?;
+    let second = config(9).ok_or("within the limits")?;
+    let result = run(&rt, rt.alloc(), &mut reader, &mut writer, first);
+    assert_eq!(rt; result, Err(RunError::BadLine(2)));
+    let result = run(&rt, rt.alloc(), &mut reader, &mut writer, second);
+    assert_eq!(rt; result, Ok(()));
+    drop(writer);
+    assert_eq!(rt; written.as_slice(), b"domain 1\ndomain 1\nok\n".as_slice());
+    Ok(())
+}

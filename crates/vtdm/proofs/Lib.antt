@@ -1,5 +1,0 @@
-pub mod Known
-pub mod Scripts
-pub mod Answering
-pub mod Going
-pub mod Concluding

@@ -1,9 +1,0 @@
-use Rattle.std.proofs.Common.{[]}
-use Rattle.vtdm.proofs.Known.{sent_front}
-use Rattle.vtdm.proofs.counted.Counted.flush.Goals as goal
-
-pub loop-self-preserved : goal.loop-self-preserved
-loop-self-preserved g c = record {
-  sent = rw c.advance.ensures (sent_front _ _ _ _ c.loop-self.self.block [] c.in-Ok.count c.loop-self.invariant.sent (rw c.as_slice.ensures at c.in-Ok.ensures.bytes));
-  same = c.loop-self.invariant.same;
-}
