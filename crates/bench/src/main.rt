@@ -9,6 +9,7 @@ mod mapping;
 mod options;
 mod program;
 mod request;
+mod scripting;
 mod subject;
 mod taking;
 mod timing;

@@ -4,6 +4,7 @@ use crate::crowding::Crowded;
 use crate::managing::{Way, time_manager};
 use crate::mapping::{Deferred, Listing, Mapping, Shape, Splitting};
 use crate::request::Request;
+use crate::scripting::{Lines, time_script};
 use crate::taking::Taking;
 use crate::timing::{Tenths, time};
 use crate::trouble::Trouble;
@@ -34,11 +35,12 @@ enum Kind {
     // Whether the unit may look in its caches.
     Request(bool),
     Manage(Way),
+    Script(Lines),
 }
 
 /// All that is measured, in the table's order. The maps begin at frames behind the table frames; leaves of 2 MiB
 /// come where the frame is a multiple of 512.
-pub(crate) const SUBJECTS: [Subject; 18] = [
+pub(crate) const SUBJECTS: [Subject; 21] = [
     Subject {
         name: "map and unmap 1 page",
         kind: Kind::Map(Shape {
@@ -136,6 +138,18 @@ pub(crate) const SUBJECTS: [Subject; 18] = [
         name: "map and unmap 1 page, a lock each call",
         kind: Kind::Manage(Way::Locking),
     },
+    Subject {
+        name: "a script's line: dma by the caches",
+        kind: Kind::Script(Lines::Requests),
+    },
+    Subject {
+        name: "a script's line: strict map, unmap",
+        kind: Kind::Script(Lines::StrictPairs),
+    },
+    Subject {
+        name: "a script's line: lazy, 4 pairs a flush",
+        kind: Kind::Script(Lines::LazyPairs),
+    },
 ];
 
 impl Subject {
@@ -156,6 +170,7 @@ impl Subject {
             Kind::Walk => time(clock, rounds, &mut Walking::new(alloc)?),
             Kind::Request(look) => time(clock, rounds, &mut Request::new(alloc, look)?),
             Kind::Manage(way) => time_manager(clock, alloc, rounds, way),
+            Kind::Script(lines) => time_script(clock, alloc, rounds, lines),
         }
     }
 }

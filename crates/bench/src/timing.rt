@@ -44,8 +44,8 @@ pub(crate) fn time<C: Clock, W: Work>(
     Ok(each(spent, rounds))
 }
 
-// What each of so many equal parts takes.
-fn each(spent: Duration, parts: NonZeroU32) -> Tenths
+/// What each of so many equal parts takes.
+pub(crate) fn each(spent: Duration, parts: NonZeroU32) -> Tenths
     ensures { result.0 ≡ 10 * as_nanos spent / non_zero_u32_get parts }
 {
     Tenths(10 * spent.as_nanos() / u128::from(parts.get()))
