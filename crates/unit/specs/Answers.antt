@@ -52,6 +52,10 @@ IsStatedByCached cached look x page t =
     IsTrue look × ((l : Leaf) × IsIn l cached × (l.domain ≡ x.domain) × IsTrue (hold l.first l.pages page)
     × (t ≡ Some (stated_by page l)))
 
+-- a leaf of the domain is remembered that states this of the page
+abbrev pub IsRememberedIn : List Leaf → ℕ → ℕ → Target → Type 0
+IsRememberedIn leaves domain page t = (l : Leaf) × IsIn l leaves × (l.domain ≡ domain) × IsTrue (hold l.first l.pages page) × (t ≡ stated_by page l)
+
 -- a walk that begins there gives the translation of a page; the leaf that it met and the tables that it passed
 -- may be remembered
 pub record IsWalked (m : Memory) (x : Context) (look fill : Bool) (page : ℕ) (leaves leaves' : List Leaf) (tables tables' : List NonLeaf) (t : Option Target) (level table : ℕ) : Type 0 where

@@ -1,4 +1,4 @@
-use Rattle.std.proofs.Common.{◌≡◌, ℕ, ◌+◌, Bool, true, List, [], ◌∷◌, refl, sym, ap, ◌∙◌, not, filter, arith}
+use Rattle.std.proofs.Common.{◌≡◌, ℕ, ◌+◌, true, List, [], ◌∷◌, refl, sym, ap, ◌∙◌, filter, arith}
 use Rattle.vtdbits.specs.declared.descriptor.Descriptor.{Descriptor}
 use Rattle.vtdbits.specs.declared.descriptor.Descriptor.TheVariants.{Wait}
 use Rattle.unit.specs.Caches.{UnitState, unit_state, Caches, caches}
