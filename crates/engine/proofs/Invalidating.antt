@@ -8,8 +8,8 @@ use Rattle.tables.specs.Taken.{Taken}
 use Rattle.unit.specs.Caches.{UnitState, unit_state}
 use Rattle.unit.specs.Filters.{after_first, done_after, left_by, left_by_first, status_after}
 use Rattle.vtdbits.specs.declared.descriptor.Descriptor.{Descriptor}
-use Rattle.vtdbits.specs.declared.descriptor.Descriptor.TheVariants.{ContextDevice, ContextDomain, ContextGlobal, IotlbDomain, IotlbGlobal, IotlbPages, Wait}
-use Rattle.engine.specs.Ending.{Invalidates, IsSent, left_by_all, taken_after}
+use Rattle.vtdbits.specs.declared.descriptor.Descriptor.TheVariants.{Wait}
+use Rattle.engine.specs.Ending.{Invalidates, IsSent, left_by_all}
 use Rattle.engine.specs.Ready.{Covers, IsDone}
 
 -- both wait, or the wait alone, or both are done; this is what was taken before them

@@ -1,6 +1,6 @@
-use Rattle.std.proofs.Common.{◌≡◌, ℕ, suc, ◌+◌, ◌-◌, ◌*◌, ◌/◌, ◌≤◌, Bool, sym, ap, ◌∙◌, arith}
+use Rattle.std.proofs.Common.{◌≡◌, suc, ◌+◌, ◌-◌, ◌/◌, ◌≤◌, ap, ◌∙◌, arith}
 use Rattle.std.proofs.Math.Nat.{div-le_self}
-use Rattle.tables.specs.Tree.{Memory, span, total}
+use Rattle.tables.specs.Tree.{span, total}
 use Rattle.tables.specs.Lacks.{lacks}
 use Rattle.tables.proofs.Sums.{level_lacks, level_few, lacks_levels}
 use Rattle.tables.proofs.Total.{total-zero, total-suc}

@@ -1,4 +1,4 @@
-use Rattle.std.proofs.Common.{ℕ, ◌+◌, ◌-◌, ◌*◌, ◌^◌, ◌≤◌, Bool}
+use Rattle.std.proofs.Common.{ℕ, ◌-◌, ◌*◌, ◌^◌, ◌≤◌, Bool}
 use Rattle.tables.specs.Tree.{Memory, total}
 use Rattle.tables.proofs.Sums.{level_lacks}
 use Rattle.tables.proofs.mapping.most_lacking.Given as goal

@@ -1,5 +1,3 @@
-use Rattle.std.proofs.Common.{ℕ, ◌≤◌}
-use Rattle.tables.specs.Tree.{Memory}
 use Rattle.tables.proofs.Sums.{splits_few}
 use Rattle.tables.proofs.unmapping.spans_met.Goals as goal
 
