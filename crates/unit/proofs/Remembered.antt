@@ -1,6 +1,14 @@
 -- What a list that remembers an entry has.
 use Rattle.std.proofs.Common.{◌≡◌, ℕ, ◌⊎◌, ◌||◌, inl, inr, sym, Bool, true, false, if◌then◌else◌, List, [], ◌∷◌, ◌++◌, length, drop, nat_lt, IsTrue, subst, refl}
 use Rattle.std.specs.List.{list_any}
+use Rattle.std.specs.Prelude.{IfOk, IfSome, Option, Result, Ok, Err}
+use Rattle.dmatypes.specs.Page.{page_of}
+use Rattle.dmatypes.specs.World.{Target}
+use Rattle.dmatypes.specs.declared.call.Access.{Access}
+use Rattle.dmatypes.specs.declared.refusal.Fault.{Fault}
+use Rattle.unit.specs.Answers.{IsRemembered, IsRememberedIn, Tells}
+use Rattle.unit.specs.Caches.{Caches, Context}
+use Rattle.unit.specs.declared.hit.Hit.{Hit}
 use Rattle.dmatypes.specs.World.{IsIn}
 use Rattle.unit.specs.Lists.{with_entry, Gains}
 
@@ -79,3 +87,9 @@ remembered_in {A} same most x xs law = by_there (list_any (λ y. same y x) xs) (
     by_there true room is = any_in same x xs law is
     by_there false true is = in_last x xs
     by_there false false is = in_last x (drop 1 xs)
+
+-- what a request was told is remembered, as what it was read off is
+pub told_remembered : (to : Option Target) (address : ℕ) (access : Access) (result : Result Hit Fault) (caches : Caches) (x : Context) (device : ℕ) → Tells to address access result
+    → IsIn x caches.contexts → x.device ≡ device → IfSome to (IsRememberedIn caches.leaves x.domain (page_of address)) → IfOk result (IsRemembered caches device address)
+told_remembered to address access (Ok hit) caches x device (y, is, permits, host, told) there same served = (x, there, same, subst (IsRememberedIn caches.leaves x.domain (page_of address)) told (rw is at served))
+told_remembered to address access (Err fault) caches x device tells there same served = tt

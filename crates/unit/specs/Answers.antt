@@ -70,6 +70,11 @@ IsRead m x look fill page leaves leaves' tables tables' t =
     (IsStatedByCached leaves look x page t × (leaves' ≡ leaves) × (tables' ≡ tables))
     ⊎ ((level : ℕ) × (table : ℕ) × IsWalked m x look fill page leaves leaves' tables tables' t level table)
 
+-- a context of the device is remembered, and a leaf of its domain that states the answer to a request at the address
+abbrev pub IsRemembered : Caches → ℕ → ℕ → Hit → Type 0
+IsRemembered c device address hit =
+    (x : Context) × IsIn x c.contexts × (x.device ≡ device) × IsRememberedIn c.leaves x.domain (page_of address) (target hit.frame (bits_of hit.rights))
+
 -- ---- the answer
 
 -- the host address where there is a translation with the right, else the fault
