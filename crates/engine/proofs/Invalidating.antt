@@ -8,8 +8,8 @@ use Rattle.tables.specs.Taken.{Taken}
 use Rattle.unit.specs.Caches.{UnitState, unit_state}
 use Rattle.unit.specs.Filters.{after_first, done_after, left_by, left_by_first, status_after}
 use Rattle.vtdbits.specs.declared.descriptor.Descriptor.{Descriptor}
-use Rattle.vtdbits.specs.declared.descriptor.Descriptor.TheVariants.{ContextDevice, ContextDomain, ContextGlobal, IotlbDomain, IotlbGlobal, IotlbPages, Wait}
-use Rattle.engine.specs.Ending.{Invalidates, IsSent, left_by_all, taken_after}
+use Rattle.vtdbits.specs.declared.descriptor.Descriptor.TheVariants.{Wait}
+use Rattle.engine.specs.Ending.{Invalidates, IsSent, left_by_all}
 use Rattle.engine.specs.Ready.{Covers, IsDone}
 
 -- both wait, or the wait alone, or both are done; this is what was taken before them
@@ -34,13 +34,13 @@ unfolding left_by_all
 next_stage d n taken old ring ring' unit unit' quiet (inl both) later r u =
     let now : ring' ≡ queue (Wait n ∷ []) (status_after d ring.status) (d ∷ taken) = stepped ring ring' (d ∷ Wait n ∷ []) taken both.0 r in
     let then : unit' ≡ unit_state (left_by d old.caches) (old.steps + 1) (old.done + 1) =
-      did unit unit' ring.waiting (d ∷ Wait n ∷ []) (ap (λ (q : Queue). q.waiting) both.0) u ∙ ap (λ (x : UnitState). unit_state (left_by d x.caches) (x.steps + 1) (x.done + 1)) both.2 in
+    did unit unit' ring.waiting (d ∷ Wait n ∷ []) (ap (λ (q : Queue). q.waiting) both.0) u ∙ ap (λ (x : UnitState). unit_state (left_by d x.caches) (x.steps + 1) (x.done + 1)) both.2 in
     let status = ap (λ (q : Queue). q.status) now in
     inr (inl (now ∙ ap (λ (k : ℕ). queue (Wait n ∷ []) k (d ∷ taken)) (sym status), omega (arith, status, quiet ring.status, both.1), then))
 next_stage d n taken old ring ring' unit unit' quiet (inr (inl one)) later r u =
     let now : ring' ≡ queue [] n (Wait n ∷ d ∷ taken) = stepped ring ring' (Wait n ∷ []) (d ∷ taken) one.0 r in
     let then : unit' ≡ unit_state (left_by (Wait n) (left_by d old.caches)) (old.steps + 1 + 1) (old.done + 1 + 1) =
-      did unit unit' ring.waiting (Wait n ∷ []) (ap (λ (q : Queue). q.waiting) one.0) u ∙ ap (λ (x : UnitState). unit_state (left_by (Wait n) x.caches) (x.steps + 1) (x.done + 1)) one.2 in
+    did unit unit' ring.waiting (Wait n ∷ []) (ap (λ (q : Queue). q.waiting) one.0) u ∙ ap (λ (x : UnitState). unit_state (left_by (Wait n) x.caches) (x.steps + 1) (x.done + 1)) one.2 in
     let steps : old.steps + 1 + 1 ≡ old.steps + 2 = omega arith in
     let done : old.done + 1 + 1 ≡ old.done + 2 = omega arith in
     inr (inr (now, then ∙ ap₂ (unit_state (left_by_all (d ∷ Wait n ∷ []) old.caches)) steps done))

@@ -150,7 +150,8 @@ impl Tree {
         let from = range.first();
         let to = from + range.pages();
         let free = pool.free_count();
-        if free < spans_met(from, to) && free < leaves_splitting(pool, LEVELS, self.root, from, to)
+        if free < spans_met(from, to)
+            && free < leaves_splitting(pool, LEVELS, self.root, from, to)
         {
             return Err(NoFrames);
         }

@@ -1,9 +1,11 @@
 -- What a page's translation was read off.
-use Rattle.std.proofs.Common.{◌≡◌, ℕ, ◌+◌, ◌-◌, ◌%◌, ◌⊎◌, inl, inr, Bool, IsTrue, List, Option, Some, None, refl, sym, ap, subst, ◌∙◌, arith}
+use Rattle.std.proofs.Common.{◌≡◌, ℕ, ◌+◌, ◌-◌, ◌%◌, ◌⊎◌, inl, inr, Bool, IsTrue, List, Option, Some, None, refl, sym, ap, subst, ◌∙◌, arith, ◌<◌, mod-lt}
 use Rattle.std.proofs.Math.Nat.{mod-le}
 use Rattle.std.proofs.lemmas.Option.{same_Some}
 use Rattle.dmatypes.specs.World.{IsIn, Target}
 use Rattle.vtdbits.specs.Translation.{target}
+use Rattle.std.proofs.lemmas.Bool.Decides.{nat_tests}
+use Rattle.tables.proofs.Near.{span_pos}
 use Rattle.tables.specs.Tree.{Memory, Found, span, leaf_from, stated, states}
 use Rattle.unit.specs.Caches.{Leaf, NonLeaf, Context}
 use Rattle.unit.specs.Lists.{Gains}
@@ -22,6 +24,18 @@ met_some d p None l e = absurd (cc)
 met_some d p (Some x) l e =
     let same : l ≡ met_leaf d p x = same_Some l (met_leaf d p x) e in
     ap (λ (k : Leaf). Some (stated_by p k)) same ∙ ap (λ (n : ℕ). Some (target (x.frame + n) x.rights)) (behind p (span x.size))
+
+-- the leaf that a walk met is of the domain and holds the page
+pub met_domain : (d p : ℕ) (r : Option Found) (l : Leaf) → Some l ≡ met d p r → l.domain ≡ d
+met_domain d p None l e = absurd (cc)
+met_domain d p (Some x) l e = ap (λ (k : Leaf). k.domain) (same_Some l (met_leaf d p x) e)
+
+pub met_holds : (d p : ℕ) (r : Option Found) (l : Leaf) → Some l ≡ met d p r → IsTrue (hold l.first l.pages p)
+met_holds d p None l e = absurd (cc)
+met_holds d p (Some x) l e =
+    let within : p % span x.size < span x.size = mod-lt p (span_pos x.size) in
+    let low = mod-le p (span x.size) in
+    subst (λ (k : Leaf). IsTrue (hold k.first k.pages p)) (sym (same_Some l (met_leaf d p x) e)) (grind (arith, nat_tests))
 
 met_gain : {A : Type 0} {fill : Bool} (met : Option Leaf) (l y : Leaf) → Some l ≡ met → A ⊎ (IsTrue fill × (y ≡ l)) → A ⊎ (IsTrue fill × (met ≡ Some y))
 met_gain met l y is (inl h) = inl h

@@ -52,6 +52,10 @@ IsStatedByCached cached look x page t =
     IsTrue look × ((l : Leaf) × IsIn l cached × (l.domain ≡ x.domain) × IsTrue (hold l.first l.pages page)
     × (t ≡ Some (stated_by page l)))
 
+-- a leaf of the domain is remembered that states this of the page
+abbrev pub IsRememberedIn : List Leaf → ℕ → ℕ → Target → Type 0
+IsRememberedIn leaves domain page t = (l : Leaf) × IsIn l leaves × (l.domain ≡ domain) × IsTrue (hold l.first l.pages page) × (t ≡ stated_by page l)
+
 -- a walk that begins there gives the translation of a page; the leaf that it met and the tables that it passed
 -- may be remembered
 pub record IsWalked (m : Memory) (x : Context) (look fill : Bool) (page : ℕ) (leaves leaves' : List Leaf) (tables tables' : List NonLeaf) (t : Option Target) (level table : ℕ) : Type 0 where
@@ -65,6 +69,11 @@ abbrev pub IsRead : Memory → Context → Bool → Bool → ℕ → List Leaf �
 IsRead m x look fill page leaves leaves' tables tables' t =
     (IsStatedByCached leaves look x page t × (leaves' ≡ leaves) × (tables' ≡ tables))
     ⊎ ((level : ℕ) × (table : ℕ) × IsWalked m x look fill page leaves leaves' tables tables' t level table)
+
+-- a context of the device is remembered, and a leaf of its domain that states the answer to a request at the address
+abbrev pub IsRemembered : Caches → ℕ → ℕ → Hit → Type 0
+IsRemembered c device address hit =
+    (x : Context) × IsIn x c.contexts × (x.device ≡ device) × IsRememberedIn c.leaves x.domain (page_of address) (target hit.frame (bits_of hit.rights))
 
 -- ---- the answer
 

@@ -3,7 +3,7 @@
 ghost use Rattle.std.specs.Prelude.{◌≡◌, ◌^◌, ◌<◌, ◌≤◌, ◌==◌, ◌&&◌, IfSome, IfNone, IsTrue, find, length};
 ghost use Rattle.tables.specs.Pool.{memory};
 ghost use Rattle.unit.specs.Walking.{hold, stated_by};
-ghost use Rattle.unit.specs.Answers.{HasNoContext, IsContextOf, IsLowest, IsRead, IsStart};
+ghost use Rattle.unit.specs.Answers.{HasNoContext, IsContextOf, IsLowest, IsRead, IsRememberedIn, IsStart};
 
 use crate::contexts::Contexts;
 use crate::entries::{CachedContext, CachedLeaf, CachedNonLeaf};
@@ -62,6 +62,7 @@ pub(crate) fn translation_of(
     requires { page < 2 ^ 27 }
     ensures read { IsRead (memory pool.now.words) context whim.look whim.fill page leaves.old.items leaves.new.items
         tables.old.items tables.new.items result }
+    ensures remembered { IsTrue whim.fill → IfSome result (IsRememberedIn leaves.new.items context.domain page) }
     ensures few_leaves { length leaves.old.items ≤ LEAVES → length leaves.new.items ≤ LEAVES }
     ensures few_tables { length tables.old.items ≤ NON_LEAVES → length tables.new.items ≤ NON_LEAVES }
     ensures first { IsTrue whim.look → IfSome (find (λ l. (l.domain == context.domain) && hold l.first l.pages page) leaves.old.items)

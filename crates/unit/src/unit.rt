@@ -1,8 +1,8 @@
 //! The unit and its caches.
 
-ghost use Rattle.std.specs.Prelude.{◌≡◌, ◌↔◌, ◌+◌, ◌^◌, ◌<◌, [], not, filter};
+ghost use Rattle.std.specs.Prelude.{◌≡◌, ◌↔◌, ◌+◌, ◌^◌, ◌<◌, [], not, filter, IfOk, IsTrue};
 ghost use Rattle.tables.specs.Pool.{memory};
-ghost use Rattle.unit.specs.Answers.{Answers};
+ghost use Rattle.unit.specs.Answers.{Answers, IsRemembered};
 ghost use Rattle.unit.specs.Caches.{unit_state, nothing, without};
 ghost use Rattle.unit.specs.Filters.{left_by, left_by_first, after_first, done_after};
 
@@ -96,6 +96,7 @@ impl Unit {
         requires { device < 16 }
         ensures answers { Answers (memory pool.now.words) contexts.now whim.look whim.fill device address access
             self.old.caches self.new.caches result }
+        ensures remembered { IsTrue whim.fill → IfOk result (IsRemembered self.new.caches device address) }
         ensures steps { self.new.steps ≡ self.old.steps }
         ensures done { self.new.done ≡ self.old.done }
     {

@@ -3,7 +3,7 @@
 ghost use Rattle.std.specs.Prelude.{◌≡◌, ◌+◌, ◌<◌, ◌≤◌, ◌^◌, IfOk};
 ghost use Rattle.tables.specs.Pool.{IsTree};
 
-use super::tests::{assert_remembered, context, domain_of, large, small, table};
+use super::tests::{assert_remembered, context, domain_of, large, small, table, unit_of};
 use super::*;
 use dmatypes::{Frame, PageRange, Rights, Width};
 use std::alloc::{AllocError, Global};
@@ -117,18 +117,19 @@ fn unit_with(
     tables: &[CachedNonLeaf],
     contexts: &[CachedContext],
 ) -> Unit {
-    let mut unit = Unit::new();
-    unit.leaves = ArrayVec::new();
+    let mut cached_leaves = ArrayVec::new();
     for leaf in leaves {
-        assert!(rt; unit.leaves.try_push(*leaf).is_ok());
+        assert!(rt; cached_leaves.try_push(*leaf).is_ok());
     }
+    let mut cached_tables = ArrayVec::new();
     for table in tables {
-        assert!(rt; unit.non_leaves.try_push(*table).is_ok());
+        assert!(rt; cached_tables.try_push(*table).is_ok());
     }
+    let mut cached_contexts = ArrayVec::new();
     for context in contexts {
-        assert!(rt; unit.contexts.try_push(*context).is_ok());
+        assert!(rt; cached_contexts.try_push(*context).is_ok());
     }
-    unit
+    unit_of(cached_leaves, cached_tables, cached_contexts)
 }
 
 #[test]
@@ -188,18 +189,18 @@ fn what_refused_fills_remember(rt: HostRuntime) -> Result<(), AllocError> {
 fn full_lists_lose_their_first_entry(rt: HostRuntime) -> Result<(), AllocError> {
     let (mut pool, tree) = mapped_tree(&rt, rt.alloc())?;
     let row = attached(&rt, tree.root());
-    let mut unit = Unit::new();
+    let mut leaves = ArrayVec::new();
+    let mut non_leaves = ArrayVec::new();
     for number in 0..64 {
-        assert!(rt; unit.leaves.try_push(small(&rt, 2, number)).is_ok());
-        let _ = unit.non_leaves.try_push(table(&rt, 2, 512 * number, 1));
+        assert!(rt; leaves.try_push(small(&rt, 2, number)).is_ok());
+        let _ = non_leaves.try_push(table(&rt, 2, 512 * number, 1));
     }
+    let mut contexts = ArrayVec::new();
     for domain in 0..16 {
-        assert!(rt;
-            unit.contexts
-                .try_push(context(&rt, 15 - domain / 15, 1 + domain % 15))
-                .is_ok()
-        );
+        let entry = context(&rt, 15 - domain / 15, 1 + domain % 15);
+        assert!(rt; contexts.try_push(entry).is_ok());
     }
+    let mut unit = unit_of(leaves, non_leaves, contexts);
     assert!(rt; unit.leaves.is_full() && unit.non_leaves.is_full() && unit.contexts.is_full());
     assert_eq!(rt;
         read(&mut unit, &pool, &row, 0x400_000, FILL),

@@ -66,12 +66,28 @@ pub(super) fn context(rt: &impl Abort, device: u64, domain: u64) -> CachedContex
     }
 }
 
+// A unit that remembers these lists.
+pub(super) fn unit_of(
+    leaves: ArrayVec<CachedLeaf, LEAVES>,
+    non_leaves: ArrayVec<CachedNonLeaf, NON_LEAVES>,
+    contexts: ArrayVec<CachedContext, CONTEXTS>,
+) -> Unit {
+    // Each length says that it is within the list's capacity.
+    let _ = (leaves.len(), non_leaves.len(), contexts.len());
+    Unit {
+        leaves,
+        non_leaves,
+        contexts,
+        done: 0,
+        idle: 0,
+    }
+}
+
 // A unit that remembers, of domain 1: pages 0x200, 0x3ff and 0x400 by small leaves, pages 0x600 to 0x7ff by a
 // large one, tables of level 1 and 2 over page 0x200 and one of level 1 from page 0x400 on; of domain 2: page
 // 0x200 and a table over it; and the contexts of device 3 in domain 1 and of devices 4 and 5 in domain 2.
 fn filled_unit(rt: &impl Abort) -> Unit {
-    let mut unit = Unit::new();
-    unit.leaves = ArrayVec::new();
+    let mut leaves = ArrayVec::new();
     for leaf in [
         small(rt, 1, 0x200),
         small(rt, 1, 0x3ff),
@@ -79,20 +95,22 @@ fn filled_unit(rt: &impl Abort) -> Unit {
         large(rt, 1, 0x601),
         small(rt, 2, 0x200),
     ] {
-        assert!(rt; unit.leaves.try_push(leaf).is_ok());
+        assert!(rt; leaves.try_push(leaf).is_ok());
     }
+    let mut non_leaves = ArrayVec::new();
     for non_leaf in [
         table(rt, 1, 0x200, 1),
         table(rt, 1, 0, 2),
         table(rt, 1, 0x400, 1),
         table(rt, 2, 0x200, 1),
     ] {
-        assert!(rt; unit.non_leaves.try_push(non_leaf).is_ok());
+        assert!(rt; non_leaves.try_push(non_leaf).is_ok());
     }
+    let mut contexts = ArrayVec::new();
     for entry in [context(rt, 3, 1), context(rt, 4, 2), context(rt, 5, 2)] {
-        assert!(rt; unit.contexts.try_push(entry).is_ok());
+        assert!(rt; contexts.try_push(entry).is_ok());
     }
-    unit
+    unit_of(leaves, non_leaves, contexts)
 }
 
 // Makes the unit do one descriptor.

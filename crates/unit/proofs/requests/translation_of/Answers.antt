@@ -1,4 +1,4 @@
-use Rattle.std.proofs.Common.{◌∙◌, ◌==◌, ◌&&◌, sym, ap, subst, List}
+use Rattle.std.proofs.Common.{rules, ◌∙◌, ◌==◌, ◌&&◌, sym, ap, subst, List}
 use Rattle.dmatypes.specs.World.{IsIn}
 use Rattle.unit.specs.Answers.{IsStart}
 use Rattle.std.proofs.lemmas.Bool.{eqb-true}
@@ -6,8 +6,8 @@ use Rattle.tables.specs.Pool.{memory}
 use Rattle.unit.specs.Caches.{Leaf, NonLeaf, Context}
 use Rattle.unit.specs.Walking.{hold}
 use Rattle.unit.proofs.Found.{find_in, both}
-use Rattle.unit.proofs.Remembered.{gains_entry}
-use Rattle.unit.proofs.Reading.{read_cached, read_nothing, read_walked}
+use Rattle.unit.proofs.Remembered.{gains_entry, remembered_in}
+use Rattle.unit.proofs.Reading.{met_domain, met_holds, read_cached, read_nothing, read_walked}
 use Rattle.unit.proofs.requests.translation_of.Goals as goal
 
 pub translation-requires : goal.translation-requires
@@ -34,3 +34,23 @@ returns-clause-read c =
     read_walked (memory c.args.pool.now.words) c.args.context c.args.whim.look c.args.whim.fill c.args.page c.args.leaves.now.items c.args.tables.now.items
     _ _ c.context.inside.domain c.walk.new.passed.items (ap (λ (x : Context). x.domain) c.context.view_is) (subst (λ (ts : List NonLeaf). IsStart ts c.args.whim.look c.args.context c.args.page c.start_of-level.result.0 c.start_of-level.result.1) c.deref-2.ensures.0 c.start_of-level.ensures.start) c.walk.ensures.passed
     c.in_ok-leaf.leaf c.translation-2.result c.remember.new.list.items (sym c.in_ok-leaf.was ∙ c.walk.ensures.leaf) (gains_entry _ _ _ _ _ _ c.remember.ensures.items) c.translation-2.ensures
+
+pub returns-in-Some-clause-remembered : goal.returns-in-Some-clause-remembered
+returns-in-Some-clause-remembered c = λ fill.
+    let found = find_in (λ (l : Leaf). (l.domain == c.context.inside.domain) && hold l.first l.pages c.args.page) c.deref.result.now c.in-Some.leaf (sym c.first_leaf.ensures ∙ c.in-Some.is) in
+    let tests = both _ _ found.1 in (
+      c.in-Some.leaf,
+      subst (λ (ls : List Leaf). IsIn c.in-Some.leaf ls) c.deref.ensures.0 found.0,
+      eqb-true _ _ tests.0 ∙ ap (λ (x : Context). x.domain) c.context.view_is,
+      tests.1,
+      c.translation.ensures,
+    )
+
+pub returns-clause-remembered : goal.returns-clause-remembered
+returns-clause-remembered c = λ fill. (
+  c.in_ok-leaf.leaf,
+  subst (IsIn c.in_ok-leaf.leaf) (sym c.remember.ensures.items) (rw fill (remembered_in _ _ c.in_ok-leaf.leaf c.args.leaves.now.items (λ y same. search rules))),
+  met_domain _ _ _ _ (sym c.in_ok-leaf.was ∙ c.walk.ensures.leaf) ∙ ap (λ (x : Context). x.domain) c.context.view_is,
+  met_holds _ _ _ _ (sym c.in_ok-leaf.was ∙ c.walk.ensures.leaf),
+  c.translation-2.ensures,
+)

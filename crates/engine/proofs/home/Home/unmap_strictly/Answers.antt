@@ -9,8 +9,8 @@ use Rattle.engine.proofs.home.Home.unmap_strictly.Goals as goal
 pub release-requires : goal.release-requires
 release-requires c = record {
   can =
-    subst (λ (s : AddressSpace). IsReleasable c.end-cut.new.pool s c.args.range c.end-cut.result) (sym (ap (λ (p : Place). p.space) c.self.view_is))
-    (cut_in_place c.args.pool.now c.end-cut.new.pool c.end-cut.new.self.space c.args.range c.end-cut.result (home_with c.args.self.now.space c.args.self.now.records c.args.self.now.tenant) c.requires.can c.end-cut.ensures.cuts);
+      subst (λ (s : AddressSpace). IsReleasable c.end-cut.new.pool s c.args.range c.end-cut.result) (sym (ap (λ (p : Place). p.space) c.self.view_is))
+      (cut_in_place c.args.pool.now c.end-cut.new.pool c.end-cut.new.self.space c.args.range c.end-cut.result (home_with c.args.self.now.space c.args.self.now.records c.args.self.now.tenant) c.requires.can c.end-cut.ensures.cuts);
   invalidated = record {
     descriptor = c.descriptor_of.result;
     covers = sent_covers c.args.id c.args.range c.end-cut.result c.descriptor_of.result c.descriptor_of.ensures;

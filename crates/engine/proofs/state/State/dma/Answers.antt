@@ -1,4 +1,4 @@
-use Rattle.std.proofs.Common.{◌≡◌, ◌+◌, ◌∙◌, ap, ap₂, true, false, sym, refl}
+use Rattle.std.proofs.Common.{◌≡◌, ◌+◌, ◌∙◌, ap₂, true, false, sym, refl}
 use Rattle.dmatypes.specs.Page.{IsInWindow}
 use Rattle.dmatypes.specs.declared.call.Call.TheVariants as calls
 use Rattle.unit.specs.Caches.{unit_state}

@@ -1,10 +1,11 @@
-use Rattle.std.proofs.Common.{inl, inr, ap, subst, refl, arith, List, Err}
+use Rattle.std.proofs.Common.{rules, sym, inl, inr, ap, subst, refl, arith, List, Err}
 use Rattle.dmatypes.specs.Page.{IsBeyond}
 use Rattle.dmatypes.specs.declared.refusal.Fault.TheVariants as faults
 use Rattle.tables.specs.Pool.{memory}
 use Rattle.unit.specs.Answers.{Answers, IsContextOf, HasNoContext}
 use Rattle.unit.specs.Caches.{Caches, Context, UnitState, caches}
-use Rattle.unit.proofs.Remembered.{gains_entry}
+use Rattle.dmatypes.specs.World.{IsIn}
+use Rattle.unit.proofs.Remembered.{gains_entry, remembered_in, told_remembered}
 use Rattle.unit.proofs.unit.Unit.dma.Goals as goal
 
 pub returns-in_default-clause-answers : goal.returns-in_default-clause-answers
@@ -31,3 +32,12 @@ returns-clause-answers c =
     subst (λ (old : Caches). Answers (memory c.args.pool.now.words) c.args.contexts.now c.args.whim.look c.args.whim.fill c.args.device c.args.address c.args.access old (caches c.translation_of-to.new.leaves.items c.translation_of-to.new.tables.items c.remember.new.list.items) c.tell.result)
     (ap (λ (u : UnitState). u.caches) c.self.view_is)
     (inr (c.in-Some.context, serves, gains_entry _ _ _ _ _ _ c.remember.ensures.items, inr (within, (c.translation_of-to.result, c.translation_of-to.ensures.read, c.tell.ensures))))
+
+pub returns-clause-remembered : goal.returns-clause-remembered
+returns-clause-remembered c = λ fill.
+    let serves : IsContextOf c.args.contexts.now c.self.inside.contexts.items c.args.whim.look c.args.device c.in-Some.context =
+    subst (λ (cs : List Context). IsContextOf c.args.contexts.now cs c.args.whim.look c.args.device c.in-Some.context) c.deref.ensures.0 c.in-Some.ensures.some in
+    let there : IsIn c.in-Some.context c.remember.new.list.items =
+    subst (IsIn c.in-Some.context) (sym c.remember.ensures.items) (rw fill (remembered_in _ _ c.in-Some.context c.self.inside.contexts.items (λ y same. search rules))) in
+    told_remembered c.translation_of-to.result c.args.address c.args.access c.tell.result (caches c.translation_of-to.new.leaves.items c.translation_of-to.new.tables.items c.remember.new.list.items) c.in-Some.context c.args.device
+    c.tell.ensures there serves.0 (c.translation_of-to.ensures.remembered fill)
