@@ -6,12 +6,21 @@ use Rattle.tables.specs.Pool.{word}
 use Rattle.tables.proofs.Runs.{run_of}
 use Rattle.tables.proofs.unmapping.clear_run.Goals as goal
 
-pub returns-clause-run : goal.returns-clause-run
-returns-clause-run c =
+pub returns-then-to-from-eq1-clause-run : goal.returns-then-to-from-eq1-clause-run
+returns-then-to-from-eq1-clause-run c =
+    run_of c.args.pool.now.words c.write.new.self.words c.args.table c.args.from c.args.to (λ p. Absent)
+    c.requires.some c.requires.one_span
+    (λ k k_in.
+        let first : c.args.from % 512 + k ≡ c.args.from % 512 = omega arith in
+        ap (λ i. look 1 (word c.write.new.self.words c.args.table i)) first ∙ ap (look 1) c.write.ensures.wrote.0 ∙ look-zero 1)
+    (λ f k k_in other. c.write.ensures.wrote.1 f k k_in (λ e at. other e (omega arith) (omega arith)))
+
+pub returns-else-to-from-eq1-clause-run : goal.returns-else-to-from-eq1-clause-run
+returns-else-to-from-eq1-clause-run c =
     run_of c.args.pool.now.words c.clear.new.self.words c.args.table c.args.from c.args.to (λ p. Absent)
     c.requires.some c.requires.one_span (λ k k_in. ap (look 1) (c.clear.ensures.cleared k k_in) ∙ look-zero 1) c.clear.ensures.rest
 
-pub returns-clause-zeroed : goal.returns-clause-zeroed
-returns-clause-zeroed c p low high =
+pub returns-else-to-from-eq1-clause-zeroed : goal.returns-else-to-from-eq1-clause-zeroed
+returns-else-to-from-eq1-clause-zeroed c p low high =
     let place : p % 512 ≡ c.args.from % 512 + (p - c.args.from) = omega (arith, c.requires.one_span) in
     ap (λ k. word c.clear.new.self.words c.args.table k) place ∙ c.clear.ensures.cleared (p - c.args.from) (omega arith)
