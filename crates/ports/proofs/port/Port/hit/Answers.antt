@@ -1,0 +1,43 @@
+use Rattle.std.proofs.Common.{ℕ, ◌/◌, ◌%◌, ◌<◌, IfSome, arith, sym, ap, ◌∙◌, subst}
+use Rattle.dmatypes.specs.declared.reply.Reply.TheVariants.{Host}
+use Rattle.dmatypes.specs.Allows.{Allows}
+use Rattle.dmatypes.specs.History.{IsLegal, after}
+use Rattle.ports.specs.Seen.{PortKnows, RowsId}
+use Rattle.ports.proofs.Maps.{some_of}
+use Rattle.ports.proofs.Told.{counted, looked}
+use Rattle.ports.proofs.Allowed.{allowed_word, spelled_word}
+use Rattle.ports.proofs.port.Port.hit.Goals as goal
+
+pub load-count-requires : goal.load-count-requires
+load-count-requires c =
+    let rows = ap (λ (v : PortKnows). v.rows) c.self.view_is ∙ c.requires ∙ sym c.rows.view_is in (
+      ap (λ (r : RowsId). r.table) rows,
+      omega (arith, c.rows.invariant),
+      counted _ _ _ _ _ _ (ap (λ (r : RowsId). r.frames) rows) c.self.invariant.1,
+    )
+
+pub load-word-requires : goal.load-word-requires
+load-word-requires c =
+    let rows = ap (λ (v : PortKnows). v.rows) c.self.view_is ∙ c.requires ∙ sym c.rows.view_is in
+    let told = c.load-count.ensures.2 in
+    let slot : c.args.address / 4096 % 16 < 16 = omega arith in (
+      c.load-count.ensures.0 ∙ ap (λ (r : RowsId). r.table) rows,
+      omega (arith, c.rows.invariant, c.place-place.ensures, c.self.invariant.0),
+      rw c.place-place.ensures (looked _ _ _ _ _ _ _ (told.3 ∙ ap (λ (r : RowsId). r.frames) rows) c.self.invariant.0 slot (told.0.who ∙ c.self.invariant.1)),
+    )
+
+pub host-requires : goal.host-requires
+host-requires c =
+    let slot : c.args.address / 4096 % 16 < 16 = omega arith in
+    spelled_word c.load-count.new.seat.me.0.frames c.load-word.new.seat.me.0.mine.seen c.self.inside.device c.load-word.result (c.load-word.ensures.2.1 _ _ c.self.invariant.0 slot c.place-place.ensures)
+
+pub returns-clause-allowed : goal.returns-clause-allowed
+returns-clause-allowed c =
+    let told = c.load-word.ensures.2 in
+    let slot : c.args.address / 4096 % 16 < 16 = omega arith in
+    let seen = c.load-word.new.seat.me.0.mine.seen in
+    let frames = c.load-count.ensures.2.3 ∙ ap (λ (v : PortKnows). v.rows.frames) c.self.view_is in
+    let device = ap (λ (v : PortKnows). v.device) c.self.view_is in
+    let lawful = told.1 _ _ c.self.invariant.0 slot c.place-place.ensures in
+    subst (λ (x : ℕ × ℕ). IsLegal x.0 seen × IfSome c.host.result (λ host. Allows (after x.0 seen) x.1 c.args.address c.args.access (Host host))) (λ i. (frames i, device i))
+    (told.0.is_legal, some_of _ _ _ (λ host states. allowed_word c.load-count.new.seat.me.0.frames seen c.self.inside.device c.load-word.result c.args.address c.args.access host told.0.is_legal lawful states) c.host.ensures.some)

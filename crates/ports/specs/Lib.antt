@@ -1,0 +1,5 @@
+pub mod Lawful
+pub mod Cleared
+pub mod Steps
+pub mod Seen
+pub mod Rule
