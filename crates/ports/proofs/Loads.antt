@@ -10,8 +10,8 @@ use Rattle.dmatypes.specs.declared.reply.Event.{Event}
 use Rattle.ports.specs.declared.known.OwnStep.TheVariants.{Loaded}
 use Rattle.ports.specs.declared.known.Known.{Known}
 use Rattle.ports.specs.declared.known.View.{View}
-use Rattle.ports.specs.Steps.{loads_word, loads_counter, counter, place_of, shown_to, seen_by, IsReached}
-use Rattle.ports.specs.Rule.{view_of, with_guest, Fits, Table, Sat, IsInRun, IsKept, Counted, Looked, Hosted}
+use Rattle.ports.specs.Steps.{loads_word, loads_counter, counter, place_of, shown_to, seen_by, IsReached, IsSeenInRun}
+use Rattle.ports.specs.Rule.{view_of, with_guest, Fits, Table, Sat, IsKept, Counted, Looked, Hosted}
 use Rattle.ports.proofs.Fronts.{prefix_self}
 use Rattle.ports.proofs.Reaching.{reached_more}
 use Rattle.ports.proofs.Views.{named_as, caller_fits, desk_fits_as, others, set_same, seeing, seeing_else}
@@ -54,19 +54,19 @@ module _ (legal : List Event → Type 0) (lawful : List Event → ℕ → ℕ �
       (caller_fits (seeing r.truth p) id frames known (subst (λ (l : List Event). IsPrefix l r.truth.core.history) (sym seen) (prefix_self r.truth.core.history))
       (named_as (seeing r.truth p) id false known p who' is.0 is.1 (get_or-set_same r.truth.core.seen p r.truth.core.history [] lt ∙ sym seen)))
 
-  -- a run leads to where the caller p has seen the history
-  in_run : (s : Table) (r : K s) (p : ℕ) (known : Known) (words : List ℕ → Type 0) → p < r.truth.made → known.who ≡ suc p → known.seen ≡ r.truth.core.history
-      → IsReached legal lawful passes (shown_to p r.truth.core) → words r.truth.core.words → IsInRun legal lawful known words
-  in_run s r p known words made who seen reached are =
+  -- a run leads to where the caller has seen the history
+  in_run : (s : Table) (r : K s) (p q : ℕ) (known : Known) (words : List ℕ → Type 0) → p < r.truth.made → known.who ≡ suc p → known.who ≡ suc q
+      → IsReached legal lawful passes (shown_to p r.truth.core) → words r.truth.core.words → IsSeenInRun legal lawful q r.truth.core.history words
+  in_run s r p q known words made who who' reached are =
       let lt : p < length r.truth.core.seen = omega (arith, r.callers, r.made, made) in
+      let same : p ≡ q = omega (arith, who, who') in
       record {
         passes = passes;
         core = shown_to p r.truth.core;
         reached = reached;
-        history = sym seen;
-        seen = λ q e. let same : p ≡ q = omega arith in
-            subst (λ (x : ℕ). seen_by (shown_to p r.truth.core) x ≡ known.seen) same (get_or-set_same r.truth.core.seen p r.truth.core.history [] lt ∙ sym seen);
-        words_are = are;
+        history_is = refl;
+        seen = subst (λ (x : ℕ). seen_by (shown_to p r.truth.core) x ≡ r.truth.core.history) same (get_or-set_same r.truth.core.seen p r.truth.core.history [] lt);
+        words = are;
       }
 
   -- a caller loads the counter
@@ -85,7 +85,7 @@ module _ (legal : List Event → Type 0) (lawful : List Event → ℕ → ℕ �
         (
           record { more = fits.seen; is_legal = r.is_legal; did = refl; who = refl },
           sym r.count,
-          in_run s r p now (λ words. Unit {0}) is.0 who refl reached tt,
+          λ q who'. in_run s r p q now (λ words. Unit {0}) is.0 who who' reached tt,
           refl,
         ),
       )
@@ -110,7 +110,7 @@ module _ (legal : List Event → Type 0) (lawful : List Event → ℕ → ℕ �
           λ device slot' d k same. ⊎_elim (λ (e : n ≡ 0). subst (lawful r.truth.core.history device) (sym e) (zeros r.truth.core.history device))
               (λ (e : n ≡ slice_index r.truth.last i). subst (lawful r.truth.core.history device) (sym (e ∙ ap (slice_index r.truth.last) same)) (r.each_lawful device slot' d k))
               (r.rows i lt),
-          in_run s r port now (λ words. slice_index words i ≡ n) is.0 who refl reached (r.words i lt),
+          λ q who'. in_run s r port q now (λ words. slice_index words i ≡ n) is.0 who who' reached (r.words i lt),
           refl,
         ),
       )

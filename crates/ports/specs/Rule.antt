@@ -5,7 +5,7 @@ use mathlib.Core.List.{IsPrefix}
 use lib.ListN.{get_elem?}
 use Rattle.atomic_table.specs.Table.{State, Me, Step}
 use Rattle.dmatypes.specs.declared.reply.Event.{Event}
-use Rattle.ports.specs.Steps.{Core, IsReached, AreLawful, counter, place_of, seen_by}
+use Rattle.ports.specs.Steps.{Core, IsReached, IsSeenInRun, AreLawful, counter, place_of, seen_by}
 use Rattle.ports.specs.declared.known.OwnStep.{OwnStep}
 use Rattle.ports.specs.declared.known.OwnStep.TheVariants.{Loaded, Stored}
 use Rattle.ports.specs.declared.known.Known.{Known}
@@ -101,25 +101,20 @@ module _ (legal : List Event → Type 0) (lawful : List Event → ℕ → ℕ �
     pub did : later.did ≡ known.did ++ step ∷ []
     pub who : later.who ≡ known.who
 
-  -- a run leads to where the history is what the caller has seen, and the words are so
-  pub record IsInRun (known : Known) (words : List ℕ → Type 0) : Type 0 where
-    pub passes : ℕ
-    pub core : Core
-    pub reached : IsReached legal lawful passes core
-    pub history : core.history ≡ known.seen
-    pub seen : (p : ℕ) → known.who ≡ suc p → seen_by core p ≡ known.seen
-    pub words_are : words core.words
-
+  -- a load of the counter also tells how long that history is
   abbrev pub Counted : Step (Unit {0}) → Sat → ℕ → Sat → Type 0
   Counted st m n m' =
       Learns m.0.mine m'.0.mine (Loaded st.word n) × (length m'.0.mine.seen ≡ n)
-      × IsInRun m'.0.mine (λ words. Unit {0}) × (m'.0.frames ≡ m.0.frames)
+      × ((p : ℕ) → m.0.mine.who ≡ suc p → IsSeenInRun legal lawful p m'.0.mine.seen (λ words. Unit {0}))
+      × (m'.0.frames ≡ m.0.frames)
 
+  -- a load of a word that it is lawful after that history, and stands in such a state
   abbrev pub Looked : Step (Unit {0}) → Sat → ℕ → Sat → Type 0
   Looked st m n m' =
       Learns m.0.mine m'.0.mine (Loaded st.word n)
       × ((device slot : ℕ) → device < 16 → slot < 16 → st.word ≡ place_of device slot → lawful m'.0.mine.seen device n)
-      × IsInRun m'.0.mine (λ words. slice_index words st.word ≡ n) × (m'.0.frames ≡ m.0.frames)
+      × ((p : ℕ) → m.0.mine.who ≡ suc p → IsSeenInRun legal lawful p m'.0.mine.seen (λ words. slice_index words st.word ≡ n))
+      × (m'.0.frames ≡ m.0.frames)
 
 abbrev pub Emptied : Step (Unit {0}) → Sat → ℕ → Sat → Type 0
 Emptied st m n m' =

@@ -92,6 +92,15 @@ module _ (legal : List Event → Type 0) (lawful : List Event → ℕ → ℕ �
     pub is_run : IsRun (empty passes) steps
     pub leads : stepped_by (empty passes) steps ≡ c
 
+  -- a run leads to this history, which the caller has seen there, and to such words
+  pub record IsSeenInRun (caller : ℕ) (history : List Event) (are : List ℕ → Type 0) : Type 0 where
+    pub passes : ℕ
+    pub core : Core
+    pub reached : IsReached passes core
+    pub history_is : core.history ≡ history
+    pub seen : seen_by core caller ≡ history
+    pub words : are core.words
+
 -- the run of these steps, in a world with so many table frames
 abbrev pub IsRunOf : ℕ → ℕ → List PortStep → Type 0
 IsRunOf frames passes steps = IsRun (IsLegal frames) (IsLawfulAfter frames) (empty passes) steps

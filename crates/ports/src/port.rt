@@ -9,7 +9,7 @@ ghost use Rattle.dmatypes.specs.History.{IsLegal, after};
 ghost use Rattle.dmatypes.specs.Page.{page_of};
 ghost use Rattle.vtdbits.specs.Port.{States};
 ghost use Rattle.ports.specs.Lawful.{IsLawfulAfter};
-ghost use Rattle.ports.specs.Steps.{Core, IsReached, counter, place_of, seen_by, slot_of};
+ghost use Rattle.ports.specs.Steps.{IsSeenInRun, counter, place_of, slot_of};
 ghost use Rattle.ports.specs.declared.known.OwnStep.TheVariants.{Loaded, Stored};
 
 use crate::rows::Rows;
@@ -63,7 +63,9 @@ impl Port {
         ensures did { (word : ℕ)
             × (self.new.did ≡ self.old.did ++ Loaded counter result.1 ∷ Loaded (place_of self.old.device (slot_of (page_of address))) word ∷ [])
             × IfSome result.0 (States word address access)
-            × IfNone result.0 ((host : ℕ) → States word address access host → ⊥) }
+            × IfNone result.0 ((host : ℕ) → States word address access host → ⊥)
+            × IsSeenInRun (IsLegal self.old.rows.frames) (IsLawfulAfter self.old.rows.frames) self.old.device self.new.seen
+                (λ words. slice_index words (place_of self.old.device (slot_of (page_of address))) ≡ word) }
         ensures count { (history : List Event)
             × IsLegal self.old.rows.frames history × (result.1 ≡ length history)
             × IsPrefix self.old.seen history × IsPrefix history self.new.seen }
@@ -83,6 +85,7 @@ impl Port {
         ensures did { self.new.did ≡ self.old.did ++ Loaded counter result ∷ [] }
         ensures seen { IsPrefix self.old.seen self.new.seen × IsLegal self.old.rows.frames self.new.seen
             × (result ≡ length self.new.seen) }
+        ensures run { IsSeenInRun (IsLegal self.old.rows.frames) (IsLawfulAfter self.old.rows.frames) self.old.device self.new.seen (λ words. Unit {0}) }
         ensures same { (self.new.rows ≡ self.old.rows) × (self.new.device ≡ self.old.device) }
     {
         rows.words.shared.load::<Counts>(&mut self.seat, COUNTER)

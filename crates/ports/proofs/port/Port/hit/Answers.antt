@@ -1,8 +1,14 @@
-use Rattle.std.proofs.Common.{ℕ, ◌/◌, ◌%◌, ◌<◌, IfSome, arith, sym, ap, ◌∙◌, subst}
+use Rattle.std.proofs.Common.{◌≡◌, ℕ, ◌/◌, ◌%◌, ◌<◌, IfSome, List, [], ◌∷◌, ◌++◌, append_assoc, arith, sym, ap, ◌∙◌, subst}
+use Rattle.std.specs.Prelude.{slice_index}
 use Rattle.dmatypes.specs.declared.reply.Reply.TheVariants.{Host}
 use Rattle.dmatypes.specs.Allows.{Allows}
 use Rattle.dmatypes.specs.History.{IsLegal, after}
+use Rattle.dmatypes.specs.Page.{page_of}
+use Rattle.ports.specs.Lawful.{IsLawfulAfter}
 use Rattle.ports.specs.Seen.{PortKnows, RowsId}
+use Rattle.ports.specs.Steps.{IsSeenInRun, counter, place_of, slot_of}
+use Rattle.ports.specs.declared.known.OwnStep.{OwnStep}
+use Rattle.ports.specs.declared.known.OwnStep.TheVariants.{Loaded}
 use Rattle.ports.proofs.Maps.{some_of}
 use Rattle.ports.proofs.Told.{counted, looked}
 use Rattle.ports.proofs.Allowed.{allowed_word, spelled_word}
@@ -41,3 +47,24 @@ returns-clause-allowed c =
     let lawful = told.1 _ _ c.self.invariant.0 slot c.place-place.ensures in
     subst (λ (x : ℕ × ℕ). IsLegal x.0 seen × IfSome c.host.result (λ host. Allows (after x.0 seen) x.1 c.args.address c.args.access (Host host))) (λ i. (frames i, device i))
     (told.0.is_legal, some_of _ _ _ (λ host states. allowed_word c.load-count.new.seat.me.0.frames seen c.self.inside.device c.load-word.result c.args.address c.args.access host told.0.is_legal lawful states) c.host.ensures.some)
+
+pub returns-clause-did : goal.returns-clause-did
+returns-clause-did c =
+    let count = c.load-count.result in
+    let word = c.load-word.result in
+    let slot = slot_of (page_of c.args.address) in
+    let counted = c.load-count.ensures.2 in
+    let looked = c.load-word.ensures.2 in
+    let frames = counted.3 ∙ ap (λ (v : PortKnows). v.rows.frames) c.self.view_is in
+    let device = ap (λ (v : PortKnows). v.device) c.self.view_is in
+    let place = c.place-place.ensures ∙ ap (λ (d : ℕ). place_of d slot) device in
+    let did = c.args.self.now.did in
+    let before = counted.0.did ∙ ap (λ (v : PortKnows). v.did ++ Loaded counter count ∷ []) c.self.view_is in (
+      word,
+      looked.0.did ∙ ap (λ (l : List OwnStep). l ++ Loaded c.place-place.result word ∷ []) before ∙ append_assoc did (Loaded counter count ∷ []) (Loaded c.place-place.result word ∷ [])
+      ∙ ap (λ (k : ℕ). did ++ Loaded counter count ∷ Loaded k word ∷ []) place,
+      c.host.ensures.some,
+      c.host.ensures.none,
+      subst (λ (x : ℕ × ℕ × ℕ). IsSeenInRun (IsLegal x.0) (IsLawfulAfter x.0) x.1 c.load-word.new.seat.me.0.mine.seen (λ words. slice_index words x.2 ≡ word)) (λ i. (frames i, device i, place i))
+          (looked.2 c.self.inside.device (counted.0.who ∙ c.self.invariant.1)),
+    )
