@@ -73,13 +73,14 @@ impl Port {
             × IfSome result.0 (λ host. Allows (after self.old.rows.frames self.new.seen) self.old.device address access (replies.Host host)) }
         ensures same { (self.new.rows ≡ self.old.rows) × (self.new.device ≡ self.old.device) }
     {
-        let count = rows.words.shared.load::<Counts>(&mut self.seat, COUNTER);
+        let count = self.count(rows);
         let place = place(self.device, address / 4096 % SLOTS);
         let word = rows.words.shared.load::<Looks>(&mut self.seat, place);
         (PortWord::host(word, address, access), count)
     }
 
     /// How many events the history has.
+    #[inline]
     pub fn count(&mut self, rows: &Rows) -> u64
         requires { self.old.rows ≡ rows.now }
         ensures did { self.new.did ≡ self.old.did ++ Loaded counter result ∷ [] }
