@@ -11,3 +11,4 @@ pub mod Worlds
 pub mod Allowed
 pub mod Staying
 pub mod Runs
+pub mod Examples

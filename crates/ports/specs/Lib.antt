@@ -3,3 +3,4 @@ pub mod Cleared
 pub mod Steps
 pub mod Seen
 pub mod Rule
+pub mod Examples

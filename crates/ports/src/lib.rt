@@ -14,3 +14,6 @@ pub use desk::Desk;
 pub use known::OwnStep;
 pub use port::{Pass, Port};
 pub use rows::Rows;
+
+#[cfg(test)]
+mod tests;
