@@ -1,24 +1,18 @@
 -- The history of the tests is legal, and the domain backs what is filled.
-use Rattle.std.proofs.Common.{◌≡◌, ℕ, ◌+◌, ◌*◌, true, ◌/◌, ◌%◌, ◌^◌, ◌<◌, ◌≤◌, ◌⊎◌, inl, inr, zero, suc, List, [], ◌∷◌, ◌++◌, length, Option, Some, None, IsSome, IsNone, replicate, get_or, refl, sym, ap, subst, arith, true, ◌-◌}
-use Rattle.std.specs.Prelude.{slice_index}
-use Rattle.dmatypes.specs.declared.call.Access.{Access}
-use Rattle.dmatypes.specs.declared.call.Access.TheVariants.{Read}
+use Rattle.std.proofs.Common.{◌≡◌, ℕ, ◌+◌, true, ◌<◌, ◌≤◌, ◌⊎◌, inl, inr, zero, suc, List, [], ◌∷◌, ◌++◌, length, Some, IsSome, replicate, get_or, refl, sym, ap, subst, arith, true, ◌-◌}
 use Rattle.dmatypes.specs.declared.call.Call.TheVariants as calls
 use Rattle.dmatypes.specs.declared.call.Mode.TheVariants.{Strict}
 use Rattle.dmatypes.specs.declared.reply.Event.{Event}
-use Rattle.dmatypes.specs.declared.reply.Reply.TheVariants.{Made, Done, Mapped, Host}
-use Rattle.dmatypes.specs.Page.{IsBeyond, IsInWindow, IsWithin}
-use Rattle.dmatypes.specs.Rights.{AreRights, Permits}
-use Rattle.dmatypes.specs.World.{Target, World, AreFreePages, empty, empty_domain, is_within}
+use Rattle.dmatypes.specs.declared.reply.Reply.TheVariants.{Made, Done, Mapped}
+use Rattle.dmatypes.specs.World.{World, AreFreePages, empty, empty_domain, is_within}
 use Rattle.dmatypes.proofs.Ranges.{within_is}
-use Rattle.dmatypes.specs.Allows.{Allows, AllowsTo}
-use Rattle.dmatypes.specs.Conditions.{IsBadMap, Stands, HasNoRange}
+use Rattle.dmatypes.specs.Allows.{Allows}
+use Rattle.dmatypes.specs.Conditions.{IsBadMap, Stands}
 use Rattle.dmatypes.specs.Step.{Answers, IsStep, next}
-use Rattle.dmatypes.specs.History.{IsLegal, IsLegalFrom, after, event}
-use Rattle.vtdbits.specs.declared.port.PortWord.{PortWord}
+use Rattle.dmatypes.specs.History.{IsLegal, after, event}
 use Rattle.vtdbits.specs.Port.{port_word}
 use Rattle.vtdbits.specs.Translation.{target}
-use Rattle.ports.specs.Lawful.{Backs, IsBacked, IsLawfulAfter}
+use Rattle.ports.specs.Lawful.{IsBacked, IsLawfulAfter}
 use Rattle.ports.specs.Steps.{AreLawful, place_of}
 use Rattle.ports.specs.Examples.{mapped_history, request, whole_history}
 use Rattle.ports.proofs.Histories.{lawful_zero}

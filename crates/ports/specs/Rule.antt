@@ -20,6 +20,10 @@ nobody = record { who = 0; seen = []; did = [] }
 abbrev pub newcomer : ℕ → Known
 newcomer p = record { who = suc p; seen = []; did = [] }
 
+-- a caller that was told of a history, by a load of the counter
+abbrev pub told : Known → List Event → Known
+told known history = record { who = known.who; seen = history; did = known.did ++ Loaded counter (length history) ∷ [] }
+
 -- the view of a port or a pass
 abbrev pub view_of : ℕ → Known → View
 view_of frames known = record { frames = frames; is_desk = false; made = 0; mine = known; guest = nobody; last = [] }

@@ -6,7 +6,7 @@ ghost use Rattle.dmatypes.specs.History.{IsLegal, after};
 ghost use Rattle.vtdbits.specs.Port.{Spells};
 ghost use Rattle.ports.specs.Lawful.{IsBacked, IsLawfulAfter};
 ghost use Rattle.ports.specs.Steps.{AreLawful, counter, place_of, slot_of};
-ghost use Rattle.ports.specs.Rule.{desk_of, nobody, view_of};
+ghost use Rattle.ports.specs.Rule.{desk_of, nobody, told, view_of, with_guest};
 ghost use Rattle.ports.specs.declared.known.OwnStep.TheVariants.{Loaded};
 
 use crate::port::{Pass, Port, place};
@@ -24,11 +24,11 @@ pub struct Desk {
 
 impl Model for Desk {
     ghost use Rattle.std.specs.Prelude.{◌≡◌, true, length};
-    ghost use Rattle.ports.specs.Seen.{DeskKnows};
+    ghost use Rattle.ports.specs.Seen.{DeskKnows, desk_of};
 
     ghost Value = { DeskKnows };
 
-    ghost view = { λ d. record { rows = record { table = d.seat.table_id; frames = d.seat.me.0.frames }; history = d.seat.me.0.mine.seen; last = d.seat.me.0.last } };
+    ghost view = { λ d. desk_of d.seat.table_id d.seat.me.0 };
 
     ghost invariant = { λ d. (d.seat.me.0.is_desk ≡ true) × (length d.seat.me.0.last ≡ 256) };
 }
@@ -42,7 +42,8 @@ impl Desk {
         requires device { device < 16 }
         requires lawful { IsBacked (after self.old.rows.frames self.old.history) device word }
         ensures word { Spells (slice_index self.new.last (place_of device (slot_of word.page))) word }
-        ensures last { self.new.last ≡ slice_set self.old.last (place_of device (slot_of word.page)) (slice_index self.new.last (place_of device (slot_of word.page))) }
+        ensures last { self.new.last ≡ slice_set self.old.last (place_of device (slot_of word.page))
+            (slice_index self.new.last (place_of device (slot_of word.page))) }
         ensures same { (self.new.rows ≡ self.old.rows) × (self.new.history ≡ self.old.history) }
     {
         self.store(rows, device, word.page.number() % SLOTS, word.encode());
@@ -54,7 +55,8 @@ impl Desk {
         requires rows { self.old.rows ≡ rows.now }
         requires device { device < 16 }
         ensures cleared { (slot : ℕ) → slot < 16 → slice_index self.new.last (place_of device slot) ≡ 0 }
-        ensures others { (k : ℕ) → (k < 16 * device) ⊎ (16 * device + 16 ≤ k) → slice_index self.new.last k ≡ slice_index self.old.last k }
+        ensures others { (k : ℕ) → (k < 16 * device) ⊎ (16 * device + 16 ≤ k)
+            → slice_index self.new.last k ≡ slice_index self.old.last k }
         ensures same { (self.new.rows ≡ self.old.rows) × (self.new.history ≡ self.old.history) }
     {
         for slot in 0..SLOTS {
@@ -116,7 +118,8 @@ fn append_as<E: Told>(desk: &mut Place, rows: &Rows, event: &Event)
     requires legal { IsLegal rows.now.frames (desk.old.me.0.mine.seen ++ E.event ∷ []) }
     requires lawful { AreLawful (IsLawfulAfter rows.now.frames) (desk.old.me.0.mine.seen ++ E.event ∷ []) desk.old.me.0.last }
     ensures { (desk.new.table_id ≡ desk.old.table_id)
-        × (desk.new.me.0 ≡ desk_of desk.old.me.0.frames (desk.old.me.0.mine.seen ++ E.event ∷ []) desk.old.me.0.last desk.old.me.0.made desk.old.me.0.guest) }
+        × (desk.new.me.0 ≡ desk_of desk.old.me.0.frames (desk.old.me.0.mine.seen ++ E.event ∷ [])
+        desk.old.me.0.last desk.old.me.0.made desk.old.me.0.guest) }
 {
     let _ = event;
     rows.words.shared.fetch_add::<Appends<E>>(desk, COUNTER, 1);
@@ -124,13 +127,14 @@ fn append_as<E: Told>(desk: &mut Place, rows: &Rows, event: &Event)
 
 // The caller's view goes to the desk, learns of the history there, and comes back to a new seat.
 fn host(desk: &mut Place, rows: &Rows, place: &mut Place, caller: u64)
-    requires rows { (desk.old.table_id ≡ rows.now.table) × (desk.old.me.0.frames ≡ rows.now.frames) × (place.old.table_id ≡ rows.now.table) }
+    requires rows { (desk.old.table_id ≡ rows.now.table) × (desk.old.me.0.frames ≡ rows.now.frames)
+        × (place.old.table_id ≡ rows.now.table) }
     requires desk { desk.old.me.0.is_desk ≡ true }
     requires caller { place.old.me.0.mine.who ≡ suc caller }
     ensures desk { (desk.new.table_id ≡ desk.old.table_id)
-        × (desk.new.me.0 ≡ desk_of desk.old.me.0.frames desk.old.me.0.mine.seen desk.old.me.0.last desk.old.me.0.made nobody) }
+        × (desk.new.me.0 ≡ with_guest desk.old.me.0 nobody) }
     ensures place { (place.new.table_id ≡ place.old.table_id)
-        × (place.new.me.0 ≡ view_of desk.old.me.0.frames (record { who = place.old.me.0.mine.who; seen = desk.old.me.0.mine.seen; did = place.old.me.0.mine.did ++ Loaded counter (length desk.old.me.0.mine.seen) ∷ [] })) }
+        × (place.new.me.0 ≡ view_of desk.old.me.0.frames (told place.old.me.0.mine desk.old.me.0.mine.seen)) }
     ensures seen { IsPrefix place.old.me.0.mine.seen desk.old.me.0.mine.seen }
 {
     let _ = caller;

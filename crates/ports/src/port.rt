@@ -27,11 +27,11 @@ pub struct Port {
 
 impl Model for Port {
     ghost use Rattle.std.specs.Prelude.{◌≡◌, ◌<◌, suc};
-    ghost use Rattle.ports.specs.Seen.{PortKnows};
+    ghost use Rattle.ports.specs.Seen.{PortKnows, port_of};
 
     ghost Value = { PortKnows };
 
-    ghost view = { λ p. record { rows = record { table = p.seat.table_id; frames = p.seat.me.0.frames }; device = p.device; seen = p.seat.me.0.mine.seen; did = p.seat.me.0.mine.did } };
+    ghost view = { λ p. port_of p.seat.table_id p.seat.me.0 p.device };
 
     ghost invariant = { λ p. (p.device < 16) × (p.seat.me.0.mine.who ≡ suc p.device) };
 }
@@ -45,11 +45,11 @@ pub struct Pass {
 
 impl Model for Pass {
     ghost use Rattle.std.specs.Prelude.{◌≡◌, suc};
-    ghost use Rattle.ports.specs.Seen.{PassKnows};
+    ghost use Rattle.ports.specs.Seen.{PassKnows, pass_of};
 
     ghost Value = { PassKnows };
 
-    ghost view = { λ p. record { rows = record { table = p.seat.table_id; frames = p.seat.me.0.frames }; caller = p.caller; seen = p.seat.me.0.mine.seen } };
+    ghost view = { λ p. pass_of p.seat.table_id p.seat.me.0 p.caller };
 
     ghost invariant = { λ p. p.seat.me.0.mine.who ≡ suc p.caller };
 }
@@ -61,16 +61,18 @@ impl Port {
     pub fn hit(&mut self, rows: &Rows, address: u64, access: Access) -> (Option<u64>, u64)
         requires { self.old.rows ≡ rows.now }
         ensures did { (word : ℕ)
-            × (self.new.did ≡ self.old.did ++ Loaded counter result.1 ∷ Loaded (place_of self.old.device (slot_of (page_of address))) word ∷ [])
+            × (self.new.did ≡ self.old.did ++ Loaded counter result.1
+            ∷ Loaded (place_of self.old.device (slot_of (page_of address))) word ∷ [])
             × IfSome result.0 (States word address access)
             × IfNone result.0 ((host : ℕ) → States word address access host → ⊥)
-            × IsSeenInRun (IsLegal self.old.rows.frames) (IsLawfulAfter self.old.rows.frames) self.old.device self.new.seen
-                (λ words. slice_index words (place_of self.old.device (slot_of (page_of address))) ≡ word) }
+            × IsSeenInRun (IsLegal self.old.rows.frames) (IsLawfulAfter self.old.rows.frames)
+            self.old.device self.new.seen (λ words. slice_index words (place_of self.old.device (slot_of (page_of address))) ≡ word) }
         ensures count { (history : List Event)
             × IsLegal self.old.rows.frames history × (result.1 ≡ length history)
             × IsPrefix self.old.seen history × IsPrefix history self.new.seen }
         ensures allowed { IsLegal self.old.rows.frames self.new.seen
-            × IfSome result.0 (λ host. Allows (after self.old.rows.frames self.new.seen) self.old.device address access (replies.Host host)) }
+            × IfSome result.0 (λ host.
+            Allows (after self.old.rows.frames self.new.seen) self.old.device address access (replies.Host host)) }
         ensures same { (self.new.rows ≡ self.old.rows) × (self.new.device ≡ self.old.device) }
     {
         let count = self.count(rows);
@@ -86,7 +88,8 @@ impl Port {
         ensures did { self.new.did ≡ self.old.did ++ Loaded counter result ∷ [] }
         ensures seen { IsPrefix self.old.seen self.new.seen × IsLegal self.old.rows.frames self.new.seen
             × (result ≡ length self.new.seen) }
-        ensures run { IsSeenInRun (IsLegal self.old.rows.frames) (IsLawfulAfter self.old.rows.frames) self.old.device self.new.seen (λ words. Unit {0}) }
+        ensures run { IsSeenInRun (IsLegal self.old.rows.frames) (IsLawfulAfter self.old.rows.frames)
+            self.old.device self.new.seen (λ words. Unit {0}) }
         ensures same { (self.new.rows ≡ self.old.rows) × (self.new.device ≡ self.old.device) }
     {
         rows.words.shared.load::<Counts>(&mut self.seat, COUNTER)

@@ -1,7 +1,7 @@
 //! The words, and the making of all who share them.
 
 ghost use Rattle.std.specs.Prelude.{◌≡◌, ℕ, ◌+◌, ◌<◌, ◌≤◌, true, IfOk, vec_len, slice_get, Some};
-ghost use Rattle.ports.specs.Seen.{new_desk, new_pass, new_port};
+ghost use Rattle.ports.specs.Seen.{ArePasses, ArePorts, new_desk, rows_of};
 ghost use Rattle.ports.specs.Rule.{made_desk, newcomer as newcomer_of, one_more, view_of};
 
 use crate::desk::Desk;
@@ -18,11 +18,11 @@ pub struct Rows {
 
 impl Model for Rows {
     ghost use Rattle.std.specs.Prelude.{◌≡◌};
-    ghost use Rattle.ports.specs.Seen.{RowsId};
+    ghost use Rattle.ports.specs.Seen.{RowsId, rows_of};
 
     ghost Value = { RowsId };
 
-    ghost view = { λ r. record { table = r.words.shared.table_id; frames = r.words.shared.key.frames } };
+    ghost view = { λ r. rows_of r.words.shared.table_id r.words.shared.key.frames };
 
     ghost invariant = { λ r. r.words.shared.table_id.words ≡ 257 };
 }
@@ -38,8 +38,8 @@ impl Rows {
         requires { (1 ≤ passes) × (passes ≤ 64) }
         ensures rows { IfOk result (λ r. r.0.frames ≡ frames) }
         ensures desk { IfOk result (λ r. r.1 ≡ new_desk r.0) }
-        ensures ports { IfOk result (λ r. (vec_len r.2 ≡ 16) × ((k : ℕ) → k < 16 → slice_get r.2.items k ≡ Some (new_port r.0 k))) }
-        ensures passes { IfOk result (λ r. (vec_len r.3 ≡ passes) × ((k : ℕ) → k < passes → slice_get r.3.items k ≡ Some (new_pass r.0 (16 + k)))) }
+        ensures ports { IfOk result (λ r. (vec_len r.2 ≡ 16) × ArePorts r.0 r.2.items 16) }
+        ensures passes { IfOk result (λ r. (vec_len r.3 ≡ passes) × ArePasses r.0 r.3.items passes) }
     {
         let size = Size { frames, passes };
         let (words, mut seat) = Words::of_words(alloc, &[0; 257], &size)?;
@@ -63,8 +63,10 @@ fn newcomer(words: &Words, desk: &mut Place, caller: u64) -> Place
 fn make_ports(alloc: Global, words: &Words, desk: &mut Place) -> Result<Vec<Port>, AllocError>
     requires table { (desk.old.table_id ≡ words.now.shared.table_id) × (0 < words.now.shared.table_id.words) }
     requires view { desk.old.me.0 ≡ made_desk words.now.shared.key.frames 0 }
-    ensures desk { IfOk result (λ v. (desk.new.table_id ≡ desk.old.table_id) × (desk.new.me.0 ≡ made_desk words.now.shared.key.frames 16)) }
-    ensures ports { IfOk result (λ v. (vec_len v ≡ 16) × ((k : ℕ) → k < 16 → slice_get v.items k ≡ Some (new_port (record { table = words.now.shared.table_id; frames = words.now.shared.key.frames }) k))) }
+    ensures desk { IfOk result (λ v. (desk.new.table_id ≡ desk.old.table_id)
+        × (desk.new.me.0 ≡ made_desk words.now.shared.key.frames 16)) }
+    ensures ports { IfOk result (λ v. (vec_len v ≡ 16)
+        × ArePorts (rows_of words.now.shared.table_id words.now.shared.key.frames) v.items 16) }
 {
     let mut ports = Vec::new(alloc);
     for device in 0..16 {
@@ -83,8 +85,10 @@ fn make_passes(
     requires table { (desk.old.table_id ≡ words.now.shared.table_id) × (0 < words.now.shared.table_id.words) }
     requires view { desk.old.me.0 ≡ made_desk words.now.shared.key.frames 16 }
     requires passes { (passes ≡ words.now.shared.key.passes) × (passes ≤ 64) }
-    ensures desk { IfOk result (λ v. (desk.new.table_id ≡ desk.old.table_id) × (desk.new.me.0 ≡ made_desk words.now.shared.key.frames (16 + passes))) }
-    ensures passes { IfOk result (λ v. (vec_len v ≡ passes) × ((k : ℕ) → k < passes → slice_get v.items k ≡ Some (new_pass (record { table = words.now.shared.table_id; frames = words.now.shared.key.frames }) (16 + k)))) }
+    ensures desk { IfOk result (λ v. (desk.new.table_id ≡ desk.old.table_id)
+        × (desk.new.me.0 ≡ made_desk words.now.shared.key.frames (16 + passes))) }
+    ensures passes { IfOk result (λ v. (vec_len v ≡ passes)
+        × ArePasses (rows_of words.now.shared.table_id words.now.shared.key.frames) v.items passes) }
 {
     let mut made = Vec::new(alloc);
     for number in 0..passes {

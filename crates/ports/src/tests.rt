@@ -122,12 +122,24 @@ fn hits(port: &mut Port, rows: &Rows, address: u64, access: Access, host: Option
     answer == host && count == 5
 }
 
+// Rows may be used by many threads at once.
+fn is_shared<T: Sync>(_: &T) -> bool {
+    true
+}
+
+// A port may go to another thread.
+fn is_sent<T: Send>(_: &T) -> bool {
+    true
+}
+
 #[test]
 fn words_of_one_device(rt: HostRuntime) {
-    let (rows, mut desk, mut ports, mut passes) =
-        Rows::new(rt.alloc(), 64, 1).expect(&rt, "memory");
+    let (rows, mut desk, mut ports, mut passes) = Rows::new(rt.alloc(), 64, 1).expect(
+        &rt, "memory",
+    );
     let mut port = ports.remove(3);
     let mut pass = passes.pop().expect(&rt, "a pass");
+    assert!(rt; is_shared(&rows) && is_sent(&port) && is_sent(&pass) && is_sent(&desk));
     assert!(rt; port.count(&rows) == 0);
     map_pages(&mut desk, &rows);
     request_pages(&mut desk, &rows);

@@ -41,7 +41,7 @@ returns-clause-did c =
     let before = ap (λ (v : PortKnows). v.did) c.self.view_is ∙ c.count-count.ensures.did in (
       word,
       looked.0.did ∙ ap (λ (l : List OwnStep). l ++ Loaded c.place-place.result word ∷ []) before ∙ append_assoc did (Loaded counter count ∷ []) (Loaded c.place-place.result word ∷ [])
-      ∙ ap (λ (k : ℕ). did ++ Loaded counter count ∷ Loaded k word ∷ []) place,
+          ∙ ap (λ (k : ℕ). did ++ Loaded counter count ∷ Loaded k word ∷ []) place,
       c.host.ensures.some,
       c.host.ensures.none,
       subst (λ (x : ℕ × ℕ × ℕ). IsSeenInRun (IsLegal x.0) (IsLawfulAfter x.0) x.1 c.load-word.new.seat.me.0.mine.seen (λ words. slice_index words x.2 ≡ word)) (λ i. (frames i, device i, place i))
