@@ -34,14 +34,14 @@ pub record DeskKnows : Type 0 where
 abbrev pub rows_of : TableId → ℕ → RowsId
 rows_of table frames = record { table = table; frames = frames }
 
-abbrev pub port_of : TableId → View → ℕ → PortKnows
-port_of table v device = record { rows = rows_of table v.frames; device = device; seen = v.mine.seen; did = v.mine.did }
+abbrev pub port_knows : TableId → View → ℕ → PortKnows
+port_knows table v device = record { rows = rows_of table v.frames; device = device; seen = v.mine.seen; did = v.mine.did }
 
-abbrev pub pass_of : TableId → View → ℕ → PassKnows
-pass_of table v caller = record { rows = rows_of table v.frames; caller = caller; seen = v.mine.seen }
+abbrev pub pass_knows : TableId → View → ℕ → PassKnows
+pass_knows table v caller = record { rows = rows_of table v.frames; caller = caller; seen = v.mine.seen }
 
-abbrev pub desk_of : TableId → View → DeskKnows
-desk_of table v = record { rows = rows_of table v.frames; history = v.mine.seen; last = v.last }
+abbrev pub desk_knows : TableId → View → DeskKnows
+desk_knows table v = record { rows = rows_of table v.frames; history = v.mine.seen; last = v.last }
 
 -- ---- what is made with new rows
 

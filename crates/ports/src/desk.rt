@@ -24,11 +24,11 @@ pub struct Desk {
 
 impl Model for Desk {
     ghost use Rattle.std.specs.Prelude.{◌≡◌, true, length};
-    ghost use Rattle.ports.specs.Seen.{DeskKnows, desk_of};
+    ghost use Rattle.ports.specs.Seen.{DeskKnows, desk_knows};
 
     ghost Value = { DeskKnows };
 
-    ghost view = { λ d. desk_of d.seat.table_id d.seat.me.0 };
+    ghost view = { λ d. desk_knows d.seat.table_id d.seat.me.0 };
 
     ghost invariant = { λ d. (d.seat.me.0.is_desk ≡ true) × (length d.seat.me.0.last ≡ 256) };
 }

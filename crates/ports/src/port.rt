@@ -27,11 +27,11 @@ pub struct Port {
 
 impl Model for Port {
     ghost use Rattle.std.specs.Prelude.{◌≡◌, ◌<◌, suc};
-    ghost use Rattle.ports.specs.Seen.{PortKnows, port_of};
+    ghost use Rattle.ports.specs.Seen.{PortKnows, port_knows};
 
     ghost Value = { PortKnows };
 
-    ghost view = { λ p. port_of p.seat.table_id p.seat.me.0 p.device };
+    ghost view = { λ p. port_knows p.seat.table_id p.seat.me.0 p.device };
 
     ghost invariant = { λ p. (p.device < 16) × (p.seat.me.0.mine.who ≡ suc p.device) };
 }
@@ -45,11 +45,11 @@ pub struct Pass {
 
 impl Model for Pass {
     ghost use Rattle.std.specs.Prelude.{◌≡◌, suc};
-    ghost use Rattle.ports.specs.Seen.{PassKnows, pass_of};
+    ghost use Rattle.ports.specs.Seen.{PassKnows, pass_knows};
 
     ghost Value = { PassKnows };
 
-    ghost view = { λ p. pass_of p.seat.table_id p.seat.me.0 p.caller };
+    ghost view = { λ p. pass_knows p.seat.table_id p.seat.me.0 p.caller };
 
     ghost invariant = { λ p. p.seat.me.0.mine.who ≡ suc p.caller };
 }
