@@ -1,8 +1,8 @@
 -- What port words spell.
-use Rattle.std.proofs.Common.{◌≡◌, ℕ, Some, None, sym, ◌∙◌, arith}
+use Rattle.std.proofs.Common.{◌≡◌, ℕ, inr, Some, None, sym, ◌∙◌, arith}
 use Rattle.std.proofs.lemmas.Bool.Decides.{nat_tests}
 use Rattle.vtdbits.proofs.Cascades.{same_some, none_read}
-use Rattle.vtdbits.specs.Port.{Spells, port_of}
+use Rattle.vtdbits.specs.Port.{IsEmptyOrSpelling, Spells, port_of}
 use Rattle.vtdbits.specs.declared.port.PortWord.{PortWord}
 
 -- a word that spells a page with its translation is read as these
@@ -33,3 +33,7 @@ not_empty p s = omega arith
 
 pub port_of-zero : port_of 0 ≡ None
 port_of-zero = port_of-none 0 not_empty
+
+-- a word that spells something is empty or a spelling
+pub is_spelling : (word : ℕ) (p : PortWord) → Spells word p → IsEmptyOrSpelling word
+is_spelling word p s = inr (p, s)

@@ -1,6 +1,10 @@
 -- Spellings of port words.
-use Rattle.std.specs.Prelude.{◌≡◌, ℕ, ◌+◌, ◌*◌, ◌/◌, ◌%◌, ◌^◌, ◌&&◌, nat_le, if◌then◌else◌, Option, Some, None}
+use Rattle.std.specs.Prelude.{◌≡◌, ◌⊎◌, ℕ, ◌+◌, ◌*◌, ◌/◌, ◌%◌, ◌^◌, ◌&&◌, nat_le, if◌then◌else◌, Option, Some, None}
+use Rattle.dmatypes.specs.declared.call.Access.{Access}
+use Rattle.dmatypes.specs.Page.{page_of}
+use Rattle.dmatypes.specs.Rights.{Permits}
 use Rattle.dmatypes.specs.World.{Target}
+use Rattle.dmatypes.specs.Allows.{host_of}
 use Rattle.vtdbits.specs.Numbers.{IsWidePage, is_wide_page}
 use Rattle.vtdbits.specs.Translation.{IsTranslation, target}
 use Rattle.vtdbits.specs.declared.port.PortWord.{PortWord}
@@ -22,3 +26,15 @@ port_of word =
     if nat_le 1 (word % 4) && is_wide_page (word / 2 ^ 26)
     then Some (port_word (word / 2 ^ 26) (target (word / 4 % 2 ^ 24) (word % 4)))
     else None
+
+-- ---- what a word tells a device
+
+-- the word is empty, or spells something
+abbrev pub IsEmptyOrSpelling : ℕ → Type 0
+IsEmptyOrSpelling word = (word ≡ 0) ⊎ ((p : PortWord) × Spells word p)
+
+-- the word states the page of a byte address with the right for an access, and this is the host byte address
+abbrev pub States : ℕ → ℕ → Access → ℕ → Type 0
+States word address access host =
+    (p : PortWord) × Spells word p × (p.page ≡ page_of address) × Permits p.translation.rights access
+    × (host ≡ host_of p.translation address)

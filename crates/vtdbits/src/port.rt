@@ -1,12 +1,12 @@
 //! Port words: what a device may be answered without a lock.
 
-ghost use Rattle.std.specs.Prelude.{◌≡◌, ◌↔◌, IsSome, IfSome, IfNone};
+ghost use Rattle.std.specs.Prelude.{◌≡◌, ◌↔◌, ℕ, IsSome, IfSome, IfNone};
 ghost use Rattle.vtdbits.specs.Numbers.{IsWidePage};
 
 use crate::bits::field;
 use crate::translation::Translation;
 use bitflags::Flags;
-use dmatypes::{Frame, Page, Rights};
+use dmatypes::{Access, Frame, Page, Rights};
 use std::marker::Model;
 
 /// A page of the widest address space that words can speak of, 48 bits: a number from 1 to 2^36 - 1 that
@@ -69,7 +69,7 @@ pub struct PortWord {
 }
 
 impl PortWord {
-    ghost use Rattle.vtdbits.specs.Port.{Spells, port_of};
+    ghost use Rattle.vtdbits.specs.Port.{IsEmptyOrSpelling, Spells, States, port_of};
 
     /// What a word states, if it is a spelling.
     #[inline]
@@ -97,5 +97,24 @@ impl PortWord {
     {
         let rights = u64::from(self.translation.rights().bits());
         rights + (self.translation.frame().number() << 2) + (self.page.number() << 26)
+    }
+
+    /// The host byte address of a device's request at a byte address, where a word states the page of the
+    /// address with the right. No more of the word is read, so it is to be empty or a spelling.
+    #[inline]
+    pub fn host(word: u64, address: u64, access: Access) -> Option<u64>
+        requires { IsEmptyOrSpelling word }
+        ensures some { IfSome result (States word address access) }
+        ensures none { IfNone result ((host : ℕ) → States word address access host → ⊥) }
+    {
+        let right = match access {
+            Access::Read => field(word, 0, 1),
+            Access::Write => field(word, 1, 1),
+        };
+        if word >> 26 == address >> 12 && right == 1 {
+            Some((field(word, 2, 24) << 12) + field(address, 0, 12))
+        } else {
+            None
+        }
     }
 }

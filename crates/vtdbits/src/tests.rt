@@ -7,7 +7,7 @@ use crate::number::{DeviceNumber, DomainId, PageBlock};
 use crate::port::{PortWord, WidePage};
 use crate::translation::{LargeTranslation, Translation};
 use crate::words::Words;
-use dmatypes::{Frame, Page, Rights, Width};
+use dmatypes::{Access, Frame, Page, Rights, Width};
 use std::process::Abort;
 
 fn frame_of(rt: &impl Abort, number: u64) -> Frame {
@@ -175,4 +175,19 @@ fn port_words(rt: HostRuntime) {
     for word in [0, 0x0000_0000_0400_0400] {
         assert!(rt; PortWord::decode(word).is_none(), "at {word}");
     }
+}
+
+// Whether the word of page 1 and frame 0x100, read only, gives a request this host address.
+fn gives_host(rt: &impl Abort, address: u64, access: Access, host: Option<u64>) -> bool {
+    let page = WidePage::new(1).expect(rt, "a page");
+    let translation = translation_of(rt, 0x100, 1);
+    PortWord::host(PortWord { page, translation }.encode(), address, access) == host
+}
+
+#[test]
+fn hosts_by_port_word(rt: HostRuntime) {
+    assert!(rt; gives_host(&rt, 0x1234, Access::Read, Some(0x10_0234)));
+    assert!(rt; gives_host(&rt, 0x1234, Access::Write, None));
+    assert!(rt; gives_host(&rt, 0x2234, Access::Read, None));
+    assert!(rt; PortWord::host(0, 0x234, Access::Read).is_none());
 }

@@ -1,0 +1,14 @@
+pub mod Fronts
+pub mod Reaching
+pub mod Views
+pub mod Loads
+pub mod Stores
+pub mod Seats
+pub mod Histories
+pub mod Told
+pub mod Maps
+pub mod Worlds
+pub mod Allowed
+pub mod Staying
+pub mod Runs
+pub mod Examples

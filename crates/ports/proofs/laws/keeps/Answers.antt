@@ -1,0 +1,5 @@
+use Rattle.ports.proofs.Staying as staying
+use Rattle.ports.proofs.laws.keeps.Goals as goal
+
+pub returns : goal.returns
+returns c = staying.keeps

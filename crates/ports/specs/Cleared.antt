@@ -1,0 +1,36 @@
+-- Which rows are cleared at a call, and the law that this is enough.
+use Rattle.std.specs.Prelude.{◌≡◌, ℕ, Some, IsSomeAnd}
+use Rattle.dmatypes.specs.declared.call.Call.{Call}
+use Rattle.dmatypes.specs.declared.call.Call.TheVariants as calls
+use Rattle.dmatypes.specs.declared.call.Mode.{Mode}
+use Rattle.dmatypes.specs.declared.call.Mode.TheVariants as modes
+use Rattle.dmatypes.specs.declared.reply.Reply.{Reply}
+use Rattle.dmatypes.specs.declared.reply.Reply.TheVariants.{Done, Unmapped, Flushed}
+use Rattle.dmatypes.specs.World.{World}
+use Rattle.dmatypes.specs.Step.{IsStep, next}
+use Rattle.ports.specs.Lawful.{IsLawful}
+
+abbrev pub IsAttachedTo : World → ℕ → ℕ → Type 0
+IsAttachedTo w device domain = w.devices device ≡ Some domain
+
+-- what an unmap takes away for good: in a strict domain its own pages, in a lazy one those of all 256 records where
+-- it empties the list, and else nothing
+abbrev pub TakesAway : Mode → ℕ → Type 0
+TakesAway modes.Strict released = Unit {0}
+TakesAway modes.Lazy released = released ≡ 256
+
+-- at this call and this reply the row of the device is cleared: at a detach it is the device's; at an unmap that takes
+-- pages away and at a flush those of all devices attached to the domain; else none, nor at a refused call
+unfoldable pub IsCleared : World → Call → Reply → ℕ → Type 0
+IsCleared w (calls.Detach device) Done other = other ≡ device
+IsCleared w (calls.Unmap domain address pages) (Unmapped released) other =
+    IsAttachedTo w other domain × IsSomeAnd (w.domains domain) (λ v. TakesAway v.mode released)
+IsCleared w (calls.Flush domain) (Flushed released) other = IsAttachedTo w other domain
+IsCleared w call reply other = ⊥
+
+-- a step leaves each lawful word lawful, but in the rows that are cleared at it
+abbrev pub Keeps : Type 0
+Keeps =
+    (w : World) (call : Call) (reply : Reply) (device word : ℕ)
+    → IsStep w call reply → IsLawful w device word → (IsCleared w call reply device → ⊥)
+    → IsLawful (next w call reply) device word

@@ -1,0 +1,137 @@
+-- The rule of the table, and what each step tells whoever makes it.
+use Rattle.std.specs.Prelude.{◌≡◌, ℕ, suc, ◌+◌, ◌<◌, ◌≤◌, ◌⊎◌, Bool, true, false, List, [], ◌∷◌, ◌++◌, length, slice_index, slice_set, replicate}
+use mathlib.Core.Option.{some}
+use mathlib.Core.List.{IsPrefix}
+use lib.ListN.{get_elem?}
+use Rattle.atomic_table.specs.Table.{State, Me, Step}
+use Rattle.dmatypes.specs.declared.reply.Event.{Event}
+use Rattle.ports.specs.Steps.{Core, IsReached, IsSeenInRun, AreLawful, counter, place_of, seen_by}
+use Rattle.ports.specs.declared.known.OwnStep.{OwnStep}
+use Rattle.ports.specs.declared.known.OwnStep.TheVariants.{Loaded, Stored}
+use Rattle.ports.specs.declared.known.Known.{Known}
+use Rattle.ports.specs.declared.known.View.{View}
+
+-- ---- views
+
+-- who is 0 for nobody, and p + 1 for the caller p
+abbrev pub nobody : Known
+nobody = record { who = 0; seen = []; did = [] }
+
+abbrev pub newcomer : ℕ → Known
+newcomer p = record { who = suc p; seen = []; did = [] }
+
+-- a caller that was told of a history, by a load of the counter
+abbrev pub told : Known → List Event → Known
+told known history = record { who = known.who; seen = history; did = known.did ++ Loaded counter (length history) ∷ [] }
+
+-- the view of a port or a pass
+abbrev pub view_of : ℕ → Known → View
+view_of frames known = record { frames = frames; is_desk = false; made = 0; mine = known; guest = nobody; last = [] }
+
+-- the view of a seat that a caller has left
+abbrev pub left_seat : View
+left_seat = view_of 0 nobody
+
+abbrev pub desk_of : ℕ → List Event → List ℕ → ℕ → Known → View
+desk_of frames history last made guest =
+    record { frames = frames; is_desk = true; made = made; mine = record { who = 0; seen = history; did = [] }; guest = guest; last = last }
+
+-- the desk of a new table that has made so many callers
+abbrev pub made_desk : ℕ → ℕ → View
+made_desk frames made = desk_of frames [] (replicate 256 0) made nobody
+
+-- a guest sits down at the desk, or stands up
+abbrev pub with_guest : View → Known → View
+with_guest v guest = desk_of v.frames v.mine.seen v.last v.made guest
+
+-- the desk makes one more caller
+abbrev pub one_more : View → View
+one_more v = desk_of v.frames v.mine.seen v.last (suc v.made) v.guest
+
+-- ---- the rule
+
+-- What is true of the table: where a run has led to, the words that the desk last stored, the desk's seat, how many
+-- callers were made, and where each one is: at which seat, and whether as the desk's guest
+pub record Truth : Type 0 where
+  pub core : Core
+  pub last : List ℕ
+  pub desk : ℕ
+  pub made : ℕ
+  pub place : ℕ → ℕ × Bool
+
+-- what is known there is the caller's
+pub record IsNamed (t : Truth) (seat : ℕ) (as_guest : Bool) (known : Known) : Type 0 where
+  pub is : (p : ℕ) → known.who ≡ suc p → (p < t.made) × (t.place p ≡ (seat, as_guest)) × (seen_by t.core p ≡ known.seen)
+
+-- the view of a seat: what was seen is a front of the history, and the desk has seen all of it
+pub record Fits (t : Truth) (seat : ℕ) (v : View) : Type 0 where
+  pub seen : IsPrefix v.mine.seen t.core.history
+  pub guest : IsPrefix v.guest.seen t.core.history
+  pub whole : v.is_desk ≡ true → (seat ≡ t.desk) × (v.mine.seen ≡ t.core.history) × (v.last ≡ t.last) × (v.made ≡ t.made)
+  pub mine_named : IsNamed t seat false v.mine
+  pub guest_named : IsNamed t seat true v.guest
+
+abbrev pub Table : Type 0
+Table = State (Unit {0}) View
+
+abbrev pub Sat : Type 0
+Sat = Me (Unit {0}) View
+
+module _ (legal : List Event → Type 0) (lawful : List Event → ℕ → ℕ → Type 0) where
+  -- The steps of ports, passes and the desk have led here, and no others: the row words are those of the run, and so is
+  -- what callers have seen. The counter is the length of the desk's history, which is legal; every row word is 0 or the
+  -- one that the desk last stored there; and every one of these is lawful after the history
+  pub record IsKept (passes : ℕ) (s : Table) : Type 0 where
+    pub truth : Truth
+    pub reached : IsReached legal lawful passes truth.core
+    pub wide : length s.words ≡ 257
+    pub count : slice_index s.words counter ≡ length truth.core.history
+    pub is_legal : legal truth.core.history
+    pub core_wide : length truth.core.words ≡ 256
+    pub words : (k : ℕ) → k < 256 → slice_index truth.core.words k ≡ slice_index s.words k
+    pub rows : (k : ℕ) → k < 256 → (slice_index s.words k ≡ 0) ⊎ (slice_index s.words k ≡ slice_index truth.last k)
+    pub each_lawful : AreLawful lawful truth.core.history truth.last
+    pub callers : length truth.core.seen ≡ 16 + passes
+    pub made : truth.made ≤ 16 + passes
+    pub fresh : (p : ℕ) → truth.made ≤ p → seen_by truth.core p ≡ []
+    pub each_seat : (j : ℕ) (v : View) → get_elem? s.views j ≡ some v → Fits truth j v
+
+  -- ---- what steps tell
+
+  -- a caller has made a load: it has seen a legal history that begins with what it had seen
+  pub record Learns (known later : Known) (step : OwnStep) : Type 0 where
+    pub more : IsPrefix known.seen later.seen
+    pub is_legal : legal later.seen
+    pub did : later.did ≡ known.did ++ step ∷ []
+    pub who : later.who ≡ known.who
+
+  -- a load of the counter also tells how long that history is
+  abbrev pub Counted : Step (Unit {0}) → Sat → ℕ → Sat → Type 0
+  Counted st m n m' =
+      Learns m.0.mine m'.0.mine (Loaded st.word n) × (length m'.0.mine.seen ≡ n)
+      × ((p : ℕ) → m.0.mine.who ≡ suc p → IsSeenInRun legal lawful p m'.0.mine.seen (λ words. Unit {0}))
+      × (m'.0.frames ≡ m.0.frames)
+
+  -- a load of a word that it is lawful after that history, and stands in such a state
+  abbrev pub Looked : Step (Unit {0}) → Sat → ℕ → Sat → Type 0
+  Looked st m n m' =
+      Learns m.0.mine m'.0.mine (Loaded st.word n)
+      × ((device slot : ℕ) → device < 16 → slot < 16 → st.word ≡ place_of device slot → lawful m'.0.mine.seen device n)
+      × ((p : ℕ) → m.0.mine.who ≡ suc p → IsSeenInRun legal lawful p m'.0.mine.seen (λ words. slice_index words st.word ≡ n))
+      × (m'.0.frames ≡ m.0.frames)
+
+abbrev pub Emptied : Step (Unit {0}) → Sat → ℕ → Sat → Type 0
+Emptied st m n m' =
+    m'.0 ≡ view_of m.0.frames (record { who = m.0.mine.who; seen = m.0.mine.seen; did = m.0.mine.did ++ Stored st.word n ∷ [] })
+
+abbrev pub Filled : Step (Unit {0}) → Sat → ℕ → Sat → Type 0
+Filled st m n m' = m'.0 ≡ desk_of m.0.frames m.0.mine.seen (slice_set m.0.last st.word n) m.0.made m.0.guest
+
+abbrev pub Appended : Event → Step (Unit {0}) → Sat → ℕ → Sat → Type 0
+Appended event st m n m' = m'.0 ≡ desk_of m.0.frames (m.0.mine.seen ++ event ∷ []) m.0.last m.0.made m.0.guest
+
+-- the desk loads the counter for its guest, who has then seen all that the desk has
+abbrev pub Hosted : Step (Unit {0}) → Sat → ℕ → Sat → Type 0
+Hosted st m n m' =
+    (m'.0 ≡ with_guest m.0 (record { who = m.0.guest.who; seen = m.0.mine.seen; did = m.0.guest.did ++ Loaded st.word n ∷ [] }))
+    × IsPrefix m.0.guest.seen m.0.mine.seen × (n ≡ length m.0.mine.seen)

@@ -1,0 +1,63 @@
+-- What contracts see of the rows, and of the ports, passes and the desk that belong to them.
+use Rattle.std.specs.Prelude.{◌≡◌, ℕ, ◌+◌, ◌<◌, List, [], replicate, Some, slice_get}
+use Rattle.atomic_table.specs.Seated.{TableId}
+use Rattle.dmatypes.specs.declared.reply.Event.{Event}
+use Rattle.ports.specs.declared.known.OwnStep.{OwnStep}
+use Rattle.ports.specs.declared.known.View.{View}
+
+-- which rows they are: their table, and how many table frames the world of their history has
+pub record RowsId : Type 0 where
+  pub table : TableId
+  pub frames : ℕ
+
+-- a port: its rows, its device, the history that it has learnt of, and its own steps
+pub record PortKnows : Type 0 where
+  pub rows : RowsId
+  pub device : ℕ
+  pub seen : List Event
+  pub did : List OwnStep
+
+-- a pass: the same without a row, by a number of its own among the callers
+pub record PassKnows : Type 0 where
+  pub rows : RowsId
+  pub caller : ℕ
+  pub seen : List Event
+
+-- the desk: its rows, the whole history, and the word that it last stored at each place
+pub record DeskKnows : Type 0 where
+  pub rows : RowsId
+  pub history : List Event
+  pub last : List ℕ
+
+-- ---- what seats know, as that
+
+abbrev pub rows_of : TableId → ℕ → RowsId
+rows_of table frames = record { table = table; frames = frames }
+
+abbrev pub port_knows : TableId → View → ℕ → PortKnows
+port_knows table v device = record { rows = rows_of table v.frames; device = device; seen = v.mine.seen; did = v.mine.did }
+
+abbrev pub pass_knows : TableId → View → ℕ → PassKnows
+pass_knows table v caller = record { rows = rows_of table v.frames; caller = caller; seen = v.mine.seen }
+
+abbrev pub desk_knows : TableId → View → DeskKnows
+desk_knows table v = record { rows = rows_of table v.frames; history = v.mine.seen; last = v.last }
+
+-- ---- what is made with new rows
+
+abbrev pub new_port : RowsId → ℕ → PortKnows
+new_port rows device = record { rows = rows; device = device; seen = []; did = [] }
+
+abbrev pub new_pass : RowsId → ℕ → PassKnows
+new_pass rows caller = record { rows = rows; caller = caller; seen = [] }
+
+abbrev pub new_desk : RowsId → DeskKnows
+new_desk rows = record { rows = rows; history = []; last = replicate 256 0 }
+
+-- the first so many are the ports of devices 0, 1 and so on
+abbrev pub ArePorts : RowsId → List PortKnows → ℕ → Type 0
+ArePorts rows ports count = (k : ℕ) → k < count → slice_get ports k ≡ Some (new_port rows k)
+
+-- the first so many are the passes from the caller 16 on
+abbrev pub ArePasses : RowsId → List PassKnows → ℕ → Type 0
+ArePasses rows passes count = (k : ℕ) → k < count → slice_get passes k ≡ Some (new_pass rows (16 + k))

@@ -1,0 +1,135 @@
+-- The steps of ports, passes and the desk, and what runs of them lead to. Places 0 to 255 are the words of the rows,
+-- 16 for each device, and place 256 is the counter.
+use Rattle.std.specs.Prelude.{◌≡◌, ℕ, ◌+◌, ◌*◌, ◌%◌, ◌<◌, List, [], ◌∷◌, ◌++◌, length, replicate, slice_index, slice_index_or, slice_set}
+use mathlib.Core.List.{IsPrefix}
+use Rattle.dmatypes.specs.declared.reply.Event.{Event}
+use Rattle.dmatypes.specs.History.{IsLegal}
+use Rattle.ports.specs.Lawful.{IsLawfulAfter}
+
+-- the place of a word: its slot in the row of a device
+abbrev pub place_of : ℕ → ℕ → ℕ
+place_of device slot = 16 * device + slot
+
+-- the slot of a page in a row
+abbrev pub slot_of : ℕ → ℕ
+slot_of page = page % 16
+
+abbrev pub counter : ℕ
+counter = 256
+
+-- each word is lawful in its device's row
+abbrev pub AreLawful : (List Event → ℕ → ℕ → Type 0) → List Event → List ℕ → Type 0
+AreLawful lawful history words =
+    (device slot : ℕ) → device < 16 → slot < 16 → lawful history device (slice_index words (place_of device slot))
+
+-- a history, the 256 row words, and what each caller has seen: the 16 ports, then the passes
+pub record Core : Type 0 where
+  pub history : List Event
+  pub words : List ℕ
+  pub seen : List (List Event)
+
+-- one step is one of five kinds
+pub data PortStep : Type 0 where
+  -- a port loads a word of its row: the port, the slot and the word
+  loads_word : ℕ → ℕ → ℕ → PortStep
+  -- a port stores 0 in its row
+  empties_word : ℕ → ℕ → PortStep
+  -- the desk stores a word in a device's row
+  stores_word : ℕ → ℕ → ℕ → PortStep
+  -- the desk adds one to the counter, and an event to the history
+  adds_event : Event → PortStep
+  -- a port or a pass loads the counter: the caller, and the answer
+  loads_counter : ℕ → ℕ → PortStep
+
+abbrev pub empty : ℕ → Core
+empty passes = record { history = []; words = replicate 256 0; seen = replicate (16 + passes) [] }
+
+abbrev pub seen_by : Core → ℕ → List Event
+seen_by c caller = slice_index_or c.seen caller []
+
+abbrev pub word_at : Core → ℕ → ℕ → ℕ
+word_at c device slot = slice_index c.words (place_of device slot)
+
+-- what the caller has seen becomes the history
+abbrev pub shown_to : ℕ → Core → Core
+shown_to caller c = record { history = c.history; words = c.words; seen = slice_set c.seen caller c.history }
+
+abbrev pub with_word : ℕ → ℕ → ℕ → Core → Core
+with_word device slot word c = record { history = c.history; words = slice_set c.words (place_of device slot) word; seen = c.seen }
+
+abbrev pub with_event : Event → Core → Core
+with_event event c = record { history = c.history ++ event ∷ []; words = c.words; seen = c.seen }
+
+abbrev pub stepped : Core → PortStep → Core
+stepped c (loads_word port slot word) = shown_to port c
+stepped c (empties_word port slot) = with_word port slot 0 c
+stepped c (stores_word device slot word) = with_word device slot word c
+stepped c (adds_event event) = with_event event c
+stepped c (loads_counter caller answer) = shown_to caller c
+
+abbrev pub stepped_by : Core → List PortStep → Core
+stepped_by c [] = c
+stepped_by c (s ∷ ss) = stepped_by (stepped c s) ss
+
+module _ (legal : List Event → Type 0) (lawful : List Event → ℕ → ℕ → Type 0) where
+  -- a port loads the word that stands there; the desk stores a lawful word; the history with the event is legal, and
+  -- every word stays lawful after it; the answer of the counter is the length of the history
+  abbrev pub IsPortStep : Core → PortStep → Type 0
+  IsPortStep c (loads_word port slot word) = (port < 16) × (slot < 16) × (word ≡ word_at c port slot)
+  IsPortStep c (empties_word port slot) = (port < 16) × (slot < 16)
+  IsPortStep c (stores_word device slot word) = (device < 16) × (slot < 16) × lawful c.history device word
+  IsPortStep c (adds_event event) =
+      legal (c.history ++ event ∷ []) × AreLawful lawful (c.history ++ event ∷ []) c.words
+  IsPortStep c (loads_counter caller answer) = (caller < length c.seen) × (answer ≡ length c.history)
+
+  abbrev pub IsRun : Core → List PortStep → Type 0
+  IsRun c [] = Unit {0}
+  IsRun c (s ∷ ss) = IsPortStep c s × IsRun (stepped c s) ss
+
+  -- a run from the empty state leads there
+  pub record IsReached (passes : ℕ) (c : Core) : Type 0 where
+    pub steps : List PortStep
+    pub is_run : IsRun (empty passes) steps
+    pub leads : stepped_by (empty passes) steps ≡ c
+
+  -- a run leads to this history, which the caller has seen there, and to such words
+  pub record IsSeenInRun (caller : ℕ) (history : List Event) (are : List ℕ → Type 0) : Type 0 where
+    pub passes : ℕ
+    pub core : Core
+    pub reached : IsReached passes core
+    pub history_is : core.history ≡ history
+    pub seen : seen_by core caller ≡ history
+    pub words : are core.words
+
+-- the run of these steps, in a world with so many table frames
+abbrev pub IsRunOf : ℕ → ℕ → List PortStep → Type 0
+IsRunOf frames passes steps = IsRun (IsLegal frames) (IsLawfulAfter frames) (empty passes) steps
+
+-- where they lead
+abbrev pub led_to : ℕ → List PortStep → Core
+led_to passes steps = stepped_by (empty passes) steps
+
+-- the step is a load by the caller
+abbrev pub IsLoadBy : ℕ → PortStep → Type 0
+IsLoadBy caller (loads_word port slot word) = port ≡ caller
+IsLoadBy caller (loads_counter other answer) = other ≡ caller
+IsLoadBy caller _ = ⊥
+
+-- The law of whole runs, for the steps of each run:
+pub record IsWholeRun (frames passes : ℕ) (steps : List PortStep) : Type 0 where
+  -- the last history is legal
+  pub legal : IsLegal frames (led_to passes steps).history
+  -- it begins with what each port and pass had seen at any point
+  pub seen : (front rest : List PortStep) (caller : ℕ) → steps ≡ front ++ rest
+      → IsPrefix (seen_by (led_to passes front) caller) (led_to passes steps).history
+  -- each word that a port loaded is lawful for its device after the history of that point, which the port has then seen
+  pub lawful : (front rest : List PortStep) (port slot word : ℕ) → steps ≡ front ++ loads_word port slot word ∷ rest
+      → IsLawfulAfter frames (led_to passes front).history port word
+      × (seen_by (led_to passes (front ++ loads_word port slot word ∷ [])) port ≡ (led_to passes front).history)
+  -- the points of one caller's loads are fronts of one another, in its order
+  pub ordered : (front between rest : List PortStep) (one other : PortStep) (caller : ℕ)
+      → IsLoadBy caller one → IsLoadBy caller other → steps ≡ (front ++ one ∷ between) ++ other ∷ rest
+      → IsPrefix (led_to passes front).history (led_to passes (front ++ one ∷ between)).history
+
+abbrev pub WholeRun : Type 0
+WholeRun = (frames passes : ℕ) (steps : List PortStep) → IsRunOf frames passes steps → IsWholeRun frames passes steps

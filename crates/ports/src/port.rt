@@ -1,0 +1,118 @@
+//! Those who look at the words without a lock.
+
+ghost use Rattle.std.specs.Prelude.{◌≡◌, ℕ, ◌+◌, ◌*◌, ◌/◌, ◌%◌, ◌<◌, [], ◌∷◌, ◌++◌, List, length, IfSome, IfNone, slice_index};
+ghost use mathlib.Core.List.{IsPrefix};
+ghost use Rattle.dmatypes.specs.declared.reply.Event.{Event};
+ghost use Rattle.dmatypes.specs.declared.reply.Reply.TheVariants as replies;
+ghost use Rattle.dmatypes.specs.Allows.{Allows};
+ghost use Rattle.dmatypes.specs.History.{IsLegal, after};
+ghost use Rattle.dmatypes.specs.Page.{page_of};
+ghost use Rattle.vtdbits.specs.Port.{States};
+ghost use Rattle.ports.specs.Lawful.{IsLawfulAfter};
+ghost use Rattle.ports.specs.Steps.{IsSeenInRun, counter, place_of, slot_of};
+ghost use Rattle.ports.specs.declared.known.OwnStep.TheVariants.{Loaded, Stored};
+
+use crate::rows::Rows;
+use crate::rule::{COUNTER, Counts, Empties, Looks, Place, SLOTS};
+use dmatypes::Access;
+use std::marker::Model;
+use vtdbits::PortWord;
+
+/// The port of a device, which reads the words of the device's row.
+#[derive(Drop)]
+pub struct Port {
+    pub(crate) device: u64,
+    pub(crate) seat: Place,
+}
+
+impl Model for Port {
+    ghost use Rattle.std.specs.Prelude.{◌≡◌, ◌<◌, suc};
+    ghost use Rattle.ports.specs.Seen.{PortKnows, port_knows};
+
+    ghost Value = { PortKnows };
+
+    ghost view = { λ p. port_knows p.seat.table_id p.seat.me.0 p.device };
+
+    ghost invariant = { λ p. (p.device < 16) × (p.seat.me.0.mine.who ≡ suc p.device) };
+}
+
+/// A port without a row: what its holder has seen of the history.
+#[derive(Drop)]
+pub struct Pass {
+    pub(crate) caller: u64,
+    pub(crate) seat: Place,
+}
+
+impl Model for Pass {
+    ghost use Rattle.std.specs.Prelude.{◌≡◌, suc};
+    ghost use Rattle.ports.specs.Seen.{PassKnows, pass_knows};
+
+    ghost Value = { PassKnows };
+
+    ghost view = { λ p. pass_knows p.seat.table_id p.seat.me.0 p.caller };
+
+    ghost invariant = { λ p. p.seat.me.0.mine.who ≡ suc p.caller };
+}
+
+impl Port {
+    /// The host byte address of a request at a byte address, where the word of its page states the page with
+    /// the right, and how many events the history had before the word was read. No lock is taken.
+    #[inline]
+    pub fn hit(&mut self, rows: &Rows, address: u64, access: Access) -> (Option<u64>, u64)
+        requires { self.old.rows ≡ rows.now }
+        ensures did { (word : ℕ)
+            × (self.new.did ≡ self.old.did ++ Loaded counter result.1
+            ∷ Loaded (place_of self.old.device (slot_of (page_of address))) word ∷ [])
+            × IfSome result.0 (States word address access)
+            × IfNone result.0 ((host : ℕ) → States word address access host → ⊥)
+            × IsSeenInRun (IsLegal self.old.rows.frames) (IsLawfulAfter self.old.rows.frames)
+            self.old.device self.new.seen (λ words. slice_index words (place_of self.old.device (slot_of (page_of address))) ≡ word) }
+        ensures count { (history : List Event)
+            × IsLegal self.old.rows.frames history × (result.1 ≡ length history)
+            × IsPrefix self.old.seen history × IsPrefix history self.new.seen }
+        ensures allowed { IsLegal self.old.rows.frames self.new.seen
+            × IfSome result.0 (λ host.
+            Allows (after self.old.rows.frames self.new.seen) self.old.device address access (replies.Host host)) }
+        ensures same { (self.new.rows ≡ self.old.rows) × (self.new.device ≡ self.old.device) }
+    {
+        let count = self.count(rows);
+        let place = place(self.device, address / 4096 % SLOTS);
+        let word = rows.words.shared.load::<Looks>(&mut self.seat, place);
+        (PortWord::host(word, address, access), count)
+    }
+
+    /// How many events the history has.
+    #[inline]
+    pub fn count(&mut self, rows: &Rows) -> u64
+        requires { self.old.rows ≡ rows.now }
+        ensures did { self.new.did ≡ self.old.did ++ Loaded counter result ∷ [] }
+        ensures seen { IsPrefix self.old.seen self.new.seen × IsLegal self.old.rows.frames self.new.seen
+            × (result ≡ length self.new.seen) }
+        ensures run { IsSeenInRun (IsLegal self.old.rows.frames) (IsLawfulAfter self.old.rows.frames)
+            self.old.device self.new.seen (λ words. Unit {0}) }
+        ensures same { (self.new.rows ≡ self.old.rows) × (self.new.device ≡ self.old.device) }
+    {
+        rows.words.shared.load::<Counts>(&mut self.seat, COUNTER)
+    }
+
+    /// Empties a word of its row.
+    pub fn evict(&mut self, rows: &Rows, slot: u64)
+        requires rows { self.old.rows ≡ rows.now }
+        requires slot { slot < 16 }
+        ensures did { self.new.did ≡ self.old.did ++ Stored (place_of self.old.device slot) 0 ∷ [] }
+        ensures seen { self.new.seen ≡ self.old.seen }
+        ensures same { (self.new.rows ≡ self.old.rows) × (self.new.device ≡ self.old.device) }
+    {
+        let place = place(self.device, slot);
+        rows.words.shared.store::<Empties>(&mut self.seat, place, 0);
+    }
+}
+
+/// The place of a word: its slot in the row of a device.
+#[inline]
+pub(crate) fn place(device: u64, slot: u64) -> usize
+    requires { (device < 16) × (slot < 16) }
+    ensures { result ≡ place_of device slot }
+{
+    (SLOTS * device + slot) as usize
+}
