@@ -1,4 +1,4 @@
-use Rattle.std.proofs.Common.{sym, ◌∙◌, ap}
+use Rattle.std.proofs.Common.{◌∙◌, ap}
 use Rattle.ports.specs.Seen.{RowsId}
 use Rattle.ports.proofs.Examples.{backed_page}
 use Rattle.ports.proofs.tests.fill_page.Goals as goal
