@@ -3,6 +3,7 @@
 
 mod options;
 mod program;
+mod status;
 
 use std::alloc::AllocError;
 use std::env;

@@ -1,21 +1,17 @@
 //! The whole program, over its words.
 
+ghost use Rattle.std.specs.Prelude.{◌≡◌};
+ghost use Rattle.vtdm.specs.Statuses.{status_of};
+ghost use Rattle.vtdm.specs.declared.status.End.{End};
+
 use crate::options::{Options, Task, command, config_of, task_of};
+use crate::status::{End, end_of};
 use clap::error::ErrorKind;
 use script::{Counted, RunError, report, run};
 use std::alloc::Global;
 use std::io;
 use std::io::{Read, Write};
 use std::sync::Wait;
-
-// The exit statuses.
-const DONE: u8 = 0;
-
-const FAILED: u8 = 1;
-
-const BAD: u8 = 2;
-
-const NO_MEMORY: u8 = 3;
 
 /// Runs the program over its words, without the program's name among them, and answers its exit status.
 /// The words are judged before anything is read.
@@ -24,73 +20,88 @@ pub fn program<T: Wait, R: Read + Drop, W: Write + Drop, E: Write + Drop>(
     alloc: Global,
     words: &[&str],
     input: R,
-    mut output: W,
+    output: W,
     mut errors: E,
-) -> u8 {
-    let Ok(command) = command(alloc) else {
-        return fail(&mut errors, RunError::NoMemory);
-    };
-    match command.try_get_matches_from(words) {
-        Ok(matches) => match task_of(&matches) {
-            Some((task, options)) => run_task(rt, alloc, task, options, input, output, errors),
-            None => BAD,
-        },
-        Err(error) => {
-            if error.kind() == ErrorKind::OutOfMemory {
-                return fail(&mut errors, RunError::NoMemory);
-            }
-            if error.use_stderr() {
-                let _ = write!(errors, "{error}");
-                return BAD;
-            }
-            match write!(output, "{error}") {
-                Ok(()) => DONE,
-                Err(_) => fail(&mut errors, RunError::Write),
-            }
-        }
-    }
+) -> u8
+    ensures { (end : End) × (result ≡ status_of end) }
+{
+    let end = perform(rt, alloc, words, input, output, &mut errors);
+    tell(&mut errors, end)
 }
 
 /// The exit status where the words of the command line can't be had, told on standard error: memory lacked,
 /// or a word isn't UTF-8.
-pub fn without_words<E: Write + Drop>(mut errors: E, kind: io::ErrorKind) -> u8 {
+pub fn without_words<E: Write + Drop>(mut errors: E, kind: io::ErrorKind) -> u8
+    ensures { (end : End) × (result ≡ status_of end) }
+{
     if kind == io::ErrorKind::OutOfMemory {
-        return fail(&mut errors, RunError::NoMemory);
+        return tell(&mut errors, End::Stopped(RunError::NoMemory));
     }
     let _ = writeln!(errors, "error: a word of the command line isn't UTF-8");
-    BAD
+    tell(&mut errors, End::BadCommandLine)
 }
 
-// Says why the program stops, and with which status. A failure to say it is passed over.
-fn fail<E: Write>(errors: &mut E, error: RunError) -> u8 {
-    let _ = writeln!(errors, "{error}");
-    match error {
-        RunError::BadLine(_) => BAD,
-        RunError::Read | RunError::Write => FAILED,
-        RunError::NoMemory => NO_MEMORY,
+// Says why a task stopped, and answers the status. A failure to say it is passed over.
+fn tell<E: Write>(errors: &mut E, end: End) -> u8
+    ensures { result ≡ status_of end }
+{
+    if let End::Stopped(error) = end {
+        let _ = writeln!(errors, "{error}");
+    }
+    end.status()
+}
+
+// What the words ask for, to its end.
+fn perform<T: Wait, R: Read + Drop, W: Write + Drop, E: Write>(
+    rt: &T,
+    alloc: Global,
+    words: &[&str],
+    input: R,
+    output: W,
+    errors: &mut E,
+) -> End {
+    let Ok(command) = command(alloc) else {
+        return End::Stopped(RunError::NoMemory);
+    };
+    match command.try_get_matches_from(words) {
+        Ok(matches) => match task_of(&matches) {
+            Some((task, options)) => run_task(rt, alloc, task, options, input, output),
+            None => End::BadCommandLine,
+        },
+        Err(error) => explain(&error, output, errors),
     }
 }
 
-fn run_task<T: Wait, R: Read + Drop, W: Write + Drop, E: Write + Drop>(
+// Why the words ask for no task: they ask for help, or are bad.
+fn explain<W: Write + Drop, E: Write>(error: &clap::Error, mut output: W, errors: &mut E) -> End {
+    if error.kind() == ErrorKind::OutOfMemory {
+        return End::Stopped(RunError::NoMemory);
+    }
+    if error.use_stderr() {
+        let _ = write!(errors, "{error}");
+        return End::BadCommandLine;
+    }
+    match write!(output, "{error}") {
+        Ok(()) => End::Done,
+        Err(_) => End::Stopped(RunError::Write),
+    }
+}
+
+fn run_task<T: Wait, R: Read + Drop, W: Write + Drop>(
     rt: &T,
     alloc: Global,
     task: Task,
     options: Options,
     input: R,
     output: W,
-    mut errors: E,
-) -> u8 {
+) -> End {
     let Some(config) = config_of(options) else {
-        return BAD;
+        return End::BadCommandLine;
     };
     let mut reader = Counted::new(input);
     let mut writer = Counted::new(output);
-    let end = match task {
+    end_of(match task {
         Task::Run => run(rt, alloc, &mut reader, &mut writer, config),
         Task::Report => report(rt, alloc, &mut reader, &mut writer, config),
-    };
-    match end {
-        Ok(()) => DONE,
-        Err(error) => fail(&mut errors, error),
-    }
+    })
 }

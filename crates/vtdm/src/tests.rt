@@ -160,14 +160,16 @@ fn reports_of_the_program(rt: HostRuntime) -> Result<(), Fail> {
             &["report", "--calls", "3"],
             b"domain strict\nattach 3 1\nmap 1 0x100 1 0 rw\ndma 3 0x1000 r\n",
             0,
-            b"events 3\nframes 61 free 3 used 0 retired\ntickets 0 open\nring 0 pending\ndomain 1 strict live 1 retired 0 pieces 3\ndevice 3 domain 1\n",
+            b"events 3\nframes 61 free 3 used 0 retired\ntickets 0 open\nring 0 pending\n\
+                domain 1 strict live 1 retired 0 pieces 3\ndevice 3 domain 1\n",
             b"",
         ),
         (
             &["report", "--frames", "16"],
             b"domain strict\nattach 3 1",
             2,
-            b"events 1\nframes 15 free 1 used 0 retired\ntickets 0 open\nring 0 pending\ndomain 1 strict live 0 retired 0 pieces 2\n",
+            b"events 1\nframes 15 free 1 used 0 retired\ntickets 0 open\nring 0 pending\n\
+                domain 1 strict live 0 retired 0 pieces 2\n",
             b"line 2\n",
         ),
     ];

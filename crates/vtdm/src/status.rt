@@ -1,0 +1,50 @@
+//! How the program ends, and with which status.
+
+ghost use Rattle.std.specs.Prelude.{◌≡◌};
+ghost use Rattle.vtdm.specs.Statuses.{end_of, status_of};
+
+use script::RunError;
+
+// The exit statuses.
+const DONE: u8 = 0;
+
+const FAILED: u8 = 1;
+
+const BAD: u8 = 2;
+
+const NO_MEMORY: u8 = 3;
+
+/// How the program ends.
+#[derive(Clone, Copy, Debug, PartialEq, Eq)]
+pub(crate) enum End {
+    /// The task is done, or the help that was asked for is written.
+    Done,
+    /// The command line asks for no task.
+    BadCommandLine,
+    /// The task stopped before its end.
+    Stopped(RunError),
+}
+
+impl End {
+    /// The exit status: 0 done, 1 input or output failed, 2 a bad line or a bad command line, 3 no memory.
+    pub(crate) fn status(self) -> u8
+        ensures { result ≡ status_of self }
+    {
+        match self {
+            End::Done => DONE,
+            End::Stopped(RunError::Read | RunError::Write) => FAILED,
+            End::Stopped(RunError::BadLine(_)) | End::BadCommandLine => BAD,
+            End::Stopped(RunError::NoMemory) => NO_MEMORY,
+        }
+    }
+}
+
+/// How the program ends after its task.
+pub(crate) fn end_of(task: Result<(), RunError>) -> End
+    ensures { result ≡ end_of task }
+{
+    match task {
+        Ok(()) => End::Done,
+        Err(error) => End::Stopped(error),
+    }
+}
