@@ -69,28 +69,28 @@ patch limit n t i count pool ys run at same all ok t_in taken i_in long =
     let is : patched limit a b xs ys run ≡ put_back a b xs run = patched_is limit a b xs ys run same all low within size in
     let inside : (k : ℕ) → k < length run → word (put_back a b xs run) t (i + k) ≡ get_or run k 0 =
     λ k k_in.
-        let place : t * 512 + (i + k) ≡ a + k = omega arith in
-        ap (λ p. get_or (put_back a b xs run) p 0) place ∙ read_inside a b k xs run low within size (omega arith) in
+    let place : t * 512 + (i + k) ≡ a + k = omega arith in
+    ap (λ p. get_or (put_back a b xs run) p 0) place ∙ read_inside a b k xs run low within size (omega arith) in
     let rest : IsRest xs (put_back a b xs run) t i (length run) =
     λ f k k_in other.
-        ⊎_elim
-        (λ (l : f * 512 + k < a). read_below a b (f * 512 + k) xs run (omega arith) l)
-        (λ (g : a ≤ f * 512 + k).
-        ⊎_elim
-        (λ (l : f * 512 + k < b). absurd (other (omega arith) (omega arith) (omega arith)))
-        (λ (h : b ≤ f * 512 + k). read_above a b (f * 512 + k) xs run low within size h)
-        (cases_lt (f * 512 + k) b))
-        (cases_lt (f * 512 + k) a) in
+    ⊎_elim
+    (λ (l : f * 512 + k < a). read_below a b (f * 512 + k) xs run (omega arith) l)
+    (λ (g : a ≤ f * 512 + k).
+    ⊎_elim
+    (λ (l : f * 512 + k < b). absurd (other (omega arith) (omega arith) (omega arith)))
+    (λ (h : b ≤ f * 512 + k). read_above a b (f * 512 + k) xs run low within size h)
+    (cases_lt (f * 512 + k) b))
+    (cases_lt (f * 512 + k) a) in
     subst (λ zs. IsPatch pool zs t i run) (sym is) (record {
-          keeps = record {
-            fit = length_put a b xs run low within size ∙ ok.fit;
-            few = ok.few;
-            once = ok.once;
-            within = ok.within;
-            zeroed = λ f free k k_in.
-                rest f k k_in (λ e _ _. let one : occurs f pool.free ≡ occurs t pool.free = ap (λ x. occurs x pool.free) e in absurd (omega arith))
-                ∙ ok.zeroed f free k k_in;
-          };
-          inside = inside;
-          rest = rest;
-        })
+      keeps = record {
+        fit = length_put a b xs run low within size ∙ ok.fit;
+        few = ok.few;
+        once = ok.once;
+        within = ok.within;
+        zeroed = λ f free k k_in.
+            rest f k k_in (λ e _ _. let one : occurs f pool.free ≡ occurs t pool.free = ap (λ x. occurs x pool.free) e in absurd (omega arith))
+            ∙ ok.zeroed f free k k_in;
+      };
+      inside = inside;
+      rest = rest;
+    })

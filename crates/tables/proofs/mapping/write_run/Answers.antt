@@ -10,5 +10,5 @@ pub returns-clause-run : goal.returns-clause-run
 returns-clause-run c =
     run_of c.args.pool.now.words c.write_leaves.new.self.words c.args.table c.args.piece.from c.args.piece.to (leaf_at c.args.piece)
     c.args.piece.some c.args.piece.one_span (λ k k_in.
-        let page : c.args.piece.frame + k ≡ c.args.piece.frame + (c.args.piece.from + k - c.args.piece.from) = omega arith in
-        c.write_leaves.ensures.leaves k k_in ∙ ap (λ n. Leaf (target n (bits_of c.args.piece.rights))) page) c.write_leaves.ensures.rest
+    let page : c.args.piece.frame + k ≡ c.args.piece.frame + (c.args.piece.from + k - c.args.piece.from) = omega arith in
+    c.write_leaves.ensures.leaves k k_in ∙ ap (λ n. Leaf (target n (bits_of c.args.piece.rights))) page) c.write_leaves.ensures.rest

@@ -11,8 +11,8 @@ returns-then-to-from-eq1-clause-run c =
     run_of c.args.pool.now.words c.write.new.self.words c.args.table c.args.from c.args.to (λ p. Absent)
     c.requires.some c.requires.one_span
     (λ k k_in.
-        let first : c.args.from % 512 + k ≡ c.args.from % 512 = omega arith in
-        ap (λ i. look 1 (word c.write.new.self.words c.args.table i)) first ∙ ap (look 1) c.write.ensures.wrote.0 ∙ look-zero 1)
+    let first : c.args.from % 512 + k ≡ c.args.from % 512 = omega arith in
+    ap (λ i. look 1 (word c.write.new.self.words c.args.table i)) first ∙ ap (look 1) c.write.ensures.wrote.0 ∙ look-zero 1)
     (λ f k k_in other. c.write.ensures.wrote.1 f k k_in (λ e at. other e (omega arith) (omega arith)))
 
 pub returns-else-to-from-eq1-clause-run : goal.returns-else-to-from-eq1-clause-run
