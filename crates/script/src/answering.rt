@@ -10,6 +10,7 @@ ghost use Rattle.script.specs.Run.{AnswersOne, IsAllSent};
 use crate::counted::Counted;
 use crate::error::RunError;
 use crate::lines::{LineEnd, next_line};
+use crate::wrapped::Failed;
 use arrayvec::{ArrayString, ArrayVec};
 use dmatypes::{Call, Refusal, Reply, parse_line, reply_line};
 use manager::{Book, HistoryFull, Owner, Share};
