@@ -9,13 +9,13 @@ use dmatypes::{Access, Mode, Whim};
 use engine::State;
 use std::alloc::Global;
 
-// Enough for two domains with 15 tables of the lowest level each, and one more.
+// Enough for two domains with 16 tables of the lowest level each, and one more.
 const TABLE_FRAMES: u64 = 64;
 
 // The devices of each domain: 16 contexts together.
 const DEVICES: u64 = 8;
 
-// Each domain has this many tables of the lowest level, and one above them: 32 tables together.
+// Each domain has this many tables of the lowest level in the cache, and one above them: 32 tables together.
 const SPANS: u64 = 15;
 
 // Each domain has this many leaves in the cache: 64 leaves together.
@@ -26,8 +26,11 @@ const PAGE: u64 = 0x1000;
 
 const SPAN: u64 = 0x20_0000;
 
-// So many pages are mapped in each span, which is enough for the leaves.
-const SPAN_PAGES: u64 = 3;
+// Two maps of so many pages, so that few pieces of the address space stand beside the one that is measured.
+const MOST_PAGES: u64 = 4096;
+
+// The host frame of the first of them, no multiple of 512: their leaves are of 4 KiB.
+const FRAME: u64 = 0x1001;
 
 /// Maps one page into a strict domain, and unmaps it again, while the caches hold 64 leaves, 32 tables and 16
 /// contexts, half of them of this domain, half of another. The unmap drops none of them.
@@ -74,12 +77,13 @@ impl Crowded {
     }
 
     fn map_spans(&mut self) -> Result<(), Trouble> {
-        for span in 1..=SPANS {
+        for part in 0..2 {
+            let frame = FRAME + MOST_PAGES * part;
             count(&mut self.made)?;
             let mapped = self
                 .state
-                .map(self.domain, 0x1001, SPAN_PAGES, 9, BOTH_RIGHTS)?;
-            check(mapped == SPAN * span)?;
+                .map(self.domain, frame, MOST_PAGES, 9, BOTH_RIGHTS)?;
+            check(mapped == SPAN + PAGE * MOST_PAGES * part)?;
         }
         Ok(())
     }
@@ -88,17 +92,19 @@ impl Crowded {
         requires { first < 9 }
     {
         for leaf in 0..LEAVES {
-            let page = leaf / SPANS;
-            let address = SPAN * (leaf % SPANS + 1) + PAGE * page;
+            let offset = SPAN * (leaf % SPANS) + PAGE * (leaf / SPANS);
             let filling = Whim {
                 look: false,
                 fill: true,
             };
             count(&mut self.made)?;
-            let host = self
-                .state
-                .dma(first + leaf % DEVICES, address, Access::Read, filling)?;
-            check(host == Ok(PAGE * (0x1001 + page)))?;
+            let host = self.state.dma(
+                first + leaf % DEVICES,
+                SPAN + offset,
+                Access::Read,
+                filling,
+            )?;
+            check(host == Ok(PAGE * FRAME + offset))?;
         }
         Ok(())
     }
@@ -107,7 +113,7 @@ impl Crowded {
 impl Work for Crowded {
     fn once(&mut self) -> Result<(), Trouble> {
         count(&mut self.made)?;
-        let mapped = self.state.map(self.domain, 0x1001, 1, 0, BOTH_RIGHTS)?;
+        let mapped = self.state.map(self.domain, FRAME, 1, 0, BOTH_RIGHTS)?;
         check(mapped == PAGE)?;
         count(&mut self.made)?;
         let released = self.state.unmap(self.domain, mapped, 1)?;
