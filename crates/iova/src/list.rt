@@ -167,7 +167,7 @@ fn remove_behind(pieces: &mut Vec<Piece>, from: usize, to: usize)
     }
 }
 
-/// The same, where there are some.
+/// The same, where there are some: apart, so that what is mostly nothing to do is inlined.
 fn remove_some(pieces: &mut Vec<Piece>, from: usize, to: usize)
     requires from { from < to }
     requires to { to < length pieces.old.items }

@@ -56,7 +56,7 @@ pub fn leaf_word(frame: u64, rights: Rights) -> u64
     SsEntry::Leaf(Translation::new(Frame::new(frame).unwrap(), rights)).encode()
 }
 
-/// What a table of the level states of a page.
+/// What a table of the level states of a page. A loop, so that it can be inlined where a walk begins.
 #[inline(always)]
 pub fn find(pool: &Pool, level: u64, table: Frame, page: u64) -> Option<Translation>
     requires low { 1 ≤ level }

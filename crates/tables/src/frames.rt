@@ -81,7 +81,7 @@ impl Pool {
         }
     }
 
-    /// The word of a frame of the pool at an index.
+    /// The word of a frame of the pool at an index: `read` without its test, for the tables of a tree.
     pub(crate) fn word_of(&self, frame: Frame, index: u64) -> u64
         requires frame { frame < self.now.frames }
         requires index { index < 512 }

@@ -77,6 +77,7 @@ pub fn map_piece(pool: &mut Pool, level: u64, table: Frame, piece: &Piece)
     ensures pool { IsPool pool.new }
 {
     if level == 1 {
+        // By value into what writes the pool: a loop would read the fields anew behind each write.
         write_run(pool, table, *piece);
         return;
     }
@@ -273,6 +274,7 @@ pub fn map_segments(
     let pages: u64 = segments.iter().map(|segment| segment.pages).sum();
     let free = pool.free_count();
     let end = first + pages;
+    // Mostly as many frames are free as the pages meet spans: then none can be lacking, and the tables needn't be counted.
     if free < most_lacking(level, first, end)
         && free < tables_lacking(pool, level, root, segments, first, end)
     {

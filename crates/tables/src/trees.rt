@@ -150,6 +150,7 @@ impl Tree {
         let from = range.first();
         let to = from + range.pages();
         let free = pool.free_count();
+        // Where as many frames are free as the range meets spans, the leaves to be split needn't be counted.
         if free < spans_met(from, to)
             && free < leaves_splitting(pool, LEVELS, self.root, from, to)
         {

@@ -133,6 +133,7 @@ impl Unit {
         };
         self.done += 1;
         match descriptor {
+            // A wait drops nothing, so no cache is looked through for it.
             Descriptor::Wait(number) => ring.complete(number),
             _ => self.forget(descriptor),
         }
