@@ -88,8 +88,8 @@ left_by_all (d ∷ ds) c = left_by_all ds (left_by d c)
 abbrev pub taken_after : List Descriptor → List Descriptor → List Descriptor
 taken_after ds taken = reverse ds ++ take (256 - length ds) taken
 
--- what waited, then the descriptor, then a wait were taken, in this order, and nothing else was; the unit has done each
--- of them in a step of its own, with no other step, in at most 130
+-- what waited, then the descriptor, then a wait were taken, in this order, and nothing else was; the unit has done as many
+-- as were taken, each in a step of its own, with no other step, in at most 130
 pub record Invalidates (ring : Queue) (unit : UnitState) (sent : ℕ) (d : Descriptor) (ring' : Queue) (unit' : UnitState) (sent' : ℕ) : Type 0 where
   pub number : sent' ≡ sent + 1
   pub done : ring' ≡ queue [] sent' (taken_after (ring.waiting ++ d ∷ Wait sent' ∷ []) ring.taken)
