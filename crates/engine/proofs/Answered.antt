@@ -17,7 +17,7 @@ use Rattle.unit.specs.Answers.{Answers}
 use Rattle.unit.specs.Caches.{Caches, Context, unit_state}
 use Rattle.unit.specs.declared.hit.Hit.{Hit}
 use Rattle.vtdbits.specs.declared.context.ContextEntry.TheVariants.{Present}
-use Rattle.engine.specs.Machine.{Machine, Becomes, Exact, host_in, reached_reply}
+use Rattle.engine.specs.State.{State, Becomes, Exact, host_in, reached_reply}
 use Rattle.engine.specs.Quarantine.{AreLawful, Quarantine}
 use Rattle.engine.specs.Steps.{Does}
 use Rattle.dmatypes.specs.declared.call.Cache.{Cache}
@@ -30,11 +30,11 @@ use Rattle.engine.proofs.Refusing.{counted, refuses}
 use Rattle.engine.proofs.Requests.{request_allowed, request_contexts, request_keeps}
 
 -- the state with these caches and so many calls, so many steps of the unit, and so many descriptors that it did
-abbrev pub remembering : Machine → Caches → ℕ → ℕ → ℕ → Machine
+abbrev pub remembering : State → Caches → ℕ → ℕ → ℕ → State
 remembering m c steps done calls = record m { unit = unit_state c steps done; calls = calls }
 
 -- it keeps the quarantine where the caches are lawful
-pub quarantine_remembering : (m : Machine) (w : World) (c : Caches) (steps done calls : ℕ) → Quarantine m w → AreLawful m w c
+pub quarantine_remembering : (m : State) (w : World) (c : Caches) (steps done calls : ℕ) → Quarantine m w → AreLawful m w c
     → ((y : Context) → IsIn y c.contexts → slice_get m.row y.device ≡ Some (Present y.root W39 y.domain)) → Quarantine (remembering m c steps done calls) w
 quarantine_remembering m w c steps done calls q lawful contexts = record {
   table_frames = q.table_frames;
@@ -56,12 +56,12 @@ unfolding next
 next_same w device address access whim (Ok hit) = refl
 next_same w device address access whim (Err fault) = refl
 
-exact_request : (m : Machine) (device address : ℕ) (access : Access) (whim : Whim) (answer : Result Hit Fault) → Exact m (calls.Dma device address access whim) (reached_reply (host_in answer))
+exact_request : (m : State) (device address : ℕ) (access : Access) (whim : Whim) (answer : Result Hit Fault) → Exact m (calls.Dma device address access whim) (reached_reply (host_in answer))
 unfolding Exact
 exact_request m device address access whim (Ok hit) = tt
 exact_request m device address access whim (Err fault) = tt
 
-becomes_request : (m t : Machine) (device address : ℕ) (access : Access) (whim : Whim) (answer : Result Hit Fault)
+becomes_request : (m t : State) (device address : ℕ) (access : Access) (whim : Whim) (answer : Result Hit Fault)
     → Answers (memory m.pool.words) m.row whim.look whim.fill device address access m.unit.caches t.unit.caches answer → t ≡ remembering m t.unit.caches m.unit.steps m.unit.done (m.calls + 1)
     → Becomes m (calls.Dma device address access whim) (reached_reply (host_in answer)) t
 unfolding Becomes
@@ -69,7 +69,7 @@ becomes_request m t device address access whim (Ok hit) answers is = (Ok hit, re
 becomes_request m t device address access whim (Err fault) answers is = (Err fault, refl, answers, is)
 
 -- a request to the unit does what a request does
-pub request_does : (m t : Machine) (device address : ℕ) (access : Access) (whim : Whim) (answer : Result Hit Fault) → device ≤ 15 → (IsInWindow address → ⊥)
+pub request_does : (m t : State) (device address : ℕ) (access : Access) (whim : Whim) (answer : Result Hit Fault) → device ≤ 15 → (IsInWindow address → ⊥)
     → Answers (memory m.pool.words) m.row whim.look whim.fill device address access m.unit.caches t.unit.caches answer → t ≡ remembering m t.unit.caches m.unit.steps m.unit.done (m.calls + 1)
     → Does m (calls.Dma device address access whim) (reached_reply (host_in answer)) t
 request_does m t device address access whim answer small outside answers is = record {
@@ -83,16 +83,16 @@ request_does m t device address access whim answer small outside answers is = re
   );
   exact = exact_request m device address access whim answer;
   becomes = becomes_request m t device address access whim answer answers is;
-  calls = ap (λ (s : Machine). s.calls) is;
+  calls = ap (λ (s : State). s.calls) is;
 }
 
 -- ---- the refusals
 
-pub request_no_device : (m t : Machine) (device address : ℕ) (access : Access) (whim : Whim) → t ≡ counted m → 15 < device → Does m (calls.Dma device address access whim) (Refused refusals.NoDevice) t
+pub request_no_device : (m t : State) (device address : ℕ) (access : Access) (whim : Whim) → t ≡ counted m → 15 < device → Does m (calls.Dma device address access whim) (Refused refusals.NoDevice) t
 unfolding Exact IsStep Stands
 request_no_device m t device address access whim is big = refuses m t (calls.Dma device address access whim) refusals.NoDevice is tt (λ w q. inl (inl (big, refl)))
 
-pub request_window : (m t : Machine) (device address : ℕ) (access : Access) (whim : Whim) → t ≡ counted m → device ≤ 15 → IsInWindow address → Does m (calls.Dma device address access whim) (Refused refusals.Window) t
+pub request_window : (m t : State) (device address : ℕ) (access : Access) (whim : Whim) → t ≡ counted m → device ≤ 15 → IsInWindow address → Does m (calls.Dma device address access whim) (Refused refusals.Window) t
 unfolding Exact IsStep Stands
 request_window m t device address access whim is small inside = refuses m t (calls.Dma device address access whim) refusals.Window is tt
     (λ w q. inl (inr ((λ big. absurd (omega (arith, big, small))), inl (inside, refl))))
@@ -107,7 +107,7 @@ evict_step : (w : World) (kind : Cache) (place : ℕ) → IsStep w (calls.Evict 
 unfolding IsStep model.Answers
 evict_step w kind place = (tt, refl)
 
-pub evict_does : (m t : Machine) (kind : Cache) (place : ℕ) → t ≡ remembering m (without kind place m.unit.caches) m.unit.steps m.unit.done (m.calls + 1) → Does m (calls.Evict kind place) Done t
+pub evict_does : (m t : State) (kind : Cache) (place : ℕ) → t ≡ remembering m (without kind place m.unit.caches) m.unit.steps m.unit.done (m.calls + 1) → Does m (calls.Evict kind place) Done t
 unfolding Becomes Exact
 evict_does m t kind place is = record {
   steps = λ w q. (
@@ -120,5 +120,5 @@ evict_does m t kind place is = record {
   );
   exact = tt;
   becomes = is;
-  calls = ap (λ (x : Machine). x.calls) is;
+  calls = ap (λ (x : State). x.calls) is;
 }

@@ -11,18 +11,18 @@ use Rattle.vtdbits.specs.declared.context.ContextEntry.TheVariants.{Absent, Pres
 use Rattle.dmatypes.specs.Conditions.{Stands}
 use Rattle.dmatypes.specs.Step.{IsStep, Answers, next}
 use Rattle.engine.specs.Homes.{Home, home_of}
-use Rattle.engine.specs.Machine.{Machine, Exact, Becomes}
+use Rattle.engine.specs.State.{State, Exact, Becomes}
 use Rattle.engine.specs.Quarantine.{Attaches, attached}
 use Rattle.engine.specs.Steps.{Does}
 use Rattle.engine.proofs.Lists.{get_set, get_set_other, put_same, put_other, same_or_not, is_none, is_some, not_none, not_some}
 use Rattle.engine.proofs.Places.{both_absent, both_there}
 use Rattle.engine.proofs.Refusing.{counted, refuses}
 
-pub attach_no_device : (m t : Machine) (device domain : ℕ) → t ≡ counted m → 15 < device → Does m (calls.Attach device domain) (Refused refusals.NoDevice) t
+pub attach_no_device : (m t : State) (device domain : ℕ) → t ≡ counted m → 15 < device → Does m (calls.Attach device domain) (Refused refusals.NoDevice) t
 unfolding Exact IsStep Stands
 attach_no_device m t device domain is big = refuses m t (calls.Attach device domain) refusals.NoDevice is tt (λ w q. inl (inl (big, refl)))
 
-pub attach_no_domain : (m t : Machine) (device domain : ℕ) → t ≡ counted m → device ≤ 15 → home_of m.homes domain ≡ None
+pub attach_no_domain : (m t : State) (device domain : ℕ) → t ≡ counted m → device ≤ 15 → home_of m.homes domain ≡ None
     → Does m (calls.Attach device domain) (Refused refusals.NoDomain) t
 unfolding Exact IsStep Stands
 attach_no_domain m t device domain is small none = refuses m t (calls.Attach device domain) refusals.NoDomain is tt
@@ -31,7 +31,7 @@ attach_no_domain m t device domain is small none = refuses m t (calls.Attach dev
       inl (is_none (w.domains domain) (both_absent m.pool.words (home_of m.homes domain) (w.domains domain) (q.domains domain) none), refl),
     )))
 
-pub attach_busy : (m t : Machine) (device domain : ℕ) (h : Home) (entry : ContextEntry) → t ≡ counted m → device ≤ 15 → home_of m.homes domain ≡ Some h → slice_get m.row device ≡ Some entry → entry ≢ Absent
+pub attach_busy : (m t : State) (device domain : ℕ) (h : Home) (entry : ContextEntry) → t ≡ counted m → device ≤ 15 → home_of m.homes domain ≡ Some h → slice_get m.row device ≡ Some entry → entry ≢ Absent
     → Does m (calls.Attach device domain) (Refused refusals.Busy) t
 unfolding Exact IsStep Stands
 attach_busy m t device domain h entry is small there at busy = refuses m t (calls.Attach device domain) refusals.Busy is tt
@@ -61,7 +61,7 @@ put_along device domain f g same v = elim (same_or_not v device) [
 ]
 
 -- the row with the entry is that of the world with the attachment
-attaches_row : (m t : Machine) (w : World) (device domain : ℕ) (h : Home) → Attaches m w → device < length m.row → home_of m.homes domain ≡ Some h → slice_get m.row device ≡ Some Absent
+attaches_row : (m t : State) (w : World) (device domain : ℕ) (h : Home) → Attaches m w → device < length m.row → home_of m.homes domain ≡ Some h → slice_get m.row device ≡ Some Absent
     → t.row ≡ slice_set m.row device (Present h.root W39 domain) → t.homes ≡ m.homes → t.unit ≡ m.unit → Attaches t (record w { devices = put device (Some domain) w.devices })
 attaches_row m t w device domain h old less there absent row homes unit = record {
   devices = λ v. put_along device domain w.devices (λ x. attached (slice_get m.row x)) old.devices v ∙ attached_set m.row device domain (Present h.root W39 domain) less refl v ∙ ap (λ r. attached (slice_get r v)) (sym row);
@@ -84,7 +84,7 @@ attaches_row m t w device domain h old less there absent row homes unit = record
   root_in : {root root' d d' : ℕ} → Present root W39 d ≡ Present root' W39 d' → root ≡ root'
   root_in e = cc
 
-pub attaches : (m t : Machine) (device domain : ℕ) (h : Home) → device ≤ 15 → length m.row ≡ 16 → home_of m.homes domain ≡ Some h → slice_get m.row device ≡ Some Absent
+pub attaches : (m t : State) (device domain : ℕ) (h : Home) → device ≤ 15 → length m.row ≡ 16 → home_of m.homes domain ≡ Some h → slice_get m.row device ≡ Some Absent
     → t ≡ record m { row = slice_set m.row device (Present h.root W39 domain); calls = m.calls + 1 }
     → Does m (calls.Attach device domain) Done t
 unfolding Exact Becomes IsStep Stands Answers next
@@ -104,5 +104,5 @@ attaches m t device domain h small many there free is = record {
       );
   exact = tt;
   becomes = (h, there, is);
-  calls = ap (λ (x : Machine). x.calls) is;
+  calls = ap (λ (x : State). x.calls) is;
 }

@@ -3,7 +3,7 @@ use Rattle.std.proofs.Common.{◌≡◌, ℕ, zero, suc, ◌+◌, ◌*◌, ◌<�
 use Rattle.std.proofs.lemmas.Bool.{cases_lt}
 use Rattle.dmatypes.specs.World.{World, IsIn, empty}
 use Rattle.dmatypes.specs.declared.width.Width.TheVariants.{W39}
-use Rattle.queue.specs.Queue.{Queue, queue}
+use Rattle.queue.specs.Ring.{Ring, ring_of}
 use Rattle.unit.specs.Caches.{Caches, UnitState, nothing, unit_state}
 use Rattle.vtdbits.specs.declared.context.ContextEntry.TheVariants.{Absent, Present}
 use Rattle.std.proofs.lemmas.Option.{none-some}
@@ -12,7 +12,7 @@ use Rattle.tables.specs.Tree.{total}
 use Rattle.tables.proofs.Store.{counted_up, counted_past, zero_words}
 use Rattle.tables.proofs.Total.{total-none}
 use Rattle.engine.specs.Homes.{Home, Place, home_in, home_of, vacant}
-use Rattle.engine.specs.Machine.{IsNew, Machine}
+use Rattle.engine.specs.State.{IsNew, State}
 use Rattle.engine.specs.Whole.{IsWhole}
 use Rattle.engine.specs.Quarantine.{AreLawful, Quarantine, attached, owned}
 use Rattle.engine.proofs.Places.{home_at}
@@ -37,10 +37,10 @@ no_entry_in (suc n) zero root domain at = cc
 no_entry_in (suc n) (suc v) root domain at = no_entry_in n v root domain at
 
 -- nothing is remembered
-nothing_cached : (m : Machine) (w : World) (c : Caches) → c ≡ nothing → AreLawful m w c
+nothing_cached : (m : State) (w : World) (c : Caches) → c ≡ nothing → AreLawful m w c
 nothing_cached m w c is = rw is (record { leaves = λ l inside. absurd inside; tables = λ i inside. absurd inside })
 
-pub of_empty_world : (m : Machine) (frames : ℕ) → IsNew frames m → Quarantine m (empty frames)
+pub of_empty_world : (m : State) (frames : ℕ) → IsNew frames m → Quarantine m (empty frames)
 of_empty_world m frames new = record {
   table_frames = sym new.frames_are;
   domains = λ d. rw (no_home m.homes d new.homes_are) tt;
@@ -61,14 +61,14 @@ of_empty_world m frames new = record {
   none : (f : ℕ) → total (λ d. owned (memory m.pool.words) (home_of m.homes d) f) 16 ≡ 0
   none f = total-none (λ d. owned (memory m.pool.words) (home_of m.homes d) f) 16 (λ d less. ap (λ (o : Option Home). owned (memory m.pool.words) o f) (no_home m.homes d new.homes_are))
 
-pub whole_new : (m : Machine) (frames : ℕ) → IsNew frames m → IsWhole frames m
+pub whole_new : (m : State) (frames : ℕ) → IsNew frames m → IsWhole frames m
 whole_new m frames new = record {
   of_world = (empty frames, of_empty_world m frames new);
   places = ap length new.homes_are;
   devices = ap length new.row_is;
   frames_are = sym new.frames_are;
-  idle = ap (λ (r : Queue). r.waiting) new.ring_is;
-  status = (let zero_status : m.ring.status ≡ 0 = ap (λ (r : Queue). r.status) new.ring_is in omega (arith, zero_status));
+  idle = ap (λ (r : Ring). r.waiting) new.ring_is;
+  status = (let zero_status : m.ring.status ≡ 0 = ap (λ (r : Ring). r.status) new.ring_is in omega (arith, zero_status));
   sent = omega (arith, new.sent_is);
   steps = (let zero_steps : m.unit.steps ≡ 0 = ap (λ (u : UnitState). u.steps) new.unit_is in omega (arith, zero_steps));
 }
@@ -95,8 +95,8 @@ unfolding frames_up
 many zero = refl
 many (suc n) = omega (arith, length-append (frames_up n) (n ∷ []), many n)
 
-pub new_state : ℕ → Machine
-new_state frames = record { pool = record { words = replicate (frames * 512) 0; free = frames_up frames; frames = frames }; homes = replicate 15 vacant; row = replicate 16 Absent; ring = queue [] 0 []; unit = unit_state nothing 0 0; sent = 0; calls = 0 }
+pub new_state : ℕ → State
+new_state frames = record { pool = record { words = replicate (frames * 512) 0; free = frames_up frames; frames = frames }; homes = replicate 15 vacant; row = replicate 16 Absent; ring = ring_of [] 0 []; unit = unit_state nothing 0 0; sent = 0; calls = 0 }
 
 pub new_is_new : (frames : ℕ) → IsNew frames (new_state frames)
 unfolding new_state

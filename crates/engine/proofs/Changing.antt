@@ -3,11 +3,11 @@ use Rattle.std.proofs.Common.{◌≡◌, ◌≢◌, ℕ, ◌+◌, ◌<◌, ◌�
 use Rattle.std.proofs.lemmas.Option.{same_Some}
 use Rattle.dmatypes.specs.World.{Domain, World, IsIn, put}
 use Rattle.tables.specs.Changes.{Stays}
-use Rattle.tables.specs.Pool.{Stored, memory, occurs, IsZeroed}
+use Rattle.tables.specs.Pool.{Pool, memory, occurs, IsZeroed}
 use Rattle.tables.specs.Tree.{leaf_from, table_from, uses}
 use Rattle.unit.specs.Caches.{Context, Leaf, NonLeaf}
 use Rattle.engine.specs.Homes.{Home, held_in, home_of}
-use Rattle.engine.specs.Machine.{Machine}
+use Rattle.engine.specs.State.{State}
 use Rattle.engine.specs.Quarantine.{Attaches, InDomain, IsLawfulLeaf, IsLawfulTable, Mirrors, Quarantine, owned}
 use Rattle.engine.proofs.Frames.{frames_move}
 use Rattle.engine.proofs.Held.{held_stays}
@@ -24,12 +24,12 @@ pub record SameTree (words words' : List ℕ) (root : ℕ) : Type 0 where
 pub same_tree : (words words' : List ℕ) (root : ℕ) → words' ≡ words → SameTree words words' root
 same_tree words words' root same = subst (λ ws. SameTree words ws root) (sym same) (record { leaves = λ p. refl; tables = λ p w. refl; frames = λ f. refl })
 
-pub tree_stays : (old new : Stored) (words : List ℕ) (root : ℕ) → Stays old new 3 root → words ≡ new.words → SameTree old.words words root
+pub tree_stays : (old new : Pool) (words : List ℕ) (root : ℕ) → Stays old new 3 root → words ≡ new.words → SameTree old.words words root
 tree_stays old new words root stays same =
     subst (λ ws. SameTree old.words ws root) (sym same) (record { leaves = stays.same_leaves; tables = stays.same_tables; frames = stays.same_frames })
 
 -- the domain's home is another one, and no other home; each entry that is left is lawful of what it became
-pub record ChangesDomain (m t : Machine) (d : ℕ) (h h' : Home) (v v' : Domain) : Type 0 where
+pub record ChangesDomain (m t : State) (d : ℕ) (h h' : Home) (v v' : Domain) : Type 0 where
   pub homes : (e : ℕ) → home_of t.homes e ≡ put d (Some h') (home_of m.homes) e
   pub row : t.row ≡ m.row
   pub root : h'.root ≡ h.root
@@ -45,7 +45,7 @@ pub record ChangesDomain (m t : Machine) (d : ℕ) (h h' : Home) (v v' : Domain)
   pub tables : (i : NonLeaf) → IsIn i t.unit.caches.non_leaves → IsIn i m.unit.caches.non_leaves × (i.domain ≡ d → IsLawfulTable m.pool.words i h v → IsLawfulTable t.pool.words i h' v')
   pub contexts : (x : Context) → IsIn x t.unit.caches.contexts → IsIn x m.unit.caches.contexts
 
-module _ (m t : Machine) (w : World) (d : ℕ) (h h' : Home) (v v' : Domain) (q : Quarantine m w) (many : length m.homes ≡ 15) (there : home_of m.homes d ≡ Some h) (here : w.domains d ≡ Some v) (c : ChangesDomain m t d h h' v v') where
+module _ (m t : State) (w : World) (d : ℕ) (h h' : Home) (v v' : Domain) (q : Quarantine m w) (many : length m.homes ≡ 15) (there : home_of m.homes d ≡ Some h) (here : w.domains d ≡ Some v) (c : ChangesDomain m t d h h' v v') where
   low : d < 16
   low = home_low m.homes d h many there
 

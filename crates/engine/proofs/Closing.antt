@@ -9,7 +9,7 @@ use Rattle.unit.specs.Caches.{Leaf, NonLeaf}
 use Rattle.vtdbits.specs.declared.context.ContextEntry.TheVariants.{Present}
 use Rattle.engine.specs.Ending.{Destroys}
 use Rattle.engine.specs.Homes.{Home, held_in, home_of}
-use Rattle.engine.specs.Machine.{Machine}
+use Rattle.engine.specs.State.{State}
 use Rattle.engine.specs.Quarantine.{Attaches, InDomain, IsLawfulLeaf, IsLawfulTable, Quarantine, attached, owned}
 use Rattle.engine.proofs.Frames.{apart_of, frames_move, held_out, tree_of}
 use Rattle.engine.proofs.Held.{held-nil, held_stays}
@@ -18,7 +18,7 @@ use Rattle.engine.proofs.Lists.{put_other, put_same, same_or_not}
 use Rattle.engine.proofs.Places.{domain_out, home_low}
 
 -- its records went, and nothing is remembered of it; then its tree goes
-module _ (m t : Machine) (w : World) (d : ℕ) (h : Home) (q : Quarantine m w) (many : length m.homes ≡ 15) (there : home_of m.homes d ≡ Some h) (no_records : h.records ≡ [])
+module _ (m t : State) (w : World) (d : ℕ) (h : Home) (q : Quarantine m w) (many : length m.homes ≡ 15) (there : home_of m.homes d ≡ Some h) (no_records : h.records ≡ [])
     (nobody : (x : ℕ) → w.devices x ≡ Some d → ⊥) (no_leaf : (l : Leaf) → IsIn l m.unit.caches.leaves → l.domain ≡ d → ⊥) (no_table : (i : NonLeaf) → IsIn i m.unit.caches.non_leaves → i.domain ≡ d → ⊥)
     (homes : (e : ℕ) → home_of t.homes e ≡ put d None (home_of m.homes) e) (row : t.row ≡ m.row) (unit : t.unit ≡ m.unit) (destroys : Destroys m.pool h.root t.pool) where
   low : d < 16

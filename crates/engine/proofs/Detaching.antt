@@ -9,7 +9,7 @@ use Rattle.dmatypes.specs.Step.{Answers, IsStep, next}
 use Rattle.dmatypes.specs.World.{World, put}
 use Rattle.dmatypes.specs.declared.width.Width.{Width}
 use Rattle.dmatypes.specs.declared.width.Width.TheVariants.{W39}
-use Rattle.tables.specs.Pool.{Stored}
+use Rattle.tables.specs.Pool.{Pool}
 use Rattle.unit.specs.Caches.{Context}
 use Rattle.unit.specs.Filters.{drops_context}
 use Rattle.vtdbits.specs.declared.context.ContextEntry.{ContextEntry}
@@ -17,7 +17,7 @@ use Rattle.vtdbits.specs.declared.context.ContextEntry.TheVariants.{Absent, Pres
 use Rattle.vtdbits.specs.declared.descriptor.Descriptor.TheVariants.{ContextDevice}
 use Rattle.engine.specs.declared.iommu.Iommu.{Iommu}
 use Rattle.engine.specs.Ending.{Invalidates}
-use Rattle.engine.specs.Machine.{Becomes, Exact, Machine}
+use Rattle.engine.specs.State.{Becomes, Exact, State}
 use Rattle.engine.specs.Quarantine.{Quarantine, attached}
 use Rattle.engine.specs.Steps.{Does}
 use Rattle.engine.proofs.Lists.{get_set, get_set_other, is_none, not_none, put_other, put_same, same_or_not}
@@ -27,7 +27,7 @@ use Rattle.engine.proofs.Refusing.{counted, refuses}
 dropped_context : (domain device : ℕ) (x : Context) → x.device ≡ device → drops_context (ContextDevice domain device) x ≡ false → ⊥
 dropped_context domain device x same left = grind (arith, nat_tests)
 
-module _ (m t : Machine) (w : World) (device domain : ℕ) (q : Quarantine m w) (small : device < length m.row) (row : t.row ≡ slice_set m.row device Absent) (purges : Purges (ContextDevice domain device) m.unit.caches t.unit.caches)
+module _ (m t : State) (w : World) (device domain : ℕ) (q : Quarantine m w) (small : device < length m.row) (row : t.row ≡ slice_set m.row device Absent) (purges : Purges (ContextDevice domain device) m.unit.caches t.unit.caches)
     (homes : t.homes ≡ m.homes) (pool : t.pool ≡ m.pool) where
   entry_then : (x : ℕ) → x ≢ device → slice_get t.row x ≡ slice_get m.row x
   entry_then x ne = ap (λ r. slice_get r x) row ∙ get_set_other m.row device x Absent ne
@@ -52,7 +52,7 @@ module _ (m t : Machine) (w : World) (device domain : ℕ) (q : Quarantine m w) 
 
   pub device_gone : Quarantine t (record w { devices = put device None w.devices })
   device_gone = record {
-    table_frames = q.table_frames ∙ sym (ap (λ (p : Stored). p.frames) pool);
+    table_frames = q.table_frames ∙ sym (ap (λ (p : Pool). p.frames) pool);
     domains = rw (homes, pool) q.domains;
     caches = record {
       leaves = λ l inside. rw (homes, pool) (q.caches.leaves l (purges.leaves l inside).0);
@@ -73,20 +73,20 @@ module _ (m t : Machine) (w : World) (device domain : ℕ) (q : Quarantine m w) 
 pub only_width : (w : Width) → w ≡ W39
 only_width W39 = refl
 
-pub detach_no_device : (m t : Machine) (device : ℕ) → t ≡ counted m → 15 < device → Does m (calls.Detach device) (Refused refusals.NoDevice) t
+pub detach_no_device : (m t : State) (device : ℕ) → t ≡ counted m → 15 < device → Does m (calls.Detach device) (Refused refusals.NoDevice) t
 unfolding Exact IsStep Stands
 detach_no_device m t device is big = refuses m t (calls.Detach device) refusals.NoDevice is tt (λ w q. inl (inl (big, refl)))
 
-pub detach_not_attached : (m t : Machine) (device : ℕ) (entry : ContextEntry) → t ≡ counted m → device ≤ 15 → slice_get m.row device ≡ Some entry → attached (Some entry) ≡ None → Does m (calls.Detach device) (Refused refusals.NotAttached) t
+pub detach_not_attached : (m t : State) (device : ℕ) (entry : ContextEntry) → t ≡ counted m → device ≤ 15 → slice_get m.row device ≡ Some entry → attached (Some entry) ≡ None → Does m (calls.Detach device) (Refused refusals.NotAttached) t
 unfolding Exact IsStep Stands
 detach_not_attached m t device entry is small at free = refuses m t (calls.Detach device) refusals.NotAttached is tt
     (λ w q. inl (inr (λ big. absurd (omega (arith, big, small)), inl (is_none (w.devices device) (q.contexts.devices device ∙ ap attached at ∙ free), refl))))
 
 -- the state without the entry, and with another unit
-abbrev pub detached : Machine → ℕ → List ContextEntry → Iommu → Machine
+abbrev pub detached : State → ℕ → List ContextEntry → Iommu → State
 detached m device row x = record m { row = row; ring = x.ring; unit = x.unit; sent = x.sent; calls = m.calls + 1 }
 
-pub detach_does : (m : Machine) (device root domain : ℕ) (row : List ContextEntry) (x : Iommu) → device ≤ 15 → length m.row ≡ 16 → slice_get m.row device ≡ Some (Present root W39 domain) → row ≡ slice_set m.row device Absent
+pub detach_does : (m : State) (device root domain : ℕ) (row : List ContextEntry) (x : Iommu) → device ≤ 15 → length m.row ≡ 16 → slice_get m.row device ≡ Some (Present root W39 domain) → row ≡ slice_set m.row device Absent
     → Invalidates m.ring m.unit m.sent (ContextDevice domain device) x.ring x.unit x.sent → Does m (calls.Detach device) Done (detached m device row x)
 unfolding Exact Becomes IsStep Stands Answers next
 detach_does m device root domain row x small many at is invalidates = record {

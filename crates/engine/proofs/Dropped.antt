@@ -5,7 +5,7 @@ use Rattle.dmatypes.specs.World.{Domain, World, flushed, put}
 use Rattle.vtdbits.specs.declared.descriptor.Descriptor.TheVariants.{IotlbDomain}
 use Rattle.engine.specs.Ending.{Closes}
 use Rattle.engine.specs.Homes.{Home, Place, home_in, home_of, home_with}
-use Rattle.engine.specs.Machine.{Machine, iommu_of}
+use Rattle.engine.specs.State.{State, iommu_of}
 use Rattle.engine.specs.Quarantine.{Quarantine}
 use Rattle.engine.proofs.Closing.{domain_gone}
 use Rattle.engine.proofs.Emptying.{put_twice, same_domains}
@@ -15,10 +15,10 @@ use Rattle.engine.proofs.Purging.{Purges, purges_sent}
 use Rattle.engine.proofs.Releasing.{domain_flushed, dropped_leaf, dropped_table}
 use Rattle.engine.proofs.Unmapping.{home_after}
 
-module _ (m t : Machine) (w : World) (i : ℕ) (h : Home) (old new : Place) (v : Domain) (q : Quarantine m w) (many : length m.homes ≡ 15) (less : i < length m.homes) (there : home_of m.homes (i + 1) ≡ Some h) (in_old : home_in (Some old) ≡ Some h)
+module _ (m t : State) (w : World) (i : ℕ) (h : Home) (old new : Place) (v : Domain) (q : Quarantine m w) (many : length m.homes ≡ 15) (less : i < length m.homes) (there : home_of m.homes (i + 1) ≡ Some h) (in_old : home_in (Some old) ≡ Some h)
     (here : w.domains (i + 1) ≡ Some v) (nobody : (x : ℕ) → w.devices x ≡ Some (i + 1) → ⊥) (vacant : new.tenant ≡ None) (closes : Closes m.pool h (iommu_of m) (i + 1) t.pool new.space new.records (iommu_of t)) (homes : t.homes ≡ slice_set m.homes i new) (row : t.row ≡ m.row) where
   -- the state once the records went
-  abbrev between : Machine
+  abbrev between : State
   between = record { pool = closes.pool_between; homes = slice_set m.homes i (record old { space = new.space; records = [] }); row = m.row; ring = t.ring; unit = t.unit; sent = t.sent; calls = m.calls }
 
   abbrev emptied : World

@@ -3,14 +3,14 @@ use Rattle.std.proofs.Common.{◌≡◌, ℕ, zero, suc, ◌+◌, ◌<◌, inl, 
 use Rattle.dmatypes.specs.declared.call.Mode.TheVariants.{Lazy}
 use Rattle.dmatypes.specs.Page.{Range, IsPageRange}
 use Rattle.dmatypes.specs.World.{Domain, World, flushed, put, put_off}
-use Rattle.iova.specs.Space.{AddressSpace}
-use Rattle.tables.specs.Pool.{Stored}
-use Rattle.tables.specs.Taken.{Taken}
+use Rattle.iova.specs.Space.{Space}
+use Rattle.tables.specs.Pool.{Pool}
+use Rattle.tables.specs.Cut.{Cut}
 use Rattle.vtdbits.specs.declared.descriptor.Descriptor.TheVariants.{IotlbDomain, Wait}
-use Rattle.engine.specs.Ending.{Cuts, ReleasesAll, left_by_all}
+use Rattle.engine.specs.Ending.{RetiresAndUnmaps, ReleasesAll, left_by_all}
 use Rattle.engine.specs.Homes.{Home, Place, home_in, home_of, record_for}
-use Rattle.engine.specs.Machine.{Machine}
-use Rattle.engine.specs.Quarantine.{Both, Quarantine}
+use Rattle.engine.specs.State.{State}
+use Rattle.engine.specs.Quarantine.{MirrorsIfAny, Quarantine}
 use Rattle.engine.proofs.Lists.{put_other, put_same, same_or_not}
 use Rattle.engine.proofs.Places.{home_set, settled}
 use Rattle.engine.proofs.Releasing.{domain_flushed}
@@ -35,10 +35,10 @@ put_twice key a b map k = elim (same_or_not k key) [
 ]
 
 -- a state of a world is one of each world that has the same domains
-pub same_domains : (m : Machine) (w : World) (domains : ℕ → Option Domain) → ((d : ℕ) → domains d ≡ w.domains d) → Quarantine m w → Quarantine m (record w { domains = domains })
+pub same_domains : (m : State) (w : World) (domains : ℕ → Option Domain) → ((d : ℕ) → domains d ≡ w.domains d) → Quarantine m w → Quarantine m (record w { domains = domains })
 same_domains m w domains same q = record {
   table_frames = q.table_frames;
-  domains = λ d. subst (λ (o : Option Domain). Both m.pool.words (home_of m.homes d) o) (sym (same d)) (q.domains d);
+  domains = λ d. subst (λ (o : Option Domain). MirrorsIfAny m.pool.words (home_of m.homes d) o) (sym (same d)) (q.domains d);
   caches = record {
     leaves = λ l inside. let k = q.caches.leaves l inside in (k.0, k.1, k.2, same l.domain ∙ k.3, k.4);
     tables = λ i inside. let k = q.caches.tables i inside in (k.0, k.1, k.2, same i.domain ∙ k.3, k.4);
@@ -50,14 +50,14 @@ same_domains m w domains same q = record {
 
 -- ---- the call
 
-module _ (m t : Machine) (w : World) (i n : ℕ) (h : Home) (old : Place) (v : Domain) (pool1 : Stored) (space1 : AddressSpace) (q : Quarantine m w) (many : length m.homes ≡ 15) (less : i < length m.homes)
+module _ (m t : State) (w : World) (i n : ℕ) (h : Home) (old : Place) (v : Domain) (pool1 : Pool) (space1 : Space) (q : Quarantine m w) (many : length m.homes ≡ 15) (less : i < length m.homes)
     (there : home_of m.homes (i + 1) ≡ Some h) (in_old : home_in (Some old) ≡ Some h) (here : w.domains (i + 1) ≡ Some v) (caches : t.unit.caches ≡ left_by_all (m.ring.waiting ++ IotlbDomain (i + 1) ∷ Wait n ∷ []) m.unit.caches)
     (all : ReleasesAll m.pool h.space h.records pool1 space1) where
   -- the place, the state and the world once all records went
   abbrev emptied : Place
   emptied = record old { space = space1; records = [] }
 
-  abbrev between : Machine
+  abbrev between : State
   between = record m { pool = pool1; homes = slice_set m.homes i emptied; unit = t.unit }
 
   abbrev flushed_world : World
@@ -69,7 +69,7 @@ module _ (m t : Machine) (w : World) (i n : ℕ) (h : Home) (old : Place) (v : D
   there_between : home_of between.homes (i + 1) ≡ Some (home_after h space1 [])
   there_between = home_set m.homes i emptied less (i + 1) ∙ put_same (i + 1) (home_in (Some emptied)) (home_of m.homes) ∙ settled old h space1 [] in_old
 
-  emptied_then : (range : Range) (cut : Taken) (space2 : AddressSpace) → v.mode ≡ Lazy → IsPageRange range → Cuts pool1 space1 h.root range cut t.pool space2
+  emptied_then : (range : Range) (cut : Cut) (space2 : Space) → v.mode ≡ Lazy → IsPageRange range → RetiresAndUnmaps pool1 space1 h.root range cut t.pool space2
       → t.homes ≡ slice_set m.homes i (record old { space = space2; records = record_for range h.begun cut ∷ [] }) → t.row ≡ m.row
       → Quarantine t (record w { domains = put (i + 1) (Some (put_off range (flushed v))) (put (i + 1) (Some (flushed v)) w.domains) })
   emptied_then range cut space2 lazy fits cuts homes row =
@@ -78,9 +78,9 @@ module _ (m t : Machine) (w : World) (i n : ℕ) (h : Home) (old : Place) (v : D
       (homes ∙ sym (set_twice m.homes i emptied (record old { space = space2; records = record_for range h.begun cut ∷ [] }))) row
 
 -- all records of the domain went, and then the pages of the range were put off
-pub full_put_off : (m t : Machine) (w : World) (i n : ℕ) (h : Home) (old : Place) (v : Domain) (range : Range) (cut : Taken) (pool1 : Stored) (space1 space2 : AddressSpace)
+pub full_put_off : (m t : State) (w : World) (i n : ℕ) (h : Home) (old : Place) (v : Domain) (range : Range) (cut : Cut) (pool1 : Pool) (space1 space2 : Space)
     → Quarantine m w → length m.homes ≡ 15 → i < length m.homes → home_of m.homes (i + 1) ≡ Some h → home_in (Some old) ≡ Some h → w.domains (i + 1) ≡ Some v → v.mode ≡ Lazy → IsPageRange range
-    → t.unit.caches ≡ left_by_all (m.ring.waiting ++ IotlbDomain (i + 1) ∷ Wait n ∷ []) m.unit.caches → ReleasesAll m.pool h.space h.records pool1 space1 → Cuts pool1 space1 h.root range cut t.pool space2
+    → t.unit.caches ≡ left_by_all (m.ring.waiting ++ IotlbDomain (i + 1) ∷ Wait n ∷ []) m.unit.caches → ReleasesAll m.pool h.space h.records pool1 space1 → RetiresAndUnmaps pool1 space1 h.root range cut t.pool space2
     → t.homes ≡ slice_set m.homes i (record old { space = space2; records = record_for range h.begun cut ∷ [] }) → t.row ≡ m.row
     → Quarantine t (record w { domains = put (i + 1) (Some (put_off range (flushed v))) w.domains })
 full_put_off m t w i n h old v range cut pool1 space1 space2 q many less there in_old here lazy fits caches all cuts homes row =

@@ -8,12 +8,12 @@ use Rattle.dmatypes.specs.declared.refusal.Refusal.TheVariants as refusals
 use Rattle.dmatypes.specs.declared.reply.Reply.TheVariants.{Done, Flushed, Refused}
 use Rattle.dmatypes.specs.Conditions.{Stands}
 use Rattle.dmatypes.specs.Step.{Answers, IsStep, next}
-use Rattle.tables.specs.Pool.{Stored}
+use Rattle.tables.specs.Pool.{Pool}
 use Rattle.vtdbits.specs.declared.descriptor.Descriptor.TheVariants.{IotlbDomain}
 use Rattle.engine.specs.declared.iommu.Iommu.{Iommu}
 use Rattle.engine.specs.Ending.{Closes, Flushes, Invalidates}
 use Rattle.engine.specs.Homes.{Home, Place, home_in, home_of}
-use Rattle.engine.specs.Machine.{Becomes, Exact, Machine, iommu_of}
+use Rattle.engine.specs.State.{Becomes, Exact, State, iommu_of}
 use Rattle.engine.specs.Quarantine.{attached}
 use Rattle.engine.specs.Steps.{Does}
 use Rattle.engine.specs.Whole.{IsWhole}
@@ -27,17 +27,17 @@ use Rattle.engine.proofs.UnmapSteps.{records_count}
 
 -- ---- refused
 
-pub flush_no_domain : (m t : Machine) (domain : ℕ) → t ≡ counted m → home_of m.homes domain ≡ None → Does m (calls.Flush domain) (Refused refusals.NoDomain) t
+pub flush_no_domain : (m t : State) (domain : ℕ) → t ≡ counted m → home_of m.homes domain ≡ None → Does m (calls.Flush domain) (Refused refusals.NoDomain) t
 unfolding Exact IsStep Stands
 flush_no_domain m t domain is none = refuses m t (calls.Flush domain) refusals.NoDomain is tt
     (λ w q. inl (inl (is_none (w.domains domain) (both_absent m.pool.words (home_of m.homes domain) (w.domains domain) (q.domains domain) none), refl)))
 
-pub drop_no_domain : (m t : Machine) (domain : ℕ) → t ≡ counted m → home_of m.homes domain ≡ None → Does m (calls.Drop domain) (Refused refusals.NoDomain) t
+pub drop_no_domain : (m t : State) (domain : ℕ) → t ≡ counted m → home_of m.homes domain ≡ None → Does m (calls.Drop domain) (Refused refusals.NoDomain) t
 unfolding Exact IsStep Stands
 drop_no_domain m t domain is none = refuses m t (calls.Drop domain) refusals.NoDomain is tt
     (λ w q. inl (inl (is_none (w.domains domain) (both_absent m.pool.words (home_of m.homes domain) (w.domains domain) (q.domains domain) none), refl)))
 
-pub drop_busy : (m t : Machine) (domain : ℕ) (h : Home) → t ≡ counted m → home_of m.homes domain ≡ Some h → ((v : ℕ) × (attached (slice_get m.row v) ≡ Some domain)) → Does m (calls.Drop domain) (Refused refusals.Busy) t
+pub drop_busy : (m t : State) (domain : ℕ) (h : Home) → t ≡ counted m → home_of m.homes domain ≡ Some h → ((v : ℕ) × (attached (slice_get m.row v) ≡ Some domain)) → Does m (calls.Drop domain) (Refused refusals.Busy) t
 unfolding Exact IsStep Stands
 drop_busy m t domain h is there (v, at) = refuses m t (calls.Drop domain) refusals.Busy is tt
     (λ w q.
@@ -46,8 +46,8 @@ drop_busy m t domain h is there (v, at) = refuses m t (calls.Drop domain) refusa
 
 -- ---- done
 
-module _ (frames : ℕ) (m : Machine) (i : ℕ) (p new : Place) (h : Home) (pool : Stored) (x : Iommu) (whole : IsWhole frames m) (less : i < length m.homes) (at : slice_get m.homes i ≡ Some p) (in_place : home_in (Some p) ≡ Some h) (there : home_of m.homes (i + 1) ≡ Some h) where
-  abbrev then : Machine
+module _ (frames : ℕ) (m : State) (i : ℕ) (p new : Place) (h : Home) (pool : Pool) (x : Iommu) (whole : IsWhole frames m) (less : i < length m.homes) (at : slice_get m.homes i ≡ Some p) (in_place : home_in (Some p) ≡ Some h) (there : home_of m.homes (i + 1) ≡ Some h) where
+  abbrev then : State
   then = changed m i pool new x
 
   here : i + 1 - 1 ≡ i
@@ -85,11 +85,11 @@ module _ (frames : ℕ) (m : Machine) (i : ℕ) (p new : Place) (h : Home) (pool
   sends {call} {reply} does invalidates = whole_sends frames m then call reply (IotlbDomain (i + 1)) whole does (length-set m.homes i new) refl invalidates
 
 -- a call is done, and the type of the state keeps what it does
-pub record Did (frames : ℕ) (m : Machine) (call : Call) (reply : Reply) (t : Machine) : Type 0 where
+pub record Did (frames : ℕ) (m : State) (call : Call) (reply : Reply) (t : State) : Type 0 where
   pub does : Does m call reply t
   pub whole : IsWhole frames t
 
-pub flush_did : (frames : ℕ) (m : Machine) (domain i released : ℕ) (p new : Place) (h : Home) (pool : Stored) (x : Iommu) → IsWhole frames m → i < length m.homes → domain ≡ i + 1 → slice_get m.homes i ≡ Some p → home_in (Some p) ≡ Some h → home_of m.homes domain ≡ Some h
+pub flush_did : (frames : ℕ) (m : State) (domain i released : ℕ) (p new : Place) (h : Home) (pool : Pool) (x : Iommu) → IsWhole frames m → i < length m.homes → domain ≡ i + 1 → slice_get m.homes i ≡ Some p → home_in (Some p) ≡ Some h → home_of m.homes domain ≡ Some h
     → new.tenant ≡ p.tenant → released ≡ length h.records → Flushes m.pool h.space h.records (iommu_of m) domain pool new.space new.records x → Did frames m (calls.Flush domain) (Flushed released) (changed m i pool new x)
 flush_did frames m domain i released p new h pool x whole less id at in_place there tenant count flushes =
     let there' : home_of m.homes (i + 1) ≡ Some h = rw id at there in
@@ -97,7 +97,7 @@ flush_did frames m domain i released p new h pool x whole less id at in_place th
     let does = flush_does frames m i p new h pool x whole less at in_place there' released tenant count flushes' in
     rw id (record { does = does; whole = sends frames m i p new h pool x whole less at in_place there' does flushes'.invalidates })
 
-pub drop_did : (frames : ℕ) (m : Machine) (domain i : ℕ) (p new : Place) (h : Home) (pool : Stored) (x : Iommu) → IsWhole frames m → i < length m.homes → domain ≡ i + 1 → slice_get m.homes i ≡ Some p → home_in (Some p) ≡ Some h → home_of m.homes domain ≡ Some h
+pub drop_did : (frames : ℕ) (m : State) (domain i : ℕ) (p new : Place) (h : Home) (pool : Pool) (x : Iommu) → IsWhole frames m → i < length m.homes → domain ≡ i + 1 → slice_get m.homes i ≡ Some p → home_in (Some p) ≡ Some h → home_of m.homes domain ≡ Some h
     → new.tenant ≡ None → ((v : ℕ) → attached (slice_get m.row v) ≡ Some domain → ⊥) → Closes m.pool h (iommu_of m) domain pool new.space new.records x → Did frames m (calls.Drop domain) Done (changed m i pool new x)
 drop_did frames m domain i p new h pool x whole less id at in_place there vacant nobody closes =
     let there' : home_of m.homes (i + 1) ≡ Some h = rw id at there in

@@ -5,7 +5,7 @@ use Rattle.tables.specs.Pool.{memory}
 use Rattle.tables.specs.Tree.{IsLeafAt, IsTableAt, leaf_from, table_from}
 use Rattle.unit.specs.Caches.{Caches, Leaf, NonLeaf}
 use Rattle.engine.specs.Homes.{Home, home_of}
-use Rattle.engine.specs.Machine.{Machine}
+use Rattle.engine.specs.State.{State}
 use Rattle.engine.specs.Quarantine.{AreLawful, IsHeld, IsLawfulLeaf, IsLawfulTable}
 
 -- ---- one tree
@@ -47,7 +47,7 @@ keeps_same words words' h v leaves tables held = record {
 -- ---- all domains
 
 -- what is cached stays lawful where each domain of the state keeps that
-pub stay_lawful : (m t : Machine) (w w' : World) (c : Caches) → AreLawful m w c
+pub stay_lawful : (m t : State) (w w' : World) (c : Caches) → AreLawful m w c
     → ((d : ℕ) (h : Home) (v : Domain) → home_of m.homes d ≡ Some h → w.domains d ≡ Some v
     → (h' : Home) × (v' : Domain) × (home_of t.homes d ≡ Some h') × (w'.domains d ≡ Some v') × KeepsLawful m.pool.words t.pool.words h h' v v')
     → AreLawful t w' c
@@ -63,7 +63,7 @@ stay_lawful m t w w' c lawful keeps = record {
 }
 
 -- fewer entries are lawful too
-pub fewer_lawful : (m : Machine) (w : World) (c c' : Caches) → AreLawful m w c → ((l : Leaf) → IsIn l c'.leaves → IsIn l c.leaves) → ((i : NonLeaf) → IsIn i c'.non_leaves → IsIn i c.non_leaves) → AreLawful m w c'
+pub fewer_lawful : (m : State) (w : World) (c c' : Caches) → AreLawful m w c → ((l : Leaf) → IsIn l c'.leaves → IsIn l c.leaves) → ((i : NonLeaf) → IsIn i c'.non_leaves → IsIn i c.non_leaves) → AreLawful m w c'
 fewer_lawful m w c c' lawful leaves tables = record {
   leaves = λ l inside. lawful.leaves l (leaves l inside);
   tables = λ i inside. lawful.tables i (tables i inside);

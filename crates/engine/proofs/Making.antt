@@ -10,11 +10,11 @@ use Rattle.dmatypes.specs.Conditions.{Stands}
 use Rattle.dmatypes.specs.Step.{IsStep, Answers, next}
 use Rattle.iova.specs.Space.{AllFree, IsSpace, new_space}
 use Rattle.tables.specs.declared.trees.Tree.{Tree}
-use Rattle.tables.specs.Pool.{Stored, memory, occurs, IsPool, IsZeroed}
+use Rattle.tables.specs.Pool.{Pool, memory, occurs, IsPool, IsZeroed}
 use Rattle.tables.specs.Tree.{here, leaf_from, stated, table_from, uses}
 use Rattle.engine.specs.Homes.{Home, Place, held_in, home_of}
-use Rattle.engine.specs.Machine.{Machine, Exact, Becomes, Roots}
-use Rattle.engine.specs.Quarantine.{AreLawful, Both, IsHeld, Quarantine, owned}
+use Rattle.engine.specs.State.{State, Exact, Becomes, TakesRoot}
+use Rattle.engine.specs.Quarantine.{AreLawful, MirrorsIfAny, IsHeld, Quarantine, owned}
 use Rattle.engine.specs.Steps.{Does}
 use Rattle.engine.proofs.Frames.{frames_move}
 use Rattle.engine.proofs.Lists.{is_none, not_some, put_same, put_other, same_or_not}
@@ -25,31 +25,31 @@ use Rattle.engine.proofs.Lawful.{keeps_same, stay_lawful}
 use Rattle.engine.proofs.Refusing.{counted, refuses}
 
 -- where a place is used, the world has the domain
-used_there : (words : List ℕ) (o : Option Home) (p : Option Domain) → Both words o p → IsSome o → IsSome p
+used_there : (words : List ℕ) (o : Option Home) (p : Option Domain) → MirrorsIfAny words o p → IsSome o → IsSome p
 used_there words None p both h = absurd (not_some {A = Home} None refl h)
 used_there words (Some h) None both s = absurd both
 used_there words (Some h) (Some v) both s = refl
 
-pub no_id : (m t : Machine) (mode : Mode) → t ≡ counted m → length m.homes ≡ 15 → ((d : ℕ) → 1 ≤ d → d ≤ length m.homes → IsSome (home_of m.homes d))
+pub no_id : (m t : State) (mode : Mode) → t ≡ counted m → length m.homes ≡ 15 → ((d : ℕ) → 1 ≤ d → d ≤ length m.homes → IsSome (home_of m.homes d))
     → Does m (calls.Domain mode) (Refused refusals.TooManyDomains) t
 unfolding Exact IsStep Stands
 no_id m t mode is many all = refuses m t (calls.Domain mode) refusals.TooManyDomains is tt
     (λ w q. inl (inl ((λ d low high. used_there m.pool.words (home_of m.homes d) (w.domains d) (q.domains d) (all d low (omega (arith, high, many)))), refl)))
 
-unused : (m : Machine) (w : World) (i : ℕ) → Quarantine m w → length m.homes ≡ 15 → i < length m.homes → home_of m.homes (i + 1) ≡ None → ((d : ℕ) → 1 ≤ d → d ≤ 15 → IsSome (w.domains d)) → ⊥
+unused : (m : State) (w : World) (i : ℕ) → Quarantine m w → length m.homes ≡ 15 → i < length m.homes → home_of m.homes (i + 1) ≡ None → ((d : ℕ) → 1 ≤ d → d ≤ 15 → IsSome (w.domains d)) → ⊥
 unused m w i q many less free all =
     let absent : w.domains (i + 1) ≡ None = both_absent m.pool.words (home_of m.homes (i + 1)) (w.domains (i + 1)) (q.domains (i + 1)) free in
     not_some (w.domains (i + 1)) absent (all (i + 1) (omega arith) (omega (arith, less, many)))
 
-pub no_root : (m t : Machine) (mode : Mode) (i : ℕ) → t ≡ counted m → length m.homes ≡ 15 → i < length m.homes → home_of m.homes (i + 1) ≡ None → length m.pool.free ≡ 0
+pub no_root : (m t : State) (mode : Mode) (i : ℕ) → t ≡ counted m → length m.homes ≡ 15 → i < length m.homes → home_of m.homes (i + 1) ≡ None → length m.pool.free ≡ 0
     → Does m (calls.Domain mode) (Refused refusals.NoFrames) t
 unfolding Exact IsStep Stands
 no_root m t mode i is many less free empty = refuses m t (calls.Domain mode) refusals.NoFrames is empty
     (λ w q. inr ((λ all. unused m w i q many less free all, tt), tt))
 
 -- an empty tree in one free frame
-pub record IsEmptyTree (old new : Stored) (root : ℕ) : Type 0 where
-  pub roots : Roots old new root
+pub record IsEmptyTree (old new : Pool) (root : ℕ) : Type 0 where
+  pub roots : TakesRoot old new root
   pub empty : (p : ℕ) → leaf_from (memory new.words) 3 root p ≡ None
   pub frames : (f : ℕ) → uses (memory new.words) 3 root f ≡ here root f
   pub pool : IsPool new
@@ -61,7 +61,7 @@ abbrev pub home_new : Mode → Tree → Home
 home_new mode tree = record { mode = mode; space = new_space (2 ^ 27 - 1); root = tree.root; records = []; begun = 0 }
 
 -- the state with the domain is the state of the world with it
-with_new : (m t : Machine) (w : World) (mode : Mode) (i : ℕ) (tree : Tree) → Quarantine m w → length m.homes ≡ 15 → i < length m.homes → home_of m.homes (i + 1) ≡ None → IsEmptyTree m.pool t.pool tree.root
+with_new : (m t : State) (w : World) (mode : Mode) (i : ℕ) (tree : Tree) → Quarantine m w → length m.homes ≡ 15 → i < length m.homes → home_of m.homes (i + 1) ≡ None → IsEmptyTree m.pool t.pool tree.root
     → IsSpace (new_space (2 ^ 27 - 1)) → AllFree (new_space (2 ^ 27 - 1)) → t.homes ≡ slice_set m.homes i (place_new mode tree) → t.row ≡ m.row → t.unit ≡ m.unit
     → Quarantine t (record w { domains = put (i + 1) (Some (empty_domain mode)) w.domains })
 with_new m t w mode i tree q many less free grown is_space all homes row unit = record {
@@ -111,7 +111,7 @@ with_new m t w mode i tree q many less free grown is_space all homes row unit = 
     | inr ne ↦ subst (λ ws. IsZeroed ws f) (sym grown.roots.words) (q.frames.held e f h (sym (put_other (i + 1) (Some (home_new mode tree)) (home_of m.homes) e ne) ∙ sym (homes_are e) ∙ there) some)
   ]
 
-pub makes : (m t : Machine) (mode : Mode) (i : ℕ) (tree : Tree) → length m.homes ≡ 15 → i < length m.homes → home_of m.homes (i + 1) ≡ None → IsEmptyTree m.pool t.pool tree.root
+pub makes : (m t : State) (mode : Mode) (i : ℕ) (tree : Tree) → length m.homes ≡ 15 → i < length m.homes → home_of m.homes (i + 1) ≡ None → IsEmptyTree m.pool t.pool tree.root
     → IsSpace (new_space (2 ^ 27 - 1)) → AllFree (new_space (2 ^ 27 - 1))
     → t ≡ record m { pool = t.pool; homes = slice_set m.homes i (place_new mode tree); calls = m.calls + 1 }
     → Does m (calls.Domain mode) (Made (i + 1)) t
@@ -124,9 +124,9 @@ makes m t mode i tree many less free grown is_space all is =
               ((λ all. unused m w i q many less free all), tt),
               (i + 1, (omega arith, omega (arith, less, many), is_none (w.domains (i + 1)) absent), refl),
             ),
-            with_new m t w mode i tree q many less free grown is_space all (ap (λ (x : Machine). x.homes) is) (ap (λ (x : Machine). x.row) is) (ap (λ (x : Machine). x.unit) is),
+            with_new m t w mode i tree q many less free grown is_space all (ap (λ (x : State). x.homes) is) (ap (λ (x : State). x.row) is) (ap (λ (x : State). x.unit) is),
           );
       exact = omega (arith, grown.roots.count);
       becomes = let place : i + 1 - 1 ≡ i = omega arith in (tree, grown.roots, rw place is);
-      calls = ap (λ (x : Machine). x.calls) is;
+      calls = ap (λ (x : State). x.calls) is;
     }

@@ -15,17 +15,17 @@ use Rattle.unit.specs.Walking.{stated_by}
 use Rattle.engine.specs.declared.record.Record.{Record}
 use Rattle.engine.specs.declared.home.Tenant.{Tenant}
 use Rattle.engine.specs.declared.wanted.Wanted.{Wanted}
-use Rattle.iova.specs.Space.{AddressSpace, IsFit}
+use Rattle.iova.specs.Space.{Space, IsFit}
 use Rattle.tables.specs.Changes.{Stays}
 use Rattle.arrayvec.specs.ArrayVec.{ArrayVec}
 use Rattle.dmatypes.specs.Rights.{bits_of}
-use Rattle.tables.specs.Pool.{Stored, memory, occurs, IsZeroed}
+use Rattle.tables.specs.Pool.{Pool, memory, occurs, IsZeroed}
 use Rattle.tables.specs.Segments.{one_segment}
 use Rattle.tables.specs.Tree.{stated, states}
 use Rattle.tables.proofs.Kept.{apart_stays, map_leaves, map_tables, same_root, span-three}
 use Rattle.engine.specs.Homes.{Home, Place, held_in, home_in, home_of}
 use Rattle.engine.specs.Judged.{AreMappable, AreOwned, IsJudged, Wants}
-use Rattle.engine.specs.Machine.{Machine, Exact, Becomes, mapped_reply}
+use Rattle.engine.specs.State.{State, Exact, Becomes, mapped_reply}
 use Rattle.engine.specs.Placing.{IsCrowded, IsPlaced, IsPlacedIn, IsShort, Places}
 use Rattle.engine.specs.Quarantine.{AreLawful, Mirrors, PartsPages, Quarantine, owned}
 use Rattle.engine.specs.Steps.{Does}
@@ -38,13 +38,13 @@ use Rattle.engine.proofs.Places.{both_absent, both_there, domains_put, home_is, 
 use Rattle.engine.proofs.Refusing.{counted, refuses}
 use Rattle.engine.proofs.Segments.{some_page}
 
-pub map_no_domain : (m t : Machine) (domain order rights : ℕ) (segments : ArrayVec Segment) → t ≡ counted m → home_of m.homes domain ≡ None
+pub map_no_domain : (m t : State) (domain order rights : ℕ) (segments : ArrayVec Segment) → t ≡ counted m → home_of m.homes domain ≡ None
     → Does m (calls.MapList domain order rights segments) (Refused refusals.NoDomain) t
 unfolding Exact IsStep Stands
 map_no_domain m t domain order rights segments is none = refuses m t (calls.MapList domain order rights segments) refusals.NoDomain is tt
     (λ w q. inl (inl (is_none (w.domains domain) (both_absent m.pool.words (home_of m.homes domain) (w.domains domain) (q.domains domain) none), refl)))
 
-pub map_bad : (m t : Machine) (domain order rights : ℕ) (segments : ArrayVec Segment) (h : Home) → t ≡ counted m → home_of m.homes domain ≡ Some h → IsBadMap segments.items order rights
+pub map_bad : (m t : State) (domain order rights : ℕ) (segments : ArrayVec Segment) (h : Home) → t ≡ counted m → home_of m.homes domain ≡ Some h → IsBadMap segments.items order rights
     → Does m (calls.MapList domain order rights segments) (Refused refusals.BadRange) t
 unfolding Exact IsStep Stands
 map_bad m t domain order rights segments h is there bad = refuses m t (calls.MapList domain order rights segments) refusals.BadRange is tt
@@ -52,7 +52,7 @@ map_bad m t domain order rights segments h is there bad = refuses m t (calls.Map
     let v = both_there m.pool.words (home_of m.homes domain) (w.domains domain) h (q.domains domain) there in
     inl (inr (not_none (w.domains domain) v.0 v.1, inl (bad, refl))))
 
-pub map_owned : (m t : Machine) (domain order rights : ℕ) (segments : ArrayVec Segment) (h : Home) → t ≡ counted m → home_of m.homes domain ≡ Some h → (IsBadMap segments.items order rights → ⊥) → AreOwned m.pool.frames segments.items
+pub map_owned : (m t : State) (domain order rights : ℕ) (segments : ArrayVec Segment) (h : Home) → t ≡ counted m → home_of m.homes domain ≡ Some h → (IsBadMap segments.items order rights → ⊥) → AreOwned m.pool.frames segments.items
     → Does m (calls.MapList domain order rights segments) (Refused refusals.FrameOwned) t
 unfolding Exact IsStep Stands
 map_owned m t domain order rights segments h is there good low = refuses m t (calls.MapList domain order rights segments) refusals.FrameOwned is tt
@@ -73,7 +73,7 @@ no_range w domain pages order v is none = rw is none
 some_range : (w : World) (domain pages order : ℕ) (v : Domain) (s : ℕ) → w.domains domain ≡ Some v → s % 2 ^ order ≡ 0 → AreFreePages v (record { first = s; pages = pages }) → HasNoRange w domain pages order → ⊥
 some_range w domain pages order v s is aligned free none = let no = rw is at none in no s aligned free
 
-pub map_no_range : (m t : Machine) (domain order rights : ℕ) (segments : ArrayVec Segment) (h : Home) → t ≡ counted m → home_of m.homes domain ≡ Some h → (IsBadMap segments.items order rights → ⊥) → (AreOwned m.pool.frames segments.items → ⊥)
+pub map_no_range : (m t : State) (domain order rights : ℕ) (segments : ArrayVec Segment) (h : Home) → t ≡ counted m → home_of m.homes domain ≡ Some h → (IsBadMap segments.items order rights → ⊥) → (AreOwned m.pool.frames segments.items → ⊥)
     → ((start : ℕ) → IsFit h.space.pieces (total_pages segments.items) (2 ^ order) start → ⊥) → Does m (calls.MapList domain order rights segments) (Refused refusals.NoRange) t
 unfolding Exact IsStep Stands
 map_no_range m t domain order rights segments h is there good high none = refuses m t (calls.MapList domain order rights segments) refusals.NoRange is tt
@@ -91,7 +91,7 @@ map_no_range m t domain order rights segments h is there good high none = refuse
       ),
     )))
 
-pub map_too_many : (m t : Machine) (domain order rights : ℕ) (segments : ArrayVec Segment) (h : Home) → t ≡ counted m → home_of m.homes domain ≡ Some h → (IsBadMap segments.items order rights → ⊥) → (AreOwned m.pool.frames segments.items → ⊥)
+pub map_too_many : (m t : State) (domain order rights : ℕ) (segments : ArrayVec Segment) (h : Home) → t ≡ counted m → home_of m.homes domain ≡ Some h → (IsBadMap segments.items order rights → ⊥) → (AreOwned m.pool.frames segments.items → ⊥)
     → IsCrowded h.space.pieces (total_pages segments.items) order → Does m (calls.MapList domain order rights segments) (Refused refusals.TooManyPieces) t
 unfolding Exact IsStep Stands
 map_too_many m t domain order rights segments h is there good high many = refuses m t (calls.MapList domain order rights segments) refusals.TooManyPieces is (rw there many)
@@ -101,7 +101,7 @@ map_too_many m t domain order rights segments h is there good high many = refuse
     let some = some_range w domain (total_pages segments.items) order v.0 many.0 v.1 fit.aligned (free_pages h.space v.0 (total_pages segments.items) (2 ^ order) many.0 v.2.pieces fit) in
     inr ((not_none (w.domains domain) v.0 v.1, (good, (owned_not w.table_frames m.pool.frames segments.items q.table_frames high, (some, tt)))), tt))
 
-pub map_short : (m t : Machine) (domain order rights : ℕ) (segments : ArrayVec Segment) (h : Home) → t ≡ counted m → home_of m.homes domain ≡ Some h → (IsBadMap segments.items order rights → ⊥) → (AreOwned m.pool.frames segments.items → ⊥)
+pub map_short : (m t : State) (domain order rights : ℕ) (segments : ArrayVec Segment) (h : Home) → t ≡ counted m → home_of m.homes domain ≡ Some h → (IsBadMap segments.items order rights → ⊥) → (AreOwned m.pool.frames segments.items → ⊥)
     → IsShort m.pool h.space h.root segments.items order → Does m (calls.MapList domain order rights segments) (Refused refusals.NoFrames) t
 unfolding Exact IsStep Stands
 map_short m t domain order rights segments h is there good high short = refuses m t (calls.MapList domain order rights segments) refusals.NoFrames is (rw there short)
@@ -114,15 +114,15 @@ map_short m t domain order rights segments h is there good high short = refuses 
 -- ---- the state with the map
 
 -- the home after the map
-abbrev pub home_mapped : Home → AddressSpace → Home
+abbrev pub home_mapped : Home → Space → Home
 home_mapped h space = record { mode = h.mode; space = space; root = h.root; records = h.records; begun = h.begun }
 
 -- the first page of a map is a page
-first_low : (space space' : AddressSpace) (v : Domain) (first pages : ℕ) → PartsPages space v → Takes space space' (record { first = first; pages = pages }) → 1 ≤ pages → first < 2 ^ 27
+first_low : (space space' : Space) (v : Domain) (first pages : ℕ) → PartsPages space v → Takes space space' (record { first = first; pages = pages }) → 1 ≤ pages → first < 2 ^ 27
 first_low space space' v first pages parts takes some = ((parts.free first).0 (takes.free first (omega arith, omega (arith, some)))).0.1
 
 -- the domain after the map is the one of the world after it
-maps_mirror : (pool pool' : Stored) (h : Home) (space : AddressSpace) (v : Domain) (segments : List Segment) (first order rights : ℕ) → Mirrors pool.words h v → Places pool h.space h.root segments order rights first pool' space → 1 ≤ total_pages segments
+maps_mirror : (pool pool' : Pool) (h : Home) (space : Space) (v : Domain) (segments : List Segment) (first order rights : ℕ) → Mirrors pool.words h v → Places pool h.space h.root segments order rights first pool' space → 1 ≤ total_pages segments
     → Mirrors pool'.words (home_mapped h space) (mapped segments first rights v)
 maps_mirror pool pool' h space v segments first order rights mirrors places some = record {
   ids = record { mode = mirrors.ids.mode; begun = mirrors.ids.begun; records = mirrors.ids.records };
@@ -136,7 +136,7 @@ maps_mirror pool pool' h space v segments first order rights mirrors places some
   start = first_low h.space space v first (total_pages segments) mirrors.pieces places.takes some
 
 -- what is cached of the domain stays lawful
-maps_lawful : (pool pool' : Stored) (h : Home) (space : AddressSpace) (v : Domain) (segments : List Segment) (first order rights : ℕ) → Mirrors pool.words h v → Places pool h.space h.root segments order rights first pool' space → 1 ≤ total_pages segments
+maps_lawful : (pool pool' : Pool) (h : Home) (space : Space) (v : Domain) (segments : List Segment) (first order rights : ℕ) → Mirrors pool.words h v → Places pool h.space h.root segments order rights first pool' space → 1 ≤ total_pages segments
     → ((f : ℕ) → 0 < held_in h.records f → IsZeroed pool'.words f) → KeepsLawful pool.words pool'.words h (home_mapped h space) v (mapped segments first rights v)
 maps_lawful pool pool' h space v segments first order rights mirrors places some zeroed = record {
   leaf = λ l lawful. record {
@@ -165,7 +165,7 @@ maps_lawful pool pool' h space v segments first order rights mirrors places some
   ]
 
 -- the other trees are as they were
-others_stay : (m t : Machine) (w : World) (d : ℕ) (h : Home) (space : AddressSpace) (segments : List Segment) (first order rights : ℕ) → Quarantine m w → length m.homes ≡ 15 → home_of m.homes d ≡ Some h
+others_stay : (m t : State) (w : World) (d : ℕ) (h : Home) (space : Space) (segments : List Segment) (first order rights : ℕ) → Quarantine m w → length m.homes ≡ 15 → home_of m.homes d ≡ Some h
     → Places m.pool h.space h.root segments order rights first t.pool space → (e : ℕ) (k : Home) → e ≢ d → home_of m.homes e ≡ Some k → Stays m.pool t.pool 3 k.root
 others_stay m t w d h space segments first order rights q many there places e k ne here =
     let low : d < 16 = home_low m.homes d h many there in
@@ -173,7 +173,7 @@ others_stay m t w d h space segments first order rights q many there places e k 
     apart_stays m.pool t.pool 3 h.root 3 k.root [] (tree_of m.pool (home_of m.homes) d h q.frames low there) places.moves (tree_of m.pool (home_of m.homes) e k q.frames less here)
     (apart_of m.pool (home_of m.homes) d e h k q.frames low less ne there here)
 
-with_map : (m t : Machine) (w : World) (i : ℕ) (h : Home) (old : Place) (v : Domain) (space : AddressSpace) (segments : List Segment) (first order rights : ℕ) → Quarantine m w → length m.homes ≡ 15 → i < length m.homes
+with_map : (m t : State) (w : World) (i : ℕ) (h : Home) (old : Place) (v : Domain) (space : Space) (segments : List Segment) (first order rights : ℕ) → Quarantine m w → length m.homes ≡ 15 → i < length m.homes
     → home_of m.homes (i + 1) ≡ Some h → w.domains (i + 1) ≡ Some v → home_in (Some old) ≡ Some h → home_in (Some (record old { space = space })) ≡ Some (home_mapped h space)
     → Mirrors m.pool.words h v → Places m.pool h.space h.root segments order rights first t.pool space → 1 ≤ total_pages segments
     → t.homes ≡ slice_set m.homes i (record old { space = space }) → t.row ≡ m.row → t.unit ≡ m.unit
@@ -252,7 +252,7 @@ with_map m t w i h old v space segments first order rights q many less there her
     | inr ne ↦ zeroed e k (sym (put_other (i + 1) (Some (home_mapped h space)) (home_of m.homes) e ne) ∙ sym (homes_are e) ∙ at) f more
   ]
 
-pub maps : (m t : Machine) (order rights i first : ℕ) (segments : ArrayVec Segment) (h : Home) (old : Place) (space : AddressSpace) → length m.homes ≡ 15 → i < length m.homes → home_of m.homes (i + 1) ≡ Some h → slice_get m.homes i ≡ Some old → home_in (Some old) ≡ Some h
+pub maps : (m t : State) (order rights i first : ℕ) (segments : ArrayVec Segment) (h : Home) (old : Place) (space : Space) → length m.homes ≡ 15 → i < length m.homes → home_of m.homes (i + 1) ≡ Some h → slice_get m.homes i ≡ Some old → home_in (Some old) ≡ Some h
     → home_in (Some (record old { space = space })) ≡ Some (home_mapped h space) → (IsBadMap segments.items order rights → ⊥) → (AreOwned m.pool.frames segments.items → ⊥) → AreMappable segments.items
     → Places m.pool h.space h.root segments.items order rights first t.pool space
     → t ≡ record m { pool = t.pool; homes = slice_set m.homes i (record old { space = space }); calls = m.calls + 1 }
@@ -271,22 +271,22 @@ maps m t order rights i first segments h old space many less there at in_old in_
               (not_none (w.domains (i + 1)) v.0 v.1, (good, (owned_not w.table_frames m.pool.frames segments.items q.table_frames high, (some, tt)))),
               (first, fit.aligned, rw v.1 free, ap (λ (a : ℕ). Mapped a) at_start),
             ),
-            rw (v.1, page) (with_map m t w i h old v.0 space segments.items first order rights q many less there v.1 in_old in_new v.2 places (some_page segments.items are) (ap (λ (x : Machine). x.homes) is) (ap (λ (x : Machine). x.row) is) (ap (λ (x : Machine). x.unit) is)),
+            rw (v.1, page) (with_map m t w i h old v.0 space segments.items first order rights q many less there v.1 in_old in_new v.2 places (some_page segments.items are) (ap (λ (x : State). x.homes) is) (ap (λ (x : State). x.row) is) (ap (λ (x : State). x.unit) is)),
           );
       exact = rw (there, page) (places.taken, omega (arith, places.count));
       becomes = let place : i + 1 - 1 ≡ i = omega arith in (h, old, space, there, rw place at, rw page places, rw place is);
-      calls = ap (λ (x : Machine). x.calls) is;
+      calls = ap (λ (x : State). x.calls) is;
     }
 
 -- ---- by what is answered below
 
-pub map_judged : (m t : Machine) (domain order rights : ℕ) (segments : ArrayVec Segment) (h : Home) (refusal : Refusal) → t ≡ counted m → home_of m.homes domain ≡ Some h → IsJudged m.pool.frames segments.items order rights (Err refusal)
+pub map_judged : (m t : State) (domain order rights : ℕ) (segments : ArrayVec Segment) (h : Home) (refusal : Refusal) → t ≡ counted m → home_of m.homes domain ≡ Some h → IsJudged m.pool.frames segments.items order rights (Err refusal)
     → Does m (calls.MapList domain order rights segments) (Refused refusal) t
 map_judged m t domain order rights segments h refusals.BadRange is there judged = map_bad m t domain order rights segments h is there judged
 map_judged m t domain order rights segments h refusals.FrameOwned is there judged = map_owned m t domain order rights segments h is there judged.0 judged.1
 map_judged m t domain order rights segments h _ is there judged = absurd judged
 
-pub map_misplaced : (m t : Machine) (domain order rights : ℕ) (segments : ArrayVec Segment) (h : Home) (pool : Stored) (space : AddressSpace) (refusal : Refusal) → home_of m.homes domain ≡ Some h → (IsBadMap segments.items order rights → ⊥) → (AreOwned m.pool.frames segments.items → ⊥)
+pub map_misplaced : (m t : State) (domain order rights : ℕ) (segments : ArrayVec Segment) (h : Home) (pool : Pool) (space : Space) (refusal : Refusal) → home_of m.homes domain ≡ Some h → (IsBadMap segments.items order rights → ⊥) → (AreOwned m.pool.frames segments.items → ⊥)
     → IsPlaced m.pool h.space h.root segments.items order rights (Err refusal) pool space → (pool ≡ m.pool → space ≡ h.space → t ≡ counted m) → Does m (calls.MapList domain order rights segments) (Refused refusal) t
 map_misplaced m t domain order rights segments h pool space refusals.NoRange there good high misplaced is = map_no_range m t domain order rights segments h (is misplaced.0 misplaced.1) there good high misplaced.2
 map_misplaced m t domain order rights segments h pool space refusals.TooManyPieces there good high misplaced is = map_too_many m t domain order rights segments h (is misplaced.0 misplaced.1) there good high misplaced.2
@@ -294,16 +294,16 @@ map_misplaced m t domain order rights segments h pool space refusals.NoFrames th
 map_misplaced m t domain order rights segments h pool space _ there good high misplaced is = absurd misplaced
 
 -- a place that stays, put where it was
-kept_place : (m t : Machine) (i : ℕ) (p new : Place) (h : Home) (pool : Stored) → slice_get m.homes i ≡ Some p → home_in (Some p) ≡ Some h → new.tenant ≡ p.tenant → new.records ≡ p.records
+kept_place : (m t : State) (i : ℕ) (p new : Place) (h : Home) (pool : Pool) → slice_get m.homes i ≡ Some p → home_in (Some p) ≡ Some h → new.tenant ≡ p.tenant → new.records ≡ p.records
     → t ≡ record m { pool = pool; homes = slice_set m.homes i new; calls = m.calls + 1 } → pool ≡ m.pool → new.space ≡ h.space → t ≡ counted m
 kept_place m t i p new h pool at there tenant records is same_pool same_space =
     let same : new ≡ p = ap (λ (o : Option Tenant). record new { tenant = o }) tenant ∙ ap (λ (rs : List Record). record { space = new.space; tenant = p.tenant; records = rs }) records
-    ∙ ap (λ (s : AddressSpace). record { space = s; tenant = p.tenant; records = p.records }) (same_space ∙ (home_is p h there).0) in
-    is ∙ ap (λ (x : Stored). record m { pool = x; homes = slice_set m.homes i new; calls = m.calls + 1 }) same_pool
+    ∙ ap (λ (s : Space). record { space = s; tenant = p.tenant; records = p.records }) (same_space ∙ (home_is p h there).0) in
+    is ∙ ap (λ (x : Pool). record m { pool = x; homes = slice_set m.homes i new; calls = m.calls + 1 }) same_pool
     ∙ ap (λ (x : Place). record m { homes = slice_set m.homes i x; calls = m.calls + 1 }) same
     ∙ ap (λ (hs : List Place). record m { homes = hs; calls = m.calls + 1 }) (set_again m.homes i p at)
 
-pub map_refused : (m t : Machine) (domain order rights i : ℕ) (segments : ArrayVec Segment) (p new : Place) (h : Home) (pool : Stored) (wanted : Wanted) (refusal : Refusal) → slice_get m.homes i ≡ Some p → home_in (Some p) ≡ Some h → home_of m.homes domain ≡ Some h
+pub map_refused : (m t : State) (domain order rights i : ℕ) (segments : ArrayVec Segment) (p new : Place) (h : Home) (pool : Pool) (wanted : Wanted) (refusal : Refusal) → slice_get m.homes i ≡ Some p → home_in (Some p) ≡ Some h → home_of m.homes domain ≡ Some h
     → (IsBadMap segments.items order rights → ⊥) → (AreOwned m.pool.frames segments.items → ⊥) → Wants wanted segments.items order rights → IsPlacedIn m.pool p (Some h) segments.items wanted.order (bits_of wanted.rights) (Err refusal) pool new
     → t ≡ record m { pool = pool; homes = slice_set m.homes i new; calls = m.calls + 1 } → Does m (calls.MapList domain order rights segments) (Refused refusal) t
 map_refused m t domain order rights i segments p new h pool wanted refusal at in_place there good high wants does is =
@@ -312,7 +312,7 @@ map_refused m t domain order rights i segments p new h pool wanted refusal at in
     (subst (λ o. IsPlaced m.pool h.space h.root segments.items o (bits_of wanted.rights) (Err refusal) pool new.space) wants.order_is does.2))
     (λ same_pool same_space. kept_place m t i p new h pool at in_place does.0 does.1 is same_pool same_space)
 
-pub map_done : (m t : Machine) (domain order rights i first : ℕ) (segments : ArrayVec Segment) (p new : Place) (h : Home) (pool : Stored) (wanted : Wanted) → length m.homes ≡ 15 → i < length m.homes → domain ≡ i + 1 → slice_get m.homes i ≡ Some p → home_in (Some p) ≡ Some h
+pub map_done : (m t : State) (domain order rights i first : ℕ) (segments : ArrayVec Segment) (p new : Place) (h : Home) (pool : Pool) (wanted : Wanted) → length m.homes ≡ 15 → i < length m.homes → domain ≡ i + 1 → slice_get m.homes i ≡ Some p → home_in (Some p) ≡ Some h
     → home_of m.homes domain ≡ Some h → (IsBadMap segments.items order rights → ⊥) → (AreOwned m.pool.frames segments.items → ⊥) → Wants wanted segments.items order rights → IsPlacedIn m.pool p (Some h) segments.items wanted.order (bits_of wanted.rights) (Ok first) pool new
     → t ≡ record m { pool = pool; homes = slice_set m.homes i new; calls = m.calls + 1 } → Does m (calls.MapList domain order rights segments) (Mapped (4096 * first)) t
 map_done m t domain order rights i first segments p new h pool wanted many less id at in_place there good high wants does is =
@@ -320,15 +320,15 @@ map_done m t domain order rights i first segments p new h pool wanted many less 
     (rw (wants.order_is, wants.rights_are, pool_is) at does.2)
     (is ∙ ap (λ (x : Place). record m { pool = pool; homes = slice_set m.homes i x; calls = m.calls + 1 })
     (ap (λ (o : Option Tenant). record new { tenant = o }) does.0 ∙ ap (λ (rs : List Record). record { space = new.space; tenant = p.tenant; records = rs }) does.1)
-    ∙ ap (λ (x : Stored). record m { pool = x; homes = slice_set m.homes i (record p { space = new.space }); calls = m.calls + 1 }) pool_is))
+    ∙ ap (λ (x : Pool). record m { pool = x; homes = slice_set m.homes i (record p { space = new.space }); calls = m.calls + 1 }) pool_is))
   where
     pool_is : pool ≡ t.pool
-    pool_is = sym (ap (λ (x : Machine). x.pool) is)
+    pool_is = sym (ap (λ (x : State). x.pool) is)
 
 -- ---- a map of one segment
 
 -- is what a list of that one is
-pub one_map : (m t : Machine) (domain frame pages order rights : ℕ) (answer : Result ℕ Refusal) → Does m (calls.MapList domain order rights (record { items = one_segment frame pages })) (mapped_reply answer) t
+pub one_map : (m t : State) (domain frame pages order rights : ℕ) (answer : Result ℕ Refusal) → Does m (calls.MapList domain order rights (record { items = one_segment frame pages })) (mapped_reply answer) t
     → Does m (calls.Map domain frame pages order rights) (mapped_reply answer) t
 unfolding Exact Becomes IsStep Stands Answers next
 one_map m t domain frame pages order rights (Ok address) does = record { steps = λ w q. does.steps w q; exact = does.exact; becomes = does.becomes; calls = does.calls }

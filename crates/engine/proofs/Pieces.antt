@@ -12,21 +12,21 @@ use Rattle.iova.specs.declared.piece.PageState.{PageState}
 use Rattle.iova.specs.declared.piece.PageState.TheVariants.{Free, Live, Retired}
 use Rattle.iova.specs.Changes.{Takes}
 use Rattle.iova.specs.Pieces.{piece_of, state_at}
-use Rattle.iova.specs.Space.{AddressSpace, AllFree, IsFit, IsSpace}
+use Rattle.iova.specs.Space.{Space, AllFree, IsFit, IsSpace}
 use Rattle.engine.specs.Quarantine.{AllApart, PartsPages}
 use Rattle.engine.proofs.Segments.{placed_inside, placed_outside}
 
 -- ---- free pages
 
 -- the starts of the space are those where each page is free
-pub free_pages : (space : AddressSpace) (v : Domain) (pages unit s : ℕ) → PartsPages space v → IsFit space.pieces pages unit s → AreFreePages v (record { first = s; pages = pages })
+pub free_pages : (space : Space) (v : Domain) (pages unit s : ℕ) → PartsPages space v → IsFit space.pieces pages unit s → AreFreePages v (record { first = s; pages = pages })
 free_pages space v pages unit s parts fit p inside = (parts.free p).0 (fit.free p inside)
 
-pub fit_of : (space : AddressSpace) (v : Domain) (pages unit s : ℕ) → PartsPages space v → s % unit ≡ 0 → AreFreePages v (record { first = s; pages = pages }) → IsFit space.pieces pages unit s
+pub fit_of : (space : Space) (v : Domain) (pages unit s : ℕ) → PartsPages space v → s % unit ≡ 0 → AreFreePages v (record { first = s; pages = pages }) → IsFit space.pieces pages unit s
 fit_of space v pages unit s parts aligned free = record { aligned = aligned; free = λ p inside. (parts.free p).1 (free p inside) }
 
 -- a page of no free piece is not free, and so on: a page has one state
-two_states : (space : AddressSpace) (p : ℕ) (a b : PageState) → state_at space.pieces p ≡ Some a → state_at space.pieces p ≡ Some b → Some a ≡ Some b
+two_states : (space : Space) (p : ℕ) (a b : PageState) → state_at space.pieces p ≡ Some a → state_at space.pieces p ≡ Some b → Some a ≡ Some b
 two_states space p a b x y = sym x ∙ y
 
 -- ---- a new space
@@ -35,7 +35,7 @@ none_apart : AllApart []
 unfolding AllApart
 none_apart = tt
 
-pub pieces_new : (space : AddressSpace) (mode : Mode) → IsSpace space → AllFree space → space.last ≡ 2 ^ 27 - 1 → PartsPages space (empty_domain mode)
+pub pieces_new : (space : Space) (mode : Mode) → IsSpace space → AllFree space → space.last ≡ 2 ^ 27 - 1 → PartsPages space (empty_domain mode)
 pieces_new space mode is all whole = record {
   is_space = is;
   whole = whole;
@@ -66,11 +66,11 @@ not_within : (r : Range) (p : ℕ) → ((p < r.first) ⊎ (r.first + r.pages ≤
 not_within r p (inl h) inside = omega (arith, h, inside.0)
 not_within r p (inr h) inside = omega (arith, h, inside.1)
 
-pub pieces_mapped : (space new : AddressSpace) (v : Domain) (segments : List Segment) (first rights : ℕ) → PartsPages space v → Takes space new (record { first = first; pages = total_pages segments }) → IsSpace new
+pub pieces_mapped : (space new : Space) (v : Domain) (segments : List Segment) (first rights : ℕ) → PartsPages space v → Takes space new (record { first = first; pages = total_pages segments }) → IsSpace new
     → PartsPages new (mapped segments first rights v)
 pieces_mapped space new v segments first rights parts takes is = record {
   is_space = is;
-  whole = ap (λ (a : AddressSpace). a.last) takes.is ∙ parts.whole;
+  whole = ap (λ (a : Space). a.last) takes.is ∙ parts.whole;
   free = λ p. elim (within_or_not range p) [
     | inl inside ↦ (λ e. let no : Some Free ≡ Some Live = two_states new p Free Live e (takes.states.inside p inside) in absurd cc, λ both. let now = live_inside v segments first rights p inside in absurd (none-some now.0 (sym both.1.not_live ∙ now.1)))
     | inr past ↦ (

@@ -6,12 +6,12 @@ use Rattle.dmatypes.specs.World.{World, Domain, put}
 use Rattle.std.specs.Prelude.{IfSome}
 use Rattle.tables.specs.Pool.{memory}
 use Rattle.tables.specs.Tree.{leaf_from, stated}
-use Rattle.iova.specs.Space.{AddressSpace}
+use Rattle.iova.specs.Space.{Space}
 use Rattle.engine.specs.declared.home.Tenant.{Tenant}
 use Rattle.engine.specs.Homes.{Home, Place, home_in, home_of, home_with}
 use Rattle.engine.specs.declared.record.Record.{Record}
-use Rattle.engine.specs.Machine.{Machine}
-use Rattle.engine.specs.Quarantine.{Both, IsOfSomeWorld, Mirrors, Quarantine}
+use Rattle.engine.specs.State.{State}
+use Rattle.engine.specs.Quarantine.{MirrorsIfAny, IsOfSomeWorld, Mirrors, Quarantine}
 use Rattle.engine.specs.Placing.{CanPlace}
 use Rattle.engine.proofs.Frames.{tree_of}
 use Rattle.engine.proofs.Lists.{get_set, get_set_other, put_same, put_other, same_or_not}
@@ -50,19 +50,19 @@ home_low homes (suc e) h many there =
 
 -- ---- a domain of the state and one of the world
 
-pub both_there : (words : List ℕ) (o : Option Home) (p : Option Domain) (h : Home) → Both words o p → o ≡ Some h → (v : Domain) × (p ≡ Some v) × Mirrors words h v
+pub both_there : (words : List ℕ) (o : Option Home) (p : Option Domain) (h : Home) → MirrorsIfAny words o p → o ≡ Some h → (v : Domain) × (p ≡ Some v) × Mirrors words h v
 both_there words None p h both e = absurd cc
 both_there words (Some g) None h both e = absurd both
 both_there words (Some g) (Some v) h both e = (v, refl, subst (λ (x : Home). Mirrors words x v) (same_Some g h e) both)
 
-pub both_absent : (words : List ℕ) (o : Option Home) (p : Option Domain) → Both words o p → o ≡ None → p ≡ None
+pub both_absent : (words : List ℕ) (o : Option Home) (p : Option Domain) → MirrorsIfAny words o p → o ≡ None → p ≡ None
 both_absent words None None both e = refl
 both_absent words None (Some v) both e = absurd both
 both_absent words (Some h) p both e = absurd cc
 
 -- it stays where all leaves of its tree do
-both_stays : (words words' : List ℕ) (o : Option Home) (p : Option Domain) → Both words o p
-    → ((h : Home) → o ≡ Some h → (page : ℕ) → leaf_from (memory words') 3 h.root page ≡ leaf_from (memory words) 3 h.root page) → Both words' o p
+both_stays : (words words' : List ℕ) (o : Option Home) (p : Option Domain) → MirrorsIfAny words o p
+    → ((h : Home) → o ≡ Some h → (page : ℕ) → leaf_from (memory words') 3 h.root page ≡ leaf_from (memory words) 3 h.root page) → MirrorsIfAny words' o p
 both_stays words words' None None both same = tt
 both_stays words words' None (Some v) both same = both
 both_stays words words' (Some h) None both same = both
@@ -73,9 +73,9 @@ both_stays words words' (Some h) (Some v) both same = record {
 }
 
 -- one domain of the state and of the world changes alike, and the trees of the others stay
-pub domains_put : (m t : Machine) (w : World) (d : ℕ) (h : Home) (v : Domain) → Quarantine m w → ((e : ℕ) → home_of t.homes e ≡ put d (Some h) (home_of m.homes) e) → Mirrors t.pool.words h v
+pub domains_put : (m t : State) (w : World) (d : ℕ) (h : Home) (v : Domain) → Quarantine m w → ((e : ℕ) → home_of t.homes e ≡ put d (Some h) (home_of m.homes) e) → Mirrors t.pool.words h v
     → ((e : ℕ) (k : Home) → e ≢ d → home_of m.homes e ≡ Some k → (page : ℕ) → leaf_from (memory t.pool.words) 3 k.root page ≡ leaf_from (memory m.pool.words) 3 k.root page)
-    → (e : ℕ) → Both t.pool.words (home_of t.homes e) (put d (Some v) w.domains e)
+    → (e : ℕ) → MirrorsIfAny t.pool.words (home_of t.homes e) (put d (Some v) w.domains e)
 domains_put m t w d h v q is mirrors stay e = elim (same_or_not e d) [
   | inl same ↦ rw (is e, same, put_same d (Some h) (home_of m.homes), put_same d (Some v) w.domains) mirrors
   | inr ne ↦ rw (is e, put_other d (Some h) (home_of m.homes) e ne, put_other d (Some v) w.domains e ne)
@@ -83,9 +83,9 @@ domains_put m t w d h v q is mirrors stay e = elim (same_or_not e d) [
 ]
 
 -- one domain of the state and of the world goes
-pub domain_out : (m t : Machine) (w : World) (d : ℕ) → Quarantine m w → ((e : ℕ) → home_of t.homes e ≡ put d None (home_of m.homes) e)
+pub domain_out : (m t : State) (w : World) (d : ℕ) → Quarantine m w → ((e : ℕ) → home_of t.homes e ≡ put d None (home_of m.homes) e)
     → ((e : ℕ) (k : Home) → e ≢ d → home_of m.homes e ≡ Some k → (page : ℕ) → leaf_from (memory t.pool.words) 3 k.root page ≡ leaf_from (memory m.pool.words) 3 k.root page)
-    → (e : ℕ) → Both t.pool.words (home_of t.homes e) (put d None w.domains e)
+    → (e : ℕ) → MirrorsIfAny t.pool.words (home_of t.homes e) (put d None w.domains e)
 domain_out m t w d q is stay e = elim (same_or_not e d) [
   | inl same ↦ rw (is e, same, put_same d None (home_of m.homes), put_same d None w.domains) tt
   | inr ne ↦ rw (is e, put_other d None (home_of m.homes) e ne, put_other d None w.domains e ne)
@@ -108,21 +108,21 @@ found homes d i p is some at =
 pub home_is : (p : Place) (h : Home) → home_in (Some p) ≡ Some h → (h.space ≡ p.space) × (h.records ≡ p.records)
 home_is p h there = by_tenant p.space p.records p.tenant h there
   where
-    by_tenant : (space : AddressSpace) (records : List Record) (o : Option Tenant) (h : Home) → home_with space records o ≡ Some h → (h.space ≡ space) × (h.records ≡ records)
+    by_tenant : (space : Space) (records : List Record) (o : Option Tenant) (h : Home) → home_with space records o ≡ Some h → (h.space ≡ space) × (h.records ≡ records)
     by_tenant space records None h there = absurd cc
     by_tenant space records (Some t) h there = (sym (ap (λ (x : Home). x.space) (same_Some _ h there)), sym (ap (λ (x : Home). x.records) (same_Some _ h there)))
 
 -- a place with another address space and other records
-pub settled : (p : Place) (h : Home) (space : AddressSpace) (records : List Record) → home_in (Some p) ≡ Some h
+pub settled : (p : Place) (h : Home) (space : Space) (records : List Record) → home_in (Some p) ≡ Some h
     → home_in (Some (record { space = space; tenant = p.tenant; records = records })) ≡ Some (record { mode = h.mode; space = space; root = h.root; records = records; begun = h.begun })
 settled p h space records there = by_tenant p.space p.records p.tenant h there
   where
-    by_tenant : (was : AddressSpace) (had : List Record) (o : Option Tenant) (h : Home) → home_with was had o ≡ Some h → home_with space records o ≡ Some (record { mode = h.mode; space = space; root = h.root; records = records; begun = h.begun })
+    by_tenant : (was : Space) (had : List Record) (o : Option Tenant) (h : Home) → home_with was had o ≡ Some h → home_with space records o ≡ Some (record { mode = h.mode; space = space; root = h.root; records = records; begun = h.begun })
     by_tenant was had None h there = absurd cc
     by_tenant was had (Some t) h there = ap (λ (x : Home). Some (record { mode = x.mode; space = space; root = x.root; records = records; begun = x.begun })) (same_Some _ h there)
 
 -- a state of some world can place pages in each of its domains
-pub can_place : (m : Machine) (d : ℕ) (h : Home) → IsOfSomeWorld m → length m.homes ≡ 15 → home_of m.homes d ≡ Some h → CanPlace m.pool h.space h.root
+pub can_place : (m : State) (d : ℕ) (h : Home) → IsOfSomeWorld m → length m.homes ≡ 15 → home_of m.homes d ≡ Some h → CanPlace m.pool h.space h.root
 can_place m d h (w, q) many there = record {
   tree = tree_of m.pool (home_of m.homes) d h q.frames (home_low m.homes d h many there) there;
   absent = λ p free.

@@ -7,7 +7,7 @@ use Rattle.dmatypes.specs.World.{Domain, Target, IsIn, IsRetired}
 use Rattle.iova.specs.declared.piece.PageState.TheVariants.{Live}
 use Rattle.iova.specs.declared.piece.PageState.TheVariants as pages
 use Rattle.iova.specs.Pieces.{state_at}
-use Rattle.iova.specs.Space.{AddressSpace}
+use Rattle.iova.specs.Space.{Space}
 use Rattle.tables.proofs.Kept.{span-three}
 use Rattle.tables.proofs.Near.{near_leaf, near_table, span_pos}
 use Rattle.tables.proofs.Sizes.{leaf_size}
@@ -49,7 +49,7 @@ of_record h v r p ids inside low high =
     (found.0, found.1, (omega arith, omega arith))
 
 -- and it isn't live
-retired_none : (space : AddressSpace) (v : Domain) (p : ℕ) → PartsPages space v → IsInRecord v p → v.live p ≡ None
+retired_none : (space : Space) (v : Domain) (p : ℕ) → PartsPages space v → IsInRecord v p → v.live p ≡ None
 retired_none space v p parts inside = by_live (v.live p) refl
   where
     by_live : (o : Option Target) → v.live p ≡ o → v.live p ≡ None

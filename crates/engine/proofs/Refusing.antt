@@ -7,17 +7,17 @@ use Rattle.dmatypes.specs.declared.reply.Reply.TheVariants.{Made, Done, Mapped, 
 use Rattle.dmatypes.specs.declared.refusal.Refusal.{Refusal}
 use Rattle.dmatypes.specs.World.{World}
 use Rattle.dmatypes.specs.Step.{IsStep, next}
-use Rattle.engine.specs.Machine.{Machine, Exact, Becomes}
+use Rattle.engine.specs.State.{State, Exact, Becomes}
 use Rattle.engine.specs.Quarantine.{IsOfSomeWorld, Quarantine}
 use Rattle.engine.specs.Whole.{IsWhole}
-use Rattle.queue.specs.Queue.{Queue}
+use Rattle.queue.specs.Ring.{Ring}
 use Rattle.engine.specs.Steps.{Does}
 
 -- the same state, with one call more counted
-abbrev pub counted : Machine → Machine
+abbrev pub counted : State → State
 counted m = record m { calls = m.calls + 1 }
 
-pub quarantine_counted : (m : Machine) (w : World) → Quarantine m w → Quarantine (counted m) w
+pub quarantine_counted : (m : State) (w : World) → Quarantine m w → Quarantine (counted m) w
 quarantine_counted m w q = record {
   table_frames = q.table_frames;
   domains = q.domains;
@@ -40,7 +40,7 @@ next_refused w (calls.Dma device address access whim) refusal = refl
 next_refused w (calls.Unmap domain address pages) refusal = refl
 next_refused w (calls.Evict kind place) refusal = refl
 
-becomes_counted : (m t : Machine) (call : Call) (refusal : Refusal) → t ≡ counted m → Becomes m call (Refused refusal) t
+becomes_counted : (m t : State) (call : Call) (refusal : Refusal) → t ≡ counted m → Becomes m call (Refused refusal) t
 unfolding Becomes
 becomes_counted m t (calls.Domain mode) refusal is = is
 becomes_counted m t (calls.Drop domain) refusal is = is
@@ -53,13 +53,13 @@ becomes_counted m t (calls.Dma device address access whim) refusal is = is
 becomes_counted m t (calls.Unmap domain address pages) refusal is = is
 becomes_counted m t (calls.Evict kind place) refusal is = is
 
-pub refuses : (m t : Machine) (call : Call) (refusal : Refusal) → t ≡ counted m → Exact m call (Refused refusal)
+pub refuses : (m t : State) (call : Call) (refusal : Refusal) → t ≡ counted m → Exact m call (Refused refusal)
     → ((w : World) → Quarantine m w → IsStep w call (Refused refusal)) → Does m call (Refused refusal) t
 refuses m t call refusal is exact step = record {
   steps = λ w q. (step w q, rw (next_refused w call refusal, is) (quarantine_counted m w q));
   exact = exact;
   becomes = becomes_counted m t call refusal is;
-  calls = ap (λ (x : Machine). x.calls) is;
+  calls = ap (λ (x : State). x.calls) is;
 }
 
 next_frames : (w : World) (call : Call) (reply : Reply) → (next w call reply).table_frames ≡ w.table_frames
@@ -84,11 +84,11 @@ next_frames w (calls.Unmap domain address pages) _ = refl
 next_frames w (calls.Evict kind place) reply = refl
 
 -- there are as many table frames as before
-pub frames_kept : (m t : Machine) (call : Call) (reply : Reply) → IsOfSomeWorld m → Does m call reply t → m.pool.frames ≡ t.pool.frames
+pub frames_kept : (m t : State) (call : Call) (reply : Reply) → IsOfSomeWorld m → Does m call reply t → m.pool.frames ≡ t.pool.frames
 frames_kept m t call reply (w, q) does = sym q.table_frames ∙ sym (next_frames w call reply) ∙ (does.steps w q).1.table_frames
 
 -- what the type of a state keeps, after a call that sends nothing
-pub whole_quiet : (frames : ℕ) (m t : Machine) (call : Call) (reply : Reply) → IsWhole frames m → Does m call reply t → length t.homes ≡ length m.homes → length t.row ≡ length m.row → t.ring ≡ m.ring → t.sent ≡ m.sent → t.unit.steps ≡ m.unit.steps
+pub whole_quiet : (frames : ℕ) (m t : State) (call : Call) (reply : Reply) → IsWhole frames m → Does m call reply t → length t.homes ≡ length m.homes → length t.row ≡ length m.row → t.ring ≡ m.ring → t.sent ≡ m.sent → t.unit.steps ≡ m.unit.steps
     → IsWhole frames t
 whole_quiet frames m t call reply whole does homes row ring sent steps =
     record {
@@ -96,8 +96,8 @@ whole_quiet frames m t call reply whole does homes row ring sent steps =
       places = homes ∙ whole.places;
       devices = row ∙ whole.devices;
       frames_are = whole.frames_are ∙ frames_kept m t call reply whole.of_world does;
-      idle = ap (λ (r : Queue). r.waiting) ring ∙ whole.idle;
-      status = (let same = ap (λ (r : Queue). r.status) ring in omega (arith, same, sent, whole.status));
+      idle = ap (λ (r : Ring). r.waiting) ring ∙ whole.idle;
+      status = (let same = ap (λ (r : Ring). r.status) ring in omega (arith, same, sent, whole.status));
       sent = omega (arith, sent, whole.sent, does.calls);
       steps = omega (arith, steps, whole.steps, does.calls);
     }

@@ -8,17 +8,17 @@ use Rattle.iova.specs.declared.piece.PageState.TheVariants.{Live}
 use Rattle.iova.specs.declared.piece.PageState.TheVariants as pages
 use Rattle.iova.specs.declared.piece.Piece.{Piece}
 use Rattle.iova.specs.Pieces.{IsOrdered, piece_of}
-use Rattle.iova.specs.Space.{AddressSpace, IsSpace, MayRetire}
+use Rattle.iova.specs.Space.{Space, IsSpace, MayRetire}
 use Rattle.tables.specs.Lacks.{splits}
-use Rattle.tables.specs.Pool.{Stored, memory, occurs, IsTree, IsZeroed}
-use Rattle.tables.specs.Taken.{Taken}
+use Rattle.tables.specs.Pool.{Pool, memory, occurs, IsTree, IsZeroed}
+use Rattle.tables.specs.Cut.{Cut}
 use Rattle.tables.specs.Tree.{total, uses}
 use Rattle.tables.proofs.Total.{total_part}
 use Rattle.engine.specs.declared.record.Record.{Record}
-use Rattle.engine.specs.Ending.{Cuts, IsJudgedEnd, Releases, ReleasesAll, leaves_split}
+use Rattle.engine.specs.Ending.{RetiresAndUnmaps, IsJudgedEnd, Releases, ReleasesAll, leaves_split}
 use Rattle.engine.specs.Ready.{AllDiffer, AreReleasable, CanCut, CanUnmap, IsReleasable}
 use Rattle.engine.specs.Homes.{Home, held_in, home_of}
-use Rattle.engine.specs.Machine.{Machine}
+use Rattle.engine.specs.State.{State}
 use Rattle.engine.specs.Quarantine.{AllApart, AreApart, IsOfSomeWorld, Marked, Mirrors, PartsFrames, marked_here, marked_there, owned}
 use Rattle.engine.proofs.Frames.{tree_of}
 use Rattle.engine.proofs.Places.{both_there, home_low}
@@ -51,7 +51,7 @@ rest_of : List Marked → List Marked
 rest_of [] = []
 rest_of (x ∷ xs) = xs
 
-module _ (space : AddressSpace) (is : IsSpace space) where
+module _ (space : Space) (is : IsSpace space) where
   all_differ : (ks : List Record) (rs : List Retired) → map marked_here ks ≡ map marked_there rs → AllApart rs → ((k : Record) → IsIn k ks → IsIn (piece_of k.range pages.Retired) space.pieces) → AllDiffer ks
   unfolding AllDiffer AllApart first_of rest_of
   all_differ [] rs same apart there = tt
@@ -70,7 +70,7 @@ module _ (space : AddressSpace) (is : IsSpace space) where
 
 -- ---- frames
 
-module _ (pool : Stored) (homes : ℕ → Option Home) (d : ℕ) (h : Home) (parts : PartsFrames pool homes) (low : d < 16) (there : homes d ≡ Some h) where
+module _ (pool : Pool) (homes : ℕ → Option Home) (d : ℕ) (h : Home) (parts : PartsFrames pool homes) (low : d < 16) (there : homes d ≡ Some h) where
   part : (f : ℕ) → uses (memory pool.words) 3 h.root f + held_in h.records f ≤ total (λ e. owned (memory pool.words) (homes e) f) 16
   part f =
       let one = total_part (λ e. owned (memory pool.words) (homes e) f) 16 d low in
@@ -86,7 +86,7 @@ module _ (pool : Stored) (homes : ℕ → Option Home) (d : ℕ) (h : Home) (par
 
 -- ---- records that can go
 
-pub records_releasable : (m : Machine) (d : ℕ) (h : Home) → IsOfSomeWorld m → length m.homes ≡ 15 → home_of m.homes d ≡ Some h → AreReleasable m.pool h.space h.records
+pub records_releasable : (m : State) (d : ℕ) (h : Home) → IsOfSomeWorld m → length m.homes ≡ 15 → home_of m.homes d ≡ Some h → AreReleasable m.pool h.space h.records
 records_releasable m d h (w, q) many there =
     let v = both_there m.pool.words (home_of m.homes d) (w.domains d) h (q.domains d) there in
     let low : d < 16 = home_low m.homes d h many there in
@@ -102,7 +102,7 @@ records_releasable m d h (w, q) many there =
     }
 
 -- one of them
-one_releasable : (pool : Stored) (space : AddressSpace) (all : List Record) (r : Record) → AreReleasable pool space all → IsIn r all → ((f : ℕ) → occurs f r.cut.frames ≤ held_in all f) → IsReleasable pool space r.range r.cut
+one_releasable : (pool : Pool) (space : Space) (all : List Record) (r : Record) → AreReleasable pool space all → IsIn r all → ((f : ℕ) → occurs f r.cut.frames ≤ held_in all f) → IsReleasable pool space r.range r.cut
 one_releasable pool space all r are inside held = record {
   piece = are.pieces r inside;
   once = λ f. omega (arith, are.once f, held f);
@@ -111,7 +111,7 @@ one_releasable pool space all r are inside held = record {
 }
 
 -- and the others, once it went
-others_releasable : (pool pool1 : Stored) (space space1 : AddressSpace) (all rest : List Record) (r : Record) → AreReleasable pool space all → Releases pool space r.range r.cut pool1 space1 → ((x : Record) → IsIn x rest → IsIn x all)
+others_releasable : (pool pool1 : Pool) (space space1 : Space) (all rest : List Record) (r : Record) → AreReleasable pool space all → Releases pool space r.range r.cut pool1 space1 → ((x : Record) → IsIn x rest → IsIn x all)
     → ((x : Record) → IsIn x rest → piece_of x.range pages.Retired ≢ piece_of r.range pages.Retired) → AllDiffer rest → ((f : ℕ) → held_in all f ≡ held_in rest f + occurs f r.cut.frames) → AreReleasable pool1 space1 rest
 others_releasable pool pool1 space space1 all rest r are went inside other differ held = record {
   is_space = went.is_space;
@@ -126,14 +126,14 @@ others_releasable pool pool1 space space1 all rest r are went inside other diffe
 held-first : (r : Record) (rs : List Record) (f : ℕ) → held_in (r ∷ rs) f ≡ held_in rs f + occurs f r.cut.frames
 held-first r rs f = sum_by-cons (λ (y : Record). occurs f y.cut.frames) r rs ∙ omega arith
 
-pub first_releasable : (pool : Stored) (space : AddressSpace) (r : Record) (rest : List Record) → AreReleasable pool space (r ∷ rest) → IsReleasable pool space r.range r.cut
+pub first_releasable : (pool : Pool) (space : Space) (r : Record) (rest : List Record) → AreReleasable pool space (r ∷ rest) → IsReleasable pool space r.range r.cut
 first_releasable pool space r rest are = one_releasable pool space (r ∷ rest) r are (inl refl) (λ f. omega (arith, held-first r rest f))
 
 differ_first : (r : Record) (rest : List Record) → AllDiffer (r ∷ rest) → ((q : Record) → IsIn q rest → piece_of r.range pages.Retired ≢ piece_of q.range pages.Retired) × AllDiffer rest
 unfolding AllDiffer
 differ_first r rest all = all
 
-pub first_released : (pool pool1 : Stored) (space space1 : AddressSpace) (r : Record) (rest : List Record) → AreReleasable pool space (r ∷ rest) → Releases pool space r.range r.cut pool1 space1 → AreReleasable pool1 space1 rest
+pub first_released : (pool pool1 : Pool) (space space1 : Space) (r : Record) (rest : List Record) → AreReleasable pool space (r ∷ rest) → Releases pool space r.range r.cut pool1 space1 → AreReleasable pool1 space1 rest
 first_released pool pool1 space space1 r rest are went =
     let differ = differ_first r rest are.differ in
     others_releasable pool pool1 space space1 (r ∷ rest) rest r are went (λ x i. inr i) (λ x i same. differ.0 x i (sym same)) differ.1 (λ f. held-first r rest f)
@@ -150,17 +150,17 @@ differ_last (y ∷ ys) r all =
     by_place x (inl same) later = subst (λ (z : Record). piece_of z.range pages.Retired ≢ piece_of r.range pages.Retired) (sym same) (all.0 r (in_last r ys))
     by_place x (inr rest) later = later rest
 
-pub last_releasable : (pool : Stored) (space : AddressSpace) (rest : List Record) (r : Record) → AreReleasable pool space (rest ++ r ∷ []) → IsReleasable pool space r.range r.cut
+pub last_releasable : (pool : Pool) (space : Space) (rest : List Record) (r : Record) → AreReleasable pool space (rest ++ r ∷ []) → IsReleasable pool space r.range r.cut
 last_releasable pool space rest r are = one_releasable pool space (rest ++ r ∷ []) r are (in_last r rest) (λ f. omega (arith, held-last rest r f))
 
-pub last_released : (pool pool1 : Stored) (space space1 : AddressSpace) (rest : List Record) (r : Record) → AreReleasable pool space (rest ++ r ∷ []) → Releases pool space r.range r.cut pool1 space1 → AreReleasable pool1 space1 rest
+pub last_released : (pool pool1 : Pool) (space space1 : Space) (rest : List Record) (r : Record) → AreReleasable pool space (rest ++ r ∷ []) → Releases pool space r.range r.cut pool1 space1 → AreReleasable pool1 space1 rest
 last_released pool pool1 space space1 rest r are went =
     let differ = differ_last rest r are.differ in
     others_releasable pool pool1 space space1 (rest ++ r ∷ []) rest r are went (λ x i. in_left x rest (r ∷ []) i) differ.0 differ.1 (λ f. held-last rest r f)
 
 -- ---- what was cut just now
 
-pub cut_releasable : (pool pool1 : Stored) (space space1 : AddressSpace) (root : ℕ) (range : Range) (cut : Taken) → IsTree pool 3 root → Cuts pool space root range cut pool1 space1 → IsReleasable pool1 space1 range cut
+pub cut_releasable : (pool pool1 : Pool) (space space1 : Space) (root : ℕ) (range : Range) (cut : Cut) → IsTree pool 3 root → RetiresAndUnmaps pool space root range cut pool1 space1 → IsReleasable pool1 space1 range cut
 cut_releasable pool pool1 space space1 root range cut tree cuts = record {
   piece = cuts.retires.piece;
   once = λ f. omega (arith, tree.once f, cuts.moves.account f);
@@ -170,27 +170,27 @@ cut_releasable pool pool1 space space1 root range cut tree cuts = record {
 }
 
 -- of the domain that is at a place
-pub cut_in_place : (pool pool1 : Stored) (space1 : AddressSpace) (range : Range) (cut : Taken) (o : Option Home) → IsSomeAnd o (λ h. CanCut pool h.space h.root × IsJudgedEnd pool h.space h.root range (Ok tt))
-    → IsSomeAnd o (λ h. Cuts pool h.space h.root range cut pool1 space1) → IsReleasable pool1 space1 range cut
+pub cut_in_place : (pool pool1 : Pool) (space1 : Space) (range : Range) (cut : Cut) (o : Option Home) → IsSomeAnd o (λ h. CanCut pool h.space h.root × IsJudgedEnd pool h.space h.root range (Ok tt))
+    → IsSomeAnd o (λ h. RetiresAndUnmaps pool h.space h.root range cut pool1 space1) → IsReleasable pool1 space1 range cut
 cut_in_place pool pool1 space1 range cut None can cuts = absurd can
 cut_in_place pool pool1 space1 range cut (Some h) can cuts = cut_releasable pool pool1 h.space space1 h.root range cut can.0.tree cuts
 
 -- ---- pages that can be unmapped
 
-can_cut_by : (pool : Stored) (h : Home) (v : Domain) → IsTree pool 3 h.root → Mirrors pool.words h v → CanCut pool h.space h.root
+can_cut_by : (pool : Pool) (h : Home) (v : Domain) → IsTree pool 3 h.root → Mirrors pool.words h v → CanCut pool h.space h.root
 can_cut_by pool h v tree mirrors = record {
   tree = tree;
   there = λ p live. let page = is_page h.space p Live mirrors.pieces.is_space live in rw (mirrors.tree p page.1) ((mirrors.pieces.live p).0 live);
 }
 
 -- of each domain of a state of some world
-pub can_cut : (m : Machine) (d : ℕ) (h : Home) → IsOfSomeWorld m → length m.homes ≡ 15 → home_of m.homes d ≡ Some h → CanCut m.pool h.space h.root
+pub can_cut : (m : State) (d : ℕ) (h : Home) → IsOfSomeWorld m → length m.homes ≡ 15 → home_of m.homes d ≡ Some h → CanCut m.pool h.space h.root
 can_cut m d h (w, q) many there =
     let v = both_there m.pool.words (home_of m.homes d) (w.domains d) h (q.domains d) there in
     can_cut_by m.pool h v.0 (tree_of m.pool (home_of m.homes) d h q.frames (home_low m.homes d h many there) there) v.2
 
 -- and once all its records went
-pub can_cut_emptied : (m : Machine) (d : ℕ) (h : Home) (pool1 : Stored) (space1 : AddressSpace) → IsOfSomeWorld m → length m.homes ≡ 15 → home_of m.homes d ≡ Some h → ReleasesAll m.pool h.space h.records pool1 space1
+pub can_cut_emptied : (m : State) (d : ℕ) (h : Home) (pool1 : Pool) (space1 : Space) → IsOfSomeWorld m → length m.homes ≡ 15 → home_of m.homes d ≡ Some h → ReleasesAll m.pool h.space h.records pool1 space1
     → CanCut pool1 space1 h.root
 can_cut_emptied m d h pool1 space1 (w, q) many there all =
     let v = both_there m.pool.words (home_of m.homes d) (w.domains d) h (q.domains d) there in
@@ -202,7 +202,7 @@ can_cut_emptied m d h pool1 space1 (w, q) many there all =
     }) (mirrors_flushed m.pool pool1 space1 h v.0 v.2 all)
 
 -- so of each domain of such a state a range can be unmapped
-pub can_unmap : (m : Machine) (d : ℕ) (h : Home) → IsOfSomeWorld m → length m.homes ≡ 15 → home_of m.homes d ≡ Some h → CanUnmap m.pool h
+pub can_unmap : (m : State) (d : ℕ) (h : Home) → IsOfSomeWorld m → length m.homes ≡ 15 → home_of m.homes d ≡ Some h → CanUnmap m.pool h
 can_unmap m d h of_world many there = record {
   cut = can_cut m d h of_world many there;
   releasable = records_releasable m d h of_world many there;
@@ -210,7 +210,7 @@ can_unmap m d h of_world many there = record {
 }
 
 -- where the frames that a split takes were free before that, they are still
-pub split_room : (pool pool1 : Stored) (space space1 : AddressSpace) (records : List Record) (root : ℕ) (range : Range) → ReleasesAll pool space records pool1 space1 → leaves_split pool root range ≤ length pool.free
+pub split_room : (pool pool1 : Pool) (space space1 : Space) (records : List Record) (root : ℕ) (range : Range) → ReleasesAll pool space records pool1 space1 → leaves_split pool root range ≤ length pool.free
     → leaves_split pool1 root range ≤ length pool1.free
 split_room pool pool1 space space1 records root range all room =
     let same : leaves_split pool1 root range ≡ leaves_split pool root range = ap (λ ws. splits (memory ws) 3 root range.first (range.first + range.pages)) all.words in omega (arith, same, room, all.more)
@@ -218,24 +218,24 @@ split_room pool pool1 space space1 records root range all room =
 -- ---- the records one after the other, from the last one on
 
 -- some were released, and the rest can be
-pub record IsReleasing (pool : Stored) (space : AddressSpace) (all : List Record) (pool1 : Stored) (space1 : AddressSpace) (rest : List Record) : Type 0 where
+pub record IsReleasing (pool : Pool) (space : Space) (all : List Record) (pool1 : Pool) (space1 : Space) (rest : List Record) : Type 0 where
   pub done : List Record
   pub parts : rest ++ done ≡ all
   pub released : ReleasesAll pool space done pool1 space1
   pub ready : AreReleasable pool1 space1 rest
 
-pub releasing_start : (pool : Stored) (space : AddressSpace) (all : List Record) → AreReleasable pool space all → IsReleasing pool space all pool space all
+pub releasing_start : (pool : Pool) (space : Space) (all : List Record) → AreReleasable pool space all → IsReleasing pool space all pool space all
 releasing_start pool space all are = record { done = []; parts = nothing_more all; released = releases_none pool space all are; ready = are }
   where
     nothing_more : (xs : List Record) → xs ++ [] ≡ xs
     nothing_more [] = refl
     nothing_more (x ∷ xs) = ap (λ ys. x ∷ ys) (nothing_more xs)
 
-module _ (pool pool1 : Stored) (space space1 : AddressSpace) (all rest : List Record) (r : Record) (so_far : IsReleasing pool space all pool1 space1 (rest ++ r ∷ [])) where
+module _ (pool pool1 : Pool) (space space1 : Space) (all rest : List Record) (r : Record) (so_far : IsReleasing pool space all pool1 space1 (rest ++ r ∷ [])) where
   pub releasing_one : IsReleasable pool1 space1 r.range r.cut
   releasing_one = last_releasable pool1 space1 rest r so_far.ready
 
-  pub releasing_step : (pool2 : Stored) (space2 : AddressSpace) → Releases pool1 space1 r.range r.cut pool2 space2 → ((other : Range) → MayRetire space1.pieces other → MayRetire space2.pieces other) → length pool1.free ≤ length pool2.free
+  pub releasing_step : (pool2 : Pool) (space2 : Space) → Releases pool1 space1 r.range r.cut pool2 space2 → ((other : Range) → MayRetire space1.pieces other → MayRetire space2.pieces other) → length pool1.free ≤ length pool2.free
       → IsReleasing pool space all pool2 space2 rest
   releasing_step pool2 space2 went retirable more = record {
     done = r ∷ so_far.done;
@@ -247,5 +247,5 @@ module _ (pool pool1 : Stored) (space space1 : AddressSpace) (all rest : List Re
     regroup [] ys = refl
     regroup (x ∷ xs) ys = ap (λ zs. x ∷ zs) (regroup xs ys)
 
-pub releasing_end : (pool pool1 : Stored) (space space1 : AddressSpace) (all : List Record) → IsReleasing pool space all pool1 space1 [] → ReleasesAll pool space all pool1 space1
+pub releasing_end : (pool pool1 : Pool) (space space1 : Space) (all : List Record) → IsReleasing pool space all pool1 space1 [] → ReleasesAll pool space all pool1 space1
 releasing_end pool pool1 space space1 all so_far = subst (λ (rs : List Record). ReleasesAll pool space rs pool1 space1) so_far.parts so_far.released

@@ -9,8 +9,8 @@ use Rattle.iova.specs.declared.piece.PageState.TheVariants.{Free}
 use Rattle.iova.specs.declared.piece.PageState.TheVariants as pages
 use Rattle.iova.specs.declared.piece.Piece.{Piece}
 use Rattle.iova.specs.Pieces.{piece_of, state_at}
-use Rattle.iova.specs.Space.{AddressSpace, MayRetire}
-use Rattle.tables.specs.Pool.{Stored, memory, occurs, IsZeroed}
+use Rattle.iova.specs.Space.{Space, MayRetire}
+use Rattle.tables.specs.Pool.{Pool, memory, occurs, IsZeroed}
 use Rattle.tables.specs.Tree.{states, uses}
 use Rattle.unit.specs.Caches.{Leaf, NonLeaf}
 use Rattle.unit.specs.Filters.{drops_leaf, drops_non_leaf}
@@ -19,7 +19,7 @@ use Rattle.engine.specs.declared.record.Record.{Record}
 use Rattle.engine.specs.Ending.{Releases, ReleasesAll, left_by_all}
 use Rattle.engine.specs.Ready.{AreReleasable}
 use Rattle.engine.specs.Homes.{Home, Place, held_in, home_in, home_of}
-use Rattle.engine.specs.Machine.{Machine}
+use Rattle.engine.specs.State.{State}
 use Rattle.engine.specs.Quarantine.{IsOfDomain, Marked, Mirrors, Quarantine, marked_here, marked_there}
 use Rattle.engine.proofs.Changing.{ChangesDomain, changes_domain, same_tree}
 use Rattle.engine.proofs.Held.{held-nil}
@@ -32,7 +32,7 @@ use Rattle.engine.proofs.Vacating.{not_within, pieces_flushed}
 -- ---- one record more
 
 -- no record yet
-pub releases_none : (pool : Stored) (space : AddressSpace) (all : List Record) → AreReleasable pool space all → ReleasesAll pool space [] pool space
+pub releases_none : (pool : Pool) (space : Space) (all : List Record) → AreReleasable pool space all → ReleasesAll pool space [] pool space
 releases_none pool space all are = record {
   is_space = are.is_space;
   last = refl;
@@ -49,7 +49,7 @@ releases_none pool space all are = record {
 }
 
 -- one record more, wherever it stands among those that are done
-module _ (pool pool1 pool2 : Stored) (space space1 space2 : AddressSpace) (done all : List Record) (r : Record) (so_far : ReleasesAll pool space done pool1 space1) (next : Releases pool1 space1 r.range r.cut pool2 space2)
+module _ (pool pool1 pool2 : Pool) (space space1 space2 : Space) (done all : List Record) (r : Record) (so_far : ReleasesAll pool space done pool1 space1) (next : Releases pool1 space1 r.range r.cut pool2 space2)
     (splits : (x : Record) → IsIn x all → IsIn x done ⊎ (x ≡ r)) (old : (x : Record) → IsIn x done → IsIn x all) (new : IsIn r all) (held : (f : ℕ) → held_in all f ≡ held_in done f + occurs f r.cut.frames)
     (retirable : (other : Range) → MayRetire space1.pieces other → MayRetire space2.pieces other) (more : length pool1.free ≤ length pool2.free) where
   free_then : (p : ℕ) → state_at space1.pieces p ≡ Some Free → state_at space2.pieces p ≡ Some Free
@@ -61,7 +61,7 @@ module _ (pool pool1 pool2 : Stored) (space space1 space2 : AddressSpace) (done 
   releases_more : ReleasesAll pool space all pool2 space2
   releases_more = record {
     is_space = next.is_space;
-    last = ap (λ (a : AddressSpace). a.last) next.frees.is ∙ so_far.last;
+    last = ap (λ (a : Space). a.last) next.frees.is ∙ so_far.last;
     inside = λ x i p within. elim (splits x i) [
       | inl before ↦ free_then p (so_far.inside x before p within)
       | inr last ↦ next.frees.states.inside p (subst (λ (y : Record). IsWithin y.range p) last within)
@@ -87,12 +87,12 @@ module _ (pool pool1 pool2 : Stored) (space space1 space2 : AddressSpace) (done 
     other q x (inr last) earlier now = subst (λ (y : Record). q ≢ piece_of y.range pages.Retired) (sym last) now
 
 -- the record after those that are done, and the one before them
-pub releases_last : (pool pool1 pool2 : Stored) (space space1 space2 : AddressSpace) (done : List Record) (r : Record) → ReleasesAll pool space done pool1 space1 → Releases pool1 space1 r.range r.cut pool2 space2
+pub releases_last : (pool pool1 pool2 : Pool) (space space1 space2 : Space) (done : List Record) (r : Record) → ReleasesAll pool space done pool1 space1 → Releases pool1 space1 r.range r.cut pool2 space2
     → ((other : Range) → MayRetire space1.pieces other → MayRetire space2.pieces other) → length pool1.free ≤ length pool2.free → ReleasesAll pool space (done ++ r ∷ []) pool2 space2
 releases_last pool pool1 pool2 space space1 space2 done r so_far next retirable more =
     releases_more pool pool1 pool2 space space1 space2 done (done ++ r ∷ []) r so_far next (λ x i. in_either x r done i) (λ x i. in_left x done (r ∷ []) i) (in_last r done) (λ f. held-last done r f) retirable more
 
-pub releases_first : (pool pool1 pool2 : Stored) (space space1 space2 : AddressSpace) (done : List Record) (r : Record) → ReleasesAll pool space done pool1 space1 → Releases pool1 space1 r.range r.cut pool2 space2
+pub releases_first : (pool pool1 pool2 : Pool) (space space1 space2 : Space) (done : List Record) (r : Record) → ReleasesAll pool space done pool1 space1 → Releases pool1 space1 r.range r.cut pool2 space2
     → ((other : Range) → MayRetire space1.pieces other → MayRetire space2.pieces other) → length pool1.free ≤ length pool2.free → ReleasesAll pool space (r ∷ done) pool2 space2
 releases_first pool pool1 pool2 space space1 space2 done r so_far next retirable more =
     releases_more pool pool1 pool2 space space1 space2 done (r ∷ done) r so_far next first_or (λ x i. inr i) (inl refl) (λ f. sum_by-cons (λ (y : Record). occurs f y.cut.frames) r done ∙ omega arith) retirable more
@@ -116,7 +116,7 @@ matching ks rs same k inside =
     let r = of_mapped marked_there (marked_here k) rs there in
     (r.0, r.1, ap (λ (x : Marked). x.range) r.2)
 
-pub mirrors_flushed : (pool pool' : Stored) (space' : AddressSpace) (h : Home) (v : Domain) → Mirrors pool.words h v → ReleasesAll pool h.space h.records pool' space' → Mirrors pool'.words (home_after h space' []) (flushed v)
+pub mirrors_flushed : (pool pool' : Pool) (space' : Space) (h : Home) (v : Domain) → Mirrors pool.words h v → ReleasesAll pool h.space h.records pool' space' → Mirrors pool'.words (home_after h space' []) (flushed v)
 mirrors_flushed pool pool' space' h v mirrors all = record {
   ids = record { mode = mirrors.ids.mode; begun = mirrors.ids.begun; records = refl };
   tree = λ p low. ap (λ ws. states (memory ws) 3 h.root p) all.words ∙ mirrors.tree p low;
@@ -132,7 +132,7 @@ dropped_leaf d l same left = grind (arith, nat_tests)
 pub dropped_table : (d : ℕ) (i : NonLeaf) → i.domain ≡ d → drops_non_leaf (IotlbDomain d) i ≡ false → ⊥
 dropped_table d i same left = grind (arith, nat_tests)
 
-flush_changes : (m t : Machine) (w : World) (i : ℕ) (h : Home) (old : Place) (v : Domain) (space : AddressSpace) → Quarantine m w → length m.homes ≡ 15 → i < length m.homes → home_of m.homes (i + 1) ≡ Some h → home_in (Some old) ≡ Some h
+flush_changes : (m t : State) (w : World) (i : ℕ) (h : Home) (old : Place) (v : Domain) (space : Space) → Quarantine m w → length m.homes ≡ 15 → i < length m.homes → home_of m.homes (i + 1) ≡ Some h → home_in (Some old) ≡ Some h
     → Mirrors m.pool.words h v → Purges (IotlbDomain (i + 1)) m.unit.caches t.unit.caches → ReleasesAll m.pool h.space h.records t.pool space
     → t.homes ≡ slice_set m.homes i (record old { space = space; records = [] }) → t.row ≡ m.row → ChangesDomain m t (i + 1) h (home_after h space []) v (flushed v)
 flush_changes m t w i h old v space q many less there in_old mirrors purges all homes row = record {
@@ -152,7 +152,7 @@ flush_changes m t w i h old v space q many less there in_old mirrors purges all 
 }
 
 -- a flush: the descriptor was sent and done before the records came free
-pub domain_flushed : (m t : Machine) (w : World) (i n : ℕ) (h : Home) (old : Place) (v : Domain) (space : AddressSpace) → Quarantine m w → length m.homes ≡ 15 → i < length m.homes
+pub domain_flushed : (m t : State) (w : World) (i n : ℕ) (h : Home) (old : Place) (v : Domain) (space : Space) → Quarantine m w → length m.homes ≡ 15 → i < length m.homes
     → home_of m.homes (i + 1) ≡ Some h → home_in (Some old) ≡ Some h → w.domains (i + 1) ≡ Some v → t.unit.caches ≡ left_by_all (m.ring.waiting ++ IotlbDomain (i + 1) ∷ Wait n ∷ []) m.unit.caches
     → ReleasesAll m.pool h.space h.records t.pool space → t.homes ≡ slice_set m.homes i (record old { space = space; records = [] }) → t.row ≡ m.row
     → Quarantine t (record w { domains = put (i + 1) (Some (flushed v)) w.domains })

@@ -19,8 +19,8 @@ use Rattle.unit.specs.Walking.{met, IsPassed}
 use Rattle.unit.specs.declared.hit.Hit.{Hit}
 use Rattle.vtdbits.specs.declared.context.ContextEntry.TheVariants.{Present}
 use Rattle.engine.specs.Homes.{Home, home_of}
-use Rattle.engine.specs.Machine.{Machine, host_in, reached_reply}
-use Rattle.engine.specs.Quarantine.{AreLawful, Both, InDomain, IsLawfulLeaf, IsLawfulTable, Mirrors, Quarantine, attached}
+use Rattle.engine.specs.State.{State, host_in, reached_reply}
+use Rattle.engine.specs.Quarantine.{AreLawful, MirrorsIfAny, InDomain, IsLawfulLeaf, IsLawfulTable, Mirrors, Quarantine, attached}
 use Rattle.engine.proofs.Reading.{IsOnWay, MeetsNothing, IsReadOf, from_start, leaf_of_way, off_leaf, off_walk, table_of_way}
 
 -- ---- the answer
@@ -39,14 +39,14 @@ told v address access t (Err fault) (inr (none, old)) tells = inr (λ u live. ab
 -- ---- the domain
 
 -- a domain of the state is one of the world
-mirrored : (words : List ℕ) (here : Option Home) (there : Option Domain) (h : Home) → here ≡ Some h → Both words here there → (v : Domain) × (there ≡ Some v) × Mirrors words h v
+mirrored : (words : List ℕ) (here : Option Home) (there : Option Domain) (h : Home) → here ≡ Some h → MirrorsIfAny words here there → (v : Domain) × (there ≡ Some v) × Mirrors words h v
 mirrored words None None h is both = absurd (none-some h is)
 mirrored words None (Some v) h is both = absurd both
 mirrored words (Some g) None h is both = absurd both
 mirrored words (Some g) (Some v) h is both = (v, refl, subst (λ k. Mirrors words k v) (same_Some g h is) both)
 
 -- what a domain of some id has, the one of this id has
-as_domain : (m : Machine) (w : World) (P : Home → Domain → Type 0) (d e : ℕ) (h : Home) (v : Domain) → home_of m.homes d ≡ Some h → w.domains d ≡ Some v → e ≡ d → InDomain m w e P → P h v
+as_domain : (m : State) (w : World) (P : Home → Domain → Type 0) (d e : ℕ) (h : Home) (v : Domain) → home_of m.homes d ≡ Some h → w.domains d ≡ Some v → e ≡ d → InDomain m w e P → P h v
 as_domain m w P d e h v here there same has =
     let h_is : has.0 ≡ h = same_Some has.0 h (sym has.2 ∙ ap (home_of m.homes) same ∙ here) in
     let v_is : has.1 ≡ v = same_Some has.1 v (sym has.3 ∙ ap w.domains same ∙ there) in
@@ -62,7 +62,7 @@ of_none w device is = ap (option_and_then w.domains) is
 of_some : (w : World) (device d : ℕ) (v : Domain) → w.devices device ≡ Some d → w.domains d ≡ Some v → domain_of_device w device ≡ Some v
 of_some w device d v is there = ap (option_and_then w.domains) is ∙ there
 
-module _ (m : Machine) (w : World) (quarantine : Quarantine m w) where
+module _ (m : State) (w : World) (quarantine : Quarantine m w) where
   -- a context of the row or the cache is the row's
   of_row : (look : Bool) (device : ℕ) (x : Context) → IsContextOf m.row m.unit.caches.contexts look device x → slice_get m.row x.device ≡ Some (Present x.root W39 x.domain)
   of_row look device x is = elim is.1 [
@@ -80,7 +80,7 @@ module _ (m : Machine) (w : World) (quarantine : Quarantine m w) where
 
 -- ---- one reading
 
-module _ (m : Machine) (w : World) (lawful : AreLawful m w m.unit.caches) (x : Context) (h : Home) (v : Domain) (here : home_of m.homes x.domain ≡ Some h) (there : w.domains x.domain ≡ Some v) (root : h.root ≡ x.root) (mirrors : Mirrors m.pool.words h v)
+module _ (m : State) (w : World) (lawful : AreLawful m w m.unit.caches) (x : Context) (h : Home) (v : Domain) (here : home_of m.homes x.domain ≡ Some h) (there : w.domains x.domain ≡ Some v) (root : h.root ≡ x.root) (mirrors : Mirrors m.pool.words h v)
     (look fill : Bool) (p : ℕ) (low : p < 2 ^ 27) (leaves' : List Leaf) (tables' : List NonLeaf) (t : Option Target) where
   begun : (level table : ℕ) → IsStart m.unit.caches.non_leaves look x p level table → IsOnWay m.pool.words h.root p level table ⊎ MeetsNothing m.pool.words v p level table
   begun level table start =
@@ -123,7 +123,7 @@ module _ (m : Machine) (w : World) (lawful : AreLawful m w m.unit.caches) (x : C
 
 -- ---- the request
 
-module _ (m : Machine) (w : World) (quarantine : Quarantine m w) (look fill : Bool) (device address : ℕ) (access : Access) (new : Caches) (answer : Result Hit Fault) where
+module _ (m : State) (w : World) (quarantine : Quarantine m w) (look fill : Bool) (device address : ℕ) (access : Access) (new : Caches) (answer : Result Hit Fault) where
   with_context : (x : Context) → IsContextOf m.row m.unit.caches.contexts look device x → AnswersWith (memory m.pool.words) x look fill address access m.unit.caches new answer
       → AllowsTo (domain_of_device w x.device) address access (reached_reply (host_in answer)) × AreLawful m w new
   with_context x is answers =

@@ -6,8 +6,8 @@ use Rattle.std.specs.Prelude.{◌↔◌, IsTrue}
 use Rattle.dmatypes.specs.Block.{Block}
 use Rattle.dmatypes.specs.Page.{Range}
 use Rattle.tables.specs.Changes.{Unmaps}
-use Rattle.tables.specs.Pool.{Stored, memory, occurs}
-use Rattle.tables.specs.Taken.{Taken}
+use Rattle.tables.specs.Pool.{Pool, memory, occurs}
+use Rattle.tables.specs.Cut.{Cut}
 use Rattle.tables.specs.Tree.{IsLeafAt, IsTableAt, span}
 use Rattle.tables.proofs.Ended.{unmap_tables, unmap_whole}
 use Rattle.tables.proofs.Near.{div_within, span_pos}
@@ -53,7 +53,7 @@ covers range split b some is small = record {
 }
 
 -- the descriptor is one for the domain, or one for a block that covers the range
-pub sent_covers : (d : ℕ) (range : Range) (cut : Taken) (x : Descriptor) → 1 ≤ range.pages → IsSent d range cut x
+pub sent_covers : (d : ℕ) (range : Range) (cut : Cut) (x : Descriptor) → 1 ≤ range.pages → IsSent d range cut x
     → (x ≡ IotlbDomain d) ⊎ ((b : Block) × (x ≡ IotlbPages d b (hint_of cut)) × Covers range cut.split b)
 sent_covers d range cut x some sent = elim sent.2 [
   | inl pages ↦ inr (sent.0, pages.1, covers range cut.split sent.0 some sent.1 pages.0)
@@ -83,7 +83,7 @@ in_block range split b l (suc zero) true e c small pages even covered lt gt =
 in_block range split b l (suc (suc j)) true e c small pages even covered lt gt = absurd (omega (arith, small))
 
 -- a leaf entry is covered where none was split and they meet
-leaf_covered : (old : Stored) (root : ℕ) (range : Range) (l : Leaf) → 1 ≤ range.pages → leaves_split old root range ≡ 0 → IsLeafAt (memory old.words) 3 root l.first l.pages l.frame l.rights
+leaf_covered : (old : Pool) (root : ℕ) (range : Range) (l : Leaf) → 1 ≤ range.pages → leaves_split old root range ≡ 0 → IsLeafAt (memory old.words) 3 root l.first l.pages l.frame l.rights
     → l.first < range.first + range.pages → range.first < l.first + l.pages → (range.first ≤ l.first) × (l.first + l.pages ≤ range.first + range.pages)
 leaf_covered old root range l some none (j, at) lt gt = by_page (cases_lt l.first range.first)
   where
@@ -115,7 +115,7 @@ none_of (suc n) b to from e = let yes : b ≡ true = from (omega arith) in absur
     both : b ≡ false → b ≡ true → ⊥
     both low high = let clash : true ≡ false = sym high ∙ low in cc
 
-module _ (old new : Stored) (root d : ℕ) (range : Range) (cut : Taken) (x : Descriptor) (some : 1 ≤ range.pages) (sent : IsSent d range cut x) (split : IsTrue cut.split ↔ (0 < leaves_split old root range)) where
+module _ (old new : Pool) (root d : ℕ) (range : Range) (cut : Cut) (x : Descriptor) (some : 1 ≤ range.pages) (sent : IsSent d range cut x) (split : IsTrue cut.split ↔ (0 < leaves_split old root range)) where
   meets : (l : Leaf) → l.domain ≡ d → drops_leaf x l ≡ false → IsLeafAt (memory old.words) 3 root l.first l.pages l.frame l.rights → l.first < range.first + range.pages → range.first < l.first + l.pages → ⊥
   meets l here left at lt gt = elim (sent_covers d range cut x some sent) [
     | inl all ↦ dropped_leaf d l here (ap (λ y. drops_leaf y l) (sym all) ∙ left)

@@ -13,14 +13,14 @@ use Rattle.dmatypes.specs.Step.{Answers, IsStep, IsUnmapAnswer, next}
 use Rattle.dmatypes.specs.World.{Domain, Target, World, flushed, put, put_off, unmapped, unmapped_by}
 use Rattle.iova.specs.declared.piece.PageState.TheVariants.{Live}
 use Rattle.iova.specs.Pieces.{AllIn, state_at}
-use Rattle.iova.specs.Space.{AddressSpace}
-use Rattle.tables.specs.Pool.{Stored}
-use Rattle.tables.specs.Taken.{Taken}
+use Rattle.iova.specs.Space.{Space}
+use Rattle.tables.specs.Pool.{Pool}
+use Rattle.tables.specs.Cut.{Cut}
 use Rattle.vtdbits.specs.declared.descriptor.Descriptor.{Descriptor}
 use Rattle.vtdbits.specs.declared.descriptor.Descriptor.TheVariants.{IotlbDomain, Wait}
-use Rattle.engine.specs.Ending.{Cuts, IsSent, Releases, ReleasesAll, left_by_all}
+use Rattle.engine.specs.Ending.{RetiresAndUnmaps, IsSent, Releases, ReleasesAll, left_by_all}
 use Rattle.engine.specs.Homes.{Home, Place, home_in, home_of, record_for}
-use Rattle.engine.specs.Machine.{Machine}
+use Rattle.engine.specs.State.{State}
 use Rattle.engine.specs.Quarantine.{IsOfDomain, PartsPages, Quarantine, marked_here, marked_there}
 use Rattle.engine.specs.Steps.{Steps}
 use Rattle.engine.proofs.Emptying.{full_put_off}
@@ -55,14 +55,14 @@ some_not_none : (o : Option Target) → IsSome o → IsNone o → ⊥
 some_not_none None some none = absurd cc
 some_not_none (Some x) some none = absurd cc
 
-all_live : (w : World) (d : ℕ) (space : AddressSpace) (v : Domain) (range : Range) → w.domains d ≡ Some v → PartsPages space v → AllIn Live range space.pieces → SomeIsNotLive w d range → ⊥
+all_live : (w : World) (d : ℕ) (space : Space) (v : Domain) (range : Range) → w.domains d ≡ Some v → PartsPages space v → AllIn Live range space.pieces → SomeIsNotLive w d range → ⊥
 all_live w d space v range here parts live some = let dead = rw here at some in some_not_none (v.live dead.0) ((parts.live dead.0).0 (live dead.0 dead.1)) dead.2
 
 not_bad : (address pages : ℕ) → address % 4096 ≡ 0 → IsPageRange (range_at address pages) → IsBadUnmap address pages → ⊥
 not_bad address pages whole fits (inl uneven) = uneven whole
 not_bad address pages whole fits (inr unfit) = unfit fits
 
-none_stands : (w : World) (d address pages : ℕ) (space : AddressSpace) (v : Domain) → w.domains d ≡ Some v → PartsPages space v → AllIn Live (range_at address pages) space.pieces → address % 4096 ≡ 0 → IsPageRange (range_at address pages)
+none_stands : (w : World) (d address pages : ℕ) (space : Space) (v : Domain) → w.domains d ≡ Some v → PartsPages space v → AllIn Live (range_at address pages) space.pieces → address % 4096 ≡ 0 → IsPageRange (range_at address pages)
     → NoConditionStands w (calls.Unmap d address pages)
 unfolding Stands
 none_stands w d address pages space v here parts live whole fits = (not_none (w.domains d) v here, (not_bad address pages whole fits, (all_live w d space v (range_at address pages) here parts live, tt)))
@@ -74,9 +74,9 @@ answered w d address pages released v here none answer = (none, rw here answer)
 
 -- ---- the calls
 
-pub strict_steps : (m t : Machine) (i n address pages : ℕ) (h : Home) (old : Place) (cut : Taken) (x : Descriptor) (pool1 : Stored) (space1 space2 : AddressSpace)
+pub strict_steps : (m t : State) (i n address pages : ℕ) (h : Home) (old : Place) (cut : Cut) (x : Descriptor) (pool1 : Pool) (space1 space2 : Space)
     → length m.homes ≡ 15 → i < length m.homes → home_of m.homes (i + 1) ≡ Some h → home_in (Some old) ≡ Some h → h.mode ≡ Strict → address % 4096 ≡ 0 → IsPageRange (range_at address pages)
-    → Cuts m.pool h.space h.root (range_at address pages) cut pool1 space1 → IsSent (i + 1) (range_at address pages) cut x → t.unit.caches ≡ left_by_all (m.ring.waiting ++ x ∷ Wait n ∷ []) m.unit.caches
+    → RetiresAndUnmaps m.pool h.space h.root (range_at address pages) cut pool1 space1 → IsSent (i + 1) (range_at address pages) cut x → t.unit.caches ≡ left_by_all (m.ring.waiting ++ x ∷ Wait n ∷ []) m.unit.caches
     → Releases pool1 space1 (range_at address pages) cut t.pool space2 → t.homes ≡ slice_set m.homes i (record old { space = space2 }) → t.row ≡ m.row
     → Steps m (calls.Unmap (i + 1) address pages) (Unmapped 0) t
 strict_steps m t i n address pages h old cut x pool1 space1 space2 many less there in_old mode whole fits cuts sent caches releases homes row w q =
@@ -87,9 +87,9 @@ strict_steps m t i n address pages h old cut x pool1 space1 space2 many less the
           (strict_unmapped m t w i n h old both.0 (range_at address pages) cut x pool1 space1 space2 q many less there in_old both.1 strict fits cuts sent caches releases homes row),
     )
 
-pub room_steps : (m t : Machine) (i address pages : ℕ) (h : Home) (old : Place) (cut : Taken) (space1 : AddressSpace)
+pub room_steps : (m t : State) (i address pages : ℕ) (h : Home) (old : Place) (cut : Cut) (space1 : Space)
     → length m.homes ≡ 15 → i < length m.homes → home_of m.homes (i + 1) ≡ Some h → home_in (Some old) ≡ Some h → h.mode ≡ Lazy → length h.records ≢ 256 → address % 4096 ≡ 0 → IsPageRange (range_at address pages)
-    → Cuts m.pool h.space h.root (range_at address pages) cut t.pool space1 → t.unit ≡ m.unit
+    → RetiresAndUnmaps m.pool h.space h.root (range_at address pages) cut t.pool space1 → t.unit ≡ m.unit
     → t.homes ≡ slice_set m.homes i (record old { space = space1; records = old.records ++ record_for (range_at address pages) h.begun cut ∷ [] }) → t.row ≡ m.row
     → Steps m (calls.Unmap (i + 1) address pages) (Unmapped 0) t
 room_steps m t i address pages h old cut space1 many less there in_old mode room whole fits cuts unit homes row w q =
@@ -102,10 +102,10 @@ room_steps m t i address pages h old cut space1 many less there in_old mode room
     )
 
 -- the pages may be retired before the flush, and so after it
-pub full_steps : (m t : Machine) (i n address pages : ℕ) (h : Home) (old : Place) (cut : Taken) (pool1 : Stored) (space1 space2 : AddressSpace)
+pub full_steps : (m t : State) (i n address pages : ℕ) (h : Home) (old : Place) (cut : Cut) (pool1 : Pool) (space1 space2 : Space)
     → length m.homes ≡ 15 → i < length m.homes → home_of m.homes (i + 1) ≡ Some h → home_in (Some old) ≡ Some h → h.mode ≡ Lazy → length h.records ≡ 256 → address % 4096 ≡ 0 → IsPageRange (range_at address pages)
     → AllIn Live (range_at address pages) h.space.pieces → t.unit.caches ≡ left_by_all (m.ring.waiting ++ IotlbDomain (i + 1) ∷ Wait n ∷ []) m.unit.caches → ReleasesAll m.pool h.space h.records pool1 space1
-    → Cuts pool1 space1 h.root (range_at address pages) cut t.pool space2 → t.homes ≡ slice_set m.homes i (record old { space = space2; records = record_for (range_at address pages) h.begun cut ∷ [] }) → t.row ≡ m.row
+    → RetiresAndUnmaps pool1 space1 h.root (range_at address pages) cut t.pool space2 → t.homes ≡ slice_set m.homes i (record old { space = space2; records = record_for (range_at address pages) h.begun cut ∷ [] }) → t.row ≡ m.row
     → Steps m (calls.Unmap (i + 1) address pages) (Unmapped 256) t
 full_steps m t i n address pages h old cut pool1 space1 space2 many less there in_old mode full whole fits live caches all cuts homes row w q =
     let both = both_there m.pool.words (home_of m.homes (i + 1)) (w.domains (i + 1)) h (q.domains (i + 1)) there in
@@ -118,18 +118,18 @@ full_steps m t i n address pages h old cut pool1 space1 space2 many less there i
 
 -- ---- refusals
 
-pub no_domain_step : (m : Machine) (w : World) (d address pages : ℕ) → Quarantine m w → home_of m.homes d ≡ None → IsStep w (calls.Unmap d address pages) (Refused refusals.NoDomain)
+pub no_domain_step : (m : State) (w : World) (d address pages : ℕ) → Quarantine m w → home_of m.homes d ≡ None → IsStep w (calls.Unmap d address pages) (Refused refusals.NoDomain)
 unfolding IsStep Stands
 no_domain_step m w d address pages q none = inl (inl (is_none (w.domains d) (both_absent m.pool.words (home_of m.homes d) (w.domains d) (q.domains d) none), refl))
 
-pub bad_range_step : (m : Machine) (w : World) (d address pages : ℕ) (h : Home) → Quarantine m w → home_of m.homes d ≡ Some h → IsBadUnmap address pages → IsStep w (calls.Unmap d address pages) (Refused refusals.BadRange)
+pub bad_range_step : (m : State) (w : World) (d address pages : ℕ) (h : Home) → Quarantine m w → home_of m.homes d ≡ Some h → IsBadUnmap address pages → IsStep w (calls.Unmap d address pages) (Refused refusals.BadRange)
 unfolding IsStep Stands
 bad_range_step m w d address pages h q there bad =
     let both = both_there m.pool.words (home_of m.homes d) (w.domains d) h (q.domains d) there in
     inl (inr (not_none (w.domains d) both.0 both.1, inl (bad, refl)))
 
 -- a page that is in no live piece isn't live
-not_live_page : (space : AddressSpace) (v : Domain) (p : ℕ) → PartsPages space v → state_at space.pieces p ≢ Some Live → IsNone (v.live p)
+not_live_page : (space : Space) (v : Domain) (p : ℕ) → PartsPages space v → state_at space.pieces p ≢ Some Live → IsNone (v.live p)
 not_live_page space v p parts dead = by_target (v.live p) (λ some. dead ((parts.live p).1 some))
   where
     by_target : (o : Option Target) → (IsSome o → ⊥) → IsNone o
@@ -139,7 +139,7 @@ not_live_page space v p parts dead = by_target (v.live p) (λ some. dead ((parts
 not_live_stands : (w : World) (d : ℕ) (v : Domain) (range : Range) (p : ℕ) → w.domains d ≡ Some v → IsWithin range p → IsNone (v.live p) → SomeIsNotLive w d range
 not_live_stands w d v range p here inside dead = rw here (p, inside, dead)
 
-pub not_live_step : (m : Machine) (w : World) (d address pages : ℕ) (h : Home) → Quarantine m w → home_of m.homes d ≡ Some h → address % 4096 ≡ 0 → IsPageRange (range_at address pages)
+pub not_live_step : (m : State) (w : World) (d address pages : ℕ) (h : Home) → Quarantine m w → home_of m.homes d ≡ Some h → address % 4096 ≡ 0 → IsPageRange (range_at address pages)
     → ((p : ℕ) × IsWithin (range_at address pages) p × (state_at h.space.pieces p ≢ Some Live)) → IsStep w (calls.Unmap d address pages) (Refused refusals.NotLive)
 unfolding IsStep Stands
 not_live_step m w d address pages h q there whole fits (p, inside, dead) =
@@ -149,18 +149,18 @@ not_live_step m w d address pages h q there whole fits (p, inside, dead) =
       inr (not_bad address pages whole fits, inl (not_live_stands w d both.0 (range_at address pages) p both.1 inside (not_live_page h.space both.0 p both.2.pieces dead), refl)),
     ))
 
-live_stands : (m : Machine) (w : World) (d address pages : ℕ) (h : Home) → Quarantine m w → home_of m.homes d ≡ Some h → address % 4096 ≡ 0 → IsPageRange (range_at address pages) → AllIn Live (range_at address pages) h.space.pieces
+live_stands : (m : State) (w : World) (d address pages : ℕ) (h : Home) → Quarantine m w → home_of m.homes d ≡ Some h → address % 4096 ≡ 0 → IsPageRange (range_at address pages) → AllIn Live (range_at address pages) h.space.pieces
     → NoConditionStands w (calls.Unmap d address pages)
 live_stands m w d address pages h q there whole fits live =
     let both = both_there m.pool.words (home_of m.homes d) (w.domains d) h (q.domains d) there in
     none_stands w d address pages h.space both.0 both.1 both.2.pieces live whole fits
 
-pub too_many_step : (m : Machine) (w : World) (d address pages : ℕ) (h : Home) → Quarantine m w → home_of m.homes d ≡ Some h → address % 4096 ≡ 0 → IsPageRange (range_at address pages) → AllIn Live (range_at address pages) h.space.pieces
+pub too_many_step : (m : State) (w : World) (d address pages : ℕ) (h : Home) → Quarantine m w → home_of m.homes d ≡ Some h → address % 4096 ≡ 0 → IsPageRange (range_at address pages) → AllIn Live (range_at address pages) h.space.pieces
     → IsStep w (calls.Unmap d address pages) (Refused refusals.TooManyPieces)
 unfolding IsStep
 too_many_step m w d address pages h q there whole fits live = inr (live_stands m w d address pages h q there whole fits live, tt)
 
-pub no_frames_step : (m : Machine) (w : World) (d address pages : ℕ) (h : Home) → Quarantine m w → home_of m.homes d ≡ Some h → address % 4096 ≡ 0 → IsPageRange (range_at address pages) → AllIn Live (range_at address pages) h.space.pieces
+pub no_frames_step : (m : State) (w : World) (d address pages : ℕ) (h : Home) → Quarantine m w → home_of m.homes d ≡ Some h → address % 4096 ≡ 0 → IsPageRange (range_at address pages) → AllIn Live (range_at address pages) h.space.pieces
     → IsStep w (calls.Unmap d address pages) (Refused refusals.NoFrames)
 unfolding IsStep
 no_frames_step m w d address pages h q there whole fits live = inr (live_stands m w d address pages h q there whole fits live, tt)

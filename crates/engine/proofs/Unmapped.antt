@@ -9,14 +9,14 @@ use Rattle.dmatypes.specs.declared.refusal.Refusal.TheVariants as refusals
 use Rattle.dmatypes.specs.declared.reply.Reply.TheVariants.{Refused, Unmapped}
 use Rattle.dmatypes.specs.Conditions.{IsBadUnmap}
 use Rattle.dmatypes.specs.Page.{IsPageRange, range_at}
-use Rattle.tables.specs.Pool.{Stored}
+use Rattle.tables.specs.Pool.{Pool}
 use Rattle.engine.specs.declared.iommu.Iommu.{Iommu}
 use Rattle.engine.specs.declared.record.Record.{Record}
 use Rattle.vtdbits.specs.declared.descriptor.Descriptor.{Descriptor}
 use Rattle.vtdbits.specs.declared.descriptor.Descriptor.TheVariants.{IotlbDomain}
 use Rattle.engine.specs.Ending.{EndsBy, Invalidates, IsJudgedEnd, IsUnmapped, MakesRoom, PutsOff, UnmapsStrictly}
 use Rattle.engine.specs.Homes.{Home, Place, home_in, home_of, record_for}
-use Rattle.engine.specs.Machine.{Becomes, Exact, Machine, iommu_of, unmapped_reply}
+use Rattle.engine.specs.State.{Becomes, Exact, State, iommu_of, unmapped_reply}
 use Rattle.engine.specs.Steps.{Does, Steps}
 use Rattle.engine.specs.Whole.{IsWhole}
 use Rattle.engine.proofs.Lists.{set_again}
@@ -27,15 +27,15 @@ use Rattle.engine.proofs.UnmapSteps.{bad_range_step, full_steps, no_domain_step,
 
 -- ---- refused
 
-pub unmap_no_domain : (m t : Machine) (domain address pages : ℕ) → t ≡ counted m → home_of m.homes domain ≡ None → Does m (calls.Unmap domain address pages) (Refused refusals.NoDomain) t
+pub unmap_no_domain : (m t : State) (domain address pages : ℕ) → t ≡ counted m → home_of m.homes domain ≡ None → Does m (calls.Unmap domain address pages) (Refused refusals.NoDomain) t
 unfolding Exact
 unmap_no_domain m t domain address pages is none = refuses m t (calls.Unmap domain address pages) refusals.NoDomain is tt (λ w q. no_domain_step m w domain address pages q none)
 
-pub unmap_bad_range : (m t : Machine) (domain address pages : ℕ) (h : Home) → t ≡ counted m → home_of m.homes domain ≡ Some h → IsBadUnmap address pages → Does m (calls.Unmap domain address pages) (Refused refusals.BadRange) t
+pub unmap_bad_range : (m t : State) (domain address pages : ℕ) (h : Home) → t ≡ counted m → home_of m.homes domain ≡ Some h → IsBadUnmap address pages → Does m (calls.Unmap domain address pages) (Refused refusals.BadRange) t
 unfolding Exact
 unmap_bad_range m t domain address pages h is there bad = refuses m t (calls.Unmap domain address pages) refusals.BadRange is tt (λ w q. bad_range_step m w domain address pages h q there bad)
 
-judged : (m : Machine) (domain address pages : ℕ) (h : Home) (refusal : Refusal) → home_of m.homes domain ≡ Some h → address % 4096 ≡ 0 → IsPageRange (range_at address pages) → IsJudgedEnd m.pool h.space h.root (range_at address pages) (Err refusal)
+judged : (m : State) (domain address pages : ℕ) (h : Home) (refusal : Refusal) → home_of m.homes domain ≡ Some h → address % 4096 ≡ 0 → IsPageRange (range_at address pages) → IsJudgedEnd m.pool h.space h.root (range_at address pages) (Err refusal)
     → Does m (calls.Unmap domain address pages) (Refused refusal) (counted m)
 unfolding Exact
 judged m domain address pages h refusals.NotLive there whole fits dead = refuses m (counted m) (calls.Unmap domain address pages) refusals.NotLive refl tt (λ w q. not_live_step m w domain address pages h q there whole fits dead)
@@ -45,17 +45,17 @@ judged m domain address pages h refusals.NoFrames there whole fits short =
     refuses m (counted m) (calls.Unmap domain address pages) refusals.NoFrames refl (rw there short) (λ w q. no_frames_step m w domain address pages h q there whole fits short.0.live)
 judged m domain address pages h _ there whole fits other = absurd other
 
-unmap_refused : (m : Machine) (domain address pages i : ℕ) (p new : Place) (h : Home) (pool : Stored) (x : Iommu) (refusal : Refusal) → slice_get m.homes i ≡ Some p → home_of m.homes domain ≡ Some h → address % 4096 ≡ 0 → IsPageRange (range_at address pages)
+unmap_refused : (m : State) (domain address pages i : ℕ) (p new : Place) (h : Home) (pool : Pool) (x : Iommu) (refusal : Refusal) → slice_get m.homes i ≡ Some p → home_of m.homes domain ≡ Some h → address % 4096 ≡ 0 → IsPageRange (range_at address pages)
     → IsUnmapped m.pool p h (iommu_of m) domain (range_at address pages) (Err refusal) pool new x → Does m (calls.Unmap domain address pages) (Refused refusal) (changed m i pool new x)
 unmap_refused m domain address pages i p new h pool x refusal at there whole fits ended = rw same (judged m domain address pages h refusal there whole fits ended.3)
   where
     same : changed m i pool new x ≡ counted m
-    same = ap (λ (s : Stored). changed m i s new x) ended.0 ∙ ap (λ (n : Place). changed m i m.pool n x) ended.1 ∙ ap (λ (y : Iommu). changed m i m.pool p y) ended.2
+    same = ap (λ (s : Pool). changed m i s new x) ended.0 ∙ ap (λ (n : Place). changed m i m.pool n x) ended.1 ∙ ap (λ (y : Iommu). changed m i m.pool p y) ended.2
         ∙ ap (λ (hs : List Place). record m { homes = hs; calls = m.calls + 1 }) (set_again m.homes i p at)
 
 -- ---- done
 
-module _ (m : Machine) (address pages i released : ℕ) (p new : Place) (h : Home) (pool : Stored) (x : Iommu) (many : length m.homes ≡ 15) (less : i < length m.homes) (at : slice_get m.homes i ≡ Some p)
+module _ (m : State) (address pages i released : ℕ) (p new : Place) (h : Home) (pool : Pool) (x : Iommu) (many : length m.homes ≡ 15) (less : i < length m.homes) (at : slice_get m.homes i ≡ Some p)
     (in_place : home_in (Some p) ≡ Some h) (there : home_of m.homes (i + 1) ≡ Some h) (whole : address % 4096 ≡ 0) (fits : IsPageRange (range_at address pages)) where
   strictly : h.mode ≡ Strict → new.tenant ≡ p.tenant → released ≡ 0 → new.records ≡ h.records → UnmapsStrictly m.pool h (iommu_of m) (i + 1) (range_at address pages) pool new.space x
       → Steps m (calls.Unmap (i + 1) address pages) (Unmapped released) (changed m i pool new x)
@@ -108,11 +108,11 @@ module _ (m : Machine) (address pages i released : ℕ) (p new : Place) (h : Hom
 
 -- ---- both
 
-pub record AnswersUnmap (frames : ℕ) (m : Machine) (domain address pages : ℕ) (answer : Result ℕ Refusal) (t : Machine) : Type 0 where
+pub record AnswersUnmap (frames : ℕ) (m : State) (domain address pages : ℕ) (answer : Result ℕ Refusal) (t : State) : Type 0 where
   pub does : Does m (calls.Unmap domain address pages) (unmapped_reply answer) t
   pub whole : IsWhole frames t
 
-pub unmap_answered : (frames : ℕ) (m : Machine) (domain address pages i : ℕ) (p new : Place) (h : Home) (pool : Stored) (x : Iommu) (answer : Result ℕ Refusal) → IsWhole frames m → i < length m.homes → domain ≡ i + 1 → slice_get m.homes i ≡ Some p
+pub unmap_answered : (frames : ℕ) (m : State) (domain address pages i : ℕ) (p new : Place) (h : Home) (pool : Pool) (x : Iommu) (answer : Result ℕ Refusal) → IsWhole frames m → i < length m.homes → domain ≡ i + 1 → slice_get m.homes i ≡ Some p
     → home_in (Some p) ≡ Some h → home_of m.homes domain ≡ Some h → address % 4096 ≡ 0 → IsPageRange (range_at address pages) → IsUnmapped m.pool p h (iommu_of m) domain (range_at address pages) answer pool new x
     → AnswersUnmap frames m domain address pages answer (changed m i pool new x)
 unmap_answered frames m domain address pages i p new h pool x (Ok released) is less id at in_place there whole fits ended =

@@ -7,10 +7,10 @@ use Rattle.dmatypes.specs.declared.call.Mode.TheVariants.{Strict, Lazy}
 use Rattle.dmatypes.specs.Page.{Range, IsPageRange}
 use Rattle.dmatypes.specs.World.{Domain, Target, World, IsIn, IsLive, IsRetired, put, put_off, record_of, unmapped}
 use Rattle.dmatypes.proofs.Ranges.{to_ends, within_or_not}
-use Rattle.iova.specs.Space.{AddressSpace}
+use Rattle.iova.specs.Space.{Space}
 use Rattle.tables.specs.Changes.{Stays}
-use Rattle.tables.specs.Pool.{Stored, memory, occurs, IsZeroed}
-use Rattle.tables.specs.Taken.{Taken}
+use Rattle.tables.specs.Pool.{Pool, memory, occurs, IsZeroed}
+use Rattle.tables.specs.Cut.{Cut}
 use Rattle.tables.specs.Tree.{span, stated, states, uses}
 use Rattle.tables.proofs.Ended.{unmap_leaves, unmap_tables}
 use Rattle.tables.proofs.Kept.{apart_stays, same_root, span-three}
@@ -21,9 +21,9 @@ use Rattle.unit.specs.Walking.{stated_by}
 use Rattle.vtdbits.specs.declared.descriptor.Descriptor.{Descriptor}
 use Rattle.vtdbits.specs.declared.descriptor.Descriptor.TheVariants.{Wait}
 use Rattle.engine.specs.declared.record.Record.{Record}
-use Rattle.engine.specs.Ending.{Cuts, IsSent, Releases, left_by_all}
+use Rattle.engine.specs.Ending.{RetiresAndUnmaps, IsSent, Releases, left_by_all}
 use Rattle.engine.specs.Homes.{Home, Place, held_in, home_in, home_of, record_for}
-use Rattle.engine.specs.Machine.{Machine}
+use Rattle.engine.specs.State.{State}
 use Rattle.engine.specs.Quarantine.{IsLawfulLeaf, IsLawfulTable, Mirrors, Quarantine, marked_here, marked_there}
 use Rattle.engine.proofs.Changing.{ChangesDomain, SameTree, changes_domain, tree_stays}
 use Rattle.engine.proofs.Frames.{apart_of, held_zeroed, tree_of}
@@ -35,7 +35,7 @@ use Rattle.engine.proofs.Strict.{strict_apart, strict_table}
 use Rattle.engine.proofs.Vacating.{pieces_put_off, pieces_unmapped, restricted_inside, without_inside, without_outside}
 
 -- the home with another space and other records
-abbrev pub home_after : Home → AddressSpace → List Record → Home
+abbrev pub home_after : Home → Space → List Record → Home
 home_after h space records = record { mode = h.mode; space = space; root = h.root; records = records; begun = h.begun }
 
 -- what records hold with one more
@@ -44,7 +44,7 @@ held-last rs r f = sum_by_push (λ (y : Record). occurs f y.cut.frames) rs r
 
 -- ---- one domain
 
-module _ (pool pool1 : Stored) (space1 : AddressSpace) (h : Home) (v : Domain) (range : Range) (cut : Taken) (fits : IsPageRange range) (mirrors : Mirrors pool.words h v) (cuts : Cuts pool h.space h.root range cut pool1 space1) where
+module _ (pool pool1 : Pool) (space1 : Space) (h : Home) (v : Domain) (range : Range) (cut : Cut) (fits : IsPageRange range) (mirrors : Mirrors pool.words h v) (cuts : RetiresAndUnmaps pool h.space h.root range cut pool1 space1) where
   start : range.first < span 3
   start = let ends = to_ends range fits in omega (arith, ends.some, ends.last, span-three)
 
@@ -55,7 +55,7 @@ module _ (pool pool1 : Stored) (space1 : AddressSpace) (h : Home) (v : Domain) (
     | inr past ↦ cuts.unmaps.elsewhere p (same_root 3 p range.first (omega (arith, low, span-three)) start) past ∙ mirrors.tree p low ∙ sym (without_outside range v.live p past)
   ]
 
-  pub mirrors_unmapped : (pool2 : Stored) (space2 : AddressSpace) → Releases pool1 space1 range cut pool2 space2 → Mirrors pool1.words (home_after h space2 h.records) (unmapped range v)
+  pub mirrors_unmapped : (pool2 : Pool) (space2 : Space) → Releases pool1 space1 range cut pool2 space2 → Mirrors pool1.words (home_after h space2 h.records) (unmapped range v)
   mirrors_unmapped pool2 space2 releases = record {
     ids = record { mode = mirrors.ids.mode; begun = mirrors.ids.begun; records = mirrors.ids.records };
     tree = tree_without;
@@ -77,7 +77,7 @@ module _ (pool pool1 : Stored) (space1 : AddressSpace) (h : Home) (v : Domain) (
   module _ (zeroed : (f : ℕ) → 0 < held_in h.records f → IsZeroed pool1.words f) where
     -- ---- a strict unmap
 
-    module _ (d : ℕ) (x : Descriptor) (sent : IsSent d range cut x) (space2 : AddressSpace) where
+    module _ (d : ℕ) (x : Descriptor) (sent : IsSent d range cut x) (space2 : Space) where
       outside_of : (l : Leaf) (p : ℕ) → ((l.first + l.pages ≤ range.first) ⊎ (range.first + range.pages ≤ l.first)) → l.first ≤ p → p < l.first + l.pages → (p < range.first) ⊎ (range.first + range.pages ≤ p)
       outside_of l p (inl before) low high = inl (omega (arith, before, high))
       outside_of l p (inr behind) low high = inr (omega (arith, behind, low))
@@ -137,14 +137,14 @@ module _ (pool pool1 : Stored) (space1 : AddressSpace) (h : Home) (v : Domain) (
 -- ---- the whole state
 
 -- the home of a domain mirrors the world's
-pub mirrors_of : (m : Machine) (w : World) (d : ℕ) (h : Home) (v : Domain) → Quarantine m w → home_of m.homes d ≡ Some h → w.domains d ≡ Some v → Mirrors m.pool.words h v
+pub mirrors_of : (m : State) (w : World) (d : ℕ) (h : Home) (v : Domain) → Quarantine m w → home_of m.homes d ≡ Some h → w.domains d ≡ Some v → Mirrors m.pool.words h v
 mirrors_of m w d h v q there here =
     let both = both_there m.pool.words (home_of m.homes d) (w.domains d) h (q.domains d) there in
     subst (λ (u : Domain). Mirrors m.pool.words h u) (same_Some both.0 v (sym both.1 ∙ here)) both.2
 
-module _ (m t : Machine) (w : World) (i : ℕ) (h : Home) (old : Place) (v : Domain) (range : Range) (cut : Taken) (pool1 : Stored) (space1 : AddressSpace)
+module _ (m t : State) (w : World) (i : ℕ) (h : Home) (old : Place) (v : Domain) (range : Range) (cut : Cut) (pool1 : Pool) (space1 : Space)
     (q : Quarantine m w) (many : length m.homes ≡ 15) (less : i < length m.homes) (there : home_of m.homes (i + 1) ≡ Some h) (here : w.domains (i + 1) ≡ Some v) (in_old : home_in (Some old) ≡ Some h)
-    (mirrors : Mirrors m.pool.words h v) (fits : IsPageRange range) (cuts : Cuts m.pool h.space h.root range cut pool1 space1) (row : t.row ≡ m.row) (words : t.pool.words ≡ pool1.words) where
+    (mirrors : Mirrors m.pool.words h v) (fits : IsPageRange range) (cuts : RetiresAndUnmaps m.pool h.space h.root range cut pool1 space1) (row : t.row ≡ m.row) (words : t.pool.words ≡ pool1.words) where
   low : i + 1 < 16
   low = home_low m.homes (i + 1) h many there
 
@@ -162,7 +162,7 @@ module _ (m t : Machine) (w : World) (i : ℕ) (h : Home) (old : Place) (v : Dom
   zeroed : (e : ℕ) (k : Home) → home_of m.homes e ≡ Some k → (f : ℕ) → 0 < held_in k.records f → IsZeroed t.pool.words f
   zeroed e k at f more = subst (λ ws. IsZeroed ws f) (sym words) (zeroed_then e k at f more)
 
-  homes_put : (space : AddressSpace) (records : List Record) → t.homes ≡ slice_set m.homes i (record { space = space; tenant = old.tenant; records = records })
+  homes_put : (space : Space) (records : List Record) → t.homes ≡ slice_set m.homes i (record { space = space; tenant = old.tenant; records = records })
       → (e : ℕ) → home_of t.homes e ≡ put (i + 1) (Some (home_after h space records)) (home_of m.homes) e
   homes_put space records homes e =
       ap (λ hs. home_of hs e) homes ∙ home_set m.homes i (record { space = space; tenant = old.tenant; records = records }) less e
@@ -173,7 +173,7 @@ module _ (m t : Machine) (w : World) (i : ℕ) (h : Home) (old : Place) (v : Dom
 
   -- ---- a strict unmap
 
-  module _ (n : ℕ) (x : Descriptor) (space2 : AddressSpace) (strict : v.mode ≡ Strict) (sent : IsSent (i + 1) range cut x) (caches : t.unit.caches ≡ left_by_all (m.ring.waiting ++ x ∷ Wait n ∷ []) m.unit.caches)
+  module _ (n : ℕ) (x : Descriptor) (space2 : Space) (strict : v.mode ≡ Strict) (sent : IsSent (i + 1) range cut x) (caches : t.unit.caches ≡ left_by_all (m.ring.waiting ++ x ∷ Wait n ∷ []) m.unit.caches)
       (releases : Releases pool1 space1 range cut t.pool space2) (homes : t.homes ≡ slice_set m.homes i (record old { space = space2 })) where
     purges : Purges x m.unit.caches t.unit.caches
     purges = purges_sent m.ring.waiting x n m.unit.caches t.unit.caches caches
@@ -223,11 +223,11 @@ module _ (m t : Machine) (w : World) (i : ℕ) (h : Home) (old : Place) (v : Dom
       homes = homes_put space1 records1 (homes ∙ ap (λ (rs : List Record). slice_set m.homes i (record { space = space1; tenant = old.tenant; records = rs ++ record_for range h.begun cut ∷ [] })) (sym (home_is old h in_old).1));
       row = row;
       root = refl;
-      frames = ap (λ (p : Stored). p.frames) same_pool ∙ cuts.moves.frames;
+      frames = ap (λ (p : Pool). p.frames) same_pool ∙ cuts.moves.frames;
       mirrors = subst (λ ws. Mirrors ws (home_after h space1 records1) (put_off range v)) (sym words) (mirrors_put_off m.pool pool1 space1 h v range cut fits mirrors cuts);
       others = others;
-      account = λ f. let free : occurs f t.pool.free ≡ occurs f pool1.free = ap (λ (p : Stored). occurs f p.free) same_pool in omega (arith, used f, free, held-last h.records (record_for range h.begun cut) f, cuts.moves.account f);
-      zeroed = subst (λ (p : Stored). (f : ℕ) → 0 < occurs f p.free → IsZeroed p.words f) (sym same_pool) cuts.is_pool.zeroed;
+      account = λ f. let free : occurs f t.pool.free ≡ occurs f pool1.free = ap (λ (p : Pool). occurs f p.free) same_pool in omega (arith, used f, free, held-last h.records (record_for range h.begun cut) f, cuts.moves.account f);
+      zeroed = subst (λ (p : Pool). (f : ℕ) → 0 < occurs f p.free → IsZeroed p.words f) (sym same_pool) cuts.is_pool.zeroed;
       held = zeroed;
       held_here = λ f more. elim (held_more f more) [
         | inl old_one ↦ zeroed (i + 1) h there f old_one
@@ -252,17 +252,17 @@ module _ (m t : Machine) (w : World) (i : ℕ) (h : Home) (old : Place) (v : Dom
 -- ---- by what the calls below promise
 
 -- an unmap of a strict domain: the descriptor was sent and done before its pages and the cut tables came free
-pub strict_unmapped : (m t : Machine) (w : World) (i n : ℕ) (h : Home) (old : Place) (v : Domain) (range : Range) (cut : Taken) (x : Descriptor) (pool1 : Stored) (space1 space2 : AddressSpace)
+pub strict_unmapped : (m t : State) (w : World) (i n : ℕ) (h : Home) (old : Place) (v : Domain) (range : Range) (cut : Cut) (x : Descriptor) (pool1 : Pool) (space1 space2 : Space)
     → Quarantine m w → length m.homes ≡ 15 → i < length m.homes → home_of m.homes (i + 1) ≡ Some h → home_in (Some old) ≡ Some h → w.domains (i + 1) ≡ Some v → v.mode ≡ Strict → IsPageRange range
-    → Cuts m.pool h.space h.root range cut pool1 space1 → IsSent (i + 1) range cut x → t.unit.caches ≡ left_by_all (m.ring.waiting ++ x ∷ Wait n ∷ []) m.unit.caches → Releases pool1 space1 range cut t.pool space2
+    → RetiresAndUnmaps m.pool h.space h.root range cut pool1 space1 → IsSent (i + 1) range cut x → t.unit.caches ≡ left_by_all (m.ring.waiting ++ x ∷ Wait n ∷ []) m.unit.caches → Releases pool1 space1 range cut t.pool space2
     → t.homes ≡ slice_set m.homes i (record old { space = space2 }) → t.row ≡ m.row → Quarantine t (record w { domains = put (i + 1) (Some (unmapped range v)) w.domains })
 strict_unmapped m t w i n h old v range cut x pool1 space1 space2 q many less there in_old here strict fits cuts sent caches releases homes row =
     strict_keeps m t w i h old v range cut pool1 space1 q many less there here in_old (mirrors_of m w (i + 1) h v q there here) fits cuts row releases.words n x space2 strict sent caches releases homes
 
 -- an unmap of a lazy domain that has room for one more record
-pub lazy_put_off : (m t : Machine) (w : World) (i : ℕ) (h : Home) (old : Place) (v : Domain) (range : Range) (cut : Taken) (space1 : AddressSpace)
+pub lazy_put_off : (m t : State) (w : World) (i : ℕ) (h : Home) (old : Place) (v : Domain) (range : Range) (cut : Cut) (space1 : Space)
     → Quarantine m w → length m.homes ≡ 15 → i < length m.homes → home_of m.homes (i + 1) ≡ Some h → home_in (Some old) ≡ Some h → w.domains (i + 1) ≡ Some v → v.mode ≡ Lazy → IsPageRange range
-    → Cuts m.pool h.space h.root range cut t.pool space1 → t.unit ≡ m.unit → t.homes ≡ slice_set m.homes i (record old { space = space1; records = old.records ++ record_for range h.begun cut ∷ [] }) → t.row ≡ m.row
+    → RetiresAndUnmaps m.pool h.space h.root range cut t.pool space1 → t.unit ≡ m.unit → t.homes ≡ slice_set m.homes i (record old { space = space1; records = old.records ++ record_for range h.begun cut ∷ [] }) → t.row ≡ m.row
     → Quarantine t (record w { domains = put (i + 1) (Some (put_off range v)) w.domains })
 lazy_put_off m t w i h old v range cut space1 q many less there in_old here lazy fits cuts unit homes row =
     lazy_keeps m t w i h old v range cut t.pool space1 q many less there here in_old (mirrors_of m w (i + 1) h v q there here) fits cuts row refl lazy refl unit homes

@@ -9,7 +9,7 @@ use Rattle.iova.specs.declared.piece.PageState.TheVariants as pages
 use Rattle.iova.specs.declared.piece.Piece.{Piece}
 use Rattle.iova.specs.Changes.{Frees, Retires}
 use Rattle.iova.specs.Pieces.{AllIn, piece_of, state_at}
-use Rattle.iova.specs.Space.{AddressSpace, IsSpace}
+use Rattle.iova.specs.Space.{Space, IsSpace}
 use Rattle.engine.specs.Quarantine.{AllApart, AreApart, IsInRecord, PartsPages}
 use Rattle.engine.proofs.Sets.{in_either, in_last, in_left}
 
@@ -39,7 +39,7 @@ live_not_retired : (o : Option PageState) → o ≡ Some Live → o ≡ Some pag
 live_not_retired o live retired = let no : Some Live ≡ Some pages.Retired = sym live ∙ retired in cc
 
 -- a page with a state is a page
-pub is_page : (space : AddressSpace) (p : ℕ) (s : PageState) → IsSpace space → state_at space.pieces p ≡ Some s → IsPage p
+pub is_page : (space : Space) (p : ℕ) (s : PageState) → IsSpace space → state_at space.pieces p ≡ Some s → IsPage p
 is_page space p s is at = (is.others p (rw at refl)).0
 
 -- ---- records that are apart
@@ -62,7 +62,7 @@ apart_last (x ∷ rs) r new old = (
 
 -- ---- live pages
 
-module _ (space : AddressSpace) (v : Domain) (range : Range) (parts : PartsPages space v) (live : AllIn Live range space.pieces) where
+module _ (space : Space) (v : Domain) (range : Range) (parts : PartsPages space v) (live : AllIn Live range space.pieces) where
   -- no record has a live page
   record_apart : (r : Retired) → IsIn r v.retired → AreApart r.range range
   record_apart r inside p in_record in_range = live_not_retired (state_at space.pieces p) (live p in_range) ((parts.retired p).1 (r, inside, in_record))
@@ -76,10 +76,10 @@ module _ (space : AddressSpace) (v : Domain) (range : Range) (parts : PartsPages
 
   -- ---- a strict unmap
 
-  pub pieces_unmapped : (space1 space2 : AddressSpace) → IsPageRange range → Retires space space1 range → Frees space1 space2 range pages.Retired → IsSpace space2 → PartsPages space2 (unmapped range v)
+  pub pieces_unmapped : (space1 space2 : Space) → IsPageRange range → Retires space space1 range → Frees space1 space2 range pages.Retired → IsSpace space2 → PartsPages space2 (unmapped range v)
   pieces_unmapped space1 space2 fits retires frees is = record {
     is_space = is;
-    whole = ap (λ (a : AddressSpace). a.last) frees.is ∙ ap (λ (a : AddressSpace). a.last) retires.is ∙ parts.whole;
+    whole = ap (λ (a : Space). a.last) frees.is ∙ ap (λ (a : Space). a.last) retires.is ∙ parts.whole;
     free = λ p. elim (within_or_not range p) [
       | inl inside ↦ (
         λ e. (is_page space p Live parts.is_space (live p inside), record { not_live = without_inside range v.live p inside; not_retired = λ r i in_record. record_apart r i p in_record inside }),
@@ -125,10 +125,10 @@ module _ (space : AddressSpace) (v : Domain) (range : Range) (parts : PartsPages
   last_is : (r : Retired) → r ≡ record_of range v → r.range ≡ range
   last_is r same = ap (λ (x : Retired). x.range) same
 
-  pub pieces_put_off : (space1 : AddressSpace) → Retires space space1 range → IsSpace space1 → PartsPages space1 (put_off range v)
+  pub pieces_put_off : (space1 : Space) → Retires space space1 range → IsSpace space1 → PartsPages space1 (put_off range v)
   pieces_put_off space1 retires is = record {
     is_space = is;
-    whole = ap (λ (a : AddressSpace). a.last) retires.is ∙ parts.whole;
+    whole = ap (λ (a : Space). a.last) retires.is ∙ parts.whole;
     free = λ p. elim (within_or_not range p) [
       | inl inside ↦ (
         λ e. absurd (free_not_retired (state_at space1.pieces p) e (retires.states.inside p inside)),
@@ -206,7 +206,7 @@ not_some None never = refl
 not_some (Some x) never = absurd (never refl)
 
 -- retired pages become free, and no other page changes
-pub pieces_flushed : (space space' : AddressSpace) (v : Domain) → PartsPages space v → IsSpace space' → space'.last ≡ space.last
+pub pieces_flushed : (space space' : Space) (v : Domain) → PartsPages space v → IsSpace space' → space'.last ≡ space.last
     → ((p : ℕ) → IsInRecord v p → state_at space'.pieces p ≡ Some Free) → ((p : ℕ) → (IsInRecord v p → ⊥) → state_at space'.pieces p ≡ state_at space.pieces p) → PartsPages space' (flushed v)
 pieces_flushed space space' v parts is last inside outside = record {
   is_space = is;

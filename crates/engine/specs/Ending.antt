@@ -12,13 +12,13 @@ use Rattle.iova.specs.Changes.{Frees, Retires}
 use Rattle.iova.specs.declared.piece.PageState.TheVariants.{Free, Live, Retired}
 use Rattle.iova.specs.declared.piece.Piece.{Piece}
 use Rattle.iova.specs.Pieces.{AllIn, piece_of, state_at}
-use Rattle.iova.specs.Space.{AddressSpace, IsSpace, IsTooMany, MayRetire}
-use Rattle.queue.specs.Queue.{Queue, queue}
-use Rattle.tables.specs.Changes.{IsApart, Moves, Stays, Unmaps}
+use Rattle.iova.specs.Space.{Space, IsSpace, IsTooMany, MayRetire}
+use Rattle.queue.specs.Ring.{Ring, ring_of}
+use Rattle.tables.specs.Changes.{IsApart, TakesAndGivesFrames, Stays, Unmaps}
 use Rattle.tables.specs.Lacks.{splits}
-use Rattle.tables.specs.Pool.{Stored, memory, occurs, word, IsPool, IsTree, IsZeroed}
+use Rattle.tables.specs.Pool.{Pool, memory, occurs, word, IsPool, IsTree, IsZeroed}
 use Rattle.tables.specs.Tree.{uses}
-use Rattle.tables.specs.Taken.{Taken}
+use Rattle.tables.specs.Cut.{Cut}
 use Rattle.unit.specs.Caches.{Caches, UnitState}
 use Rattle.unit.specs.Filters.{left_by}
 use Rattle.vtdbits.specs.declared.descriptor.Descriptor.{Descriptor}
@@ -30,24 +30,24 @@ use Rattle.engine.specs.Homes.{Home, Place, held_in, record_for}
 -- ---- in the tree and the address space
 
 -- how many leaves of 2 MiB an unmap splits
-abbrev pub leaves_split : Stored → ℕ → Range → ℕ
+abbrev pub leaves_split : Pool → ℕ → Range → ℕ
 leaves_split pool root range = splits (memory pool.words) 3 root range.first (range.first + range.pages)
 
 -- the pages of the range are retired in the space, and gone from the tree of the root; what was cut from it is
 -- zeroed and neither free nor used
-pub record Cuts (pool : Stored) (space : AddressSpace) (root : ℕ) (range : Range) (cut : Taken) (pool' : Stored) (space' : AddressSpace) : Type 0 where
+pub record RetiresAndUnmaps (pool : Pool) (space : Space) (root : ℕ) (range : Range) (cut : Cut) (pool' : Pool) (space' : Space) : Type 0 where
   pub may : MayRetire space.pieces range
   pub retires : Retires space space' range
   pub is_space : IsSpace space'
   pub count : length pool'.free + leaves_split pool root range ≡ length pool.free
-  pub moves : Moves pool pool' 3 root cut.frames
+  pub moves : TakesAndGivesFrames pool pool' 3 root cut.frames
   pub unmaps : Unmaps pool pool' 3 root range.first (range.first + range.pages) cut.frames
   pub split : IsTrue cut.split ↔ (0 < leaves_split pool root range)
   pub is_pool : IsPool pool'
 
 -- what an end is refused for: a page that isn't live, else a range that cuts a piece where there are more than 1,022,
 -- else more leaves to split than frames are free
-abbrev pub IsJudgedEnd : Stored → AddressSpace → ℕ → Range → Result (Unit {0}) Refusal → Type 0
+abbrev pub IsJudgedEnd : Pool → Space → ℕ → Range → Result (Unit {0}) Refusal → Type 0
 IsJudgedEnd pool space root range (Ok u) = MayRetire space.pieces range × (leaves_split pool root range ≤ length pool.free)
 IsJudgedEnd pool space root range (Err refusals.NotLive) = (p : ℕ) × IsWithin range p × (state_at space.pieces p ≢ Some Live)
 IsJudgedEnd pool space root range (Err refusals.TooManyPieces) = AllIn Live range space.pieces × IsTooMany space.pieces range
@@ -68,11 +68,11 @@ is_empty [] = true
 is_empty (f ∷ fs) = false
 
 -- the invalidation hint is set exactly where no table was cut and no leaf was split
-abbrev pub hint_of : Taken → Bool
+abbrev pub hint_of : Cut → Bool
 hint_of cut = is_empty cut.frames && not cut.split
 
 -- a page-selective descriptor of the block, or beyond 512 pages a domain-selective one
-abbrev pub IsSent : ℕ → Range → Taken → Descriptor → Type 0
+abbrev pub IsSent : ℕ → Range → Cut → Descriptor → Type 0
 IsSent domain range cut d =
     (b : Block) × IsBlockOf range cut.split b
     × (((b.order ≤ 9) × (d ≡ IotlbPages domain b (hint_of cut))) ⊎ ((9 < b.order) × (d ≡ IotlbDomain domain)))
@@ -90,9 +90,9 @@ taken_after ds taken = reverse ds ++ take (256 - length ds) taken
 
 -- what waited, then the descriptor, then a wait were taken, in this order, and nothing else was; the unit has done as many
 -- as were taken, each in a step of its own, with no other step, in at most 130
-pub record Invalidates (ring : Queue) (unit : UnitState) (sent : ℕ) (d : Descriptor) (ring' : Queue) (unit' : UnitState) (sent' : ℕ) : Type 0 where
+pub record Invalidates (ring : Ring) (unit : UnitState) (sent : ℕ) (d : Descriptor) (ring' : Ring) (unit' : UnitState) (sent' : ℕ) : Type 0 where
   pub number : sent' ≡ sent + 1
-  pub done : ring' ≡ queue [] sent' (taken_after (ring.waiting ++ d ∷ Wait sent' ∷ []) ring.taken)
+  pub done : ring' ≡ ring_of [] sent' (taken_after (ring.waiting ++ d ∷ Wait sent' ∷ []) ring.taken)
   pub caches : unit'.caches ≡ left_by_all (ring.waiting ++ d ∷ Wait sent' ∷ []) unit.caches
   pub steps : unit'.steps ≡ unit.steps + (length ring.waiting + 2)
   pub each : unit'.done ≡ unit.done + (length ring.waiting + 2)
@@ -101,7 +101,7 @@ pub record Invalidates (ring : Queue) (unit : UnitState) (sent : ℕ) (d : Descr
 -- ---- what comes free
 
 -- the pages of the range, and the table frames that were cut
-pub record Releases (pool : Stored) (space : AddressSpace) (range : Range) (cut : Taken) (pool' : Stored) (space' : AddressSpace) : Type 0 where
+pub record Releases (pool : Pool) (space : Space) (range : Range) (cut : Cut) (pool' : Pool) (space' : Space) : Type 0 where
   pub frees : Frees space space' range Retired
   pub is_space : IsSpace space'
   pub free : (f : ℕ) → occurs f pool'.free ≡ occurs f pool.free + occurs f cut.frames
@@ -110,7 +110,7 @@ pub record Releases (pool : Stored) (space : AddressSpace) (range : Range) (cut 
   pub is_pool : IsPool pool'
 
 -- the pages of all these records, and the table frames that were cut with them
-pub record ReleasesAll (pool : Stored) (space : AddressSpace) (records : List Record) (pool' : Stored) (space' : AddressSpace) : Type 0 where
+pub record ReleasesAll (pool : Pool) (space : Space) (records : List Record) (pool' : Pool) (space' : Space) : Type 0 where
   pub is_space : IsSpace space'
   pub last : space'.last ≡ space.last
   pub inside : (r : Record) → IsIn r records → AllIn Free r.range space'.pieces
@@ -128,24 +128,24 @@ pub record ReleasesAll (pool : Stored) (space : AddressSpace) (records : List Re
 -- ---- an unmap, whole
 
 -- strict: the range is cut, the descriptor for it is sent and done, and what was cut is released
-pub record UnmapsStrictly (pool : Stored) (h : Home) (x : Iommu) (domain : ℕ) (range : Range) (pool' : Stored) (space' : AddressSpace) (x' : Iommu) : Type 0 where
-  pub cut : Taken
+pub record UnmapsStrictly (pool : Pool) (h : Home) (x : Iommu) (domain : ℕ) (range : Range) (pool' : Pool) (space' : Space) (x' : Iommu) : Type 0 where
+  pub cut : Cut
   pub descriptor : Descriptor
-  pub pool_between : Stored
-  pub space_between : AddressSpace
-  pub cuts : Cuts pool h.space h.root range cut pool_between space_between
+  pub pool_between : Pool
+  pub space_between : Space
+  pub cuts : RetiresAndUnmaps pool h.space h.root range cut pool_between space_between
   pub sent : IsSent domain range cut descriptor
   pub invalidates : Invalidates x.ring x.unit x.sent descriptor x'.ring x'.unit x'.sent
   pub releases : Releases pool_between space_between range cut pool' space'
 
 -- all that is remembered of the domain is invalidated, all records are released, and none is left
-pub record Flushes (pool : Stored) (space : AddressSpace) (records : List Record) (x : Iommu) (domain : ℕ) (pool' : Stored) (space' : AddressSpace) (records' : List Record) (x' : Iommu) : Type 0 where
+pub record Flushes (pool : Pool) (space : Space) (records : List Record) (x : Iommu) (domain : ℕ) (pool' : Pool) (space' : Space) (records' : List Record) (x' : Iommu) : Type 0 where
   pub invalidates : Invalidates x.ring x.unit x.sent (IotlbDomain domain) x'.ring x'.unit x'.sent
   pub releases : ReleasesAll pool space records pool' space'
   pub none : records' ≡ []
 
 -- the tree of a root is gone: its frames are free and zeroed, and no other tree changed
-pub record Destroys (pool : Stored) (root : ℕ) (pool' : Stored) : Type 0 where
+pub record Destroys (pool : Pool) (root : ℕ) (pool' : Pool) : Type 0 where
   pub free : (f : ℕ) → occurs f pool'.free ≡ occurs f pool.free + uses (memory pool.words) 3 root f
   pub words : (f k : ℕ) → k < 512 → uses (memory pool.words) 3 root f ≡ 0 → word pool'.words f k ≡ word pool.words f k
   pub others : (level table : ℕ) → IsTree pool level table → IsApart pool 3 root level table → Stays pool pool' level table
@@ -153,13 +153,13 @@ pub record Destroys (pool : Stored) (root : ℕ) (pool' : Stored) : Type 0 where
   pub is_pool : IsPool pool'
 
 -- a domain ends: all records are flushed, and then its tree goes
-pub record Closes (pool : Stored) (h : Home) (x : Iommu) (domain : ℕ) (pool' : Stored) (space' : AddressSpace) (records' : List Record) (x' : Iommu) : Type 0 where
-  pub pool_between : Stored
+pub record Closes (pool : Pool) (h : Home) (x : Iommu) (domain : ℕ) (pool' : Pool) (space' : Space) (records' : List Record) (x' : Iommu) : Type 0 where
+  pub pool_between : Pool
   pub flushes : Flushes pool h.space h.records x domain pool_between space' records' x'
   pub destroys : Destroys pool_between h.root pool'
 
 -- there is room for one more record: with fewer than 256 nothing changes, else all are flushed
-pub record HasRoom (pool : Stored) (space : AddressSpace) (records : List Record) (x : Iommu) (released : ℕ) (pool' : Stored) (space' : AddressSpace) (records' : List Record) (x' : Iommu) : Type 0 where
+pub record HasRoom (pool : Pool) (space : Space) (records : List Record) (x : Iommu) (released : ℕ) (pool' : Pool) (space' : Space) (records' : List Record) (x' : Iommu) : Type 0 where
   pub some : length records ≢ 256
   pub none : released ≡ 0
   pub table_frames : pool' ≡ pool
@@ -167,39 +167,39 @@ pub record HasRoom (pool : Stored) (space : AddressSpace) (records : List Record
   pub same : records' ≡ records
   pub quiet : x' ≡ x
 
-pub record Empties (pool : Stored) (space : AddressSpace) (records : List Record) (x : Iommu) (domain released : ℕ) (pool' : Stored) (space' : AddressSpace) (records' : List Record) (x' : Iommu) : Type 0 where
+pub record Empties (pool : Pool) (space : Space) (records : List Record) (x : Iommu) (domain released : ℕ) (pool' : Pool) (space' : Space) (records' : List Record) (x' : Iommu) : Type 0 where
   pub full : length records ≡ 256
   pub all : released ≡ 256
   pub flushes : Flushes pool space records x domain pool' space' records' x'
 
-abbrev pub MakesRoom : Stored → AddressSpace → List Record → Iommu → ℕ → ℕ → Stored → AddressSpace → List Record → Iommu → Type 0
+abbrev pub MakesRoom : Pool → Space → List Record → Iommu → ℕ → ℕ → Pool → Space → List Record → Iommu → Type 0
 MakesRoom pool space records x domain released pool' space' records' x' =
     HasRoom pool space records x released pool' space' records' x' ⊎ Empties pool space records x domain released pool' space' records' x'
 
 -- lazy: where there is room for a record, the range is cut, and what was cut is the last record
-pub record PutsOff (pool : Stored) (h : Home) (x : Iommu) (domain : ℕ) (range : Range) (released : ℕ) (pool' : Stored) (space' : AddressSpace) (records' : List Record) (x' : Iommu) : Type 0 where
-  pub pool_between : Stored
-  pub space_between : AddressSpace
+pub record PutsOff (pool : Pool) (h : Home) (x : Iommu) (domain : ℕ) (range : Range) (released : ℕ) (pool' : Pool) (space' : Space) (records' : List Record) (x' : Iommu) : Type 0 where
+  pub pool_between : Pool
+  pub space_between : Space
   pub records_between : List Record
   pub room : MakesRoom pool h.space h.records x domain released pool_between space_between records_between x'
-  pub cut : Taken
-  pub cuts : Cuts pool_between space_between h.root range cut pool' space'
+  pub cut : Cut
+  pub cuts : RetiresAndUnmaps pool_between space_between h.root range cut pool' space'
   pub records : records' ≡ records_between ++ record_for range h.begun cut ∷ []
 
 -- by the mode of the domain
-abbrev pub EndsBy : Mode → Stored → Home → Iommu → ℕ → Range → ℕ → Stored → AddressSpace → List Record → Iommu → Type 0
+abbrev pub EndsBy : Mode → Pool → Home → Iommu → ℕ → Range → ℕ → Pool → Space → List Record → Iommu → Type 0
 EndsBy Strict pool h x domain range released pool' space' records' x' =
     (released ≡ 0) × (records' ≡ h.records) × UnmapsStrictly pool h x domain range pool' space' x'
 EndsBy Lazy pool h x domain range released pool' space' records' x' = PutsOff pool h x domain range released pool' space' records' x'
 
 -- what is answered, and what the table frames, the place of the domain and the unit are then
-abbrev pub IsUnmapped : Stored → Place → Home → Iommu → ℕ → Range → Result ℕ Refusal → Stored → Place → Iommu → Type 0
+abbrev pub IsUnmapped : Pool → Place → Home → Iommu → ℕ → Range → Result ℕ Refusal → Pool → Place → Iommu → Type 0
 IsUnmapped pool old h x domain range (Ok released) pool' new x' =
     (new.tenant ≡ old.tenant) × IsJudgedEnd pool h.space h.root range (Ok tt)
     × EndsBy h.mode pool h x domain range released pool' new.space new.records x'
 IsUnmapped pool old h x domain range (Err refusal) pool' new x' =
     (pool' ≡ pool) × (new ≡ old) × (x' ≡ x) × IsJudgedEnd pool h.space h.root range (Err refusal)
 
-abbrev pub IsUnmappedIn : Stored → Place → Option Home → Iommu → ℕ → Range → Result ℕ Refusal → Stored → Place → Iommu → Type 0
+abbrev pub IsUnmappedIn : Pool → Place → Option Home → Iommu → ℕ → Range → Result ℕ Refusal → Pool → Place → Iommu → Type 0
 IsUnmappedIn pool old None x domain range answer pool' new x' = ⊥
 IsUnmappedIn pool old (Some h) x domain range answer pool' new x' = IsUnmapped pool old h x domain range answer pool' new x'

@@ -3,7 +3,7 @@ pub mod Judged
 pub mod Placing
 pub mod Ending
 pub mod Ready
-pub mod Machine
+pub mod State
 pub mod Quarantine
 pub mod Whole
 pub mod Steps

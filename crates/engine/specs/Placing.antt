@@ -9,10 +9,10 @@ use Rattle.iova.specs.Changes.{Takes}
 use Rattle.iova.specs.declared.piece.PageState.TheVariants.{Free}
 use Rattle.iova.specs.declared.piece.Piece.{Piece}
 use Rattle.iova.specs.Pieces.{state_at}
-use Rattle.iova.specs.Space.{AddressSpace, IsFit, IsLowestFit, IsSpace, IsTooMany}
-use Rattle.tables.specs.Changes.{Makes, Maps, Moves}
+use Rattle.iova.specs.Space.{Space, IsFit, IsLowestFit, IsSpace, IsTooMany}
+use Rattle.tables.specs.Changes.{MakesTables, Maps, TakesAndGivesFrames}
 use Rattle.tables.specs.Lacks.{map_lacks}
-use Rattle.tables.specs.Pool.{Stored, memory, IsPool, IsTree}
+use Rattle.tables.specs.Pool.{Pool, memory, IsPool, IsTree}
 use Rattle.tables.specs.Segments.{is_large_at}
 use Rattle.tables.specs.Tree.{states}
 use Rattle.engine.specs.Homes.{Home, Place}
@@ -32,35 +32,35 @@ IsCrowded pieces pages order =
 -- ---- the table frames
 
 -- how many a map of the segments at a start takes
-abbrev pub frames_taken : Stored → ℕ → List Segment → ℕ → ℕ
+abbrev pub frames_taken : Pool → ℕ → List Segment → ℕ → ℕ
 frames_taken pool root segments start = map_lacks pool 3 root segments start
 
 -- at the start of the space the tables that are lacking are more than the free frames
-abbrev pub IsShort : Stored → AddressSpace → ℕ → List Segment → ℕ → Type 0
+abbrev pub IsShort : Pool → Space → ℕ → List Segment → ℕ → Type 0
 IsShort pool space root segments order =
     (start : ℕ) × IsTaken space.pieces (total_pages segments) order start × (length pool.free < frames_taken pool root segments start)
 
 -- ---- the domain
 
 -- its tree is one of the pool, and maps no page that is free
-pub record CanPlace (pool : Stored) (space : AddressSpace) (root : ℕ) : Type 0 where
+pub record CanPlace (pool : Pool) (space : Space) (root : ℕ) : Type 0 where
   pub tree : IsTree pool 3 root
   pub absent : (p : ℕ) → state_at space.pieces p ≡ Some Free → states (memory pool.words) 3 root p ≡ None
 
 -- the pages of the segments are live at the lowest aligned start where they were free, and the tree of the root maps
 -- them, one segment after the other; the table frames that it took were free
-pub record Places (pool : Stored) (space : AddressSpace) (root : ℕ) (segments : List Segment) (order rights first : ℕ) (pool' : Stored) (space' : AddressSpace) : Type 0 where
+pub record Places (pool : Pool) (space : Space) (root : ℕ) (segments : List Segment) (order rights first : ℕ) (pool' : Pool) (space' : Space) : Type 0 where
   pub taken : IsTaken space.pieces (total_pages segments) order first
   pub takes : Takes space space' (record { first = first; pages = total_pages segments })
   pub is_space : IsSpace space'
   pub count : length pool'.free + frames_taken pool root segments first ≡ length pool.free
-  pub moves : Moves pool pool' 3 root []
+  pub moves : TakesAndGivesFrames pool pool' 3 root []
   pub maps : Maps pool pool' 3 root first (first + total_pages segments) (placed segments first rights)
-  pub makes : Makes pool pool' 3 root first (first + total_pages segments) (is_large_at segments first)
+  pub makes : MakesTables pool pool' 3 root first (first + total_pages segments) (is_large_at segments first)
   pub is_pool : IsPool pool'
 
 -- what is answered, and what the table frames and the space are then
-abbrev pub IsPlaced : Stored → AddressSpace → ℕ → List Segment → ℕ → ℕ → Result ℕ Refusal → Stored → AddressSpace → Type 0
+abbrev pub IsPlaced : Pool → Space → ℕ → List Segment → ℕ → ℕ → Result ℕ Refusal → Pool → Space → Type 0
 IsPlaced pool space root segments order rights (Ok first) pool' space' = Places pool space root segments order rights first pool' space'
 IsPlaced pool space root segments order rights (Err refusals.NoRange) pool' space' =
     (pool' ≡ pool) × (space' ≡ space) × ((start : ℕ) → IsFit space.pieces (total_pages segments) (2 ^ order) start → ⊥)
@@ -69,7 +69,7 @@ IsPlaced pool space root segments order rights (Err refusals.NoFrames) pool' spa
 IsPlaced pool space root segments order rights (Err _) pool' space' = ⊥
 
 -- the same of the place of a domain
-abbrev pub IsPlacedIn : Stored → Place → Option Home → List Segment → ℕ → ℕ → Result ℕ Refusal → Stored → Place → Type 0
+abbrev pub IsPlacedIn : Pool → Place → Option Home → List Segment → ℕ → ℕ → Result ℕ Refusal → Pool → Place → Type 0
 IsPlacedIn pool old None segments order rights answer pool' new = ⊥
 IsPlacedIn pool old (Some h) segments order rights answer pool' new =
     (new.tenant ≡ old.tenant) × (new.records ≡ old.records) × IsPlaced pool h.space h.root segments order rights answer pool' new.space

@@ -8,8 +8,8 @@ use Rattle.dmatypes.specs.World.{World, Domain, Retired, IsFree, IsIn, IsLive, I
 use Rattle.iova.specs.declared.piece.PageState.TheVariants.{Free, Live}
 use Rattle.iova.specs.declared.piece.PageState.TheVariants as pages
 use Rattle.iova.specs.Pieces.{piece_of, state_at}
-use Rattle.iova.specs.Space.{AddressSpace, IsSpace}
-use Rattle.tables.specs.Pool.{Stored, memory, occurs, IsZeroed}
+use Rattle.iova.specs.Space.{Space, IsSpace}
+use Rattle.tables.specs.Pool.{Pool, memory, occurs, IsZeroed}
 use Rattle.tables.specs.Tree.{IsLeafAt, IsTableAt, Memory, span, states, total, uses}
 use Rattle.vtdbits.specs.declared.context.ContextEntry.{ContextEntry}
 use Rattle.vtdbits.specs.declared.context.ContextEntry.TheVariants.{Absent, Present}
@@ -17,7 +17,7 @@ use Rattle.unit.specs.Caches.{Caches, Context, Leaf, NonLeaf}
 use Rattle.unit.specs.Walking.{stated_by}
 use Rattle.engine.specs.declared.record.Record.{Record}
 use Rattle.engine.specs.Homes.{Home, held_in, home_of}
-use Rattle.engine.specs.Machine.{Machine}
+use Rattle.engine.specs.State.{State}
 
 -- ---- ids
 
@@ -62,7 +62,7 @@ AllApart (r ∷ rs) = ((q : Retired) → IsIn q rs → AreApart r.range q.range)
 -- a page of the whole space lies in a free, live or retired piece exactly where it is free, live or in a record;
 -- the retired pieces are the records' ranges, no two of which have a page in common, and each record says what
 -- was mapped at its pages
-pub record PartsPages (space : AddressSpace) (v : Domain) : Type 0 where
+pub record PartsPages (space : Space) (v : Domain) : Type 0 where
   pub is_space : IsSpace space
   pub whole : space.last ≡ 2 ^ 27 - 1
   pub free : (p : ℕ) → (state_at space.pieces p ≡ Some Free) ↔ (IsPage p × IsFree v p)
@@ -79,16 +79,16 @@ pub record Mirrors (words : List ℕ) (h : Home) (v : Domain) : Type 0 where
   pub pieces : PartsPages h.space v
 
 -- a domain is there exactly where the world has one of this id
-abbrev pub Both : List ℕ → Option Home → Option Domain → Type 0
-Both words None None = Unit {0}
-Both words None (Some v) = ⊥
-Both words (Some h) None = ⊥
-Both words (Some h) (Some v) = Mirrors words h v
+abbrev pub MirrorsIfAny : List ℕ → Option Home → Option Domain → Type 0
+MirrorsIfAny words None None = Unit {0}
+MirrorsIfAny words None (Some v) = ⊥
+MirrorsIfAny words (Some h) None = ⊥
+MirrorsIfAny words (Some h) (Some v) = Mirrors words h v
 
 -- ---- caches
 
 -- a domain of the state and of the world has the property
-abbrev pub InDomain : Machine → World → ℕ → (Home → Domain → Type 0) → Type 0
+abbrev pub InDomain : State → World → ℕ → (Home → Domain → Type 0) → Type 0
 InDomain m w d P = (h : Home) × (v : Domain) × (home_of m.homes d ≡ Some h) × (w.domains d ≡ Some v) × P h v
 
 -- leaf: every page of a cached leaf is live or retired in its domain, with the frame and the rights that the leaf
@@ -109,7 +109,7 @@ pub record IsLawfulTable (words : List ℕ) (i : NonLeaf) (h : Home) (v : Domain
   pub span : i.pages ≡ span i.level
   pub named : IsTableAt (memory words) 3 h.root i.first i.level i.frame ⊎ IsHeld words h.records i.first i.pages i.frame
 
-pub record AreLawful (m : Machine) (w : World) (c : Caches) : Type 0 where
+pub record AreLawful (m : State) (w : World) (c : Caches) : Type 0 where
   pub leaves : (l : Leaf) → IsIn l c.leaves → InDomain m w l.domain (IsLawfulLeaf m.pool.words l)
   pub tables : (i : NonLeaf) → IsIn i c.non_leaves → InDomain m w i.domain (IsLawfulTable m.pool.words i)
 
@@ -122,7 +122,7 @@ attached (Some Absent) = None
 attached (Some (Present root width domain)) = Some domain
 
 -- context: the row is the devices' attachments with their domains' roots, and each cached context is one of these
-pub record Attaches (m : Machine) (w : World) : Type 0 where
+pub record Attaches (m : State) (w : World) : Type 0 where
   pub devices : (v : ℕ) → w.devices v ≡ attached (slice_get m.row v)
   pub roots : (v root domain : ℕ) → slice_get m.row v ≡ Some (Present root W39 domain) → (h : Home) × (home_of m.homes domain ≡ Some h) × (h.root ≡ root)
   pub cached : (x : Context) → IsIn x m.unit.caches.contexts → slice_get m.row x.device ≡ Some (Present x.root W39 x.domain)
@@ -136,7 +136,7 @@ owned m (Some h) f = uses m 3 h.root f + held_in h.records f
 
 -- frames: each is free, used by one tree in one place, or held by one record; they are those below the number of
 -- table frames, and the free and the held ones are zeroed
-pub record PartsFrames (pool : Stored) (homes : ℕ → Option Home) : Type 0 where
+pub record PartsFrames (pool : Pool) (homes : ℕ → Option Home) : Type 0 where
   pub once : (f : ℕ) → f < pool.frames → total (λ d. owned (memory pool.words) (homes d) f) 16 + occurs f pool.free ≡ 1
   pub past : (f : ℕ) → pool.frames ≤ f → total (λ d. owned (memory pool.words) (homes d) f) 16 + occurs f pool.free ≡ 0
   pub zeroed : (f : ℕ) → 0 < occurs f pool.free → IsZeroed pool.words f
@@ -144,14 +144,14 @@ pub record PartsFrames (pool : Stored) (homes : ℕ → Option Home) : Type 0 wh
 
 -- ---- all parts
 
-pub record Quarantine (m : Machine) (w : World) : Type 0 where
+pub record Quarantine (m : State) (w : World) : Type 0 where
   pub table_frames : w.table_frames ≡ m.pool.frames
-  pub domains : (d : ℕ) → Both m.pool.words (home_of m.homes d) (w.domains d)
+  pub domains : (d : ℕ) → MirrorsIfAny m.pool.words (home_of m.homes d) (w.domains d)
   pub caches : AreLawful m w m.unit.caches
   pub contexts : Attaches m w
   pub frames : PartsFrames m.pool (home_of m.homes)
   pub tickets : w.tickets ≡ []
 
 -- it is the state of some world
-abbrev pub IsOfSomeWorld : Machine → Type 0
+abbrev pub IsOfSomeWorld : State → Type 0
 IsOfSomeWorld m = (w : World) × Quarantine m w

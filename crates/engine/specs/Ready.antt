@@ -6,11 +6,11 @@ use Rattle.dmatypes.specs.Page.{Range}
 use Rattle.dmatypes.specs.World.{IsIn}
 use Rattle.iova.specs.declared.piece.PageState.TheVariants.{Live, Retired}
 use Rattle.iova.specs.Pieces.{piece_of, state_at}
-use Rattle.iova.specs.Space.{AddressSpace, IsSpace}
-use Rattle.tables.specs.Pool.{Stored, memory, occurs, IsTree, IsZeroed}
+use Rattle.iova.specs.Space.{Space, IsSpace}
+use Rattle.tables.specs.Pool.{Pool, memory, occurs, IsTree, IsZeroed}
 use Rattle.tables.specs.Tree.{states}
-use Rattle.tables.specs.Taken.{Taken}
-use Rattle.queue.specs.Queue.{Queue}
+use Rattle.tables.specs.Cut.{Cut}
+use Rattle.queue.specs.Ring.{Ring}
 use Rattle.vtdbits.specs.declared.descriptor.Descriptor.{Descriptor}
 use Rattle.vtdbits.specs.declared.descriptor.Descriptor.TheVariants.{ContextDevice, ContextDomain, ContextGlobal, IotlbDomain, IotlbGlobal, IotlbPages, Wait}
 use Rattle.engine.specs.declared.iommu.Iommu.{Iommu}
@@ -19,12 +19,12 @@ use Rattle.engine.specs.Ending.{ReleasesAll, hint_of}
 use Rattle.engine.specs.Homes.{Home, held_in}
 
 -- its tree is one of the pool, and maps each live page
-pub record CanCut (pool : Stored) (space : AddressSpace) (root : ℕ) : Type 0 where
+pub record CanCut (pool : Pool) (space : Space) (root : ℕ) : Type 0 where
   pub tree : IsTree pool 3 root
   pub there : (p : ℕ) → state_at space.pieces p ≡ Some Live → IsSome (states (memory pool.words) 3 root p)
 
 -- the range is one retired piece, and what was cut are different zeroed frames of the pool that are not free
-pub record IsReleasable (pool : Stored) (space : AddressSpace) (range : Range) (cut : Taken) : Type 0 where
+pub record IsReleasable (pool : Pool) (space : Space) (range : Range) (cut : Cut) : Type 0 where
   pub piece : IsIn (piece_of range Retired) space.pieces
   pub once : (f : ℕ) → occurs f pool.free + occurs f cut.frames ≤ 1
   pub within : (f : ℕ) → 0 < occurs f cut.frames → f < pool.frames
@@ -36,7 +36,7 @@ AllDiffer [] = Unit {0}
 AllDiffer (r ∷ rs) = ((q : Record) → IsIn q rs → piece_of r.range Retired ≢ piece_of q.range Retired) × AllDiffer rs
 
 -- each of the records can be released, whichever went before it
-pub record AreReleasable (pool : Stored) (space : AddressSpace) (records : List Record) : Type 0 where
+pub record AreReleasable (pool : Pool) (space : Space) (records : List Record) : Type 0 where
   pub is_space : IsSpace space
   pub pieces : (r : Record) → IsIn r records → IsIn (piece_of r.range Retired) space.pieces
   pub differ : AllDiffer records
@@ -55,7 +55,7 @@ IsOfIotlb (ContextDevice domain device) = ⊥
 IsOfIotlb (Wait number) = ⊥
 
 -- the descriptor and right behind it the wait of this number were taken, and the wait is done
-pub record IsDone (ring : Queue) (d : Descriptor) (number : ℕ) : Type 0 where
+pub record IsDone (ring : Ring) (d : Descriptor) (number : ℕ) : Type 0 where
   pub later : List Descriptor
   pub earlier : List Descriptor
   pub taken : ring.taken ≡ later ++ Wait number ∷ d ∷ earlier
@@ -64,7 +64,7 @@ pub record IsDone (ring : Queue) (d : Descriptor) (number : ℕ) : Type 0 where
 -- once it is done, the unit can translate no page of the range for the domain any more, nor walk a table that was cut
 -- with it: it names all of the domain, or an aligned block that holds the range, of at least 512 pages where a leaf of
 -- 2 MiB was split, and with the invalidation hint only where no table was cut and no leaf was split
-abbrev pub Covers : ℕ → Range → Taken → Descriptor → Type 0
+abbrev pub Covers : ℕ → Range → Cut → Descriptor → Type 0
 Covers domain range cut IotlbGlobal = Unit {0}
 Covers domain range cut (IotlbDomain named) = named ≡ domain
 Covers domain range cut (IotlbPages named block hint) =
@@ -75,7 +75,7 @@ Covers domain range cut (ContextDevice named device) = ⊥
 Covers domain range cut (Wait number) = ⊥
 
 -- the last wait that was sent is done, and the descriptor before it covers the range and what was cut with it
-pub record IsInvalidated (x : Iommu) (domain : ℕ) (range : Range) (cut : Taken) : Type 0 where
+pub record IsInvalidated (x : Iommu) (domain : ℕ) (range : Range) (cut : Cut) : Type 0 where
   pub descriptor : Descriptor
   pub covers : Covers domain range cut descriptor
   pub done : IsDone x.ring descriptor x.sent
@@ -88,7 +88,7 @@ pub record IsReady (x : Iommu) : Type 0 where
   pub steps : x.unit.steps + 2 ≤ 2 ^ 63
 
 -- its live pages can be cut from its tree, its records released, and then too its live pages be cut
-pub record CanUnmap (pool : Stored) (h : Home) : Type 0 where
+pub record CanUnmap (pool : Pool) (h : Home) : Type 0 where
   pub cut : CanCut pool h.space h.root
   pub releasable : AreReleasable pool h.space h.records
-  pub emptied : (pool' : Stored) (space' : AddressSpace) → ReleasesAll pool h.space h.records pool' space' → CanCut pool' space' h.root
+  pub emptied : (pool' : Pool) (space' : Space) → ReleasesAll pool h.space h.records pool' space' → CanCut pool' space' h.root

@@ -7,7 +7,7 @@ use Rattle.engine.specs.declared.record.Record.{Record}
 use Rattle.engine.specs.declared.state.totals.DomainTotals.{DomainTotals}
 use Rattle.engine.specs.declared.state.totals.Totals.{Totals}
 use Rattle.engine.specs.Homes.{Home, Place}
-use Rattle.engine.specs.Machine.{Machine}
+use Rattle.engine.specs.State.{State}
 
 -- so many pages, where they are live
 abbrev pub live_as : PageState → ℕ → ℕ
@@ -31,7 +31,7 @@ abbrev pub held_by_all : List Place → ℕ
 held_by_all homes = sum_by (λ (p : Place). held_by p.records) homes
 
 -- the table frames that are free, and that records hold; the others are used. No call opens a ticket yet
-abbrev pub totals_of : Machine → Totals
+abbrev pub totals_of : State → Totals
 totals_of m = record {
   free = length m.pool.free;
   used = m.pool.frames - length m.pool.free - held_by_all m.homes;

@@ -10,7 +10,7 @@ ghost use Rattle.iova.specs.declared.piece.PageState.TheVariants.{Retired};
 ghost use Rattle.iova.specs.Pieces.{piece_of};
 ghost use Rattle.iova.specs.Space.{AllFree, IsSpace, MayRetire, new_space};
 ghost use Rattle.tables.specs.Pool.{IsTree};
-ghost use Rattle.engine.specs.Ending.{Closes, Cuts, Destroys, Flushes, IsJudgedEnd, IsUnmappedIn, MakesRoom, PutsOff, Releases, ReleasesAll, UnmapsStrictly};
+ghost use Rattle.engine.specs.Ending.{Closes, RetiresAndUnmaps, Destroys, Flushes, IsJudgedEnd, IsUnmappedIn, MakesRoom, PutsOff, Releases, ReleasesAll, UnmapsStrictly};
 ghost use Rattle.engine.specs.Ready.{AreReleasable, CanCut, CanUnmap, IsDone, IsInvalidated, IsReady, IsReleasable};
 ghost use Rattle.vtdbits.specs.declared.descriptor.Descriptor.TheVariants.{IotlbDomain};
 ghost use Rattle.engine.specs.Homes.{home_with, record_for, vacant};
@@ -259,7 +259,7 @@ impl Home {
     #[inline(always)]
     fn end(&mut self, pool: &mut Pool, range: PageRange) -> Cut
         requires { IsSomeAnd (home_with self.old.space self.old.records self.old.tenant) (λ h. CanCut pool.old h.space h.root × IsJudgedEnd pool.old h.space h.root range (Ok tt)) }
-        ensures cuts { IsSomeAnd (home_with self.old.space self.old.records self.old.tenant) (λ h. Cuts pool.old h.space h.root range result pool.new self.new.space) }
+        ensures cuts { IsSomeAnd (home_with self.old.space self.old.records self.old.tenant) (λ h. RetiresAndUnmaps pool.old h.space h.root range result pool.new self.new.space) }
         ensures tenant { self.new.tenant ≡ self.old.tenant }
         ensures records { self.new.records ≡ self.old.records }
     {
@@ -334,7 +334,7 @@ fn place(
 fn end(space: &mut Space, tree: &mut Tree, pool: &mut Pool, range: PageRange) -> Cut
     requires can { CanCut pool.old space.old tree.old.root }
     requires may { IsJudgedEnd pool.old space.old tree.old.root range (Ok tt) }
-    ensures cuts { Cuts pool.old space.old tree.old.root range result pool.new space.new }
+    ensures cuts { RetiresAndUnmaps pool.old space.old tree.old.root range result pool.new space.new }
     ensures tree { tree.new ≡ tree.old }
     ensures last { space.new.last ≡ space.old.last }
 {

@@ -3,7 +3,7 @@
 ghost use Rattle.std.specs.Prelude.{◌≡◌, ℕ, ◌+◌, ◌<◌, ◌≤◌, ◌^◌, ◌∷◌, [], Some, slice_get, take};
 ghost use Rattle.engine.specs.Ending.{Invalidates, left_by_all};
 ghost use Rattle.engine.specs.Ready.{IsOfIotlb, IsReady};
-ghost use Rattle.queue.specs.Queue.{queue};
+ghost use Rattle.queue.specs.Ring.{ring_of};
 ghost use Rattle.unit.specs.Caches.{nothing, unit_state};
 ghost use Rattle.unit.specs.Filters.{status_after};
 ghost use Rattle.vtdbits.specs.declared.descriptor.Descriptor.TheVariants.{ContextDevice, Wait};
@@ -23,7 +23,7 @@ pub(crate) struct Iommu {
 impl Iommu {
     /// Nothing waits, and the unit remembers nothing.
     pub(crate) fn new() -> Iommu
-        ensures { result ≡ record { ring = queue [] 0 []; unit = unit_state nothing 0 0; sent = 0 } }
+        ensures { result ≡ record { ring = ring_of [] 0 []; unit = unit_state nothing 0 0; sent = 0 } }
     {
         Iommu {
             ring: Ring::new(),
@@ -75,7 +75,7 @@ fn work_off(ring: &mut Ring, unit: &mut Unit, number: u32, descriptor: Descripto
     requires later { ring.old.status < number }
     requires no_wait { (status : ℕ) → status_after descriptor status ≡ status }
     requires steps { unit.old.steps + 2 ≤ 2 ^ 63 }
-    ensures ring { ring.new ≡ queue [] number (Wait number ∷ descriptor ∷ take 254 ring.old.taken) }
+    ensures ring { ring.new ≡ ring_of [] number (Wait number ∷ descriptor ∷ take 254 ring.old.taken) }
     ensures caches { unit.new.caches ≡ left_by_all (descriptor ∷ Wait number ∷ []) unit.old.caches }
     ensures steps { unit.new.steps ≡ unit.old.steps + 2 }
     ensures each { unit.new.done ≡ unit.old.done + 2 }

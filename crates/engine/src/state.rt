@@ -7,7 +7,7 @@ ghost use Rattle.dmatypes.specs.World.{empty};
 ghost use Rattle.dmatypes.specs.declared.call.Call.TheVariants as calls;
 ghost use Rattle.dmatypes.specs.declared.reply.Reply.TheVariants.{Done};
 ghost use Rattle.engine.specs.Homes.{home_of, home_in, vacant};
-ghost use Rattle.engine.specs.Machine.{IsNew, done_reply, flushed_reply, host_in, unmapped_reply, made_reply, mapped_reply, request_reply};
+ghost use Rattle.engine.specs.State.{IsNew, done_reply, flushed_reply, host_in, unmapped_reply, made_reply, mapped_reply, request_reply};
 ghost use Rattle.engine.specs.Quarantine.{Quarantine, attached};
 ghost use Rattle.engine.specs.Steps.{Does};
 ghost use Rattle.engine.specs.Whole.{IsWhole};
@@ -40,10 +40,10 @@ pub struct State {
 }
 
 impl Model for State {
-    ghost use Rattle.engine.specs.Machine.{Machine};
+    ghost use Rattle.engine.specs.State.{State};
     ghost use Rattle.engine.specs.Whole.{IsWhole};
 
-    ghost Value = { Machine };
+    ghost Value = { State };
 
     ghost view = { λ s. record { pool = s.pool; homes = s.homes.items; row = s.contexts; ring = s.iommu.ring; unit = s.iommu.unit; sent = s.iommu.sent; calls = s.calls } };
 

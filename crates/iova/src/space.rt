@@ -48,9 +48,9 @@ pub struct Space {
 impl Model for Space {
     ghost use Rattle.std.specs.Prelude.{◌≤◌};
     ghost use Rattle.std.specs.Vec.{vec_capacity};
-    ghost use Rattle.iova.specs.Space.{AddressSpace, IsSpace};
+    ghost use Rattle.iova.specs.Space.{Space, IsSpace};
 
-    ghost Value = { AddressSpace };
+    ghost Value = { Space };
 
     ghost view = { λ a. record { last = a.last; pieces = a.pieces.items } };
 
@@ -61,7 +61,7 @@ impl Space {
     ghost use Rattle.dmatypes.specs.Page.{IsPageRange, IsWithin, Range};
     ghost use Rattle.dmatypes.specs.World.{IsIn};
     ghost use Rattle.iova.specs.Pieces.{AllIn, piece_of, state_at};
-    ghost use Rattle.iova.specs.Space.{AddressSpace, AllFree, IsFit, IsLowestFit, IsSpace, IsTooMany, MayRetire, new_space};
+    ghost use Rattle.iova.specs.Space.{Space, AllFree, IsFit, IsLowestFit, IsSpace, IsTooMany, MayRetire, new_space};
     ghost use Rattle.iova.specs.Changes.{Frees, Retires, Takes};
 
     /// A space of the pages up to a last one, all free. It takes the memory for all its pieces; no other call
@@ -190,7 +190,7 @@ impl Space {
     pub fn undo_take(&mut self, taken: PageRange)
         requires { IsIn (piece_of taken PageState.Live) self.old.pieces }
         ensures freed { Frees self.old self.new taken PageState.Live }
-        ensures undone { (before : AddressSpace) → IsSpace before → Takes before self.old taken → self.new ≡ before }
+        ensures undone { (before : Space) → IsSpace before → Takes before self.old taken → self.new ≡ before }
         ensures space { IsSpace self.old × IsSpace self.new }
     {
         self.free(taken);

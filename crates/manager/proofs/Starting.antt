@@ -1,11 +1,11 @@
 -- A book begins.
 use Rattle.std.proofs.Common.{ℕ, [], refl, arith}
-use Rattle.engine.specs.Machine.{IsNew, Machine}
+use Rattle.engine.specs.State.{IsNew, State}
 use Rattle.engine.proofs.Beginning.{of_empty_world, whole_new}
 use Rattle.manager.specs.Kept.{IsKept}
 
 -- a book of a new state keeps what books keep
-pub kept_new : (frames room : ℕ) (m : Machine) → IsNew frames m → IsKept frames room (record { history = []; state = m })
+pub kept_new : (frames room : ℕ) (m : State) → IsNew frames m → IsKept frames room (record { history = []; state = m })
 kept_new frames room m new = record {
   legal = tt;
   quarantine = of_empty_world m frames new;

@@ -4,27 +4,27 @@ use Rattle.dmatypes.specs.declared.call.Call.{Call}
 use Rattle.dmatypes.specs.declared.reply.Event.{Event}
 use Rattle.dmatypes.specs.declared.reply.Reply.{Reply}
 use Rattle.dmatypes.specs.History.{after, event, IsLegal}
-use Rattle.engine.specs.Machine.{Machine}
+use Rattle.engine.specs.State.{State}
 use Rattle.engine.specs.Quarantine.{Quarantine}
 use Rattle.engine.specs.Steps.{GoesTo}
 use Rattle.engine.specs.Whole.{IsWhole}
 
 -- what contracts see of a book: its history, and its state
-pub record Account : Type 0 where
+pub record Book : Type 0 where
   pub history : List Event
-  pub state : Machine
+  pub state : State
 
 -- what contracts see of a share: how many calls it counted
-pub record Hand : Type 0 where
+pub record Share : Type 0 where
   pub calls : ℕ
 
 -- what a configuration says
-pub record Limits : Type 0 where
+pub record Config : Type 0 where
   pub frames : ℕ
   pub calls : ℕ
   pub shares : ℕ
 
-pub record IsWithinLimits (c : Limits) : Type 0 where
+pub record IsWithinLimits (c : Config) : Type 0 where
   pub least_frames : 16 ≤ c.frames
   pub most_frames : c.frames ≤ 4096
   pub least_calls : 1 ≤ c.calls
@@ -33,7 +33,7 @@ pub record IsWithinLimits (c : Limits) : Type 0 where
   pub most_shares : c.shares ≤ 64
 
 -- one manager's numbers, and the name of its ledger
-pub record Names : Type 0 where
+pub record Seed : Type 0 where
   pub name : ℕ
   pub shares : ℕ
   pub room : ℕ
@@ -42,7 +42,7 @@ pub record Names : Type 0 where
 -- the history is legal, the state is one of the world after it, with 15 places for domains, 16 for devices and nothing
 -- that waits in the ring, the history goes along states from a new one to this one, it is no longer than the room, and
 -- the state has counted its calls
-pub record IsKept (frames room : ℕ) (a : Account) : Type 0 where
+pub record IsKept (frames room : ℕ) (a : Book) : Type 0 where
   pub legal : IsLegal frames a.history
   pub quarantine : Quarantine a.state (after frames a.history)
   pub whole : IsWhole frames a.state
@@ -52,7 +52,7 @@ pub record IsKept (frames room : ℕ) (a : Account) : Type 0 where
 
 -- a book of these numbers keeps all that a book keeps, and its history has no room left
 pub record IsFull (frames room : ℕ) : Type 0 where
-  pub account : Account
+  pub account : Book
   pub kept : IsKept frames room account
   pub full : length account.history ≡ room
 

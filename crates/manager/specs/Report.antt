@@ -5,7 +5,7 @@ use Rattle.dmatypes.specs.declared.call.Mode.TheVariants.{Strict, Lazy}
 use Rattle.engine.specs.declared.state.totals.DomainTotals.{DomainTotals}
 use Rattle.engine.specs.declared.state.totals.Totals.{Totals}
 use Rattle.engine.specs.Homes.{home_of}
-use Rattle.engine.specs.Machine.{Machine}
+use Rattle.engine.specs.State.{State}
 use Rattle.engine.specs.Quarantine.{attached}
 use Rattle.engine.specs.Totals.{domain_totals_of, totals_of}
 
@@ -44,12 +44,12 @@ line_of_device device None = []
 line_of_device device (Some domain) = device_line device domain
 
 -- the lines of the domains of ids 1 to n
-unfoldable pub domain_lines : Machine → ℕ → List ℕ
+unfoldable pub domain_lines : State → ℕ → List ℕ
 domain_lines m zero = []
 domain_lines m (suc n) = domain_lines m n ++ line_of_domain (suc n) (domain_totals_of (home_of m.homes (suc n)))
 
 -- the lines of the first n devices
-unfoldable pub device_lines : Machine → ℕ → List ℕ
+unfoldable pub device_lines : State → ℕ → List ℕ
 device_lines m zero = []
 device_lines m (suc n) = device_lines m n ++ line_of_device n (attached (slice_get m.row n))
 
@@ -58,5 +58,5 @@ abbrev pub head_lines : ℕ → Totals → List ℕ
 head_lines events t = events_line events ++ frames_line t ++ tickets_line t.tickets ++ ring_line t.pending
 
 -- the report of a history of so many events and of the state after it
-unfoldable pub report_text : ℕ → Machine → List ℕ
+unfoldable pub report_text : ℕ → State → List ℕ
 report_text events m = head_lines events (totals_of m) ++ domain_lines m 15 ++ device_lines m 16

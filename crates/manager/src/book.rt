@@ -3,7 +3,7 @@
 ghost use Rattle.std.specs.Prelude.{◌≡◌, ◌+◌, ◌<◌, ◌≤◌, ◌↔◌, ◌++◌, ◌∷◌, [], length, IsErr, IfOk, OnOk, OnErr, All, sum_by, vec_len};
 ghost use Rattle.dmatypes.specs.History.{event};
 ghost use Rattle.engine.specs.Steps.{Does};
-ghost use Rattle.manager.specs.Kept.{Account, Hand, IsKept};
+ghost use Rattle.manager.specs.Kept.{Book, Share, IsKept};
 ghost use Rattle.manager.specs.Report.{report_text};
 
 use crate::config::Seed;
@@ -33,9 +33,9 @@ pub struct Book<B: Owner> {
 
 impl<B: Owner> Model for Book<B> {
     ghost use Rattle.std.specs.Prelude.{◌≡◌, ◌≤◌, vec_capacity, vec_len};
-    ghost use Rattle.manager.specs.Kept.{Account, IsKept};
+    ghost use Rattle.manager.specs.Kept.{Book, IsKept};
 
-    ghost Value = { Account };
+    ghost Value = { Book };
 
     ghost view = { λ b. record { history = b.history.items; state = b.state } };
 

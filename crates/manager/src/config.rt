@@ -1,7 +1,7 @@
 //! How large a manager is to be, and what it is made of.
 
 ghost use Rattle.std.specs.Prelude.{◌≡◌, ◌≤◌, ℕ, IsSome, IfSome, IfOk, ◌↔◌};
-ghost use Rattle.manager.specs.Kept.{Limits, IsWithinLimits, Names};
+ghost use Rattle.manager.specs.Kept.{Config, IsWithinLimits, Seed};
 
 use std::alloc::{AllocError, Global};
 use std::marker::Model;
@@ -16,9 +16,9 @@ pub struct Config {
 }
 
 impl Model for Config {
-    ghost use Rattle.manager.specs.Kept.{Limits, IsWithinLimits};
+    ghost use Rattle.manager.specs.Kept.{Config, IsWithinLimits};
 
-    ghost Value = { Limits };
+    ghost Value = { Config };
 
     ghost view = { λ c. record { frames = c.frames; calls = c.calls; shares = c.shares } };
 
@@ -81,9 +81,9 @@ pub struct Seed {
 
 impl Model for Seed {
     ghost use Rattle.std.specs.Prelude.{◌≡◌};
-    ghost use Rattle.manager.specs.Kept.{IsWithinLimits, Names};
+    ghost use Rattle.manager.specs.Kept.{IsWithinLimits, Seed};
 
-    ghost Value = { Names };
+    ghost Value = { Seed };
 
     ghost view = { λ s. record { name = s.blank.name; shares = s.config.shares; room = s.config.calls; frames = s.config.frames } };
 

@@ -2,7 +2,7 @@
 
 ghost use Rattle.std.specs.Prelude.{◌≡◌, ◌+◌, ◌<◌, ◌≤◌, ◌↔◌, length, IsErr, IfOk, IfErr, MatchResult, OnOk, OnErr, All, sum_by, vec_len};
 ghost use Rattle.std.specs.Sync.Mutex.{mutex_guard_value};
-ghost use Rattle.manager.specs.Kept.{Account, EndsLegally, Hand, IsFull, IsKept};
+ghost use Rattle.manager.specs.Kept.{Book, EndsLegally, Share, IsFull, IsKept};
 
 use crate::book::{Book, HistoryFull};
 use crate::config::Seed;
@@ -42,9 +42,9 @@ pub struct History<B: Owner> {
 }
 
 impl<B: Owner> Model for History<B> {
-    ghost use Rattle.manager.specs.Kept.{Account};
+    ghost use Rattle.manager.specs.Kept.{Book};
 
-    ghost Value = { Account };
+    ghost Value = { Book };
 
     ghost view = { λ h. h.book };
 }

@@ -2,7 +2,7 @@
 
 ghost use Rattle.std.specs.Prelude.{◌≡◌, ◌≤◌, ◌+◌, ◌++◌, [], length, IfOk};
 ghost use Rattle.arrayvec.specs.ArrayString.{array_string_len};
-ghost use Rattle.manager.specs.Kept.{Account, IsKept};
+ghost use Rattle.manager.specs.Kept.{Book, IsKept};
 ghost use Rattle.manager.specs.Report.{device_lines, domain_lines, head_lines, report_text};
 
 use crate::manager::Manager;
@@ -112,7 +112,7 @@ impl<B: Owner> Manager<B> {
     /// What the manager holds at one moment: the history has so many events, and the state is the one after it. The
     /// memory is taken before the lock.
     pub fn snapshot<R: Wait>(&self, rt: &R, alloc: Global) -> Result<Report, AllocError>
-        ensures { IfOk result (λ r. (account : Account) × IsKept B.frames B.room account × (r ≡ report_text (length account.history) account.state)) }
+        ensures { IfOk result (λ r. (account : Book) × IsKept B.frames B.room account × (r ≡ report_text (length account.history) account.state)) }
     {
         let mut report = Report::new(alloc)?;
         self.lock(rt).write_report(&mut report);

@@ -1,7 +1,7 @@
 //! The right to call a manager.
 
 ghost use Rattle.std.specs.Prelude.{◌≡◌, ◌+◌, ◌≤◌, ◌<◌, All, IfOk, sum_by, vec_len};
-ghost use Rattle.manager.specs.Kept.{Hand};
+ghost use Rattle.manager.specs.Kept.{Share};
 
 use crate::owner::Owner;
 use std::alloc::{AllocError, Global};
@@ -17,9 +17,9 @@ pub struct Share<B: Owner> {
 
 impl<B: Owner> Model for Share<B> {
     ghost use Rattle.std.specs.Prelude.{◌≡◌};
-    ghost use Rattle.manager.specs.Kept.{Hand};
+    ghost use Rattle.manager.specs.Kept.{Share};
 
-    ghost Value = { Hand };
+    ghost Value = { Share };
 
     ghost view = { λ s. record { calls = s.calls } };
 

@@ -1,7 +1,7 @@
 //! Managers that threads share.
 
 ghost use Rattle.std.specs.Prelude.{◌≡◌};
-ghost use Rattle.manager.specs.Kept.{Names};
+ghost use Rattle.manager.specs.Kept.{Seed};
 
 use super::*;
 use dmatypes::{Access, Call, Fault, Mode, Refusal, Reply, Whim};

@@ -6,58 +6,58 @@ use Rattle.ports.specs.declared.known.OwnStep.{OwnStep}
 use Rattle.ports.specs.declared.known.View.{View}
 
 -- which rows they are: their table, and how many table frames the world of their history has
-pub record RowsId : Type 0 where
+pub record Rows : Type 0 where
   pub table : TableId
   pub frames : ℕ
 
 -- a port: its rows, its device, the history that it has learnt of, and its own steps
-pub record PortKnows : Type 0 where
-  pub rows : RowsId
+pub record Port : Type 0 where
+  pub rows : Rows
   pub device : ℕ
   pub seen : List Event
   pub did : List OwnStep
 
 -- a pass: the same without a row, by a number of its own among the callers
-pub record PassKnows : Type 0 where
-  pub rows : RowsId
+pub record Pass : Type 0 where
+  pub rows : Rows
   pub caller : ℕ
   pub seen : List Event
 
 -- the desk: its rows, the whole history, and the word that it last stored at each place
-pub record DeskKnows : Type 0 where
-  pub rows : RowsId
+pub record Desk : Type 0 where
+  pub rows : Rows
   pub history : List Event
   pub last : List ℕ
 
 -- ---- what seats know, as that
 
-abbrev pub rows_of : TableId → ℕ → RowsId
+abbrev pub rows_of : TableId → ℕ → Rows
 rows_of table frames = record { table = table; frames = frames }
 
-abbrev pub port_knows : TableId → View → ℕ → PortKnows
+abbrev pub port_knows : TableId → View → ℕ → Port
 port_knows table v device = record { rows = rows_of table v.frames; device = device; seen = v.mine.seen; did = v.mine.did }
 
-abbrev pub pass_knows : TableId → View → ℕ → PassKnows
+abbrev pub pass_knows : TableId → View → ℕ → Pass
 pass_knows table v caller = record { rows = rows_of table v.frames; caller = caller; seen = v.mine.seen }
 
-abbrev pub desk_knows : TableId → View → DeskKnows
+abbrev pub desk_knows : TableId → View → Desk
 desk_knows table v = record { rows = rows_of table v.frames; history = v.mine.seen; last = v.last }
 
 -- ---- what is made with new rows
 
-abbrev pub new_port : RowsId → ℕ → PortKnows
+abbrev pub new_port : Rows → ℕ → Port
 new_port rows device = record { rows = rows; device = device; seen = []; did = [] }
 
-abbrev pub new_pass : RowsId → ℕ → PassKnows
+abbrev pub new_pass : Rows → ℕ → Pass
 new_pass rows caller = record { rows = rows; caller = caller; seen = [] }
 
-abbrev pub new_desk : RowsId → DeskKnows
+abbrev pub new_desk : Rows → Desk
 new_desk rows = record { rows = rows; history = []; last = replicate 256 0 }
 
 -- the first so many are the ports of devices 0, 1 and so on
-abbrev pub ArePorts : RowsId → List PortKnows → ℕ → Type 0
+abbrev pub ArePorts : Rows → List Port → ℕ → Type 0
 ArePorts rows ports count = (k : ℕ) → k < count → slice_get ports k ≡ Some (new_port rows k)
 
 -- the first so many are the passes from the caller 16 on
-abbrev pub ArePasses : RowsId → List PassKnows → ℕ → Type 0
+abbrev pub ArePasses : Rows → List Pass → ℕ → Type 0
 ArePasses rows passes count = (k : ℕ) → k < count → slice_get passes k ≡ Some (new_pass rows (16 + k))

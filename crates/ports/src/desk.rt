@@ -24,9 +24,9 @@ pub struct Desk {
 
 impl Model for Desk {
     ghost use Rattle.std.specs.Prelude.{◌≡◌, true, length};
-    ghost use Rattle.ports.specs.Seen.{DeskKnows, desk_knows};
+    ghost use Rattle.ports.specs.Seen.{Desk, desk_knows};
 
-    ghost Value = { DeskKnows };
+    ghost Value = { Desk };
 
     ghost view = { λ d. desk_knows d.seat.table_id d.seat.me.0 };
 

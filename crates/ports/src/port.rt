@@ -10,7 +10,7 @@ ghost use Rattle.dmatypes.specs.Page.{page_of};
 ghost use Rattle.vtdbits.specs.Port.{States};
 ghost use Rattle.ports.specs.Lawful.{IsLawfulAfter};
 ghost use Rattle.ports.specs.Steps.{IsSeenInRun, counter, place_of, slot_of};
-ghost use Rattle.ports.specs.declared.known.OwnStep.TheVariants.{Loaded, Stored};
+ghost use Rattle.ports.specs.declared.known.OwnStep.TheVariants.{Loaded, Pool};
 
 use crate::rows::Rows;
 use crate::rule::{COUNTER, Counts, Empties, Looks, Place, SLOTS};
@@ -27,9 +27,9 @@ pub struct Port {
 
 impl Model for Port {
     ghost use Rattle.std.specs.Prelude.{◌≡◌, ◌<◌, suc};
-    ghost use Rattle.ports.specs.Seen.{PortKnows, port_knows};
+    ghost use Rattle.ports.specs.Seen.{Port, port_knows};
 
-    ghost Value = { PortKnows };
+    ghost Value = { Port };
 
     ghost view = { λ p. port_knows p.seat.table_id p.seat.me.0 p.device };
 
@@ -45,9 +45,9 @@ pub struct Pass {
 
 impl Model for Pass {
     ghost use Rattle.std.specs.Prelude.{◌≡◌, suc};
-    ghost use Rattle.ports.specs.Seen.{PassKnows, pass_knows};
+    ghost use Rattle.ports.specs.Seen.{Pass, pass_knows};
 
-    ghost Value = { PassKnows };
+    ghost Value = { Pass };
 
     ghost view = { λ p. pass_knows p.seat.table_id p.seat.me.0 p.caller };
 
@@ -99,7 +99,7 @@ impl Port {
     pub fn evict(&mut self, rows: &Rows, slot: u64)
         requires rows { self.old.rows ≡ rows.now }
         requires slot { slot < 16 }
-        ensures did { self.new.did ≡ self.old.did ++ Stored (place_of self.old.device slot) 0 ∷ [] }
+        ensures did { self.new.did ≡ self.old.did ++ Pool (place_of self.old.device slot) 0 ∷ [] }
         ensures seen { self.new.seen ≡ self.old.seen }
         ensures same { (self.new.rows ≡ self.old.rows) × (self.new.device ≡ self.old.device) }
     {

@@ -18,9 +18,9 @@ pub struct Rows {
 
 impl Model for Rows {
     ghost use Rattle.std.specs.Prelude.{◌≡◌};
-    ghost use Rattle.ports.specs.Seen.{RowsId, rows_of};
+    ghost use Rattle.ports.specs.Seen.{Rows, rows_of};
 
-    ghost Value = { RowsId };
+    ghost Value = { Rows };
 
     ghost view = { λ r. rows_of r.words.shared.table_id r.words.shared.key.frames };
 

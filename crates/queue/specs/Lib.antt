@@ -1,2 +1,2 @@
-pub mod Queue
+pub mod Ring
 pub mod Pairs

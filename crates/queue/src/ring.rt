@@ -1,7 +1,7 @@
 //! The ring and its status.
 
 ghost use Rattle.std.specs.Prelude.{◌≡◌, ◌+◌, ◌%◌, ◌<◌, ◌≤◌, ◌↔◌, [], ◌∷◌, length, IsTrue, IsErr, IfSome, IfNone, OnOk, OnErr};
-ghost use Rattle.queue.specs.Queue.{queue, with_last};
+ghost use Rattle.queue.specs.Ring.{ring_of, with_last};
 
 use crate::error::RingFull;
 use std::marker::Model;
@@ -24,12 +24,12 @@ pub struct Ring {
 // Clauses see the descriptors that wait, oldest first, the status, and what was taken, the last one first, as far as
 // the page still holds it.
 impl Model for Ring {
-    ghost use Rattle.queue.specs.Queue.{Queue, queue};
+    ghost use Rattle.queue.specs.Ring.{Ring, ring_of};
     ghost use Rattle.queue.specs.Pairs.{IsRing, taken_in, waiting_in};
 
-    ghost Value = { Queue };
+    ghost Value = { Ring };
 
-    ghost view = { λ r. queue (waiting_in r.head r.tail r.page) r.status (taken_in r.head r.tail r.page) };
+    ghost view = { λ r. ring_of (waiting_in r.head r.tail r.page) r.status (taken_in r.head r.tail r.page) };
 
     ghost invariant = { λ r. IsRing r.head r.tail r.page };
 }
@@ -40,7 +40,7 @@ impl Ring {
 
     /// A ring in which nothing waits and of which nothing was taken, with the status 0. It takes no memory of its own.
     pub fn new() -> Ring
-        ensures { result ≡ queue [] 0 [] }
+        ensures { result ≡ ring_of [] 0 [] }
     {
         Ring {
             page: [Words { low: 0, high: 0 }; PAIRS],
@@ -102,7 +102,7 @@ impl Ring {
 
     /// Sets the status, as a wait does that the unit has reached.
     pub fn complete(&mut self, value: u32)
-        ensures { self.new ≡ queue self.old.waiting value self.old.taken }
+        ensures { self.new ≡ ring_of self.old.waiting value self.old.taken }
     {
         self.status = value;
     }

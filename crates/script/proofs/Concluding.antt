@@ -3,10 +3,10 @@ use Rattle.std.proofs.Common.{◌≡◌, ◌≢◌, ℕ, List, [], ◌∷◌, �
 use Rattle.std.proofs.Common.{inr, append_assoc}
 use Rattle.std.proofs.lemmas.List.{append-nil}
 use Rattle.dmatypes.specs.declared.call.Call.{Call}
-use Rattle.manager.specs.Kept.{Account}
+use Rattle.manager.specs.Kept.{Book}
 use Rattle.manager.specs.Report.{report_text}
 use Rattle.script.specs.Bytes.{Sent, SentFront}
-use Rattle.script.specs.Reported.{OutputKnown, Concludes, IsOf, Reported, ReportedKnown, Went, WentKnown, replies_of, report_of}
+use Rattle.script.specs.Reported.{OutputKnown, Concludes, IsOf, Reported, ReportedKnown, GoneThrough, GoneThroughKnown, replies_of, report_of}
 use Rattle.script.specs.Run.{Answers, IsAllSent, RanPartly, RanToBadLine, RanToEnd, RanToFailedRead, ScriptSays, Size, WroteAll, WroteFront}
 use Rattle.script.specs.declared.error.RunError.{RunError}
 use Rattle.script.specs.declared.error.RunError.TheVariants as errors
@@ -42,7 +42,7 @@ partly_read size input left written r = record {
 -- ---- what is written
 
 -- the report of the answers is that of the history and the state that they come from
-report_is : (account : Account) (size : Size) (calls : List Call) (written : List ℕ) (a : Answers size calls written)
+report_is : (account : Book) (size : Size) (calls : List Call) (written : List ℕ) (a : Answers size calls written)
     → IsOf account size calls written a → report_of size calls written a ≡ report_text (length account.history) account.state
 report_is account size calls written a is = rw (is.history, is.state) refl
 
@@ -85,8 +85,8 @@ ends_so U size input left before pending after after' block rest written text en
 ends_so U size input left before pending after after' block rest written text end result partly is wrote empty told (inr h) =
     rw h.0 (partly, rw is (front_written before pending after after' block text wrote empty h.1))
 
-concluded : (U : Type 0) (size : Size) (input left before pending after after' block rest written : List ℕ) (account : Account)
-    (end result : Result U RunError) → Went Silent size input left before pending after written account end → IsAllSent block end
+concluded : (U : Type 0) (size : Size) (input left before pending after after' block rest written : List ℕ) (account : Book)
+    (end result : Result U RunError) → GoneThrough Silent size input left before pending after written account end → IsAllSent block end
     → end ≢ Err errors.NoMemory → Concludes (Some after) (Some after') block rest (report_text (length account.history) account.state)
     end result → Reported size input left before pending after' written result
 unfolding partly_end partly_bad partly_read
@@ -125,8 +125,8 @@ still_known U after block rest text (Err errors.Write) result h = none_some afte
   none_some a e = cc
 
 pub report_known : (U : Type 0) (size : Size) (old left before : Option (List ℕ)) (pending : List ℕ) (after after' : Option (List ℕ))
-    (block rest : List ℕ) (account : Account) (end result : Result U RunError)
-    → WentKnown Silent size old left before pending after account end → IsAllSent block end
+    (block rest : List ℕ) (account : Book) (end result : Result U RunError)
+    → GoneThroughKnown Silent size old left before pending after account end → IsAllSent block end
     → end ≢ Err errors.NoMemory → Concludes after after' block rest (report_text (length account.history) account.state) end result
     → ReportedKnown size old left before pending after' result
 report_known U size None left before pending after after' block rest account end result w empty made c = tt
@@ -151,18 +151,18 @@ nothing_written U outputs.Answers size old before pending = no_memory U size old
 nothing_written U (outputs.Report text) size old before pending = nothing_done U size old before pending
 
 pub answers_known : (U : Type 0) (output : Output) (replies : Replies) (size : Size) (old left before : Option (List ℕ))
-    (pending : List ℕ) (after : Option (List ℕ)) (account : Account) (result : Result U RunError) → output ≡ outputs.Answers
+    (pending : List ℕ) (after : Option (List ℕ)) (account : Book) (result : Result U RunError) → output ≡ outputs.Answers
     → replies ≡ replies_of output
-    → WentKnown replies size old left before pending after account result → OutputKnown output size old left before pending after result
+    → GoneThroughKnown replies size old left before pending after account result → OutputKnown output size old left before pending after result
 answers_known U outputs.Answers Written size old left before pending after account result is so w = run_known U size old left before
     pending after account result w
 answers_known U outputs.Answers Silent size old left before pending after account result is so w = absurd cc
 answers_known U (outputs.Report text) replies size old left before pending after account result is so w = absurd cc
 
 pub report_is_known : (U : Type 0) (output : Output) (replies : Replies) (text : List ℕ) (size : Size)
-    (old left before : Option (List ℕ)) (pending : List ℕ) (after after' : Option (List ℕ)) (block rest : List ℕ) (account : Account)
+    (old left before : Option (List ℕ)) (pending : List ℕ) (after after' : Option (List ℕ)) (block rest : List ℕ) (account : Book)
     (end result : Result U RunError) → output ≡ outputs.Report text → replies ≡ replies_of output
-    → WentKnown replies size old left before pending after account end → IsAllSent block end → end ≢ Err errors.NoMemory
+    → GoneThroughKnown replies size old left before pending after account end → IsAllSent block end → end ≢ Err errors.NoMemory
     → Concludes after after' block rest (report_text (length account.history) account.state) end result
     → OutputKnown output size old left before pending after' result
 report_is_known U outputs.Answers replies text size old left before pending after after' block rest account end result is so w empty made

@@ -12,7 +12,7 @@ use Rattle.dmatypes.specs.declared.reply.Reply.TheVariants.{Refused}
 use Rattle.dmatypes.specs.declared.refusal.Refusal.TheVariants as refusals
 use Rattle.dmatypes.specs.History.{event}
 use Rattle.dmatypes.specs.Text.{line_of, text}
-use Rattle.manager.specs.Kept.{Account, IsKept}
+use Rattle.manager.specs.Kept.{Book, IsKept}
 use Rattle.script.specs.Run.{Size, call_of, refusal_line, Answers, AnswersOne}
 
 -- so many refusals for want of room
@@ -35,7 +35,7 @@ entered_none room =
       take_nil zero = refl
       take_nil (suc n) = refl
 
-unfoldable pub answers : (size : Size) (account : Account) (calls : List Call) (written : List ℕ) → IsKept size.frames size.room account
+unfoldable pub answers : (size : Size) (account : Book) (calls : List Call) (written : List ℕ) → IsKept size.frames size.room account
     → Entered size.room account.history calls written → Answers size calls written
 answers size account calls written kept entered = record {
   history = account.history;
@@ -96,7 +96,7 @@ one_refusal room history calls written call was full =
           ∙ sym (ap (λ (n : ℕ). text history ++ refusals_of n) more);
     }
 
-pub entered_more : (room : ℕ) (old new : Account) (calls : List Call) (written : List ℕ) (call : Call) (line : List ℕ)
+pub entered_more : (room : ℕ) (old new : Book) (calls : List Call) (written : List ℕ) (call : Call) (line : List ℕ)
     → Entered room old.history calls written → AnswersOne room old new call line
     → Entered room new.history (calls ++ call ∷ []) (written ++ line)
 entered_more room old new calls written call line was (inl h) = rw (h.1, h.2) (one_event room old.history calls written call h.0 was h.3)

@@ -5,13 +5,13 @@ use Rattle.std.specs.Io.KnownBytes.{Consumes, IsAtEnd}
 use Rattle.std.proofs.lemmas.List.{append-nil, length-append}
 use Rattle.dmatypes.specs.declared.call.Call.{Call}
 use Rattle.dmatypes.specs.Grammar.{says}
-use Rattle.manager.specs.Kept.{Account, IsKept}
+use Rattle.manager.specs.Kept.{Book, IsKept}
 use Rattle.script.specs.declared.error.RunError.{RunError}
 use Rattle.script.specs.declared.error.RunError.TheVariants as errors
 use Rattle.script.specs.Bytes.{IsAnswered, IsUnbroken, Sent}
 use Rattle.engine.proofs.Beginning.{new_state, new_is_new}
 use Rattle.script.specs.Run.{Answers, IsOfOneLine, Size, LineSays, ScriptSays, BeginsBadly, AnswersOne, Ran, RanKnown, WroteAll}
-use Rattle.script.specs.Reported.{Went, WentKnown, shown}
+use Rattle.script.specs.Reported.{GoneThrough, GoneThroughKnown, shown}
 use Rattle.script.specs.declared.answering.Replies.{Replies}
 use Rattle.script.specs.declared.answering.Replies.TheVariants.{Written, Silent}
 use Rattle.script.proofs.Known.{unbroken_front, sent_nothing, sent_more, sent_on, consumes_nothing, consumes_more}
@@ -30,7 +30,7 @@ shown_more Silent a b = refl
 
 -- the whole lines that were read say calls, and those are answered
 pub record Going (replies : Replies) (size : Size) (old left before : Option (List ℕ)) (pending : List ℕ) (after : Option (List ℕ))
-    (block : List ℕ) (account : Account) (number : ℕ) : Type 0 where
+    (block : List ℕ) (account : Book) (number : ℕ) : Type 0 where
   pub calls : List Call
   pub taken : List ℕ
   pub written : List ℕ
@@ -41,7 +41,7 @@ pub record Going (replies : Replies) (size : Size) (old left before : Option (Li
   pub entered : Entered size.room account.history calls written
   pub place : number ≡ min (length calls + 1) (2 ^ 64 - 1)
 
-pub begins : (replies : Replies) (size : Size) (old before : Option (List ℕ)) (pending : List ℕ) (account : Account)
+pub begins : (replies : Replies) (size : Size) (old before : Option (List ℕ)) (pending : List ℕ) (account : Book)
     → IsKept size.frames size.room account → account.history ≡ [] → Going replies size old old before pending before pending account 1
 begins replies size old before pending account kept none = record {
   calls = [];
@@ -58,12 +58,12 @@ begins replies size old before pending account kept none = record {
 -- ---- what is to show where the bytes are known
 
 known : {U : Type 0} (replies : Replies) (size : Size) (old left before : Option (List ℕ)) (pending : List ℕ) (after : Option (List ℕ))
-    (block taken written : List ℕ) (account : Account) (result : Result U RunError) → Consumes old left taken
+    (block taken written : List ℕ) (account : Book) (result : Result U RunError) → Consumes old left taken
     → Sent before after pending block (shown replies written)
     → ((input rest from to : List ℕ) → left ≡ Some rest → input ≡ taken ++ rest
     → ((front : List ℕ) × (to ≡ from ++ front) × (front ++ block ≡ pending ++ shown replies written))
-    → Went replies size input rest from pending to written account result)
-    → WentKnown replies size old left before pending after account result
+    → GoneThrough replies size input rest from pending to written account result)
+    → GoneThroughKnown replies size old left before pending after account result
 known replies size None left before pending after block taken written account result c s h = tt
 known replies size (Some input) None before pending after block taken written account result c s h = absurd c
 known replies size (Some input) (Some rest) None pending after block taken written account result c s h = tt
@@ -78,10 +78,10 @@ wrote_all from to pending written s = s.1 ∙ ap (λ (r : List ℕ). from ++ r) 
 -- ---- the ends
 
 pub ends : {U : Type 0} (replies : Replies) (size : Size) (old left left' before : Option (List ℕ)) (pending : List ℕ)
-    (after after' : Option (List ℕ)) (block : List ℕ) (account : Account) (number : ℕ) (u : U)
+    (after after' : Option (List ℕ)) (block : List ℕ) (account : Book) (number : ℕ) (u : U)
     → Going replies size old left before pending after block account number
     → Consumes left left' [] → IsAtEnd left' → Sent after after' block [] []
-    → WentKnown replies size old left' before pending after' account (Ok u)
+    → GoneThroughKnown replies size old left' before pending after' account (Ok u)
 unfolding answers
 ends replies size old left left' before pending after after' block account number u g none at_end sent =
     known replies size old left' before pending after' [] (g.taken ++ []) g.written account (Ok u)
@@ -102,10 +102,10 @@ ends replies size old left left' before pending after after' block account numbe
     ))
 
 pub fails_reading : (U : Type 0) (replies : Replies) (size : Size) (old left left' before : Option (List ℕ)) (pending : List ℕ)
-    (after after' : Option (List ℕ)) (block : List ℕ) (account : Account) (number : ℕ) (line : List ℕ)
+    (after after' : Option (List ℕ)) (block : List ℕ) (account : Book) (number : ℕ) (line : List ℕ)
     → Going replies size old left before pending after block account number
     → Consumes left left' line → IsUnbroken line → length line ≤ 512 → Sent after after' block [] []
-    → WentKnown {U = U} replies size old left' before pending after' account (Err errors.Read)
+    → GoneThroughKnown {U = U} replies size old left' before pending after' account (Err errors.Read)
 unfolding answers
 fails_reading U replies size old left left' before pending after after' block account number line g more whole few sent =
     known replies size old left' before pending after' [] (g.taken ++ line) g.written account (Err errors.Read)
@@ -137,11 +137,11 @@ of_line line b whole few = record { line = line; last = b ∷ []; parts = refl; 
 
 -- a bad line, whatever was read of it
 stops : (U : Type 0) (replies : Replies) (size : Size) (old left left' before : Option (List ℕ)) (pending : List ℕ)
-    (after after' : Option (List ℕ)) (block : List ℕ) (account : Account) (number : ℕ) (line : List ℕ)
+    (after after' : Option (List ℕ)) (block : List ℕ) (account : Book) (number : ℕ) (line : List ℕ)
     → Going replies size old left before pending after block account number
     → Consumes left left' line → IsOfOneLine line → Sent after after' block [] []
     → ((rest : List ℕ) → left' ≡ Some rest → BeginsBadly (line ++ rest))
-    → WentKnown {U = U} replies size old left' before pending after' account (Err (errors.BadLine number))
+    → GoneThroughKnown {U = U} replies size old left' before pending after' account (Err (errors.BadLine number))
 unfolding answers
 stops U replies size old left left' before pending after after' block account number line g more one sent bad =
     known replies size old left' before pending after' [] (g.taken ++ line) g.written account (Err (errors.BadLine number))
@@ -166,10 +166,10 @@ stops U replies size old left left' before pending after after' block account nu
     ))
 
 pub stops_cut : (U : Type 0) (replies : Replies) (size : Size) (old left left' before : Option (List ℕ)) (pending : List ℕ)
-    (after after' : Option (List ℕ)) (block : List ℕ) (account : Account) (number : ℕ) (line : List ℕ)
+    (after after' : Option (List ℕ)) (block : List ℕ) (account : Book) (number : ℕ) (line : List ℕ)
     → Going replies size old left before pending after block account number
     → Consumes left left' line → IsUnbroken line → length line ≤ 512 → line ≢ [] → IsAtEnd left' → Sent after after' block [] []
-    → WentKnown {U = U} replies size old left' before pending after' account (Err (errors.BadLine number))
+    → GoneThroughKnown {U = U} replies size old left' before pending after' account (Err (errors.BadLine number))
 stops_cut U replies size old left left' before pending after after' block account number line g more whole few some at_end sent =
     stops U replies size old left left' before pending after after' block account number line g more (cut_of_line line whole few) sent
     (λ rest is.
@@ -177,20 +177,20 @@ stops_cut U replies size old left left' before pending after after' block accoun
     subst BeginsBadly (sym (ap (λ (r : List ℕ). line ++ r) nothing ∙ append-nil line)) (cut_line line whole some))
 
 pub stops_long : (U : Type 0) (replies : Replies) (size : Size) (old left left' before : Option (List ℕ)) (pending : List ℕ)
-    (after after' : Option (List ℕ)) (block : List ℕ) (account : Account) (number : ℕ) (line : List ℕ) (b : ℕ)
+    (after after' : Option (List ℕ)) (block : List ℕ) (account : Book) (number : ℕ) (line : List ℕ) (b : ℕ)
     → Going replies size old left before pending after block account number
     → Consumes left left' (line ++ b ∷ []) → IsUnbroken (line ++ b ∷ []) → length line ≡ 512 → Sent after after' block [] []
-    → WentKnown {U = U} replies size old left' before pending after' account (Err (errors.BadLine number))
+    → GoneThroughKnown {U = U} replies size old left' before pending after' account (Err (errors.BadLine number))
 stops_long U replies size old left left' before pending after after' block account number line b g more whole long sent =
     stops U replies size old left left' before pending after after' block account number (line ++ b ∷ []) g more
     (of_line line b (unbroken_front line (b ∷ []) whole) (omega (arith, long))) sent (λ rest is.
     long_line (line ++ b ∷ []) rest whole (omega (arith, long, length-append line (b ∷ []))))
 
 pub stops_unsaid : (U : Type 0) (replies : Replies) (size : Size) (old left left' before : Option (List ℕ)) (pending : List ℕ)
-    (after after' : Option (List ℕ)) (block : List ℕ) (account : Account) (number : ℕ) (line : List ℕ)
+    (after after' : Option (List ℕ)) (block : List ℕ) (account : Book) (number : ℕ) (line : List ℕ)
     → Going replies size old left before pending after block account number
     → Consumes left left' (line ++ 10 ∷ []) → IsUnbroken line → length line ≤ 512 → says line ≡ None → Sent after after' block [] []
-    → WentKnown {U = U} replies size old left' before pending after' account (Err (errors.BadLine number))
+    → GoneThroughKnown {U = U} replies size old left' before pending after' account (Err (errors.BadLine number))
 stops_unsaid U replies size old left left' before pending after after' block account number line g more whole few unsaid sent =
     stops U replies size old left left' before pending after after' block account number (line ++ 10 ∷ []) g more
     (of_line line 10 whole few) sent (λ rest is.
@@ -198,10 +198,10 @@ stops_unsaid U replies size old left left' before pending after after' block acc
 
 -- a write failed: of the answers to the whole lines before, a beginning is written
 pub fails_writing : (U : Type 0) (replies : Replies) (size : Size) (old left left' before : Option (List ℕ)) (pending : List ℕ)
-    (after after' : Option (List ℕ)) (block block' : List ℕ) (account account' : Account) (number : ℕ) (line : List ℕ)
+    (after after' : Option (List ℕ)) (block block' : List ℕ) (account account' : Book) (number : ℕ) (line : List ℕ)
     → Going replies size old left before pending after block account number
     → Consumes left left' line → Sent after after' block block' []
-    → WentKnown {U = U} replies size old left' before pending after' account' (Err errors.Write)
+    → GoneThroughKnown {U = U} replies size old left' before pending after' account' (Err errors.Write)
 fails_writing U replies size old left left' before pending after after' block block' account account' number line g more sent =
     known replies size old left' before pending after' block' (g.taken ++ line) g.written account' (Err errors.Write)
     (consumes_more old left left' g.taken line g.read more)
@@ -219,7 +219,7 @@ fails_writing U replies size old left left' before pending after after' block bl
 -- ---- one line more
 
 pub goes_on : (replies : Replies) (size : Size) (old left left' before : Option (List ℕ)) (pending : List ℕ)
-    (after after' after'' : Option (List ℕ)) (block block' block'' : List ℕ) (account account' : Account) (number : ℕ) (line : List ℕ)
+    (after after' after'' : Option (List ℕ)) (block block' block'' : List ℕ) (account account' : Book) (number : ℕ) (line : List ℕ)
     (call : Call) (text : List ℕ)
     → Going replies size old left before pending after block account number
     → Consumes left left' (line ++ 10 ∷ []) → LineSays line call → Sent after after' block block' []
@@ -246,12 +246,12 @@ goes_on replies size old left left' before pending after after' after'' block bl
 
 -- a read or a write failed while the next line was read
 pub fails : (U L : Type 0) (replies : Replies) (size : Size) (old left left' before : Option (List ℕ)) (pending : List ℕ)
-    (after after' : Option (List ℕ)) (block block' : List ℕ) (account : Account) (number : ℕ) (line : List ℕ) (error : RunError)
+    (after after' : Option (List ℕ)) (block block' : List ℕ) (account : Book) (number : ℕ) (line : List ℕ) (error : RunError)
     (read : Result L RunError)
     → Going replies size old left before pending after block account number
     → Consumes left left' line → IsUnbroken line → length line ≤ 512 → Sent after after' block block' [] → IsAnswered block' (Err error)
     → read ≡ Err error → ((read ≡ Err errors.Read) ⊎ (read ≡ Err errors.Write))
-    → WentKnown {U = U} replies size old left' before pending after' account (Err error)
+    → GoneThroughKnown {U = U} replies size old left' before pending after' account (Err error)
 fails U L replies size old left left' before pending after after' block block' account number line errors.Read read g more whole few sent
     answered is which =
     fails_reading U replies size old left left' before pending after after' block account number line g more whole few
@@ -270,13 +270,13 @@ fails U L replies size old left left' before pending after after' block block' a
 
 -- a bad line stops the run, or the write that comes first fails
 pub stopped : (U : Type 0) (replies : Replies) (size : Size) (old left left' before : Option (List ℕ)) (pending : List ℕ)
-    (after after' after'' : Option (List ℕ)) (block block' block'' : List ℕ) (account : Account) (number : ℕ) (line : List ℕ)
+    (after after' after'' : Option (List ℕ)) (block block' block'' : List ℕ) (account : Book) (number : ℕ) (line : List ℕ)
     (result : Result U RunError) (F G : Type 0)
     → Going replies size old left before pending after block account number
     → Consumes left left' line → Sent after after' block block' [] → Sent after' after'' block' block'' []
     → (((result ≡ Err (errors.BadLine number)) × (block'' ≡ []) × F) ⊎ ((result ≡ Err errors.Write) × G))
-    → (Sent after after'' block [] [] → WentKnown {U = U} replies size old left' before pending after'' account
-    (Err (errors.BadLine number))) → WentKnown replies size old left' before pending after'' account result
+    → (Sent after after'' block [] [] → GoneThroughKnown {U = U} replies size old left' before pending after'' account
+    (Err (errors.BadLine number))) → GoneThroughKnown replies size old left' before pending after'' account result
 stopped U replies size old left left' before pending after after' after'' block block' block'' account number line result F G g more sent
     flushed (inl h) bad =
     let both = sent_on after after' after'' block block' block'' [] sent flushed in
@@ -289,8 +289,8 @@ stopped U replies size old left left' before pending after after' after'' block 
 -- ---- a run
 
 -- a script whose answers are written
-went_ran : (U : Type 0) (size : Size) (input left before pending after written : List ℕ) (account : Account) (result : Result U RunError)
-    → Went Written size input left before pending after written account result → Ran size input left before pending after written result
+went_ran : (U : Type 0) (size : Size) (input left before pending after written : List ℕ) (account : Book) (result : Result U RunError)
+    → GoneThrough Written size input left before pending after written account result → Ran size input left before pending after written result
 went_ran U size input left before pending after written account (Ok u) w = (w.0, w.1.0)
 went_ran U size input left before pending after written account (Err (errors.BadLine k)) w = (w.0, w.1.0)
 went_ran U size input left before pending after written account (Err errors.Read) w = (w.0, w.1.0)
@@ -298,7 +298,7 @@ went_ran U size input left before pending after written account (Err errors.Writ
 went_ran U size input left before pending after written account (Err errors.NoMemory) w = w
 
 pub run_known : (U : Type 0) (size : Size) (old left before : Option (List ℕ)) (pending : List ℕ) (after : Option (List ℕ))
-    (account : Account) (result : Result U RunError) → WentKnown Written size old left before pending after account result
+    (account : Book) (result : Result U RunError) → GoneThroughKnown Written size old left before pending after account result
     → RanKnown size old left before pending after result
 run_known U size None left before pending after account result w = tt
 run_known U size (Some input) None before pending after account result w = absurd w

@@ -1,7 +1,7 @@
 -- What a report reads and writes.
 use Rattle.std.specs.Prelude.{◌≡◌, ◌↔◌, ◌⊎◌, ℕ, Bool, true, IsErrOf, List, [], length, Option, Some, None, Result, Ok, Err}
 use Rattle.dmatypes.specs.declared.call.Call.{Call}
-use Rattle.manager.specs.Kept.{Account}
+use Rattle.manager.specs.Kept.{Book}
 use Rattle.manager.specs.Report.{report_text}
 use Rattle.script.specs.Bytes.{Sent, SentFront}
 use Rattle.script.specs.Run.{Answers, RanKnown, RanPartly, RanToBadLine, RanToEnd, RanToFailedRead, Size, WroteAll, WroteFront}
@@ -20,36 +20,36 @@ shown Written text = text
 shown Silent text = []
 
 -- the answers come from this history and this state
-pub record IsOf (account : Account) (size : Size) (calls : List Call) (written : List ℕ) (answers : Answers size calls written) : Type 0
+pub record IsOf (account : Book) (size : Size) (calls : List Call) (written : List ℕ) (answers : Answers size calls written) : Type 0
   where
     pub history : answers.history ≡ account.history
     pub state : answers.state ≡ account.state
 
 -- a script was gone through as by a run, which would answer so, and it led to this history and this state
-abbrev pub Went : {U : Type 0} → Replies → Size → (input left before pending after written : List ℕ) → Account → Result U RunError → Type 0
-Went replies size input left before pending after written account (Ok u) =
+abbrev pub GoneThrough : {U : Type 0} → Replies → Size → (input left before pending after written : List ℕ) → Book → Result U RunError → Type 0
+GoneThrough replies size input left before pending after written account (Ok u) =
     WroteAll before pending after (shown replies written)
     × ((ran : RanToEnd size input left written) × IsOf account size ran.calls written ran.answers)
-Went replies size input left before pending after written account (Err (errors.BadLine k)) =
+GoneThrough replies size input left before pending after written account (Err (errors.BadLine k)) =
     WroteAll before pending after (shown replies written)
     × ((ran : RanToBadLine size input left written k) × IsOf account size ran.calls written ran.answers)
-Went replies size input left before pending after written account (Err errors.Read) =
+GoneThrough replies size input left before pending after written account (Err errors.Read) =
     WroteAll before pending after (shown replies written)
     × ((ran : RanToFailedRead size input left written) × IsOf account size ran.calls written ran.answers)
-Went replies size input left before pending after written account (Err errors.Write) =
+GoneThrough replies size input left before pending after written account (Err errors.Write) =
     WroteFront before pending after (shown replies written) × RanPartly size input written
-Went replies size input left before pending after written account (Err errors.NoMemory) =
+GoneThrough replies size input left before pending after written account (Err errors.NoMemory) =
     WroteFront before pending after (shown replies written) × RanPartly size input written
 
 -- the same where the reader and the writer tell their bytes
-abbrev pub WentKnown : {U : Type 0} → Replies → Size → (input left before : Option (List ℕ)) → List ℕ → Option (List ℕ) → Account
+abbrev pub GoneThroughKnown : {U : Type 0} → Replies → Size → (input left before : Option (List ℕ)) → List ℕ → Option (List ℕ) → Book
     → Result U RunError → Type 0
-WentKnown replies size None left before pending after account result = Unit {0}
-WentKnown replies size (Some input) None before pending after account result = ⊥
-WentKnown replies size (Some input) (Some left) None pending after account result = Unit {0}
-WentKnown replies size (Some input) (Some left) (Some before) pending None account result = ⊥
-WentKnown replies size (Some input) (Some left) (Some before) pending (Some after) account result =
-    (written : List ℕ) × Went replies size input left before pending after written account result
+GoneThroughKnown replies size None left before pending after account result = Unit {0}
+GoneThroughKnown replies size (Some input) None before pending after account result = ⊥
+GoneThroughKnown replies size (Some input) (Some left) None pending after account result = Unit {0}
+GoneThroughKnown replies size (Some input) (Some left) (Some before) pending None account result = ⊥
+GoneThroughKnown replies size (Some input) (Some left) (Some before) pending (Some after) account result =
+    (written : List ℕ) × GoneThrough replies size input left before pending after written account result
 
 -- ---- a report
 

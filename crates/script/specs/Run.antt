@@ -10,8 +10,8 @@ use Rattle.dmatypes.specs.declared.refusal.Refusal.TheVariants as refusals
 use Rattle.dmatypes.specs.Grammar.{says}
 use Rattle.dmatypes.specs.History.{IsLegal, event}
 use Rattle.dmatypes.specs.Text.{line_of, text}
-use Rattle.manager.specs.Kept.{Account}
-use Rattle.engine.specs.Machine.{Machine}
+use Rattle.manager.specs.Kept.{Book}
+use Rattle.engine.specs.State.{State}
 use Rattle.engine.specs.Steps.{GoesTo}
 use Rattle.script.specs.Bytes.{IsUnbroken}
 use Rattle.script.specs.declared.error.RunError.{RunError}
@@ -54,7 +54,7 @@ refusal_line = line_of (Refused refusals.HistoryFull)
 -- for each further call
 pub record Answers (size : Size) (calls : List Call) (written : List ℕ) : Type 0 where
   pub history : List Event
-  pub state : Machine
+  pub state : State
   pub legal : IsLegal size.frames history
   pub along : GoesTo size.frames history state
   pub calls_are : map call_of history ≡ take size.room calls
@@ -145,7 +145,7 @@ RanKnown size (Some input) (Some left) (Some before) pending (Some after) result
     (written : List ℕ) × Ran size input left before pending after written result
 
 -- one call: its event is entered, or there is no room for it and it is refused
-abbrev pub AnswersOne : ℕ → Account → Account → Call → List ℕ → Type 0
+abbrev pub AnswersOne : ℕ → Book → Book → Call → List ℕ → Type 0
 AnswersOne room old new call written =
     ((reply : Reply) × (new.history ≡ old.history ++ event call reply ∷ []) × (written ≡ line_of reply) × (length old.history < room))
     ⊎ ((new ≡ old) × (written ≡ refusal_line) × (length old.history ≡ room))

@@ -4,7 +4,7 @@ ghost use Rattle.std.specs.Prelude.{◌≡◌, ◌↔◌, ◌≤◌, ◌⊎◌, 
 ghost use Rattle.std.specs.Io.KnownBytes.{prepend_known};
 ghost use Rattle.manager.specs.Kept.{IsKept};
 ghost use Rattle.script.specs.Bytes.{Sent};
-ghost use Rattle.script.specs.Reported.{WentKnown, shown};
+ghost use Rattle.script.specs.Reported.{GoneThroughKnown, shown};
 ghost use Rattle.script.specs.Run.{AnswersOne, IsAllSent};
 
 use crate::counted::Counted;
@@ -37,7 +37,7 @@ pub(crate) fn answer_lines<B: Owner, T: Wait, R: Read, W: Write>(
     requires none { book.old.history ≡ [] }
     requires reader { reader.old.wrapped.failed ≡ false }
     requires writer { writer.old.wrapped.failed ≡ false }
-    ensures told { WentKnown replies (record { frames = B.frames; room = B.room })
+    ensures told { GoneThroughKnown replies (record { frames = B.frames; room = B.room })
         (prepend_known reader.old.block (R.remaining reader.old.wrapped.inner))
         (prepend_known reader.new.block (R.remaining reader.new.wrapped.inner))
         (W.contents writer.old.wrapped.inner) writer.old.block (W.contents writer.new.wrapped.inner) book.new result }

@@ -2,7 +2,7 @@
 
 ghost use Rattle.std.specs.Prelude.{◌≡◌, ◌↔◌, ◌≤◌, ◌⊎◌, [], Err, true, false, length, IsErrOf};
 ghost use Rattle.std.specs.Io.KnownBytes.{prepend_known};
-ghost use Rattle.manager.specs.Kept.{Names};
+ghost use Rattle.manager.specs.Kept.{Seed};
 ghost use Rattle.script.specs.Reported.{Concludes, OutputKnown, ReaderEnds, ReportedKnown, replies_of};
 ghost use Rattle.script.specs.Run.{IsAllSent, RanKnown};
 

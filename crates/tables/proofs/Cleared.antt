@@ -8,8 +8,8 @@ use Rattle.vtdbits.specs.declared.entry.SsEntry.{SsEntry}
 use Rattle.vtdbits.specs.declared.entry.SsEntry.TheVariants.{Absent, Table, LargeLeaf}
 use Rattle.tables.specs.Under.{Under}
 use Rattle.tables.specs.Tree.{Memory, Found, span, index_in, leaf_from, table_from, stated, here}
-use Rattle.tables.specs.Pool.{Stored, memory, occurs, IsTree, IsWrite}
-use Rattle.tables.specs.Changes.{Moves, Unmaps, IsOutside, IsCovered}
+use Rattle.tables.specs.Pool.{Pool, memory, occurs, IsTree, IsWrite}
+use Rattle.tables.specs.Changes.{TakesAndGivesFrames, Unmaps, IsOutside, IsCovered}
 use Rattle.tables.specs.Pieces.{IsRun}
 use Rattle.tables.proofs.Under.{under_moves, below_under, other_leaf}
 use Rattle.tables.proofs.Large.{under_written, no_table_at, same_tables}
@@ -21,7 +21,7 @@ one_list : (f c : ℕ) → occurs f (c ∷ []) ≡ here c f
 one_list f c = sum_by-cons (λ y. here y f) c [] ∙ (let e : here c f + 0 ≡ here c f = omega arith in e)
 
 -- a run cleared in a table of level 1, short of the whole
-pub run_unmaps : (old new : Stored) (t from to : ℕ) → IsRun old.words new.words t from to (λ p. Absent) → from < to
+pub run_unmaps : (old new : Pool) (t from to : ℕ) → IsRun old.words new.words t from to (λ p. Absent) → from < to
     → ((q : ℕ) → from ≤ q → q < to → q / 512 ≡ from / 512) → to - from < 512 → Unmaps old new 1 t from to []
 run_unmaps old new t from to run some one short =
     let m : Memory = memory old.words in
@@ -48,12 +48,12 @@ run_unmaps old new t from to run some one short =
     }
 
 -- it is unmapped through the table under its entry
-pub run_through : (old new : Stored) (t i c from to : ℕ) → IsTree old 2 t → i < 512 → i ≡ index_in 1 from → memory old.words 2 t i ≡ Table c
+pub run_through : (old new : Pool) (t i c from to : ℕ) → IsTree old 2 t → i < 512 → i ≡ index_in 1 from → memory old.words 2 t i ≡ Table c
     → IsRun old.words new.words c from to (λ p. Absent) → new.free ≡ old.free → new.frames ≡ old.frames → from < to → from / 512 ≡ (to - 1) / 512 → to - from < 512
-    → Moves old new 2 t [] × Unmaps old new 2 t from to []
+    → TakesAndGivesFrames old new 2 t [] × Unmaps old new 2 t from to []
 run_through old new t i c from to tree a is names run free frames some one short =
     let near : (q : ℕ) → from ≤ q → q < to → q / 512 ≡ from / 512 = λ q low high. omega (arith, low, high) in
-    let moves : Moves old new 1 c [] = run_moves old new c from to (λ p. Absent) run free frames in (
+    let moves : TakesAndGivesFrames old new 1 c [] = run_moves old new c from to (λ p. Absent) run free frames in (
       under_moves old new 1 t i [] tree a (below_under old new 1 t i c [] tree a names moves).0,
       unmaps_up old new 1 t i c from to [] tree a is (omega arith) names (λ p low high. div_span_one p ∙ near p low high ∙ sym (div_span_one from))
           (λ p all wide. absurd (omega (arith, all.0, all.1))) moves (inr refl) (run_unmaps old new c from to run some near short),
@@ -62,15 +62,15 @@ run_through old new t i c from to tree a is names run free frames some one short
 -- ---- an entry that was made absent, with all its 512 pages
 
 -- the walks after an entry became absent
-pub record IsGone (old new : Stored) (t i : ℕ) (cut : List ℕ) (before : SsEntry) : Type 0 where
+pub record IsGone (old new : Pool) (t i : ℕ) (cut : List ℕ) (before : SsEntry) : Type 0 where
   pub under : Under old new 1 t i cut
   pub was : memory old.words 2 t i ≡ before
   pub is : memory new.words 2 t i ≡ Absent
 
-gone_leaf : (old new : Stored) (t i p : ℕ) (cut : List ℕ) (e : SsEntry) → IsGone old new t i cut e → index_in 1 p ≡ i → leaf_from (memory new.words) 2 t p ≡ None
+gone_leaf : (old new : Pool) (t i p : ℕ) (cut : List ℕ) (e : SsEntry) → IsGone old new t i cut e → index_in 1 p ≡ i → leaf_from (memory new.words) 2 t p ≡ None
 gone_leaf old new t i p cut e g at = leaf_under (memory new.words) 1 t p Absent (ap (λ j. memory new.words 2 t j) at ∙ g.is)
 
-gone_table : (old new : Stored) (t i p w : ℕ) (cut : List ℕ) (e : SsEntry) → IsGone old new t i cut e → index_in 1 p ≡ i → w ≢ 2 → table_from (memory new.words) 2 t p w ≡ None
+gone_table : (old new : Pool) (t i p w : ℕ) (cut : List ℕ) (e : SsEntry) → IsGone old new t i cut e → index_in 1 p ≡ i → w ≢ 2 → table_from (memory new.words) 2 t p w ≡ None
 gone_table old new t i p w cut e g at lower = table_under (memory new.words) 1 t p w Absent lower (ap (λ j. memory new.words 2 t j) at ∙ g.is)
 
 -- the pages of a whole span are those of its entry
@@ -84,9 +84,9 @@ whole_at from to i p end even is wide out at =
     not_out (inr h) near = omega arith
 
 -- a large leaf, wholly
-pub large_gone : (old new : Stored) (t i from value : ℕ) (x : Target) → IsTree old 2 t → i < 512 → i ≡ index_in 1 from → from % 512 ≡ 0
+pub large_gone : (old new : Pool) (t i from value : ℕ) (x : Target) → IsTree old 2 t → i < 512 → i ≡ index_in 1 from → from % 512 ≡ 0
     → IsWrite old.words new.words t i value → new.free ≡ old.free → new.frames ≡ old.frames → memory old.words 2 t i ≡ LargeLeaf x → memory new.words 2 t i ≡ Absent
-    → Moves old new 2 t [] × Unmaps old new 2 t from (from + 512) []
+    → TakesAndGivesFrames old new 2 t [] × Unmaps old new 2 t from (from + 512) []
 large_gone old new t i from value x tree a is even wrote free frames was now =
     let m : Memory = memory old.words in
     let n : Memory = memory new.words in

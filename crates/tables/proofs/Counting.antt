@@ -6,7 +6,7 @@ use Rattle.std.proofs.lemmas.Bool.Decides.{nat_tests}
 use Rattle.std.proofs.lemmas.Option.{none-some}
 use Rattle.dmatypes.specs.World.{Target}
 use Rattle.tables.specs.Tree.{Memory, span, total, table_from}
-use Rattle.tables.specs.Pool.{Stored, memory}
+use Rattle.tables.specs.Pool.{Pool, memory}
 use Rattle.tables.specs.Changes.{Maps}
 use Rattle.tables.specs.Lacks.{lacking, lacks, lacks_at, sum_spans}
 use Rattle.tables.proofs.Total.{total_same, total-none}
@@ -77,7 +77,7 @@ lacks_least m level t large b from to some flag =
 -- ---- one piece
 
 -- a piece was mapped, with the tables that it lacked
-pub record Placed (old new : Stored) (level t from next : ℕ) (says : ℕ → Option Target) (b : Bool) : Type 0 where
+pub record Placed (old new : Pool) (level t from next : ℕ) (says : ℕ → Option Target) (b : Bool) : Type 0 where
   pub maps : Maps old new level t from next says
   pub made : (w : ℕ) → 1 ≤ w → w < level → (w ≡ 1 → b ≡ false) → IsSome (table_from (memory new.words) level t from w)
   pub some : from < next
@@ -88,7 +88,7 @@ pub piece_near : (w from next q : ℕ) → 1 ≤ w → from / 512 ≡ (next - 1)
 piece_near w from next q some one low high =
     near_at 1 w q from some (div_span_one q ∙ (let e : q / 512 ≡ from / 512 = omega arith in e) ∙ sym (div_span_one from))
 
-none_left : (old new : Stored) (level t from next : ℕ) (says : ℕ → Option Target) (large : ℕ → Bool) (b : Bool) (w : ℕ) → 1 ≤ w → w < level → Placed old new level t from next says b
+none_left : (old new : Pool) (level t from next : ℕ) (says : ℕ → Option Target) (large : ℕ → Bool) (b : Bool) (w : ℕ) → 1 ≤ w → w < level → Placed old new level t from next says b
     → next / span w ≡ from / span w → lacking (memory new.words) level t (large (from / span w * span w)) w (from / span w * span w) ≡ 0
 none_left old new level t from next says large b w some low x stay =
     let short : w ≡ 1 → b ≡ false = λ e.
@@ -98,7 +98,7 @@ none_left old new level t from next says large b w some low x stay =
     (subst (λ (o : Option ℕ). IsSome o) (sym (near_same (memory new.words) level t from (from / span w * span w) w (sym (span_first (from / span w) w)))) (x.made w some low short))
 
 -- the spans behind it are as they were
-same_behind : (old new : Stored) (level t from next to : ℕ) (says : ℕ → Option Target) (large : ℕ → Bool) (b : Bool) (w k : ℕ) → 1 ≤ w → Placed old new level t from next says b
+same_behind : (old new : Pool) (level t from next to : ℕ) (says : ℕ → Option Target) (large : ℕ → Bool) (b : Bool) (w k : ℕ) → 1 ≤ w → Placed old new level t from next says b
     → ((p : ℕ) → from ≤ p → p < to → p / span level ≡ from / span level) → from < to → from / span w < k → k ≤ (to - 1) / span w
     → lacking (memory new.words) level t (large (k * span w)) w (k * span w) ≡ lacking (memory old.words) level t (large (k * span w)) w (k * span w)
 same_behind old new level t from next to says large b w k some x wide inside low high =
@@ -119,7 +119,7 @@ same_behind old new level t from next to says large b w k some x wide inside low
     lt_next : (a n : ℕ) → 0 < n → a < a / n * n + n
     lt_next a n pos = lt-div-mul-add pos
 
-pub lacks_step : (old new : Stored) (level t from next to : ℕ) (says : ℕ → Option Target) (large : ℕ → Bool) (b : Bool) → Placed old new level t from next says b → next ≤ to
+pub lacks_step : (old new : Pool) (level t from next to : ℕ) (says : ℕ → Option Target) (large : ℕ → Bool) (b : Bool) → Placed old new level t from next says b → next ≤ to
     → ((p : ℕ) → from ≤ p → p < to → p / span level ≡ from / span level) → large (from / 512 * 512) ≡ b
     → lacks (memory old.words) level t large from to ≡ lacks_at (memory old.words) level t b from + lacks (memory new.words) level t large next to
 lacks_step old new level t from next to says large b x le wide flag =
@@ -138,7 +138,7 @@ lacks_step old new level t from next to says large b x le wide flag =
     ∙ ap (λ k. k + total (λ v. sum_spans (h v) (v + 1) next to) (level - 1)) (sym (lacks_at-is m level t b from))
     ∙ ap (λ k. lacks_at m level t b from + k) (sym (lacks-is n level t large next to))
 
-pub lacks_ended : (old new : Stored) (level t from next : ℕ) (says : ℕ → Option Target) (large : ℕ → Bool) (b : Bool) → Placed old new level t from next says b → lacks (memory new.words) level t large next next ≡ 0
+pub lacks_ended : (old new : Pool) (level t from next : ℕ) (says : ℕ → Option Target) (large : ℕ → Bool) (b : Bool) → Placed old new level t from next says b → lacks (memory new.words) level t large next next ≡ 0
 lacks_ended old new level t from next says large b x =
     lacks-is (memory new.words) level t large next next
     ∙ total-none (λ v. sum_spans (λ p. lacking (memory new.words) level t (large p) (v + 1) p) (v + 1) next next) (level - 1)

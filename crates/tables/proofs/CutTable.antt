@@ -5,8 +5,8 @@ use Rattle.std.proofs.lemmas.List.Sums.{sum_by-cons}
 use Rattle.vtdbits.specs.declared.entry.SsEntry.TheVariants.{Absent, Table}
 use Rattle.tables.specs.Under.{Under, child}
 use Rattle.tables.specs.Tree.{Memory, span, index_in, table_from, stated, uses, here, entry_uses}
-use Rattle.tables.specs.Pool.{Stored, word, memory, occurs, IsTree, IsZeroed, IsWrite}
-use Rattle.tables.specs.Changes.{Moves, Unmaps, IsOutside, IsCovered}
+use Rattle.tables.specs.Pool.{Pool, word, memory, occurs, IsTree, IsZeroed, IsWrite}
+use Rattle.tables.specs.Changes.{TakesAndGivesFrames, Unmaps, IsOutside, IsCovered}
 use Rattle.tables.specs.Pieces.{IsRun}
 use Rattle.tables.proofs.Here.{here-same, here_is}
 use Rattle.tables.proofs.Under.{under_moves, other_leaf, other_table, root_apart}
@@ -27,10 +27,10 @@ at_whole : (from i p : ℕ) → from % 512 ≡ 0 → i ≡ index_in 1 from → f
 at_whole from i p even is low high =
     same_index 1 p from (div_span_one p ∙ (let e : p / 512 ≡ from / 512 = omega arith in e) ∙ sym (div_span_one from)) ∙ sym is
 
-pub table_cut : (old mid new : Stored) (t i c from value : ℕ) → IsTree old 2 t → i < 512 → i ≡ index_in 1 from → from % 512 ≡ 0 → memory old.words 2 t i ≡ Table c
+pub table_cut : (old mid new : Pool) (t i c from value : ℕ) → IsTree old 2 t → i < 512 → i ≡ index_in 1 from → from % 512 ≡ 0 → memory old.words 2 t i ≡ Table c
     → IsRun old.words mid.words c from (from + 512) (λ p. Absent) → ((p : ℕ) → from ≤ p → p < from + 512 → word mid.words c (p % 512) ≡ 0) → mid.free ≡ old.free → mid.frames ≡ old.frames
     → IsWrite mid.words new.words t i value → new.free ≡ mid.free → new.frames ≡ mid.frames → memory new.words 2 t i ≡ Absent
-    → Moves old new 2 t (c ∷ []) × Unmaps old new 2 t from (from + 512) (c ∷ [])
+    → TakesAndGivesFrames old new 2 t (c ∷ []) × Unmaps old new 2 t from (from + 512) (c ∷ [])
 table_cut old mid new t i c from value tree a is even names run blank free frames wrote free' frames' now =
     let m : Memory = memory old.words in
     let n : Memory = memory new.words in

@@ -5,8 +5,8 @@ use Rattle.dmatypes.specs.World.{Target}
 use Rattle.vtdbits.specs.declared.entry.SsEntry.{SsEntry}
 use Rattle.vtdbits.specs.declared.entry.SsEntry.TheVariants.{Absent, Table}
 use Rattle.tables.specs.Tree.{Memory, Found, span, index_in, leaf_of, leaf_from, table_from}
-use Rattle.tables.specs.Pool.{Stored, memory, IsTree}
-use Rattle.tables.specs.Changes.{Moves, Maps}
+use Rattle.tables.specs.Pool.{Pool, memory, IsTree}
+use Rattle.tables.specs.Changes.{TakesAndGivesFrames, Maps}
 use Rattle.tables.specs.Lacks.{lacks_at}
 use Rattle.tables.proofs.Mapped.{maps_up}
 use Rattle.tables.proofs.Under.{under_moves, below_under}
@@ -22,16 +22,16 @@ piece_span l from to p some one low high =
     near_at 1 l p from some (div_span_one p ∙ (let e : p / 512 ≡ from / 512 = omega arith in e) ∙ sym (div_span_one from))
 
 -- a map through the table under an entry is one of the table
-abbrev pub Through : Stored → Stored → ℕ → ℕ → ℕ → ℕ → ℕ → ℕ → ℕ → (ℕ → Option Target) → Type 0
+abbrev pub Through : Pool → Pool → ℕ → ℕ → ℕ → ℕ → ℕ → ℕ → ℕ → (ℕ → Option Target) → Type 0
 Through old new level l t i c from to says =
-    Moves old new level t [] × Maps old new level t from to says × (memory new.words level t i ≡ Table c)
+    TakesAndGivesFrames old new level t [] × Maps old new level t from to says × (memory new.words level t i ≡ Table c)
 
-pub map_through : (old new : Stored) (level l t i c from to : ℕ) (says : ℕ → Option Target) → level ≡ suc l → 1 ≤ l → from / 512 ≡ (to - 1) / 512
+pub map_through : (old new : Pool) (level l t i c from to : ℕ) (says : ℕ → Option Target) → level ≡ suc l → 1 ≤ l → from / 512 ≡ (to - 1) / 512
     → IsTree old level t → i < 512 → i ≡ index_in l from → memory old.words level t i ≡ Table c
-    → Moves old new l c [] → Maps old new l c from to says → Through old new level l t i c from to says
+    → TakesAndGivesFrames old new l c [] → Maps old new l c from to says → Through old new level l t i c from to says
 map_through old new level l t i c from to says up some one =
     subst (λ n. IsTree old n t → i < 512 → i ≡ index_in l from → memory old.words n t i ≡ Table c
-    → Moves old new l c [] → Maps old new l c from to says → Through old new n l t i c from to says) (sym up)
+    → TakesAndGivesFrames old new l c [] → Maps old new l c from to says → Through old new n l t i c from to says) (sym up)
     (λ tree a is names moves maps.
     let both = below_under old new l t i c [] tree a names moves in
     (under_moves old new l t i [] tree a both.0, maps_up old new l t i c from to says tree a is names (λ p low high. piece_span l from to p some one low high) moves maps, both.1))

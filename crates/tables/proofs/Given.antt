@@ -4,7 +4,7 @@ use Rattle.std.proofs.lemmas.List.{take-append-le, take-take}
 use Rattle.std.proofs.lemmas.List.Sums.{sum_by-append}
 use Rattle.std.proofs.Math.Seq.{take-append-add, take-append_seam}
 use Rattle.tables.specs.Tree.{here}
-use Rattle.tables.specs.Pool.{Stored, occurs, IsZeroed, IsPool}
+use Rattle.tables.specs.Pool.{Pool, occurs, IsZeroed, IsPool}
 use Rattle.tables.proofs.Store.{longest}
 
 pub occurs-append : (f : ℕ) (xs ys : List ℕ) → occurs f (xs ++ ys) ≡ occurs f xs + occurs f ys
@@ -30,7 +30,7 @@ length_given limit xs front e le =
     ∙ omega (arith, length-append front (drop (length front) xs), length-drop (length front) xs)
 
 -- a pool with more free frames
-pub given_keeps : (pool : Stored) (given free : List ℕ) → IsPool pool → ((f : ℕ) → occurs f pool.free + occurs f given ≤ 1)
+pub given_keeps : (pool : Pool) (given free : List ℕ) → IsPool pool → ((f : ℕ) → occurs f pool.free + occurs f given ≤ 1)
     → ((f : ℕ) → 0 < occurs f given → f < pool.frames) → ((f : ℕ) → 0 < occurs f given → IsZeroed pool.words f)
     → free ≡ pool.free ++ given → IsPool (record pool { free = free })
 given_keeps pool given free ok once within zeroed e =
@@ -55,7 +55,7 @@ given_keeps pool given free ok once within zeroed e =
     either f (suc n) e some = ok.zeroed f (omega arith)
 
 -- the frames of a pool hold both
-pub given_fits : (pool : Stored) (given : List ℕ) → IsPool pool → ((f : ℕ) → occurs f pool.free + occurs f given ≤ 1)
+pub given_fits : (pool : Pool) (given : List ℕ) → IsPool pool → ((f : ℕ) → occurs f pool.free + occurs f given ≤ 1)
     → ((f : ℕ) → 0 < occurs f given → f < pool.frames) → length pool.free + length given ≤ pool.frames
 given_fits pool given ok once within =
     let all : length (pool.free ++ given) ≤ pool.frames = longest (pool.free ++ given) pool.frames (λ f. omega (arith, occurs-append f pool.free given, once f)) (λ f past. omega (arith, occurs-append f pool.free given, ok.within f past, none_past f past)) in
@@ -85,7 +85,7 @@ given_same : (words : List ℕ) (limit n : ℕ) (xs given : List ℕ) → limit 
     → ((f : ℕ) → occurs f (take n xs) + occurs f given ≤ 1) → ((f : ℕ) → 0 < occurs f given → f < length xs)
     → ((f : ℕ) → 0 < occurs f given → IsZeroed words f) → IsGiven words limit n (length given) xs xs given given
 given_same words limit n xs given e short ok once within zeroed =
-    let pool : Stored = record { words = words; free = take n xs; frames = length xs } in
+    let pool : Pool = record { words = words; free = take n xs; frames = length xs } in
     let k : ℕ = length given in
     let front : List ℕ = take n xs ++ (given ++ drop (n + k - n) (drop n xs)) in
     let fits : length (take n xs) + k ≤ length xs = given_fits pool given ok once within in

@@ -6,8 +6,8 @@ use Rattle.vtdbits.specs.Entry.{look}
 use Rattle.vtdbits.specs.declared.entry.SsEntry.TheVariants.{Absent, Table}
 use Rattle.tables.specs.Under.{Under, child}
 use Rattle.tables.specs.Tree.{Memory, span, index_in, leaf_from, table_from, stated, states, uses, here, entry_uses}
-use Rattle.tables.specs.Pool.{Stored, word, memory, occurs, IsTree, IsZeroed, IsWrite}
-use Rattle.tables.specs.Changes.{Moves, Maps}
+use Rattle.tables.specs.Pool.{Pool, word, memory, occurs, IsTree, IsZeroed, IsWrite}
+use Rattle.tables.specs.Changes.{TakesAndGivesFrames, Maps}
 use Rattle.tables.proofs.Here.{here-same}
 use Rattle.tables.proofs.Under.{under_moves, other_leaf, other_table, root_apart}
 use Rattle.tables.proofs.Steps.{leaf_under, table_under, table_top, too_high, same_or_not, same_span, uses-bare}
@@ -18,7 +18,7 @@ no_word : (t i f k : ℕ) → (f ≡ t → k ≡ i → ⊥) → f ≢ t ⊎ (k �
 no_word t i f k h = ⊎_elim (λ same. inr (λ e. h same e)) (λ ne. inl ne) (same_or_not f t)
 
 -- a table of nothing, in a frame that was free
-pub under_grown : (old new : Stored) (l t i c : ℕ) → IsTree old (suc (suc l)) t → i < 512
+pub under_grown : (old new : Pool) (l t i c : ℕ) → IsTree old (suc (suc l)) t → i < 512
     → memory old.words (suc (suc l)) t i ≡ Absent → memory new.words (suc (suc l)) t i ≡ Table c
     → ((f : ℕ) → occurs f new.free + here c f ≡ occurs f old.free) → IsBare (memory new.words) c
     → ((f k : ℕ) → k < 512 → (f ≡ t → k ≡ i → ⊥) → word new.words f k ≡ word old.words f k) → new.frames ≡ old.frames
@@ -38,14 +38,14 @@ under_grown old new l t i c tree a absent names free bare rest frames =
     }
 
 -- the facts of a grown table: nothing that is stated changes
-pub record IsGrown (old new : Stored) (l t i c : ℕ) : Type 0 where
+pub record IsGrown (old new : Pool) (l t i c : ℕ) : Type 0 where
   pub under : Under old new l t i []
   pub absent : memory old.words (suc l) t i ≡ Absent
   pub names : memory new.words (suc l) t i ≡ Table c
   pub bare : IsBare (memory new.words) c
   pub free : 0 < occurs c old.free
 
-pub grown_leaf : (old new : Stored) (l t i c p : ℕ) → IsTree old (suc l) t → i < 512 → IsGrown old new l t i c
+pub grown_leaf : (old new : Pool) (l t i c p : ℕ) → IsTree old (suc l) t → i < 512 → IsGrown old new l t i c
     → leaf_from (memory new.words) (suc l) t p ≡ leaf_from (memory old.words) (suc l) t p
 grown_leaf old new l t i c p tree a g =
     let m : Memory = memory old.words in
@@ -65,7 +65,7 @@ new_table n l c p w x bare h =
     (cases_lt w (suc l)))
     (same_or_not w (suc l))
 
-pub grown_maps : (old new : Stored) (l t i c from to : ℕ) → IsTree old (suc (suc l)) t → i < 512 → from < to → index_in (suc l) from ≡ i → IsGrown old new (suc l) t i c
+pub grown_maps : (old new : Pool) (l t i c from to : ℕ) → IsTree old (suc (suc l)) t → i < 512 → from < to → index_in (suc l) from ≡ i → IsGrown old new (suc l) t i c
     → Maps old new (suc (suc l)) t from to (states (memory old.words) (suc (suc l)) t)
 grown_maps old new l t i c from to tree a some is g =
     let m : Memory = memory old.words in
@@ -114,14 +114,14 @@ grown_maps old new l t i c from to tree a some is g =
     }
 
 -- what the making of a table is
-pub record Grows (old new : Stored) (level l t i c : ℕ) : Type 0 where
-  pub moves : Moves old new level t []
+pub record Grows (old new : Pool) (level l t i c : ℕ) : Type 0 where
+  pub moves : TakesAndGivesFrames old new level t []
   pub maps : (from to : ℕ) → from < to → index_in l from ≡ i → Maps old new level t from to (states (memory old.words) level t)
   pub leaves : (p : ℕ) → leaf_from (memory new.words) level t p ≡ leaf_from (memory old.words) level t p
   pub names : memory new.words level t i ≡ Table c
   pub zeroed : IsZeroed new.words c
 
-grows_two : (old mid new : Stored) (l t i c value : ℕ) → IsTree old (suc (suc l)) t → i < 512 → memory old.words (suc (suc l)) t i ≡ Absent
+grows_two : (old mid new : Pool) (l t i c value : ℕ) → IsTree old (suc (suc l)) t → i < 512 → memory old.words (suc (suc l)) t i ≡ Absent
     → look (suc (suc l)) value ≡ Table c → ((f : ℕ) → occurs f mid.free + here c f ≡ occurs f old.free) → IsZeroed mid.words c → mid.words ≡ old.words → mid.frames ≡ old.frames
     → IsWrite mid.words new.words t i value → new.free ≡ mid.free → new.frames ≡ mid.frames → Grows old new (suc (suc l)) (suc l) t i c
 grows_two old mid new l t i c value tree a absent reads free zeroed same_words same_frames wrote same_free frames =
@@ -143,7 +143,7 @@ grows_two old mid new l t i c value tree a absent reads free zeroed same_words s
       zeroed = zeroed_now;
     }
 
-pub grows : (old mid new : Stored) (level l t i c value : ℕ) → level ≡ suc (suc l) → IsTree old level t → i < 512 → memory old.words level t i ≡ Absent
+pub grows : (old mid new : Pool) (level l t i c value : ℕ) → level ≡ suc (suc l) → IsTree old level t → i < 512 → memory old.words level t i ≡ Absent
     → look level value ≡ Table c → ((f : ℕ) → occurs f mid.free + here c f ≡ occurs f old.free) → IsZeroed mid.words c → mid.words ≡ old.words → mid.frames ≡ old.frames
     → IsWrite mid.words new.words t i value → new.free ≡ mid.free → new.frames ≡ mid.frames → Grows old new level (suc l) t i c
 grows old mid new level l t i c value up =

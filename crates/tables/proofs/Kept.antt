@@ -6,8 +6,8 @@ use Rattle.std.proofs.lemmas.Option.{none-some}
 use Rattle.std.specs.Prelude.{OnOk, OnErr, Result, Ok, Err}
 use Rattle.dmatypes.specs.World.{Target}
 use Rattle.tables.specs.Tree.{Memory, Found, span, leaf_from, stated, states, uses, IsLeafAt, IsTableAt}
-use Rattle.tables.specs.Pool.{Stored, word, memory, occurs, IsTree}
-use Rattle.tables.specs.Changes.{Moves, Maps, IsApart, Stays}
+use Rattle.tables.specs.Pool.{Pool, word, memory, occurs, IsTree}
+use Rattle.tables.specs.Changes.{TakesAndGivesFrames, Maps, IsApart, Stays}
 use Rattle.tables.proofs.Agree.{AgreeAt, to_agree, leaf_agrees, table_agrees, uses_agree}
 use Rattle.tables.proofs.Words.{same_entry}
 use Rattle.tables.proofs.Near.{div_within, near_at, span_pos}
@@ -29,7 +29,7 @@ stated_none p None h = refl
 stated_none p (Some x) h = cc
 
 -- a map leaves every leaf entry
-pub map_leaves : (old new : Stored) (level root from to : ℕ) (says : ℕ → Option Target) → 1 ≤ level → from < span level → ((p : ℕ) → from ≤ p → p < to → states (memory old.words) level root p ≡ None)
+pub map_leaves : (old new : Pool) (level root from to : ℕ) (says : ℕ → Option Target) → 1 ≤ level → from < span level → ((p : ℕ) → from ≤ p → p < to → states (memory old.words) level root p ≡ None)
     → Maps old new level root from to says → (first pages frame rights : ℕ) → IsLeafAt (memory old.words) level root first pages frame rights → IsLeafAt (memory new.words) level root first pages frame rights
 map_leaves old new level root from to says some within absent maps first pages frame rights (j, leaf) = (
   j,
@@ -55,7 +55,7 @@ map_leaves old new level root from to says some within absent maps first pages f
         (cases_lt p to))
         (cases_lt p from)
 
-pub map_tables : (old new : Stored) (height root from to : ℕ) (says : ℕ → Option Target) → Maps old new height root from to says
+pub map_tables : (old new : Pool) (height root from to : ℕ) (says : ℕ → Option Target) → Maps old new height root from to says
     → (first level table : ℕ) → IsTableAt (memory old.words) height root first level table → IsTableAt (memory new.words) height root first level table
 map_tables old new height root from to says maps first level table at =
     (at.0, at.1, at.2, at.3, λ p low high. maps.tables p level table (at.4 p low high))
@@ -65,7 +65,7 @@ none_or_some zero = inl refl
 none_or_some (suc n) = inr (omega arith)
 
 -- a tree apart from the one that changed stays
-pub apart_stays : (old new : Stored) (l t l' t' : ℕ) (cut : List ℕ) → IsTree old l t → Moves old new l t cut → IsTree old l' t' → IsApart old l t l' t' → Stays old new l' t'
+pub apart_stays : (old new : Pool) (l t l' t' : ℕ) (cut : List ℕ) → IsTree old l t → TakesAndGivesFrames old new l t cut → IsTree old l' t' → IsApart old l t l' t' → Stays old new l' t'
 apart_stays old new l t l' t' cut first moves tree apart =
     let m : Memory = memory old.words in
     let n : Memory = memory new.words in
@@ -92,7 +92,7 @@ on_done (Ok a) ok f = f ok
 on_done (Err e) ok f = ok
 
 -- a tree apart from one that was given back stays
-pub given_stays : (old new : Stored) (l t l' t' : ℕ) → IsTree old l t → ((f : ℕ) → occurs f new.free ≡ occurs f old.free + uses (memory old.words) l t f)
+pub given_stays : (old new : Pool) (l t l' t' : ℕ) → IsTree old l t → ((f : ℕ) → occurs f new.free ≡ occurs f old.free + uses (memory old.words) l t f)
     → ((f k : ℕ) → k < 512 → uses (memory old.words) l t f ≡ 0 → word new.words f k ≡ word old.words f k) → new.frames ≡ old.frames
     → IsTree old l' t' → IsApart old l t l' t' → Stays old new l' t'
 given_stays old new l t l' t' first free others frames tree apart =

@@ -5,14 +5,14 @@ use Rattle.vtdbits.specs.declared.entry.SsEntry.{SsEntry}
 use Rattle.vtdbits.specs.declared.entry.SsEntry.TheVariants.{Absent, LargeLeaf}
 use Rattle.tables.specs.Under.{Under, child}
 use Rattle.tables.specs.Tree.{Memory, index_in, table_of, table_from, stated, uses, entry_uses}
-use Rattle.tables.specs.Pool.{Stored, memory, occurs, IsTree, IsWrite}
-use Rattle.tables.specs.Changes.{Moves, Maps}
+use Rattle.tables.specs.Pool.{Pool, memory, occurs, IsTree, IsWrite}
+use Rattle.tables.specs.Changes.{TakesAndGivesFrames, Maps}
 use Rattle.tables.proofs.Under.{under_moves, other_leaf, other_table}
 use Rattle.tables.proofs.Level.{stated_large}
 use Rattle.tables.proofs.Steps.{leaf_under, table_under, table_top, same_or_not, same_span, div_span_one, same_index}
 
 -- an entry was written that uses no frame, where there was none
-pub under_written : (old new : Stored) (l t i value : ℕ) (before after : SsEntry) → IsWrite old.words new.words t i value → new.free ≡ old.free → new.frames ≡ old.frames
+pub under_written : (old new : Pool) (l t i value : ℕ) (before after : SsEntry) → IsWrite old.words new.words t i value → new.free ≡ old.free → new.frames ≡ old.frames
     → memory old.words (suc l) t i ≡ before → memory new.words (suc l) t i ≡ after
     → ((below : ℕ → ℕ) → entry_uses before below ≡ 0) → ((below : ℕ → ℕ) → entry_uses after below ≡ 0) → Under old new l t i []
 under_written old new l t i value before after wrote free frames was is none none_now =
@@ -34,7 +34,7 @@ pub no_table_at : (m : Memory) (l t p w i : ℕ) (e : SsEntry) → index_in l p 
 no_table_at m l t p w i e at is none lower = table_under m l t p w e lower (ap (λ j. m (suc l) t j) at ∙ is) ∙ none (λ c. table_from m l c p w)
 
 -- the tables, where one entry without a table took the place of another
-pub same_tables : (old new : Stored) (l t i p w : ℕ) (cut : List ℕ) (before after : SsEntry) → IsTree old (suc l) t → i < 512 → Under old new l t i cut
+pub same_tables : (old new : Pool) (l t i p w : ℕ) (cut : List ℕ) (before after : SsEntry) → IsTree old (suc l) t → i < 512 → Under old new l t i cut
     → memory old.words (suc l) t i ≡ before → memory new.words (suc l) t i ≡ after
     → ((below : ℕ → Option ℕ) → table_of before below ≡ None) → ((below : ℕ → Option ℕ) → table_of after below ≡ None)
     → table_from (memory new.words) (suc l) t p w ≡ table_from (memory old.words) (suc l) t p w
@@ -48,10 +48,10 @@ same_tables old new l t i p w cut before after tree a u was is none none_now =
     (same_or_not (index_in l p) i)
 
 -- the leaf of 512 pages, from its first page on
-pub large_maps : (old new : Stored) (t i from frame rights value : ℕ) → IsTree old 2 t → i < 512 → i ≡ index_in 1 from → from % 512 ≡ 0
+pub large_maps : (old new : Pool) (t i from frame rights value : ℕ) → IsTree old 2 t → i < 512 → i ≡ index_in 1 from → from % 512 ≡ 0
     → IsWrite old.words new.words t i value → new.free ≡ old.free → new.frames ≡ old.frames
     → memory old.words 2 t i ≡ Absent → memory new.words 2 t i ≡ LargeLeaf (target frame rights)
-    → Moves old new 2 t [] × Maps old new 2 t from (from + 512) (λ p. Some (target (frame + (p - from)) rights))
+    → TakesAndGivesFrames old new 2 t [] × Maps old new 2 t from (from + 512) (λ p. Some (target (frame + (p - from)) rights))
     × ((p w : ℕ) → table_from (memory new.words) 2 t p w ≡ table_from (memory old.words) 2 t p w)
 large_maps old new t i from frame rights value tree a at aligned wrote free frames was is =
     let n : Memory = memory new.words in

@@ -7,7 +7,7 @@ use Rattle.vtdbits.specs.declared.entry.SsEntry.TheVariants.{Table}
 use Rattle.vtdbits.specs.Translation.{target}
 use Rattle.dmatypes.specs.World.{Target}
 use Rattle.tables.specs.Tree.{Memory, span, index_in, leaf_of, table_of, leaf_from, table_from, stated, states, is_large_leaf}
-use Rattle.tables.specs.Pool.{Stored, memory, occurs, IsTree}
+use Rattle.tables.specs.Pool.{Pool, memory, occurs, IsTree}
 use Rattle.tables.proofs.Steps.{leaf_under, table_under, table_top, span-zero, span-one}
 use Rattle.tables.proofs.Under.{root_in, root_taken, below_in}
 
@@ -21,13 +21,13 @@ table_level m l t p w level e up =
 pub top_level : (m : Memory) (l t p w level : ℕ) → level ≡ suc l → w ≡ level → table_from m level t p w ≡ Some t
 top_level m l t p w level up = subst (λ n. w ≡ n → table_from m n t p w ≡ Some t) (sym up) (table_top m l t p w)
 
-pub root_in_level : (pool : Stored) (l t level : ℕ) → level ≡ suc l → IsTree pool level t → t < pool.frames
+pub root_in_level : (pool : Pool) (l t level : ℕ) → level ≡ suc l → IsTree pool level t → t < pool.frames
 root_in_level pool l t level up tree = root_in pool l t (subst (λ n. IsTree pool n t) up tree)
 
-pub root_taken_level : (pool : Stored) (l t level : ℕ) → level ≡ suc l → IsTree pool level t → occurs t pool.free ≡ 0
+pub root_taken_level : (pool : Pool) (l t level : ℕ) → level ≡ suc l → IsTree pool level t → occurs t pool.free ≡ 0
 root_taken_level pool l t level up tree = root_taken pool l t (subst (λ n. IsTree pool n t) up tree)
 
-pub below_level : (pool : Stored) (l t i c level : ℕ) → level ≡ suc l → IsTree pool level t → i < 512 → memory pool.words level t i ≡ Table c → IsTree pool l c
+pub below_level : (pool : Pool) (l t i c level : ℕ) → level ≡ suc l → IsTree pool level t → i < 512 → memory pool.words level t i ≡ Table c → IsTree pool l c
 below_level pool l t i c level up =
     subst (λ n. IsTree pool n t → i < 512 → memory pool.words n t i ≡ Table c → IsTree pool l c) (sym up) (below_in pool l t i c)
 

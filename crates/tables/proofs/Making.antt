@@ -3,15 +3,15 @@ use Rattle.std.proofs.Common.{◌≡◌, ℕ, ◌*◌, ◌/◌, ◌%◌, ◌<◌
 use Rattle.std.proofs.lemmas.Bool.{cases_lt}
 use Rattle.dmatypes.specs.World.{Target}
 use Rattle.tables.specs.Tree.{Memory, span, table_from}
-use Rattle.tables.specs.Pool.{Stored, memory}
-use Rattle.tables.specs.Changes.{Maps, Makes}
+use Rattle.tables.specs.Pool.{Pool, memory}
+use Rattle.tables.specs.Changes.{Maps, MakesTables}
 use Rattle.tables.proofs.Counting.{Placed, near_same, piece_near}
 use Rattle.tables.proofs.Steps.{div_span_one}
 
 true_false : true ≡ false → ⊥
 true_false e = cc
 
-pub no_makes : (pool : Stored) (level t first : ℕ) (large : ℕ → Bool) → Makes pool pool level t first first large
+pub no_makes : (pool : Pool) (level t first : ℕ) (large : ℕ → Bool) → MakesTables pool pool level t first first large
 no_makes pool level t first large = record {
   made = λ p w low high some lower ok. absurd (omega arith);
   spared = λ p low high deep big. absurd (omega arith);
@@ -22,12 +22,12 @@ some_stays m n level t p w stays None e h = cc
 some_stays m n level t p w stays (Some c) e h = subst (λ (o : Option ℕ). IsSome o) (sym (stays c e)) refl
 
 -- one piece more
-pub makes_then : (old cur new : Stored) (level t first from to : ℕ) (says says' : ℕ → Option Target) (large : ℕ → Bool) (b : Bool) → first ≤ from
+pub makes_then : (old cur new : Pool) (level t first from to : ℕ) (says says' : ℕ → Option Target) (large : ℕ → Bool) (b : Bool) → first ≤ from
     → ((p : ℕ) → first ≤ p → p < to → p / span level ≡ first / span level)
-    → Makes old cur level t first from large → Maps old cur level t first from says → Placed cur new level t from to says' b
+    → MakesTables old cur level t first from large → Maps old cur level t first from says → Placed cur new level t from to says' b
     → large (from / 512 * 512) ≡ b → (0 < from % 512 → b ≡ false)
     → (1 < level → b ≡ true → table_from (memory new.words) level t from 1 ≡ table_from (memory cur.words) level t from 1)
-    → Makes old new level t first to large
+    → MakesTables old new level t first to large
 makes_then old cur new level t first from to says says' large b le wide makes maps x flag start spared = record {
   made = λ p w low high some lower ok.
       ⊎_elim

@@ -5,14 +5,14 @@ use Rattle.dmatypes.specs.World.{Target}
 use Rattle.vtdbits.specs.declared.entry.SsEntry.TheVariants.{Table}
 use Rattle.tables.specs.Under.{Under}
 use Rattle.tables.specs.Tree.{Memory, span, index_in, leaf_from, table_from, stated, states}
-use Rattle.tables.specs.Pool.{Stored, memory, occurs, IsTree}
-use Rattle.tables.specs.Changes.{Moves, Maps, IsOutside}
+use Rattle.tables.specs.Pool.{Pool, memory, occurs, IsTree}
+use Rattle.tables.specs.Changes.{TakesAndGivesFrames, Maps, IsOutside}
 use Rattle.tables.proofs.Given.{occurs-append}
 use Rattle.tables.proofs.Under.{below_under, other_leaf, other_table}
 use Rattle.tables.proofs.Steps.{leaf_under, table_under, table_top, same_or_not, same_span, same_index}
 
 -- the frames of two changes in a row
-pub moves_then : (a b c : Stored) (level t : ℕ) (cut more : List ℕ) → Moves a b level t cut → Moves b c level t more → Moves a c level t (cut ++ more)
+pub moves_then : (a b c : Pool) (level t : ℕ) (cut more : List ℕ) → TakesAndGivesFrames a b level t cut → TakesAndGivesFrames b c level t more → TakesAndGivesFrames a c level t (cut ++ more)
 moves_then a b c level t cut more x y = record {
   account = λ f. omega (arith, x.account f, y.account f, occurs-append f cut more);
   fewer = λ f. omega (arith, x.fewer f, y.fewer f);
@@ -20,7 +20,7 @@ moves_then a b c level t cut more x y = record {
   frames = y.frames ∙ x.frames;
 }
 
-pub no_moves : (a : Stored) (level t : ℕ) → Moves a a level t []
+pub no_moves : (a : Pool) (level t : ℕ) → TakesAndGivesFrames a a level t []
 no_moves a level t = record {
   account = λ f. omega arith;
   fewer = λ f. omega arith;
@@ -38,9 +38,9 @@ table_either m n l t c p w x P e f h same below =
     (same_or_not w (suc l))
 
 -- a map under an entry is one of the table
-pub maps_up : (old new : Stored) (l t i c from to : ℕ) (says : ℕ → Option Target) → IsTree old (suc l) t → i < 512 → i ≡ index_in l from
+pub maps_up : (old new : Pool) (l t i c from to : ℕ) (says : ℕ → Option Target) → IsTree old (suc l) t → i < 512 → i ≡ index_in l from
     → memory old.words (suc l) t i ≡ Table c → ((p : ℕ) → from ≤ p → p < to → p / span l ≡ from / span l)
-    → Moves old new l c [] → Maps old new l c from to says → Maps old new (suc l) t from to says
+    → TakesAndGivesFrames old new l c [] → Maps old new l c from to says → Maps old new (suc l) t from to says
 maps_up old new l t i c from to says tree a is names one moves maps =
     let m : Memory = memory old.words in
     let n : Memory = memory new.words in
@@ -79,8 +79,8 @@ maps_up old new l t i c from to says tree a is names one moves maps =
     }
 
 -- a map after a change that left what is stated
-pub maps_over : (a b c : Stored) (level t from to : ℕ) (says : ℕ → Option Target) → ((p : ℕ) → leaf_from (memory b.words) level t p ≡ leaf_from (memory a.words) level t p)
-    → Moves a b level t [] → Maps a b level t from to (states (memory a.words) level t) → Maps b c level t from to says → Maps a c level t from to says
+pub maps_over : (a b c : Pool) (level t from to : ℕ) (says : ℕ → Option Target) → ((p : ℕ) → leaf_from (memory b.words) level t p ≡ leaf_from (memory a.words) level t p)
+    → TakesAndGivesFrames a b level t [] → Maps a b level t from to (states (memory a.words) level t) → Maps b c level t from to says → Maps a c level t from to says
 maps_over a b c level t from to says leaves moves x y = record {
   mapped = y.mapped;
   elsewhere = λ p wide out. y.elsewhere p wide out ∙ leaves p;
@@ -89,7 +89,7 @@ maps_over a b c level t from to says leaves moves x y = record {
   clear = λ p w wide far. y.clear p w wide far ∙ x.clear p w wide far;
 }
 
-pub no_maps : (a : Stored) (level t from : ℕ) (says : ℕ → Option Target) → Maps a a level t from from says
+pub no_maps : (a : Pool) (level t from : ℕ) (says : ℕ → Option Target) → Maps a a level t from from says
 no_maps a level t from says = record {
   mapped = λ p low high. absurd (omega (arith, low, high));
   elsewhere = λ p wide out. refl;
@@ -103,9 +103,9 @@ before from mid to p lo hi (inl h) = (inl h, inl (omega arith))
 before from mid to p lo hi (inr h) = (inr (omega arith), inr h)
 
 -- two maps one after the other, of pages one after the other
-pub maps_then : (a b c : Stored) (level t from mid to : ℕ) (says : ℕ → Option Target) → from ≤ mid → mid < to
+pub maps_then : (a b c : Pool) (level t from mid to : ℕ) (says : ℕ → Option Target) → from ≤ mid → mid < to
     → ((p : ℕ) → from ≤ p → p < to → p / span level ≡ from / span level)
-    → Moves a b level t [] → Maps a b level t from mid says → Maps b c level t mid to says → Maps a c level t from to says
+    → TakesAndGivesFrames a b level t [] → Maps a b level t from mid says → Maps b c level t mid to says → Maps a c level t from to says
 maps_then a b c level t from mid to says lo hi one moves x y =
     let shift : from / span level ≡ mid / span level = sym (one mid lo hi) in
     record {
@@ -124,7 +124,7 @@ maps_then a b c level t from mid to says lo hi one moves x y =
     }
 
 -- what is said of the pages counts alone
-pub maps_said : (a b : Stored) (level t from to : ℕ) (says tells : ℕ → Option Target) → ((p : ℕ) → from ≤ p → p < to → says p ≡ tells p) → Maps a b level t from to says → Maps a b level t from to tells
+pub maps_said : (a b : Pool) (level t from to : ℕ) (says tells : ℕ → Option Target) → ((p : ℕ) → from ≤ p → p < to → says p ≡ tells p) → Maps a b level t from to says → Maps a b level t from to tells
 maps_said a b level t from to says tells same x = record {
   mapped = λ p low high. x.mapped p low high ∙ same p low high;
   elsewhere = x.elsewhere;

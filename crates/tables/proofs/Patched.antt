@@ -3,7 +3,7 @@ use Rattle.std.proofs.Common.{◌≡◌, ℕ, ◌+◌, ◌-◌, ◌*◌, ◌<◌
 use Rattle.std.proofs.Math.Seq.{take-length}
 use Rattle.std.proofs.lemmas.List.{take-append-le, length-take-le, get_or-take, get_or-drop, get_or_append_left, get_or-append_right}
 use Rattle.std.proofs.lemmas.Bool.{cases_lt}
-use Rattle.tables.specs.Pool.{Stored, word, occurs, IsPool, IsRest}
+use Rattle.tables.specs.Pool.{Pool, word, occurs, IsPool, IsRest}
 
 -- a list whose elements from a up to b were lent, and came back as others
 abbrev pub put_back : ℕ → ℕ → List ℕ → List ℕ → List ℕ
@@ -49,13 +49,13 @@ read_above a b i xs new le within long high =
     ∙ ap (λ n. get_or xs n 0) place
 
 -- in a pool a run of words of a frame in use was replaced
-pub record IsPatch (pool : Stored) (new : List ℕ) (table from : ℕ) (run : List ℕ) : Type 0 where
+pub record IsPatch (pool : Pool) (new : List ℕ) (table from : ℕ) (run : List ℕ) : Type 0 where
   pub keeps : IsPool (record pool { words = new })
   pub inside : (k : ℕ) → k < length run → word new table (from + k) ≡ get_or run k 0
   pub rest : IsRest pool.words new table from (length run)
 
 -- the words of such a pool, where the place of the run in the list is counted from the frame's number
-pub patch : (limit n t i count : ℕ) (pool : Stored) (ys run : List ℕ) → n ≡ t → ys ≡ pool.words → limit ≡ length pool.words → IsPool pool → t < pool.frames
+pub patch : (limit n t i count : ℕ) (pool : Pool) (ys run : List ℕ) → n ≡ t → ys ≡ pool.words → limit ≡ length pool.words → IsPool pool → t < pool.frames
     → occurs t pool.free ≡ 0 → i + count ≤ 512 → length run ≡ count
     → IsPatch pool (patched limit (n * 512 + i) (n * 512 + i + count) pool.words ys run) t i run
 unfolding word

@@ -5,8 +5,8 @@ use Rattle.vtdbits.specs.Entry.{look}
 use Rattle.vtdbits.specs.declared.entry.SsEntry.{SsEntry}
 use Rattle.vtdbits.specs.declared.entry.SsEntry.TheVariants.{Absent, Table, Leaf, LargeLeaf}
 use Rattle.tables.specs.Tree.{Memory, index_in, leaf_of, table_of, leaf_from, table_from, stated, here}
-use Rattle.tables.specs.Pool.{Stored, word, memory, occurs, IsRest}
-use Rattle.tables.specs.Changes.{Moves, Maps, IsOutside}
+use Rattle.tables.specs.Pool.{Pool, word, memory, occurs, IsRest}
+use Rattle.tables.specs.Changes.{TakesAndGivesFrames, Maps, IsOutside}
 use Rattle.tables.specs.Pieces.{IsRun}
 use Rattle.tables.proofs.Here.{here-same}
 use Rattle.tables.proofs.Words.{same_entry, memory_at}
@@ -32,8 +32,8 @@ pub table_one : (m n : Memory) (t p w : ℕ) → table_from n 1 t p w ≡ table_
 table_one m n t p w =
     ⊎_elim (λ top. table_top n 0 t p w top ∙ sym (table_top m 0 t p w top)) (λ lower. no_table n t p w lower ∙ sym (no_table m t p w lower)) (same_or_not w 1)
 
-pub run_moves : (old new : Stored) (t from to : ℕ) (entry : ℕ → SsEntry) → IsRun old.words new.words t from to entry
-    → new.free ≡ old.free → new.frames ≡ old.frames → Moves old new 1 t []
+pub run_moves : (old new : Pool) (t from to : ℕ) (entry : ℕ → SsEntry) → IsRun old.words new.words t from to entry
+    → new.free ≡ old.free → new.frames ≡ old.frames → TakesAndGivesFrames old new 1 t []
 run_moves old new t from to entry run free frames = record {
   account = λ f. omega (arith, uses-one (memory old.words) t f, uses-one (memory new.words) t f, ap (λ xs. occurs f xs) free);
   fewer = λ f. omega (arith, ap (λ xs. occurs f xs) free);
@@ -43,7 +43,7 @@ run_moves old new t from to entry run free frames = record {
 }
 
 -- the leaf of a page of the run
-pub run_leaf : (old new : Stored) (t from to p : ℕ) (entry : ℕ → SsEntry) (e : SsEntry) → IsRun old.words new.words t from to entry → from ≤ p → p < to → entry p ≡ e
+pub run_leaf : (old new : Pool) (t from to p : ℕ) (entry : ℕ → SsEntry) (e : SsEntry) → IsRun old.words new.words t from to entry → from ≤ p → p < to → entry p ≡ e
     → leaf_from (memory new.words) 1 t p ≡ leaf_of e 0 (λ c. leaf_from (memory new.words) 0 c p)
 run_leaf old new t from to p entry e run low high is =
     leaf_under (memory new.words) 0 t p e (ap (λ i. memory new.words 1 t i) (index-zero p) ∙ run.entries p low high ∙ is)
@@ -53,7 +53,7 @@ not_both from to p q (inl h) e low high = omega arith
 not_both from to p q (inr h) e low high = omega arith
 
 -- and of another page in the span
-pub run_rest : (old new : Stored) (t from to p : ℕ) (entry : ℕ → SsEntry) → IsRun old.words new.words t from to entry
+pub run_rest : (old new : Pool) (t from to p : ℕ) (entry : ℕ → SsEntry) → IsRun old.words new.words t from to entry
     → ((q : ℕ) → from ≤ q → q < to → q / 512 ≡ from / 512) → p / 512 ≡ from / 512 → IsOutside from to p
     → leaf_from (memory new.words) 1 t p ≡ leaf_from (memory old.words) 1 t p
 run_rest old new t from to p entry run one same out =
@@ -66,7 +66,7 @@ run_rest old new t from to p entry run one same out =
     ∙ leaf_by (memory old.words) (memory new.words) 0 p (memory old.words 1 t (index_in 0 p)) (λ c e. leaf-zero (memory new.words) c p ∙ sym (leaf-zero (memory old.words) c p))
     ∙ sym (leaf_under (memory old.words) 0 t p (memory old.words 1 t (index_in 0 p)) refl)
 
-pub run_maps : (old new : Stored) (t from to : ℕ) (entry : ℕ → SsEntry) (says : ℕ → Target) → IsRun old.words new.words t from to entry
+pub run_maps : (old new : Pool) (t from to : ℕ) (entry : ℕ → SsEntry) (says : ℕ → Target) → IsRun old.words new.words t from to entry
     → ((q : ℕ) → from ≤ q → q < to → q / 512 ≡ from / 512) → ((p : ℕ) → entry p ≡ Leaf (says p)) → Maps old new 1 t from to (λ p. Some (says p))
 run_maps old new t from to entry says run one leaves = record {
   mapped = λ p low high. ap (stated p) (run_leaf old new t from to p entry (Leaf (says p)) run low high (leaves p)) ∙ stated_small p 0 (says p) refl;

@@ -8,7 +8,7 @@ use Rattle.vtdbits.proofs.Entries.{leaf_looked, large_leaf_looked}
 use Rattle.vtdbits.specs.declared.entry.SsEntry.{SsEntry}
 use Rattle.vtdbits.specs.declared.entry.SsEntry.TheVariants.{Absent, Table, Leaf, LargeLeaf}
 use Rattle.tables.specs.Tree.{Found, span, index_in, leaf_of, leaf_from, is_large_leaf}
-use Rattle.tables.specs.Pool.{Stored, word, memory}
+use Rattle.tables.specs.Pool.{Pool, word, memory}
 use Rattle.tables.specs.Changes.{Unmaps}
 use Rattle.tables.specs.Lacks.{splitting}
 use Rattle.tables.specs.Pieces.{piece_splits}
@@ -60,7 +60,7 @@ same_large words l t p q near = by_both (is_large_leaf (leaf_from (memory words)
     by_both false false x y = refl
 
 -- a leaf behind pages that were unmapped up to an edge is as it was
-pub leaf_ahead : (old cur : Stored) (level root from place : ℕ) (cut : List ℕ) → Unmaps old cur level root from place cut → ((place % 512 ≡ 0) ⊎ (place ≡ from)) → place / span level ≡ from / span level
+pub leaf_ahead : (old cur : Pool) (level root from place : ℕ) (cut : List ℕ) → Unmaps old cur level root from place cut → ((place % 512 ≡ 0) ⊎ (place ≡ from)) → place / span level ≡ from / span level
     → IsSome (leaf_from (memory old.words) level root place) → leaf_from (memory cur.words) level root place ≡ leaf_from (memory old.words) level root place
 leaf_ahead old cur level root from place cut un edge wide there = by_leaf (leaf_from (memory old.words) level root place) refl there
   where
@@ -79,7 +79,7 @@ leaf_ahead old cur level root from place cut un edge wide there = by_leaf (leaf_
     by_leaf (Some x) e h = un.leaves place x wide e (far x (leaf_size old.words level root place x e))
 
 -- what a piece splits is what its span splits of the whole
-pub piece_is : (old cur : Stored) (level root from to place next : ℕ) → from ≤ place → place < next → next ≤ to → place / 512 ≡ (next - 1) / 512 → ((place % 512 ≡ 0) ⊎ (place ≡ from))
+pub piece_is : (old cur : Pool) (level root from to place next : ℕ) → from ≤ place → place < next → next ≤ to → place / 512 ≡ (next - 1) / 512 → ((place % 512 ≡ 0) ⊎ (place ≡ from))
     → ((next % 512 ≡ 0) ⊎ (next ≡ to)) → leaf_from (memory cur.words) level root place ≡ leaf_from (memory old.words) level root place
     → piece_splits (memory cur.words) level root place next ≡ splitting (memory old.words) level root from to (place / 512 * 512)
 piece_is old cur level root from to place next low some high one edge end same =

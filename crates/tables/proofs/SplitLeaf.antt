@@ -9,8 +9,8 @@ use Rattle.vtdbits.specs.declared.entry.SsEntry.{SsEntry}
 use Rattle.vtdbits.specs.declared.entry.SsEntry.TheVariants.{Table, Leaf, LargeLeaf}
 use Rattle.tables.specs.Under.{IsSplit, Under, child}
 use Rattle.tables.specs.Tree.{Memory, Found, span, index_in, leaf_from, stated, states, uses, here, entry_uses, is_large_leaf}
-use Rattle.tables.specs.Pool.{Stored, word, memory, occurs, IsTree, IsWrite}
-use Rattle.tables.specs.Changes.{Moves, Unmaps}
+use Rattle.tables.specs.Pool.{Pool, word, memory, occurs, IsTree, IsWrite}
+use Rattle.tables.specs.Changes.{TakesAndGivesFrames, Unmaps}
 use Rattle.tables.specs.Pieces.{IsRun, piece_splits}
 use Rattle.tables.proofs.Here.{here-same}
 use Rattle.tables.proofs.Level.{stated_small, stated_large}
@@ -22,7 +22,7 @@ use Rattle.tables.proofs.Words.{same_entry, memory_at}
 use Rattle.tables.proofs.Under.{under_moves, other_leaf, other_table, root_apart}
 
 -- a large leaf became a table, in a frame that was free
-pub under_split : (old new : Stored) (t i c : ℕ) (x : Target) → IsTree old 2 t → i < 512 → memory old.words 2 t i ≡ LargeLeaf x → memory new.words 2 t i ≡ Table c
+pub under_split : (old new : Pool) (t i c : ℕ) (x : Target) → IsTree old 2 t → i < 512 → memory old.words 2 t i ≡ LargeLeaf x → memory new.words 2 t i ≡ Table c
     → ((f : ℕ) → occurs f new.free + here c f ≡ occurs f old.free) → ((f k : ℕ) → k < 512 → f ≢ t → f ≢ c → word new.words f k ≡ word old.words f k)
     → ((k : ℕ) → k < 512 → k ≢ i → word new.words t k ≡ word old.words t k) → new.frames ≡ old.frames → Under old new 1 t i []
 under_split old new t i c x tree a was is free stay row frames = record {
@@ -37,7 +37,7 @@ under_split old new t i c x tree a was is free stay row frames = record {
 }
 
 -- the making of the table: a free frame, its leaves, and the entry
-pub splits : (old took ran new : Stored) (t i page c value : ℕ) (entry : ℕ → SsEntry) (x : Target) → IsTree old 2 t → i < 512 → memory old.words 2 t i ≡ LargeLeaf x
+pub splits : (old took ran new : Pool) (t i page c value : ℕ) (entry : ℕ → SsEntry) (x : Target) → IsTree old 2 t → i < 512 → memory old.words 2 t i ≡ LargeLeaf x
     → ((f : ℕ) → occurs f took.free + here c f ≡ occurs f old.free) → took.words ≡ old.words → took.frames ≡ old.frames
     → IsRun took.words ran.words c (page / 512 * 512) (page / 512 * 512 + 512) entry → ran.free ≡ took.free → ran.frames ≡ took.frames
     → IsWrite ran.words new.words t i value → new.free ≡ ran.free → new.frames ≡ ran.frames → look 2 value ≡ Table c
@@ -63,7 +63,7 @@ splits old took ran new t i page c value entry x tree a was free words frames ru
     }
 
 -- the table before it is linked: it spells the leaf, which is still there
-pub spells_leaf : (took ran : Stored) (page c : ℕ) (entry : ℕ → SsEntry) (x : Target) → IsRun took.words ran.words c (page / 512 * 512) (page / 512 * 512 + 512) entry
+pub spells_leaf : (took ran : Pool) (page c : ℕ) (entry : ℕ → SsEntry) (x : Target) → IsRun took.words ran.words c (page / 512 * 512) (page / 512 * 512 + 512) entry
     → ((p : ℕ) → page / 512 * 512 ≤ p → p < page / 512 * 512 + 512 → entry p ≡ Leaf (target (x.frame + p % 512) x.rights))
     → (i : ℕ) → i < 512 → memory ran.words 1 c i ≡ Leaf (target (x.frame + i) x.rights)
 spells_leaf took ran page c entry x run leaves i small =
@@ -71,7 +71,7 @@ spells_leaf took ran page c entry x run leaves i small =
     let at : p % 512 ≡ i = omega arith in
     subst (λ k. memory ran.words 1 c k ≡ Leaf (target (x.frame + k) x.rights)) at (run.entries p (omega arith) (omega arith) ∙ leaves p (omega arith) (omega arith))
 
-pub leaf_stays : (old took ran : Stored) (t i page c : ℕ) (entry : ℕ → SsEntry) (x : Target) → IsTree old 2 t → i < 512 → memory old.words 2 t i ≡ LargeLeaf x
+pub leaf_stays : (old took ran : Pool) (t i page c : ℕ) (entry : ℕ → SsEntry) (x : Target) → IsTree old 2 t → i < 512 → memory old.words 2 t i ≡ LargeLeaf x
     → ((f : ℕ) → occurs f took.free + here c f ≡ occurs f old.free) → took.words ≡ old.words → IsRun took.words ran.words c (page / 512 * 512) (page / 512 * 512 + 512) entry
     → memory ran.words 2 t i ≡ LargeLeaf x
 leaf_stays old took ran t i page c entry x tree small was free words run =
@@ -79,7 +79,7 @@ leaf_stays old took ran t i page c entry x tree small was free words run =
     same_entry old.words ran.words 2 t i (run.rest t i small (λ e p low high at. apart (sym e)) ∙ ap (λ ws. word ws t i) words) ∙ was
 
 -- it states the same
-split_states : (old new : Stored) (t i from c p : ℕ) (x : Target) → IsTree old 2 t → i < 512 → i ≡ index_in 1 from → IsSplit old new t i from c x → p / span 2 ≡ from / span 2
+split_states : (old new : Pool) (t i from c p : ℕ) (x : Target) → IsTree old 2 t → i < 512 → i ≡ index_in 1 from → IsSplit old new t i from c x → p / span 2 ≡ from / span 2
     → states (memory new.words) 2 t p ≡ states (memory old.words) 2 t p
 split_states old new t i from c p x tree a is s wide =
     let m : Memory = memory old.words in
@@ -95,13 +95,13 @@ split_states old new t i from c p x tree a is s wide =
     (same_or_not (index_in 1 p) i)
 
 -- an unmap of some of its pages, after the split, is one of the tree before
-pub split_unmaps : (old mid new : Stored) (t i from to c : ℕ) (x : Target) → IsTree old 2 t → i < 512 → i ≡ index_in 1 from → IsSplit old mid t i from c x → from < to → to - from < 512
-    → Moves mid new 2 t [] → Unmaps mid new 2 t from to [] → Moves old new 2 t [] × Unmaps old new 2 t from to []
+pub split_unmaps : (old mid new : Pool) (t i from to c : ℕ) (x : Target) → IsTree old 2 t → i < 512 → i ≡ index_in 1 from → IsSplit old mid t i from c x → from < to → to - from < 512
+    → TakesAndGivesFrames mid new 2 t [] → Unmaps mid new 2 t from to [] → TakesAndGivesFrames old new 2 t [] × Unmaps old new 2 t from to []
 split_unmaps old mid new t i from to c x tree a is s some short moves un =
     let m : Memory = memory old.words in
     let d : Memory = memory mid.words in
     let n : Memory = memory new.words in
-    let first : Moves old mid 2 t [] = under_moves old mid 1 t i [] tree a s.under in
+    let first : TakesAndGivesFrames old mid 2 t [] = under_moves old mid 1 t i [] tree a s.under in
     let old_at : (p : ℕ) → index_in 1 p ≡ i → m 2 t (index_in 1 p) ≡ LargeLeaf x = λ p e. ap (λ j. m 2 t j) e ∙ s.was in
     let mid_at : (p : ℕ) → index_in 1 p ≡ i → d 2 t (index_in 1 p) ≡ Table c = λ p e. ap (λ j. d 2 t j) e ∙ s.is in
     let span_of : (p : ℕ) → p / span 2 ≡ from / span 2 → index_in 1 p ≡ i → p / span 1 ≡ from / span 1 = λ p wide e. same_span 1 p from wide (e ∙ is) in (

@@ -5,7 +5,7 @@ use Rattle.std.proofs.lemmas.List.{take_more_set, get_or-replicate}
 use Rattle.std.proofs.lemmas.Bool.{cases_lt}
 use Rattle.std.proofs.lemmas.Bool.Decides.{eqb_tells}
 use Rattle.tables.specs.Tree.{total, here}
-use Rattle.tables.specs.Pool.{Stored, word, occurs, IsZeroed, IsPool, IsWrite}
+use Rattle.tables.specs.Pool.{Pool, word, occurs, IsZeroed, IsPool, IsWrite}
 use Rattle.tables.proofs.Total.{total_same, total_change, total-zeros}
 use Rattle.tables.proofs.Here.{here-same, here-other, here_le}
 
@@ -78,7 +78,7 @@ wrote words frames t i w fit t_in i_in =
       λ f k k_in other. get_or-set_other words (t * 512 + i) (f * 512 + k) w 0 (λ e. let one : (f ≡ t) × (k ≡ i) = one_place t i f k i_in k_in e in other one.0 one.1),
     )
 
-pub write_keeps : (pool : Stored) (t i w : ℕ) → IsPool pool → t < pool.frames → i < 512 → occurs t pool.free ≡ 0 → IsPool (record pool { words = set pool.words (t * 512 + i) w })
+pub write_keeps : (pool : Pool) (t i w : ℕ) → IsPool pool → t < pool.frames → i < 512 → occurs t pool.free ≡ 0 → IsPool (record pool { words = set pool.words (t * 512 + i) w })
 write_keeps pool t i w ok t_in i_in taken = record {
   fit = length-set pool.words (t * 512 + i) w ∙ ok.fit;
   few = ok.few;
@@ -90,7 +90,7 @@ write_keeps pool t i w ok t_in i_in taken = record {
 }
 
 -- a pool whose free frames are fewer
-pub fewer_keeps : (pool : Stored) (free : List ℕ) → IsPool pool → ((f : ℕ) → occurs f free ≤ occurs f pool.free) → IsPool (record pool { free = free })
+pub fewer_keeps : (pool : Pool) (free : List ℕ) → IsPool pool → ((f : ℕ) → occurs f free ≤ occurs f pool.free) → IsPool (record pool { free = free })
 fewer_keeps pool free ok le = record {
   fit = ok.fit;
   few = ok.few;
@@ -100,7 +100,7 @@ fewer_keeps pool free ok le = record {
 }
 
 -- a pool with one more free frame
-pub more_keeps : (pool : Stored) (frame : ℕ) (free : List ℕ) → IsPool pool → frame < pool.frames → occurs frame pool.free ≡ 0 → IsZeroed pool.words frame → ((f : ℕ) → occurs f free ≡ occurs f pool.free + here frame f) → IsPool (record pool { free = free })
+pub more_keeps : (pool : Pool) (frame : ℕ) (free : List ℕ) → IsPool pool → frame < pool.frames → occurs frame pool.free ≡ 0 → IsZeroed pool.words frame → ((f : ℕ) → occurs f free ≡ occurs f pool.free + here frame f) → IsPool (record pool { free = free })
 more_keeps pool frame free ok inside none zero_words is = record {
   fit = ok.fit;
   few = ok.few;

@@ -8,7 +8,7 @@ use Rattle.std.proofs.lemmas.Bool.Decides.{nat_tests}
 use Rattle.tables.specs.Tree.{Memory, span, total, leaf_from, is_large_leaf}
 use Rattle.std.proofs.Common.{List}
 use Rattle.dmatypes.specs.declared.call.Segment.{Segment}
-use Rattle.tables.specs.Pool.{Stored, memory}
+use Rattle.tables.specs.Pool.{Pool, memory}
 use Rattle.tables.specs.Segments.{is_large_at}
 use Rattle.tables.specs.Lacks.{sum_spans, lacking, lacks, splitting, splits}
 use Rattle.tables.proofs.Steps.{span-one, same_or_not}
@@ -153,10 +153,10 @@ pub so_far-test : (g : ℕ → ℕ) (width from number count more : ℕ) (b : Bo
 so_far-test g width from number count more b le is test e = omega (arith, so_far-more g width from number le, test)
 
 -- what is lacking, and what is split, at a page
-unfoldable pub lacking_at : Stored → ℕ → ℕ → List Segment → ℕ → ℕ → ℕ → ℕ
+unfoldable pub lacking_at : Pool → ℕ → ℕ → List Segment → ℕ → ℕ → ℕ → ℕ
 lacking_at pool level root segments first w p = lacking (memory pool.words) level root (is_large_at segments first p) w p
 
-unfoldable pub splitting_at : Stored → ℕ → ℕ → ℕ → ℕ → ℕ → ℕ
+unfoldable pub splitting_at : Pool → ℕ → ℕ → ℕ → ℕ → ℕ → ℕ
 splitting_at pool level root from to p = splitting (memory pool.words) level root from to p
 
 pub few_more : (count more number first : ℕ) (b : Bool) → first ≤ number → more ≡ count + cond b 1 0 → count ≤ number - first → more ≤ number + 1 - first
@@ -164,10 +164,10 @@ few_more count more number first true le e few = omega arith
 few_more count more number first false le e few = omega arith
 
 -- what is lacking in all the spans of a level
-unfoldable pub level_lacking : Stored → ℕ → ℕ → List Segment → ℕ → ℕ → ℕ → ℕ
+unfoldable pub level_lacking : Pool → ℕ → ℕ → List Segment → ℕ → ℕ → ℕ → ℕ
 level_lacking pool level root segments first end v = sum_spans (lacking_at pool level root segments first (v + 1)) (v + 1) first end
 
-pub level_at : (pool : Stored) (level root : ℕ) (segments : List Segment) (first end v w n : ℕ) → v + 1 ≡ w
+pub level_at : (pool : Pool) (level root : ℕ) (segments : List Segment) (first end v w n : ℕ) → v + 1 ≡ w
     → n ≡ sum_spans (λ p. lacking (memory pool.words) level root (is_large_at segments first p) w p) w first end → n ≡ level_lacking pool level root segments first end v
 unfolding level_lacking lacking_at
 level_at pool level root segments first end v w n e is = is ∙ ap (λ (x : ℕ). sum_spans (λ p. lacking (memory pool.words) level root (is_large_at segments first p) x p) x first end) (sym e)
@@ -189,22 +189,22 @@ splitting_else m level t from to p out = ap (λ b. cond b 0 (cond (is_large_leaf
 -- ---- the leaves that are split up to a page
 
 -- as pieces end at edges of spans, those of the spans that have begun
-pub split_so_far : Stored → ℕ → ℕ → ℕ → ℕ → ℕ → ℕ
+pub split_so_far : Pool → ℕ → ℕ → ℕ → ℕ → ℕ → ℕ
 split_so_far pool level root from to place = cond (eqb place from) 0 (so_far (splitting_at pool level root from to) 512 from ((place - 1) / 512 + 1))
 
-pub split_so_far-start : (pool : Stored) (level root from to : ℕ) → split_so_far pool level root from to from ≡ 0
+pub split_so_far-start : (pool : Pool) (level root from to : ℕ) → split_so_far pool level root from to from ≡ 0
 unfolding split_so_far
 split_so_far-start pool level root from to =
     let yes : eqb from from ≡ true = grind (arith, nat_tests) in
     ap (λ b. cond b 0 (so_far (splitting_at pool level root from to) 512 from ((from - 1) / 512 + 1))) yes
 
-split_later : (pool : Stored) (level root from to place : ℕ) → from < place → split_so_far pool level root from to place ≡ so_far (splitting_at pool level root from to) 512 from ((place - 1) / 512 + 1)
+split_later : (pool : Pool) (level root from to place : ℕ) → from < place → split_so_far pool level root from to place ≡ so_far (splitting_at pool level root from to) 512 from ((place - 1) / 512 + 1)
 unfolding split_so_far
 split_later pool level root from to place lt =
     let no : eqb place from ≡ false = grind (arith, nat_tests) in
     ap (λ b. cond b 0 (so_far (splitting_at pool level root from to) 512 from ((place - 1) / 512 + 1))) no
 
-pub split_so_far-step : (pool : Stored) (level root from to place next : ℕ) → from ≤ place → place < next → place / 512 ≡ (next - 1) / 512 → ((place % 512 ≡ 0) ⊎ (place ≡ from))
+pub split_so_far-step : (pool : Pool) (level root from to place next : ℕ) → from ≤ place → place < next → place / 512 ≡ (next - 1) / 512 → ((place % 512 ≡ 0) ⊎ (place ≡ from))
     → split_so_far pool level root from to next ≡ split_so_far pool level root from to place + splitting (memory pool.words) level root from to (place / 512 * 512)
 unfolding splitting_at
 split_so_far-step pool level root from to place next low some one edge =
@@ -226,12 +226,12 @@ split_so_far-step pool level root from to place next low some one edge =
     only_even place from (inl h) ne = h
     only_even place from (inr h) ne = absurd (ne h)
 
-pub split_so_far-end : (pool : Stored) (level root from to : ℕ) → from < to → split_so_far pool level root from to to ≡ splits (memory pool.words) level root from to
+pub split_so_far-end : (pool : Pool) (level root from to : ℕ) → from < to → split_so_far pool level root from to to ≡ splits (memory pool.words) level root from to
 unfolding splits splitting_at
 split_so_far-end pool level root from to some =
     split_later pool level root from to to some ∙ so_far-end (splitting_at pool level root from to) 1 512 from to ((to - 1) / 512 + 1) (sym span-one) refl
 
-pub split_so_far-most : (pool : Stored) (level root from to next : ℕ) → from < next → next ≤ to → split_so_far pool level root from to next ≤ splits (memory pool.words) level root from to
+pub split_so_far-most : (pool : Pool) (level root from to next : ℕ) → from < next → next ≤ to → split_so_far pool level root from to next ≤ splits (memory pool.words) level root from to
 unfolding so_far
 split_so_far-most pool level root from to next some le =
     let g : ℕ → ℕ = λ k. splitting_at pool level root from to ((from / 512 + k) * 512) in

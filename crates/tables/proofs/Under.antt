@@ -4,8 +4,8 @@ use Rattle.std.proofs.lemmas.Bool.{cases_lt}
 use Rattle.vtdbits.specs.declared.entry.SsEntry.TheVariants.{Table}
 use Rattle.tables.specs.Under.{Under, child}
 use Rattle.tables.specs.Tree.{Memory, index_in, leaf_of, leaf_from, table_from, entry_uses, uses}
-use Rattle.tables.specs.Pool.{Stored, memory, occurs, IsTree}
-use Rattle.tables.specs.Changes.{Moves}
+use Rattle.tables.specs.Pool.{Pool, memory, occurs, IsTree}
+use Rattle.tables.specs.Changes.{TakesAndGivesFrames}
 use Rattle.tables.proofs.Total.{total_change}
 use Rattle.tables.proofs.Here.{here-same}
 use Rattle.tables.proofs.Words.{same_entry}
@@ -14,15 +14,15 @@ use Rattle.tables.proofs.Steps.{leaf-suc, table_under, table_top, uses-suc, own_
 use Rattle.tables.proofs.Walks.{index_lt}
 
 -- a tree's root is not free, and in the pool
-pub root_taken : (pool : Stored) (l t : ℕ) → IsTree pool (suc l) t → occurs t pool.free ≡ 0
+pub root_taken : (pool : Pool) (l t : ℕ) → IsTree pool (suc l) t → occurs t pool.free ≡ 0
 root_taken pool l t tree = omega (arith, tree.once t, uses-suc (memory pool.words) l t t, here-same t)
 
-pub root_in : (pool : Stored) (l t : ℕ) → IsTree pool (suc l) t → t < pool.frames
+pub root_in : (pool : Pool) (l t : ℕ) → IsTree pool (suc l) t → t < pool.frames
 root_in pool l t tree =
     ⊎_elim (λ h. h) (λ past. absurd (omega (arith, tree.within t past, uses-suc (memory pool.words) l t t, here-same t))) (cases_lt t pool.frames)
 
 -- the tree under an entry
-pub below_in : (pool : Stored) (l t i c : ℕ) → IsTree pool (suc l) t → i < 512 → memory pool.words (suc l) t i ≡ Table c → IsTree pool l c
+pub below_in : (pool : Pool) (l t i c : ℕ) → IsTree pool (suc l) t → i < 512 → memory pool.words (suc l) t i ≡ Table c → IsTree pool l c
 below_in pool l t i c tree inside e =
     let m : Memory = memory pool.words in
     let part : (f : ℕ) → uses m l c f ≤ uses m (suc l) t f = λ f.
@@ -34,11 +34,11 @@ below_in pool l t i c tree inside e =
     }
 
 -- a table is not among its own tables
-pub root_apart : (pool : Stored) (l t i : ℕ) → IsTree pool (suc l) t → i < 512 → child (memory pool.words) l t t i + occurs t pool.free ≡ 0
+pub root_apart : (pool : Pool) (l t i : ℕ) → IsTree pool (suc l) t → i < 512 → child (memory pool.words) l t t i + occurs t pool.free ≡ 0
 root_apart pool l t i tree inside = omega (arith, tree.once t, own_use (memory pool.words) l t i inside)
 
 -- the frames of another entry
-apart : (old new : Stored) (l t i j f : ℕ) (cut : List ℕ) → IsTree old (suc l) t → i < 512 → j < 512 → j ≢ i → Under old new l t i cut
+apart : (old new : Pool) (l t i j f : ℕ) (cut : List ℕ) → IsTree old (suc l) t → i < 512 → j < 512 → j ≢ i → Under old new l t i cut
     → 0 < child (memory old.words) l t f j → (l' k : ℕ) → k < 512 → memory new.words l' f k ≡ memory old.words l' f k
 apart old new l t i j f cut tree a b ne u some l' k k_in =
     let two = two_uses (memory old.words) l t f i j a b ne in
@@ -48,14 +48,14 @@ apart old new l t i j f cut tree a b ne u some l' k k_in =
     let moved : child (memory old.words) l t f j ≡ child (memory old.words) l t t j = ap (λ x. child (memory old.words) l t x j) e in absurd (omega (arith, own, moved, some)))
     none)
 
-row_entry : (old new : Stored) (l t i j : ℕ) (cut : List ℕ) → j < 512 → j ≢ i → Under old new l t i cut → memory new.words (suc l) t j ≡ memory old.words (suc l) t j
+row_entry : (old new : Pool) (l t i j : ℕ) (cut : List ℕ) → j < 512 → j ≢ i → Under old new l t i cut → memory new.words (suc l) t j ≡ memory old.words (suc l) t j
 row_entry old new l t i j cut b ne u = same_entry old.words new.words (suc l) t j (u.row j b ne)
 
 some_child : (m : Memory) (l t f j c : ℕ) → m (suc l) t j ≡ Table c → 0 < uses m l c f → 0 < child m l t f j
 some_child m l t f j c e some = let is : child m l t f j ≡ uses m l c f = ap (λ x. entry_uses x (λ c. uses m l c f)) e in omega arith
 
 -- the walks through other entries stay
-pub other_leaf : (old new : Stored) (l t i p : ℕ) (cut : List ℕ) → IsTree old (suc l) t → i < 512 → Under old new l t i cut → index_in l p ≢ i
+pub other_leaf : (old new : Pool) (l t i p : ℕ) (cut : List ℕ) → IsTree old (suc l) t → i < 512 → Under old new l t i cut → index_in l p ≢ i
     → leaf_from (memory new.words) (suc l) t p ≡ leaf_from (memory old.words) (suc l) t p
 other_leaf old new l t i p cut tree a u ne =
     let m : Memory = memory old.words in
@@ -66,7 +66,7 @@ other_leaf old new l t i p cut tree a u ne =
     ∙ leaf_by m n l p (m (suc l) t j) (λ c e. leaf_agrees m n l c p (to_agree m n l c (λ f some. apart old new l t i j f cut tree a b ne u (some_child m l t f j c e some))))
     ∙ sym (leaf-suc m l t p)
 
-pub other_table : (old new : Stored) (l t i p w : ℕ) (cut : List ℕ) → IsTree old (suc l) t → i < 512 → Under old new l t i cut → index_in l p ≢ i
+pub other_table : (old new : Pool) (l t i p w : ℕ) (cut : List ℕ) → IsTree old (suc l) t → i < 512 → Under old new l t i cut → index_in l p ≢ i
     → table_from (memory new.words) (suc l) t p w ≡ table_from (memory old.words) (suc l) t p w
 other_table old new l t i p w cut tree a u ne =
     let m : Memory = memory old.words in
@@ -79,7 +79,7 @@ other_table old new l t i p w cut tree a u ne =
     ∙ sym (table_under m l t p w (m (suc l) t j) lower refl))
     (same_or_not w (suc l))
 
-other_child : (old new : Stored) (l t i j f : ℕ) (cut : List ℕ) → IsTree old (suc l) t → i < 512 → j < 512 → j ≢ i → Under old new l t i cut
+other_child : (old new : Pool) (l t i j f : ℕ) (cut : List ℕ) → IsTree old (suc l) t → i < 512 → j < 512 → j ≢ i → Under old new l t i cut
     → child (memory new.words) l t f j ≡ child (memory old.words) l t f j
 other_child old new l t i j f cut tree a b ne u =
     let m : Memory = memory old.words in
@@ -88,7 +88,7 @@ other_child old new l t i j f cut tree a b ne u =
     ∙ uses_by m n l f (m (suc l) t j) (λ c e. uses_agree m n l c f (to_agree m n l c (λ g some. apart old new l t i j g cut tree a b ne u (some_child m l t g j c e some))))
 
 -- and the account of the whole is that of the entry
-pub under_moves : (old new : Stored) (l t i : ℕ) (cut : List ℕ) → IsTree old (suc l) t → i < 512 → Under old new l t i cut → Moves old new (suc l) t cut
+pub under_moves : (old new : Pool) (l t i : ℕ) (cut : List ℕ) → IsTree old (suc l) t → i < 512 → Under old new l t i cut → TakesAndGivesFrames old new (suc l) t cut
 under_moves old new l t i cut tree a u =
     let m : Memory = memory old.words in
     let n : Memory = memory new.words in
@@ -105,14 +105,14 @@ under_moves old new l t i cut tree a u =
     }
 
 -- a tree is one after it
-pub moved_tree : (old new : Stored) (l t : ℕ) (cut : List ℕ) → IsTree old l t → Moves old new l t cut → IsTree new l t
+pub moved_tree : (old new : Pool) (l t : ℕ) (cut : List ℕ) → IsTree old l t → TakesAndGivesFrames old new l t cut → IsTree new l t
 moved_tree old new l t cut tree moves = record {
   once = λ f. omega (arith, moves.account f, tree.once f);
   within = λ f past. omega (arith, moves.account f, tree.within f (omega (arith, moves.frames)));
 }
 
 -- what lies under one entry moved
-pub below_under : (old new : Stored) (l t i c : ℕ) (cut : List ℕ) → IsTree old (suc l) t → i < 512 → memory old.words (suc l) t i ≡ Table c → Moves old new l c cut
+pub below_under : (old new : Pool) (l t i c : ℕ) (cut : List ℕ) → IsTree old (suc l) t → i < 512 → memory old.words (suc l) t i ≡ Table c → TakesAndGivesFrames old new l c cut
     → Under old new l t i cut × (memory new.words (suc l) t i ≡ Table c)
 below_under old new l t i c cut tree a is moves =
     let m : Memory = memory old.words in

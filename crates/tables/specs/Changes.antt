@@ -3,7 +3,7 @@
 use Rattle.std.specs.Prelude.{◌≡◌, ℕ, ◌+◌, ◌*◌, ◌/◌, ◌<◌, ◌≤◌, ◌⊎◌, Bool, true, false, List, Option, Some, None, IsSome}
 use Rattle.dmatypes.specs.World.{Target}
 use Rattle.tables.specs.Tree.{Found, span, leaf_from, table_from, states, uses}
-use Rattle.tables.specs.Pool.{Stored, word, memory, occurs, IsZeroed, IsTree}
+use Rattle.tables.specs.Pool.{Pool, word, memory, occurs, IsZeroed, IsTree}
 
 -- the page is not among those from one up to another
 abbrev pub IsOutside : ℕ → ℕ → ℕ → Type 0
@@ -18,7 +18,7 @@ abbrev pub IsCovered : ℕ → ℕ → ℕ → Type 0
 IsCovered from to p = (from ≤ 512 * (p / 512)) × (512 * (p / 512) + 512 ≤ to)
 
 -- free frames came into the tree, frames of the tree were cut from it, and no other frame changed
-pub record Moves (old new : Stored) (level table : ℕ) (cut : List ℕ) : Type 0 where
+pub record TakesAndGivesFrames (old new : Pool) (level table : ℕ) (cut : List ℕ) : Type 0 where
   pub account : (f : ℕ) →
       uses (memory new.words) level table f + occurs f new.free + occurs f cut
       ≡ uses (memory old.words) level table f + occurs f old.free
@@ -28,7 +28,7 @@ pub record Moves (old new : Stored) (level table : ℕ) (cut : List ℕ) : Type 
   pub frames : new.frames ≡ old.frames
 
 -- the pages from one up to another were mapped; the facts are of pages in one span of the table
-pub record Maps (old new : Stored) (level table from to : ℕ) (says : ℕ → Option Target) : Type 0 where
+pub record Maps (old new : Pool) (level table from to : ℕ) (says : ℕ → Option Target) : Type 0 where
   pub mapped : (p : ℕ) → from ≤ p → p < to → states (memory new.words) level table p ≡ says p
   -- every leaf entry stays
   pub elsewhere : (p : ℕ) → p / span level ≡ from / span level → IsOutside from to p
@@ -45,14 +45,14 @@ pub record Maps (old new : Stored) (level table from to : ℕ) (says : ℕ → O
 
 -- where a map made tables: every span that meets the pages has its table, but one of level 1 where a test lets
 -- a large leaf begin, which is as it was
-pub record Makes (old new : Stored) (level table from to : ℕ) (large : ℕ → Bool) : Type 0 where
+pub record MakesTables (old new : Pool) (level table from to : ℕ) (large : ℕ → Bool) : Type 0 where
   pub made : (p w : ℕ) → from ≤ p → p < to → 1 ≤ w → w < level → (w ≡ 1 → large (p / 512 * 512) ≡ false)
       → IsSome (table_from (memory new.words) level table p w)
   pub spared : (p : ℕ) → from ≤ p → p < to → 1 < level → large (p / 512 * 512) ≡ true
       → table_from (memory new.words) level table p 1 ≡ table_from (memory old.words) level table p 1
 
 -- the pages from one up to another were unmapped; the facts are of pages in one span of the table
-pub record Unmaps (old new : Stored) (level table from to : ℕ) (cut : List ℕ) : Type 0 where
+pub record Unmaps (old new : Pool) (level table from to : ℕ) (cut : List ℕ) : Type 0 where
   pub gone : (p : ℕ) → from ≤ p → p < to → leaf_from (memory new.words) level table p ≡ None
   pub elsewhere : (p : ℕ) → p / span level ≡ from / span level → IsOutside from to p
       → states (memory new.words) level table p ≡ states (memory old.words) level table p
@@ -81,12 +81,12 @@ pub record Unmaps (old new : Stored) (level table from to : ℕ) (cut : List ℕ
   pub zeroed : (c : ℕ) → 0 < occurs c cut → IsZeroed new.words c
 
 -- no frame of the second table is one of the first or free
-abbrev pub IsApart : Stored → ℕ → ℕ → ℕ → ℕ → Type 0
+abbrev pub IsApart : Pool → ℕ → ℕ → ℕ → ℕ → Type 0
 IsApart pool level table level' table' =
     (f : ℕ) → 0 < uses (memory pool.words) level' table' f → uses (memory pool.words) level table f + occurs f pool.free ≡ 0
 
 -- a table that has the same leaves, tables and frames in both
-pub record Stays (old new : Stored) (level table : ℕ) : Type 0 where
+pub record Stays (old new : Pool) (level table : ℕ) : Type 0 where
   pub tree : IsTree new level table
   pub same_frames : (f : ℕ) → uses (memory new.words) level table f ≡ uses (memory old.words) level table f
   pub same_leaves : (p : ℕ) → leaf_from (memory new.words) level table p ≡ leaf_from (memory old.words) level table p

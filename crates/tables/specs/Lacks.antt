@@ -3,7 +3,7 @@ use Rattle.std.specs.Prelude.{ℕ, ◌+◌, ◌-◌, ◌*◌, ◌/◌, Bool, ◌
 use Rattle.dmatypes.specs.Conditions.{total_pages}
 use Rattle.dmatypes.specs.declared.call.Segment.{Segment}
 use Rattle.tables.specs.Tree.{Memory, span, total, leaf_from, table_from, is_large_leaf}
-use Rattle.tables.specs.Pool.{Stored, memory}
+use Rattle.tables.specs.Pool.{Pool, memory}
 use Rattle.tables.specs.Segments.{is_large_at}
 
 -- a sum over the spans of a level that meet the pages from one up to another, by the first page of each
@@ -35,6 +35,6 @@ unfoldable pub splits : Memory → ℕ → ℕ → ℕ → ℕ → ℕ
 splits m level table from to = sum_spans (splitting m level table from to) 1 from to
 
 -- for a map of segments one after the other from a first page on
-abbrev pub map_lacks : Stored → ℕ → ℕ → List Segment → ℕ → ℕ
+abbrev pub map_lacks : Pool → ℕ → ℕ → List Segment → ℕ → ℕ
 map_lacks pool level root segments first =
     lacks (memory pool.words) level root (is_large_at segments first) first (first + total_pages segments)

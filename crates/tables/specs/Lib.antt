@@ -1,4 +1,4 @@
-pub mod Taken
+pub mod Cut
 pub mod Tree
 pub mod Walks
 pub mod Pool

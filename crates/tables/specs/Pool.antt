@@ -3,7 +3,7 @@ use Rattle.std.specs.Prelude.{◌≡◌, ℕ, ◌+◌, ◌*◌, ◌<◌, ◌≤�
 use Rattle.vtdbits.specs.Entry.{look}
 use Rattle.tables.specs.Tree.{Memory, uses}
 
-pub record Stored : Type 0 where
+pub record Pool : Type 0 where
   pub words : List ℕ
   pub free : List ℕ
   pub frames : ℕ
@@ -25,7 +25,7 @@ abbrev pub IsZeroed : List ℕ → ℕ → Type 0
 IsZeroed words frame = (k : ℕ) → k < 512 → word words frame k ≡ 0
 
 -- the free frames are different frames of the pool, and zeroed
-pub record IsPool (pool : Stored) : Type 0 where
+pub record IsPool (pool : Pool) : Type 0 where
   pub fit : length pool.words ≡ pool.frames * 512
   pub few : pool.frames ≤ 4096
   pub once : (f : ℕ) → occurs f pool.free ≤ 1
@@ -33,7 +33,7 @@ pub record IsPool (pool : Stored) : Type 0 where
   pub zeroed : (f : ℕ) → 0 < occurs f pool.free → IsZeroed pool.words f
 
 -- a table of the level whose tables are frames of the pool, each in one place and not free
-pub record IsTree (pool : Stored) (level table : ℕ) : Type 0 where
+pub record IsTree (pool : Pool) (level table : ℕ) : Type 0 where
   pub once : (f : ℕ) → uses (memory pool.words) level table f + occurs f pool.free ≤ 1
   pub within : (f : ℕ) → pool.frames ≤ f → uses (memory pool.words) level table f + occurs f pool.free ≡ 0
 

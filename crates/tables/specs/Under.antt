@@ -4,18 +4,18 @@ use Rattle.dmatypes.specs.World.{Target}
 use Rattle.vtdbits.specs.Translation.{target}
 use Rattle.vtdbits.specs.declared.entry.SsEntry.TheVariants.{Table, Leaf, LargeLeaf}
 use Rattle.tables.specs.Tree.{Memory, entry_uses, uses}
-use Rattle.tables.specs.Pool.{Stored, word, memory, occurs}
+use Rattle.tables.specs.Pool.{Pool, word, memory, occurs}
 
 -- what an entry of a table uses of a frame; l is the level below
 abbrev pub child : Memory → ℕ → ℕ → ℕ → ℕ → ℕ
 child m l t f i = entry_uses (m (suc l) t i) (λ c. uses m l c f)
 
 -- the same in a table of the level
-unfoldable pub used_at : Stored → ℕ → ℕ → ℕ → ℕ → ℕ
+unfoldable pub used_at : Pool → ℕ → ℕ → ℕ → ℕ → ℕ
 used_at pool level t f i = entry_uses (memory pool.words level t i) (λ c. uses (memory pool.words) (level - 1) c f)
 
 -- only the entry at an index, what lies under it and free frames changed; l is the level below
-pub record Under (old new : Stored) (l t i : ℕ) (cut : List ℕ) : Type 0 where
+pub record Under (old new : Pool) (l t i : ℕ) (cut : List ℕ) : Type 0 where
   pub account : (f : ℕ) →
       child (memory new.words) l t f i + occurs f new.free + occurs f cut ≡ child (memory old.words) l t f i + occurs f old.free
   pub fewer : (f : ℕ) → occurs f new.free ≤ occurs f old.free
@@ -25,7 +25,7 @@ pub record Under (old new : Stored) (l t i : ℕ) (cut : List ℕ) : Type 0 wher
   pub frames : new.frames ≡ old.frames
 
 -- the large leaf of a page is spelled by a table of 512 leaves, in a frame that was free
-pub record IsSplit (old new : Stored) (t i page c : ℕ) (x : Target) : Type 0 where
+pub record IsSplit (old new : Pool) (t i page c : ℕ) (x : Target) : Type 0 where
   pub under : Under old new 1 t i []
   pub was : memory old.words 2 t i ≡ LargeLeaf x
   pub is : memory new.words 2 t i ≡ Table c

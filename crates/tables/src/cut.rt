@@ -19,9 +19,9 @@ pub struct Cut {
 
 impl Model for Cut {
     ghost use Rattle.std.specs.Prelude.{◌≡◌, ◌≤◌, length, take};
-    ghost use Rattle.tables.specs.Taken.{Taken};
+    ghost use Rattle.tables.specs.Cut.{Cut};
 
-    ghost Value = { Taken };
+    ghost Value = { Cut };
 
     ghost view = { λ c. record { frames = take c.count c.frames; split = c.split } };
 

@@ -28,9 +28,9 @@ pub struct Pool {
 
 impl Model for Pool {
     ghost use Rattle.std.specs.Prelude.{◌≤◌, length, take};
-    ghost use Rattle.tables.specs.Pool.{Stored, IsPool};
+    ghost use Rattle.tables.specs.Pool.{Pool, IsPool};
 
-    ghost Value = { Stored };
+    ghost Value = { Pool };
 
     ghost view = { λ a. record { words = a.words.items; free = take a.free a.slots.items; frames = length a.slots.items } };
 

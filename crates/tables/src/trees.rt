@@ -8,7 +8,7 @@ ghost use Rattle.dmatypes.specs.World.{placed};
 ghost use Rattle.vtdbits.specs.Translation.{target};
 ghost use Rattle.tables.specs.Tree.{here, span, states, leaf_from, table_from, uses, IsLeafAt, IsTableAt, Found};
 ghost use Rattle.tables.specs.Pool.{word, memory, occurs, IsPool, IsTree};
-ghost use Rattle.tables.specs.Changes.{Moves, Maps, Makes, Unmaps, IsApart, Stays};
+ghost use Rattle.tables.specs.Changes.{TakesAndGivesFrames, Maps, MakesTables, Unmaps, IsApart, Stays};
 ghost use Rattle.tables.specs.Segments.{AreSegments, is_large_at, one_segment};
 ghost use Rattle.tables.specs.Lacks.{map_lacks, splits};
 
@@ -82,10 +82,10 @@ impl Tree {
         ensures refused { IsErr result ↔ (length pool.old.free < map_lacks pool.old LEVELS self.old.root (one_segment frame range.pages) range.first) }
         ensures unchanged { OnErr result (pool.new ≡ pool.old) }
         ensures root { self.new ≡ self.old }
-        ensures moves { Moves pool.old pool.new LEVELS self.old.root [] }
+        ensures moves { TakesAndGivesFrames pool.old pool.new LEVELS self.old.root [] }
         ensures maps { OnOk result (Maps pool.old pool.new LEVELS self.old.root range.first (range.first + range.pages)
             (λ p. Some (target (frame + (p - range.first)) (bits_of rights)))) }
-        ensures makes { OnOk result (Makes pool.old pool.new LEVELS self.old.root range.first (range.first + range.pages)
+        ensures makes { OnOk result (MakesTables pool.old pool.new LEVELS self.old.root range.first (range.first + range.pages)
             (is_large_at (one_segment frame range.pages) range.first)) }
         ensures count { OnOk result (length pool.new.free + map_lacks pool.old LEVELS self.old.root (one_segment frame range.pages) range.first
             ≡ length pool.old.free) }
@@ -123,10 +123,10 @@ impl Tree {
         ensures refused { IsErr result ↔ (length pool.old.free < map_lacks pool.old LEVELS self.old.root segments.now start) }
         ensures unchanged { OnErr result (pool.new ≡ pool.old) }
         ensures root { self.new ≡ self.old }
-        ensures moves { Moves pool.old pool.new LEVELS self.old.root [] }
+        ensures moves { TakesAndGivesFrames pool.old pool.new LEVELS self.old.root [] }
         ensures maps { OnOk result (Maps pool.old pool.new LEVELS self.old.root start (start + total_pages segments.now)
             (placed segments.now start (bits_of rights))) }
-        ensures makes { OnOk result (Makes pool.old pool.new LEVELS self.old.root start (start + total_pages segments.now)
+        ensures makes { OnOk result (MakesTables pool.old pool.new LEVELS self.old.root start (start + total_pages segments.now)
             (is_large_at segments.now start)) }
         ensures count { OnOk result (length pool.new.free + map_lacks pool.old LEVELS self.old.root segments.now start ≡ length pool.old.free) }
         ensures leaves { (first pages frame rights : ℕ) → IsLeafAt (memory pool.old.words) LEVELS self.old.root first pages frame rights
@@ -167,7 +167,7 @@ impl Tree {
         requires there { (p : ℕ) → IsWithin range p → IsSome (states (memory pool.old.words) LEVELS self.old.root p) }
         requires may { splits (memory pool.old.words) LEVELS self.old.root range.first (range.first + range.pages) ≤ length pool.old.free }
         ensures root { self.new ≡ self.old }
-        ensures moves { Moves pool.old pool.new LEVELS self.old.root result.frames }
+        ensures moves { TakesAndGivesFrames pool.old pool.new LEVELS self.old.root result.frames }
         ensures unmaps { Unmaps pool.old pool.new LEVELS self.old.root range.first (range.first + range.pages) result.frames }
         ensures split { IsTrue result.split ↔ (0 < splits (memory pool.old.words) LEVELS self.old.root range.first (range.first + range.pages)) }
         ensures whole { (p : ℕ) (x : Found) → IsWithin range p → result.split ≡ false

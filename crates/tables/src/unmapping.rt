@@ -5,7 +5,7 @@ ghost use Rattle.tables.specs.Tree.{Memory, span, index_in, leaf_from, uses};
 ghost use Rattle.tables.specs.Pool.{word, memory, occurs, IsPool, IsTree, IsWrite};
 ghost use Rattle.vtdbits.specs.Entry.{look};
 ghost use Rattle.vtdbits.specs.Translation.{target};
-ghost use Rattle.tables.specs.Changes.{Moves, Unmaps};
+ghost use Rattle.tables.specs.Changes.{TakesAndGivesFrames, Unmaps};
 ghost use Rattle.tables.specs.Lacks.{splitting, splits};
 ghost use Rattle.tables.specs.Under.{IsSplit, used_at};
 ghost use Rattle.tables.specs.Pieces.{IsRun, cut_of, was_split, piece_splits};
@@ -55,7 +55,7 @@ fn split(pool: &mut Pool, table: Frame, page: u64, leaf: LargeTranslation) -> Fr
     requires page { page < 2 ^ 36 }
     requires leaf { memory pool.old.words 2 table (index_in 1 page) ≡ SsEntry.LargeLeaf leaf }
     requires room { 0 < length pool.old.free }
-    ensures moves { Moves pool.old pool.new 2 table [] }
+    ensures moves { TakesAndGivesFrames pool.old pool.new 2 table [] }
     ensures split { IsSplit pool.old pool.new table (index_in 1 page) page result leaf }
     ensures count { length pool.new.free + 1 ≡ length pool.old.free }
     ensures pool { IsPool pool.new }
@@ -96,7 +96,7 @@ fn clear_span(pool: &mut Pool, table: Frame, from: u64, to: u64) -> Cleared
     requires within { to ≤ 2 ^ 36 }
     requires there { (p : ℕ) → from ≤ p → p < to → IsSome (leaf_from (memory pool.old.words) 2 table p) }
     requires room { piece_splits (memory pool.old.words) 2 table from to ≤ length pool.old.free }
-    ensures moves { Moves pool.old pool.new 2 table (cut_of result) }
+    ensures moves { TakesAndGivesFrames pool.old pool.new 2 table (cut_of result) }
     ensures unmaps { Unmaps pool.old pool.new 2 table from to (cut_of result) }
     ensures split { (if was_split result then 1 else 0) ≡ piece_splits (memory pool.old.words) 2 table from to }
     ensures count { length pool.new.free + piece_splits (memory pool.old.words) 2 table from to ≡ length pool.old.free }
@@ -137,7 +137,7 @@ fn clear_piece(pool: &mut Pool, level: u64, table: Frame, from: u64, to: u64) ->
     requires within { to ≤ 2 ^ 36 }
     requires there { (p : ℕ) → from ≤ p → p < to → IsSome (leaf_from (memory pool.old.words) level table p) }
     requires room { piece_splits (memory pool.old.words) level table from to ≤ length pool.old.free }
-    ensures moves { Moves pool.old pool.new level table (cut_of result) }
+    ensures moves { TakesAndGivesFrames pool.old pool.new level table (cut_of result) }
     ensures unmaps { Unmaps pool.old pool.new level table from to (cut_of result) }
     ensures split { (if was_split result then 1 else 0) ≡ piece_splits (memory pool.old.words) level table from to }
     ensures count { length pool.new.free + piece_splits (memory pool.old.words) level table from to ≡ length pool.old.free }
@@ -165,7 +165,7 @@ pub fn unmap_pieces(pool: &mut Pool, level: u64, root: Frame, from: u64, to: u64
     requires one_span { from / span level ≡ (to - 1) / span level }
     requires there { (p : ℕ) → from ≤ p → p < to → IsSome (leaf_from (memory pool.old.words) level root p) }
     requires room { splits (memory pool.old.words) level root from to ≤ length pool.old.free }
-    ensures moves { Moves pool.old pool.new level root result.frames }
+    ensures moves { TakesAndGivesFrames pool.old pool.new level root result.frames }
     ensures unmaps { Unmaps pool.old pool.new level root from to result.frames }
     ensures split { IsTrue result.split ↔ (0 < splits (memory pool.old.words) level root from to) }
     ensures count { length pool.new.free + splits (memory pool.old.words) level root from to ≡ length pool.old.free }

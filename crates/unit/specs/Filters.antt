@@ -4,7 +4,7 @@ use Rattle.dmatypes.specs.Page.{Range, IsWithin}
 use Rattle.dmatypes.specs.Block.{Block, IsInBlock}
 use Rattle.vtdbits.specs.declared.descriptor.Descriptor.{Descriptor}
 use Rattle.vtdbits.specs.declared.descriptor.Descriptor.TheVariants.{ContextGlobal, ContextDomain, ContextDevice, IotlbGlobal, IotlbDomain, IotlbPages, Wait}
-use Rattle.queue.specs.Queue.{Queue, queue}
+use Rattle.queue.specs.Ring.{Ring, ring_of}
 use Rattle.unit.specs.Caches.{Leaf, NonLeaf, Context, Caches, caches}
 
 -- so many pages from a first one on lie wholly in the block
@@ -82,6 +82,6 @@ done_after [] done = done
 done_after (d ∷ ds) done = done + 1
 
 -- the ring after its first descriptor was taken and done
-abbrev pub after_first : List Descriptor → ℕ → List Descriptor → Queue
-after_first [] status taken = queue [] status taken
-after_first (d ∷ ds) status taken = queue ds (status_after d status) (d ∷ taken)
+abbrev pub after_first : List Descriptor → ℕ → List Descriptor → Ring
+after_first [] status taken = ring_of [] status taken
+after_first (d ∷ ds) status taken = ring_of ds (status_after d status) (d ∷ taken)

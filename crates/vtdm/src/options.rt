@@ -93,7 +93,7 @@ pub(crate) fn command<'a>(alloc: Global) -> Result<Command<'a>, AllocError> {
         .arg(frames(alloc))?
         .arg(calls(alloc))?;
     let report = Command::new(alloc, "report")
-        .about("Makes the calls of a script, and tells what is there at its end")
+        .about("MakesTables the calls of a script, and tells what is there at its end")
         .after_help(REPORT)
         .bin_name("vtdm report")?
         .arg(frames(alloc))?

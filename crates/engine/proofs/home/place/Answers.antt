@@ -1,7 +1,7 @@
 use Rattle.std.proofs.Common.{◌≡◌, ◌<◌, ◌^◌, ◌∙◌, Err, ℕ, ap, refl, arith, length, subst}
 use Rattle.dmatypes.specs.Page.{IsPageRange}
 use Rattle.iova.specs.Changes.{Takes}
-use Rattle.iova.specs.Space.{AddressSpace, IsFit}
+use Rattle.iova.specs.Space.{Space, IsFit}
 use Rattle.engine.specs.Placing.{IsCrowded, IsTaken, frames_taken}
 use Rattle.engine.proofs.Segments.{some_segment}
 use Rattle.engine.proofs.home.place.Goals as goal
@@ -13,7 +13,7 @@ returns-in-Err-NoRange c =
       placed = (refl, same, subst (λ n. (start : ℕ) → IsFit c.args.space.now.pieces n (2 ^ c.args.wanted.order) start → ⊥) c.requires.pages (c.in-Err-NoRange.ensures.no_range.0 (ap Err c.in-Err-NoRange.field-0-is)));
       near = tt;
       tree = refl;
-      last = ap (λ (a : AddressSpace). a.last) same;
+      last = ap (λ (a : Space). a.last) same;
     }
 
 pub returns-in-Err-TooManyPieces : goal.returns-in-Err-TooManyPieces
@@ -23,7 +23,7 @@ returns-in-Err-TooManyPieces c =
       placed = (refl, same, subst (λ n. IsCrowded c.args.space.now.pieces n c.args.wanted.order) c.requires.pages (c.in-Err-TooManyPieces.ensures.too_many.0 (ap Err c.in-Err-TooManyPieces.field-0-is)));
       near = tt;
       tree = refl;
-      last = ap (λ (a : AddressSpace). a.last) same;
+      last = ap (λ (a : Space). a.last) same;
     }
 
 pub map_list-requires-clause-some : goal.map_list-requires-clause-some
@@ -51,7 +51,7 @@ returns-in-Some c =
       placed = (c.in-Err.ensures.unchanged, same, (c.in-Ok.start, subst (λ n. IsTaken c.args.space.now.pieces n c.args.wanted.order c.in-Ok.start) c.requires.pages taken, short));
       near = tt;
       tree = c.map_list.ensures.root;
-      last = ap (λ (a : AddressSpace). a.last) same;
+      last = ap (λ (a : Space). a.last) same;
     }
 
 pub returns-in-Ok-map_list : goal.returns-in-Ok-map_list
@@ -71,5 +71,5 @@ returns-in-Ok-map_list c =
       });
       near = omega (arith, c.number.ensures.page.1, c.number.ensures.value);
       tree = c.map_list.ensures.root;
-      last = ap (λ (a : AddressSpace). a.last) c.in-Ok.ensures.taken.is;
+      last = ap (λ (a : Space). a.last) c.in-Ok.ensures.taken.is;
     }

@@ -1,5 +1,5 @@
 use Rattle.std.proofs.Common.{◌≡◌, ◌∙◌, ◌≤◌, ◌++◌, ◌∷◌, [], true, false, ap, sym, length, take, arith}
-use Rattle.queue.specs.Queue.{Queue, with_last}
+use Rattle.queue.specs.Ring.{Ring, with_last}
 use Rattle.unit.specs.Caches.{UnitState}
 use Rattle.vtdbits.specs.declared.descriptor.Descriptor.TheVariants.{Wait}
 use Rattle.engine.proofs.Invalidating.{few_steps, fewer_wait, first_stage, last_stage, next_stage, submitted}
@@ -9,7 +9,7 @@ pub loop-unit-init : goal.loop-unit-init
 loop-unit-init c =
     let none : length c.args.ring.now.waiting ≡ 0 = ap length c.requires.idle in
     let one : c.submit.new.self ≡ with_last c.args.descriptor c.args.ring.now = submitted c.submit.result (length c.args.ring.now.waiting) c.submit.ensures.full.0 (omega (arith, none)) c.submit.ensures.ok in
-    let few : length c.submit.new.self.waiting ≡ 1 = ap (λ (q : Queue). length q.waiting) one ∙ ap (λ ws. length (ws ++ c.args.descriptor ∷ [])) c.requires.idle in
+    let few : length c.submit.new.self.waiting ≡ 1 = ap (λ (q : Ring). length q.waiting) one ∙ ap (λ ws. length (ws ++ c.args.descriptor ∷ [])) c.requires.idle in
     let two : c.submit-2.new.self ≡ with_last (Wait c.args.number) c.submit.new.self =
     submitted c.submit-2.result (length c.submit.new.self.waiting) c.submit-2.ensures.full.0 (omega (arith, few)) c.submit-2.ensures.ok in
     first_stage c.args.descriptor c.args.number c.args.ring.now c.submit.new.self c.submit-2.new.self c.args.unit.now c.requires.idle c.requires.later one two

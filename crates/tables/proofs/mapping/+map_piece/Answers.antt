@@ -2,7 +2,7 @@ use Rattle.std.proofs.Common.{◌≡◌, ℕ, ◌+◌, ◌-◌, ◌<◌, ◌≤�
 use Rattle.vtdbits.specs.declared.entry.SsEntry.TheVariants.{Absent, Leaf, LargeLeaf}
 use Rattle.tables.specs.Tree.{index_in, table_from}
 use Rattle.tables.specs.Pool.{memory}
-use Rattle.tables.specs.Changes.{Moves, Maps}
+use Rattle.tables.specs.Changes.{TakesAndGivesFrames, Maps}
 use Rattle.tables.specs.Lacks.{lacks_at}
 use Rattle.tables.specs.Pieces.{says, is_large}
 use Rattle.vtdbits.specs.Translation.{target}
@@ -29,7 +29,7 @@ entry-requires-clause-table t c = root_in_level c.args.pool.now (c.args.level - 
 -- a run of words, in a table of level 1
 pub returns-then-level-eq1-clause-moves : goal.returns-then-level-eq1-clause-moves
 returns-then-level-eq1-clause-moves t c =
-    subst (λ n. Moves c.args.pool.now c.write_run.new.pool n c.args.table []) (sym c.if-level-eq1.true)
+    subst (λ n. TakesAndGivesFrames c.args.pool.now c.write_run.new.pool n c.args.table []) (sym c.if-level-eq1.true)
     (run_moves c.args.pool.now c.write_run.new.pool c.args.table c.args.piece.now.from c.args.piece.now.to _ c.write_run.ensures.run c.write_run.ensures.free c.write_run.ensures.frames)
 
 pub returns-then-level-eq1-clause-maps : goal.returns-then-level-eq1-clause-maps

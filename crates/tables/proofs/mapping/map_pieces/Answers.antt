@@ -7,7 +7,7 @@ use Rattle.dmatypes.specs.declared.call.Segment.{Segment}
 use Rattle.tables.specs.declared.piece.Piece.{Piece}
 use Rattle.tables.specs.Tree.{span}
 use Rattle.tables.specs.Pool.{memory}
-use Rattle.tables.specs.Changes.{Maps, Makes}
+use Rattle.tables.specs.Changes.{Maps, MakesTables}
 use Rattle.tables.specs.Segments.{is_large_at}
 use Rattle.tables.specs.Lacks.{lacks}
 use Rattle.tables.specs.Pieces.{says, is_large}
@@ -86,8 +86,8 @@ loop-piece-preserved c =
     let some : c.in-Some.piece.from < c.in-Some.piece.to = c.in-Some.piece.some in
     let before : Maps c.args.pool.now c.loop-piece.pool c.args.level c.args.root c.args.first c.in-Some.piece.from (placed c.args.segments.now c.args.first (bits_of c.args.rights)) =
     subst (λ q. Maps c.args.pool.now c.loop-piece.pool c.args.level c.args.root c.args.first q (placed c.args.segments.now c.args.first (bits_of c.args.rights))) (sym at) c.loop-piece.invariant.maps in
-    let made : Makes c.args.pool.now c.loop-piece.pool c.args.level c.args.root c.args.first c.in-Some.piece.from (is_large_at c.args.segments.now c.args.first) =
-    subst (λ q. Makes c.args.pool.now c.loop-piece.pool c.args.level c.args.root c.args.first q (is_large_at c.args.segments.now c.args.first)) (sym at) c.loop-piece.invariant.makes in
+    let made : MakesTables c.args.pool.now c.loop-piece.pool c.args.level c.args.root c.args.first c.in-Some.piece.from (is_large_at c.args.segments.now c.args.first) =
+    subst (λ q. MakesTables c.args.pool.now c.loop-piece.pool c.args.level c.args.root c.args.first q (is_large_at c.args.segments.now c.args.first)) (sym at) c.loop-piece.invariant.makes in
     let here : Placed c.loop-piece.pool c.map_piece.new.pool c.args.level c.args.root c.in-Some.piece.from c.in-Some.piece.to (says c.in-Some.piece) (is_large c.in-Some.piece) = record {
       maps = c.map_piece.ensures.maps;
       made = c.map_piece.ensures.made;

@@ -3,7 +3,7 @@ use Rattle.dmatypes.specs.Conditions.{total_pages}
 use Rattle.dmatypes.specs.Rights.{bits_of}
 use Rattle.dmatypes.specs.World.{placed}
 use Rattle.tables.specs.Pool.{memory, IsPool}
-use Rattle.tables.specs.Changes.{Moves, Maps, Makes}
+use Rattle.tables.specs.Changes.{TakesAndGivesFrames, Maps, MakesTables}
 use Rattle.tables.specs.Segments.{is_large_at}
 use Rattle.tables.specs.Lacks.{lacks, map_lacks}
 use Rattle.tables.proofs.mapping.map_pieces.Given as goal
@@ -12,14 +12,14 @@ abbrev pub invariant-loop-piece : goal.invariant-loop-piece
 invariant-loop-piece l = record {
   low : l.first ≤ l.place;
   high : l.place ≤ l.first + total_pages l.segments;
-  moves : Moves l.initial.pool l.pool l.level l.root [];
+  moves : TakesAndGivesFrames l.initial.pool l.pool l.level l.root [];
   maps : Maps l.initial.pool l.pool l.level l.root l.first l.place (placed l.segments l.first (bits_of l.rights));
   count : length l.pool.free + map_lacks l.initial.pool l.level l.root l.segments l.first
       ≡ length l.initial.pool.free + lacks (memory l.pool.words) l.level l.root (is_large_at l.segments l.first) l.place (l.first + total_pages l.segments);
   inner : 0 < l.place % 512 → is_large_at l.segments l.first (512 * (l.place / 512)) ≡ false;
   ended : l.place ≡ l.first + total_pages l.segments → lacks (memory l.pool.words) l.level l.root (is_large_at l.segments l.first) l.place l.place ≡ 0;
   pool : l.first < l.place → IsPool l.pool;
-  makes : Makes l.initial.pool l.pool l.level l.root l.first l.place (is_large_at l.segments l.first);
+  makes : MakesTables l.initial.pool l.pool l.level l.root l.first l.place (is_large_at l.segments l.first);
 }
 
 abbrev pub decreases-loop-piece : goal.decreases-loop-piece

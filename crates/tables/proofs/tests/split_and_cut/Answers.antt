@@ -5,8 +5,8 @@ use Rattle.dmatypes.specs.Page.{Range}
 use Rattle.dmatypes.specs.World.{Target}
 use Rattle.tables.specs.declared.trees.Tree.{Tree}
 use Rattle.tables.specs.Tree.{states, stated, uses}
-use Rattle.tables.specs.Pool.{Stored, memory, occurs, IsTree}
-use Rattle.tables.specs.Changes.{Maps, Unmaps, Moves}
+use Rattle.tables.specs.Pool.{Pool, memory, occurs, IsTree}
+use Rattle.tables.specs.Changes.{Maps, Unmaps, TakesAndGivesFrames}
 use Rattle.tables.proofs.Kept.{span-three, same_root}
 use Rattle.tables.proofs.tests.split_and_cut.Goals as goal
 
@@ -14,55 +14,55 @@ on_ok : {A E P : Type 0} (r : Result A E) (a : A) → r ≡ Ok a → OnOk r P �
 on_ok {A} {E} {P} r a e h = let Q : Result A E → Type 0 = λ x. OnOk x P in subst Q e h
 
 -- the same of a range and a root that are known
-unmaps_at : (old new : Stored) (tree known : Tree) (range : Range) (first pages : ℕ) (cut : List ℕ) → tree ≡ known → range ≡ record { first = first; pages = pages }
+unmaps_at : (old new : Pool) (tree known : Tree) (range : Range) (first pages : ℕ) (cut : List ℕ) → tree ≡ known → range ≡ record { first = first; pages = pages }
     → Unmaps old new 3 tree.root range.first (range.first + range.pages) cut → Unmaps old new 3 known.root first (first + pages) cut
 unmaps_at old new tree known range first pages cut et er un =
     subst (λ (t : Tree). Unmaps old new 3 t.root first (first + pages) cut) et (subst (λ (r : Range). Unmaps old new 3 tree.root r.first (r.first + r.pages) cut) er un)
 
-maps_at : (old new : Stored) (tree known : Tree) (range : Range) (first pages : ℕ) (says : ℕ → Option Target) → tree ≡ known → range ≡ record { first = first; pages = pages }
+maps_at : (old new : Pool) (tree known : Tree) (range : Range) (first pages : ℕ) (says : ℕ → Option Target) → tree ≡ known → range ≡ record { first = first; pages = pages }
     → Maps old new 3 tree.root range.first (range.first + range.pages) says → Maps old new 3 known.root first (first + pages) says
 maps_at old new tree known range first pages says et er maps =
     subst (λ (t : Tree). Maps old new 3 t.root first (first + pages) says) et (subst (λ (r : Range). Maps old new 3 tree.root r.first (r.first + r.pages) says) er maps)
 
 -- which pages a tree has, and which it doesn't have
-HasAll : Stored → ℕ → ℕ → ℕ → Type 0
+HasAll : Pool → ℕ → ℕ → ℕ → Type 0
 HasAll pool root from to = (p : ℕ) → from ≤ p → p < to → IsSome (states (memory pool.words) 3 root p)
 
-HasNone : Stored → ℕ → ℕ → ℕ → Type 0
+HasNone : Pool → ℕ → ℕ → ℕ → Type 0
 HasNone pool root from to = (p : ℕ) → from ≤ p → p < to → states (memory pool.words) 3 root p ≡ None
 
 some_of : (o : Option Target) (t : Target) → o ≡ Some t → IsSome o
 some_of None t e = cc
 some_of (Some x) t e = refl
 
-mapped_all : (old new : Stored) (root from to : ℕ) (says : ℕ → Target) → Maps old new 3 root from to (λ p. Some (says p)) → HasAll new root from to
+mapped_all : (old new : Pool) (root from to : ℕ) (says : ℕ → Target) → Maps old new 3 root from to (λ p. Some (says p)) → HasAll new root from to
 unfolding HasAll
 mapped_all old new root from to says maps p low high = some_of (states (memory new.words) 3 root p) (says p) (maps.mapped p low high)
 
-kept_all : (old new : Stored) (root from to a b : ℕ) (cut : List ℕ) → from < 2 ^ 27 → b ≤ 2 ^ 27 → (b ≤ from) ⊎ (to ≤ a) → Unmaps old new 3 root from to cut → HasAll old root a b → HasAll new root a b
+kept_all : (old new : Pool) (root from to a b : ℕ) (cut : List ℕ) → from < 2 ^ 27 → b ≤ 2 ^ 27 → (b ≤ from) ⊎ (to ≤ a) → Unmaps old new 3 root from to cut → HasAll old root a b → HasAll new root a b
 unfolding HasAll
 kept_all old new root from to a b cut within end apart un all p low high =
     subst (λ (o : Option Target). IsSome o) (sym (un.elsewhere p (same_root 3 p from (omega (arith, span-three)) (omega (arith, span-three))) (⊎_elim (λ h. inl (omega arith)) (λ h. inr (omega arith)) apart))) (all p low high)
 
-kept_none : (old new : Stored) (root from to a b : ℕ) (cut : List ℕ) → from < 2 ^ 27 → b ≤ 2 ^ 27 → (b ≤ from) ⊎ (to ≤ a) → Unmaps old new 3 root from to cut → HasNone old root a b → HasNone new root a b
+kept_none : (old new : Pool) (root from to a b : ℕ) (cut : List ℕ) → from < 2 ^ 27 → b ≤ 2 ^ 27 → (b ≤ from) ⊎ (to ≤ a) → Unmaps old new 3 root from to cut → HasNone old root a b → HasNone new root a b
 unfolding HasNone
 kept_none old new root from to a b cut within end apart un none p low high =
     un.elsewhere p (same_root 3 p from (omega (arith, span-three)) (omega (arith, span-three))) (⊎_elim (λ h. inl (omega arith)) (λ h. inr (omega arith)) apart) ∙ none p low high
 
-gone_none : (old new : Stored) (root from to : ℕ) (cut : List ℕ) → Unmaps old new 3 root from to cut → HasNone new root from to
+gone_none : (old new : Pool) (root from to : ℕ) (cut : List ℕ) → Unmaps old new 3 root from to cut → HasNone new root from to
 unfolding HasNone
 gone_none old new root from to cut un p low high = ap (stated p) (un.gone p low high)
 
-part_all : (pool : Stored) (root from to a b : ℕ) → from ≤ a → b ≤ to → HasAll pool root from to → HasAll pool root a b
+part_all : (pool : Pool) (root from to a b : ℕ) → from ≤ a → b ≤ to → HasAll pool root from to → HasAll pool root a b
 unfolding HasAll
 part_all pool root from to a b low high all p x y = all p (omega arith) (omega arith)
 
-join_none : (pool : Stored) (root from mid to : ℕ) → HasNone pool root from mid → HasNone pool root mid to → HasNone pool root from to
+join_none : (pool : Pool) (root from mid to : ℕ) → HasNone pool root from mid → HasNone pool root mid to → HasNone pool root from to
 unfolding HasNone
 join_none pool root from mid to one two p low high = ⊎_elim (λ h. one p low h) (λ h. two p h high) (cases_lt p mid)
 
 -- a tree is one after its cut tables were given back
-given_tree : (old mid new : Stored) (tree now : Tree) (cut given : List ℕ) → now ≡ tree → given ≡ cut → IsTree old 3 tree.root → Moves old mid 3 tree.root cut → new.words ≡ mid.words
+given_tree : (old mid new : Pool) (tree now : Tree) (cut given : List ℕ) → now ≡ tree → given ≡ cut → IsTree old 3 tree.root → TakesAndGivesFrames old mid 3 tree.root cut → new.words ≡ mid.words
     → ((f : ℕ) → occurs f new.free ≡ occurs f mid.free + occurs f given) → new.frames ≡ mid.frames → IsTree new 3 now.root
 given_tree old mid new tree now cut given et eg first moves words free frames =
     subst (λ (t : Tree). IsTree new 3 t.root) (sym et) (record {
@@ -71,7 +71,7 @@ given_tree old mid new tree now cut given et eg first moves words free frames =
     })
 
 -- as a call asks it
-asks_all : (pool : Stored) (tree known : Tree) (range : Range) (first pages : ℕ) → tree ≡ known → range ≡ record { first = first; pages = pages } → HasAll pool known.root first (first + pages)
+asks_all : (pool : Pool) (tree known : Tree) (range : Range) (first pages : ℕ) → tree ≡ known → range ≡ record { first = first; pages = pages } → HasAll pool known.root first (first + pages)
     → (p : ℕ) → (range.first ≤ p) × (p < range.first + range.pages) → IsSome (states (memory pool.words) 3 tree.root p)
 unfolding HasAll
 asks_all pool tree known range first pages et er all p within =
@@ -79,7 +79,7 @@ asks_all pool tree known range first pages et er all p within =
     let b : range.pages ≡ pages = ap (λ (r : Range). r.pages) er in
     subst (λ (t : Tree). IsSome (states (memory pool.words) 3 t.root p)) (sym et) (all p (omega (arith, within.0)) (omega (arith, within.1)))
 
-asks_none : (pool : Stored) (tree known : Tree) (range : Range) (first pages : ℕ) → tree ≡ known → range ≡ record { first = first; pages = pages } → HasNone pool known.root first (first + pages)
+asks_none : (pool : Pool) (tree known : Tree) (range : Range) (first pages : ℕ) → tree ≡ known → range ≡ record { first = first; pages = pages } → HasNone pool known.root first (first + pages)
     → (p : ℕ) → (range.first ≤ p) × (p < range.first + range.pages) → states (memory pool.words) 3 tree.root p ≡ None
 unfolding HasNone
 asks_none pool tree known range first pages et er none p within =
@@ -140,7 +140,7 @@ unmap-last_cut-requires-clause-there g c =
     asks_all c.map-2.new.pool c.map-2.new.self t c.pages-10.result 512 512 c.map-2.ensures.root c.pages-10.ensures (mapped_all c.unmap-third_cut.new.pool c.map-2.new.pool t.root 512 1024 _ maps)
 
 -- the tree before the last unmap
-tree_before : (pool : Stored) (tree known : Tree) → tree ≡ known → IsTree pool 3 known.root → IsTree pool 3 tree.root
+tree_before : (pool : Pool) (tree known : Tree) → tree ≡ known → IsTree pool 3 known.root → IsTree pool 3 tree.root
 tree_before pool tree known e h = subst (λ (t : Tree). IsTree pool 3 t.root) (sym e) h
 
 pub give_back-requires-clause-once : goal.give_back-requires-clause-once

@@ -2,7 +2,7 @@ use Rattle.std.proofs.Common.{◌≡◌, ℕ, ◌+◌, ◌-◌, ◌*◌, ◌/◌
 use Rattle.std.proofs.lemmas.Bool.{cases_lt}
 use Rattle.tables.specs.Tree.{Found, span, leaf_from, stated}
 use Rattle.tables.specs.Pool.{memory}
-use Rattle.tables.specs.Changes.{Moves, Unmaps}
+use Rattle.tables.specs.Changes.{TakesAndGivesFrames, Unmaps}
 use Rattle.tables.specs.Lacks.{splits}
 use Rattle.tables.specs.Pieces.{cut_of, was_split}
 use Rattle.tables.proofs.Mapped.{no_moves, moves_then}
@@ -59,7 +59,7 @@ loop-place-init c = record {
   low = omega arith;
   high = omega (arith, c.requires.some);
   edge = inr (inl refl);
-  moves = subst (λ xs. Moves c.args.pool.now c.args.pool.now c.args.level c.args.root xs) (sym c.none-cut.ensures.frames) (no_moves c.args.pool.now c.args.level c.args.root);
+  moves = subst (λ xs. TakesAndGivesFrames c.args.pool.now c.args.pool.now c.args.level c.args.root xs) (sym c.none-cut.ensures.frames) (no_moves c.args.pool.now c.args.level c.args.root);
   unmaps = subst (λ xs. Unmaps c.args.pool.now c.args.pool.now c.args.level c.args.root c.args.from c.args.from xs) (sym c.none-cut.ensures.frames) (no_unmaps c.args.pool.now c.args.level c.args.root c.args.from);
   room = omega (arith, ap length c.none-cut.ensures.frames);
   count = omega (arith, split_so_far-start c.args.pool.now c.args.level c.args.root c.args.from c.args.to);
@@ -104,7 +104,7 @@ loop-place-preserved c =
       low = omega (arith, one.0, c.loop-place.invariant.low);
       high = one.1;
       edge = stop_of c.min-next.result c.args.to c.args.from one.3;
-      moves = subst (λ xs. Moves c.args.pool.now new c.args.level c.args.root xs) (sym joined) (moves_then c.args.pool.now cur new c.args.level c.args.root cut more c.loop-place.invariant.moves c.clear_piece-cleared.ensures.moves);
+      moves = subst (λ xs. TakesAndGivesFrames c.args.pool.now new c.args.level c.args.root xs) (sym joined) (moves_then c.args.pool.now cur new c.args.level c.args.root cut more c.loop-place.invariant.moves c.clear_piece-cleared.ensures.moves);
       unmaps = subst (λ xs. Unmaps c.args.pool.now new c.args.level c.args.root c.args.from next xs) (sym joined)
           (unmaps_then c.args.pool.now cur new c.args.level c.args.root c.args.from c.loop-place.place next cut more c.loop-place.invariant.low one.0 (edge_of c.loop-place.place c.args.from c.args.to c.loop-place-test.true c.loop-place.invariant.edge) c.requires.tree
           (λ p low high. wide c.args.level c.args.from c.args.to p c.requires.one_span low (omega (arith, high, one.1))) c.loop-place.invariant.moves c.clear_piece-cleared.ensures.moves c.loop-place.invariant.unmaps c.clear_piece-cleared.ensures.unmaps);

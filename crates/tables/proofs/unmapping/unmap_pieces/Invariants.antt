@@ -1,6 +1,6 @@
 use Rattle.std.proofs.Common.{◌≡◌, ◌+◌, ◌-◌, ◌*◌, ◌%◌, ◌<◌, ◌≤◌, ◌⊎◌, length, true, false}
 use Rattle.tables.specs.Pool.{IsPool}
-use Rattle.tables.specs.Changes.{Moves, Unmaps}
+use Rattle.tables.specs.Changes.{TakesAndGivesFrames, Unmaps}
 use Rattle.tables.proofs.Sums.{split_so_far}
 use Rattle.tables.proofs.unmapping.unmap_pieces.Given as goal
 
@@ -9,7 +9,7 @@ invariant-loop-place l = record {
   low : l.from ≤ l.place;
   high : l.place ≤ l.to;
   edge : (l.place % 512 ≡ 0) ⊎ ((l.place ≡ l.from) ⊎ (l.place ≡ l.to));
-  moves : Moves l.initial.pool l.pool l.level l.root l.cut.frames;
+  moves : TakesAndGivesFrames l.initial.pool l.pool l.level l.root l.cut.frames;
   unmaps : Unmaps l.initial.pool l.pool l.level l.root l.from l.place l.cut.frames;
   room : 512 * length l.cut.frames ≤ l.place - l.from;
   count : length l.pool.free + split_so_far l.initial.pool l.level l.root l.from l.to l.place ≡ length l.initial.pool.free;

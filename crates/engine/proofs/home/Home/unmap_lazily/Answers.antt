@@ -1,7 +1,7 @@
 use Rattle.std.proofs.Common.{◌≡◌, ◌∙◌, ◌++◌, ◌∷◌, [], List, IsSomeAnd, subst, sym}
-use Rattle.iova.specs.Space.{AddressSpace}
+use Rattle.iova.specs.Space.{Space}
 use Rattle.engine.specs.declared.record.Record.{Record}
-use Rattle.engine.specs.Ending.{Cuts}
+use Rattle.engine.specs.Ending.{RetiresAndUnmaps}
 use Rattle.engine.specs.Homes.{home_with, record_for}
 use Rattle.engine.proofs.Room.{puts_off, releasable_here, room_to_end}
 use Rattle.engine.proofs.home.Home.unmap_lazily.Goals as goal
@@ -17,11 +17,11 @@ end-cut-requires c =
 in_home : (c : goal.After-put_aside)
     → IsSomeAnd (home_with c.put_aside.new.self.space c.make_room-released.new.self.records c.end-cut.new.self.tenant) (λ h. c.put_aside.new.self.records ≡ h.records ++ record_for c.args.range h.begun c.end-cut.result ∷ [])
 in_home c =
-    subst (λ (s : AddressSpace). IsSomeAnd (home_with s c.make_room-released.new.self.records c.end-cut.new.self.tenant) (λ h. c.put_aside.new.self.records ≡ h.records ++ record_for c.args.range h.begun c.end-cut.result ∷ [])) (sym c.put_aside.ensures.space)
+    subst (λ (s : Space). IsSomeAnd (home_with s c.make_room-released.new.self.records c.end-cut.new.self.tenant) (λ h. c.put_aside.new.self.records ≡ h.records ++ record_for c.args.range h.begun c.end-cut.result ∷ [])) (sym c.put_aside.ensures.space)
     (subst (λ (rs : List Record). IsSomeAnd (home_with c.end-cut.new.self.space rs c.end-cut.new.self.tenant) (λ h. c.put_aside.new.self.records ≡ h.records ++ record_for c.args.range h.begun c.end-cut.result ∷ [])) c.end-cut.ensures.records c.put_aside.ensures.records)
 
 cuts : (c : goal.After-put_aside)
-    → IsSomeAnd (home_with c.make_room-released.new.self.space c.make_room-released.new.self.records c.make_room-released.new.self.tenant) (λ h. Cuts c.make_room-released.new.pool h.space h.root c.args.range c.end-cut.result c.end-cut.new.pool c.put_aside.new.self.space)
+    → IsSomeAnd (home_with c.make_room-released.new.self.space c.make_room-released.new.self.records c.make_room-released.new.self.tenant) (λ h. RetiresAndUnmaps c.make_room-released.new.pool h.space h.root c.args.range c.end-cut.result c.end-cut.new.pool c.put_aside.new.self.space)
 cuts c = rw c.put_aside.ensures.space c.end-cut.ensures.cuts
 
 pub returns : goal.returns

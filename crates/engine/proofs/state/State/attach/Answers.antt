@@ -5,7 +5,7 @@ use Rattle.dmatypes.specs.declared.call.Call.TheVariants as calls
 use Rattle.dmatypes.specs.declared.reply.Reply.TheVariants.{Done}
 use Rattle.dmatypes.specs.declared.width.Width.TheVariants.{W39}
 use Rattle.vtdbits.specs.declared.context.ContextEntry.TheVariants.{Present}
-use Rattle.engine.specs.Machine.{Machine}
+use Rattle.engine.specs.State.{State}
 use Rattle.engine.specs.Steps.{Does}
 use Rattle.engine.proofs.Attaching.{attach_no_device, attach_no_domain, attach_busy, attaches}
 use Rattle.engine.proofs.Places.{found, root_is, some_home, tenant_there}
@@ -33,10 +33,10 @@ root-requires c =
     let h = found c.self.inside.homes.items c.args.domain c.in-Some.index c.index.result.now some.2 some.3 at in
     tenant_there c.index.result.now h.0 h.1
 
-abbrev before : goal.After-set → Machine
+abbrev before : goal.After-set → State
 before c = record { pool = c.self.inside.pool; homes = c.self.inside.homes.items; row = c.self.inside.contexts; ring = c.self.inside.iommu.ring; unit = c.self.inside.iommu.unit; sent = c.self.inside.iommu.sent; calls = c.self.inside.calls }
 
-abbrev after : goal.After-set → Machine
+abbrev after : goal.After-set → State
 after c = record { pool = c.self.inside.pool; homes = c.self.inside.homes.items; row = c.set.new.self; ring = c.self.inside.iommu.ring; unit = c.self.inside.iommu.unit; sent = c.self.inside.iommu.sent; calls = c.self.inside.calls + 1 }
 
 does : (c : goal.After-set) → Does (before c) (calls.Attach c.args.device c.args.domain) Done (after c)

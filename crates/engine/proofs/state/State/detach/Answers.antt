@@ -7,7 +7,7 @@ use Rattle.dmatypes.specs.declared.width.Width.TheVariants.{W39}
 use Rattle.vtdbits.specs.declared.context.ContextEntry.TheVariants.{Absent, Present}
 use Rattle.vtdbits.specs.declared.descriptor.Descriptor.TheVariants.{ContextDevice}
 use Rattle.engine.specs.Ending.{Invalidates}
-use Rattle.engine.specs.Machine.{Machine}
+use Rattle.engine.specs.State.{State}
 use Rattle.engine.specs.Steps.{Does}
 use Rattle.engine.proofs.Detaching.{detach_does, detach_no_device, detach_not_attached, detached, only_width}
 use Rattle.engine.proofs.Sent.{whole_sends}
@@ -21,7 +21,7 @@ returns-in_default c =
 pub returns-in_default-get : goal.returns-in_default-get
 returns-in_default-get c = rw (← c.self.view_is) (detach_not_attached _ _ c.args.device Absent refl (c.in-Some.ensures.some.0 refl) c.in_default-get.ensures refl)
 
-abbrev before : goal.After-forget_context → Machine
+abbrev before : goal.After-forget_context → State
 before c = record { pool = c.self.inside.pool; homes = c.self.inside.homes.items; row = c.self.inside.contexts; ring = c.self.inside.iommu.ring; unit = c.self.inside.iommu.unit; sent = c.self.inside.iommu.sent; calls = c.self.inside.calls }
 
 sent : (c : goal.After-forget_context) → Invalidates c.self.inside.iommu.ring c.self.inside.iommu.unit c.self.inside.iommu.sent (ContextDevice c.in-Present.domain c.args.device) c.forget_context.new.self.ring c.forget_context.new.self.unit c.forget_context.new.self.sent

@@ -2,7 +2,7 @@ use Rattle.std.proofs.Common.{◌≡◌, ◌+◌, ◌∙◌, ap₂, true, false,
 use Rattle.dmatypes.specs.Page.{IsInWindow}
 use Rattle.dmatypes.specs.declared.call.Call.TheVariants as calls
 use Rattle.unit.specs.Caches.{unit_state}
-use Rattle.engine.specs.Machine.{Machine, host_in, reached_reply}
+use Rattle.engine.specs.State.{State, host_in, reached_reply}
 use Rattle.engine.specs.Steps.{Does}
 use Rattle.engine.proofs.Answered.{request_does, request_no_device, request_window}
 use Rattle.engine.proofs.Refusing.{whole_quiet}
@@ -15,10 +15,10 @@ pub returns-then-is_in_window : goal.returns-then-is_in_window
 returns-then-is_in_window c =
     rw (← c.self.view_is) (request_window _ _ c.args.device c.args.address c.args.access c.args.whim refl c.if-device-gt15.false (c.is_in_window.ensures.0 c.if-is_in_window.true))
 
-abbrev before : goal.After-host_in → Machine
+abbrev before : goal.After-host_in → State
 before c = record { pool = c.self.inside.pool; homes = c.self.inside.homes.items; row = c.self.inside.contexts; ring = c.self.inside.iommu.ring; unit = c.self.inside.iommu.unit; sent = c.self.inside.iommu.sent; calls = c.self.inside.calls }
 
-abbrev after : goal.After-host_in → Machine
+abbrev after : goal.After-host_in → State
 after c = record { pool = c.self.inside.pool; homes = c.self.inside.homes.items; row = c.self.inside.contexts; ring = c.self.inside.iommu.ring; unit = c.dma-answer.new.self; sent = c.self.inside.iommu.sent; calls = c.self.inside.calls + 1 }
 
 does : (c : goal.After-host_in) → Does (before c) (calls.Dma c.args.device c.args.address c.args.access c.args.whim) (reached_reply (host_in c.dma-answer.result)) (after c)

@@ -2,7 +2,7 @@ use Rattle.std.proofs.Common.{◌+◌, ap, refl, slice_set, length-set}
 use Rattle.dmatypes.specs.declared.call.Call.TheVariants as calls
 use Rattle.dmatypes.specs.declared.refusal.Refusal.TheVariants as refusals
 use Rattle.dmatypes.specs.declared.reply.Reply.TheVariants.{Made, Refused}
-use Rattle.engine.specs.Machine.{Machine}
+use Rattle.engine.specs.State.{State}
 use Rattle.engine.specs.Steps.{Does}
 use Rattle.engine.proofs.Making.{IsEmptyTree, no_id, no_root, makes}
 use Rattle.engine.proofs.Refusing.{whole_quiet}
@@ -14,10 +14,10 @@ returns-in_default c =
 
 -- ---- no frame is free
 
-abbrev before_refused : goal.In-Err → Machine
+abbrev before_refused : goal.In-Err → State
 before_refused c = record { pool = c.self.inside.pool; homes = c.self.inside.homes.items; row = c.self.inside.contexts; ring = c.self.inside.iommu.ring; unit = c.self.inside.iommu.unit; sent = c.self.inside.iommu.sent; calls = c.self.inside.calls }
 
-abbrev refused : goal.In-Err → Machine
+abbrev refused : goal.In-Err → State
 refused c = record { pool = c.new.new.pool; homes = c.self.inside.homes.items; row = c.self.inside.contexts; ring = c.self.inside.iommu.ring; unit = c.self.inside.iommu.unit; sent = c.self.inside.iommu.sent; calls = c.self.inside.calls + 1 }
 
 refuses : (c : goal.In-Err) → Does (before_refused c) (calls.Domain c.args.mode) (Refused refusals.NoFrames) (refused c)
@@ -34,10 +34,10 @@ invariant_of-self-in-Err c = whole_quiet c.self.inside.frames (before_refused c)
 
 -- ---- a domain
 
-abbrev before : goal.After-self-2-1 → Machine
+abbrev before : goal.After-self-2-1 → State
 before c = record { pool = c.self.inside.pool; homes = c.self.inside.homes.items; row = c.self.inside.contexts; ring = c.self.inside.iommu.ring; unit = c.self.inside.iommu.unit; sent = c.self.inside.iommu.sent; calls = c.self.inside.calls }
 
-abbrev after : goal.After-self-2-1 → Machine
+abbrev after : goal.After-self-2-1 → State
 after c = record { pool = c.new.new.pool; homes = slice_set c.self.inside.homes.items c.in-Some.index c.open.new.self; row = c.self.inside.contexts; ring = c.self.inside.iommu.ring; unit = c.self.inside.iommu.unit; sent = c.self.inside.iommu.sent; calls = c.self.inside.calls + 1 }
 
 does : (c : goal.After-self-2-1) → Does (before c) (calls.Domain c.args.mode) (Made (c.in-Some.index + 1)) (after c)

@@ -2,16 +2,16 @@ use Rattle.std.proofs.Common.{◌+◌, ap, refl}
 use Rattle.dmatypes.specs.declared.call.Call.TheVariants as calls
 use Rattle.dmatypes.specs.declared.reply.Reply.TheVariants.{Done}
 use Rattle.unit.specs.Caches.{UnitState}
-use Rattle.engine.specs.Machine.{Machine}
+use Rattle.engine.specs.State.{State}
 use Rattle.engine.specs.Steps.{Does}
 use Rattle.engine.proofs.Answered.{evict_does}
 use Rattle.engine.proofs.Refusing.{whole_quiet}
 use Rattle.engine.proofs.state.State.evict.Goals as goal
 
-abbrev before : goal.After-evict → Machine
+abbrev before : goal.After-evict → State
 before c = record { pool = c.self.inside.pool; homes = c.self.inside.homes.items; row = c.self.inside.contexts; ring = c.self.inside.iommu.ring; unit = c.self.inside.iommu.unit; sent = c.self.inside.iommu.sent; calls = c.self.inside.calls }
 
-abbrev after : goal.After-evict → Machine
+abbrev after : goal.After-evict → State
 after c = record { pool = c.self.inside.pool; homes = c.self.inside.homes.items; row = c.self.inside.contexts; ring = c.self.inside.iommu.ring; unit = c.evict.new.self; sent = c.self.inside.iommu.sent; calls = c.self.inside.calls + 1 }
 
 does : (c : goal.After-evict) → Does (before c) (calls.Evict c.args.kind c.args.place) Done (after c)

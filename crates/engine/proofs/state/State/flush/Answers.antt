@@ -2,10 +2,10 @@ use Rattle.std.proofs.Common.{◌≡◌, ◌∙◌, List, Some, ap, sym, subst, 
 use Rattle.std.proofs.lemmas.Option.{slice_get_read}
 use Rattle.dmatypes.specs.declared.call.Call.TheVariants as calls
 use Rattle.dmatypes.specs.declared.reply.Reply.TheVariants.{Flushed}
-use Rattle.iova.specs.Space.{AddressSpace}
+use Rattle.iova.specs.Space.{Space}
 use Rattle.engine.specs.declared.record.Record.{Record}
 use Rattle.engine.specs.Ready.{AreReleasable}
-use Rattle.engine.specs.Machine.{Machine}
+use Rattle.engine.specs.State.{State}
 use Rattle.engine.proofs.FlushSteps.{Did, flush_did, flush_no_domain}
 use Rattle.engine.proofs.Places.{found, home_is}
 use Rattle.engine.proofs.Releasable.{records_releasable}
@@ -17,16 +17,16 @@ returns-in_default c = rw (← c.self.view_is) (flush_no_domain _ _ c.args.domai
 
 pub flush-requires-clause-can : goal.flush-requires-clause-can
 flush-requires-clause-can c =
-    let m : Machine = record { pool = c.self.inside.pool; homes = c.self.inside.homes.items; row = c.self.inside.contexts; ring = c.self.inside.iommu.ring; unit = c.self.inside.iommu.unit; sent = c.self.inside.iommu.sent; calls = c.self.inside.calls } in
+    let m : State = record { pool = c.self.inside.pool; homes = c.self.inside.homes.items; row = c.self.inside.contexts; ring = c.self.inside.iommu.ring; unit = c.self.inside.iommu.unit; sent = c.self.inside.iommu.sent; calls = c.self.inside.calls } in
     let some = rw c.as_slice.ensures.value at c.in-Some.ensures.some in
     let at : slice_get c.self.inside.homes.items c.in-Some.index ≡ Some c.index_mut.result.now =
     slice_get_read c.self.inside.homes.items (length c.self.inside.homes.items) c.in-Some.index c.index_mut.result.now refl some.1 c.index_mut.ensures.value in
     let h = found c.self.inside.homes.items c.args.domain c.in-Some.index c.index_mut.result.now some.2 some.3 at in
     let is = home_is c.index_mut.result.now h.0 h.1 in
-    subst (λ (s : AddressSpace). AreReleasable c.self.inside.pool s c.index_mut.result.now.records) is.0
+    subst (λ (s : Space). AreReleasable c.self.inside.pool s c.index_mut.result.now.records) is.0
     (subst (λ (rs : List Record). AreReleasable c.self.inside.pool h.0.space rs) is.1 (records_releasable m c.args.domain h.0 c.self.invariant.of_world c.self.invariant.places h.2))
 
-abbrev before : goal.After-self-2-1 → Machine
+abbrev before : goal.After-self-2-1 → State
 before c = record { pool = c.self.inside.pool; homes = c.self.inside.homes.items; row = c.self.inside.contexts; ring = c.self.inside.iommu.ring; unit = c.self.inside.iommu.unit; sent = c.self.inside.iommu.sent; calls = c.self.inside.calls }
 
 did : (c : goal.After-self-2-1) → Did c.self.inside.frames (before c) (calls.Flush c.args.domain) (Flushed c.flush.result) (changed (before c) c.in-Some.index c.flush.new.pool c.flush.new.self c.flush.new.iommu)

@@ -1,9 +1,9 @@
 use Rattle.std.proofs.Common.{subst}
-use Rattle.engine.specs.Machine.{Machine}
+use Rattle.engine.specs.State.{State}
 use Rattle.engine.specs.Whole.{IsWhole}
 use Rattle.engine.proofs.state.State.keeps.Goals as goal
 
-abbrev told : goal.After-self → Machine
+abbrev told : goal.After-self → State
 told c = record { pool = c.self.inside.pool; homes = c.self.inside.homes.items; row = c.self.inside.contexts; ring = c.self.inside.iommu.ring; unit = c.self.inside.iommu.unit; sent = c.self.inside.iommu.sent; calls = c.self.inside.calls }
 
 pub returns : goal.returns

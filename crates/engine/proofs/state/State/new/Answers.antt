@@ -1,10 +1,10 @@
 use Rattle.std.proofs.Common.{refl, ap}
 use Rattle.engine.specs.declared.iommu.Iommu.{Iommu}
-use Rattle.engine.specs.Machine.{IsNew, Machine}
+use Rattle.engine.specs.State.{IsNew, State}
 use Rattle.engine.proofs.Beginning.{of_empty_world, whole_new}
 use Rattle.engine.proofs.state.State.new.Goals as goal
 
-abbrev made : goal.After-new-3 → Machine
+abbrev made : goal.After-new-3 → State
 made c = record { pool = c.in_ok-new.field-0; homes = c.in_ok-vacant_homes.field-0.items; row = c.new-2.result; ring = c.new-3.result.ring; unit = c.new-3.result.unit; sent = c.new-3.result.sent; calls = 0 }
 
 is_new : (c : goal.After-new-3) → IsNew c.args.frames (made c)

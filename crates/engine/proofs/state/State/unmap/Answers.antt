@@ -1,6 +1,6 @@
 use Rattle.std.proofs.Common.{◌≡◌, Some, length, refl, rules, slice_get}
 use Rattle.std.proofs.lemmas.Option.{slice_get_read}
-use Rattle.engine.specs.Machine.{Machine}
+use Rattle.engine.specs.State.{State}
 use Rattle.engine.proofs.Places.{found, some_home}
 use Rattle.engine.proofs.Releasable.{can_unmap}
 use Rattle.engine.proofs.Sent.{changed}
@@ -18,7 +18,7 @@ returns-in_default-range_at c =
 
 pub unmap-requires-clause-can : goal.unmap-requires-clause-can
 unmap-requires-clause-can c =
-    let m : Machine = record { pool = c.self.inside.pool; homes = c.self.inside.homes.items; row = c.self.inside.contexts; ring = c.self.inside.iommu.ring; unit = c.self.inside.iommu.unit; sent = c.self.inside.iommu.sent; calls = c.self.inside.calls } in
+    let m : State = record { pool = c.self.inside.pool; homes = c.self.inside.homes.items; row = c.self.inside.contexts; ring = c.self.inside.iommu.ring; unit = c.self.inside.iommu.unit; sent = c.self.inside.iommu.sent; calls = c.self.inside.calls } in
     let some = rw c.as_slice.ensures.value at c.in-Some.ensures.some in
     let at : slice_get c.self.inside.homes.items c.in-Some.index ≡ Some c.index_mut.result.now =
     slice_get_read c.self.inside.homes.items (length c.self.inside.homes.items) c.in-Some.index c.index_mut.result.now refl some.1 c.index_mut.ensures.value in
@@ -27,10 +27,10 @@ unmap-requires-clause-can c =
 
 -- ---- the place of the domain answers
 
-abbrev before : goal.After-self-2-1 → Machine
+abbrev before : goal.After-self-2-1 → State
 before c = record { pool = c.self.inside.pool; homes = c.self.inside.homes.items; row = c.self.inside.contexts; ring = c.self.inside.iommu.ring; unit = c.self.inside.iommu.unit; sent = c.self.inside.iommu.sent; calls = c.self.inside.calls }
 
-abbrev after : goal.After-self-2-1 → Machine
+abbrev after : goal.After-self-2-1 → State
 after c = changed (before c) c.in-Some.index c.unmap.new.pool c.unmap.new.self c.unmap.new.iommu
 
 answered : (c : goal.After-self-2-1) → AnswersUnmap c.self.inside.frames (before c) c.args.domain c.args.address c.args.pages c.unmap.result (after c)

@@ -1,7 +1,7 @@
 use Rattle.std.proofs.Common.{arith, ◌≡◌, ap, subst, sym}
 use Rattle.dmatypes.specs.World.{IsIn}
 use Rattle.iova.specs.Pieces.{piece_of, with_free}
-use Rattle.iova.specs.Space.{AddressSpace, IsSpace}
+use Rattle.iova.specs.Space.{Space, IsSpace}
 use Rattle.iova.specs.Changes.{Frees}
 use Rattle.iova.proofs.Keep.{space_bounded}
 use Rattle.iova.proofs.Place.{IsPlace}
@@ -13,14 +13,14 @@ free-requires-clause-bounded c = space_bounded (record { last = c.self.inside.la
 
 pub free-requires-clause-at : goal.free-requires-clause-at
 free-requires-clause-at c =
-    let a : AddressSpace = record { last = c.self.inside.last; pieces = c.self.inside.pieces.items } in
+    let a : Space = record { last = c.self.inside.last; pieces = c.self.inside.pieces.items } in
     let there : IsIn (piece_of c.args.range c.requires.0) a.pieces = subst (λ v. IsIn (piece_of c.args.range c.requires.0) v.pieces) (sym c.self.view_is) c.requires.1 in
     let place : IsPlace c.deref.result.now c.first.result c.place-at.result = record { within = c.place-at.ensures.within; before = c.place-at.ensures.before; here = c.place-at.ensures.here } in
     (freed_place a (piece_of c.args.range c.requires.0) c.first.result c.place-at.result c.deref.result.now c.self.invariant.0 there c.first.ensures.value c.deref.ensures.value place).0
 
 pub invariant_of-self : goal.invariant_of-self
 invariant_of-self c =
-    let a : AddressSpace = record { last = c.self.inside.last; pieces = c.self.inside.pieces.items } in
+    let a : Space = record { last = c.self.inside.last; pieces = c.self.inside.pieces.items } in
     let there : IsIn (piece_of c.args.range c.requires.0) a.pieces = subst (λ v. IsIn (piece_of c.args.range c.requires.0) v.pieces) (sym c.self.view_is) c.requires.1 in
     let place : IsPlace c.deref.result.now c.first.result c.place-at.result = record { within = c.place-at.ensures.within; before = c.place-at.ensures.before; here = c.place-at.ensures.here } in
     let is : c.free.new.pieces.items ≡ with_free (piece_of c.args.range c.requires.0) a.pieces =
@@ -29,8 +29,8 @@ invariant_of-self c =
 
 pub returns-clause-freed : goal.returns-clause-freed
 returns-clause-freed c state among =
-    let a : AddressSpace = record { last = c.self.inside.last; pieces = c.self.inside.pieces.items } in
-    let new : AddressSpace = record { last = a.last; pieces = c.free.new.pieces.items } in
+    let a : Space = record { last = c.self.inside.last; pieces = c.self.inside.pieces.items } in
+    let new : Space = record { last = a.last; pieces = c.free.new.pieces.items } in
     let there : IsIn (piece_of c.args.range state) a.pieces = subst (λ v. IsIn (piece_of c.args.range state) v.pieces) (sym c.self.view_is) among in
     let place : IsPlace c.deref.result.now c.first.result c.place-at.result = record { within = c.place-at.ensures.within; before = c.place-at.ensures.before; here = c.place-at.ensures.here } in
     let is : c.free.new.pieces.items ≡ with_free (piece_of c.args.range state) a.pieces =
@@ -39,7 +39,7 @@ returns-clause-freed c state among =
 
 pub returns-clause-space : goal.returns-clause-space
 returns-clause-space c =
-    let a : AddressSpace = record { last = c.self.inside.last; pieces = c.self.inside.pieces.items } in
+    let a : Space = record { last = c.self.inside.last; pieces = c.self.inside.pieces.items } in
     let there : IsIn (piece_of c.args.range c.requires.0) a.pieces = subst (λ v. IsIn (piece_of c.args.range c.requires.0) v.pieces) (sym c.self.view_is) c.requires.1 in
     let place : IsPlace c.deref.result.now c.first.result c.place-at.result = record { within = c.place-at.ensures.within; before = c.place-at.ensures.before; here = c.place-at.ensures.here } in
     let is : c.free.new.pieces.items ≡ with_free (piece_of c.args.range c.requires.0) a.pieces =

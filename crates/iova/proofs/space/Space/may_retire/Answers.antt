@@ -3,7 +3,7 @@ use Rattle.std.specs.List.{All, HoldsAt}
 use Rattle.dmatypes.specs.Page.{Range}
 use Rattle.iova.specs.declared.piece.PageState.TheVariants.{Live}
 use Rattle.iova.specs.Pieces.{AllIn, Holds}
-use Rattle.iova.specs.Space.{AddressSpace}
+use Rattle.iova.specs.Space.{Space}
 use Rattle.iova.proofs.Keep.{is_some, space_bounded}
 use Rattle.iova.proofs.Place.{IsPlace, place_holds}
 use Rattle.iova.proofs.space.Space.may_retire.Goals as goal
@@ -14,7 +14,7 @@ live_end-requires-clause-bounded c =
 
 pub cuts_piece-requires-clause-first : goal.cuts_piece-requires-clause-first
 cuts_piece-requires-clause-first c =
-    let a : AddressSpace = record { last = c.self.inside.last; pieces = c.self.inside.pieces.items } in
+    let a : Space = record { last = c.self.inside.last; pieces = c.self.inside.pieces.items } in
     let range : Range = record { first = c.first-first.result; pages = c.pages.result } in
     let live : AllIn Live range a.pieces = subst (λ ps. AllIn Live range ps) c.deref-2.ensures.value c.in-Some.ensures.live in
     let place : IsPlace c.deref.result.now c.first-first.result c.place-from.result = record { within = c.place-from.ensures.within; before = c.place-from.ensures.before; here = c.place-from.ensures.here } in

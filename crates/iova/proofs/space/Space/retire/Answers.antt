@@ -3,20 +3,20 @@ use Rattle.dmatypes.specs.Page.{Range}
 use Rattle.iova.specs.declared.piece.PageState.TheVariants.{Free, Live, Retired}
 use Rattle.iova.specs.declared.piece.Piece.{Piece}
 use Rattle.iova.specs.Pieces.{piece_of, with_piece}
-use Rattle.iova.specs.Space.{AddressSpace, IsSpace, MayRetire}
+use Rattle.iova.specs.Space.{Space, IsSpace, MayRetire}
 use Rattle.iova.specs.Changes.{Retires}
 use Rattle.iova.proofs.Place.{IsPlace}
 use Rattle.iova.proofs.Taken.{Lies, lies, retires, same_range, space_retired}
 use Rattle.iova.proofs.space.Space.retire.Goals as goal
 
 -- the range as it was read, and what is known of it
-record Read (a : AddressSpace) (range : Range) (i j : ℕ) : Type 0 where
+record Read (a : Space) (range : Range) (i j : ℕ) : Type 0 where
   pub some : 1 ≤ range.pages
   pub may : MayRetire a.pieces range
   pub lies : Lies a.pieces range i j
   pub space : IsSpace (record a { pieces = with_piece (piece_of range Retired) a.pieces })
 
-read : (a : AddressSpace) (range : Range) (xs ys : List Piece) (i j : ℕ) → IsSpace a → 1 ≤ range.pages → MayRetire a.pieces range → xs ≡ a.pieces → ys ≡ a.pieces → IsPlace xs range.first i → IsPlace ys (range.first + range.pages - 1) j → Read a range i j
+read : (a : Space) (range : Range) (xs ys : List Piece) (i j : ℕ) → IsSpace a → 1 ≤ range.pages → MayRetire a.pieces range → xs ≡ a.pieces → ys ≡ a.pieces → IsPlace xs range.first i → IsPlace ys (range.first + range.pages - 1) j → Read a range i j
 read a range xs ys i j sp pos may e f w v = record {
   some = pos;
   may = may;
@@ -26,7 +26,7 @@ read a range xs ys i j sp pos may e f w v = record {
 
 pub put-requires-clause-from : goal.put-requires-clause-from
 put-requires-clause-from c =
-    let a : AddressSpace = record { last = c.self.inside.last; pieces = c.self.inside.pieces.items } in
+    let a : Space = record { last = c.self.inside.last; pieces = c.self.inside.pieces.items } in
     let range : Range = record { first = c.first-first.result; pages = c.pages.result } in
     let is : range ≡ c.args.range = same_range c.first-first.result c.pages.result c.args.range c.first-first.ensures.value c.pages.ensures.value in
     let r = read a range c.deref.result.now c.deref-2.result.now c.place-from.result c.place-to.result c.self.invariant.0 (omega (arith, c.pages.ensures.value, c.pages.ensures.range.some))
@@ -36,7 +36,7 @@ put-requires-clause-from c =
 
 pub put-requires-clause-to : goal.put-requires-clause-to
 put-requires-clause-to c =
-    let a : AddressSpace = record { last = c.self.inside.last; pieces = c.self.inside.pieces.items } in
+    let a : Space = record { last = c.self.inside.last; pieces = c.self.inside.pieces.items } in
     let range : Range = record { first = c.first-first.result; pages = c.pages.result } in
     let is : range ≡ c.args.range = same_range c.first-first.result c.pages.result c.args.range c.first-first.ensures.value c.pages.ensures.value in
     let r = read a range c.deref.result.now c.deref-2.result.now c.place-from.result c.place-to.result c.self.invariant.0 (omega (arith, c.pages.ensures.value, c.pages.ensures.range.some))
@@ -46,7 +46,7 @@ put-requires-clause-to c =
 
 pub put-requires-clause-first : goal.put-requires-clause-first
 put-requires-clause-first c =
-    let a : AddressSpace = record { last = c.self.inside.last; pieces = c.self.inside.pieces.items } in
+    let a : Space = record { last = c.self.inside.last; pieces = c.self.inside.pieces.items } in
     let range : Range = record { first = c.first-first.result; pages = c.pages.result } in
     let is : range ≡ c.args.range = same_range c.first-first.result c.pages.result c.args.range c.first-first.ensures.value c.pages.ensures.value in
     let r = read a range c.deref.result.now c.deref-2.result.now c.place-from.result c.place-to.result c.self.invariant.0 (omega (arith, c.pages.ensures.value, c.pages.ensures.range.some))
@@ -56,7 +56,7 @@ put-requires-clause-first c =
 
 pub put-requires-clause-last : goal.put-requires-clause-last
 put-requires-clause-last c =
-    let a : AddressSpace = record { last = c.self.inside.last; pieces = c.self.inside.pieces.items } in
+    let a : Space = record { last = c.self.inside.last; pieces = c.self.inside.pieces.items } in
     let range : Range = record { first = c.first-first.result; pages = c.pages.result } in
     let is : range ≡ c.args.range = same_range c.first-first.result c.pages.result c.args.range c.first-first.ensures.value c.pages.ensures.value in
     let r = read a range c.deref.result.now c.deref-2.result.now c.place-from.result c.place-to.result c.self.invariant.0 (omega (arith, c.pages.ensures.value, c.pages.ensures.range.some))
@@ -66,7 +66,7 @@ put-requires-clause-last c =
 
 pub put-requires-clause-room : goal.put-requires-clause-room
 put-requires-clause-room c =
-    let a : AddressSpace = record { last = c.self.inside.last; pieces = c.self.inside.pieces.items } in
+    let a : Space = record { last = c.self.inside.last; pieces = c.self.inside.pieces.items } in
     let range : Range = record { first = c.first-first.result; pages = c.pages.result } in
     let is : range ≡ c.args.range = same_range c.first-first.result c.pages.result c.args.range c.first-first.ensures.value c.pages.ensures.value in
     let r = read a range c.deref.result.now c.deref-2.result.now c.place-from.result c.place-to.result c.self.invariant.0 (omega (arith, c.pages.ensures.value, c.pages.ensures.range.some))
@@ -76,7 +76,7 @@ put-requires-clause-room c =
 
 pub invariant_of-self : goal.invariant_of-self
 invariant_of-self c =
-    let a : AddressSpace = record { last = c.self.inside.last; pieces = c.self.inside.pieces.items } in
+    let a : Space = record { last = c.self.inside.last; pieces = c.self.inside.pieces.items } in
     let range : Range = record { first = c.first-first.result; pages = c.pages.result } in
     let is : range ≡ c.args.range = same_range c.first-first.result c.pages.result c.args.range c.first-first.ensures.value c.pages.ensures.value in
     let r = read a range c.deref.result.now c.deref-2.result.now c.place-from.result c.place-to.result c.self.invariant.0 (omega (arith, c.pages.ensures.value, c.pages.ensures.range.some))
@@ -86,18 +86,18 @@ invariant_of-self c =
 
 pub returns-clause-retired : goal.returns-clause-retired
 returns-clause-retired c =
-    let a : AddressSpace = record { last = c.self.inside.last; pieces = c.self.inside.pieces.items } in
+    let a : Space = record { last = c.self.inside.last; pieces = c.self.inside.pieces.items } in
     let range : Range = record { first = c.first-first.result; pages = c.pages.result } in
     let is : range ≡ c.args.range = same_range c.first-first.result c.pages.result c.args.range c.first-first.ensures.value c.pages.ensures.value in
     let r = read a range c.deref.result.now c.deref-2.result.now c.place-from.result c.place-to.result c.self.invariant.0 (omega (arith, c.pages.ensures.value, c.pages.ensures.range.some))
     (subst (λ v. MayRetire v range) (ap (λ v. v.pieces) (sym c.self.view_is)) (subst (λ k. MayRetire c.args.self.now.pieces k) (sym is) c.requires)) c.deref.ensures.value c.deref-2.ensures.value
     (record { within = c.place-from.ensures.within; before = c.place-from.ensures.before; here = c.place-from.ensures.here }) (record { within = c.place-to.ensures.within; before = c.place-to.ensures.before; here = c.place-to.ensures.here }) in
-    let new : AddressSpace = record a { pieces = c.put.new.pieces.items } in
+    let new : Space = record a { pieces = c.put.new.pieces.items } in
     subst (λ k. Retires c.args.self.now new k) is (subst (λ v. Retires v new range) c.self.view_is (retires a new range c.self.invariant.0 r.some r.may.live (ap (λ ps. record a { pieces = ps }) c.put.ensures.items)))
 
 pub returns-clause-space : goal.returns-clause-space
 returns-clause-space c =
-    let a : AddressSpace = record { last = c.self.inside.last; pieces = c.self.inside.pieces.items } in
+    let a : Space = record { last = c.self.inside.last; pieces = c.self.inside.pieces.items } in
     let range : Range = record { first = c.first-first.result; pages = c.pages.result } in
     let is : range ≡ c.args.range = same_range c.first-first.result c.pages.result c.args.range c.first-first.ensures.value c.pages.ensures.value in
     let r = read a range c.deref.result.now c.deref-2.result.now c.place-from.result c.place-to.result c.self.invariant.0 (omega (arith, c.pages.ensures.value, c.pages.ensures.range.some))

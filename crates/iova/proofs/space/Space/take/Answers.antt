@@ -3,7 +3,7 @@ use Rattle.std.specs.List.{All}
 use Rattle.dmatypes.specs.Page.{IsPageRange, Range}
 use Rattle.iova.specs.declared.piece.PageState.TheVariants.{Free, Live}
 use Rattle.iova.specs.Pieces.{AllIn, piece_of, with_piece}
-use Rattle.iova.specs.Space.{AddressSpace, CutsPiece, IsSpace, IsTooMany}
+use Rattle.iova.specs.Space.{Space, CutsPiece, IsSpace, IsTooMany}
 use Rattle.iova.specs.Changes.{Takes}
 use Rattle.iova.proofs.Keep.{space_bounded}
 use Rattle.iova.proofs.Taken.{page_range, space_taken, takes}
@@ -24,7 +24,7 @@ lowest_fit-requires-clause-bounded c =
 
 pub overflow_add-piece : goal.overflow_add-piece
 overflow_add-piece c =
-    let a : AddressSpace = record { last = c.self.inside.last; pieces = c.self.inside.pieces.items } in
+    let a : Space = record { last = c.self.inside.last; pieces = c.self.inside.pieces.items } in
     let range : Range = record { first = c.in-Some.fit.start; pages = c.args.pages } in
     let free : AllIn Free range a.pieces = subst (λ ps. AllIn Free range ps) c.deref.ensures.value c.in-Some.ensures.lowest.fit.free in
     let narrow = ((page_range a range Free c.self.invariant.0 c.requires.some_pages c.requires.few_pages free).members c.in-Some.fit.start (omega arith, omega (arith, c.requires.some_pages))).1 in
@@ -32,7 +32,7 @@ overflow_add-piece c =
 
 pub put-requires-clause-bounded : goal.put-requires-clause-bounded
 put-requires-clause-bounded c =
-    let a : AddressSpace = record { last = c.self.inside.last; pieces = c.self.inside.pieces.items } in
+    let a : Space = record { last = c.self.inside.last; pieces = c.self.inside.pieces.items } in
     let range : Range = record { first = c.in-Some.fit.start; pages = c.args.pages } in
     let free : AllIn Free range a.pieces = subst (λ ps. AllIn Free range ps) c.deref.ensures.value c.in-Some.ensures.lowest.fit.free in
     let narrow = ((page_range a range Free c.self.invariant.0 c.requires.some_pages c.requires.few_pages free).members c.in-Some.fit.start (omega arith, omega (arith, c.requires.some_pages))).1 in
@@ -40,7 +40,7 @@ put-requires-clause-bounded c =
 
 pub put-requires-clause-room : goal.put-requires-clause-room
 put-requires-clause-room c =
-    let a : AddressSpace = record { last = c.self.inside.last; pieces = c.self.inside.pieces.items } in
+    let a : Space = record { last = c.self.inside.last; pieces = c.self.inside.pieces.items } in
     let range : Range = record { first = c.in-Some.fit.start; pages = c.args.pages } in
     let free : AllIn Free range a.pieces = subst (λ ps. AllIn Free range ps) c.deref.ensures.value c.in-Some.ensures.lowest.fit.free in
     let room : IsTooMany a.pieces range → ⊥ = elim c.else-len-gt-MOST_PIECES_TO_CUT.branch [
@@ -53,14 +53,14 @@ put-requires-clause-room c =
 
 pub unwrap-requires : goal.unwrap-requires
 unwrap-requires c =
-    let a : AddressSpace = record { last = c.self.inside.last; pieces = c.self.inside.pieces.items } in
+    let a : Space = record { last = c.self.inside.last; pieces = c.self.inside.pieces.items } in
     let range : Range = record { first = c.in-Some.fit.start; pages = c.args.pages } in
     let free : AllIn Free range a.pieces = subst (λ ps. AllIn Free range ps) c.deref.ensures.value c.in-Some.ensures.lowest.fit.free in
     c.new.ensures.some.1 ((page_range a range Free c.self.invariant.0 c.requires.some_pages c.requires.few_pages free).members c.in-Some.fit.start (omega arith, omega (arith, c.requires.some_pages)))
 
 pub invariant_of-self : goal.invariant_of-self
 invariant_of-self c =
-    let a : AddressSpace = record { last = c.self.inside.last; pieces = c.self.inside.pieces.items } in
+    let a : Space = record { last = c.self.inside.last; pieces = c.self.inside.pieces.items } in
     let range : Range = record { first = c.in-Some.fit.start; pages = c.args.pages } in
     let free : AllIn Free range a.pieces = subst (λ ps. AllIn Free range ps) c.deref.ensures.value c.in-Some.ensures.lowest.fit.free in
     let room : IsTooMany a.pieces range → ⊥ = elim c.else-len-gt-MOST_PIECES_TO_CUT.branch [
@@ -73,23 +73,23 @@ invariant_of-self c =
 
 pub returns-clause-range : goal.returns-clause-range
 returns-clause-range c =
-    let a : AddressSpace = record { last = c.self.inside.last; pieces = c.self.inside.pieces.items } in
+    let a : Space = record { last = c.self.inside.last; pieces = c.self.inside.pieces.items } in
     let range : Range = record { first = c.in-Some.fit.start; pages = c.args.pages } in
     let free : AllIn Free range a.pieces = subst (λ ps. AllIn Free range ps) c.deref.ensures.value c.in-Some.ensures.lowest.fit.free in
     subst (λ n. IsPageRange (record { first = n; pages = c.args.pages })) (sym (start_is c.new.result c.unwrap.result c.in-Some.fit.start c.unwrap.ensures c.new.ensures.value)) (page_range a range Free c.self.invariant.0 c.requires.some_pages c.requires.few_pages free)
 
 pub returns-clause-taken : goal.returns-clause-taken
 returns-clause-taken c =
-    let a : AddressSpace = record { last = c.self.inside.last; pieces = c.self.inside.pieces.items } in
+    let a : Space = record { last = c.self.inside.last; pieces = c.self.inside.pieces.items } in
     let range : Range = record { first = c.in-Some.fit.start; pages = c.args.pages } in
     let free : AllIn Free range a.pieces = subst (λ ps. AllIn Free range ps) c.deref.ensures.value c.in-Some.ensures.lowest.fit.free in
-    let new : AddressSpace = record a { pieces = c.put.new.pieces.items } in
+    let new : Space = record a { pieces = c.put.new.pieces.items } in
     subst (λ n. Takes c.args.self.now new (record { first = n; pages = c.args.pages })) (sym (start_is c.new.result c.unwrap.result c.in-Some.fit.start c.unwrap.ensures c.new.ensures.value))
     (subst (λ v. Takes v new range) c.self.view_is (takes a new range c.self.invariant.0 c.requires.some_pages free (ap (λ ps. record a { pieces = ps }) c.put.ensures.items)))
 
 pub returns-clause-space : goal.returns-clause-space
 returns-clause-space c =
-    let a : AddressSpace = record { last = c.self.inside.last; pieces = c.self.inside.pieces.items } in
+    let a : Space = record { last = c.self.inside.last; pieces = c.self.inside.pieces.items } in
     let range : Range = record { first = c.in-Some.fit.start; pages = c.args.pages } in
     let free : AllIn Free range a.pieces = subst (λ ps. AllIn Free range ps) c.deref.ensures.value c.in-Some.ensures.lowest.fit.free in
     let room : IsTooMany a.pieces range → ⊥ = elim c.else-len-gt-MOST_PIECES_TO_CUT.branch [

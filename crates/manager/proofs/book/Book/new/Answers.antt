@@ -1,5 +1,5 @@
 use Rattle.std.proofs.Common.{◌∙◌, rules, arith, sym}
-use Rattle.engine.specs.Machine.{IsNew}
+use Rattle.engine.specs.State.{IsNew}
 use Rattle.manager.proofs.Starting.{kept_new}
 use Rattle.manager.proofs.book.Book.new.Goals as goal
 

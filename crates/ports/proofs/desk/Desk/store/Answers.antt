@@ -2,7 +2,7 @@ use Rattle.std.proofs.Common.{ℕ, ◌<◌, length, get_or-set_same, arith, sym,
 use Rattle.std.specs.Prelude.{slice_index}
 use Rattle.dmatypes.specs.History.{IsLegal}
 use Rattle.ports.specs.Lawful.{IsLawfulAfter}
-use Rattle.ports.specs.Seen.{DeskKnows, RowsId}
+use Rattle.ports.specs.Seen.{Desk, Rows}
 use Rattle.ports.specs.Steps.{place_of}
 use Rattle.ports.specs.declared.known.View.{View}
 use Rattle.ports.proofs.Histories.{legal_empty, lawful_zero}
@@ -11,10 +11,10 @@ use Rattle.ports.proofs.desk.Desk.store.Goals as goal
 
 pub store-requires : goal.store-requires
 store-requires c =
-    let rows = ap (λ (v : DeskKnows). v.rows) c.self.view_is ∙ c.requires.rows ∙ sym c.rows.view_is in
-    let lawful = subst (λ (v : DeskKnows). IsLawfulAfter v.rows.frames v.history c.args.device c.args.word) (sym c.self.view_is) c.requires.lawful in
-    let frames = ap (λ (r : RowsId). r.frames) rows in (
-      ap (λ (r : RowsId). r.table) rows,
+    let rows = ap (λ (v : Desk). v.rows) c.self.view_is ∙ c.requires.rows ∙ sym c.rows.view_is in
+    let lawful = subst (λ (v : Desk). IsLawfulAfter v.rows.frames v.history c.args.device c.args.word) (sym c.self.view_is) c.requires.lawful in
+    let frames = ap (λ (r : Rows). r.frames) rows in (
+      ap (λ (r : Rows). r.table) rows,
       omega (arith, c.rows.invariant, c.place-place.ensures, c.requires.place),
       rw c.place-place.ensures (fills (IsLegal c.rows.inside.words.shared.key.frames) (IsLawfulAfter c.rows.inside.words.shared.key.frames) (legal_empty c.rows.inside.words.shared.key.frames) (lawful_zero c.rows.inside.words.shared.key.frames) _ _ _ _ _ _ _ c.requires.place.0 c.requires.place.1 c.self.invariant.0 c.self.invariant.1
           (subst (λ (f : ℕ). IsLawfulAfter f c.self.inside.seat.me.0.mine.seen c.args.device c.args.word) frames lawful)),

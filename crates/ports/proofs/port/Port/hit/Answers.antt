@@ -5,7 +5,7 @@ use Rattle.dmatypes.specs.Allows.{Allows}
 use Rattle.dmatypes.specs.History.{IsLegal, after}
 use Rattle.dmatypes.specs.Page.{page_of}
 use Rattle.ports.specs.Lawful.{IsLawfulAfter}
-use Rattle.ports.specs.Seen.{PortKnows, RowsId}
+use Rattle.ports.specs.Seen.{Port, Rows}
 use Rattle.ports.specs.Steps.{IsSeenInRun, counter, place_of, slot_of}
 use Rattle.ports.specs.declared.known.OwnStep.{OwnStep}
 use Rattle.ports.specs.declared.known.OwnStep.TheVariants.{Loaded}
@@ -16,11 +16,11 @@ use Rattle.ports.proofs.port.Port.hit.Goals as goal
 
 pub load-word-requires : goal.load-word-requires
 load-word-requires c =
-    let rows = ap (λ (v : PortKnows). v.rows) c.self.view_is ∙ c.count-count.ensures.same.0 ∙ c.requires ∙ sym c.rows.view_is in
+    let rows = ap (λ (v : Port). v.rows) c.self.view_is ∙ c.count-count.ensures.same.0 ∙ c.requires ∙ sym c.rows.view_is in
     let slot : c.args.address / 4096 % 16 < 16 = omega arith in (
-      ap (λ (r : RowsId). r.table) rows,
+      ap (λ (r : Rows). r.table) rows,
       omega (arith, c.rows.invariant, c.place-place.ensures, c.self.invariant.0),
-      rw c.place-place.ensures (looked _ _ _ _ _ _ _ (ap (λ (r : RowsId). r.frames) rows) c.self.invariant.0 slot c.self.invariant.1),
+      rw c.place-place.ensures (looked _ _ _ _ _ _ _ (ap (λ (r : Rows). r.frames) rows) c.self.invariant.0 slot c.self.invariant.1),
     )
 
 pub host-requires : goal.host-requires
@@ -34,11 +34,11 @@ returns-clause-did c =
     let word = c.load-word.result in
     let slot = slot_of (page_of c.args.address) in
     let looked = c.load-word.ensures.2 in
-    let frames = ap (λ (v : PortKnows). v.rows.frames) c.self.view_is ∙ ap (λ (r : RowsId). r.frames) c.count-count.ensures.same.0 in
-    let device = ap (λ (v : PortKnows). v.device) c.self.view_is ∙ c.count-count.ensures.same.1 in
+    let frames = ap (λ (v : Port). v.rows.frames) c.self.view_is ∙ ap (λ (r : Rows). r.frames) c.count-count.ensures.same.0 in
+    let device = ap (λ (v : Port). v.device) c.self.view_is ∙ c.count-count.ensures.same.1 in
     let place = c.place-place.ensures ∙ ap (λ (d : ℕ). place_of d slot) device in
     let did = c.args.self.now.did in
-    let before = ap (λ (v : PortKnows). v.did) c.self.view_is ∙ c.count-count.ensures.did in (
+    let before = ap (λ (v : Port). v.did) c.self.view_is ∙ c.count-count.ensures.did in (
       word,
       looked.0.did ∙ ap (λ (l : List OwnStep). l ++ Loaded c.place-place.result word ∷ []) before ∙ append_assoc did (Loaded counter count ∷ []) (Loaded c.place-place.result word ∷ [])
           ∙ ap (λ (k : ℕ). did ++ Loaded counter count ∷ Loaded k word ∷ []) place,
@@ -53,8 +53,8 @@ returns-clause-allowed c =
     let told = c.load-word.ensures.2 in
     let slot : c.args.address / 4096 % 16 < 16 = omega arith in
     let seen = c.load-word.new.seat.me.0.mine.seen in
-    let frames = ap (λ (v : PortKnows). v.rows.frames) c.self.view_is ∙ ap (λ (r : RowsId). r.frames) c.count-count.ensures.same.0 in
-    let device = ap (λ (v : PortKnows). v.device) c.self.view_is ∙ c.count-count.ensures.same.1 in
+    let frames = ap (λ (v : Port). v.rows.frames) c.self.view_is ∙ ap (λ (r : Rows). r.frames) c.count-count.ensures.same.0 in
+    let device = ap (λ (v : Port). v.device) c.self.view_is ∙ c.count-count.ensures.same.1 in
     let lawful = told.1 _ _ c.self.invariant.0 slot c.place-place.ensures in
     subst (λ (x : ℕ × ℕ). IsLegal x.0 seen × IfSome c.host.result (λ host. Allows (after x.0 seen) x.1 c.args.address c.args.access (Host host))) (λ i. (frames i, device i))
     (told.0.is_legal, some_of _ _ _ (λ host states. allowed_word c.self.inside.seat.me.0.frames seen c.self.inside.device c.load-word.result c.args.address c.args.access host told.0.is_legal lawful states) c.host.ensures.some)

@@ -2,7 +2,7 @@ use Rattle.std.proofs.Common.{refl, arith, ap, ap₂, List}
 use Rattle.std.specs.List.{filter_map}
 use Rattle.vtdbits.specs.Descriptor.{descriptor_of}
 use Rattle.vtdbits.specs.declared.descriptor.Descriptor.{Descriptor}
-use Rattle.queue.specs.Queue.{queue}
+use Rattle.queue.specs.Ring.{ring_of}
 use Rattle.queue.proofs.Taken.{taken-none}
 use Rattle.queue.proofs.Waiting.{spelled-empty}
 use Rattle.queue.proofs.Windows.{window-none}
@@ -13,4 +13,4 @@ invariant_of-result c = record { head_inside = omega arith; tail_inside = omega 
 
 pub returns : goal.returns
 unfolding descriptor_of
-returns c = ap₂ (λ (ws : List Descriptor) (ts : List Descriptor). queue ws 0 ts) (ap (filter_map descriptor_of) (window-none 0 _)) (taken-none _ (record { low = 0; high = 0 }) refl refl)
+returns c = ap₂ (λ (ws : List Descriptor) (ts : List Descriptor). ring_of ws 0 ts) (ap (filter_map descriptor_of) (window-none 0 _)) (taken-none _ (record { low = 0; high = 0 }) refl refl)

@@ -8,7 +8,7 @@ use Rattle.tables.proofs.Mapped.{maps_said}
 use Rattle.tables.proofs.Placing.{rest_of, rest_in, placed_at}
 use Rattle.dmatypes.proofs.Ranges.{HasEnds, to_ends}
 use Rattle.tables.specs.Tree.{IsLeafAt, IsTableAt}
-use Rattle.tables.specs.Pool.{Stored, memory}
+use Rattle.tables.specs.Pool.{Pool, memory}
 use Rattle.tables.proofs.Kept.{span-three, same_root, map_leaves, map_tables, apart_stays, either_way, on_done}
 use Rattle.tables.proofs.trees.Tree.map.Goals as goal
 
@@ -24,7 +24,7 @@ returns-clause-leaves c =
     (λ maps. map_leaves c.args.pool.now c.map_segments.new.pool 3 c.args.self.now.root c.first.result (c.first.result + (0 + c.pages.result)) _
     (omega arith) (omega (arith, span-three, e.last, e.some, c.first.ensures.value))
     (λ p low high. c.requires.absent p (omega (arith, low, c.first.ensures.value), omega (arith, high, c.first.ensures.value, c.pages.ensures.value))) maps)
-    (λ same first pages frame rights h. subst (λ (p : Stored). IsLeafAt (memory p.words) 3 c.args.self.now.root first pages frame rights) (sym same) h)
+    (λ same first pages frame rights h. subst (λ (p : Pool). IsLeafAt (memory p.words) 3 c.args.self.now.root first pages frame rights) (sym same) h)
 
 pub returns-clause-others : goal.returns-clause-others
 returns-clause-others c level table tree apart = apart_stays c.args.pool.now c.map_segments.new.pool 3 c.args.self.now.root level table [] c.requires.tree c.map_segments.ensures.moves tree apart
@@ -47,4 +47,4 @@ pub returns-clause-tables : goal.returns-clause-tables
 returns-clause-tables c first level table at =
     either_way c.map_segments.result c.map_segments.ensures.maps c.map_segments.ensures.unchanged
     (λ maps. map_tables c.args.pool.now c.map_segments.new.pool 3 c.args.self.now.root c.first.result (c.first.result + (0 + c.pages.result)) _ maps first level table at)
-    (λ same. subst (λ (p : Stored). IsTableAt (memory p.words) 3 c.args.self.now.root first level table) (sym same) at)
+    (λ same. subst (λ (p : Pool). IsTableAt (memory p.words) 3 c.args.self.now.root first level table) (sym same) at)

@@ -4,7 +4,7 @@ use Rattle.dmatypes.proofs.Ranges.{HasEnds, to_ends}
 use Rattle.dmatypes.specs.Rights.{bits_of}
 use Rattle.dmatypes.specs.World.{placed}
 use Rattle.tables.specs.Tree.{IsLeafAt}
-use Rattle.tables.specs.Pool.{Stored, memory}
+use Rattle.tables.specs.Pool.{Pool, memory}
 use Rattle.tables.proofs.Kept.{span-three, same_root, map_leaves, apart_stays, either_way}
 use Rattle.tables.proofs.trees.Tree.map_list.Goals as goal
 
@@ -20,7 +20,7 @@ returns-clause-leaves c =
     (λ maps. map_leaves c.args.pool.now c.map_segments.new.pool 3 c.args.self.now.root c.number.result (c.number.result + total_pages c.args.segments.now) (placed c.args.segments.now c.number.result (bits_of c.args.rights))
     (omega arith) (omega (arith, span-three, e.last, e.some, c.number.ensures.value))
     (λ p low high. c.requires.absent p (omega (arith, low, c.number.ensures.value)) (omega (arith, high, c.number.ensures.value))) maps)
-    (λ same first pages frame rights h. subst (λ (p : Stored). IsLeafAt (memory p.words) 3 c.args.self.now.root first pages frame rights) (sym same) h)
+    (λ same first pages frame rights h. subst (λ (p : Pool). IsLeafAt (memory p.words) 3 c.args.self.now.root first pages frame rights) (sym same) h)
 
 pub returns-clause-others : goal.returns-clause-others
 returns-clause-others c level table tree apart = apart_stays c.args.pool.now c.map_segments.new.pool 3 c.args.self.now.root level table [] c.requires.tree c.map_segments.ensures.moves tree apart

@@ -4,15 +4,15 @@ use Rattle.vtdbits.specs.declared.descriptor.Descriptor.{Descriptor}
 
 -- the descriptors that wait, oldest first; the status: the number of the last wait that was done; and what was taken
 -- out of the ring, the last one first, as far as its page still holds it
-pub record Queue : Type 0 where
+pub record Ring : Type 0 where
   pub waiting : List Descriptor
   pub status : ℕ
   pub taken : List Descriptor
 
-abbrev pub queue : List Descriptor → ℕ → List Descriptor → Queue
-queue waiting status taken = record { waiting = waiting; status = status; taken = taken }
+abbrev pub ring_of : List Descriptor → ℕ → List Descriptor → Ring
+ring_of waiting status taken = record { waiting = waiting; status = status; taken = taken }
 
 -- the ring with one descriptor more, behind those that wait: where the page is full of what was taken, its oldest one
 -- is overwritten
-abbrev pub with_last : Descriptor → Queue → Queue
-with_last d q = queue (q.waiting ++ d ∷ []) q.status (take (255 - length q.waiting) q.taken)
+abbrev pub with_last : Descriptor → Ring → Ring
+with_last d q = ring_of (q.waiting ++ d ∷ []) q.status (take (255 - length q.waiting) q.taken)

@@ -8,10 +8,10 @@ use Rattle.dmatypes.specs.declared.refusal.Refusal.TheVariants as refusals
 use Rattle.dmatypes.specs.declared.reply.Reply.{Reply}
 use Rattle.dmatypes.specs.declared.reply.Reply.TheVariants.{Made, Done, Mapped, Unmapped, Flushed, Host, Faulted, Refused}
 use Rattle.dmatypes.specs.declared.width.Width.TheVariants.{W39}
-use Rattle.iova.specs.Space.{AddressSpace, new_space}
-use Rattle.queue.specs.Queue.{Queue, queue}
+use Rattle.iova.specs.Space.{Space, new_space}
+use Rattle.queue.specs.Ring.{Ring, ring_of}
 use Rattle.tables.specs.declared.trees.Tree.{Tree}
-use Rattle.tables.specs.Pool.{Stored, memory, occurs, IsZeroed}
+use Rattle.tables.specs.Pool.{Pool, memory, occurs, IsZeroed}
 use Rattle.tables.specs.Tree.{here}
 use Rattle.unit.specs.Answers.{Answers}
 use Rattle.unit.specs.Caches.{UnitState, nothing, unit_state, without}
@@ -30,17 +30,17 @@ use Rattle.engine.specs.Placing.{IsCrowded, IsShort, IsTaken, Places, frames_tak
 
 -- the table frames, the places of domains 1 to 15, the row of context entries, the ring, the unit, the number of
 -- the last wait that was sent, and how many calls were made
-pub record Machine : Type 0 where
-  pub pool : Stored
+pub record State : Type 0 where
+  pub pool : Pool
   pub homes : List Place
   pub row : List ContextEntry
-  pub ring : Queue
+  pub ring : Ring
   pub unit : UnitState
   pub sent : ℕ
   pub calls : ℕ
 
 -- all table frames are free and zeroed; there is no domain and no device, nothing waits and nothing is remembered
-pub record IsNew (frames : ℕ) (m : Machine) : Type 0 where
+pub record IsNew (frames : ℕ) (m : State) : Type 0 where
   pub frames_are : m.pool.frames ≡ frames
   pub free : (f : ℕ) → f < frames → occurs f m.pool.free ≡ 1
   pub past : (f : ℕ) → frames ≤ f → occurs f m.pool.free ≡ 0
@@ -48,13 +48,13 @@ pub record IsNew (frames : ℕ) (m : Machine) : Type 0 where
   pub zeroed : (f : ℕ) → f < frames → IsZeroed m.pool.words f
   pub homes_are : m.homes ≡ replicate 15 vacant
   pub row_is : m.row ≡ replicate 16 Absent
-  pub ring_is : m.ring ≡ queue [] 0 []
+  pub ring_is : m.ring ≡ ring_of [] 0 []
   pub unit_is : m.unit ≡ unit_state nothing 0 0
   pub sent_is : m.sent ≡ 0
   pub calls_are : m.calls ≡ 0
 
 -- a map takes the lowest start
-abbrev pub IsExactMap : Machine → ℕ → List Segment → ℕ → Reply → Type 0
+abbrev pub IsExactMap : State → ℕ → List Segment → ℕ → Reply → Type 0
 IsExactMap m domain segments order (Mapped address) =
     IsSomeAnd (home_of m.homes domain) (λ h. IsTaken h.space.pieces (total_pages segments) order (address / 4096)
     × (frames_taken m.pool h.root segments (address / 4096) ≤ length m.pool.free))
@@ -66,7 +66,7 @@ IsExactMap m domain segments order reply = Unit {0}
 -- the lowest start, is refused for its pieces exactly where the range there cuts a piece and there are more than
 -- 1,022, and else for its frames exactly where more tables are lacking than frames are free; an unmap likewise, for
 -- its frames where more leaves of 2 MiB are to be split
-unfoldable pub Exact : Machine → Call → Reply → Type 0
+unfoldable pub Exact : State → Call → Reply → Type 0
 Exact m (calls.Domain mode) (Made d) = 0 < length m.pool.free
 Exact m (calls.Domain mode) (Refused refusals.NoFrames) = length m.pool.free ≡ 0
 Exact m (calls.Map domain frame pages order rights) reply = IsExactMap m domain (one_segment frame pages) order reply
@@ -81,7 +81,7 @@ Exact m call (Refused refusals.NoFrames) = ⊥
 Exact m call reply = Unit {0}
 
 -- a free frame became the root of a tree that maps no page
-pub record Roots (pool pool' : Stored) (root : ℕ) : Type 0 where
+pub record TakesRoot (pool pool' : Pool) (root : ℕ) : Type 0 where
   pub free : (f : ℕ) → occurs f pool'.free + here root f ≡ occurs f pool.free
   pub count : length pool'.free + 1 ≡ length pool.free
   pub words : pool'.words ≡ pool.words
@@ -97,11 +97,11 @@ host_in (Ok hit) = Ok hit.host
 host_in (Err f) = Err f
 
 -- the ring, the unit and the number of the last wait
-abbrev pub iommu_of : Machine → Iommu
+abbrev pub iommu_of : State → Iommu
 iommu_of m = record { ring = m.ring; unit = m.unit; sent = m.sent }
 
 -- the state with another place of a domain, and the table frames, ring and unit of a later one
-abbrev pub with_place : Machine → ℕ → Place → Machine → Machine
+abbrev pub with_place : State → ℕ → Place → State → State
 with_place m domain new t = record m {
   pool = t.pool;
   homes = slice_set m.homes (domain - 1) new;
@@ -112,9 +112,9 @@ with_place m domain new t = record m {
 }
 
 -- a map changes its domain and the table frames alone, as it takes its range and maps it
-abbrev pub BecomesMapped : Machine → ℕ → List Segment → ℕ → ℕ → ℕ → Machine → Type 0
+abbrev pub BecomesMapped : State → ℕ → List Segment → ℕ → ℕ → ℕ → State → Type 0
 BecomesMapped m domain segments order rights address t =
-    (h : Home) × (old : Place) × (space : AddressSpace) × (home_of m.homes domain ≡ Some h) × (slice_get m.homes (domain - 1) ≡ Some old)
+    (h : Home) × (old : Place) × (space : Space) × (home_of m.homes domain ≡ Some h) × (slice_get m.homes (domain - 1) ≡ Some old)
     × Places m.pool h.space h.root segments order rights (address / 4096) t.pool space
     × (t ≡ record m { pool = t.pool; homes = slice_set m.homes (domain - 1) (record old { space = space }); calls = m.calls + 1 })
 
@@ -122,9 +122,9 @@ BecomesMapped m domain segments order rights address t =
 -- entry, and a detached one none; a drop and a flush change the place of their domain, the table frames and the unit,
 -- and so does an unmap, as it ends its range by the domain's mode; a request and an eviction what the unit remembers;
 -- nothing else changes, but for the count of calls
-unfoldable pub Becomes : Machine → Call → Reply → Machine → Type 0
+unfoldable pub Becomes : State → Call → Reply → State → Type 0
 Becomes m (calls.Domain mode) (Made d) t =
-    (tree : Tree) × Roots m.pool t.pool tree.root
+    (tree : Tree) × TakesRoot m.pool t.pool tree.root
     × (t ≡ record m {
       pool = t.pool;
       homes = slice_set m.homes (d - 1) (record { space = new_space (2 ^ 27 - 1); tenant = Some (record { mode = mode; begun = 0; tree = tree }); records = [] });
