@@ -1,6 +1,6 @@
 -- A device's request is a step of the model, and keeps the quarantine.
-use Rattle.std.proofs.Common.{◌≡◌, ℕ, ◌+◌, ◌<◌, ◌≤◌, inl, inr, Some, refl, sym, ap, subst, arith, slice_get}
-use Rattle.std.specs.Prelude.{Result, Ok, Err}
+use Rattle.std.proofs.Common.{◌≡◌, ℕ, ◌+◌, ◌<◌, ◌≤◌, inl, inr, None, Some, refl, sym, ap, subst, arith, slice_get}
+use Rattle.std.specs.Prelude.{IfOk, Result, Ok, Err}
 use Rattle.dmatypes.specs.Allows.{Allows, AllowsTo, domain_of_device}
 use Rattle.dmatypes.specs.Conditions.{Stands}
 use Rattle.dmatypes.specs.Page.{IsInWindow}
@@ -8,16 +8,20 @@ use Rattle.dmatypes.specs.Step.{IsStep, next}
 use Rattle.dmatypes.specs.Step as model
 use Rattle.dmatypes.specs.World.{World, IsIn}
 use Rattle.dmatypes.specs.declared.call.Access.{Access}
+use Rattle.dmatypes.specs.declared.call.Call.{Call}
 use Rattle.dmatypes.specs.declared.call.Call.TheVariants as calls
 use Rattle.dmatypes.specs.declared.call.Whim.{Whim}
 use Rattle.dmatypes.specs.declared.refusal.Fault.{Fault}
+use Rattle.dmatypes.specs.declared.refusal.Refusal.{Refusal}
+use Rattle.dmatypes.specs.declared.reply.Reply.{Reply}
 use Rattle.dmatypes.specs.declared.width.Width.TheVariants.{W39}
 use Rattle.tables.specs.Pool.{memory}
 use Rattle.unit.specs.Answers.{Answers}
 use Rattle.unit.specs.Caches.{Caches, Context, unit_state}
 use Rattle.unit.specs.declared.hit.Hit.{Hit}
 use Rattle.vtdbits.specs.declared.context.ContextEntry.TheVariants.{Present}
-use Rattle.engine.specs.State.{State, Becomes, Exact, host_in, reached_reply}
+use Rattle.engine.specs.Hits.{IsHitAt, IsHitOf, IsNoRequest, hit_in}
+use Rattle.engine.specs.State.{State, Becomes, Exact, host_in, reached_reply, request_reply}
 use Rattle.engine.specs.Quarantine.{AreLawful, Quarantine}
 use Rattle.engine.specs.Steps.{Does}
 use Rattle.dmatypes.specs.declared.call.Cache.{Cache}
@@ -27,7 +31,7 @@ use Rattle.unit.specs.Caches.{without}
 use Rattle.unit.proofs.Members.{without_leaf, without_non_leaf, without_context}
 use Rattle.engine.proofs.Lawful.{fewer_lawful}
 use Rattle.engine.proofs.Refusing.{counted, refuses}
-use Rattle.engine.proofs.Requests.{request_allowed, request_contexts, request_keeps}
+use Rattle.engine.proofs.Requests.{request_allowed, request_contexts, request_hit, request_keeps}
 
 -- the state with these caches and so many calls, so many steps of the unit, and so many descriptors that it did
 abbrev pub remembering : State → Caches → ℕ → ℕ → ℕ → State
@@ -85,6 +89,43 @@ request_does m t device address access whim answer small outside answers is = re
   becomes = becomes_request m t device address access whim answer answers is;
   calls = ap (λ (s : State). s.calls) is;
 }
+
+-- where it is answered a host address, the device's domain has the page so
+pub request_hits : (m : State) (device address : ℕ) (access : Access) (whim : Whim) (new : Caches) (answer : Result Hit Fault)
+    → Answers (memory m.pool.words) m.row whim.look whim.fill device address access m.unit.caches new answer
+    → IfOk answer (IsHitOf m device address access)
+request_hits m device address access whim new (Ok hit) answers =
+    λ w q. request_hit m w q whim.look whim.fill device address access new (Ok hit) hit refl answers
+request_hits m device address access whim new (Err fault) answers = tt
+
+hit_at_request : (m : State) (device address : ℕ) (access : Access) (whim : Whim) (answer : Result (Result Hit Fault) Refusal)
+    → IfOk answer (λ a. IfOk a (IsHitOf m device address access))
+    → IsHitAt m (calls.Dma device address access whim) (request_reply answer) (hit_in answer)
+unfolding IsHitAt
+hit_at_request m device address access whim (Ok (Ok hit)) is = (refl, is)
+hit_at_request m device address access whim (Ok (Err fault)) is = refl
+hit_at_request m device address access whim (Err refusal) is = refl
+
+-- the same of a call that is this request
+pub hit_at : (m : State) (call : Call) (device address : ℕ) (access : Access) (whim : Whim) (answer : Result (Result Hit Fault) Refusal)
+    → call ≡ calls.Dma device address access whim → IfOk answer (λ a. IfOk a (IsHitOf m device address access))
+    → IsHitAt m call (request_reply answer) (hit_in answer)
+hit_at m call device address access whim answer same is =
+    subst (λ (c : Call). IsHitAt m c (request_reply answer) (hit_in answer)) (sym same) (hit_at_request m device address access whim answer is)
+
+-- no other call has one
+pub no_hit : (m : State) (call : Call) (reply : Reply) → IsNoRequest call → IsHitAt m call reply None
+unfolding IsHitAt
+no_hit m (calls.Domain mode) reply other = refl
+no_hit m (calls.Drop domain) reply other = refl
+no_hit m (calls.Attach device domain) reply other = refl
+no_hit m (calls.Detach device) reply other = refl
+no_hit m (calls.Map domain frame pages order rights) reply other = refl
+no_hit m (calls.MapList domain order rights segments) reply other = refl
+no_hit m (calls.Unmap domain address pages) reply other = refl
+no_hit m (calls.Flush domain) reply other = refl
+no_hit m (calls.Dma device address access whim) reply other = absurd (other device address access whim refl)
+no_hit m (calls.Evict kind place) reply other = refl
 
 -- ---- the refusals
 

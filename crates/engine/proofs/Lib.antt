@@ -33,3 +33,4 @@ pub mod Dropped
 pub mod Detaching
 pub mod FlushSteps
 pub mod Widening
+pub mod DeviceBits

@@ -2,12 +2,14 @@
 use Rattle.std.proofs.Common.{◌≡◌, ℕ, ◌^◌, ◌<◌, ◌⊎◌, inl, inr, Bool, List, Option, Some, None, refl, sym, ap, subst, ◌∙◌, arith, slice_get}
 use Rattle.std.proofs.lemmas.Option.{none-some, same_Some}
 use Rattle.std.specs.Option.{option_and_then}
-use Rattle.std.specs.Prelude.{Result, Ok, Err}
-use Rattle.dmatypes.specs.Allows.{AllowsTo, AllowsWithin, domain_of_device}
+use Rattle.std.specs.Prelude.{IsSomeAnd, Result, Ok, Err}
+use Rattle.dmatypes.specs.Allows.{AllowsTo, AllowsWithin, domain_of_device, host_of}
 use Rattle.dmatypes.specs.Page.{IsBeyond, page_of}
+use Rattle.dmatypes.specs.Rights.{Permits, bits_of}
 use Rattle.dmatypes.specs.World.{Domain, Target, World, IsIn, IsRetired}
 use Rattle.dmatypes.specs.declared.call.Access.{Access}
 use Rattle.dmatypes.specs.declared.refusal.Fault.{Fault}
+use Rattle.dmatypes.specs.declared.refusal.Fault.TheVariants as faults
 use Rattle.dmatypes.specs.declared.reply.Reply.TheVariants.{Faulted, Host}
 use Rattle.dmatypes.specs.declared.width.Width.TheVariants.{W39}
 use Rattle.tables.specs.Pool.{memory}
@@ -17,7 +19,9 @@ use Rattle.unit.specs.Answers.{Answers, AnswersWith, IsContextOf, IsRead, IsStar
 use Rattle.unit.specs.Caches.{Caches, Context, Leaf, NonLeaf}
 use Rattle.unit.specs.Walking.{met, IsPassed}
 use Rattle.unit.specs.declared.hit.Hit.{Hit}
+use Rattle.vtdbits.specs.Translation.{target}
 use Rattle.vtdbits.specs.declared.context.ContextEntry.TheVariants.{Present}
+use Rattle.engine.specs.Hits.{Has}
 use Rattle.engine.specs.Homes.{Home, home_of}
 use Rattle.engine.specs.State.{State, host_in, reached_reply}
 use Rattle.engine.specs.Quarantine.{AreLawful, MirrorsIfAny, InDomain, IsLawfulLeaf, IsLawfulTable, Mirrors, Quarantine, attached}
@@ -35,6 +39,23 @@ told v address access t (Ok hit) (inr (none, inr old)) tells =
     inr (λ u live. absurd (none-some u (sym none ∙ live.0)), inl (tells.0, (subst (IsRetired v (page_of address)) same old.2, tells.2), ap Host tells.3))
 told v address access t (Err fault) (inl live) tells = inr (λ u here. tells.1 u (live ∙ here.0) here.1, inr (ap Faulted tells.0))
 told v address access t (Err fault) (inr (none, old)) tells = inr (λ u live. absurd (none-some u (sym none ∙ live.0)), inr (ap Faulted tells.0))
+
+-- a host address is told of a page that the domain has so
+told_hit : (v : Domain) (address : ℕ) (access : Access) (t : Option Target) (hit : Hit) → IsReadOf v (page_of address) t
+    → Tells t address access (Ok hit) → Has v address access hit
+told_hit v address access t hit (inl live) tells = record {
+  page = inl (subst (λ (y : Target). v.live (page_of address) ≡ Some y) tells.4 (sym live ∙ tells.1));
+  right = subst (λ (y : Target). Permits y.rights access) tells.4 tells.2;
+  host = tells.3 ∙ ap (λ (y : Target). host_of y address) tells.4;
+}
+told_hit v address access t hit (inr (none, inl nothing)) tells = absurd (none-some tells.0 (sym nothing ∙ tells.1))
+told_hit v address access t hit (inr (none, inr old)) tells =
+    let same : old.0 ≡ target hit.frame (bits_of hit.rights) = same_Some old.0 tells.0 (sym old.1 ∙ tells.1) ∙ tells.4 in
+    record {
+      page = inr (subst (IsRetired v (page_of address)) same old.2);
+      right = subst (λ (y : Target). Permits y.rights access) tells.4 tells.2;
+      host = tells.3 ∙ ap (λ (y : Target). host_of y address) tells.4;
+    }
 
 -- ---- the domain
 
@@ -160,6 +181,25 @@ module _ (m : State) (w : World) (quarantine : Quarantine m w) (look fill : Bool
       subst (λ o. AllowsTo o address access (reached_reply (host_in answer))) (sym unattached) (ap (λ a. reached_reply (host_in a)) is)
   request_allowed (inr (x, is, gains, answers)) =
       subst (λ d. AllowsTo (domain_of_device w d) address access (reached_reply (host_in answer))) is.0 (with_context x is answers).0
+
+  -- and one of the page that its domain has
+  pub request_hit : (hit : Hit) → answer ≡ Ok hit
+      → Answers (memory m.pool.words) m.row look fill device address access m.unit.caches new answer
+      → IsSomeAnd (domain_of_device w device) (λ v. Has v address access hit)
+  request_hit hit ok (inl (none, is, same)) = let clash : Ok hit ≡ Err faults.NotAttached = sym ok ∙ is in absurd cc
+  request_hit hit ok (inr (x, is, gains, answers)) =
+      let of = of_context m w quarantine x (of_row m w quarantine look device x is) in
+      let to = subst (λ d. IsSomeAnd (domain_of_device w d) (λ v. Has v address access hit)) is.0 in
+      elim answers [
+        | inl beyond ↦ let clash : Ok hit ≡ Err faults.BeyondWidth = sym ok ∙ beyond.1 in absurd cc
+        | inr near ↦
+            let t = near.1.0 in
+            let read =
+            read_is m w quarantine.caches x of.0 of.1 of.2 of.3 of.4 of.5 look fill (page_of address) (within address near.0)
+            new.leaves new.non_leaves t near.1.1 in
+            to (subst (λ (o : Option Domain). IsSomeAnd o (λ v. Has v address access hit)) (sym of.6)
+            (told_hit of.1 address access t hit read (subst (Tells t address access) ok near.1.2)))
+      ]
 
   -- what is remembered afterwards is lawful
   pub request_keeps : Answers (memory m.pool.words) m.row look fill device address access m.unit.caches new answer → AreLawful m w new

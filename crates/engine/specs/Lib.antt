@@ -4,6 +4,7 @@ pub mod Placing
 pub mod Ending
 pub mod Ready
 pub mod State
+pub mod Hits
 pub mod Quarantine
 pub mod Whole
 pub mod Steps

@@ -178,6 +178,6 @@ abbrev pub flushed_reply : Result ℕ Refusal → Reply
 flushed_reply (Ok n) = Flushed n
 flushed_reply (Err r) = Refused r
 
-abbrev pub request_reply : Result (Result ℕ Fault) Refusal → Reply
-request_reply (Ok answer) = reached_reply answer
+abbrev pub request_reply : Result (Result Hit Fault) Refusal → Reply
+request_reply (Ok answer) = reached_reply (host_in answer)
 request_reply (Err r) = Refused r

@@ -132,8 +132,8 @@ impl Home {
         }
     }
 
-    // The mode of the domain that is here.
-    fn mode(&self) -> Mode
+    /// The mode of the domain that is here.
+    pub(crate) fn mode(&self) -> Mode
         requires { IsSome self.now.tenant }
         ensures { IfSome (home_with self.now.space self.now.records self.now.tenant) (λ h. h.mode ≡ result) }
     {

@@ -10,4 +10,5 @@ mod sending;
 mod state;
 mod wanted;
 
-pub use state::{DomainTotals, State, Totals};
+pub use state::{Answer, DomainTotals, State, Totals};
+pub use unit::Hit;

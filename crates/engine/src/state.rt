@@ -7,7 +7,8 @@ ghost use Rattle.dmatypes.specs.World.{empty};
 ghost use Rattle.dmatypes.specs.declared.call.Call.TheVariants as calls;
 ghost use Rattle.dmatypes.specs.declared.reply.Reply.TheVariants.{Done};
 ghost use Rattle.engine.specs.Homes.{home_of, home_in, vacant};
-ghost use Rattle.engine.specs.State.{IsNew, done_reply, flushed_reply, host_in, unmapped_reply, made_reply, mapped_reply, request_reply};
+ghost use Rattle.engine.specs.Hits.{IsHitAt, IsHitOf, IsNoRequest, hit_in};
+ghost use Rattle.engine.specs.State.{IsNew, done_reply, flushed_reply, unmapped_reply, made_reply, mapped_reply, request_reply};
 ghost use Rattle.engine.specs.Quarantine.{Quarantine, attached};
 ghost use Rattle.engine.specs.Steps.{Does};
 ghost use Rattle.engine.specs.Whole.{IsWhole};
@@ -23,9 +24,17 @@ use tables::{NoFrames, Pool, Tree};
 use unit::{Contexts, Hit};
 use vtdbits::{ContextEntry, DeviceNumber, DomainId};
 
+mod attachments;
 mod totals;
 
 pub use totals::{DomainTotals, Totals};
+
+/// What a call answers: its reply, and what a request that reached a host address was answered.
+#[derive(Clone, Copy, Debug, PartialEq, Eq)]
+pub struct Answer {
+    pub reply: Reply,
+    pub hit: Option<Hit>,
+}
 
 /// Table frames, domains, the row of context entries, the ring and the unit, and the number of calls made. Its type
 /// keeps that it is a state of some world.
@@ -207,17 +216,18 @@ impl State {
         Ok(4096 * first)
     }
 
-    /// A device's request at a byte address: the host byte address, or the fault. Refuses with `NoDevice`, or `Window` where
-    /// the address is in the interrupt address range.
+    /// A device's request at a byte address: the host byte address with the frame and the rights of its page, or the fault.
+    /// Refuses with `NoDevice`, or `Window` where the address is in the interrupt address range.
     pub fn dma(
         &mut self,
         device: u64,
         address: u64,
         access: Access,
         whim: Whim,
-    ) -> Result<Result<u64, Fault>, Refusal>
+    ) -> Result<Result<Hit, Fault>, Refusal>
         requires { self.old.calls < 1048576 }
-        ensures { Does self.old (calls.Dma device address access whim) (request_reply result) self.new }
+        ensures does { Does self.old (calls.Dma device address access whim) (request_reply result) self.new }
+        ensures hit { IfOk result (λ answer. IfOk answer (IsHitOf self.old device address access)) }
     {
         self.calls += 1;
         if device > 15 {
@@ -230,7 +240,7 @@ impl State {
             .iommu
             .unit
             .dma(&self.pool, &self.contexts, device, address, access, whim);
-        Ok(host_in(answer))
+        Ok(answer)
     }
 
     /// Ends so many live pages of a domain, from a byte address on, and answers how many retired records went for it. In
@@ -284,8 +294,30 @@ impl State {
     }
 
     /// Makes a call.
-    pub fn perform(&mut self, call: &Call) -> Reply
+    pub fn perform(&mut self, call: &Call) -> Answer
         requires { self.old.calls < 1048576 }
+        ensures does { Does self.old call.now result.reply self.new }
+        ensures hit { IsHitAt self.old call.now result.reply result.hit }
+    {
+        if let Call::Dma {
+            device,
+            address,
+            access,
+            whim,
+        } = call
+        {
+            return requested(self.dma(*device, *address, *access, *whim));
+        }
+        Answer {
+            reply: self.reply_to(call),
+            hit: None,
+        }
+    }
+
+    // Makes a call that is no request.
+    fn reply_to(&mut self, call: &Call) -> Reply
+        requires counts { self.old.calls < 1048576 }
+        requires other { IsNoRequest call.now }
         ensures { Does self.old call.now result self.new }
     {
         match call {
@@ -312,12 +344,7 @@ impl State {
                 pages,
             } => unmapped(self.unmap(*domain, *address, *pages)),
             Call::Flush { domain } => flushed(self.flush(*domain)),
-            Call::Dma {
-                device,
-                address,
-                access,
-                whim,
-            } => requested(self.dma(*device, *address, *access, *whim)),
+            Call::Dma { .. } => unreachable!(),
             Call::Evict { kind, place } => {
                 self.evict(*kind, *place);
                 Reply::Done
@@ -371,14 +398,16 @@ fn flushed(answer: Result<u64, Refusal>) -> Reply
     }
 }
 
-fn requested(answer: Result<Result<u64, Fault>, Refusal>) -> Reply
-    ensures { result ≡ request_reply answer }
+fn requested(answer: Result<Result<Hit, Fault>, Refusal>) -> Answer
+    ensures reply { result.reply ≡ request_reply answer }
+    ensures hit { result.hit ≡ hit_in answer }
 {
-    match answer {
-        Ok(Ok(host)) => Reply::Host(host),
-        Ok(Err(fault)) => Reply::Faulted(fault),
-        Err(refusal) => Reply::Refused(refusal),
-    }
+    let (reply, hit) = match answer {
+        Ok(Ok(hit)) => (Reply::Host(hit.host), Some(hit)),
+        Ok(Err(fault)) => (Reply::Faulted(fault), None),
+        Err(refusal) => (Reply::Refused(refusal), None),
+    };
+    Answer { reply, hit }
 }
 
 // 15 places with no domain.
@@ -449,16 +478,6 @@ fn range_at(address: u64, pages: u64) -> Option<PageRange>
         return None;
     }
     PageRange::new(address / 4096, pages)
-}
-
-// The host byte address of a hit.
-fn host_in(answer: Result<Hit, Fault>) -> Result<u64, Fault>
-    ensures { result ≡ host_in answer }
-{
-    match answer {
-        Ok(hit) => Ok(hit.host),
-        Err(fault) => Err(fault),
-    }
 }
 
 // Whether the address lies in the interrupt address range.

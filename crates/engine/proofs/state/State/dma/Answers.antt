@@ -4,31 +4,42 @@ use Rattle.dmatypes.specs.declared.call.Call.TheVariants as calls
 use Rattle.unit.specs.Caches.{unit_state}
 use Rattle.engine.specs.State.{State, host_in, reached_reply}
 use Rattle.engine.specs.Steps.{Does}
-use Rattle.engine.proofs.Answered.{request_does, request_no_device, request_window}
+use Rattle.engine.proofs.Answered.{request_does, request_hits, request_no_device, request_window}
 use Rattle.engine.proofs.Refusing.{whole_quiet}
 use Rattle.engine.proofs.state.State.dma.Goals as goal
 
 pub returns-then-device-gt15 : goal.returns-then-device-gt15
-returns-then-device-gt15 c = rw (← c.self.view_is) (request_no_device _ _ c.args.device c.args.address c.args.access c.args.whim refl c.if-device-gt15.true)
+returns-then-device-gt15 c = rw (← c.self.view_is) (record {
+  does = request_no_device _ _ c.args.device c.args.address c.args.access c.args.whim refl c.if-device-gt15.true;
+  hit = tt;
+})
 
 pub returns-then-is_in_window : goal.returns-then-is_in_window
 returns-then-is_in_window c =
-    rw (← c.self.view_is) (request_window _ _ c.args.device c.args.address c.args.access c.args.whim refl c.if-device-gt15.false (c.is_in_window.ensures.0 c.if-is_in_window.true))
+    rw (← c.self.view_is) (record {
+      does =
+          request_window _ _ c.args.device c.args.address c.args.access c.args.whim refl c.if-device-gt15.false
+          (c.is_in_window.ensures.0 c.if-is_in_window.true);
+      hit = tt;
+    })
 
-abbrev before : goal.After-host_in → State
+abbrev before : goal.After-dma-answer → State
 before c = record { pool = c.self.inside.pool; homes = c.self.inside.homes.items; row = c.self.inside.contexts; ring = c.self.inside.iommu.ring; unit = c.self.inside.iommu.unit; sent = c.self.inside.iommu.sent; calls = c.self.inside.calls }
 
-abbrev after : goal.After-host_in → State
+abbrev after : goal.After-dma-answer → State
 after c = record { pool = c.self.inside.pool; homes = c.self.inside.homes.items; row = c.self.inside.contexts; ring = c.self.inside.iommu.ring; unit = c.dma-answer.new.self; sent = c.self.inside.iommu.sent; calls = c.self.inside.calls + 1 }
 
-does : (c : goal.After-host_in) → Does (before c) (calls.Dma c.args.device c.args.address c.args.access c.args.whim) (reached_reply (host_in c.dma-answer.result)) (after c)
+does : (c : goal.After-dma-answer) → Does (before c) (calls.Dma c.args.device c.args.address c.args.access c.args.whim) (reached_reply (host_in c.dma-answer.result)) (after c)
 does c =
     let outside : IsInWindow c.args.address → ⊥ = λ inside. let both : true ≡ false = sym (c.is_in_window.ensures.1 inside) ∙ c.if-is_in_window.false in cc in
     request_does (before c) (after c) c.args.device c.args.address c.args.access c.args.whim c.dma-answer.result c.if-device-gt15.false outside c.dma-answer.ensures.answers
     (ap₂ (λ steps done. record (before c) { unit = unit_state c.dma-answer.new.self.caches steps done; calls = c.self.inside.calls + 1 }) c.dma-answer.ensures.steps c.dma-answer.ensures.done)
 
 pub returns : goal.returns
-returns c = rw (← c.self.view_is, c.host_in.ensures) (does c)
+returns c = rw (← c.self.view_is) (record {
+  does = does c;
+  hit = request_hits (before c) c.args.device c.args.address c.args.access c.args.whim c.dma-answer.new.self.caches c.dma-answer.result c.dma-answer.ensures.answers;
+})
 
 pub invariant_of-self-2 : goal.invariant_of-self-2
 invariant_of-self-2 c =

@@ -1,0 +1,52 @@
+-- What a request was answered by, and what is asked of the domains of devices.
+use Rattle.std.specs.Prelude.{◌≡◌, ◌⊎◌, ℕ, Option, None, Some, IsSomeAnd, Result, Ok, Err}
+use Rattle.dmatypes.specs.Allows.{domain_of_device, host_of}
+use Rattle.dmatypes.specs.Page.{page_of}
+use Rattle.dmatypes.specs.Rights.{Permits, bits_of}
+use Rattle.dmatypes.specs.World.{Domain, World, IsLive, IsRetired}
+use Rattle.dmatypes.specs.declared.call.Access.{Access}
+use Rattle.dmatypes.specs.declared.call.Call.{Call}
+use Rattle.dmatypes.specs.declared.call.Call.TheVariants as calls
+use Rattle.dmatypes.specs.declared.call.Mode.{Mode}
+use Rattle.dmatypes.specs.declared.call.Whim.{Whim}
+use Rattle.dmatypes.specs.declared.refusal.Fault.{Fault}
+use Rattle.dmatypes.specs.declared.refusal.Refusal.{Refusal}
+use Rattle.dmatypes.specs.declared.reply.Reply.{Reply}
+use Rattle.dmatypes.specs.declared.reply.Reply.TheVariants.{Host}
+use Rattle.unit.specs.declared.hit.Hit.{Hit}
+use Rattle.vtdbits.specs.Translation.{target}
+use Rattle.engine.specs.Homes.{Home}
+use Rattle.engine.specs.State.{State}
+use Rattle.engine.specs.Quarantine.{Quarantine}
+
+-- the page of the address is live or in a record of the domain, with the frame and the rights of the hit, which has the
+-- right; the host address is in that frame
+pub record Has (v : Domain) (address : ℕ) (access : Access) (hit : Hit) : Type 0 where
+  pub page : IsLive v (page_of address) (target hit.frame (bits_of hit.rights)) ⊎ IsRetired v (page_of address) (target hit.frame (bits_of hit.rights))
+  pub right : Permits (bits_of hit.rights) access
+  pub host : hit.host ≡ host_of (target hit.frame (bits_of hit.rights)) address
+
+-- the device's domain has the page so, in every world that the state is one of
+abbrev pub IsHitOf : State → ℕ → ℕ → Access → Hit → Type 0
+IsHitOf m device address access hit =
+    (w : World) → Quarantine m w → IsSomeAnd (domain_of_device w device) (λ v. Has v address access hit)
+
+-- of a call: there is a hit exactly where a request was answered a host address, which is the hit's
+unfoldable pub IsHitAt : State → Call → Reply → Option Hit → Type 0
+IsHitAt m (calls.Dma device address access whim) (Host a) (Some hit) = (hit.host ≡ a) × IsHitOf m device address access hit
+IsHitAt m (calls.Dma device address access whim) (Host a) None = ⊥
+IsHitAt m (calls.Dma device address access whim) reply hit = hit ≡ None
+IsHitAt m call reply hit = hit ≡ None
+
+-- the call is no request
+abbrev pub IsNoRequest : Call → Type 0
+IsNoRequest call = (device address : ℕ) (access : Access) (whim : Whim) → call ≡ calls.Dma device address access whim → ⊥
+
+abbrev pub hit_in : Result (Result Hit Fault) Refusal → Option Hit
+hit_in (Ok (Ok hit)) = Some hit
+hit_in (Ok (Err fault)) = None
+hit_in (Err refusal) = None
+
+abbrev pub mode_of : Option Home → Option Mode
+mode_of None = None
+mode_of (Some h) = Some h.mode
