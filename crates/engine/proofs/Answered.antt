@@ -20,7 +20,7 @@ use Rattle.unit.specs.Answers.{Answers}
 use Rattle.unit.specs.Caches.{Caches, Context, unit_state}
 use Rattle.unit.specs.declared.hit.Hit.{Hit}
 use Rattle.vtdbits.specs.declared.context.ContextEntry.TheVariants.{Present}
-use Rattle.engine.specs.Hits.{IsHitAt, IsHitOf, IsNoRequest, hit_in}
+use Rattle.engine.specs.Hits.{IsHitIn, IsHitOf, IsNoRequest, hit_in}
 use Rattle.engine.specs.State.{State, Becomes, Exact, host_in, reached_reply, request_reply}
 use Rattle.engine.specs.Quarantine.{AreLawful, Quarantine}
 use Rattle.engine.specs.Steps.{Does}
@@ -98,34 +98,36 @@ request_hits m device address access whim new (Ok hit) answers =
     λ w q. request_hit m w q whim.look whim.fill device address access new (Ok hit) hit refl answers
 request_hits m device address access whim new (Err fault) answers = tt
 
-hit_at_request : (m : State) (device address : ℕ) (access : Access) (whim : Whim) (answer : Result (Result Hit Fault) Refusal)
-    → IfOk answer (λ a. IfOk a (IsHitOf m device address access))
-    → IsHitAt m (calls.Dma device address access whim) (request_reply answer) (hit_in answer)
-unfolding IsHitAt
-hit_at_request m device address access whim (Ok (Ok hit)) is = (refl, is)
-hit_at_request m device address access whim (Ok (Err fault)) is = refl
-hit_at_request m device address access whim (Err refusal) is = refl
+hit_in_request : (m : State) (w : World) (device address : ℕ) (access : Access) (whim : Whim) (answer : Result (Result Hit Fault) Refusal)
+    → Quarantine m w → IfOk answer (λ a. IfOk a (IsHitOf m device address access))
+    → IsHitIn w (calls.Dma device address access whim) (request_reply answer) (hit_in answer)
+unfolding IsHitIn
+hit_in_request m w device address access whim (Ok (Ok hit)) q is = (refl, is w q)
+hit_in_request m w device address access whim (Ok (Err fault)) q is = refl
+hit_in_request m w device address access whim (Err refusal) q is = refl
 
 -- the same of a call that is this request
-pub hit_at : (m : State) (call : Call) (device address : ℕ) (access : Access) (whim : Whim) (answer : Result (Result Hit Fault) Refusal)
-    → call ≡ calls.Dma device address access whim → IfOk answer (λ a. IfOk a (IsHitOf m device address access))
-    → IsHitAt m call (request_reply answer) (hit_in answer)
-hit_at m call device address access whim answer same is =
-    subst (λ (c : Call). IsHitAt m c (request_reply answer) (hit_in answer)) (sym same) (hit_at_request m device address access whim answer is)
+pub hit_of_request : (m : State) (call : Call) (device address : ℕ) (access : Access) (whim : Whim)
+    (answer : Result (Result Hit Fault) Refusal) → call ≡ calls.Dma device address access whim
+    → IfOk answer (λ a. IfOk a (IsHitOf m device address access))
+    → (w : World) → Quarantine m w → IsHitIn w call (request_reply answer) (hit_in answer)
+hit_of_request m call device address access whim answer same is w q =
+    subst (λ (c : Call). IsHitIn w c (request_reply answer) (hit_in answer)) (sym same)
+    (hit_in_request m w device address access whim answer q is)
 
 -- no other call has one
-pub no_hit : (m : State) (call : Call) (reply : Reply) → IsNoRequest call → IsHitAt m call reply None
-unfolding IsHitAt
-no_hit m (calls.Domain mode) reply other = refl
-no_hit m (calls.Drop domain) reply other = refl
-no_hit m (calls.Attach device domain) reply other = refl
-no_hit m (calls.Detach device) reply other = refl
-no_hit m (calls.Map domain frame pages order rights) reply other = refl
-no_hit m (calls.MapList domain order rights segments) reply other = refl
-no_hit m (calls.Unmap domain address pages) reply other = refl
-no_hit m (calls.Flush domain) reply other = refl
-no_hit m (calls.Dma device address access whim) reply other = absurd (other device address access whim refl)
-no_hit m (calls.Evict kind place) reply other = refl
+pub no_hit : (w : World) (call : Call) (reply : Reply) → IsNoRequest call → IsHitIn w call reply None
+unfolding IsHitIn
+no_hit w (calls.Domain mode) reply other = refl
+no_hit w (calls.Drop domain) reply other = refl
+no_hit w (calls.Attach device domain) reply other = refl
+no_hit w (calls.Detach device) reply other = refl
+no_hit w (calls.Map domain frame pages order rights) reply other = refl
+no_hit w (calls.MapList domain order rights segments) reply other = refl
+no_hit w (calls.Unmap domain address pages) reply other = refl
+no_hit w (calls.Flush domain) reply other = refl
+no_hit w (calls.Dma device address access whim) reply other = absurd (other device address access whim refl)
+no_hit w (calls.Evict kind place) reply other = refl
 
 -- ---- the refusals
 

@@ -31,12 +31,13 @@ abbrev pub IsHitOf : State → ℕ → ℕ → Access → Hit → Type 0
 IsHitOf m device address access hit =
     (w : World) → Quarantine m w → IsSomeAnd (domain_of_device w device) (λ v. Has v address access hit)
 
--- of a call: there is a hit exactly where a request was answered a host address, which is the hit's
-unfoldable pub IsHitAt : State → Call → Reply → Option Hit → Type 0
-IsHitAt m (calls.Dma device address access whim) (Host a) (Some hit) = (hit.host ≡ a) × IsHitOf m device address access hit
-IsHitAt m (calls.Dma device address access whim) (Host a) None = ⊥
-IsHitAt m (calls.Dma device address access whim) reply hit = hit ≡ None
-IsHitAt m call reply hit = hit ≡ None
+-- of a call and its reply in a world: there is a hit exactly where a request was answered a host address, which is the hit's
+unfoldable pub IsHitIn : World → Call → Reply → Option Hit → Type 0
+IsHitIn w (calls.Dma device address access whim) (Host a) (Some hit) =
+    (hit.host ≡ a) × IsSomeAnd (domain_of_device w device) (λ v. Has v address access hit)
+IsHitIn w (calls.Dma device address access whim) (Host a) None = ⊥
+IsHitIn w (calls.Dma device address access whim) reply hit = hit ≡ None
+IsHitIn w call reply hit = hit ≡ None
 
 -- the call is no request
 abbrev pub IsNoRequest : Call → Type 0

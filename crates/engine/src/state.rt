@@ -3,11 +3,11 @@
 ghost use Rattle.std.specs.Prelude.{◌≡◌, ◌+◌, ◌%◌, ◌<◌, ◌≤◌, ◌^◌, ◌==◌, ℕ, IfOk, IfSome, IfNone, IsSomeAnd, length, slice_get, replicate, Some, None, IsSome, IsFalse, IsTrue, ◌↔◌};
 ghost use Rattle.dmatypes.specs.Conditions.{IsBadUnmap};
 ghost use Rattle.dmatypes.specs.Page.{IsInWindow, IsPageRange, range_at};
-ghost use Rattle.dmatypes.specs.World.{empty};
+ghost use Rattle.dmatypes.specs.World.{World, empty};
 ghost use Rattle.dmatypes.specs.declared.call.Call.TheVariants as calls;
 ghost use Rattle.dmatypes.specs.declared.reply.Reply.TheVariants.{Done};
 ghost use Rattle.engine.specs.Homes.{home_of, home_in, vacant};
-ghost use Rattle.engine.specs.Hits.{IsHitAt, IsHitOf, IsNoRequest, hit_in};
+ghost use Rattle.engine.specs.Hits.{IsHitIn, IsHitOf, IsNoRequest, hit_in};
 ghost use Rattle.engine.specs.State.{IsNew, done_reply, flushed_reply, unmapped_reply, made_reply, mapped_reply, request_reply};
 ghost use Rattle.engine.specs.Quarantine.{Quarantine, attached};
 ghost use Rattle.engine.specs.Steps.{Does};
@@ -297,7 +297,7 @@ impl State {
     pub fn perform(&mut self, call: &Call) -> Answer
         requires { self.old.calls < 1048576 }
         ensures does { Does self.old call.now result.reply self.new }
-        ensures hit { IsHitAt self.old call.now result.reply result.hit }
+        ensures hit { (w : World) → Quarantine self.old w → IsHitIn w call.now result.reply result.hit }
     {
         if let Call::Dma {
             device,
