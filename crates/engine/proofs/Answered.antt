@@ -91,18 +91,18 @@ request_does m t device address access whim answer small outside answers is = re
 }
 
 -- where it is answered a host address, the device's domain has the page so
-pub request_hits : (m : State) (device address : ℕ) (access : Access) (whim : Whim) (new : Caches) (answer : Result Hit Fault)
+pub request_hits : (m : State) (device address : ℕ) (access : Access) (whim : Whim) (new : Caches) (answer : Result Hit Fault) → device ≤ 15
     → Answers (memory m.pool.words) m.row whim.look whim.fill device address access m.unit.caches new answer
     → IfOk answer (IsHitOf m device address access)
-request_hits m device address access whim new (Ok hit) answers =
-    λ w q. request_hit m w q whim.look whim.fill device address access new (Ok hit) hit refl answers
-request_hits m device address access whim new (Err fault) answers = tt
+request_hits m device address access whim new (Ok hit) small answers =
+    record { low = small; had = λ w q. request_hit m w q whim.look whim.fill device address access new (Ok hit) hit refl answers }
+request_hits m device address access whim new (Err fault) small answers = tt
 
 hit_in_request : (m : State) (w : World) (device address : ℕ) (access : Access) (whim : Whim) (answer : Result (Result Hit Fault) Refusal)
     → Quarantine m w → IfOk answer (λ a. IfOk a (IsHitOf m device address access))
     → IsHitIn w (calls.Dma device address access whim) (request_reply answer) (hit_in answer)
 unfolding IsHitIn
-hit_in_request m w device address access whim (Ok (Ok hit)) q is = (refl, is w q)
+hit_in_request m w device address access whim (Ok (Ok hit)) q is = (refl, is.low, is.had w q)
 hit_in_request m w device address access whim (Ok (Err fault)) q is = refl
 hit_in_request m w device address access whim (Err refusal) q is = refl
 

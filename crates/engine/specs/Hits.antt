@@ -1,5 +1,5 @@
 -- What a request was answered by, and what is asked of the domains of devices.
-use Rattle.std.specs.Prelude.{◌≡◌, ◌⊎◌, ℕ, Option, None, Some, IsSomeAnd, Result, Ok, Err}
+use Rattle.std.specs.Prelude.{◌≡◌, ◌≤◌, ◌⊎◌, ℕ, Option, None, Some, IsSomeAnd, Result, Ok, Err}
 use Rattle.dmatypes.specs.Allows.{domain_of_device, host_of}
 use Rattle.dmatypes.specs.Page.{page_of}
 use Rattle.dmatypes.specs.Rights.{Permits, bits_of}
@@ -26,15 +26,15 @@ pub record Has (v : Domain) (address : ℕ) (access : Access) (hit : Hit) : Type
   pub right : Permits (bits_of hit.rights) access
   pub host : hit.host ≡ host_of (target hit.frame (bits_of hit.rights)) address
 
--- the device's domain has the page so, in every world that the state is one of
-abbrev pub IsHitOf : State → ℕ → ℕ → Access → Hit → Type 0
-IsHitOf m device address access hit =
-    (w : World) → Quarantine m w → IsSomeAnd (domain_of_device w device) (λ v. Has v address access hit)
+-- the device, 0 to 15, is attached to a domain that has the page so, in every world that the state is one of
+pub record IsHitOf (m : State) (device address : ℕ) (access : Access) (hit : Hit) : Type 0 where
+  pub low : device ≤ 15
+  pub had : (w : World) → Quarantine m w → IsSomeAnd (domain_of_device w device) (λ v. Has v address access hit)
 
 -- of a call and its reply in a world: there is a hit exactly where a request was answered a host address, which is the hit's
 unfoldable pub IsHitIn : World → Call → Reply → Option Hit → Type 0
 IsHitIn w (calls.Dma device address access whim) (Host a) (Some hit) =
-    (hit.host ≡ a) × IsSomeAnd (domain_of_device w device) (λ v. Has v address access hit)
+    (hit.host ≡ a) × (device ≤ 15) × IsSomeAnd (domain_of_device w device) (λ v. Has v address access hit)
 IsHitIn w (calls.Dma device address access whim) (Host a) None = ⊥
 IsHitIn w (calls.Dma device address access whim) reply hit = hit ≡ None
 IsHitIn w call reply hit = hit ≡ None

@@ -8,6 +8,8 @@ use Rattle.engine.specs.State.{State}
 use Rattle.engine.specs.Steps.{Does, Goes}
 use Rattle.engine.specs.Whole.{IsWhole}
 use Rattle.engine.proofs.Refusing.{frames_kept}
+use Rattle.ports.specs.Lawful.{IsLawfulAfter}
+use Rattle.ports.specs.Steps.{AreLawful}
 use Rattle.manager.specs.Kept.{Book, IsKept}
 
 Goes-push : (m : State) (es : List Event) (s : State) (e : Event) (t : State) → Goes m es s → Does s e.call e.reply t → Goes m (es ++ e ∷ []) t
@@ -15,9 +17,11 @@ Goes-push m [] s e t same does = (t, (subst (λ (x : State). Does x e.call e.rep
 Goes-push m (x ∷ es) s e t goes does = (goes.0, (goes.1.0, Goes-push goes.0 es s e t goes.1.1 does))
 
 -- one call more keeps what a book keeps
-pub IsKept-push : (frames room : ℕ) (a : Book) (e : Event) (t : State) (now : List Event) → now ≡ a.history ++ e ∷ [] → IsKept frames room a → length a.history < room → Does a.state e.call e.reply t → IsWhole t.pool.frames t
-    → IsKept frames room (record { history = now; state = t })
-IsKept-push frames room a e t now is kept less does whole =
+pub IsKept-push : (frames room : ℕ) (a : Book) (e : Event) (t : State) (now : List Event) (last : List ℕ)
+    → now ≡ a.history ++ e ∷ [] → IsKept frames room a → length a.history < room → Does a.state e.call e.reply t
+    → IsWhole t.pool.frames t → AreLawful (IsLawfulAfter frames) now last
+    → IsKept frames room (record { history = now; state = t; last = last })
+IsKept-push frames room a e t now last is kept less does whole lawful =
     let both = does.steps (after frames a.history) kept.quarantine in
     let more : length now ≡ length a.history + 1 = ap length is ∙ length-append a.history (e ∷ []) in
     record {
@@ -27,4 +31,5 @@ IsKept-push frames room a e t now is kept less does whole =
       goes = let g = kept.goes in (g.0, (g.1.0, rw is (Goes-push g.0 a.history a.state e t g.1.1 does)));
       within = omega (arith, more);
       calls = omega (arith, more, kept.calls, does.calls);
+      lawful = lawful;
     }

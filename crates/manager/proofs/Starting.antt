@@ -1,11 +1,12 @@
 -- A book begins.
-use Rattle.std.proofs.Common.{ℕ, [], refl, arith}
+use Rattle.std.proofs.Common.{ℕ, [], refl, arith, replicate}
+use Rattle.ports.proofs.Examples.{empty_lawful}
 use Rattle.engine.specs.State.{IsNew, State}
 use Rattle.engine.proofs.Beginning.{of_empty_world, whole_new}
 use Rattle.manager.specs.Kept.{IsKept}
 
 -- a book of a new state keeps what books keep
-pub kept_new : (frames room : ℕ) (m : State) → IsNew frames m → IsKept frames room (record { history = []; state = m })
+pub kept_new : (frames room : ℕ) (m : State) → IsNew frames m → IsKept frames room (record { history = []; state = m; last = replicate 256 0 })
 kept_new frames room m new = record {
   legal = tt;
   quarantine = of_empty_world m frames new;
@@ -13,4 +14,5 @@ kept_new frames room m new = record {
   goes = (m, (new, refl));
   within = omega arith;
   calls = new.calls_are;
+  lawful = empty_lawful frames [];
 }

@@ -1,5 +1,6 @@
 -- What a book keeps, and what contracts see of managers, seeds and shares.
-use Rattle.std.specs.Prelude.{◌≡◌, ◌≤◌, ◌++◌, ◌∷◌, [], ℕ, List, length}
+use Rattle.std.specs.Prelude.{◌≡◌, ◌≤◌, ◌++◌, ◌∷◌, [], ℕ, All, List, length}
+use mathlib.Core.List.{IsPrefix}
 use Rattle.dmatypes.specs.declared.call.Call.{Call}
 use Rattle.dmatypes.specs.declared.reply.Event.{Event}
 use Rattle.dmatypes.specs.declared.reply.Reply.{Reply}
@@ -8,15 +9,20 @@ use Rattle.engine.specs.State.{State}
 use Rattle.engine.specs.Quarantine.{Quarantine}
 use Rattle.engine.specs.Steps.{GoesTo}
 use Rattle.engine.specs.Whole.{IsWhole}
+use Rattle.ports.specs.Lawful.{IsLawfulAfter}
+use Rattle.ports.specs.Seen.{Rows}
+use Rattle.ports.specs.Steps.{AreLawful}
 
--- what contracts see of a book: its history, and its state
+-- what contracts see of a book: its history, its state, and the word that its desk last stored at each place of the rows
 pub record Book : Type 0 where
   pub history : List Event
   pub state : State
+  pub last : List ℕ
 
--- what contracts see of a share: how many calls it counted
+-- what contracts see of a share: how many calls it counted, and the history that it has seen
 pub record Share : Type 0 where
   pub calls : ℕ
+  pub seen : List Event
 
 -- what a configuration says
 pub record Config : Type 0 where
@@ -32,16 +38,24 @@ pub record IsWithinLimits (c : Config) : Type 0 where
   pub least_shares : 1 ≤ c.shares
   pub most_shares : c.shares ≤ 64
 
--- one manager's numbers, and the name of its ledger
+-- one manager's numbers, the name of its ledger, and its rows
 pub record Seed : Type 0 where
   pub name : ℕ
   pub shares : ℕ
   pub room : ℕ
   pub frames : ℕ
+  pub rows : Rows
+
+-- the rows of no table
+abbrev pub no_rows : Rows
+no_rows = record {
+  table = record { words = 0; slots = 0; views_name = 0; atom = 0; block = 0; offset = 0; slot_names = [] };
+  frames = 0;
+}
 
 -- the history is legal, the state is one of the world after it, with 15 places for domains, 16 for devices and nothing
 -- that waits in the ring, the history goes along states from a new one to this one, it is no longer than the room, and
--- the state has counted its calls
+-- the state has counted its calls; every word that was last stored in the rows is lawful after the history
 pub record IsKept (frames room : ℕ) (a : Book) : Type 0 where
   pub legal : IsLegal frames a.history
   pub quarantine : Quarantine a.state (after frames a.history)
@@ -49,15 +63,12 @@ pub record IsKept (frames room : ℕ) (a : Book) : Type 0 where
   pub goes : GoesTo frames a.history a.state
   pub within : length a.history ≤ room
   pub calls : a.state.calls ≡ length a.history
+  pub lawful : AreLawful (IsLawfulAfter frames) a.history a.last
 
--- a book of these numbers keeps all that a book keeps, and its history has no room left
-pub record IsFull (frames room : ℕ) : Type 0 where
-  pub account : Book
-  pub kept : IsKept frames room account
-  pub full : length account.history ≡ room
+-- a history that ends with this call and its reply
+abbrev pub EndsWith : List Event → Call → Reply → Type 0
+EndsWith history call reply = (before : List Event) × (history ≡ before ++ event call reply ∷ [])
 
--- a legal history of so many events ends with this call and its reply
-pub record EndsLegally (frames : ℕ) (call : Call) (reply : Reply) (number : ℕ) : Type 0 where
-  pub before : List Event
-  pub legal : IsLegal frames (before ++ event call reply ∷ [])
-  pub number_is : number ≡ length (before ++ event call reply ∷ [])
+-- each of the shares had seen a beginning of the history
+abbrev pub AllSaw : List Event → List Share → Type 0
+AllSaw history shares = All (λ (s : Share). IsPrefix s.seen history) shares

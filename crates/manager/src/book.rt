@@ -3,32 +3,44 @@
 ghost use Rattle.std.specs.Prelude.{◌≡◌, ◌+◌, ◌<◌, ◌≤◌, ◌↔◌, ◌++◌, ◌∷◌, [], length, IsErr, IfOk, OnOk, OnErr, All, sum_by, vec_len};
 ghost use Rattle.dmatypes.specs.History.{event};
 ghost use Rattle.engine.specs.Steps.{Does};
-ghost use Rattle.manager.specs.Kept.{Book, Share, IsKept};
+ghost use mathlib.Core.List.{IsPrefix};
+ghost use Rattle.dmatypes.specs.History.{after};
+ghost use Rattle.manager.specs.Kept.{AllSaw, Book, IsKept, IsWithinLimits, Share};
+ghost use Rattle.ports.specs.Seen.{new_desk};
+ghost use Rattle.ports.specs.Steps.{counter};
+ghost use Rattle.ports.specs.declared.known.OwnStep.TheVariants.{Loaded};
+ghost use Rattle.manager.specs.Words.{IsLastAfter};
 ghost use Rattle.manager.specs.Report.{report_text};
 
-use crate::config::Seed;
+use crate::config::Config;
+use crate::entering::enter;
 use crate::manager::History;
 use crate::owner::Owner;
+use crate::port::{Port, Rows};
 use crate::report::Report;
 use crate::share::{Share, cut, merged};
 use dmatypes::{Call, Event, Reply};
-use engine::State;
+use engine::{Answer, State};
+use ports::{Desk, Pass};
 use std::alloc::{AllocError, Global};
 use std::marker::Model;
 use std::sync::ledger;
+use std::sync::ledger::Blank;
 
 /// The history has no room left. Nothing was changed.
 #[derive(Clone, Copy, Debug, PartialEq, Eq)]
 pub struct HistoryFull;
 
-/// The state and the history of its calls. Its type keeps that the history is legal, that the state fits
-/// the world after it, and that the history goes along states by the state's methods alone.
+/// The state, the history of its calls, and the desk that stores port words and makes the history known. Its type keeps
+/// that the history is legal, that the state fits the world after it, that the history goes along states by the state's
+/// methods alone, and that every word in the rows is lawful after it.
 #[derive(Drop)]
 pub struct Book<B: Owner> {
     state: State,
     history: Vec<Event>,
     room: u64,
     counted: ledger::Book<B>,
+    desk: Desk,
 }
 
 impl<B: Owner> Model for Book<B> {
@@ -37,27 +49,34 @@ impl<B: Owner> Model for Book<B> {
 
     ghost Value = { Book };
 
-    ghost view = { λ b. record { history = b.history.items; state = b.state } };
+    ghost view = { λ b. record { history = b.history.items; state = b.state; last = b.desk.last } };
 
-    ghost invariant = { λ b. IsKept B.frames B.room (record { history = b.history.items; state = b.state }) × (b.room ≡ B.room) × (B.room ≤ vec_capacity b.history) × (B.room ≤ 1048576) × (b.counted.total ≡ vec_len b.history) × (1 ≤ B.shares) × (B.shares ≡ B.parts) };
+    ghost invariant = { λ b. IsKept B.frames B.room (record { history = b.history.items; state = b.state; last = b.desk.last })
+        × (b.room ≡ B.room) × (B.room ≤ vec_capacity b.history) × (B.room ≤ 1048576) × (b.counted.total ≡ vec_len b.history)
+        × (1 ≤ B.shares) × (B.shares ≡ B.parts) × (b.desk.rows ≡ B.rows) × (B.rows.frames ≡ B.frames)
+        × (b.desk.history ≡ b.history.items) };
 }
 
 impl<B: Owner> Book<B> {
     /// An empty book, with its shares.
-    pub(crate) fn new(alloc: Global, seed: Seed) -> Result<(Book<B>, Vec<Share<B>>), AllocError>
-        requires name { seed.name ≡ B.name }
-        requires parts { seed.shares ≡ B.parts }
-        requires shares { seed.shares ≡ B.shares }
-        requires room { seed.room ≡ B.room }
-        requires frames { seed.frames ≡ B.frames }
+    pub(crate) fn new(
+        alloc: Global,
+        config: Config,
+        blank: Blank,
+        desk: Desk,
+        passes: Vec<Pass>,
+    ) -> Result<(Book<B>, Vec<Share<B>>), AllocError>
+        requires config { IsWithinLimits config × (config.shares ≡ B.shares) × (config.calls ≡ B.room) × (config.frames ≡ B.frames) }
+        requires blank { (blank.name ≡ B.name) × (blank.parts ≡ B.parts) × (B.shares ≡ B.parts) }
+        requires desk { (desk ≡ new_desk B.rows) × (B.rows.frames ≡ B.frames) }
+        requires passes { (vec_len passes ≡ B.shares) × All (λ pass. pass.rows ≡ B.rows) passes.items }
         ensures book { IfOk result (λ r. r.0.history ≡ []) }
         ensures shares { IfOk result (λ r. vec_len r.1 ≡ B.shares) }
         ensures none { IfOk result (λ r. All (λ s. s.calls ≡ 0) r.1.items) }
     {
-        let (config, blank) = seed.parts();
         let (counted, whole) = blank.open::<B>();
         let history = Vec::with_capacity(alloc, config.calls() as usize)?;
-        let shares = cut(alloc, whole, config.shares())?;
+        let shares = cut(alloc, whole, passes)?;
         let state = State::new(alloc, config.frames())?;
         Ok((
             Book {
@@ -65,6 +84,7 @@ impl<B: Owner> Book<B> {
                 history,
                 room: config.calls(),
                 counted,
+                desk,
             },
             shares,
         ))
@@ -104,30 +124,55 @@ impl<B: Owner> Book<B> {
         counted.audit(part);
     }
 
+    /// Tells a port the whole history.
+    pub fn meet(&mut self, rows: &Rows<B>, port: &mut Port<B>)
+        ensures seen { IsPrefix port.old.seen self.old.history × (port.new.seen ≡ self.old.history) }
+        ensures did { port.new.did ≡ port.old.did ++ Loaded counter (length self.old.history) ∷ [] }
+        ensures same { (self.new ≡ self.old) × (port.new.device ≡ port.old.device) }
+    {
+        self.desk.meet(&rows.words, &mut port.port);
+    }
+
+    /// Tells a share the whole history.
+    pub(crate) fn tell(&mut self, rows: &Rows<B>, mine: &mut Share<B>)
+        ensures seen { IsPrefix mine.old.seen self.old.history × (mine.new.seen ≡ self.old.history) }
+        ensures same { (self.new ≡ self.old) × (mine.new.calls ≡ mine.old.calls) }
+    {
+        self.desk.tell(&rows.words, &mut mine.pass);
+    }
+
     /// Hands the history out to whoever has all shares.
-    pub fn close(self, shares: Vec<Share<B>>) -> History<B>
+    pub fn close(self, rows: &Rows<B>, shares: Vec<Share<B>>) -> History<B>
         requires { B.shares ≤ vec_len shares }
         ensures same { result ≡ self }
         ensures all { vec_len shares ≡ B.shares }
         ensures counted { length result.history ≡ sum_by (λ s. s.calls) shares.items }
+        ensures saw { AllSaw result.history shares.items }
         ensures kept { IsKept B.frames B.room result }
     {
         let mut book = self;
-        let counted = &mut book.counted;
-        let mut whole = merged(shares);
+        let Book { counted, desk, .. } = &mut book;
+        let mut whole = merged(desk, &rows.words, shares);
         counted.audit(&mut whole);
         History { book }
     }
 
-    /// Makes a call and enters it. The number is the event's place in the history, from 1. A refused call
-    /// is entered too; `HistoryFull` comes exactly where the history has no room left.
-    pub fn call(&mut self, mine: &mut Share<B>, call: Call) -> Result<(u64, Reply), HistoryFull>
+    /// Makes a call and enters it, and tells the share the whole history. The number is the event's place in the history,
+    /// from 1. A refused call is entered too; `HistoryFull` comes exactly where the history has no room left.
+    pub fn call(
+        &mut self,
+        rows: &Rows<B>,
+        mine: &mut Share<B>,
+        call: Call,
+    ) -> Result<(u64, Reply), HistoryFull>
         ensures full { IsErr result ↔ length self.old.history ≡ B.room }
         ensures unchanged { OnErr result ((self.new ≡ self.old) × (mine.new.calls ≡ mine.old.calls)) }
+        ensures seen { IsPrefix mine.old.seen self.new.history × (mine.new.seen ≡ self.new.history) }
         ensures history { IfOk result (λ r. self.new.history ≡ self.old.history ++ event call r.1 ∷ []) }
         ensures number { IfOk result (λ r. r.0 ≡ length self.new.history) }
         ensures counted { OnOk result (mine.new.calls ≡ mine.old.calls + 1) }
         ensures does { IfOk result (λ r. Does self.old.state call r.1 self.new.state) }
+        ensures last { IfOk result (λ r. IsLastAfter (after B.frames self.old.history) call r.1 self.old.last self.new.last) }
         ensures alone { B.shares ≡ 1 → length self.new.history ≡ mine.new.calls }
         ensures bound { mine.new.calls ≤ length self.new.history }
         ensures kept { IsKept B.frames B.room self.new }
@@ -137,15 +182,20 @@ impl<B: Owner> Book<B> {
             history,
             room,
             counted,
+            desk,
         } = self;
-        let Share { calls, part } = mine;
+        let Share { calls, part, pass } = mine;
         counted.audit(part);
         if history.len() as u64 == *room {
+            desk.tell(&rows.words, pass);
             return Err(HistoryFull);
         }
-        let reply = state.perform(&call);
+        let Answer { reply, hit } = state.perform(&call);
         state.keeps();
-        history.push_reserved(Event { call, reply });
+        let event = Event { call, reply };
+        enter(desk, &rows.words, state, &event, hit);
+        history.push_reserved(event);
+        desk.tell(&rows.words, pass);
         counted.add(part, 1);
         *calls += 1;
         Ok((history.len() as u64, reply))

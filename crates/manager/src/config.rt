@@ -3,6 +3,7 @@
 ghost use Rattle.std.specs.Prelude.{◌≡◌, ◌≤◌, ℕ, IsSome, IfSome, IfOk, ◌↔◌};
 ghost use Rattle.manager.specs.Kept.{Config, IsWithinLimits, Seed};
 
+use ports::{Desk, Pass, Port, Rows};
 use std::alloc::{AllocError, Global};
 use std::marker::Model;
 use std::sync::ledger::Blank;
@@ -75,41 +76,43 @@ impl Config {
 /// What a manager is made of, before a type stands for it.
 #[derive(Drop)]
 pub struct Seed {
-    config: Config,
-    blank: Blank,
+    pub(crate) config: Config,
+    pub(crate) blank: Blank,
+    pub(crate) rows: Rows,
+    pub(crate) desk: Desk,
+    pub(crate) ports: Vec<Port>,
+    pub(crate) passes: Vec<Pass>,
 }
 
 impl Model for Seed {
-    ghost use Rattle.std.specs.Prelude.{◌≡◌};
+    ghost use Rattle.std.specs.Prelude.{◌≡◌, vec_len};
     ghost use Rattle.manager.specs.Kept.{IsWithinLimits, Seed};
+    ghost use Rattle.ports.specs.Seen.{ArePasses, ArePorts, new_desk};
 
     ghost Value = { Seed };
 
-    ghost view = { λ s. record { name = s.blank.name; shares = s.config.shares; room = s.config.calls; frames = s.config.frames } };
+    ghost view = { λ s. record { name = s.blank.name; shares = s.config.shares; room = s.config.calls; frames = s.config.frames; rows = s.rows } };
 
-    ghost invariant = { λ s. (s.blank.parts ≡ s.config.shares) × IsWithinLimits s.config };
+    ghost invariant = { λ s. (s.blank.parts ≡ s.config.shares) × IsWithinLimits s.config × (s.rows.frames ≡ s.config.frames)
+        × (s.desk ≡ new_desk s.rows) × (vec_len s.ports ≡ 16) × ArePorts s.rows s.ports.items 16
+        × (vec_len s.passes ≡ s.config.shares) × ArePasses s.rows s.passes.items s.config.shares };
 }
 
 impl Seed {
-    /// The seed of a manager of this size.
-    pub fn new(_alloc: Global, config: Config) -> Result<Seed, AllocError>
+    /// The seed of a manager of this size, with the port words of its devices.
+    pub fn new(alloc: Global, config: Config) -> Result<Seed, AllocError>
         ensures shares { IfOk result (λ s. s.shares ≡ config.shares) }
         ensures room { IfOk result (λ s. s.room ≡ config.calls) }
         ensures frames { IfOk result (λ s. s.frames ≡ config.frames) }
     {
+        let (rows, desk, ports, passes) = Rows::new(alloc, config.frames(), config.shares())?;
         Ok(Seed {
             config,
             blank: Blank::new(config.shares()),
+            rows,
+            desk,
+            ports,
+            passes,
         })
-    }
-
-    /// Its configuration, and the ledger that a type is to stand for.
-    pub(crate) fn parts(self) -> (Config, Blank)
-        ensures config { (result.0.shares ≡ self.shares) × (result.0.calls ≡ self.room) × (result.0.frames ≡ self.frames) }
-        ensures blank { (result.1.name ≡ self.name) × (result.1.parts ≡ self.shares) }
-        ensures within { IsWithinLimits result.0 }
-    {
-        let Seed { config, blank } = self;
-        (config, blank)
     }
 }

@@ -3,8 +3,10 @@
 
 mod book;
 mod config;
+mod entering;
 mod manager;
 mod owner;
+mod port;
 mod report;
 mod report_lines;
 mod share;
@@ -13,6 +15,7 @@ pub use book::{Book, HistoryFull};
 pub use config::{Config, Seed};
 pub use manager::{History, Made, Manager, SharesOut};
 pub use owner::Owner;
+pub use port::{Port, Rows};
 pub use report::Report;
 pub use share::Share;
 

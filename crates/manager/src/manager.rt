@@ -1,16 +1,22 @@
 //! A book under its lock.
 
-ghost use Rattle.std.specs.Prelude.{◌≡◌, ◌+◌, ◌<◌, ◌≤◌, ◌↔◌, length, IsErr, IfOk, IfErr, MatchResult, OnOk, OnErr, All, sum_by, vec_len};
+ghost use Rattle.std.specs.Prelude.{◌≡◌, ◌+◌, ◌<◌, ◌≤◌, ◌↔◌, ◌++◌, ◌∷◌, [], ℕ, Some, slice_get, length, IsErr, IfOk, IfErr, MatchResult, OnOk, OnErr, All, sum_by, vec_len};
 ghost use Rattle.std.specs.Sync.Mutex.{mutex_guard_value};
-ghost use Rattle.manager.specs.Kept.{Book, EndsLegally, Share, IsFull, IsKept};
+ghost use mathlib.Core.List.{IsPrefix};
+ghost use Rattle.dmatypes.specs.History.{IsLegal};
+ghost use Rattle.manager.specs.Kept.{AllSaw, Book, EndsWith, IsKept, Share};
+ghost use Rattle.ports.specs.Seen.{ArePorts, new_port};
+ghost use Rattle.ports.specs.Steps.{counter};
+ghost use Rattle.ports.specs.declared.known.OwnStep.TheVariants.{Loaded};
 
 use crate::book::{Book, HistoryFull};
 use crate::config::Seed;
 use crate::owner::Owner;
+use crate::port::{Port, Rows};
 use crate::share::Share;
 use dmatypes::{Call, Event, Reply};
 use std::alloc::{AllocError, Global};
-use std::marker::Model;
+use std::marker::{Model, PhantomData};
 use std::sync::{Mutex, MutexGuard, Wait};
 
 /// A book under its lock.
@@ -21,10 +27,12 @@ pub struct Manager<B: Owner> {
     ghost all: { shares ≡ B.shares },
 }
 
-/// What a seed becomes: a manager, and all its shares.
+/// What a seed becomes: a manager, its port words, the ports of devices 0 to 15 in order, and all its shares.
 #[derive(Drop)]
 pub struct Made<B: Owner> {
     pub manager: Manager<B>,
+    pub rows: Rows<B>,
+    pub ports: Vec<Port<B>>,
     pub shares: Vec<Share<B>>,
 }
 
@@ -58,26 +66,51 @@ impl<B: Owner> History<B> {
         self.book.keeps();
         self.book.events()
     }
+
+    /// Tells a port the whole history.
+    pub fn meet(&mut self, rows: &Rows<B>, port: &mut Port<B>)
+        ensures seen { IsPrefix port.old.seen self.old.history × (port.new.seen ≡ self.old.history) }
+        ensures did { port.new.did ≡ port.old.did ++ Loaded counter (length self.old.history) ∷ [] }
+        ensures same { (self.new ≡ self.old) × (port.new.device ≡ port.old.device) }
+    {
+        self.book.meet(rows, port);
+    }
 }
 
 impl<B: Owner> Manager<B> {
-    /// Makes a manager with an empty history, and its shares.
+    /// Makes a manager with an empty history, its port words and ports, and its shares.
     pub fn new(alloc: Global, seed: Seed) -> Result<Made<B>, AllocError>
         requires name { seed.name ≡ B.name }
         requires parts { seed.shares ≡ B.parts }
         requires shares { seed.shares ≡ B.shares }
         requires room { seed.room ≡ B.room }
         requires frames { seed.frames ≡ B.frames }
+        requires rows { seed.rows ≡ B.rows }
+        ensures ports { IfOk result (λ m. (vec_len m.ports ≡ 16)
+            × ((k : ℕ) → k < 16 → slice_get m.ports.items k ≡ Some (new_port B.rows k))) }
         ensures shares { IfOk result (λ m. vec_len m.shares ≡ B.shares) }
         ensures none { IfOk result (λ m. All (λ s. s.calls ≡ 0) m.shares.items) }
     {
-        let (book, shares) = Book::<B>::new(alloc, seed)?;
-        let count = shares.len() as u64;
+        let Seed {
+            config,
+            blank,
+            rows,
+            desk,
+            ports,
+            passes,
+        } = seed;
+        let (book, shares) = Book::<B>::new(alloc, config, blank, desk, passes)?;
+        let ports = owned(alloc, ports)?;
         Ok(Made {
             manager: Manager {
                 book: Mutex::new(book),
-                shares: count,
+                shares: config.shares(),
             },
+            rows: Rows {
+                words: rows,
+                owner: PhantomData,
+            },
+            ports,
             shares,
         })
     }
@@ -92,29 +125,53 @@ impl<B: Owner> Manager<B> {
         guard
     }
 
-    /// Makes a call under the lock. A legal history, of as many events as the number says, ends with it and
-    /// its reply. Where it is refused, a legal history is as long as the room.
+    /// Makes a call under the lock, and tells the share the whole history, which then ends with the call and its reply and
+    /// is as long as the number says. Where it is refused, the history is as long as the room.
     pub fn call<R: Wait>(
         &self,
         rt: &R,
+        rows: &Rows<B>,
         mine: &mut Share<B>,
         call: Call,
     ) -> Result<(u64, Reply), HistoryFull>
         ensures ok { OnOk result (mine.new.calls ≡ mine.old.calls + 1) }
         ensures err { OnErr result (mine.new.calls ≡ mine.old.calls) }
-        ensures entered { IfOk result (λ r. EndsLegally B.frames call r.1 r.0) }
-        ensures full { OnErr result (IsFull B.frames B.room) }
+        ensures seen { IsPrefix mine.old.seen mine.new.seen × IsLegal B.frames mine.new.seen }
+        ensures entered { IfOk result (λ r. (r.0 ≡ length mine.new.seen) × EndsWith mine.new.seen call r.1) }
+        ensures full { OnErr result (length mine.new.seen ≡ B.room) }
         ensures number { IfOk result (λ r. (mine.new.calls ≤ r.0) × (r.0 ≤ B.room)) }
         ensures alone { B.shares ≡ 1 → MatchResult result (λ r. r.0 ≡ mine.new.calls) (λ _. mine.new.calls ≡ B.room) }
     {
-        self.book.lock(rt).call(mine, call)
+        self.book.lock(rt).call(rows, mine, call)
+    }
+
+    /// Tells a port and a share one and the same history, under the lock.
+    pub fn check_in<R: Wait>(
+        &self,
+        rt: &R,
+        rows: &Rows<B>,
+        mine: &mut Share<B>,
+        port: &mut Port<B>,
+    )
+        ensures share { IsPrefix mine.old.seen mine.new.seen × (mine.new.calls ≡ mine.old.calls) }
+        ensures port { IsPrefix port.old.seen port.new.seen × (port.new.device ≡ port.old.device) }
+        ensures did { port.new.did ≡ port.old.did ++ Loaded counter (length port.new.seen) ∷ [] }
+        ensures same { mine.new.seen ≡ port.new.seen }
+        ensures legal { IsLegal B.frames mine.new.seen }
+    {
+        let mut guard = self.book.lock(rt);
+        let book = &mut *guard;
+        book.keeps();
+        book.tell(rows, mine);
+        book.meet(rows, port);
     }
 
     /// Hands the history out to whoever has all shares; with fewer, the manager and the shares come back.
-    pub fn finish(self, shares: Vec<Share<B>>) -> Result<History<B>, SharesOut<B>>
+    pub fn finish(self, rows: &Rows<B>, shares: Vec<Share<B>>) -> Result<History<B>, SharesOut<B>>
         ensures out { IsErr result ↔ vec_len shares < B.shares }
         ensures back { IfErr result (λ o. o.shares ≡ shares) }
         ensures counted { IfOk result (λ h. length h.history ≡ sum_by (λ s. s.calls) shares.items) }
+        ensures saw { IfOk result (λ h. AllSaw h.history shares.items) }
         ensures kept { IfOk result (λ h. IsKept B.frames B.room h) }
     {
         if (shares.len() as u64) < self.shares {
@@ -124,6 +181,21 @@ impl<B: Owner> Manager<B> {
             });
         }
         let Manager { book, shares: _ } = self;
-        Ok(book.into_inner().close(shares))
+        Ok(book.into_inner().close(rows, shares))
     }
+}
+
+// The ports, as a manager's own.
+fn owned<B: Owner>(alloc: Global, ports: Vec<ports::Port>) -> Result<Vec<Port<B>>, AllocError>
+    requires { (vec_len ports ≡ 16) × ArePorts B.rows ports.items 16 }
+    ensures { IfOk result (λ v. (vec_len v ≡ 16) × ((k : ℕ) → k < 16 → slice_get v.items k ≡ Some (new_port B.rows k))) }
+{
+    let mut owned = Vec::new(alloc);
+    for port in ports {
+        owned.push(Port {
+            port,
+            owner: PhantomData,
+        })?;
+    }
+    Ok(owned)
 }

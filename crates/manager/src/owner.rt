@@ -1,11 +1,13 @@
 //! Which manager a value belongs to.
 
-ghost use Rattle.std.specs.Prelude.{ℕ};
+ghost use Rattle.std.specs.Prelude.{ℕ, []};
+ghost use Rattle.ports.specs.Seen.{Rows};
+ghost use Rattle.manager.specs.Kept.{no_rows};
 
 use std::marker::Brand;
 use std::sync::ledger::Ledger;
 
-/// One manager's numbers: its shares, the room of its history in calls, and its table frames. All work
+/// One manager's numbers: its shares, the room of its history in calls, its table frames, and its rows of port words. All work
 /// on a manager stands in a function that is generic in its owner, takes its seed, and is called once
 /// with `Brand`.
 pub trait Owner: Ledger {
@@ -14,6 +16,8 @@ pub trait Owner: Ledger {
     ghost room: { ℕ };
 
     ghost frames: { ℕ };
+
+    ghost rows: { Rows };
 }
 
 impl Owner for Brand {
@@ -22,4 +26,6 @@ impl Owner for Brand {
     ghost room = { 0 };
 
     ghost frames = { 0 };
+
+    ghost rows = { no_rows };
 }

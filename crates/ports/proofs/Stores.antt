@@ -9,7 +9,7 @@ use native.Mathlib.Decide.{ℕ_discrete}
 use lib.ListN.{get_elem?}
 use Rattle.atomic_table.specs.Table.{step, keeps, stepped as table_after, Allows}
 use Rattle.dmatypes.specs.declared.reply.Event.{Event}
-use Rattle.ports.specs.declared.known.OwnStep.TheVariants.{Pool}
+use Rattle.ports.specs.declared.known.OwnStep.TheVariants.{Stored}
 use Rattle.ports.specs.declared.known.Known.{Known}
 use Rattle.ports.specs.declared.known.View.{View}
 use Rattle.ports.specs.Steps.{empties_word, stores_word, adds_event, counter, place_of, stepped, IsReached, AreLawful}
@@ -63,7 +63,7 @@ module _ (legal : List Event → Type 0) (lawful : List Event → ℕ → ℕ �
   unfolding Stays
   empties slots id me port slot hp hs who s r _ at _ =
       let i : ℕ = place_of port slot in
-      let now : Known = record { who = me.0.mine.who; seen = me.0.mine.seen; did = me.0.mine.did ++ Pool i 0 ∷ [] } in
+      let now : Known = record { who = me.0.mine.who; seen = me.0.mine.seen; did = me.0.mine.did ++ Stored i 0 ∷ [] } in
       let t : Truth = record { core = stepped r.truth.core (empties_word port slot); last = r.truth.last; desk = r.truth.desk; made = r.truth.made; place = r.truth.place } in
       let fits = r.each_seat id me.0 at in (
         view_of me.0.frames now,

@@ -7,7 +7,7 @@ use Rattle.atomic_table.specs.Table.{State, Me, Step}
 use Rattle.dmatypes.specs.declared.reply.Event.{Event}
 use Rattle.ports.specs.Steps.{Core, IsReached, IsSeenInRun, AreLawful, counter, place_of, seen_by}
 use Rattle.ports.specs.declared.known.OwnStep.{OwnStep}
-use Rattle.ports.specs.declared.known.OwnStep.TheVariants.{Loaded, Pool}
+use Rattle.ports.specs.declared.known.OwnStep.TheVariants.{Loaded, Stored}
 use Rattle.ports.specs.declared.known.Known.{Known}
 use Rattle.ports.specs.declared.known.View.{View}
 
@@ -122,7 +122,7 @@ module _ (legal : List Event → Type 0) (lawful : List Event → ℕ → ℕ �
 
 abbrev pub Emptied : Step (Unit {0}) → Sat → ℕ → Sat → Type 0
 Emptied st m n m' =
-    m'.0 ≡ view_of m.0.frames (record { who = m.0.mine.who; seen = m.0.mine.seen; did = m.0.mine.did ++ Pool st.word n ∷ [] })
+    m'.0 ≡ view_of m.0.frames (record { who = m.0.mine.who; seen = m.0.mine.seen; did = m.0.mine.did ++ Stored st.word n ∷ [] })
 
 abbrev pub Filled : Step (Unit {0}) → Sat → ℕ → Sat → Type 0
 Filled st m n m' = m'.0 ≡ desk_of m.0.frames m.0.mine.seen (slice_set m.0.last st.word n) m.0.made m.0.guest

@@ -10,7 +10,7 @@ ghost use Rattle.dmatypes.specs.Page.{page_of};
 ghost use Rattle.vtdbits.specs.Port.{States};
 ghost use Rattle.ports.specs.Lawful.{IsLawfulAfter};
 ghost use Rattle.ports.specs.Steps.{IsSeenInRun, counter, place_of, slot_of};
-ghost use Rattle.ports.specs.declared.known.OwnStep.TheVariants.{Loaded, Pool};
+ghost use Rattle.ports.specs.declared.known.OwnStep.TheVariants.{Loaded, Stored};
 
 use crate::rows::Rows;
 use crate::rule::{COUNTER, Counts, Empties, Looks, Place, SLOTS};
@@ -99,7 +99,7 @@ impl Port {
     pub fn evict(&mut self, rows: &Rows, slot: u64)
         requires rows { self.old.rows ≡ rows.now }
         requires slot { slot < 16 }
-        ensures did { self.new.did ≡ self.old.did ++ Pool (place_of self.old.device slot) 0 ∷ [] }
+        ensures did { self.new.did ≡ self.old.did ++ Stored (place_of self.old.device slot) 0 ∷ [] }
         ensures seen { self.new.seen ≡ self.old.seen }
         ensures same { (self.new.rows ≡ self.old.rows) × (self.new.device ≡ self.old.device) }
     {

@@ -1,6 +1,13 @@
 use Rattle.std.proofs.Common.{◌≡◌, ◌+◌, All, vec_len}
 use Rattle.manager.proofs.share.cut.Given as goal
 
-abbrev pub invariant-loop-i : goal.invariant-loop-i
-invariant-loop-i g l =
-    (l.rest.parts + l._i ≡ l.count) × (l.rest.amount ≡ 0) × (vec_len l.shares ≡ l._i) × All (λ s. s.calls ≡ 0) l.shares.items
+abbrev pub invariant-loop-pass : goal.invariant-loop-pass
+invariant-loop-pass g l =
+    (l.rest.parts ≡ vec_len l.passes)
+    × (l.rest.amount ≡ 0)
+    × (vec_len l.shares + vec_len l.passes ≡ vec_len l.fn.passes)
+    × All (λ pass. pass.rows ≡ g.B.Owner.rows) l.passes.items
+    × All (λ share. share.calls ≡ 0) l.shares.items
+
+abbrev pub decreases-loop-pass : goal.decreases-loop-pass
+decreases-loop-pass g l = vec_len l.passes

@@ -38,7 +38,7 @@ does c =
 pub returns : goal.returns
 returns c = rw (← c.self.view_is) (record {
   does = does c;
-  hit = request_hits (before c) c.args.device c.args.address c.args.access c.args.whim c.dma-answer.new.self.caches c.dma-answer.result c.dma-answer.ensures.answers;
+  hit = request_hits (before c) c.args.device c.args.address c.args.access c.args.whim c.dma-answer.new.self.caches c.dma-answer.result c.if-device-gt15.false c.dma-answer.ensures.answers;
 })
 
 pub invariant_of-self-2 : goal.invariant_of-self-2

@@ -1,18 +1,21 @@
-use Rattle.std.proofs.Common.{◌∙◌, rules, arith, sym}
+use Rattle.std.proofs.Common.{◌∙◌, rules, arith, sym, ap}
 use Rattle.engine.specs.State.{IsNew}
+use Rattle.ports.specs.Seen.{Desk}
 use Rattle.manager.proofs.Starting.{kept_new}
 use Rattle.manager.proofs.book.Book.new.Goals as goal
 
 pub invariant_of-result : goal.invariant_of-result
 invariant_of-result g c =
-    let config = c.parts-config.ensures.config in
-    let within = c.parts-config.ensures.within in
-    let new : IsNew g.B.Owner.frames c.in_ok-state.state = rw (c.frames.ensures.value ∙ config.2 ∙ c.requires.frames) at c.in_ok-state.ensures.new in (
-      rw c.in_ok-history.ensures.items (kept_new g.B.Owner.frames g.B.Owner.room c.in_ok-state.state new),
-      c.calls-2.ensures.value ∙ config.1 ∙ c.requires.room,
-      omega (arith, c.in_ok-history.ensures.capacity, c.calls.ensures.value, config.1, c.requires.room),
-      omega (arith, config.1, c.requires.room, within.most_calls),
+    let config = c.requires.config in
+    let new : IsNew g.B.Owner.frames c.in_ok-state.state = rw (c.frames.ensures.value ∙ config.3) at c.in_ok-state.ensures.new in (
+      rw (c.in_ok-history.ensures.items, c.requires.desk.0) (kept_new g.B.Owner.frames g.B.Owner.room c.in_ok-state.state new),
+      c.calls-2.ensures.value ∙ config.2,
+      omega (arith, c.in_ok-history.ensures.capacity, c.calls.ensures.value, config.2),
+      omega (arith, config.2, config.0.most_calls),
       search rules,
-      omega (arith, config.0, c.requires.shares, within.least_shares),
-      sym c.requires.shares ∙ c.requires.parts,
+      omega (arith, config.1, config.0.least_shares),
+      c.requires.blank.2,
+      ap (λ (d : Desk). d.rows) c.requires.desk.0,
+      c.requires.desk.1,
+      ap (λ (d : Desk). d.history) c.requires.desk.0 ∙ sym c.in_ok-history.ensures.items,
     )

@@ -1,0 +1,152 @@
+-- Which rows are cleared at an event, as the bits of a number.
+use Rattle.std.proofs.Common.{◌≡◌, ◌*◌, ◌^◌, ◌%◌, ◌<◌, ◌↔◌, ℕ, inl, inr, refl, sym, ap, subst, ◌∙◌, arith, Bool, true, false, List, Option, None, Some, IsSomeAnd, slice_get, bit_or, w16}
+use Rattle.std.specs.Int.{bit_at}
+use Rattle.std.proofs.lemmas.Nat.Bits.{bit_at_set_same, bit_at_set_other, bit_at-zero}
+use Rattle.std.specs.Prelude.{if◌then◌else◌}
+use Rattle.dmatypes.specs.declared.call.Call.{Call}
+use Rattle.dmatypes.specs.declared.call.Call.TheVariants as calls
+use Rattle.dmatypes.specs.declared.call.Mode.{Mode}
+use Rattle.dmatypes.specs.declared.call.Mode.TheVariants as modes
+use Rattle.dmatypes.specs.declared.reply.Reply.{Reply}
+use Rattle.dmatypes.specs.declared.reply.Reply.TheVariants.{Done, Flushed, Unmapped}
+use Rattle.dmatypes.specs.Page.{Range, range_at}
+use Rattle.dmatypes.specs.Step.{next}
+use Rattle.dmatypes.specs.World.{Domain, World, change_of, flushed, is_full, put, put_off, unmapped_by, with_room}
+use Rattle.engine.specs.Hits.{mode_of}
+use Rattle.engine.specs.Homes.{Home, home_of}
+use Rattle.engine.specs.Quarantine.{MirrorsIfAny, Quarantine, attached}
+use Rattle.engine.specs.State.{State}
+use Rattle.engine.proofs.Lists.{put_same, same_or_not}
+use Rattle.ports.specs.Cleared.{IsCleared, TakesAway}
+
+-- the bits are those of the devices whose rows are cleared
+abbrev pub TellCleared : World → Call → Reply → ℕ → Type 0
+TellCleared w call reply bits = (device : ℕ) → device < 16 → (bit_at bits device ≡ 1) ↔ IsCleared w call reply device
+
+-- ---- one device
+
+bit_of : (k other : ℕ) → k < 16 → (bit_at (bit_or 0 (1 * 2 ^ k % 2 ^ 16)) other ≡ 1) ↔ (other ≡ k)
+bit_of k other low = elim (same_or_not other k) [
+  | inl same ↦ (λ one. same, λ is. subst (λ n. bit_at (bit_or 0 (1 * 2 ^ k % 2 ^ 16)) n ≡ 1) (sym same) (bit_at_set_same w16 0 k low))
+  | inr ne ↦ (
+    λ one. let zero = bit_at_set_other w16 0 k low other ne ∙ bit_at-zero other in absurd (omega (arith, one, zero)),
+    λ is. absurd (ne is),
+  )
+]
+
+pub one_device : (k : ℕ) → k < 16 → (other : ℕ) → other < 16 → (bit_at (1 * 2 ^ k % 2 ^ 16) other ≡ 1) ↔ (other ≡ k)
+one_device k low other small = bit_of k other low
+
+-- no device
+pub no_device : (w : World) (call : Call) (reply : Reply) → ((device : ℕ) → IsCleared w call reply device → ⊥) → TellCleared w call reply 0
+no_device w call reply none device low = (
+  λ one. let zero = bit_at-zero device in absurd (omega (arith, one, zero)),
+  λ is. absurd (none device is),
+)
+
+-- ---- at a detach
+
+pub told_detach : (w : World) (v bits : ℕ) → ((other : ℕ) → other < 16 → (bit_at bits other ≡ 1) ↔ (other ≡ v)) → TellCleared w (calls.Detach v) Done bits
+unfolding IsCleared
+told_detach w v bits is = is
+
+pub detach_cleared : (w : World) (v : ℕ) (reply : Reply) (other : ℕ) → IsCleared w (calls.Detach v) reply other → reply ≡ Done
+unfolding IsCleared
+detach_cleared w v Done other is = refl
+detach_cleared w v _ other is = absurd is
+
+-- ---- at a flush
+
+pub told_flush : (m : State) (w : World) (domain n bits : ℕ) → Quarantine m (next w (calls.Flush domain) (Flushed n))
+    → ((v : ℕ) → v < 16 → (bit_at bits v ≡ 1) ↔ (attached (slice_get m.row v) ≡ Some domain))
+    → TellCleared w (calls.Flush domain) (Flushed n) bits
+unfolding IsCleared next
+told_flush m w domain n bits q is device low =
+    let same : w.devices device ≡ attached (slice_get m.row device) = q.contexts.devices device in
+    (λ one. same ∙ (is device low).0 one, λ there. (is device low).1 (sym same ∙ there))
+
+pub flush_cleared : (w : World) (domain : ℕ) (reply : Reply) (other : ℕ) → IsCleared w (calls.Flush domain) reply other
+    → (n : ℕ) × (reply ≡ Flushed n)
+unfolding IsCleared
+flush_cleared w domain (Flushed n) other is = (n, refl)
+flush_cleared w domain _ other is = absurd is
+
+-- ---- at an unmap
+
+abbrev world_mode : Option Domain → Option Mode
+world_mode None = None
+world_mode (Some v) = Some v.mode
+
+mirrored_mode : (words : List ℕ) (h : Option Home) (o : Option Domain) → MirrorsIfAny words h o → mode_of h ≡ world_mode o
+mirrored_mode words None None both = refl
+mirrored_mode words None (Some v) both = absurd both
+mirrored_mode words (Some h) None both = absurd both
+mirrored_mode words (Some h) (Some v) both = ap Some both.ids.mode
+
+room_mode : (full : Bool) (v : Domain) → (if full then flushed v else v).mode ≡ v.mode
+room_mode true v = refl
+room_mode false v = refl
+
+unmapped_mode : (mode : Mode) (range : Range) (v : Domain) → (unmapped_by mode range v).mode ≡ v.mode
+unmapped_mode modes.Strict range v = refl
+unmapped_mode modes.Lazy range v = room_mode (is_full v) v
+
+changed_mode : (range : Range) (o : Option Domain) → world_mode (change_of (λ v. unmapped_by v.mode range v) o) ≡ world_mode o
+changed_mode range None = refl
+changed_mode range (Some v) = ap Some (unmapped_mode v.mode range v)
+
+takes_by_mode : (o : Option Domain) (n : ℕ) → IsSomeAnd (world_mode o) (λ mode. TakesAway mode n) ↔ IsSomeAnd o (λ v. TakesAway v.mode n)
+takes_by_mode None n = (λ is. is, λ is. is)
+takes_by_mode (Some v) n = (λ is. is, λ is. is)
+
+-- the mode that the state tells is the one of the world at the call
+mode_at : (m : State) (w : World) (domain address pages n : ℕ) → Quarantine m (next w (calls.Unmap domain address pages) (Unmapped n))
+    → mode_of (home_of m.homes domain) ≡ world_mode (w.domains domain)
+unfolding next
+mode_at m w domain address pages n q =
+    let change = change_of (λ v. unmapped_by v.mode (range_at address pages) v) (w.domains domain) in
+    mirrored_mode m.pool.words (home_of m.homes domain) _ (q.domains domain) ∙ ap world_mode (put_same domain change w.domains)
+    ∙ changed_mode (range_at address pages) (w.domains domain)
+
+takes_at : (m : State) (w : World) (domain address pages n : ℕ) → Quarantine m (next w (calls.Unmap domain address pages) (Unmapped n))
+    → IsSomeAnd (mode_of (home_of m.homes domain)) (λ mode. TakesAway mode n) ↔ IsSomeAnd (w.domains domain) (λ v. TakesAway v.mode n)
+takes_at m w domain address pages n q =
+    subst (λ (o : Option Mode). IsSomeAnd o (λ mode. TakesAway mode n) ↔ IsSomeAnd (w.domains domain) (λ v. TakesAway v.mode n))
+      (sym (mode_at m w domain address pages n q)) (takes_by_mode (w.domains domain) n)
+
+pub told_unmap : (m : State) (w : World) (domain address pages n bits : ℕ)
+    → Quarantine m (next w (calls.Unmap domain address pages) (Unmapped n))
+    → IsSomeAnd (mode_of (home_of m.homes domain)) (λ mode. TakesAway mode n)
+    → ((v : ℕ) → v < 16 → (bit_at bits v ≡ 1) ↔ (attached (slice_get m.row v) ≡ Some domain))
+    → TellCleared w (calls.Unmap domain address pages) (Unmapped n) bits
+unfolding IsCleared next
+told_unmap m w domain address pages n bits q takes is device low =
+    let same : w.devices device ≡ attached (slice_get m.row device) = q.contexts.devices device in (
+      λ one. (same ∙ (is device low).0 one, (takes_at m w domain address pages n q).0 takes),
+      λ there. (is device low).1 (sym same ∙ there.0),
+    )
+
+-- an unmap that takes nothing away
+pub unmap_keeps : (m : State) (w : World) (domain address pages n : ℕ)
+    → Quarantine m (next w (calls.Unmap domain address pages) (Unmapped n))
+    → (IsSomeAnd (mode_of (home_of m.homes domain)) (λ mode. TakesAway mode n) → ⊥)
+    → (device : ℕ) → IsCleared w (calls.Unmap domain address pages) (Unmapped n) device → ⊥
+unfolding IsCleared
+unmap_keeps m w domain address pages n q keeps device is = keeps ((takes_at m w domain address pages n q).1 is.1)
+
+pub unmap_cleared : (w : World) (domain address pages : ℕ) (reply : Reply) (other : ℕ)
+    → IsCleared w (calls.Unmap domain address pages) reply other → (n : ℕ) × (reply ≡ Unmapped n)
+unfolding IsCleared
+unmap_cleared w domain address pages (Unmapped n) other is = (n, refl)
+unmap_cleared w domain address pages _ other is = absurd is
+
+-- ---- at any other call
+
+pub other_cleared : (w : World) (call : Call) (reply : Reply) (device : ℕ)
+    → ((v : ℕ) → call ≡ calls.Detach v → ⊥) → ((d a p : ℕ) → call ≡ calls.Unmap d a p → ⊥) → ((d : ℕ) → call ≡ calls.Flush d → ⊥)
+    → IsCleared w call reply device → ⊥
+unfolding IsCleared
+other_cleared w (calls.Detach v) reply device detach unmap flush is = detach v refl
+other_cleared w (calls.Unmap d a p) reply device detach unmap flush is = unmap d a p refl
+other_cleared w (calls.Flush d) reply device detach unmap flush is = flush d refl
+other_cleared w _ reply device detach unmap flush is = is

@@ -1,0 +1,4 @@
+use Rattle.manager.proofs.book.Book.close.Goals as goal
+
+pub returns-clause-saw : goal.returns-clause-saw
+returns-clause-saw g c = rw (← c.book.invariant.9) c.merged-whole.ensures.saw

@@ -1,0 +1,7 @@
+use Rattle.std.proofs.Common.{◌≡◌, ◌*◌, ◌^◌, ◌%◌, ◌<◌, ℕ, inl, inr, refl, rules}
+use Rattle.std.specs.Int.{bit_at}
+use Rattle.manager.proofs.ClearedRows.{one_device}
+use Rattle.manager.proofs.entering.only.Goals as goal
+
+pub returns-then-device-lt16 : goal.returns-then-device-lt16
+returns-then-device-lt16 c = one_device c.args.device c.if-device-lt16.true

@@ -1,0 +1,139 @@
+//! How an event enters the history that the devices' ports can see.
+
+ghost use Rattle.std.specs.Prelude.{◌≡◌, ◌≢◌, ◌<◌, ◌↔◌, ◌++◌, ◌∷◌, [], ℕ, length, slice_index, IsSomeAnd, IsTrue};
+ghost use Rattle.std.specs.Int.{bit_at};
+ghost use Rattle.dmatypes.specs.Allows.{domain_of_device};
+ghost use Rattle.dmatypes.specs.History.{IsLegal, after};
+ghost use Rattle.dmatypes.specs.Page.{IsPage, page_of};
+ghost use Rattle.dmatypes.specs.Step.{IsStep, next};
+ghost use Rattle.dmatypes.specs.World.{World};
+ghost use Rattle.engine.specs.Hits.{Has, IsHitIn};
+ghost use Rattle.engine.specs.Quarantine.{Quarantine};
+ghost use Rattle.ports.specs.Cleared.{IsCleared, TakesAway};
+ghost use Rattle.ports.specs.Lawful.{IsLawfulAfter};
+ghost use Rattle.ports.specs.Steps.{AreLawful, place_of};
+ghost use Rattle.vtdbits.specs.Translation.{target};
+ghost use Rattle.dmatypes.specs.Rights.{bits_of};
+ghost use Rattle.manager.specs.Words.{AreCleared, AreFilled, IsLastAfter};
+
+use dmatypes::{Call, Event, Mode, PAGE_BYTES, Page, Reply};
+use engine::{Hit, State};
+use ports::{Desk, Rows};
+use vtdbits::{PortWord, Translation, WidePage};
+
+// How many retired records an unmap releases that releases some: all that a lazy domain keeps at most (own).
+const MOST_RECORDS: u64 = 256;
+
+/// Clears the rows of the devices that an event takes pages away from, appends the event, and fills the word of a request
+/// with what it hit. The state is the one after the event.
+pub(crate) fn enter(desk: &mut Desk, rows: &Rows, state: &State, event: &Event, hit: Option<Hit>)
+    requires rows { desk.old.rows ≡ rows.now }
+    requires room { length desk.old.history < 1048576 }
+    requires legal { IsLegal desk.old.rows.frames (desk.old.history ++ event.now ∷ []) }
+    requires lawful { AreLawful (IsLawfulAfter desk.old.rows.frames) desk.old.history desk.old.last }
+    requires state { Quarantine state.now (after desk.old.rows.frames (desk.old.history ++ event.now ∷ [])) }
+    requires hit { IsHitIn (after desk.old.rows.frames desk.old.history) event.now.call event.now.reply hit }
+    ensures history { desk.new.history ≡ desk.old.history ++ event.now ∷ [] }
+    ensures rows { desk.new.rows ≡ desk.old.rows }
+    ensures last { IsLastAfter (after desk.old.rows.frames desk.old.history) event.now.call event.now.reply desk.old.last desk.new.last }
+    ensures lawful { AreLawful (IsLawfulAfter desk.old.rows.frames) desk.new.history desk.new.last }
+{
+    clear(desk, rows, cleared_at(state, event));
+    desk.append(rows, event);
+    fill(desk, rows, event, hit);
+}
+
+// The devices whose rows are cleared at an event: bit j is device j. The state is the one after it.
+fn cleared_at(state: &State, event: &Event) -> u16
+    ensures { (w : World) → Quarantine state.now (next w event.now.call event.now.reply)
+        → (device : ℕ) → device < 16 → (bit_at result device ≡ 1) ↔ IsCleared w event.now.call event.now.reply device }
+{
+    match (&event.call, event.reply) {
+        (Call::Detach { device }, Reply::Done) => only(*device),
+        (Call::Flush { domain }, Reply::Flushed(_)) => state.devices_of(*domain),
+        (Call::Unmap { domain, .. }, Reply::Unmapped(released)) => {
+            if takes_away(state.mode_of(*domain), released) {
+                state.devices_of(*domain)
+            } else {
+                0
+            }
+        }
+        _ => 0,
+    }
+}
+
+// The device alone, where there is one of this number.
+fn only(device: u64) -> u16
+    ensures { (other : ℕ) → other < 16 → (bit_at result other ≡ 1) ↔ (other ≡ device) }
+{
+    if device < 16 { 1 << device } else { 0 }
+}
+
+// Whether an unmap in a domain of this mode took pages away, that released so many records.
+fn takes_away(mode: Option<Mode>, released: u64) -> bool
+    ensures { IsTrue result ↔ IsSomeAnd mode (λ m. TakesAway m released) }
+{
+    match mode {
+        Some(Mode::Strict) => true,
+        Some(Mode::Lazy) => released == MOST_RECORDS,
+        None => false,
+    }
+}
+
+// Empties the rows of the devices.
+fn clear(desk: &mut Desk, rows: &Rows, devices: u16)
+    requires { desk.old.rows ≡ rows.now }
+    ensures words { (device slot : ℕ) → device < 16 → slot < 16
+        → (bit_at devices device ≡ 1 → slice_index desk.new.last (place_of device slot) ≡ 0)
+        × ((bit_at devices device ≡ 1 → ⊥)
+        → slice_index desk.new.last (place_of device slot) ≡ slice_index desk.old.last (place_of device slot)) }
+    ensures same { (desk.new.rows ≡ desk.old.rows) × (desk.new.history ≡ desk.old.history) }
+{
+    for device in 0..16u64 {
+        if devices >> device & 1 == 1 {
+            desk.clear(rows, device);
+        }
+    }
+}
+
+// Fills the word of a request with fill, where it hit.
+fn fill(desk: &mut Desk, rows: &Rows, event: &Event, hit: Option<Hit>)
+    requires rows { desk.old.rows ≡ rows.now }
+    requires legal { IsLegal desk.old.rows.frames desk.old.history }
+    requires hit { IsHitIn (after desk.old.rows.frames desk.old.history) event.now.call event.now.reply hit }
+    requires lawful { AreLawful (IsLawfulAfter desk.old.rows.frames) desk.old.history desk.old.last }
+    ensures filled { AreFilled (after desk.old.rows.frames desk.old.history) event.now.call event.now.reply desk.old.last desk.new.last }
+    ensures lawful { AreLawful (IsLawfulAfter desk.old.rows.frames) desk.old.history desk.new.last }
+    ensures same { (desk.new.rows ≡ desk.old.rows) × (desk.new.history ≡ desk.old.history) }
+{
+    let Call::Dma {
+        device,
+        address,
+        whim,
+        ..
+    } = &event.call
+    else {
+        return;
+    };
+    let Some(hit) = hit else {
+        return;
+    };
+    if whim.fill {
+        desk.fill(rows, *device, port_word(*address, hit));
+    }
+}
+
+// The word of the page of a byte address, as it was hit.
+fn port_word(address: u64, hit: Hit) -> PortWord
+    requires { IsPage (page_of address) }
+    ensures page { result.page ≡ page_of address }
+    ensures translation { result.translation ≡ target hit.frame (bits_of hit.rights) }
+{
+    let Some(page) = Page::new(address / PAGE_BYTES) else {
+        unreachable!()
+    };
+    PortWord {
+        page: WidePage::from(page),
+        translation: Translation::new(hit.frame, hit.rights),
+    }
+}
