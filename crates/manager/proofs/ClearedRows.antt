@@ -11,7 +11,7 @@ use Rattle.dmatypes.specs.declared.reply.Reply.{Reply}
 use Rattle.dmatypes.specs.declared.reply.Reply.TheVariants.{Done, Flushed, Unmapped}
 use Rattle.dmatypes.specs.Page.{Range, range_at}
 use Rattle.dmatypes.specs.Step.{next}
-use Rattle.dmatypes.specs.World.{Domain, World, change_of, flushed, is_full, put, put_off, unmapped_by, with_room}
+use Rattle.dmatypes.specs.World.{Domain, World, change_of, flushed, is_full, unmapped_by}
 use Rattle.engine.specs.Hits.{mode_of}
 use Rattle.engine.specs.Homes.{Home, home_of}
 use Rattle.engine.specs.Quarantine.{MirrorsIfAny, Quarantine, attached}

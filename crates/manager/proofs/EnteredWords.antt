@@ -1,5 +1,5 @@
 -- The words of the rows, when an event enters the history.
-use Rattle.std.proofs.Common.{◌≡◌, ◌<◌, ℕ, inl, inr, List, [], ◌∷◌, ◌++◌, slice_index, refl, sym, subst, ◌∙◌}
+use Rattle.std.proofs.Common.{◌≡◌, ◌<◌, ℕ, inl, inr, List, [], ◌∷◌, ◌++◌, slice_index, sym, subst}
 use Rattle.std.specs.Int.{bit_at}
 use Rattle.std.specs.Prelude.{Option, None, Some}
 use Rattle.dmatypes.specs.declared.call.Call.{Call}

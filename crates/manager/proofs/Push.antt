@@ -2,8 +2,9 @@
 use Rattle.std.proofs.Common.{◌≡◌, ℕ, ◌+◌, ◌<◌, List, [], ◌∷◌, ◌++◌, length, refl, ap, sym, ◌∙◌, subst, arith, length-append}
 use Rattle.dmatypes.specs.declared.reply.Event.{Event}
 use Rattle.dmatypes.specs.World.{empty}
-use Rattle.dmatypes.specs.History.{after}
+use Rattle.dmatypes.specs.History.{IsLegal, after}
 use Rattle.dmatypes.proofs.Histories.{after_from-push, IsLegalFrom-push}
+use Rattle.engine.specs.Quarantine.{Quarantine}
 use Rattle.engine.specs.State.{State}
 use Rattle.engine.specs.Steps.{Does, Goes}
 use Rattle.engine.specs.Whole.{IsWhole}
@@ -15,6 +16,15 @@ use Rattle.manager.specs.Kept.{Book, IsKept}
 Goes-push : (m : State) (es : List Event) (s : State) (e : Event) (t : State) → Goes m es s → Does s e.call e.reply t → Goes m (es ++ e ∷ []) t
 Goes-push m [] s e t same does = (t, (subst (λ (x : State). Does x e.call e.reply t) (sym same) does, refl))
 Goes-push m (x ∷ es) s e t goes does = (goes.0, (goes.1.0, Goes-push goes.0 es s e t goes.1.1 does))
+
+-- one call more is legal, and the state is then one of the world after it
+pub push_legal : (frames room : ℕ) (a : Book) (e : Event) (t : State) → IsKept frames room a → Does a.state e.call e.reply t
+    → IsLegal frames (a.history ++ e ∷ []) × Quarantine t (after frames (a.history ++ e ∷ []))
+push_legal frames room a e t kept does =
+    let both = does.steps (after frames a.history) kept.quarantine in (
+      IsLegalFrom-push (empty frames) a.history e kept.legal both.0,
+      rw (after_from-push (empty frames) a.history e) both.1,
+    )
 
 -- one call more keeps what a book keeps
 pub IsKept-push : (frames room : ℕ) (a : Book) (e : Event) (t : State) (now : List Event) (last : List ℕ)

@@ -1,4 +1,4 @@
-use Rattle.std.proofs.Common.{◌≡◌, ◌<◌, ◌≤◌, ℕ, slice_index}
+use Rattle.std.proofs.Common.{◌≡◌, ◌<◌, ℕ, slice_index}
 use Rattle.std.specs.Int.{bit_at}
 use Rattle.ports.specs.Steps.{place_of}
 use Rattle.manager.proofs.entering.clear.Given as goal

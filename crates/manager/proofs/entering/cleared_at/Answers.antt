@@ -1,4 +1,4 @@
-use Rattle.std.proofs.Common.{◌≡◌, ◌∙◌, ℕ, true, false, sym}
+use Rattle.std.proofs.Common.{◌≡◌, ◌∙◌, true, false, sym}
 use Rattle.manager.proofs.ClearedRows.{detach_cleared, flush_cleared, no_device, other_cleared, told_detach, told_flush, told_unmap, unmap_cleared, unmap_keeps}
 use Rattle.manager.proofs.entering.cleared_at.Goals as goal
 

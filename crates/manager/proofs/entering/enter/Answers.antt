@@ -1,4 +1,4 @@
-use Rattle.std.proofs.Common.{◌≡◌, ◌∙◌, ◌++◌, ◌∷◌, [], List, ℕ, sym, subst}
+use Rattle.std.proofs.Common.{subst}
 use Rattle.dmatypes.specs.World.{World, empty}
 use Rattle.dmatypes.proofs.Histories.{after_from-push}
 use Rattle.manager.specs.Words.{AreFilled}

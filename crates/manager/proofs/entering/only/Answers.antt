@@ -1,5 +1,3 @@
-use Rattle.std.proofs.Common.{◌≡◌, ◌*◌, ◌^◌, ◌%◌, ◌<◌, ℕ, inl, inr, refl, rules}
-use Rattle.std.specs.Int.{bit_at}
 use Rattle.manager.proofs.ClearedRows.{one_device}
 use Rattle.manager.proofs.entering.only.Goals as goal
 

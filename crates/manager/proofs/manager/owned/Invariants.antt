@@ -1,4 +1,4 @@
-use Rattle.std.proofs.Common.{◌≡◌, ◌++◌}
+use Rattle.std.proofs.Common.{◌≡◌}
 use Rattle.manager.proofs.manager.owned.Given as goal
 
 -- those that were taken out so far, in order

@@ -1,5 +1,4 @@
-use Rattle.std.proofs.Common.{◌≡◌, ◌+◌, ◌≤◌, ◌++◌, All, List, sum_by, vec_len}
-use mathlib.Core.List.{IsPrefix}
+use Rattle.std.proofs.Common.{◌≡◌, ◌+◌, ◌≤◌, sum_by, vec_len}
 use Rattle.manager.specs.Kept.{AllSaw}
 use Rattle.manager.proofs.share.merged.Given as goal
 
