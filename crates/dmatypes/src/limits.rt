@@ -17,3 +17,13 @@ pub const MOST_RECORDS: u64 = 256;
 
 /// The most bytes of a script's line, its newline left out.
 pub const LONGEST_LINE: usize = 512;
+
+/// The fewest and the most table frames of a manager.
+pub const LEAST_TABLE_FRAMES: u64 = 16;
+pub const MOST_TABLE_FRAMES: u64 = 4096;
+
+/// The most calls in a history.
+pub const MOST_CALLS: u64 = 1 << 20;
+
+/// The most shares by which a manager is called.
+pub const MOST_SHARES: u64 = 64;

@@ -6,7 +6,7 @@ use std::collections::LinkedList;
 /// A step that a port made: its place, and the value that was loaded or stored.
 pub enum OwnStep {
     Loaded(u64, u64),
-    Pool(u64, u64),
+    Stored(u64, u64),
 }
 
 /// Who a caller is, the history that it has learnt of, and its own steps.
