@@ -4,9 +4,9 @@ ghost use Rattle.std.specs.Prelude.{◌≡◌, ◌==◌, ◌&&◌, IsTrue, ◌-�
 ghost use Rattle.unit.specs.Caches.{leaf};
 ghost use Rattle.unit.specs.Walking.{hold, met_non_leaf, stated_by};
 
-use crate::walking::span_of;
 use dmatypes::{Frame, Rights};
 use std::marker::Model;
+use tables::span_of;
 use vtdbits::{DeviceNumber, DomainId, LargeTranslation, Translation};
 
 /// A leaf that a walk met: the pages that it stands for, and what they are mapped to, one frame after the

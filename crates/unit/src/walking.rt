@@ -13,7 +13,7 @@ use crate::entries::{CachedLeaf, CachedNonLeaf};
 use crate::lists::remember;
 use arrayvec::ArrayVec;
 use dmatypes::Frame;
-use tables::Pool;
+use tables::{Pool, index_of, read_entry};
 use vtdbits::{DomainId, SsEntry};
 
 /// How many tables are remembered at most (own).
@@ -42,7 +42,7 @@ pub(crate) fn walk(
     ensures passed { Gains way.fill (IsPassed (memory pool.now.words) level table way.domain way.page) passed.old.items passed.new.items }
     ensures few { length passed.old.items ≤ NON_LEAVES → length passed.new.items ≤ NON_LEAVES }
 {
-    match entry(pool, level, table, way.page) {
+    match read_entry(pool, level, table, index_of(level, way.page)) {
         SsEntry::Absent => None,
         SsEntry::Table(below) => {
             let table = CachedNonLeaf::new(way.domain, way.page, level - 1, below);
@@ -51,32 +51,5 @@ pub(crate) fn walk(
         }
         SsEntry::Leaf(leaf) => Some(CachedLeaf::small(way.domain, way.page, leaf)),
         SsEntry::LargeLeaf(leaf) => Some(CachedLeaf::large(way.domain, way.page, leaf)),
-    }
-}
-
-// The entry of a page in a table of a level: absent where the word spells none, and where the pool has no
-// such table.
-fn entry(pool: &Pool, level: u64, table: Frame, page: u64) -> SsEntry
-    requires low { 1 ≤ level }
-    requires high { level ≤ 3 }
-    ensures is { memory pool.now.words level table (index_in (level - 1) page) ≡ result }
-    ensures stands { MayStandAt level result }
-{
-    let index = page / span_of(level - 1) % 512;
-    SsEntry::decode(level, pool.read(table, index)).unwrap_or(SsEntry::Absent)
-}
-
-/// How many pages a table of a level covers.
-#[tactic(auto, unfolding(tables::specs::Tree::span))]
-pub(crate) fn span_of(level: u64) -> u64
-    requires { level ≤ 2 }
-    ensures exact { result ≡ span level }
-    ensures some { 0 < result }
-    ensures few { result ≤ 2 ^ 18 }
-{
-    match level {
-        0 => 1,
-        1 => 512,
-        _ => 1 << 18,
     }
 }
