@@ -27,3 +27,8 @@ pub const MOST_CALLS: u64 = 1 << 20;
 
 /// The most shares by which a manager is called.
 pub const MOST_SHARES: u64 = 64;
+
+/// The most leaves, tables and contexts that a unit remembers.
+pub const MOST_CACHED_LEAVES: usize = 64;
+pub const MOST_CACHED_NON_LEAVES: usize = 32;
+pub const MOST_CACHED_CONTEXTS: usize = 16;

@@ -115,7 +115,8 @@ id_in _ = 0
 keeps_map : (w : World) (domain : ℕ) (ss : List Segment) (order rights address device : ℕ) (p : PortWord) (d : ℕ) (v : Domain)
     → IsMapAnswer w domain ss order (Mapped address) → IsBackedBy w device p d v
     → IsBacked (with_domain domain (mapped ss (address / PAGE_BYTES) rights) w) device p
-keeps_map w domain ss order rights address device p d v answer b = with_change w device p d v domain (mapped ss (address / PAGE_BYTES) rights) b
+keeps_map w domain ss order rights address device p d v answer b =
+    with_change w device p d v domain (mapped ss (address / PAGE_BYTES) rights) b
     (λ attached there. backs_mapped v p ss (address / PAGE_BYTES) rights (map_start w domain ss order address answer v there) b.backs)
 
 keeps_backed : (w : World) (call : Call) (reply : Reply) (device : ℕ) (p : PortWord) (d : ℕ) (v : Domain) → IsStep w call reply

@@ -96,7 +96,8 @@ module _ (legal : List Event → Type 0) (lawful : List Event → ℕ → ℕ �
       )
 
   -- the desk stores a lawful word in a row
-  pub fills : (slots id : ℕ) (me : Sat) (device slot n : ℕ) → device < DEVICES → slot < SLOTS → me.0.is_desk ≡ true → length me.0.last ≡ ROW_WORDS
+  pub fills : (slots id : ℕ) (me : Sat) (device slot n : ℕ) → device < DEVICES → slot < SLOTS → me.0.is_desk ≡ true
+      → length me.0.last ≡ ROW_WORDS
       → lawful me.0.mine.seen device n
       → Allows K slots id me (place_of device slot) (λ _. n) (λ _. Filled (step slots (place_of device slot) n 0 none) me n)
   unfolding Stays

@@ -31,7 +31,8 @@ spelled-take (suc n) (w ∷ ws) = ap (before (descriptor_of w)) (spelled-take n 
 
 -- ---- a page in which nothing was written
 
-pub taken-none : (page : List Words) (d : Words) → length page ≡ PAIRS → descriptor_of (get_or page (PAIRS - 1) d) ≡ None → taken_in 0 0 page ≡ []
+pub taken-none : (page : List Words) (d : Words) → length page ≡ PAIRS → descriptor_of (get_or page (PAIRS - 1) d) ≡ None
+    → taken_in 0 0 page ≡ []
 taken-none page d all none =
     let many = length-window PAIRS 0 PAIRS page (omega arith) (omega arith) all in
     let last : get_or (free_pairs 0 0 page) 0 d ≡ get_or page (PAIRS - 1) d =

@@ -5,19 +5,19 @@ ghost use Rattle.dmatypes.specs.World.{IsIn};
 ghost use Rattle.vtdbits.specs.Entry.{MayStandAt};
 ghost use Rattle.tables.specs.Tree.{span, index_in, leaf_from};
 ghost use Rattle.tables.specs.Pool.{memory};
-ghost use Rattle.unit.specs.Caches.{NonLeaf};
+ghost use Rattle.unit.specs.Caches.{CachedNonLeaf};
 ghost use Rattle.unit.specs.Walking.{met, IsPassed};
 ghost use Rattle.unit.specs.Lists.{Gains};
 
 use crate::entries::{CachedLeaf, CachedNonLeaf};
 use crate::lists::remember;
 use arrayvec::ArrayVec;
-use dmatypes::Frame;
+use dmatypes::{Frame, LEVELS, MOST_CACHED_NON_LEAVES, PAGES_END};
 use tables::{Pool, index_of, read_entry};
 use vtdbits::{DomainId, SsEntry};
 
-/// How many tables are remembered at most (own).
-pub(crate) const NON_LEAVES: usize = 32;
+/// The places for tables.
+pub(crate) const NON_LEAVES: usize = MOST_CACHED_NON_LEAVES;
 
 /// What a walk is for: a page of a domain, and whether what it passes is remembered.
 #[derive(Clone, Copy)]
@@ -35,9 +35,9 @@ pub(crate) fn walk(
     level: u64,
     table: Frame,
 ) -> Option<CachedLeaf>
-    requires page { way.page < 2 ^ 27 }
+    requires page { way.page < PAGES_END }
     requires low { 1 ≤ level }
-    requires high { level ≤ 3 }
+    requires high { level ≤ LEVELS }
     ensures leaf { result ≡ met way.domain way.page (leaf_from (memory pool.now.words) level table way.page) }
     ensures passed { Gains way.fill (IsPassed (memory pool.now.words) level table way.domain way.page) passed.old.items passed.new.items }
     ensures few { length passed.old.items ≤ NON_LEAVES → length passed.new.items ≤ NON_LEAVES }

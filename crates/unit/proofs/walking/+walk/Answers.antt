@@ -2,7 +2,7 @@ use Rattle.std.proofs.Common.{◌≡◌, ℕ, List, ◌∙◌, ap, sym, arith, S
 use Rattle.vtdbits.specs.declared.entry.SsEntry.{SsEntry}
 use Rattle.tables.specs.Pool.{memory}
 use Rattle.tables.specs.Tree.{index_in}
-use Rattle.unit.specs.Caches.{Leaf}
+use Rattle.unit.specs.Caches.{CachedLeaf}
 use Rattle.unit.specs.Walking.{IsPassed}
 use Rattle.unit.proofs.Remembered.{gains_entry, gains_twice}
 use Rattle.unit.proofs.Walked.{met_absent, met_table, met_small, met_large, passed_next, passed_below}
@@ -44,12 +44,14 @@ pub returns-in-Leaf-clause-leaf : goal.returns-in-Leaf-clause-leaf
 returns-in-Leaf-clause-leaf t c =
     let m = memory c.args.pool.now.words in
     let is = on_way _ _ _ _ _ _ c.index_of.ensures.exact c.in-Leaf.ensures.is in
-    ap (λ (l : Leaf). Some l) c.small.ensures
-    ∙ met_small m c.args.way.domain c.args.table c.args.way.page c.args.level c.requires.low c.in-Leaf.leaf is (omega (arith, c.in-Leaf.ensures.stands))
+    ap (λ (l : CachedLeaf). Some l) c.small.ensures
+    ∙ met_small m c.args.way.domain c.args.table c.args.way.page c.args.level c.requires.low c.in-Leaf.leaf is
+        (omega (arith, c.in-Leaf.ensures.stands))
 
 pub returns-in-LargeLeaf-clause-leaf : goal.returns-in-LargeLeaf-clause-leaf
 returns-in-LargeLeaf-clause-leaf t c =
     let m = memory c.args.pool.now.words in
     let is = on_way _ _ _ _ _ _ c.index_of.ensures.exact c.in-LargeLeaf.ensures.is in
-    ap (λ (l : Leaf). Some l) c.large.ensures
-    ∙ met_large m c.args.way.domain c.args.table c.args.way.page c.args.level c.requires.low c.in-LargeLeaf.leaf is (omega (arith, c.in-LargeLeaf.ensures.stands))
+    ap (λ (l : CachedLeaf). Some l) c.large.ensures
+    ∙ met_large m c.args.way.domain c.args.table c.args.way.page c.args.level c.requires.low c.in-LargeLeaf.leaf is
+        (omega (arith, c.in-LargeLeaf.ensures.stands))
