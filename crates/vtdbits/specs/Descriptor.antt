@@ -1,5 +1,5 @@
 -- Spellings of descriptors.
-use Rattle.std.specs.Prelude.{◌≡◌, ℕ, ◌+◌, ◌*◌, ◌/◌, ◌%◌, ◌^◌, ◌<◌, ◌==◌, ◌&&◌, nat_le, nat_lt, Bool, if◌then◌else◌, Option, Some, None}
+use Rattle.std.specs.Prelude.{◌≡◌, ℕ, ◌+◌, ◌-◌, ◌*◌, ◌/◌, ◌%◌, ◌^◌, ◌<◌, ◌==◌, ◌&&◌, nat_le, nat_lt, Bool, if◌then◌else◌, Option, Some, None}
 use Rattle.dmatypes.specs.Block.{Block, block}
 use Rattle.vtdbits.specs.Numbers.{IsDomainId, IsDevice, IsPageBlock, bit_of_flag, is_domain_id, is_page_block}
 use Rattle.vtdbits.specs.declared.words.Words.{Words}
@@ -41,7 +41,7 @@ is_of_domain form words =
 abbrev pub is_of_device : ℕ → Words → Bool
 is_of_device form words =
     (words.low % 2 ^ 16 == form) && is_domain_id (words.low / 2 ^ 16 % 2 ^ 16)
-    && (words.low / 2 ^ 32 % 8 == 0) && nat_lt (words.low / 2 ^ 35) DEVICES && (words.high == 0)
+    && (words.low / 2 ^ 32 % 8 == 0) && nat_le (words.low / 2 ^ 35) (DEVICES - 1) && (words.high == 0)
 
 -- the block in the high word
 abbrev pub block_in : Words → Block

@@ -1,5 +1,5 @@
 -- The numbers that words are made of, beside frames and rights.
-use Rattle.std.specs.Prelude.{ℕ, ◌%◌, ◌^◌, ◌<◌, ◌≤◌, ◌⊎◌, ◌==◌, ◌&&◌, ◌||◌, nat_le, nat_lt, Bool, true, false}
+use Rattle.std.specs.Prelude.{ℕ, ◌-◌, ◌%◌, ◌^◌, ◌<◌, ◌≤◌, ◌⊎◌, ◌==◌, ◌&&◌, ◌||◌, nat_le, nat_lt, Bool, true, false}
 use Rattle.dmatypes.specs.declared.limits.TheConstants.{DEVICES, MOST_DOMAINS}
 use Rattle.dmatypes.specs.declared.page.TheConstants.{WINDOW_FIRST, WINDOW_LAST}
 use Rattle.vtdbits.specs.declared.number.TheConstants.{MOST_BLOCK_ORDER, WIDE_PAGES_END}
@@ -11,7 +11,7 @@ IsDomainId d = (1 ≤ d) × (d ≤ MOST_DOMAINS)
 
 -- the number of a device
 abbrev pub IsDevice : ℕ → Type 0
-IsDevice v = v < DEVICES
+IsDevice v = v ≤ DEVICES - 1
 
 -- a page of the widest address space, 48 bits, that is before the interrupt address range or behind it
 abbrev pub IsWidePage : ℕ → Type 0
