@@ -10,12 +10,14 @@ use Rattle.engine.specs.Whole.{IsWhole}
 use Rattle.engine.proofs.Refusing.{frames_kept}
 use Rattle.manager.specs.Kept.{Book, IsKept}
 
-Goes-push : (m : State) (es : List Event) (s : State) (e : Event) (t : State) → Goes m es s → Does s e.call e.reply t → Goes m (es ++ e ∷ []) t
+Goes-push : (m : State) (es : List Event) (s : State) (e : Event) (t : State) → Goes m es s → Does s e.call e.reply t
+    → Goes m (es ++ e ∷ []) t
 Goes-push m [] s e t same does = (t, (subst (λ (x : State). Does x e.call e.reply t) (sym same) does, refl))
 Goes-push m (x ∷ es) s e t goes does = (goes.0, (goes.1.0, Goes-push goes.0 es s e t goes.1.1 does))
 
 -- one call more keeps what a book keeps
-pub IsKept-push : (frames room : ℕ) (a : Book) (e : Event) (t : State) (now : List Event) → now ≡ a.history ++ e ∷ [] → IsKept frames room a → length a.history < room → Does a.state e.call e.reply t → IsWhole t.pool.frames t
+pub IsKept-push : (frames room : ℕ) (a : Book) (e : Event) (t : State) (now : List Event) → now ≡ a.history ++ e ∷ [] → IsKept frames room a
+    → length a.history < room → Does a.state e.call e.reply t → IsWhole t.pool.frames t
     → IsKept frames room (record { history = now; state = t })
 IsKept-push frames room a e t now is kept less does whole =
     let both = does.steps (after frames a.history) kept.quarantine in

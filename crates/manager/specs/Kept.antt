@@ -7,6 +7,7 @@ use Rattle.dmatypes.specs.History.{after, event, IsLegal}
 use Rattle.engine.specs.State.{State}
 use Rattle.engine.specs.Quarantine.{Quarantine}
 use Rattle.engine.specs.Steps.{GoesTo}
+use Rattle.dmatypes.specs.declared.limits.TheConstants.{LEAST_TABLE_FRAMES, MOST_CALLS, MOST_SHARES, MOST_TABLE_FRAMES}
 use Rattle.engine.specs.Whole.{IsWhole}
 
 -- what contracts see of a book: its history, and its state
@@ -25,12 +26,12 @@ pub record Config : Type 0 where
   pub shares : ℕ
 
 pub record IsWithinLimits (c : Config) : Type 0 where
-  pub least_frames : 16 ≤ c.frames
-  pub most_frames : c.frames ≤ 4096
+  pub least_frames : LEAST_TABLE_FRAMES ≤ c.frames
+  pub most_frames : c.frames ≤ MOST_TABLE_FRAMES
   pub least_calls : 1 ≤ c.calls
-  pub most_calls : c.calls ≤ 1048576
+  pub most_calls : c.calls ≤ MOST_CALLS
   pub least_shares : 1 ≤ c.shares
-  pub most_shares : c.shares ≤ 64
+  pub most_shares : c.shares ≤ MOST_SHARES
 
 -- one manager's numbers, and the name of its ledger
 pub record Seed : Type 0 where
@@ -39,7 +40,15 @@ pub record Seed : Type 0 where
   pub room : ℕ
   pub frames : ℕ
 
--- the history is legal, the state is one of the world after it, with 15 places for domains, 16 for devices and nothing
+-- an owner with this ledger and these numbers names the manager that the seed becomes: one part of the ledger for each share
+pub record IsNamedBy (seed : Seed) (name parts shares room frames : ℕ) : Type 0 where
+  pub name_is : seed.name ≡ name
+  pub parts_are : seed.shares ≡ parts
+  pub shares_are : seed.shares ≡ shares
+  pub room_is : seed.room ≡ room
+  pub frames_are : seed.frames ≡ frames
+
+-- the history is legal, the state is one of the world after it, with all places for domains and devices and nothing
 -- that waits in the ring, the history goes along states from a new one to this one, it is no longer than the room, and
 -- the state has counted its calls
 pub record IsKept (frames room : ℕ) (a : Book) : Type 0 where
@@ -52,9 +61,9 @@ pub record IsKept (frames room : ℕ) (a : Book) : Type 0 where
 
 -- a book of these numbers keeps all that a book keeps, and its history has no room left
 pub record IsFull (frames room : ℕ) : Type 0 where
-  pub account : Book
-  pub kept : IsKept frames room account
-  pub full : length account.history ≡ room
+  pub book : Book
+  pub kept : IsKept frames room book
+  pub full : length book.history ≡ room
 
 -- a legal history of so many events ends with this call and its reply
 pub record EndsLegally (frames : ℕ) (call : Call) (reply : Reply) (number : ℕ) : Type 0 where

@@ -3,7 +3,7 @@
 ghost use Rattle.std.specs.Prelude.{◌≡◌, ◌+◌, ◌<◌, ◌≤◌, ◌↔◌, ◌++◌, ◌∷◌, [], length, IsErr, IfOk, OnOk, OnErr, All, sum_by, vec_len};
 ghost use Rattle.dmatypes.specs.History.{event};
 ghost use Rattle.engine.specs.Steps.{Does};
-ghost use Rattle.manager.specs.Kept.{Book, Share, IsKept};
+ghost use Rattle.manager.specs.Kept.{Book, IsKept, IsNamedBy, Share};
 ghost use Rattle.manager.specs.Report.{report_text};
 
 use crate::config::Seed;
@@ -33,23 +33,23 @@ pub struct Book<B: Owner> {
 
 impl<B: Owner> Model for Book<B> {
     ghost use Rattle.std.specs.Prelude.{◌≡◌, ◌≤◌, vec_capacity, vec_len};
+    ghost use Rattle.dmatypes.specs.declared.limits.TheConstants.{MOST_CALLS};
     ghost use Rattle.manager.specs.Kept.{Book, IsKept};
 
     ghost Value = { Book };
 
     ghost view = { λ b. record { history = b.history.items; state = b.state } };
 
-    ghost invariant = { λ b. IsKept B.frames B.room (record { history = b.history.items; state = b.state }) × (b.room ≡ B.room) × (B.room ≤ vec_capacity b.history) × (B.room ≤ 1048576) × (b.counted.total ≡ vec_len b.history) × (1 ≤ B.shares) × (B.shares ≡ B.parts) };
+    ghost invariant =
+        { λ b. IsKept B.frames B.room (record { history = b.history.items; state = b.state }) × (b.room ≡ B.room)
+            × (B.room ≤ vec_capacity b.history) × (B.room ≤ MOST_CALLS) × (b.counted.total ≡ vec_len b.history) × (1 ≤ B.shares)
+            × (B.shares ≡ B.parts) };
 }
 
 impl<B: Owner> Book<B> {
     /// An empty book, with its shares.
     pub(crate) fn new(alloc: Global, seed: Seed) -> Result<(Book<B>, Vec<Share<B>>), AllocError>
-        requires name { seed.name ≡ B.name }
-        requires parts { seed.shares ≡ B.parts }
-        requires shares { seed.shares ≡ B.shares }
-        requires room { seed.room ≡ B.room }
-        requires frames { seed.frames ≡ B.frames }
+        requires { IsNamedBy seed B.name B.parts B.shares B.room B.frames }
         ensures book { IfOk result (λ r. r.0.history ≡ []) }
         ensures shares { IfOk result (λ r. vec_len r.1 ≡ B.shares) }
         ensures none { IfOk result (λ r. All (λ s. s.calls ≡ 0) r.1.items) }

@@ -2,7 +2,7 @@
 
 ghost use Rattle.std.specs.Prelude.{◌≡◌, ◌+◌, ◌<◌, ◌≤◌, ◌↔◌, length, IsErr, IfOk, IfErr, MatchResult, OnOk, OnErr, All, sum_by, vec_len};
 ghost use Rattle.std.specs.Sync.Mutex.{mutex_guard_value};
-ghost use Rattle.manager.specs.Kept.{Book, EndsLegally, Share, IsFull, IsKept};
+ghost use Rattle.manager.specs.Kept.{Book, EndsLegally, IsFull, IsKept, IsNamedBy, Share};
 
 use crate::book::{Book, HistoryFull};
 use crate::config::Seed;
@@ -63,11 +63,7 @@ impl<B: Owner> History<B> {
 impl<B: Owner> Manager<B> {
     /// Makes a manager with an empty history, and its shares.
     pub fn new(alloc: Global, seed: Seed) -> Result<Made<B>, AllocError>
-        requires name { seed.name ≡ B.name }
-        requires parts { seed.shares ≡ B.parts }
-        requires shares { seed.shares ≡ B.shares }
-        requires room { seed.room ≡ B.room }
-        requires frames { seed.frames ≡ B.frames }
+        requires { IsNamedBy seed B.name B.parts B.shares B.room B.frames }
         ensures shares { IfOk result (λ m. vec_len m.shares ≡ B.shares) }
         ensures none { IfOk result (λ m. All (λ s. s.calls ≡ 0) m.shares.items) }
     {

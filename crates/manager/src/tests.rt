@@ -1,7 +1,7 @@
 //! Managers that threads share.
 
 ghost use Rattle.std.specs.Prelude.{◌≡◌};
-ghost use Rattle.manager.specs.Kept.{Seed};
+ghost use Rattle.manager.specs.Kept.{IsNamedBy};
 
 use super::*;
 use dmatypes::{Access, Call, Fault, Mode, Refusal, Reply, Whim};
@@ -86,11 +86,7 @@ fn shared_by_two<B: Owner + Send + Sync, R: Threads + Wait + Abort + Sync>(
     alloc: Global,
     seed: Seed,
 ) -> Result<(), Fail>
-    requires name { seed.name ≡ B.name }
-    requires parts { seed.shares ≡ B.parts }
-    requires shares { seed.shares ≡ B.shares }
-    requires room { seed.room ≡ B.room }
-    requires frames { seed.frames ≡ B.frames }
+    requires { IsNamedBy seed B.name B.parts B.shares B.room B.frames }
 {
     let Made {
         manager,
@@ -126,11 +122,7 @@ fn two_shares_fill_the_history(rt: HostRuntime) -> Result<(), Fail> {
 
 // More than a thousand calls by each of two shares, in turn: the last of them finds no room, and not one before.
 fn filled_by_two<B: Owner, R: Wait + Abort>(rt: &R, alloc: Global, seed: Seed) -> Result<(), Fail>
-    requires name { seed.name ≡ B.name }
-    requires parts { seed.shares ≡ B.parts }
-    requires shares { seed.shares ≡ B.shares }
-    requires room { seed.room ≡ B.room }
-    requires frames { seed.frames ≡ B.frames }
+    requires { IsNamedBy seed B.name B.parts B.shares B.room B.frames }
 {
     let Made {
         manager,
@@ -179,11 +171,7 @@ fn calls_of_one_share(rt: HostRuntime) -> Result<(), Fail> {
 // Each call through the book that the lock guards, a domain with as many pieces as it can have, and a
 // full history.
 fn called_by_one<B: Owner, R: Wait + Abort>(rt: &R, alloc: Global, seed: Seed) -> Result<(), Fail>
-    requires name { seed.name ≡ B.name }
-    requires parts { seed.shares ≡ B.parts }
-    requires shares { seed.shares ≡ B.shares }
-    requires room { seed.room ≡ B.room }
-    requires frames { seed.frames ≡ B.frames }
+    requires { IsNamedBy seed B.name B.parts B.shares B.room B.frames }
 {
     let Made {
         manager,
@@ -231,11 +219,7 @@ fn write_at(address: u64, cached: bool) -> Call {
 }
 
 fn crowded<B: Owner, R: Wait + Abort>(rt: &R, alloc: Global, seed: Seed) -> Result<(), Fail>
-    requires name { seed.name ≡ B.name }
-    requires parts { seed.shares ≡ B.parts }
-    requires shares { seed.shares ≡ B.shares }
-    requires room { seed.room ≡ B.room }
-    requires frames { seed.frames ≡ B.frames }
+    requires { IsNamedBy seed B.name B.parts B.shares B.room B.frames }
 {
     let Made {
         manager,
@@ -276,11 +260,7 @@ fn snapshots(rt: HostRuntime) -> Result<(), Fail> {
 
 // A new manager, and one with as many domains and devices as there can be.
 fn told_at_moments<B: Owner, R: Wait + Abort>(rt: &R, alloc: Global, seed: Seed) -> Result<(), Fail>
-    requires name { seed.name ≡ B.name }
-    requires parts { seed.shares ≡ B.parts }
-    requires shares { seed.shares ≡ B.shares }
-    requires room { seed.room ≡ B.room }
-    requires frames { seed.frames ≡ B.frames }
+    requires { IsNamedBy seed B.name B.parts B.shares B.room B.frames }
 {
     let Made {
         manager,
