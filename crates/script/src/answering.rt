@@ -37,7 +37,7 @@ pub(crate) fn answer_lines<B: Owner, T: Wait, R: Read, W: Write>(
     requires none { book.old.history ≡ [] }
     requires reader { reader.old.wrapped.failed ≡ false }
     requires writer { writer.old.wrapped.failed ≡ false }
-    ensures told { GoneThroughKnown replies (record { frames = B.frames; room = B.room })
+    ensures written { GoneThroughKnown replies (record { frames = B.frames; room = B.room })
         (prepend_known reader.old.block (R.remaining reader.old.wrapped.inner))
         (prepend_known reader.new.block (R.remaining reader.new.wrapped.inner))
         (W.contents writer.old.wrapped.inner) writer.old.block (W.contents writer.new.wrapped.inner) book.new result }
