@@ -18,8 +18,10 @@ pub const MOST_RECORDS: u64 = 256;
 /// The most bytes of a script's line, its newline left out.
 pub const LONGEST_LINE: usize = 512;
 
-/// The fewest and the most table frames of a manager.
+/// The fewest table frames of a manager.
 pub const LEAST_TABLE_FRAMES: u64 = 16;
+
+/// The most table frames of a manager.
 pub const MOST_TABLE_FRAMES: u64 = 4096;
 
 /// The most calls in a history.
@@ -28,7 +30,11 @@ pub const MOST_CALLS: u64 = 1 << 20;
 /// The most shares by which a manager is called.
 pub const MOST_SHARES: u64 = 64;
 
-/// The most leaves, tables and contexts that a unit remembers.
+/// The most leaves that a unit remembers.
 pub const MOST_CACHED_LEAVES: usize = 64;
+
+/// The most tables that a unit remembers.
 pub const MOST_CACHED_NON_LEAVES: usize = 32;
+
+/// The most contexts that a unit remembers.
 pub const MOST_CACHED_CONTEXTS: usize = 16;

@@ -37,7 +37,7 @@ taken-none page d all none =
     let many = length-window PAIRS 0 PAIRS page (omega arith) (omega arith) all in
     let last : get_or (free_pairs 0 0 page) 0 d ≡ get_or page (PAIRS - 1) d =
     get_or-reverse (window 0 PAIRS page) 0 d (omega (arith, many)) ∙ ap (λ k. get_or (window 0 PAIRS page) (k - 1 - 0) d) many
-        ∙ get_or-window PAIRS 0 PAIRS page (omega arith) (omega arith) all (PAIRS - 1) d (omega arith) in
+    ∙ get_or-window PAIRS 0 PAIRS page (omega arith) (omega arith) all (PAIRS - 1) d (omega arith) in
     spelled-nothing (free_pairs 0 0 page) d (ap descriptor_of last ∙ none)
 
 -- ---- one pair more, and one less
@@ -59,7 +59,7 @@ module _ {A : Type 0} (N k n : ℕ) (xs : List A) (inside : k < N) (fits : n < N
       same_lists _ _ (length_new ∙ sym length_old) (λ i d within.
       let below : i < n = omega (arith, within, length_new) in
       let elsewhere : ((k + 1) % N + i) % N ≢ k =
-          λ same. absurd (omega (arith, same, around_once N (k + 1) (omega arith), around_once N ((k + 1) % N + i) (omega arith))) in
+      λ same. absurd (omega (arith, same, around_once N (k + 1) (omega arith), around_once N ((k + 1) % N + i) (omega arith))) in
       get_or-window N ((k + 1) % N) n (set xs k x) next_inside (omega arith) all_written i d below
       ∙ get_or-set_other xs k (((k + 1) % N + i) % N) x d elsewhere
       ∙ sym (get_or-window N ((k + 1) % N) n xs next_inside (omega arith) all i d below))
@@ -95,8 +95,8 @@ module _ (head tail : ℕ) (page : List Words) (ring : IsRing head tail page) wh
       let fewer : PAIRS - (next + PAIRS - head) % PAIRS ≡ less = omega arith in
       let next_inside : (tail + 1) % PAIRS < PAIRS = omega arith in
       let length_less =
-          length-reverse (window ((tail + 1) % PAIRS) less page)
-          ∙ length-window PAIRS ((tail + 1) % PAIRS) less page next_inside (omega arith) ring.pairs in
+      length-reverse (window ((tail + 1) % PAIRS) less page)
+      ∙ length-window PAIRS ((tail + 1) % PAIRS) less page next_inside (omega arith) ring.pairs in
       let now : free_pairs head next (set page tail w) ≡ reverse (window ((tail + 1) % PAIRS) less page) =
       ap (λ (n : ℕ). reverse (window next n (set page tail w))) fewer
       ∙ ap (λ (k : ℕ). reverse (window k less (set page tail w))) follows
@@ -106,6 +106,6 @@ module _ (head tail : ℕ) (page : List Words) (ring : IsRing head tail page) wh
       ∙ reverse-append (get_or page tail w ∷ []) (window ((tail + 1) % PAIRS) (free - 1) page)
       ∙ ap (λ (n : ℕ). reverse (window ((tail + 1) % PAIRS) n page) ++ get_or page tail w ∷ []) one in
       ap spelled_first
-          (now ∙ sym
-              (ap (take less) then ∙ take_at (reverse (window ((tail + 1) % PAIRS) less page)) (get_or page tail w ∷ []) less length_less))
+      (now ∙ sym
+      (ap (take less) then ∙ take_at (reverse (window ((tail + 1) % PAIRS) less page)) (get_or page tail w ∷ []) less length_less))
       ∙ spelled-take less (free_pairs head tail page)

@@ -60,7 +60,7 @@ module _ {A : Type 0} (N k n : ℕ) (xs : List A) (inside : k < N) (fits : n ≤
       let length_new = length-window N ((k + 1) % N) (n - 1) xs next_inside (omega arith) all in
       let old_at = get_or-window N k n xs inside fits all in
       drop_more _ 0 d (omega arith)
-          ∙ ap₂ ◌∷◌ (grind (arith, old_at 0 d, around_once N k)) (same_lists _ _ (simp length-drop (omega arith)) (λ i e within. grind (
+      ∙ ap₂ ◌∷◌ (grind (arith, old_at 0 d, around_once N k)) (same_lists _ _ (simp length-drop (omega arith)) (λ i e within. grind (
         arith,
         length-drop 1 (window k n xs),
         get_or-drop 1 (window k n xs) i e,

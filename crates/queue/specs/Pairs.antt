@@ -1,4 +1,4 @@
--- A queue of descriptors in the pairs of words of one page.
+-- A ring of descriptors in the pairs of words of one page.
 use Rattle.std.specs.Prelude.{◌≡◌, ℕ, ◌+◌, ◌-◌, ◌%◌, ◌<◌, List, [], ◌∷◌, ◌++◌, length, take, drop, reverse, All, Option, None, Some, IsSome}
 use Rattle.std.specs.List.{filter_map}
 use Rattle.vtdbits.specs.declared.descriptor.Descriptor.{Descriptor}

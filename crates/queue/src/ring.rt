@@ -10,7 +10,7 @@ use vtdbits::{Descriptor, Words};
 // How many pairs of words one page of the ring holds (own).
 const PAIRS: usize = 256;
 
-/// A queue of descriptors, as the pairs of words of one page, and the status that the last wait left.
+/// A ring of descriptors, as the pairs of words of one page, and the status that the last wait left.
 /// The pairs from the head up to the tail wait, around the page's end; one pair stays free, so that a full
 /// ring can be told from an empty one. The free pairs behind the head still hold what was taken last.
 #[derive(Debug, Drop)]

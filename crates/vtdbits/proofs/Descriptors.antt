@@ -1,4 +1,4 @@
--- What words of the queue spell.
+-- What the words of descriptors spell.
 use Rattle.std.proofs.Common.{◌≡◌, Some, None, sym, ◌∙◌, subst, inl, inr, ◌/◌, ◌%◌, ◌^◌, ◌==◌, true, arith}
 use Rattle.std.proofs.lemmas.Bool.Decides.{nat_tests}
 use Rattle.vtdbits.proofs.Cascades.{if_some, same_some, not_some, none_read}
@@ -66,10 +66,10 @@ spelled_of-descriptor words d h =
                               | inl (t, e) ↦ subst P (same_some (IotlbDomain (words.low / 2 ^ 16)) d e) (iotlb_domain_spelled words t)
                               | inr h ↦
                                   elim (if_some (is_of_pages 0xf2 words)
-                                      (Some (IotlbPages (words.low / 2 ^ 16) (block_in words) (words.high / 2 ^ 6 % 2 == 1))) _ d h) [
+                                  (Some (IotlbPages (words.low / 2 ^ 16) (block_in words) (words.high / 2 ^ 6 % 2 == 1))) _ d h) [
                                     | inl (t, e) ↦
                                         subst P (same_some
-                                            (IotlbPages (words.low / 2 ^ 16) (block_in words) (words.high / 2 ^ 6 % 2 == 1)) d e)
+                                        (IotlbPages (words.low / 2 ^ 16) (block_in words) (words.high / 2 ^ 6 % 2 == 1)) d e)
                                         (iotlb_pages_spelled words t)
                                     | inr h ↦
                                         elim (if_some (is_wait 0x25 words) (Some (Wait (words.low / 2 ^ 32))) _ d h) [

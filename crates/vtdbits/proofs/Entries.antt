@@ -49,9 +49,9 @@ spelled_at level word e fits h =
         | inl (t, s) ↦ subst P (same_some (Table frame) e s) (table_tested level word fits t)
         | inr h ↦ elim (if_some ((level == 2) && nat_le 0x81 low && nat_le low 0x83 && (frame % SPAN_PAGES == 0))
             (Some (LargeLeaf (target frame (low - 2 ^ 7)))) _ e h) [
-          | inl (t, s) ↦ subst P (same_some (LargeLeaf (target frame (low - 2 ^ 7))) e s) (large_tested level word fits t)
-          | inr h ↦ absurd (not_some e h)
-        ]
+              | inl (t, s) ↦ subst P (same_some (LargeLeaf (target frame (low - 2 ^ 7))) e s) (large_tested level word fits t)
+              | inr h ↦ absurd (not_some e h)
+            ]
       ]
     ]
 

@@ -1,5 +1,6 @@
 -- Spellings of descriptors.
-use Rattle.std.specs.Prelude.{◌≡◌, ℕ, ◌+◌, ◌-◌, ◌*◌, ◌/◌, ◌%◌, ◌^◌, ◌<◌, ◌==◌, ◌&&◌, nat_le, nat_lt, Bool, if◌then◌else◌, Option, Some, None}
+use Rattle.std.specs.Prelude.{◌≡◌, ℕ, ◌+◌, ◌-◌, ◌*◌, ◌/◌, ◌%◌, ◌^◌, ◌<◌, ◌==◌, ◌&&◌, nat_le, nat_lt, Bool, if◌then◌else◌, Option, Some}
+use Rattle.std.specs.Prelude.{None}
 use Rattle.dmatypes.specs.Block.{Block, block}
 use Rattle.vtdbits.specs.Numbers.{IsDomainId, IsDevice, IsPageBlock, bit_of_flag, is_domain_id, is_page_block}
 use Rattle.vtdbits.specs.declared.words.Words.{Words}

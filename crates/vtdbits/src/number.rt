@@ -123,7 +123,10 @@ impl PageBlock {
         ensures some { IsSome result ↔ IsPageBlock (block first order) }
         ensures value { IfSome result (λ b. b ≡ block first order) }
     {
-        if order <= MOST_BLOCK_ORDER && first < WIDE_PAGES_END && field(first, 0, u32::from(order)) == 0 {
+        if order <= MOST_BLOCK_ORDER
+            && first < WIDE_PAGES_END
+            && field(first, 0, u32::from(order)) == 0
+        {
             Some(PageBlock { first, order })
         } else {
             None

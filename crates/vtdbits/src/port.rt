@@ -36,7 +36,10 @@ impl WidePage {
         ensures some { IsSome result ↔ IsWidePage number }
         ensures value { IfSome result (λ p. p ≡ number) }
     {
-        if 1 <= number && number < WIDE_PAGES_END && (number < WINDOW_FIRST || number > WINDOW_LAST) {
+        if 1 <= number
+            && number < WIDE_PAGES_END
+            && (number < WINDOW_FIRST || number > WINDOW_LAST)
+        {
             Some(WidePage { number })
         } else {
             None

@@ -36,4 +36,4 @@ returns-clause-ok c =
     (taken_submitted _ _ _ c.self.invariant _ c.encode.result c.following-next.ensures c.if-next-self.false
     ∙ ap (λ (n : ℕ). take (CAPACITY - n) (taken_in c.self.inside.head c.self.inside.tail c.self.inside.page)) count)
     ∙ ap (λ (q : Ring). ring_of (q.waiting ++ c.args.descriptor ∷ []) q.status (take (CAPACITY - length c.args.self.now.waiting) q.taken))
-        c.self.view_is
+    c.self.view_is
