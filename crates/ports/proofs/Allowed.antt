@@ -33,7 +33,7 @@ in_domain v p address access s backs page permits =
     let t : Target = backs.0 in
     let may : Permits t.rights access = backs.3 access permits in
     let host : Host (host_of p.translation address) ≡ Host (host_of t address) =
-        ap (λ (f : ℕ). Host (byte_address f (offset_of address))) (sym backs.2) in
+    ap (λ (f : ℕ). Host (byte_address f (offset_of address))) (sym backs.2) in
     elim backs.1 [
       | inl live ↦
           let here : IsLive v (page_of address) t = ap v.live (sym page) ∙ live in
@@ -42,8 +42,10 @@ in_domain v p address access s backs page permits =
           let here : IsRetired v (page_of address) t = subst (λ (q : ℕ). IsRetired v q t) page retired in
           inr (
             not_beyond address (s.retired here.0 (page_of address) t here.1 here.3),
-            inr (λ u live. none_is_no (v.live (page_of address)) u (s.apart here.0 (page_of address) here.1 here.2) live.0,
-                inl (t, (here, may), host)),
+            inr (
+              λ u live. none_is_no (v.live (page_of address)) u (s.apart here.0 (page_of address) here.1 here.2) live.0,
+              inl (t, (here, may), host),
+            ),
           )
     ]
 
@@ -59,7 +61,7 @@ allowed_backed : (w : World) (device : ℕ) (p : PortWord) (address : ℕ) (acce
 unfolding Allows
 allowed_backed w device p address access s backed page permits =
     to_device (domain_of_device w device) p address access
-        (λ v at. let x = followed w.domains (w.devices device) v at in s x.0 v x.2) backed page permits
+    (λ v at. let x = followed w.domains (w.devices device) v at in s x.0 v x.2) backed page permits
 
 -- what a lawful word states is allowed after the history
 pub allowed_word : (frames : ℕ) (history : List Event) (device word address : ℕ) (access : Access) (host : ℕ) → IsLegal frames history
@@ -72,4 +74,4 @@ allowed_word frames history device word address access host legal (inr x) states
     let same : x.0 ≡ states.0 = one_value word x.0 states.0 x.1 states.1 in
     subst (λ (h : ℕ). Allows (after frames history) device address access (Host h)) (sym states.4)
     (allowed_backed (after frames history) device states.0 address access (sound_after frames history legal)
-        (subst (λ (q : PortWord). IsBacked (after frames history) device q) same x.2) states.2 states.3)
+    (subst (λ (q : PortWord). IsBacked (after frames history) device q) same x.2) states.2 states.3)

@@ -41,9 +41,10 @@ unfolding made IsStep Stands Answers next
 attach_step = ((λ big. omega (arith, big), (λ none. absurd cc, (λ some. absurd cc, tt))), refl)
 
 free_pages : AreFreePages (empty_domain Strict) (record { first = 1; pages = 17 })
-free_pages p inside =
-    ((omega (arith, inside.0), omega (arith, inside.1), inl (omega (arith, inside.1))),
-        record { not_live = refl; not_retired = λ r i. absurd i })
+free_pages p inside = (
+  (omega (arith, inside.0), omega (arith, inside.1), inl (omega (arith, inside.1))),
+  record { not_live = refl; not_retired = λ r i. absurd i },
+)
 
 good_map : IsBadMap (record { frame = 0x100; pages = 17 } ∷ []) 0 1 → ⊥
 good_map (inl none) = absurd cc
@@ -67,15 +68,17 @@ map_step = ((λ none. absurd cc, (good_map, (not_owned, (λ no_range. no_range 1
 
 first_step : IsStep filled (request 0x1000 0x100000).call (request 0x1000 0x100000).reply
 unfolding made attached filled IsStep Stands Answers Allows next
-first_step =
-    ((λ big. omega (arith, big), (λ window. omega (arith, window.0), tt)),
-        inr (λ beyond. omega (arith, beyond), inl (target 0x100 1, (refl, refl), refl)))
+first_step = (
+  (λ big. omega (arith, big), (λ window. omega (arith, window.0), tt)),
+  inr (λ beyond. omega (arith, beyond), inl (target 0x100 1, (refl, refl), refl)),
+)
 
 second_step : IsStep filled (request 0x11000 0x110000).call (request 0x11000 0x110000).reply
 unfolding made attached filled IsStep Stands Answers Allows next
-second_step =
-    ((λ big. omega (arith, big), (λ window. omega (arith, window.0), tt)),
-        inr (λ beyond. omega (arith, beyond), inl (target 0x110 1, (refl, refl), refl)))
+second_step = (
+  (λ big. omega (arith, big), (λ window. omega (arith, window.0), tt)),
+  inr (λ beyond. omega (arith, beyond), inl (target 0x110 1, (refl, refl), refl)),
+)
 
 -- ---- each front of the history is legal
 
@@ -133,6 +136,6 @@ pub backed_page : (place : ℕ) → place < 17 → IsBacked (after 64 whole_hist
 unfolding whole_history mapped_history next
 backed_page place less =
     let within : is_within (record { first = 1; pages = 17 }) (1 + place) ≡ true =
-        within_is (record { first = 1; pages = 17 }) (1 + place) (omega arith, omega (arith, less)) in
+    within_is (record { first = 1; pages = 17 }) (1 + place) (omega arith, omega (arith, less)) in
     let frame : 0x100 + (1 + place - 1) ≡ 0x100 + place = omega arith in
     (target (0x100 + place) 1, inl (rw within (ap (λ (f : ℕ). Some (target f 1)) frame)), refl, λ access permits. permits)

@@ -58,11 +58,11 @@ module _ (legal : List Event → Type 0) (lawful : List Event → ℕ → ℕ �
       let is = (r.each_seat id v at).mine_named.is p who in
       let lt : p < length r.truth.core.seen = omega (arith, r.callers, r.made, is.0) in
       others (seeing r.truth p) id s.views (caller_view frames known)
-          (λ j u ne e. seeing_else r.truth p id false is.1 j u ne (r.each_seat j u e))
+      (λ j u ne e. seeing_else r.truth p id false is.1 j u ne (r.each_seat j u e))
       (caller_fits (seeing r.truth p) id frames known
-          (subst (λ (l : List Event). IsPrefix l r.truth.core.history) (sym seen) (prefix_self r.truth.core.history))
+      (subst (λ (l : List Event). IsPrefix l r.truth.core.history) (sym seen) (prefix_self r.truth.core.history))
       (named_as (seeing r.truth p) id false known p who' is.0 is.1
-          (get_or-set_same r.truth.core.seen p r.truth.core.history [] lt ∙ sym seen)))
+      (get_or-set_same r.truth.core.seen p r.truth.core.history [] lt ∙ sym seen)))
 
   -- a run leads to where the caller has seen the history
   in_run : (s : Table) (r : K s) (p q : ℕ) (known : Known) (words : List ℕ → Type 0) → p < r.truth.made → known.who ≡ suc p
@@ -126,8 +126,8 @@ module _ (legal : List Event → Type 0) (lawful : List Event → ℕ → ℕ �
           λ device slot' d k same. ⊎_elim
               (λ (e : n ≡ 0). subst (lawful r.truth.core.history device) (sym e) (zeros r.truth.core.history device))
               (λ (e : n ≡ slice_index r.truth.last i).
-                  subst (lawful r.truth.core.history device) (sym (e ∙ ap (slice_index r.truth.last) same))
-                  (r.each_lawful device slot' d k))
+              subst (lawful r.truth.core.history device) (sym (e ∙ ap (slice_index r.truth.last) same))
+              (r.each_lawful device slot' d k))
               (r.rows i lt),
           λ q who'. in_run s r port q now (λ words. slice_index words i ≡ n) is.0 who who' reached (r.words i lt),
           refl,
@@ -155,6 +155,6 @@ module _ (legal : List Event → Type 0) (lawful : List Event → ℕ → ℕ �
             (desk_fits_as (seeing r.truth p) id me.0.frames me.0.mine.seen me.0.last me.0.made guest whole.1 whole.2 whole.3 whole.0
             (subst (λ (l : List Event). IsPrefix l r.truth.core.history) (sym whole.1) (prefix_self r.truth.core.history))
             (named_as (seeing r.truth p) id true guest p who is.0 is.1
-                (get_or-set_same r.truth.core.seen p r.truth.core.history [] lt ∙ sym whole.1)))),
+            (get_or-set_same r.truth.core.seen p r.truth.core.history [] lt ∙ sym whole.1)))),
         (refl, subst (IsPrefix me.0.guest.seen) (sym whole.1) fits.guest, r.count ∙ ap length (sym whole.1)),
       )

@@ -63,7 +63,7 @@ module _ (legal : List Event → Type 0) (lawful : List Event → ℕ → ℕ �
   seen_now c s caller p =
       dite (ℕ_discrete p caller)
       (λ e. subst (λ (q : ℕ). IsPrefix (slice_index_or (slice_set c.seen caller c.history) q []) c.history) (sym e)
-          (set_front c.seen caller c.history))
+      (set_front c.seen caller c.history))
       (λ ne. subst (λ (l : List Event). IsPrefix l c.history) (sym (get_or-set_other c.seen caller p c.history [] ne)) (s.fronts p))
 
   sound_shown : (c : Core) (caller : ℕ) → IsSoundCore c → IsSoundCore (shown_to caller c)
@@ -82,10 +82,10 @@ module _ (legal : List Event → Type 0) (lawful : List Event → ℕ → ℕ �
       dite (ℕ_discrete (place_of d' i') (place_of d i))
       (λ e. let same : d ≡ d' = omega arith in
       subst (λ (x : ℕ × ℕ). lawful c.history x.0 x.1)
-          (λ j. (same j, sym (ap (slice_index (slice_set c.words (place_of d i) n)) e ∙ get_or-set_same c.words (place_of d i) n 0 lt) j))
-          may)
+      (λ j. (same j, sym (ap (slice_index (slice_set c.words (place_of d i) n)) e ∙ get_or-set_same c.words (place_of d i) n 0 lt) j))
+      may)
       (λ ne. subst (lawful c.history d') (sym (get_or-set_other c.words (place_of d i) (place_of d' i') n 0 ne))
-          (s.each_lawful d' i' hd' hi'))
+      (s.each_lawful d' i' hd' hi'))
 
   sound_one : (c : Core) (step : PortStep) → IsSoundCore c → IsPortStep legal lawful c step → IsSoundCore (stepped c step)
   sound_one c (loads_word p i n) s may = sound_shown c p s
@@ -139,14 +139,14 @@ grown : (passes : ℕ) (steps front rest : List PortStep) → steps ≡ front ++
     → IsPrefix (led_to passes front).history (led_to passes steps).history
 grown passes steps front rest is =
     subst (λ (c : Core). IsPrefix (led_to passes front).history c.history)
-        (sym (ap (stepped_by (empty passes)) is ∙ stepped_by-append (empty passes) front rest)) (grows (led_to passes front) rest)
+    (sym (ap (stepped_by (empty passes)) is ∙ stepped_by-append (empty passes) front rest)) (grows (led_to passes front) rest)
 
 pub whole_run : WholeRun
 whole_run frames passes steps r =
     let legal = IsLegal frames in
     let lawful = IsLawfulAfter frames in
     let at = λ (front rest : List PortStep) (is : steps ≡ front ++ rest).
-        front_of legal lawful (legal_empty frames) (lawful_zero frames) passes steps front rest r is in
+    front_of legal lawful (legal_empty frames) (lawful_zero frames) passes steps front rest r is in
     record {
       legal = (sound legal lawful (legal_empty frames) (lawful_zero frames) (empty passes) steps
           (sound_empty legal lawful (legal_empty frames) (lawful_zero frames) passes) r).is_legal;
@@ -156,7 +156,7 @@ whole_run frames passes steps r =
       lawful = λ front rest port slot word is.
           let s = at front (loads_word port slot word ∷ rest) is in
           let may : (port < DEVICES) × (slot < SLOTS) × (word ≡ word_at (led_to passes front) port slot) =
-              step_of legal lawful (legal_empty frames) (lawful_zero frames) passes steps front rest (loads_word port slot word) r is in
+          step_of legal lawful (legal_empty frames) (lawful_zero frames) passes steps front rest (loads_word port slot word) r is in
           let c : Core = led_to passes front in
           let lt : port < length c.seen = omega (arith, s.ports, may.0) in (
             subst (lawful c.history port) (sym may.2) (s.each_lawful port slot may.0 may.1),
@@ -165,5 +165,5 @@ whole_run frames passes steps r =
           );
       ordered = λ front between rest one other caller _ _ is.
           subst (λ (c : Core). IsPrefix (led_to passes front).history c.history)
-              (sym (stepped_by-append (empty passes) front (one ∷ between))) (grows (led_to passes front) (one ∷ between));
+          (sym (stepped_by-append (empty passes) front (one ∷ between))) (grows (led_to passes front) (one ∷ between));
     }

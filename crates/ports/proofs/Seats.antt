@@ -61,9 +61,9 @@ module _ (legal : List Event → Type 0) (lawful : List Event → ℕ → ℕ �
       shown s r p x (left ++ caller_view v.frames v.mine ∷ [])
       (snoc_fits (placing r.truth p x) left (caller_view v.frames v.mine)
       (others (placing r.truth p x) id s.views left_seat (λ j u ne e. placing_else r.truth p id false x is.1 j u ne (r.each_seat j u e))
-          (left_seat_fits (placing r.truth p x) id))
+      (left_seat_fits (placing r.truth p x) id))
       (caller_fits (placing r.truth p x) (length left) v.frames v.mine fits.seen
-          (placed_as r.truth p (length left) false v.mine who is.0 is.2)))
+      (placed_as r.truth p (length left) false v.mine who is.0 is.2)))
 
   -- a caller comes to the desk as its guest
   pub visits : (id : ℕ) (v : View) (other : ℕ) (w : View) (p : ℕ) → v.is_desk ≡ true → w.mine.who ≡ suc p
@@ -71,22 +71,22 @@ module _ (legal : List Event → Type 0) (lawful : List Event → ℕ → ℕ �
   unfolding placing
   visits id v other w p is_desk who s r at apart there =
       let theirs : get_elem? s.views other ≡ some w =
-          ⊎_elim (λ (t : (other ≡ id) × (with_guest v w.mine ≡ w)). absurd (apart t.0))
-          (λ (t : (other ≢ id) × (get_elem? s.views other ≡ some w)). t.1) (at_set s.views id other (with_guest v w.mine) w there) in
+      ⊎_elim (λ (t : (other ≡ id) × (with_guest v w.mine ≡ w)). absurd (apart t.0))
+      (λ (t : (other ≢ id) × (get_elem? s.views other ≡ some w)). t.1) (at_set s.views id other (with_guest v w.mine) w there) in
       let fits = r.each_seat other w theirs in
       let whole = (r.each_seat id v at).whole is_desk in
       let is = fits.mine_named.is p who in
       let x : ℕ × Bool = (id, true) in
       let t = placing r.truth p x in
       let desk =
-          desk_fits_as t id v.frames v.mine.seen v.last v.made w.mine whole.1 whole.2 whole.3 whole.0 fits.seen
-          (placed_as r.truth p id true w.mine who is.0 is.2) in
+      desk_fits_as t id v.frames v.mine.seen v.last v.made w.mine whole.1 whole.2 whole.3 whole.0 fits.seen
+      (placed_as r.truth p id true w.mine who is.0 is.2) in
       shown s r p x (set (set s.views id (with_guest v w.mine)) other left_seat)
       (others t other (set s.views id (with_guest v w.mine)) left_seat
       (λ j u ne e. ⊎_elim
-          (λ (y : (j ≡ id) × (with_guest v w.mine ≡ u)). subst (λ (z : ℕ × View). Fits t z.0 z.1) (λ i. (sym y.0 i, y.1 i)) desk)
+      (λ (y : (j ≡ id) × (with_guest v w.mine ≡ u)). subst (λ (z : ℕ × View). Fits t z.0 z.1) (λ i. (sym y.0 i, y.1 i)) desk)
       (λ (y : (j ≢ id) × (get_elem? s.views j ≡ some u)). placing_else r.truth p other false x is.1 j u ne (r.each_seat j u y.1))
-          (at_set s.views id j (with_guest v w.mine) u e))
+      (at_set s.views id j (with_guest v w.mine) u e))
       (left_seat_fits t other))
 
   -- the guest goes to a seat
@@ -104,7 +104,7 @@ module _ (legal : List Event → Type 0) (lawful : List Event → ℕ → ℕ �
       (snoc_fits t left (caller_view v.frames v.guest)
       (others t id s.views (with_guest v nobody) (λ j u ne e. placing_else r.truth p id true x is.1 j u ne (r.each_seat j u e))
       (desk_fits_as t id v.frames v.mine.seen v.last v.made nobody whole.1 whole.2 whole.3 whole.0 (prefix_nil r.truth.core.history)
-          (nobody_named t id true)))
+      (nobody_named t id true)))
       (caller_fits t (length left) v.frames v.guest fits.guest (placed_as r.truth p (length left) false v.guest who is.0 is.2)))
 
   -- the desk makes a caller
@@ -118,8 +118,13 @@ module _ (legal : List Event → Type 0) (lawful : List Event → ℕ → ℕ �
       let x : ℕ × Bool = (length left, false) in
       let made = whole.3 in
       let t : Truth =
-          record { core = r.truth.core; last = r.truth.last; desk = r.truth.desk; made = suc r.truth.made;
-              place = put_at r.truth.place r.truth.made x } in
+      record {
+        core = r.truth.core;
+        last = r.truth.last;
+        desk = r.truth.desk;
+        made = suc r.truth.made;
+        place = put_at r.truth.place r.truth.made x;
+      } in
       record {
         truth = t;
         reached = r.reached;
@@ -136,14 +141,14 @@ module _ (legal : List Event → Type 0) (lawful : List Event → ℕ → ℕ �
         each_seat = snoc_fits t left (caller_view v.frames (newcomer v.made))
             (others t id s.views (one_more v)
             (λ j u ne e.
-                desk_else r.truth t id whole.0 (prefix_self r.truth.core.history) (omega arith) j
-                (λ q side lt y. (put_else r.truth.place r.truth.made x q (λ z. absurd (omega arith)), refl)) u ne (r.each_seat j u e))
+            desk_else r.truth t id whole.0 (prefix_self r.truth.core.history) (omega arith) j
+            (λ q side lt y. (put_else r.truth.place r.truth.made x q (λ z. absurd (omega arith)), refl)) u ne (r.each_seat j u e))
             (desk_fits_as t id v.frames v.mine.seen v.last (suc v.made) v.guest whole.1 whole.2 (ap suc whole.3) whole.0 fits.guest
             (named_stays r.truth t id true v.guest (omega arith)
-                (λ q side lt y. (put_else r.truth.place r.truth.made x q (λ z. absurd (omega arith)), refl)) fits.guest_named)))
+            (λ q side lt y. (put_else r.truth.place r.truth.made x q (λ z. absurd (omega arith)), refl)) fits.guest_named)))
             (caller_fits t (length left) v.frames (newcomer v.made) (prefix_nil r.truth.core.history)
             (named_as t (length left) false (newcomer v.made) r.truth.made (ap suc whole.3) (omega arith)
-                (put_here r.truth.place r.truth.made x) (r.fresh r.truth.made (omega arith))));
+            (put_here r.truth.place r.truth.made x) (r.fresh r.truth.made (omega arith))));
       }
 
   -- the table at the start

@@ -47,14 +47,14 @@ with_put : (w : World) (device : ℕ) (p : PortWord) (d : ℕ) (v : Domain) (e :
     → IsBacked (record w { domains = put e o w.domains }) device p
 with_put w device p d v e o b ne =
     backed_in (record w { domains = put e o w.domains }) device p d v
-        (record { attached = b.attached; there = put_other e o w.domains d ne ∙ b.there; backs = b.backs })
+    (record { attached = b.attached; there = put_other e o w.domains d ne ∙ b.there; backs = b.backs })
 
 -- another device is attached or detached
 with_device : (w : World) (device : ℕ) (p : PortWord) (d : ℕ) (v : Domain) (other : ℕ) (o : Option ℕ) → IsBackedBy w device p d v
     → device ≢ other → IsBacked (record w { devices = put other o w.devices }) device p
 with_device w device p d v other o b ne =
     backed_in (record w { devices = put other o w.devices }) device p d v
-        (record { attached = put_other other o w.devices device ne ∙ b.attached; there = b.there; backs = b.backs })
+    (record { attached = put_other other o w.devices device ne ∙ b.attached; there = b.there; backs = b.backs })
 
 -- a domain changes; where it is the device's, it still backs the word
 with_change : (w : World) (device : ℕ) (p : PortWord) (d : ℕ) (v : Domain) (e : ℕ) (change : Domain → Domain) → IsBackedBy w device p d v
@@ -83,9 +83,16 @@ backs_mapped v p ss first rights free b = (b.0, elim b.1 [ inl live ↦ inl (sta
         (λ t e. none_is_no (v.live p.page) b.0 (free p.page (placed_within ss first rights p.page t e)).1.not_live live) ∙ live
 
 backs_put_off : (v : Domain) (p : PortWord) (range : Range) → Backs v p → Backs (put_off range v) p
-backs_put_off v p range b =
-    (b.0, elim b.1 [ inl live ↦ moves live | inr retired ↦
-        inr (retired.0, in_left retired.0 v.retired (record_of range v ∷ []) retired.1, retired.2, retired.3) ], b.2, b.3)
+backs_put_off v p range b = (
+  b.0,
+  elim b.1 [
+    | inl live ↦ moves live
+    | inr retired ↦
+        inr (retired.0, in_left retired.0 v.retired (record_of range v ∷ []) retired.1, retired.2, retired.3)
+  ],
+  b.2,
+  b.3,
+)
   where
     moves : v.live p.page ≡ Some b.0 → IsLive (put_off range v) p.page b.0 ⊎ IsRetired (put_off range v) p.page b.0
     moves live = elim (within_or_not range p.page) [
@@ -125,12 +132,12 @@ unfolding next IsStep Answers IsCleared Stands id_in
 keeps_backed w (calls.Domain mode) (Made made) device p d v step keeps b =
     let is : made ≡ step.1.0 = ap id_in step.1.2 in
     with_put w device p d v made (Some (empty_domain mode)) b
-        (λ same. is_no_none (w.domains step.1.0) v step.1.1.2 (ap w.domains (sym (same ∙ is)) ∙ b.there))
+    (λ same. is_no_none (w.domains step.1.0) v step.1.1.2 (ap w.domains (sym (same ∙ is)) ∙ b.there))
 keeps_backed w (calls.Drop domain) Done device p d v step keeps b =
     with_put w device p d v domain None b (λ same. step.0.1.0 (device, b.attached ∙ ap Some same))
 keeps_backed w (calls.Attach other domain) Done device p d v step keeps b =
     with_device w device p d v other (Some domain) b
-        (λ same. step.0.1.1.0 (is_some (w.devices other) d (ap w.devices (sym same) ∙ b.attached)))
+    (λ same. step.0.1.1.0 (is_some (w.devices other) d (ap w.devices (sym same) ∙ b.attached)))
 keeps_backed w (calls.Detach other) Done device p d v step keeps b = with_device w device p d v other None b keeps
 keeps_backed w (calls.Map domain frame pages order rights) (Mapped address) device p d v step keeps b =
     keeps_map w domain (record { frame = frame; pages = pages } ∷ []) order rights address device p d v step.1 b
@@ -139,8 +146,8 @@ keeps_backed w (calls.MapList domain order rights segments) (Mapped address) dev
 keeps_backed w (calls.Unmap domain address pages) (Unmapped released) device p d v step keeps b =
     with_change w device p d v domain (λ u. unmapped_by u.mode (range_at address pages) u) b
     (λ attached there.
-        backs_unmapped v p (range_at address pages) v.mode released
-        (λ away. keeps (attached, of_is (w.domains domain) v (λ u. TakesAway u.mode released) there away))
+    backs_unmapped v p (range_at address pages) v.mode released
+    (λ away. keeps (attached, of_is (w.domains domain) v (λ u. TakesAway u.mode released) there away))
     (some_and (w.domains domain) v (λ u. IsUnmapAnswer u.mode u.retired (Unmapped released)) there step.1) b.backs)
 keeps_backed w (calls.Flush domain) (Flushed released) device p d v step keeps b =
     with_change w device p d v domain flushed b (λ attached there. absurd (keeps attached))

@@ -29,9 +29,18 @@ module _ (legal : List Event → Type 0) (lawful : List Event → ℕ → ℕ �
   -- the word at a place becomes n, which is 0 or the last word that the desk stored there
   stores : (s : Table) (r : K s) (device slot n id : ℕ) (c : List (ℕ × Unit {0})) (w : View) (last : List ℕ) (t : Truth) → device < DEVICES
       → slot < SLOTS
-      → t ≡ record { core =
-          record { history = r.truth.core.history; words = slice_set r.truth.core.words (place_of device slot) n;
-              seen = r.truth.core.seen }; last = last; desk = r.truth.desk; made = r.truth.made; place = r.truth.place }
+      → t ≡ record {
+        core =
+            record {
+              history = r.truth.core.history;
+              words = slice_set r.truth.core.words (place_of device slot) n;
+              seen = r.truth.core.seen;
+            };
+        last = last;
+        desk = r.truth.desk;
+        made = r.truth.made;
+        place = r.truth.place;
+      }
       → (n ≡ 0) ⊎ (n ≡ slice_index last (place_of device slot))
       → ((k : ℕ) → k ≢ place_of device slot → slice_index last k ≡ slice_index r.truth.last k)
       → AreLawful lawful r.truth.core.history last → IsReached legal lawful passes t.core
@@ -40,8 +49,13 @@ module _ (legal : List Event → Type 0) (lawful : List Event → ℕ → ℕ �
   stores s r device slot n id c w last t hd hs is here there lawfuls reached fits =
       let i : ℕ = place_of device slot in
       let now : Truth =
-          record { core = record { history = r.truth.core.history; words = slice_set r.truth.core.words i n; seen = r.truth.core.seen };
-              last = last; desk = r.truth.desk; made = r.truth.made; place = r.truth.place } in
+      record {
+        core = record { history = r.truth.core.history; words = slice_set r.truth.core.words i n; seen = r.truth.core.seen };
+        last = last;
+        desk = r.truth.desk;
+        made = r.truth.made;
+        place = r.truth.place;
+      } in
       let lt : i < ROW_WORDS = omega arith in
       let lt' : i < length s.words = rw r.wide (omega arith) in
       let lt'' : i < length r.truth.core.words = rw r.core_wide lt in
@@ -55,15 +69,15 @@ module _ (legal : List Event → Type 0) (lawful : List Event → ℕ → ℕ �
         core_wide = length-set r.truth.core.words i n ∙ r.core_wide;
         words = λ k h. dite (ℕ_discrete k i)
             (λ e. ap (slice_index (slice_set r.truth.core.words i n)) e ∙ get_or-set_same r.truth.core.words i n 0 lt''
-                ∙ sym (ap (slice_index (slice_set s.words i n)) e ∙ get_or-set_same s.words i n 0 lt'))
+            ∙ sym (ap (slice_index (slice_set s.words i n)) e ∙ get_or-set_same s.words i n 0 lt'))
             (λ e. get_or-set_other r.truth.core.words i k n 0 e ∙ r.words k h ∙ sym (get_or-set_other s.words i k n 0 e));
         rows = λ k h. dite (ℕ_discrete k i)
             (λ e. let same : slice_index (slice_set s.words i n) k ≡ n = ap (slice_index (slice_set s.words i n)) e
-                ∙ get_or-set_same s.words i n 0 lt' in
+            ∙ get_or-set_same s.words i n 0 lt' in
             ⊎_elim (λ (z : n ≡ 0). inl (same ∙ z)) (λ (z : n ≡ slice_index last i). inr (same ∙ z ∙ ap (slice_index last) (sym e))) here)
             (λ e. let same : slice_index (slice_set s.words i n) k ≡ slice_index s.words k = get_or-set_other s.words i k n 0 e in
             ⊎_elim (λ (z : slice_index s.words k ≡ 0). inl (same ∙ z))
-                (λ (z : slice_index s.words k ≡ slice_index r.truth.last k). inr (same ∙ z ∙ sym (there k e))) (r.rows k h));
+            (λ (z : slice_index s.words k ≡ slice_index r.truth.last k). inr (same ∙ z ∙ sym (there k e))) (r.rows k h));
         each_lawful = lawfuls;
         callers = r.callers;
         made = r.made;
@@ -79,8 +93,13 @@ module _ (legal : List Event → Type 0) (lawful : List Event → ℕ → ℕ �
       let i : ℕ = place_of port slot in
       let now : Known = record { who = me.0.mine.who; seen = me.0.mine.seen; did = me.0.mine.did ++ Stored i 0 ∷ [] } in
       let t : Truth =
-          record { core = stepped r.truth.core (empties_word port slot); last = r.truth.last; desk = r.truth.desk; made = r.truth.made;
-              place = r.truth.place } in
+      record {
+        core = stepped r.truth.core (empties_word port slot);
+        last = r.truth.last;
+        desk = r.truth.desk;
+        made = r.truth.made;
+        place = r.truth.place;
+      } in
       let fits = r.each_seat id me.0 at in (
         caller_view me.0.frames now,
         keeps,
@@ -89,8 +108,8 @@ module _ (legal : List Event → Type 0) (lawful : List Event → ℕ → ℕ �
             (reached_more legal lawful passes r.truth.core (empties_word port slot) r.reached (hp, hs))
             (others t id s.views (caller_view me.0.frames now)
             (λ j v _ e.
-                fits_stays r.truth t j v (prefix_self r.truth.core.history) (omega arith) (λ _. (refl, refl, refl, refl))
-                (λ q side _ x. (refl, refl)) (r.each_seat j v e))
+            fits_stays r.truth t j v (prefix_self r.truth.core.history) (omega arith) (λ _. (refl, refl, refl, refl))
+            (λ q side _ x. (refl, refl)) (r.each_seat j v e))
             (caller_fits t id me.0.frames now fits.seen (record { is = fits.mine_named.is }))),
         refl,
       )
@@ -111,8 +130,13 @@ module _ (legal : List Event → Type 0) (lawful : List Event → ℕ → ℕ �
       let w = desk_view me.0.frames me.0.mine.seen last me.0.made me.0.guest in
       let may' : lawful r.truth.core.history device n = subst (λ (l : List Event). lawful l device n) whole.1 may in
       let t : Truth =
-          record { core = stepped r.truth.core (stores_word device slot n); last = last; desk = r.truth.desk; made = r.truth.made;
-              place = r.truth.place } in (
+      record {
+        core = stepped r.truth.core (stores_word device slot n);
+        last = last;
+        desk = r.truth.desk;
+        made = r.truth.made;
+        place = r.truth.place;
+      } in (
         w,
         keeps,
         tt,
@@ -121,17 +145,17 @@ module _ (legal : List Event → Type 0) (lawful : List Event → ℕ → ℕ �
             (λ device' slot' d' k'. dite (ℕ_discrete (place_of device' slot') i)
             (λ e. let same : device ≡ device' = omega arith in
             subst (λ (x : ℕ × ℕ). lawful r.truth.core.history x.0 x.1)
-                (λ j. (same j, sym (ap (slice_index last) e ∙ get_or-set_same me.0.last i n 0 lt') j)) may')
+            (λ j. (same j, sym (ap (slice_index last) e ∙ get_or-set_same me.0.last i n 0 lt') j)) may')
             (λ e. subst (lawful r.truth.core.history device')
-                (sym (get_or-set_other me.0.last i (place_of device' slot') n 0 e
-                    ∙ ap (λ (l : List ℕ). slice_index l (place_of device' slot')) whole.2)) (r.each_lawful device' slot' d' k')))
+            (sym (get_or-set_other me.0.last i (place_of device' slot') n 0 e
+            ∙ ap (λ (l : List ℕ). slice_index l (place_of device' slot')) whole.2)) (r.each_lawful device' slot' d' k')))
             (reached_more legal lawful passes r.truth.core (stores_word device slot n) r.reached (d, k, may'))
             (others t id s.views w
             (λ j v ne e.
-                desk_else r.truth t id whole.0 (prefix_self r.truth.core.history) (omega arith) j (λ q side _ x. (refl, refl)) v ne
-                (r.each_seat j v e))
+            desk_else r.truth t id whole.0 (prefix_self r.truth.core.history) (omega arith) j (λ q side _ x. (refl, refl)) v ne
+            (r.each_seat j v e))
             (desk_fits_as t id me.0.frames me.0.mine.seen last me.0.made me.0.guest whole.1 refl whole.3 whole.0 fits.guest
-                (record { is = fits.guest_named.is }))),
+            (record { is = fits.guest_named.is }))),
         refl,
       )
 
@@ -156,8 +180,13 @@ module _ (legal : List Event → Type 0) (lawful : List Event → ℕ → ℕ �
       let log = r.truth.core.history ++ event ∷ [] in
       let now : me.0.mine.seen ++ event ∷ [] ≡ log = ap (λ (l : List Event). l ++ event ∷ []) whole.1 in
       let t : Truth =
-          record { core = stepped r.truth.core (adds_event event); last = r.truth.last; desk = r.truth.desk; made = r.truth.made;
-              place = r.truth.place } in
+      record {
+        core = stepped r.truth.core (adds_event event);
+        last = r.truth.last;
+        desk = r.truth.desk;
+        made = r.truth.made;
+        place = r.truth.place;
+      } in
       let w = desk_view me.0.frames (me.0.mine.seen ++ event ∷ []) me.0.last me.0.made me.0.guest in
       let wide : counter < length s.words = rw r.wide (omega arith) in
       let room' : length r.truth.core.history < MOST_CALLS = subst (λ (l : List Event). length l < MOST_CALLS) whole.1 room in
@@ -165,7 +194,7 @@ module _ (legal : List Event → Type 0) (lawful : List Event → ℕ → ℕ �
       let more : (n + 1) % 18446744073709551616 ≡ length log = omega (arith, length-append r.truth.core.history (event ∷ [])) in
       let may' : legal log = subst legal now may in
       let lawfuls' : AreLawful lawful log r.truth.last =
-          subst (λ (x : List Event × List ℕ). AreLawful lawful x.0 x.1) (λ j. (now j, whole.2 j)) lawfuls in
+      subst (λ (x : List Event × List ℕ). AreLawful lawful x.0 x.1) (λ j. (now j, whole.2 j)) lawfuls in
       let pre : IsPrefix r.truth.core.history log = (event ∷ [], refl) in (
         w,
         keeps,
@@ -181,9 +210,9 @@ module _ (legal : List Event → Type 0) (lawful : List Event → ℕ → ℕ �
               omega arith in r.words k h ∙ sym (get_or-set_other s.words counter k ((n + 1) % 2 ^ 64) 0 ne);
           rows = λ k h. let ne : k ≢ counter = omega arith in
               let was : slice_index (slice_set s.words counter ((n + 1) % 2 ^ 64)) k ≡ slice_index s.words k =
-                  get_or-set_other s.words counter k ((n + 1) % 2 ^ 64) 0 ne in
+              get_or-set_other s.words counter k ((n + 1) % 2 ^ 64) 0 ne in
               ⊎_elim (λ (z : slice_index s.words k ≡ 0). inl (was ∙ z))
-                  (λ (z : slice_index s.words k ≡ slice_index r.truth.last k). inr (was ∙ z)) (r.rows k h);
+              (λ (z : slice_index s.words k ≡ slice_index r.truth.last k). inr (was ∙ z)) (r.rows k h);
           each_lawful = lawfuls';
           callers = r.callers;
           made = r.made;
@@ -192,7 +221,7 @@ module _ (legal : List Event → Type 0) (lawful : List Event → ℕ → ℕ �
               others t id s.views w
               (λ j v ne e. desk_else r.truth t id whole.0 pre (omega arith) j (λ q side _ x. (refl, refl)) v ne (r.each_seat j v e))
               (desk_fits_as t id me.0.frames (me.0.mine.seen ++ event ∷ []) me.0.last me.0.made me.0.guest now whole.2 whole.3 whole.0
-                  (prefix_trans me.0.guest.seen r.truth.core.history log fits.guest pre) (record { is = fits.guest_named.is }));
+              (prefix_trans me.0.guest.seen r.truth.core.history log fits.guest pre) (record { is = fits.guest_named.is }));
         },
         refl,
       )

@@ -70,7 +70,7 @@ pub desk_fits_as : (t : Truth) (j frames : ℕ) (log : List Event) (last : List 
     → j ≡ t.desk → IsPrefix guest.seen t.core.history → IsNamed t j true guest → Fits t j (desk_view frames log last made guest)
 desk_fits_as t j frames log last made guest a b c at pre named =
     subst (λ (x : List Event × List ℕ × ℕ). Fits t j (desk_view frames x.0 x.1 x.2 guest)) (λ i. (sym a i, sym b i, sym c i))
-        (desk_fits t j frames guest at pre named)
+    (desk_fits t j frames guest at pre named)
 
 -- what the callers at the seat k know stays true
 unfoldable pub Stays : Truth → Truth → ℕ → Type 0
@@ -114,8 +114,8 @@ pub snoc_fits : (t : Truth) (views : List View) (w : View) → ((j : ℕ) (v : V
     → (j : ℕ) (v : View) → get_elem? (views ++ w ∷ []) j ≡ some v → Fits t j v
 snoc_fits t views w all new j v e =
     ⊎_elim (λ was. all j v was)
-        (λ (x : (j ≡ length views) × (w ≡ v)). subst (λ (y : ℕ × View). Fits t y.0 y.1) (λ i. (sym x.0 i, x.1 i)) new)
-        (at_snoc views w v j e)
+    (λ (x : (j ≡ length views) × (w ≡ v)). subst (λ (y : ℕ × View). Fits t y.0 y.1) (λ i. (sym x.0 i, x.1 i)) new)
+    (at_snoc views w v j e)
 
 pub set_same : (ws : List ℕ) (i : ℕ) → i < length ws → (k : ℕ) → get_or (set ws i (get_or ws i 0)) k 0 ≡ get_or ws k 0
 set_same ws i lt k = dite (ℕ_discrete k i)

@@ -71,8 +71,8 @@ placed_within (s ∷ ss) first rights p t e = elim (within_or_not (record { firs
   | inl here ↦ (here.0, omega (arith, here.1, sum_by-cons (λ (x : Segment). x.pages) s ss))
   | inr past ↦
       let later =
-          placed_within ss (first + s.pages) rights p t (sym (rw (within_not (record { first = first; pages = s.pages }) p past) refl) ∙ e)
-          in
+      placed_within ss (first + s.pages) rights p t (sym (rw (within_not (record { first = first; pages = s.pages }) p past) refl) ∙ e)
+      in
       (omega (arith, later.0), omega (arith, later.1, sum_by-cons (λ (x : Segment). x.pages) s ss))
 ]
 
@@ -91,7 +91,7 @@ sound_mapped v ss first rights free s = record {
   retired = s.retired;
   apart = λ r p i h.
       second_of (placed ss first rights p) (v.live p) (λ t e. (free p (placed_within ss first rights p t e)).1.not_retired r i h)
-          ∙ s.apart r p i h;
+      ∙ s.apart r p i h;
 }
 
 sound_flushed : (v : Domain) → IsSoundDomain v → IsSoundDomain (flushed v)
@@ -175,7 +175,7 @@ sound_next w (calls.MapList domain order rights segments) (Mapped address) s ste
     sound_map w domain segments.items order rights address s step.1
 sound_next w (calls.Unmap domain address pages) (Unmapped released) s step =
     sound_with w domain (λ v. unmapped_by v.mode (range_at address pages) v) s
-        (λ v there. sound_unmapped_by v.mode (range_at address pages) v (s domain v there))
+    (λ v there. sound_unmapped_by v.mode (range_at address pages) v (s domain v there))
 sound_next w (calls.Flush domain) (Flushed released) s step = sound_with w domain flushed s (λ v there. sound_flushed v (s domain v there))
 sound_next w call _ s step = s
 

@@ -34,6 +34,6 @@ module _ (cached : List CachedNonLeaf) (look : Bool) (x : CachedContext) (page l
       → level + 1 ≤ i.level
   none_at_level is i there domain holds least =
       let other : i.level ≢ level =
-          λ e. find_none (serves d page level) cached is i there
-          (all_true _ _ _ (eq-eqb i.level level e) (eq-eqb i.domain d (domain ∙ sym same)) holds) in
+      λ e. find_none (serves d page level) cached is i there
+      (all_true _ _ _ (eq-eqb i.level level e) (eq-eqb i.domain d (domain ∙ sym same)) holds) in
       omega arith

@@ -72,13 +72,25 @@ module _ (m : Memory) (d t p c level : ℕ) (deep : 2 ≤ level) (is : m level t
   -- the table that the entry names is passed
   pub passed_next : (i : CachedNonLeaf) → i ≡ met_non_leaf d p (level - 1) c → IsPassed m level t d p i
   passed_next i e =
-      let at : suc (level - 1) ≡ level = omega arith in
-      (level - 1, c, omega arith, omega arith, ap (λ (k : ℕ). table_from m k t p (level - 1)) (sym at)
-          ∙ table_next m t p c (level - 1) (level - 1) at_level (omega arith) refl, e)
+      let at : suc (level - 1) ≡ level = omega arith in (
+        level - 1,
+        c,
+        omega arith,
+        omega arith,
+        ap (λ (k : ℕ). table_from m k t p (level - 1)) (sym at)
+            ∙ table_next m t p c (level - 1) (level - 1) at_level (omega arith) refl,
+        e,
+      )
 
   -- and so is each that is passed from there
   pub passed_below : (i : CachedNonLeaf) → IsPassed m (level - 1) c d p i → IsPassed m level t d p i
   passed_below i (l, f, some, below, from, e) =
-      let at : suc (level - 1) ≡ level = omega arith in
-      (l, f, some, omega arith, ap (λ (k : ℕ). table_from m k t p l) (sym at) ∙ table_below m t p c (level - 1) l at_level (omega arith)
-          ∙ from, e)
+      let at : suc (level - 1) ≡ level = omega arith in (
+        l,
+        f,
+        some,
+        omega arith,
+        ap (λ (k : ℕ). table_from m k t p l) (sym at) ∙ table_below m t p c (level - 1) l at_level (omega arith)
+            ∙ from,
+        e,
+      )

@@ -79,7 +79,7 @@ IsRead m x look fill page leaves leaves' tables tables' t =
 abbrev pub IsRemembered : Caches → ℕ → ℕ → Hit → Type 0
 IsRemembered c device address hit =
     (x : CachedContext) × IsIn x c.contexts × (x.device ≡ device)
-        × IsRememberedIn c.leaves x.domain (page_of address) (target hit.frame (bits_of hit.rights))
+    × IsRememberedIn c.leaves x.domain (page_of address) (target hit.frame (bits_of hit.rights))
 
 -- ---- the answer
 

@@ -15,7 +15,9 @@ use crate::requests::{LEAVES, context_of, translation_of};
 use crate::telling::tell;
 use crate::walking::NON_LEAVES;
 use arrayvec::ArrayVec;
-use dmatypes::{ADDRESSES_END, Access, Cache, DEVICES, Fault, MOST_CACHED_CONTEXTS, PAGE_BYTES, Whim};
+use dmatypes::{
+    ADDRESSES_END, Access, Cache, DEVICES, Fault, MOST_CACHED_CONTEXTS, PAGE_BYTES, Whim,
+};
 use queue::Ring;
 use std::marker::Model;
 use tables::Pool;

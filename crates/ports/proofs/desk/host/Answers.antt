@@ -50,5 +50,5 @@ split_seat-requires c =
           (legal_empty c.rows.inside.words.shared.key.frames) (lawful_zero c.rows.inside.words.shared.key.frames) _ _ _ _
           (ap (λ (v : View). v.is_desk) loaded.2.0)
           (ap (λ (v : View). v.guest.who) loaded.2.0 ∙ ap (λ m. m.0.guest.who) c.join_seat.ensures.2
-              ∙ ap (λ m. m.0.mine.who) c.split_seat-guest.ensures.4 ∙ c.requires.caller),
+          ∙ ap (λ m. m.0.mine.who) c.split_seat-guest.ensures.4 ∙ c.requires.caller),
     )

@@ -9,8 +9,8 @@ use Rattle.unit.proofs.requests.context_of.Goals.{then-look+in_default, else-loo
 pub returns-in-Some-clause-some : goal.returns-in-Some-clause-some
 returns-in-Some-clause-some c =
     let found =
-        find_in (λ (x : CachedContext). x.device == c.args.device) c.args.cached.now c.in-Some.context
-        (sym c.first_context.ensures ∙ c.in-Some.is) in
+    find_in (λ (x : CachedContext). x.device == c.args.device) c.args.cached.now c.in-Some.context
+    (sym c.first_context.ensures ∙ c.in-Some.is) in
     (eqb-true c.in-Some.context.device c.args.device found.1, inr (c.if-look.true, found.0))
 
 pub returns-in-Absent-clause-none : goal.returns-in-Absent-clause-none
@@ -19,7 +19,7 @@ returns-in-Absent-clause-none c = (
   λ looks x cached is. elim c.if-look.branch [
     | then-look+in_default w ↦
         find_none (λ (y : CachedContext). y.device == c.args.device) c.args.cached.now
-            (sym w.first_context.ensures ∙ w.in_default.is) x cached
+        (sym w.first_context.ensures ∙ w.in_default.is) x cached
         (eq-eqb x.device c.args.device is)
     | else-look w ↦ absurd (cc)
   ],

@@ -46,7 +46,7 @@ returns-in-Leaf-clause-leaf t c =
     let is = on_way _ _ _ _ _ _ c.index_of.ensures.exact c.in-Leaf.ensures.is in
     ap (λ (l : CachedLeaf). Some l) c.small.ensures
     ∙ met_small m c.args.way.domain c.args.table c.args.way.page c.args.level c.requires.low c.in-Leaf.leaf is
-        (omega (arith, c.in-Leaf.ensures.stands))
+    (omega (arith, c.in-Leaf.ensures.stands))
 
 pub returns-in-LargeLeaf-clause-leaf : goal.returns-in-LargeLeaf-clause-leaf
 returns-in-LargeLeaf-clause-leaf t c =
@@ -54,4 +54,4 @@ returns-in-LargeLeaf-clause-leaf t c =
     let is = on_way _ _ _ _ _ _ c.index_of.ensures.exact c.in-LargeLeaf.ensures.is in
     ap (λ (l : CachedLeaf). Some l) c.large.ensures
     ∙ met_large m c.args.way.domain c.args.table c.args.way.page c.args.level c.requires.low c.in-LargeLeaf.leaf is
-        (omega (arith, c.in-LargeLeaf.ensures.stands))
+    (omega (arith, c.in-LargeLeaf.ensures.stands))

@@ -29,7 +29,7 @@ pub host-requires : goal.host-requires
 host-requires c =
     let slot : c.args.address / PAGE_BYTES % SLOTS < SLOTS = omega arith in
     spelled_word c.self.inside.seat.me.0.frames c.load-word.new.seat.me.0.mine.seen c.self.inside.device c.load-word.result
-        (c.load-word.ensures.2.1 _ _ c.self.invariant.0 slot c.place-place.ensures)
+    (c.load-word.ensures.2.1 _ _ c.self.invariant.0 slot c.place-place.ensures)
 
 pub returns-clause-did : goal.returns-clause-did
 returns-clause-did c =
@@ -63,9 +63,10 @@ returns-clause-allowed c =
     let device = ap (λ (v : Port). v.device) c.self.view_is ∙ c.count-count.ensures.same.1 in
     let lawful = told.1 _ _ c.self.invariant.0 slot c.place-place.ensures in
     subst (λ (x : ℕ × ℕ). IsLegal x.0 seen
-        × IfSome c.host.result (λ host. Allows (after x.0 seen) x.1 c.args.address c.args.access (Host host))) (λ i. (frames i, device i))
-    (told.0.is_legal,
-        some_of _ _ _
-        (λ host states.
-            allowed_word c.self.inside.seat.me.0.frames seen c.self.inside.device c.load-word.result c.args.address c.args.access host
-            told.0.is_legal lawful states) c.host.ensures.some)
+    × IfSome c.host.result (λ host. Allows (after x.0 seen) x.1 c.args.address c.args.access (Host host))) (λ i. (frames i, device i)) (
+      told.0.is_legal,
+      some_of _ _ _
+          (λ host states.
+          allowed_word c.self.inside.seat.me.0.frames seen c.self.inside.device c.load-word.result c.args.address c.args.access host
+          told.0.is_legal lawful states) c.host.ensures.some,
+    )
