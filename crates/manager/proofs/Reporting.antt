@@ -29,13 +29,13 @@ pub domain_there : (m : State) (n : ℕ) (t : DomainTotals) (old now new : List 
     → new ≡ old ++ domain_lines m (n + 1)
 domain_there m n t old now new so_far is put =
     one_more old now new (domain_lines m n) (domain_lines m (n + 1)) (domain_line (n + 1) t) so_far
-        (domains_more m n ∙ ap (λ (o : Option DomainTotals). domain_lines m n ++ line_of_domain (n + 1) o) is) put
+    (domains_more m n ∙ ap (λ (o : Option DomainTotals). domain_lines m n ++ line_of_domain (n + 1) o) is) put
 
 pub domain_missing : (m : State) (n : ℕ) (old now : List ℕ) → now ≡ old ++ domain_lines m n
     → domain_totals_of (home_of m.homes (n + 1)) ≡ None → now ≡ old ++ domain_lines m (n + 1)
 domain_missing m n old now so_far is =
     one_more old now now (domain_lines m n) (domain_lines m (n + 1)) [] so_far
-        (domains_more m n ∙ ap (λ (o : Option DomainTotals). domain_lines m n ++ line_of_domain (n + 1) o) is) (sym (append-nil now))
+    (domains_more m n ∙ ap (λ (o : Option DomainTotals). domain_lines m n ++ line_of_domain (n + 1) o) is) (sym (append-nil now))
 
 -- ---- devices
 
@@ -52,10 +52,10 @@ pub device_attached : (m : State) (n domain : ℕ) (old now new : List ℕ) → 
     → new ≡ old ++ device_lines m (n + 1)
 device_attached m n domain old now new so_far is put =
     one_more old now new (device_lines m n) (device_lines m (n + 1)) (device_line n domain) so_far
-        (devices_more m n ∙ ap (λ (o : Option ℕ). device_lines m n ++ line_of_device n o) is) put
+    (devices_more m n ∙ ap (λ (o : Option ℕ). device_lines m n ++ line_of_device n o) is) put
 
 pub device_alone : (m : State) (n : ℕ) (old now : List ℕ) → now ≡ old ++ device_lines m n → attached (slice_get m.row n) ≡ None
     → now ≡ old ++ device_lines m (n + 1)
 device_alone m n old now so_far is =
     one_more old now now (device_lines m n) (device_lines m (n + 1)) [] so_far
-        (devices_more m n ∙ ap (λ (o : Option ℕ). device_lines m n ++ line_of_device n o) is) (sym (append-nil now))
+    (devices_more m n ∙ ap (λ (o : Option ℕ). device_lines m n ++ line_of_device n o) is) (sym (append-nil now))

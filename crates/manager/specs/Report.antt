@@ -30,7 +30,7 @@ mode_word Lazy = codes "lazy"
 abbrev pub domain_line : ℕ → DomainTotals → List ℕ
 domain_line id t =
     codes "domain " ++ decimal id ++ codes " " ++ mode_word t.mode ++ codes " live " ++ decimal t.live ++ codes " retired "
-        ++ decimal t.retired
+    ++ decimal t.retired
     ++ codes " pieces " ++ decimal t.pieces ++ codes "\n"
 
 abbrev pub device_line : ℕ → ℕ → List ℕ

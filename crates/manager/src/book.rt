@@ -40,10 +40,9 @@ impl<B: Owner> Model for Book<B> {
 
     ghost view = { λ b. record { history = b.history.items; state = b.state } };
 
-    ghost invariant =
-        { λ b. IsKept B.frames B.room (record { history = b.history.items; state = b.state }) × (b.room ≡ B.room)
-            × (B.room ≤ vec_capacity b.history) × (B.room ≤ MOST_CALLS) × (b.counted.total ≡ vec_len b.history) × (1 ≤ B.shares)
-            × (B.shares ≡ B.parts) };
+    ghost invariant = { λ b. IsKept B.frames B.room (record { history = b.history.items; state = b.state }) × (b.room ≡ B.room)
+        × (B.room ≤ vec_capacity b.history) × (B.room ≤ MOST_CALLS) × (b.counted.total ≡ vec_len b.history) × (1 ≤ B.shares)
+        × (B.shares ≡ B.parts) };
 }
 
 impl<B: Owner> Book<B> {
@@ -144,6 +143,7 @@ impl<B: Owner> Book<B> {
             return Err(HistoryFull);
         }
         let reply = state.perform(&call);
+        // It changes nothing: its contract tells what every state keeps.
         state.keeps();
         history.push_reserved(Event { call, reply });
         counted.add(part, 1);

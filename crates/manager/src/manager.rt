@@ -55,6 +55,7 @@ impl<B: Owner> History<B> {
         ensures events { result.now ≡ self.now.history }
         ensures kept { IsKept B.frames B.room self.now }
     {
+        // It changes nothing: its contract tells what every book keeps.
         self.book.keeps();
         self.book.events()
     }
@@ -84,6 +85,7 @@ impl<B: Owner> Manager<B> {
         ensures { IsKept B.frames B.room (mutex_guard_value result) }
     {
         let guard = self.book.lock(rt);
+        // What is under the lock has no value in contracts, but its type keeps this at every moment, and here says so.
         guard.keeps();
         guard
     }

@@ -23,5 +23,5 @@ returns-clause-kept g c =
     let i = c.self.invariant in
     let less : length c.self.inside.history.items < g.B.Owner.room = search rules in
     IsKept-push g.B.Owner.frames g.B.Owner.room (record { history = c.self.inside.history.items; state = c.self.inside.state })
-        (event c.args.call c.perform-reply.result) c.perform-reply.new.self c.push_reserved.new.self.items c.push_reserved.ensures.items i.0
-        less c.perform-reply.ensures c.keeps.ensures
+    (event c.args.call c.perform-reply.result) c.perform-reply.new.self c.push_reserved.new.self.items c.push_reserved.ensures.items i.0
+    less c.perform-reply.ensures c.keeps.ensures

@@ -8,7 +8,7 @@ invariant_of-result g c =
     let config = c.parts-config.ensures.config in
     let within = c.parts-config.ensures.within in
     let new : IsNew g.B.Owner.frames c.in_ok-state.state =
-        rw (c.frames.ensures.value ∙ config.2 ∙ c.requires.frames_are) at c.in_ok-state.ensures.new in (
+    rw (c.frames.ensures.value ∙ config.2 ∙ c.requires.frames_are) at c.in_ok-state.ensures.new in (
       rw c.in_ok-history.ensures.items (kept_new g.B.Owner.frames g.B.Owner.room c.in_ok-state.state new),
       c.calls-2.ensures.value ∙ config.1 ∙ c.requires.room_is,
       omega (arith, c.in_ok-history.ensures.capacity, c.calls.ensures.value, config.1, c.requires.room_is),
