@@ -28,7 +28,7 @@ TakesLine block rest line longer parts.Newline =
 TakesLine block rest line longer parts.More = (longer ≡ line ++ block) × (rest ≡ []) × IsUnbroken block
 TakesLine block rest line longer parts.Long =
     (more : List ℕ) × (b : ℕ) × (longer ≡ line ++ more) × (block ≡ more ++ b ∷ rest) × IsUnbroken (more ++ b ∷ [])
-        × (length longer ≡ LONGEST_LINE)
+    × (length longer ≡ LONGEST_LINE)
 
 -- of the bytes that were still to be written and a text behind them, a front is written, and the rest is
 -- still to be

@@ -50,6 +50,7 @@ pub(crate) fn answer_lines<B: Owner, T: Wait, R: Read, W: Write>(
     let mut line = ArrayVec::new();
     let mut text = ArrayString::new();
     let mut number = 1u64;
+    // It changes nothing: its contract tells what every book keeps, here before the first call.
     book.keeps();
     for _ in rt.forever() {
         match next_line(reader, writer, &mut line) {
@@ -94,6 +95,7 @@ fn answer<B: Owner>(book: &mut Book<B>, mine: &mut Share<B>, call: Call, text: &
         Ok((_, reply)) => reply,
         Err(HistoryFull) => Reply::Refused(Refusal::HistoryFull),
     };
+    // The same of the book after the call.
     book.keeps();
     reply_line(reply, text);
 }

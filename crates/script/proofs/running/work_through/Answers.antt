@@ -27,7 +27,7 @@ returns-in_default-clause-written g c = nothing_written _ c.args.output _ _ _ _
 pub returns-in-Answers-clause-written : goal.returns-in-Answers-clause-written
 returns-in-Answers-clause-written g c =
     rw (c.requires.named.frames_are, c.requires.named.room_is)
-        (answers_known _ c.args.output c.replies_for.result _ _ _ _ _ _ c.answer_lines-end.new.book
+    (answers_known _ c.args.output c.replies_for.result _ _ _ _ _ _ c.answer_lines-end.new.book
     c.answer_lines-end.result c.in-Answers.is c.replies_for.ensures c.answer_lines-end.ensures.written)
 
 pub returns-clause-written : goal.returns-clause-written
