@@ -98,13 +98,13 @@ impl Crowded {
                 fill: true,
             };
             count(&mut self.made)?;
-            let host = self.state.dma(
+            let answer = self.state.dma(
                 first + leaf % DEVICES,
                 SPAN + offset,
                 Access::Read,
                 filling,
             )?;
-            check(host == Ok(PAGE * FRAME + offset))?;
+            check(answer.map(|hit| hit.host) == Ok(PAGE * FRAME + offset))?;
         }
         Ok(())
     }

@@ -80,7 +80,8 @@ impl Driver {
     /// The device reads at a byte address: the host byte address, or the fault.
     pub(crate) fn read(&mut self, address: u64, whim: Whim) -> Result<Result<u64, Fault>, Trouble> {
         count(&mut self.made)?;
-        Ok(self.state.dma(DEVICE, address, Access::Read, whim)?)
+        let answer = self.state.dma(DEVICE, address, Access::Read, whim)?;
+        Ok(answer.map(|hit| hit.host))
     }
 }
 

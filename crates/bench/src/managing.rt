@@ -1,12 +1,12 @@
 //! A map and its unmap by a manager, with its history.
 
-ghost use Rattle.std.specs.Prelude.{◌≡◌};
+ghost use Rattle.manager.specs.Kept.{IsNamedBy};
 
 use crate::driver::{BOTH_RIGHTS, TABLE_FRAMES};
 use crate::timing::{Tenths, Work, time};
 use crate::trouble::{Trouble, check};
 use dmatypes::{Call, Mode, Reply};
-use manager::{Book, Config, HistoryFull, Made, Manager, Owner, Seed, Share};
+use manager::{Book, Config, HistoryFull, Made, Manager, Owner, Rows, Seed, Share};
 use std::alloc::Global;
 use std::marker::Brand;
 use std::num::NonZeroU32;
@@ -43,24 +43,23 @@ fn time_owned<B: Owner, C: Clock + Wait>(
     way: Way,
     seed: Seed,
 ) -> Result<Tenths, Trouble>
-    requires name { seed.name ≡ B.name }
-    requires parts { seed.shares ≡ B.parts }
-    requires shares { seed.shares ≡ B.shares }
-    requires room { seed.room ≡ B.room }
-    requires frames { seed.frames ≡ B.frames }
+    requires { IsNamedBy seed B.name B.parts B.shares B.room B.frames B.rows }
 {
     let Made {
         manager,
+        rows,
         mut shares,
+        ..
     } = Manager::<B>::new(alloc, seed)?;
     let mut mine = shares.pop().ok_or(Trouble::Wrong)?;
-    let made = manager.call(clock, &mut mine, Call::Domain(Mode::Strict));
+    let made = manager.call(clock, &rows, &mut mine, Call::Domain(Mode::Strict));
     check(made == Ok((1, Reply::Made(1))))?;
     match way {
         Way::Locking => {
             let mut pairs = Locking {
                 clock,
                 manager: &manager,
+                rows: &rows,
                 mine: &mut mine,
             };
             time(clock, rounds, &mut pairs)
@@ -69,6 +68,7 @@ fn time_owned<B: Owner, C: Clock + Wait>(
             let mut guard = manager.lock(clock);
             let mut pairs = Guarded {
                 book: &mut *guard,
+                rows: &rows,
                 mine: &mut mine,
             };
             time(clock, rounds, &mut pairs)
@@ -106,14 +106,15 @@ fn check_reply(answer: Result<(u64, Reply), HistoryFull>, wanted: Reply) -> Resu
 struct Locking<'a, B: Owner, C: Wait> {
     clock: &'a C,
     manager: &'a Manager<B>,
+    rows: &'a Rows<B>,
     mine: &'a mut Share<B>,
 }
 
 impl<'a, B: Owner, C: Wait> Work for Locking<'a, B, C> {
     fn once(&mut self) -> Result<(), Trouble> {
-        let answer = self.manager.call(self.clock, self.mine, MAP);
+        let answer = self.manager.call(self.clock, self.rows, self.mine, MAP);
         check_reply(answer, Reply::Mapped(ADDRESS))?;
-        let answer = self.manager.call(self.clock, self.mine, UNMAP);
+        let answer = self.manager.call(self.clock, self.rows, self.mine, UNMAP);
         check_reply(answer, Reply::Unmapped(0))
     }
 }
@@ -122,14 +123,15 @@ impl<'a, B: Owner, C: Wait> Work for Locking<'a, B, C> {
 #[derive(Drop)]
 struct Guarded<'a, B: Owner> {
     book: &'a mut Book<B>,
+    rows: &'a Rows<B>,
     mine: &'a mut Share<B>,
 }
 
 impl<'a, B: Owner> Work for Guarded<'a, B> {
     fn once(&mut self) -> Result<(), Trouble> {
-        let answer = self.book.call(self.mine, MAP);
+        let answer = self.book.call(self.rows, self.mine, MAP);
         check_reply(answer, Reply::Mapped(ADDRESS))?;
-        let answer = self.book.call(self.mine, UNMAP);
+        let answer = self.book.call(self.rows, self.mine, UNMAP);
         check_reply(answer, Reply::Unmapped(0))
     }
 }

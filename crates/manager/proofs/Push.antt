@@ -13,7 +13,8 @@ use Rattle.ports.specs.Lawful.{IsLawfulAfter}
 use Rattle.ports.specs.Steps.{AreLawful}
 use Rattle.manager.specs.Kept.{Book, IsKept}
 
-Goes-push : (m : State) (es : List Event) (s : State) (e : Event) (t : State) → Goes m es s → Does s e.call e.reply t → Goes m (es ++ e ∷ []) t
+Goes-push : (m : State) (es : List Event) (s : State) (e : Event) (t : State) → Goes m es s → Does s e.call e.reply t
+    → Goes m (es ++ e ∷ []) t
 Goes-push m [] s e t same does = (t, (subst (λ (x : State). Does x e.call e.reply t) (sym same) does, refl))
 Goes-push m (x ∷ es) s e t goes does = (goes.0, (goes.1.0, Goes-push goes.0 es s e t goes.1.1 does))
 

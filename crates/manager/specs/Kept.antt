@@ -8,6 +8,7 @@ use Rattle.dmatypes.specs.History.{after, event, IsLegal}
 use Rattle.engine.specs.State.{State}
 use Rattle.engine.specs.Quarantine.{Quarantine}
 use Rattle.engine.specs.Steps.{GoesTo}
+use Rattle.dmatypes.specs.declared.limits.TheConstants.{LEAST_TABLE_FRAMES, MOST_CALLS, MOST_SHARES, MOST_TABLE_FRAMES}
 use Rattle.engine.specs.Whole.{IsWhole}
 use Rattle.ports.specs.Lawful.{IsLawfulAfter}
 use Rattle.ports.specs.Seen.{Rows}
@@ -31,12 +32,12 @@ pub record Config : Type 0 where
   pub shares : ℕ
 
 pub record IsWithinLimits (c : Config) : Type 0 where
-  pub least_frames : 16 ≤ c.frames
-  pub most_frames : c.frames ≤ 4096
+  pub least_frames : LEAST_TABLE_FRAMES ≤ c.frames
+  pub most_frames : c.frames ≤ MOST_TABLE_FRAMES
   pub least_calls : 1 ≤ c.calls
-  pub most_calls : c.calls ≤ 1048576
+  pub most_calls : c.calls ≤ MOST_CALLS
   pub least_shares : 1 ≤ c.shares
-  pub most_shares : c.shares ≤ 64
+  pub most_shares : c.shares ≤ MOST_SHARES
 
 -- one manager's numbers, the name of its ledger, and its rows
 pub record Seed : Type 0 where
@@ -53,7 +54,16 @@ no_rows = record {
   frames = 0;
 }
 
--- the history is legal, the state is one of the world after it, with 15 places for domains, 16 for devices and nothing
+-- an owner with this ledger, these numbers and these rows names the manager that the seed becomes: one part of the ledger for each share
+pub record IsNamedBy (seed : Seed) (name parts shares room frames : ℕ) (rows : Rows) : Type 0 where
+  pub name_is : seed.name ≡ name
+  pub parts_are : seed.shares ≡ parts
+  pub shares_are : seed.shares ≡ shares
+  pub room_is : seed.room ≡ room
+  pub frames_are : seed.frames ≡ frames
+  pub rows_are : seed.rows ≡ rows
+
+-- the history is legal, the state is one of the world after it, with all places for domains and devices and nothing
 -- that waits in the ring, the history goes along states from a new one to this one, it is no longer than the room, and
 -- the state has counted its calls; every word that was last stored in the rows is lawful after the history
 pub record IsKept (frames room : ℕ) (a : Book) : Type 0 where

@@ -7,13 +7,15 @@ use Rattle.engine.specs.declared.state.totals.Totals.{Totals}
 use Rattle.engine.specs.Homes.{home_of}
 use Rattle.engine.specs.State.{State}
 use Rattle.engine.specs.Quarantine.{attached}
+use Rattle.dmatypes.specs.declared.limits.TheConstants.{DEVICES, MOST_DOMAINS}
 use Rattle.engine.specs.Totals.{domain_totals_of, totals_of}
 
 abbrev pub events_line : ℕ → List ℕ
 events_line n = codes "events " ++ decimal n ++ codes "\n"
 
 abbrev pub frames_line : Totals → List ℕ
-frames_line t = codes "frames " ++ decimal t.free ++ codes " free " ++ decimal t.used ++ codes " used " ++ decimal t.held ++ codes " retired\n"
+frames_line t =
+    codes "frames " ++ decimal t.free ++ codes " free " ++ decimal t.used ++ codes " used " ++ decimal t.held ++ codes " retired\n"
 
 abbrev pub tickets_line : ℕ → List ℕ
 tickets_line n = codes "tickets " ++ decimal n ++ codes " open\n"
@@ -27,7 +29,8 @@ mode_word Lazy = codes "lazy"
 
 abbrev pub domain_line : ℕ → DomainTotals → List ℕ
 domain_line id t =
-    codes "domain " ++ decimal id ++ codes " " ++ mode_word t.mode ++ codes " live " ++ decimal t.live ++ codes " retired " ++ decimal t.retired
+    codes "domain " ++ decimal id ++ codes " " ++ mode_word t.mode ++ codes " live " ++ decimal t.live ++ codes " retired "
+    ++ decimal t.retired
     ++ codes " pieces " ++ decimal t.pieces ++ codes "\n"
 
 abbrev pub device_line : ℕ → ℕ → List ℕ
@@ -59,4 +62,4 @@ head_lines events t = events_line events ++ frames_line t ++ tickets_line t.tick
 
 -- the report of a history of so many events and of the state after it
 unfoldable pub report_text : ℕ → State → List ℕ
-report_text events m = head_lines events (totals_of m) ++ domain_lines m 15 ++ device_lines m 16
+report_text events m = head_lines events (totals_of m) ++ domain_lines m MOST_DOMAINS ++ device_lines m DEVICES

@@ -45,6 +45,7 @@ pub struct Book<B: Owner> {
 
 impl<B: Owner> Model for Book<B> {
     ghost use Rattle.std.specs.Prelude.{◌≡◌, ◌≤◌, vec_capacity, vec_len};
+    ghost use Rattle.dmatypes.specs.declared.limits.TheConstants.{MOST_CALLS};
     ghost use Rattle.manager.specs.Kept.{Book, IsKept};
 
     ghost Value = { Book };
@@ -52,7 +53,7 @@ impl<B: Owner> Model for Book<B> {
     ghost view = { λ b. record { history = b.history.items; state = b.state; last = b.desk.last } };
 
     ghost invariant = { λ b. IsKept B.frames B.room (record { history = b.history.items; state = b.state; last = b.desk.last })
-        × (b.room ≡ B.room) × (B.room ≤ vec_capacity b.history) × (B.room ≤ 1048576) × (b.counted.total ≡ vec_len b.history)
+        × (b.room ≡ B.room) × (B.room ≤ vec_capacity b.history) × (B.room ≤ MOST_CALLS) × (b.counted.total ≡ vec_len b.history)
         × (1 ≤ B.shares) × (B.shares ≡ B.parts) × (b.desk.rows ≡ B.rows) × (B.rows.frames ≡ B.frames)
         × (b.desk.history ≡ b.history.items) };
 }
@@ -191,6 +192,7 @@ impl<B: Owner> Book<B> {
             return Err(HistoryFull);
         }
         let Answer { reply, hit } = state.perform(&call);
+        // It changes nothing: its contract tells what every state keeps.
         state.keeps();
         let event = Event { call, reply };
         enter(desk, &rows.words, state, &event, hit);

@@ -3,12 +3,13 @@
 ghost use Rattle.std.specs.Prelude.{◌≡◌, ◌≤◌, ℕ, IsSome, IfSome, IfOk, ◌↔◌};
 ghost use Rattle.manager.specs.Kept.{Config, IsWithinLimits, Seed};
 
+use dmatypes::{LEAST_TABLE_FRAMES, MOST_CALLS, MOST_SHARES, MOST_TABLE_FRAMES};
 use ports::{Desk, Pass, Port, Rows};
 use std::alloc::{AllocError, Global};
 use std::marker::Model;
 use std::sync::ledger::Blank;
 
-/// Table frames (16 to 4,096), calls in the history (1 to 1,048,576), and shares (1 to 64).
+/// How large a manager is to be: its table frames, the calls in its history, and its shares, each within its limits (own).
 #[derive(Clone, Copy)]
 pub struct Config {
     frames: u64,
@@ -34,9 +35,9 @@ impl Config {
         ensures some { IsSome result ↔ IsWithinLimits (record { frames = frames; calls = calls; shares = shares }) }
         ensures numbers { IfSome result (λ c. c ≡ record { frames = frames; calls = calls; shares = shares }) }
     {
-        if (16..=4096).contains(&frames)
-            && (1..=1_048_576).contains(&calls)
-            && (1..=64).contains(&shares)
+        if (LEAST_TABLE_FRAMES..=MOST_TABLE_FRAMES).contains(&frames)
+            && (1..=MOST_CALLS).contains(&calls)
+            && (1..=MOST_SHARES).contains(&shares)
         {
             Some(Config {
                 frames,

@@ -4,7 +4,7 @@ ghost use Rattle.std.specs.Prelude.{◌≡◌, ◌+◌, ◌<◌, ◌≤◌, ◌�
 ghost use Rattle.std.specs.Sync.Mutex.{mutex_guard_value};
 ghost use mathlib.Core.List.{IsPrefix};
 ghost use Rattle.dmatypes.specs.History.{IsLegal};
-ghost use Rattle.manager.specs.Kept.{AllSaw, Book, EndsWith, IsKept, Share};
+ghost use Rattle.manager.specs.Kept.{AllSaw, Book, EndsWith, IsKept, IsNamedBy, Share};
 ghost use Rattle.ports.specs.Seen.{ArePorts, new_port};
 ghost use Rattle.ports.specs.Steps.{counter};
 ghost use Rattle.ports.specs.declared.known.OwnStep.TheVariants.{Loaded};
@@ -63,6 +63,7 @@ impl<B: Owner> History<B> {
         ensures events { result.now ≡ self.now.history }
         ensures kept { IsKept B.frames B.room self.now }
     {
+        // It changes nothing: its contract tells what every book keeps.
         self.book.keeps();
         self.book.events()
     }
@@ -80,12 +81,7 @@ impl<B: Owner> History<B> {
 impl<B: Owner> Manager<B> {
     /// Makes a manager with an empty history, its port words and ports, and its shares.
     pub fn new(alloc: Global, seed: Seed) -> Result<Made<B>, AllocError>
-        requires name { seed.name ≡ B.name }
-        requires parts { seed.shares ≡ B.parts }
-        requires shares { seed.shares ≡ B.shares }
-        requires room { seed.room ≡ B.room }
-        requires frames { seed.frames ≡ B.frames }
-        requires rows { seed.rows ≡ B.rows }
+        requires { IsNamedBy seed B.name B.parts B.shares B.room B.frames B.rows }
         ensures ports { IfOk result (λ m. (vec_len m.ports ≡ 16)
             × ((k : ℕ) → k < 16 → slice_get m.ports.items k ≡ Some (new_port B.rows k))) }
         ensures shares { IfOk result (λ m. vec_len m.shares ≡ B.shares) }
@@ -121,6 +117,7 @@ impl<B: Owner> Manager<B> {
         ensures { IsKept B.frames B.room (mutex_guard_value result) }
     {
         let guard = self.book.lock(rt);
+        // What is under the lock has no value in contracts, but its type keeps this at every moment, and here says so.
         guard.keeps();
         guard
     }

@@ -1,6 +1,6 @@
 //! What a manager holds at one moment, as text.
 
-ghost use Rattle.std.specs.Prelude.{◌≡◌, ◌≤◌, ◌+◌, ◌++◌, [], length, IfOk};
+ghost use Rattle.std.specs.Prelude.{◌≡◌, ◌≤◌, ◌+◌, ◌*◌, ◌++◌, [], length, IfOk};
 ghost use Rattle.arrayvec.specs.ArrayString.{array_string_len};
 ghost use Rattle.manager.specs.Kept.{Book, IsKept};
 ghost use Rattle.manager.specs.Report.{device_lines, domain_lines, head_lines, report_text};
@@ -8,15 +8,22 @@ ghost use Rattle.manager.specs.Report.{device_lines, domain_lines, head_lines, r
 use crate::manager::Manager;
 use crate::owner::Owner;
 use crate::report_lines::{
-    Line, device_line, domain_line, events_line, frames_line, ring_line, tickets_line,
+    LINE_BYTES, Line, device_line, domain_line, events_line, frames_line, ring_line, tickets_line,
 };
+use dmatypes::{DEVICES, MOST_DOMAINS};
 use engine::{State, Totals};
 use std::alloc::{AllocError, Global};
 use std::marker::Model;
 use std::sync::Wait;
 
-// The bytes of the longest report: 4 lines, one for each of 15 domains, and one for each of 16 devices.
-const LONGEST: usize = 4096;
+// The lines that every report has.
+const HEAD_LINES: usize = 4;
+
+// The most bytes of these and of one line for each domain.
+const DOMAINS_END: usize = (HEAD_LINES + MOST_DOMAINS as usize) * LINE_BYTES;
+
+// Room for the longest report: these lines, and one for each device.
+const REPORT_BYTES: usize = 4096;
 
 /// The text of a report. It takes the memory for the longest one when it is made.
 #[derive(Drop)]
@@ -26,12 +33,13 @@ pub struct Report {
 
 impl Model for Report {
     ghost use Rattle.std.specs.Prelude.{◌≤◌, List, ℕ, length, string_bytes, string_capacity};
+    ghost use Rattle.manager.specs.declared.report.TheConstants.{REPORT_BYTES};
 
     ghost Value = { List ℕ };
 
     ghost view = { λ r. string_bytes r.text };
 
-    ghost invariant = { λ r. (length (string_bytes r.text) ≤ 4096) × (4096 ≤ string_capacity r.text) };
+    ghost invariant = { λ r. (length (string_bytes r.text) ≤ REPORT_BYTES) × (REPORT_BYTES ≤ string_capacity r.text) };
 }
 
 impl Report {
@@ -40,14 +48,14 @@ impl Report {
         ensures { IfOk result (λ r. r ≡ []) }
     {
         Ok(Report {
-            text: String::with_capacity(alloc, LONGEST)?,
+            text: String::with_capacity(alloc, REPORT_BYTES)?,
         })
     }
 
-    /// Its text, at most 4,096 bytes.
+    /// Its text.
     pub fn text(&self) -> &str
         ensures text { result.now ≡ self.now }
-        ensures few { length result.now ≤ 4096 }
+        ensures few { length result.now ≤ REPORT_BYTES }
     {
         self.text.as_str()
     }
@@ -66,7 +74,7 @@ impl Report {
     fn push_head(&mut self, events: u64, totals: Totals)
         requires { self.old ≡ [] }
         ensures head { self.new ≡ head_lines events totals }
-        ensures few { length self.new ≤ 512 }
+        ensures few { length self.new ≤ HEAD_LINES * LINE_BYTES }
     {
         self.push(&events_line(events));
         self.push(&frames_line(totals));
@@ -75,11 +83,11 @@ impl Report {
     }
 
     fn push_domains(&mut self, state: &State)
-        requires { length self.old ≤ 512 }
-        ensures domains { self.new ≡ self.old ++ domain_lines state.now 15 }
-        ensures few { length self.new ≤ 2432 }
+        requires { length self.old ≤ HEAD_LINES * LINE_BYTES }
+        ensures domains { self.new ≡ self.old ++ domain_lines state.now MOST_DOMAINS }
+        ensures few { length self.new ≤ DOMAINS_END }
     {
-        for index in 0..15u64 {
+        for index in 0..MOST_DOMAINS {
             let id = index + 1;
             if let Some(totals) = state.domain_totals(id) {
                 self.push(&domain_line(id, totals));
@@ -88,10 +96,10 @@ impl Report {
     }
 
     fn push_devices(&mut self, state: &State)
-        requires { length self.old ≤ 2432 }
-        ensures { self.new ≡ self.old ++ device_lines state.now 16 }
+        requires { length self.old ≤ DOMAINS_END }
+        ensures { self.new ≡ self.old ++ device_lines state.now DEVICES }
     {
-        for device in 0..16u64 {
+        for device in 0..DEVICES {
             if let Some(domain) = state.domain_of(device) {
                 self.push(&device_line(device, domain));
             }
@@ -99,10 +107,10 @@ impl Report {
     }
 
     fn push(&mut self, line: &Line)
-        requires { length self.old + array_string_len line.now ≤ 4096 }
+        requires { length self.old + array_string_len line.now ≤ REPORT_BYTES }
         ensures bytes { self.new ≡ self.old ++ line.now.bytes }
         ensures len { length self.new ≡ length self.old + array_string_len line.now }
-        ensures few { length self.new ≤ length self.old + 128 }
+        ensures few { length self.new ≤ length self.old + LINE_BYTES }
     {
         self.text.push_str(line.as_str()).unwrap();
     }
@@ -112,7 +120,8 @@ impl<B: Owner> Manager<B> {
     /// What the manager holds at one moment: the history has so many events, and the state is the one after it. The
     /// memory is taken before the lock.
     pub fn snapshot<R: Wait>(&self, rt: &R, alloc: Global) -> Result<Report, AllocError>
-        ensures { IfOk result (λ r. (account : Book) × IsKept B.frames B.room account × (r ≡ report_text (length account.history) account.state)) }
+        ensures { IfOk result
+            (λ r. (book : Book) × IsKept B.frames B.room book × (r ≡ report_text (length book.history) book.state)) }
     {
         let mut report = Report::new(alloc)?;
         self.lock(rt).write_report(&mut report);

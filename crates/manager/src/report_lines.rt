@@ -5,12 +5,14 @@ ghost use Rattle.arrayvec.specs.ArrayString.{array_string_len};
 ghost use Rattle.manager.specs.Report.{device_line, domain_line, events_line, frames_line, mode_word, ring_line, tickets_line};
 
 use arrayvec::ArrayString;
-use dmatypes::Mode;
+use dmatypes::{Mode, push_decimal};
 use engine::{DomainTotals, Totals};
-use itoa::Buffer;
+
+/// The most bytes of a line of a report, its newline among them.
+pub(crate) const LINE_BYTES: usize = 128;
 
 /// One line, with its newline.
-pub(crate) type Line = ArrayString<128>;
+pub(crate) type Line = ArrayString<LINE_BYTES>;
 
 /// How many calls are in the history.
 pub(crate) fn events_line(events: u64) -> Line
@@ -101,13 +103,4 @@ fn mode_word(mode: Mode) -> &'static str
         Mode::Strict => "strict",
         Mode::Lazy => "lazy",
     }
-}
-
-fn push_decimal(line: &mut Line, n: u64)
-    requires { array_string_len line.old ≤ 108 }
-    ensures bytes { line.new.bytes ≡ line.old.bytes ++ decimal n }
-    ensures len { array_string_len line.new ≤ array_string_len line.old + 20 }
-{
-    let mut buffer = Buffer::new();
-    line.push_str(buffer.format(n));
 }

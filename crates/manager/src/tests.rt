@@ -1,7 +1,7 @@
 //! Managers that threads share.
 
 ghost use Rattle.std.specs.Prelude.{◌≡◌};
-ghost use Rattle.manager.specs.Kept.{Seed};
+ghost use Rattle.manager.specs.Kept.{IsNamedBy};
 
 use super::*;
 use dmatypes::{Access, Call, Fault, Mode, Refusal, Reply, Whim};
@@ -28,12 +28,13 @@ fn hundred_maps<B: Owner>(
     rt: &impl Wait,
     alloc: Global,
     manager: &Manager<B>,
+    rows: &Rows<B>,
     mine: Share<B>,
 ) -> (Share<B>, Result<Vec<u64>, AllocError>) {
     let mut mine = mine;
     let mut addresses = Vec::new(alloc);
     for _ in 0..100u64 {
-        if let Ok((_, Reply::Mapped(address))) = manager.call(rt, &mut mine, one_page(1)) {
+        if let Ok((_, Reply::Mapped(address))) = manager.call(rt, rows, &mut mine, one_page(1)) {
             if addresses.push(address).is_err() {
                 return (mine, Err(AllocError));
             }
@@ -55,6 +56,7 @@ fn all_differ(addresses: &mut Vec<u64>) -> Result<bool, AllocError> {
 // Hands in all shares but the last, which isn't enough, and then all: how many events there were.
 fn finished<B: Owner>(
     manager: Manager<B>,
+    rows: &Rows<B>,
     shares: Vec<Share<B>>,
     last: Share<B>,
 ) -> Result<usize, Fail> {
@@ -63,12 +65,12 @@ fn finished<B: Owner>(
             manager,
             mut shares,
         },
-    ) = manager.finish(shares)
+    ) = manager.finish(rows, shares)
     else {
         return Err(Fail::from("a share is missing"));
     };
     shares.push(last)?;
-    let Ok(history) = manager.finish(shares) else {
+    let Ok(history) = manager.finish(rows, shares) else {
         return Err(Fail::from("all shares are enough"));
     };
     Ok(history.events().len())
@@ -86,25 +88,23 @@ fn shared_by_two<B: Owner + Send + Sync, R: Threads + Wait + Abort + Sync>(
     alloc: Global,
     seed: Seed,
 ) -> Result<(), Fail>
-    requires name { seed.name ≡ B.name }
-    requires parts { seed.shares ≡ B.parts }
-    requires shares { seed.shares ≡ B.shares }
-    requires room { seed.room ≡ B.room }
-    requires frames { seed.frames ≡ B.frames }
+    requires { IsNamedBy seed B.name B.parts B.shares B.room B.frames B.rows }
 {
     let Made {
         manager,
+        rows,
         mut shares,
+        ..
     } = Manager::<B>::new(alloc, seed)?;
     let mut one = shares.pop().ok_or("a share")?;
     let two = shares.pop().ok_or("a share")?;
-    let made = manager.call(rt, &mut one, Call::Domain(Mode::Strict));
+    let made = manager.call(rt, &rows, &mut one, Call::Domain(Mode::Strict));
     assert_eq!(rt; made, Ok((1, Reply::Made(1))));
     let shared = &manager;
     let (first, second) = join(
         rt,
-        || hundred_maps(rt, alloc, shared, one),
-        || hundred_maps(rt, alloc, shared, two),
+        || hundred_maps(rt, alloc, shared, &rows, one),
+        || hundred_maps(rt, alloc, shared, &rows, two),
     );
     assert_eq!(rt; first.0.calls(), 101);
     assert_eq!(rt; second.0.calls(), 100);
@@ -113,7 +113,7 @@ fn shared_by_two<B: Owner + Send + Sync, R: Threads + Wait + Abort + Sync>(
     assert_eq!(rt; addresses.len(), 200);
     assert!(rt; all_differ(&mut addresses)?);
     shares.push(first.0)?;
-    assert_eq!(rt; finished(manager, shares, second.0)?, 201);
+    assert_eq!(rt; finished(manager, &rows, shares, second.0)?, 201);
     Ok(())
 }
 
@@ -126,28 +126,26 @@ fn two_shares_fill_the_history(rt: HostRuntime) -> Result<(), Fail> {
 
 // More than a thousand calls by each of two shares, in turn: the last of them finds no room, and not one before.
 fn filled_by_two<B: Owner, R: Wait + Abort>(rt: &R, alloc: Global, seed: Seed) -> Result<(), Fail>
-    requires name { seed.name ≡ B.name }
-    requires parts { seed.shares ≡ B.parts }
-    requires shares { seed.shares ≡ B.shares }
-    requires room { seed.room ≡ B.room }
-    requires frames { seed.frames ≡ B.frames }
+    requires { IsNamedBy seed B.name B.parts B.shares B.room B.frames B.rows }
 {
     let Made {
         manager,
+        rows,
         mut shares,
+        ..
     } = Manager::<B>::new(alloc, seed)?;
     let mut one = shares.pop().ok_or("a share")?;
     let mut two = shares.pop().ok_or("a share")?;
     for turn in 0..1250u64 {
-        let first = manager.call(rt, &mut one, Call::Flush { domain: 1 });
+        let first = manager.call(rt, &rows, &mut one, Call::Flush { domain: 1 });
         let refused = Reply::Refused(Refusal::NoDomain);
         assert_eq!(rt; first, Ok((2 * turn + 1, refused)));
-        let second = manager.call(rt, &mut two, Call::Flush { domain: 1 });
+        let second = manager.call(rt, &rows, &mut two, Call::Flush { domain: 1 });
         assert_eq!(rt; second, Ok((2 * turn + 2, refused)));
     }
-    let first = manager.call(rt, &mut one, Call::Flush { domain: 1 });
+    let first = manager.call(rt, &rows, &mut one, Call::Flush { domain: 1 });
     assert_eq!(rt; first, Err(HistoryFull));
-    let second = manager.call(rt, &mut two, Call::Flush { domain: 1 });
+    let second = manager.call(rt, &rows, &mut two, Call::Flush { domain: 1 });
     assert_eq!(rt; second, Err(HistoryFull));
     assert!(rt; one.calls() == 1250 && two.calls() == 1250);
     Ok(())
@@ -179,30 +177,28 @@ fn calls_of_one_share(rt: HostRuntime) -> Result<(), Fail> {
 // Each call through the book that the lock guards, a domain with as many pieces as it can have, and a
 // full history.
 fn called_by_one<B: Owner, R: Wait + Abort>(rt: &R, alloc: Global, seed: Seed) -> Result<(), Fail>
-    requires name { seed.name ≡ B.name }
-    requires parts { seed.shares ≡ B.parts }
-    requires shares { seed.shares ≡ B.shares }
-    requires room { seed.room ≡ B.room }
-    requires frames { seed.frames ≡ B.frames }
+    requires { IsNamedBy seed B.name B.parts B.shares B.room B.frames B.rows }
 {
     let Made {
         manager,
+        rows,
         mut shares,
+        ..
     } = Manager::<B>::new(alloc, seed)?;
     let mut mine = shares.pop().ok_or("a share")?;
     {
         let mut guard = manager.lock(rt);
         let book = &mut *guard;
         assert_eq!(rt;
-            book.call(&mut mine, Call::Domain(Mode::Lazy)),
+            book.call(&rows, &mut mine, Call::Domain(Mode::Lazy)),
             Ok((1, Reply::Made(1)))
         );
         for k in 1..1022u64 {
-            let answer = book.call(&mut mine, one_page(1));
+            let answer = book.call(&rows, &mut mine, one_page(1));
             let wanted = Reply::Mapped(k * 4096);
             assert_eq!(rt; answer, Ok((k + 1, wanted)));
         }
-        assert_eq!(rt; book.call(&mut mine, one_page(1)), Err(HistoryFull));
+        assert_eq!(rt; book.call(&rows, &mut mine, one_page(1)), Err(HistoryFull));
         assert_eq!(rt; book.events().len(), 1022);
     }
     assert_eq!(rt; mine.calls(), 1022);
@@ -231,37 +227,35 @@ fn write_at(address: u64, cached: bool) -> Call {
 }
 
 fn crowded<B: Owner, R: Wait + Abort>(rt: &R, alloc: Global, seed: Seed) -> Result<(), Fail>
-    requires name { seed.name ≡ B.name }
-    requires parts { seed.shares ≡ B.parts }
-    requires shares { seed.shares ≡ B.shares }
-    requires room { seed.room ≡ B.room }
-    requires frames { seed.frames ≡ B.frames }
+    requires { IsNamedBy seed B.name B.parts B.shares B.room B.frames B.rows }
 {
     let Made {
         manager,
+        rows,
         mut shares,
+        ..
     } = Manager::<B>::new(alloc, seed)?;
     let mut mine = shares.pop().ok_or("a share")?;
-    let _ = manager.call(rt, &mut mine, Call::Domain(Mode::Strict));
+    let _ = manager.call(rt, &rows, &mut mine, Call::Domain(Mode::Strict));
     for _ in 0..1021u64 {
-        let _ = manager.call(rt, &mut mine, one_page(1));
+        let _ = manager.call(rt, &rows, &mut mine, one_page(1));
     }
-    let last = manager.call(rt, &mut mine, one_page(1));
+    let last = manager.call(rt, &rows, &mut mine, one_page(1));
     assert_eq!(rt; last, Ok((1023, Reply::Refused(Refusal::TooManyPieces))));
     let attach = Call::Attach {
         device: 3,
         domain: 1,
     };
     assert_eq!(rt;
-        manager.call(rt, &mut mine, attach),
+        manager.call(rt, &rows, &mut mine, attach),
         Ok((1024, Reply::Done))
     );
     assert_eq!(rt;
-        manager.call(rt, &mut mine, write_at(0x3fd123, false)),
+        manager.call(rt, &rows, &mut mine, write_at(0x3fd123, false)),
         Ok((1025, Reply::Host(0x1000123)))
     );
     assert_eq!(rt;
-        manager.call(rt, &mut mine, write_at(0x3fe000, true)),
+        manager.call(rt, &rows, &mut mine, write_at(0x3fe000, true)),
         Ok((1026, Reply::Faulted(Fault::Write)))
     );
     Ok(())
@@ -276,15 +270,13 @@ fn snapshots(rt: HostRuntime) -> Result<(), Fail> {
 
 // A new manager, and one with as many domains and devices as there can be.
 fn told_at_moments<B: Owner, R: Wait + Abort>(rt: &R, alloc: Global, seed: Seed) -> Result<(), Fail>
-    requires name { seed.name ≡ B.name }
-    requires parts { seed.shares ≡ B.parts }
-    requires shares { seed.shares ≡ B.shares }
-    requires room { seed.room ≡ B.room }
-    requires frames { seed.frames ≡ B.frames }
+    requires { IsNamedBy seed B.name B.parts B.shares B.room B.frames B.rows }
 {
     let Made {
         manager,
+        rows,
         mut shares,
+        ..
     } = Manager::<B>::new(alloc, seed)?;
     let mut mine = shares.pop().ok_or("a share")?;
     let report = manager.snapshot(rt, alloc)?;
@@ -293,11 +285,11 @@ fn told_at_moments<B: Owner, R: Wait + Abort>(rt: &R, alloc: Global, seed: Seed)
         "events 0\nframes 16 free 0 used 0 retired\ntickets 0 open\nring 0 pending\n"
     );
     for _ in 0..15u64 {
-        let _ = manager.call(rt, &mut mine, Call::Domain(Mode::Lazy));
+        let _ = manager.call(rt, &rows, &mut mine, Call::Domain(Mode::Lazy));
     }
     for device in 0..16u64 {
         let attach = Call::Attach { device, domain: 15 };
-        let _ = manager.call(rt, &mut mine, attach);
+        let _ = manager.call(rt, &rows, &mut mine, attach);
     }
     let report = manager.snapshot(rt, alloc)?;
     let text = report.text();

@@ -26,12 +26,14 @@ not_beyond : (address : ℕ) → IsPage (page_of address) → IsBeyond address �
 not_beyond address is beyond = omega (arith, is.1, beyond)
 
 -- what a domain backs, it allows
-in_domain : (v : Domain) (p : PortWord) (address : ℕ) (access : Access) → IsSoundDomain v → Backs v p → p.page ≡ page_of address → Permits p.translation.rights access
+in_domain : (v : Domain) (p : PortWord) (address : ℕ) (access : Access) → IsSoundDomain v → Backs v p → p.page ≡ page_of address
+    → Permits p.translation.rights access
     → AllowsIn v address access (Host (host_of p.translation address))
 in_domain v p address access s backs page permits =
     let t : Target = backs.0 in
     let may : Permits t.rights access = backs.3 access permits in
-    let host : Host (host_of p.translation address) ≡ Host (host_of t address) = ap (λ (f : ℕ). Host (byte_address f (offset_of address))) (sym backs.2) in
+    let host : Host (host_of p.translation address) ≡ Host (host_of t address) =
+    ap (λ (f : ℕ). Host (byte_address f (offset_of address))) (sym backs.2) in
     elim backs.1 [
       | inl live ↦
           let here : IsLive v (page_of address) t = ap v.live (sym page) ∙ live in
@@ -40,27 +42,36 @@ in_domain v p address access s backs page permits =
           let here : IsRetired v (page_of address) t = subst (λ (q : ℕ). IsRetired v q t) page retired in
           inr (
             not_beyond address (s.retired here.0 (page_of address) t here.1 here.3),
-            inr (λ u live. none_is_no (v.live (page_of address)) u (s.apart here.0 (page_of address) here.1 here.2) live.0, inl (t, (here, may), host)),
+            inr (
+              λ u live. none_is_no (v.live (page_of address)) u (s.apart here.0 (page_of address) here.1 here.2) live.0,
+              inl (t, (here, may), host),
+            ),
           )
     ]
 
-to_device : (o : Option Domain) (p : PortWord) (address : ℕ) (access : Access) → ((v : Domain) → o ≡ Some v → IsSoundDomain v) → IsSomeAnd o (λ v. Backs v p) → p.page ≡ page_of address
+to_device : (o : Option Domain) (p : PortWord) (address : ℕ) (access : Access) → ((v : Domain) → o ≡ Some v → IsSoundDomain v)
+    → IsSomeAnd o (λ v. Backs v p) → p.page ≡ page_of address
     → Permits p.translation.rights access → AllowsTo o address access (Host (host_of p.translation address))
 to_device None p address access s backs page permits = absurd backs
 to_device (Some v) p address access s backs page permits = in_domain v p address access (s v refl) backs page permits
 
-allowed_backed : (w : World) (device : ℕ) (p : PortWord) (address : ℕ) (access : Access) → IsSoundWorld w → IsBacked w device p → p.page ≡ page_of address → Permits p.translation.rights access
+allowed_backed : (w : World) (device : ℕ) (p : PortWord) (address : ℕ) (access : Access) → IsSoundWorld w → IsBacked w device p
+    → p.page ≡ page_of address → Permits p.translation.rights access
     → Allows w device address access (Host (host_of p.translation address))
 unfolding Allows
 allowed_backed w device p address access s backed page permits =
-    to_device (domain_of_device w device) p address access (λ v at. let x = followed w.domains (w.devices device) v at in s x.0 v x.2) backed page permits
+    to_device (domain_of_device w device) p address access
+    (λ v at. let x = followed w.domains (w.devices device) v at in s x.0 v x.2) backed page permits
 
 -- what a lawful word states is allowed after the history
-pub allowed_word : (frames : ℕ) (history : List Event) (device word address : ℕ) (access : Access) (host : ℕ) → IsLegal frames history → IsLawfulAfter frames history device word → States word address access host
+pub allowed_word : (frames : ℕ) (history : List Event) (device word address : ℕ) (access : Access) (host : ℕ) → IsLegal frames history
+    → IsLawfulAfter frames history device word → States word address access host
     → Allows (after frames history) device address access (Host host)
 unfolding IsLawful
-allowed_word frames history device word address access host legal (inl empty) states = absurd (not_empty states.0 (subst (λ (n : ℕ). Spells n states.0) empty states.1))
+allowed_word frames history device word address access host legal (inl empty) states =
+    absurd (not_empty states.0 (subst (λ (n : ℕ). Spells n states.0) empty states.1))
 allowed_word frames history device word address access host legal (inr x) states =
     let same : x.0 ≡ states.0 = one_value word x.0 states.0 x.1 states.1 in
     subst (λ (h : ℕ). Allows (after frames history) device address access (Host h)) (sym states.4)
-    (allowed_backed (after frames history) device states.0 address access (sound_after frames history legal) (subst (λ (q : PortWord). IsBacked (after frames history) device q) same x.2) states.2 states.3)
+    (allowed_backed (after frames history) device states.0 address access (sound_after frames history legal)
+    (subst (λ (q : PortWord). IsBacked (after frames history) device q) same x.2) states.2 states.3)

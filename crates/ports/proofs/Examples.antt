@@ -1,5 +1,6 @@
 -- The history of the tests is legal, and the domain backs what is filled.
-use Rattle.std.proofs.Common.{◌≡◌, ℕ, ◌+◌, true, ◌<◌, ◌≤◌, ◌⊎◌, inl, inr, zero, suc, List, [], ◌∷◌, ◌++◌, length, Some, IsSome, replicate, get_or, refl, sym, ap, subst, arith, true, ◌-◌}
+use Rattle.std.proofs.Common.{◌≡◌, ℕ, ◌+◌, true, ◌<◌, ◌≤◌, ◌⊎◌, inl, inr, zero, suc, List, [], ◌∷◌, ◌++◌, length, Some, IsSome, replicate}
+use Rattle.std.proofs.Common.{get_or, refl, sym, ap, subst, arith, true, ◌-◌}
 use Rattle.dmatypes.specs.declared.call.Call.TheVariants as calls
 use Rattle.dmatypes.specs.declared.call.Mode.TheVariants.{Strict}
 use Rattle.dmatypes.specs.declared.reply.Event.{Event}
@@ -15,6 +16,8 @@ use Rattle.vtdbits.specs.Translation.{target}
 use Rattle.ports.specs.Lawful.{IsBacked, IsLawfulAfter}
 use Rattle.ports.specs.Steps.{AreLawful, place_of}
 use Rattle.ports.specs.Examples.{mapped_history, request, whole_history}
+use Rattle.dmatypes.specs.declared.limits.TheConstants.{MOST_DOMAINS}
+use Rattle.ports.specs.declared.rule.TheConstants.{ROW_WORDS}
 use Rattle.ports.proofs.Histories.{lawful_zero}
 
 made : World
@@ -30,7 +33,7 @@ domain_step : IsStep (empty 64) (calls.Domain Strict) (Made 1)
 unfolding IsStep Stands Answers
 domain_step = ((no_room, tt), (1, (omega arith, omega arith, refl), refl))
   where
-    no_room : ((d : ℕ) → 1 ≤ d → d ≤ 15 → IsSome ((empty 64).domains d)) → ⊥
+    no_room : ((d : ℕ) → 1 ≤ d → d ≤ MOST_DOMAINS → IsSome ((empty 64).domains d)) → ⊥
     no_room all = let one = all 1 (omega arith) (omega arith) in absurd cc
 
 attach_step : IsStep made (calls.Attach 3 1) Done
@@ -38,7 +41,10 @@ unfolding made IsStep Stands Answers next
 attach_step = ((λ big. omega (arith, big), (λ none. absurd cc, (λ some. absurd cc, tt))), refl)
 
 free_pages : AreFreePages (empty_domain Strict) (record { first = 1; pages = 17 })
-free_pages p inside = ((omega (arith, inside.0), omega (arith, inside.1), inl (omega (arith, inside.1))), record { not_live = refl; not_retired = λ r i. absurd i })
+free_pages p inside = (
+  (omega (arith, inside.0), omega (arith, inside.1), inl (omega (arith, inside.1))),
+  record { not_live = refl; not_retired = λ r i. absurd i },
+)
 
 good_map : IsBadMap (record { frame = 0x100; pages = 17 } ∷ []) 0 1 → ⊥
 good_map (inl none) = absurd cc
@@ -62,11 +68,17 @@ map_step = ((λ none. absurd cc, (good_map, (not_owned, (λ no_range. no_range 1
 
 first_step : IsStep filled (request 0x1000 0x100000).call (request 0x1000 0x100000).reply
 unfolding made attached filled IsStep Stands Answers Allows next
-first_step = ((λ big. omega (arith, big), (λ window. omega (arith, window.0), tt)), inr (λ beyond. omega (arith, beyond), inl (target 0x100 1, (refl, refl), refl)))
+first_step = (
+  (λ big. omega (arith, big), (λ window. omega (arith, window.0), tt)),
+  inr (λ beyond. omega (arith, beyond), inl (target 0x100 1, (refl, refl), refl)),
+)
 
 second_step : IsStep filled (request 0x11000 0x110000).call (request 0x11000 0x110000).reply
 unfolding made attached filled IsStep Stands Answers Allows next
-second_step = ((λ big. omega (arith, big), (λ window. omega (arith, window.0), tt)), inr (λ beyond. omega (arith, beyond), inl (target 0x110 1, (refl, refl), refl)))
+second_step = (
+  (λ big. omega (arith, big), (λ window. omega (arith, window.0), tt)),
+  inr (λ beyond. omega (arith, beyond), inl (target 0x110 1, (refl, refl), refl)),
+)
 
 -- ---- each front of the history is legal
 
@@ -77,11 +89,13 @@ pub legal_two : IsLegal 64 (event (calls.Domain Strict) (Made 1) ∷ event (call
 unfolding made
 legal_two = (domain_step, (attach_step, tt))
 
-pub legal_three : IsLegal 64 (event (calls.Domain Strict) (Made 1) ∷ event (calls.Attach 3 1) Done ∷ event (calls.Map 1 0x100 17 0 1) (Mapped 0x1000) ∷ [])
+pub legal_three : IsLegal 64
+    (event (calls.Domain Strict) (Made 1) ∷ event (calls.Attach 3 1) Done ∷ event (calls.Map 1 0x100 17 0 1) (Mapped 0x1000) ∷ [])
 unfolding made attached
 legal_three = (domain_step, (attach_step, (map_step, tt)))
 
-pub mapped_is : event (calls.Domain Strict) (Made 1) ∷ event (calls.Attach 3 1) Done ∷ event (calls.Map 1 0x100 17 0 1) (Mapped 0x1000) ∷ [] ≡ mapped_history
+pub mapped_is : event (calls.Domain Strict) (Made 1) ∷ event (calls.Attach 3 1) Done ∷ event (calls.Map 1 0x100 17 0 1) (Mapped 0x1000) ∷ []
+    ≡ mapped_history
 unfolding mapped_history
 mapped_is = refl
 
@@ -108,8 +122,9 @@ whole_is = refl
 -- ---- words
 
 -- the words of a new desk are lawful after any history
-pub empty_lawful : (frames : ℕ) (history : List Event) → AreLawful (IsLawfulAfter frames) history (replicate 256 0)
-empty_lawful frames history device slot d s = subst (IsLawfulAfter frames history device) (sym (replicated 256 (place_of device slot))) (lawful_zero frames history device)
+pub empty_lawful : (frames : ℕ) (history : List Event) → AreLawful (IsLawfulAfter frames) history (replicate ROW_WORDS 0)
+empty_lawful frames history device slot d s =
+    subst (IsLawfulAfter frames history device) (sym (replicated ROW_WORDS (place_of device slot))) (lawful_zero frames history device)
   where
     replicated : (n k : ℕ) → ◌≡◌ {A = ℕ} (get_or (replicate n 0) k 0) 0
     replicated zero k = refl
@@ -120,6 +135,7 @@ empty_lawful frames history device slot d s = subst (IsLawfulAfter frames histor
 pub backed_page : (place : ℕ) → place < 17 → IsBacked (after 64 whole_history) 3 (port_word (1 + place) (target (0x100 + place) 1))
 unfolding whole_history mapped_history next
 backed_page place less =
-    let within : is_within (record { first = 1; pages = 17 }) (1 + place) ≡ true = within_is (record { first = 1; pages = 17 }) (1 + place) (omega arith, omega (arith, less)) in
+    let within : is_within (record { first = 1; pages = 17 }) (1 + place) ≡ true =
+    within_is (record { first = 1; pages = 17 }) (1 + place) (omega arith, omega (arith, less)) in
     let frame : 0x100 + (1 + place - 1) ≡ 0x100 + place = omega arith in
     (target (0x100 + place) 1, inl (rw within (ap (λ (f : ℕ). Some (target f 1)) frame)), refl, λ access permits. permits)

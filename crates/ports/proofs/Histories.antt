@@ -14,6 +14,7 @@ unfolding IsLawful
 lawful_zero frames history device = inl refl
 
 -- a word that spells what the device's domain backs is lawful
-pub backed_word : (frames : ℕ) (history : List Event) (device word : ℕ) (p : PortWord) → Spells word p → IsBacked (after frames history) device p → IsLawfulAfter frames history device word
+pub backed_word : (frames : ℕ) (history : List Event) (device word : ℕ) (p : PortWord) → Spells word p
+    → IsBacked (after frames history) device p → IsLawfulAfter frames history device word
 unfolding IsLawful
 backed_word frames history device word p spelled backed = inr (p, spelled, backed)

@@ -1,5 +1,6 @@
 -- Maps with an entry put in, lists with one element more, and what stands in an `Option`.
-use Rattle.std.proofs.Common.{◌≡◌, ◌≢◌, ◌⊎◌, ℕ, inl, inr, List, [], ◌∷◌, ◌++◌, Option, Some, None, IsSomeAnd, IfSome, IsNone, IsSome, refl, sym, ap, subst, ◌∙◌}
+use Rattle.std.proofs.Common.{◌≡◌, ◌≢◌, ◌⊎◌, ℕ, inl, inr, List, [], ◌∷◌, ◌++◌, Option, Some, None, IsSomeAnd, IfSome, IsNone, IsSome, refl}
+use Rattle.std.proofs.Common.{sym, ap, subst, ◌∙◌}
 use Rattle.std.proofs.lemmas.Bool.{ne_eqb, eq-eqb}
 use Rattle.std.proofs.lemmas.Bool.Decides.{eqb_tells}
 use Rattle.std.specs.Option.{option_or, option_and_then}
@@ -63,11 +64,13 @@ second_of None l never = refl
 second_of (Some y) l never = absurd (never y refl)
 
 -- where an option followed by a map leads
-pub followed : {A B : Type 0} (map : A → Option B) (o : Option A) (y : B) → option_and_then map o ≡ Some y → (x : A) × (o ≡ Some x) × (map x ≡ Some y)
+pub followed : {A B : Type 0} (map : A → Option B) (o : Option A) (y : B) → option_and_then map o ≡ Some y
+    → (x : A) × (o ≡ Some x) × (map x ≡ Some y)
 followed map None y e = absurd cc
 followed map (Some x) y e = (x, refl, e)
 
-pub leads : {A B : Type 0} (map : A → Option B) (o : Option A) (x : A) (y : B) → o ≡ Some x → map x ≡ Some y → option_and_then map o ≡ Some y
+pub leads : {A B : Type 0} (map : A → Option B) (o : Option A) (x : A) (y : B) → o ≡ Some x → map x ≡ Some y
+    → option_and_then map o ≡ Some y
 leads map o x y at to = ap (option_and_then map) at ∙ to
 
 pub is_of : {A : Type 0} (o : Option A) (P : A → Type 0) → IsSomeAnd o P → (x : A) × (o ≡ Some x) × P x

@@ -1,6 +1,7 @@
 -- What holds along every run.
 -- Of `legal` and `lawful` the module below uses only that the empty history is legal and 0 always lawful.
-use Rattle.std.proofs.Common.{◌≡◌, ℕ, zero, suc, ◌+◌, ◌<◌, ◌≤◌, List, [], ◌∷◌, ◌++◌, length, get_or, set, replicate, refl, sym, ap, ◌∙◌, subst, arith, length-set, get_or-set_same, get_or-set_other}
+use Rattle.std.proofs.Common.{◌≡◌, ℕ, zero, suc, ◌+◌, ◌<◌, ◌≤◌, List, [], ◌∷◌, ◌++◌, length, get_or, set, replicate, refl, sym, ap, ◌∙◌}
+use Rattle.std.proofs.Common.{subst, arith, length-set, get_or-set_same, get_or-set_other}
 use Rattle.std.specs.Prelude.{slice_index, slice_index_or, slice_set}
 use Rattle.std.proofs.lemmas.List.{length-replicate}
 use mathlib.Core.Logic.{dite}
@@ -9,9 +10,12 @@ use native.Mathlib.Decide.{ℕ_discrete}
 use Rattle.dmatypes.specs.declared.reply.Event.{Event}
 use Rattle.dmatypes.specs.History.{IsLegal}
 use Rattle.ports.specs.Lawful.{IsLawfulAfter}
-use Rattle.ports.specs.Steps.{Core, PortStep, loads_word, empties_word, stores_word, adds_event, loads_counter, empty, place_of, seen_by, shown_to, word_at, stepped, stepped_by, IsPortStep, IsRun, WholeRun, AreLawful, led_to}
+use Rattle.ports.specs.Steps.{Core, PortStep, loads_word, empties_word, stores_word, adds_event, loads_counter, empty, place_of, seen_by}
+use Rattle.ports.specs.Steps.{shown_to, word_at, stepped, stepped_by, IsPortStep, IsRun, WholeRun, AreLawful, led_to}
 use Rattle.ports.proofs.Reaching.{stepped_by-append}
 use Rattle.ports.proofs.Fronts.{prefix_self, prefix_nil, prefix_more, prefix_trans}
+use Rattle.dmatypes.specs.declared.limits.TheConstants.{DEVICES}
+use Rattle.ports.specs.declared.rule.TheConstants.{ROW_WORDS, SLOTS}
 use Rattle.ports.proofs.Histories.{legal_empty, lawful_zero}
 
 -- the history only grows
@@ -24,7 +28,8 @@ grows_one c (loads_counter p n) = prefix_self c.history
 
 grows : (c : Core) (steps : List PortStep) → IsPrefix c.history (stepped_by c steps).history
 grows c [] = prefix_self c.history
-grows c (s ∷ ss) = prefix_trans c.history (stepped c s).history (stepped_by (stepped c s) ss).history (grows_one c s) (grows (stepped c s) ss)
+grows c (s ∷ ss) =
+    prefix_trans c.history (stepped c s).history (stepped_by (stepped c s) ss).history (grows_one c s) (grows (stepped c s) ss)
 
 set_front : (l : List (List Event)) (i : ℕ) (x : List Event) → IsPrefix (get_or (set l i x) i []) x
 set_front [] i x = prefix_nil x
@@ -36,13 +41,14 @@ replicated x zero k = refl
 replicated x (suc n) zero = refl
 replicated x (suc n) (suc k) = replicated x n k
 
-module _ (legal : List Event → Type 0) (lawful : List Event → ℕ → ℕ → Type 0) (none_legal : legal []) (zeros : (history : List Event) (device : ℕ) → lawful history device 0) where
+module _ (legal : List Event → Type 0) (lawful : List Event → ℕ → ℕ → Type 0) (none_legal : legal [])
+    (zeros : (history : List Event) (device : ℕ) → lawful history device 0) where
   -- what every step keeps
   pub record IsSoundCore (c : Core) : Type 0 where
     pub is_legal : legal c.history
-    pub wide : length c.words ≡ 256
+    pub wide : length c.words ≡ ROW_WORDS
     pub each_lawful : AreLawful lawful c.history c.words
-    pub ports : 16 ≤ length c.seen
+    pub ports : DEVICES ≤ length c.seen
     pub fronts : (p : ℕ) → IsPrefix (seen_by c p) c.history
 
   run_front : (c : Core) (xs ys : List PortStep) → IsRun legal lawful c (xs ++ ys) → IsRun legal lawful c xs
@@ -54,7 +60,10 @@ module _ (legal : List Event → Type 0) (lawful : List Event → ℕ → ℕ �
   run_rest c (x ∷ xs) ys r = run_rest (stepped c x) xs ys r.1
 
   seen_now : (c : Core) (s : IsSoundCore c) (caller p : ℕ) → IsPrefix (slice_index_or (slice_set c.seen caller c.history) p []) c.history
-  seen_now c s caller p = dite (ℕ_discrete p caller) (λ e. subst (λ (q : ℕ). IsPrefix (slice_index_or (slice_set c.seen caller c.history) q []) c.history) (sym e) (set_front c.seen caller c.history))
+  seen_now c s caller p =
+      dite (ℕ_discrete p caller)
+      (λ e. subst (λ (q : ℕ). IsPrefix (slice_index_or (slice_set c.seen caller c.history) q []) c.history) (sym e)
+      (set_front c.seen caller c.history))
       (λ ne. subst (λ (l : List Event). IsPrefix l c.history) (sym (get_or-set_other c.seen caller p c.history [] ne)) (s.fronts p))
 
   sound_shown : (c : Core) (caller : ℕ) → IsSoundCore c → IsSoundCore (shown_to caller c)
@@ -66,13 +75,17 @@ module _ (legal : List Event → Type 0) (lawful : List Event → ℕ → ℕ �
     fronts = seen_now c s caller;
   }
 
-  stored : (c : Core) (s : IsSoundCore c) (d i n : ℕ) → d < 16 → i < 16 → lawful c.history d n → AreLawful lawful c.history (slice_set c.words (place_of d i) n)
+  stored : (c : Core) (s : IsSoundCore c) (d i n : ℕ) → d < DEVICES → i < SLOTS → lawful c.history d n
+      → AreLawful lawful c.history (slice_set c.words (place_of d i) n)
   stored c s d i n hd hi may d' i' hd' hi' =
       let lt : place_of d i < length c.words = rw s.wide (omega arith) in
       dite (ℕ_discrete (place_of d' i') (place_of d i))
       (λ e. let same : d ≡ d' = omega arith in
-      subst (λ (x : ℕ × ℕ). lawful c.history x.0 x.1) (λ j. (same j, sym (ap (slice_index (slice_set c.words (place_of d i) n)) e ∙ get_or-set_same c.words (place_of d i) n 0 lt) j)) may)
-      (λ ne. subst (lawful c.history d') (sym (get_or-set_other c.words (place_of d i) (place_of d' i') n 0 ne)) (s.each_lawful d' i' hd' hi'))
+      subst (λ (x : ℕ × ℕ). lawful c.history x.0 x.1)
+      (λ j. (same j, sym (ap (slice_index (slice_set c.words (place_of d i) n)) e ∙ get_or-set_same c.words (place_of d i) n 0 lt) j))
+      may)
+      (λ ne. subst (lawful c.history d') (sym (get_or-set_other c.words (place_of d i) (place_of d' i') n 0 ne))
+      (s.each_lawful d' i' hd' hi'))
 
   sound_one : (c : Core) (step : PortStep) → IsSoundCore c → IsPortStep legal lawful c step → IsSoundCore (stepped c step)
   sound_one c (loads_word p i n) s may = sound_shown c p s
@@ -107,37 +120,50 @@ module _ (legal : List Event → Type 0) (lawful : List Event → ℕ → ℕ �
   sound_empty passes = record {
     is_legal = none_legal;
     wide = refl;
-    each_lawful = λ d i _ _. subst (lawful [] d) (sym (replicated 0 256 (place_of d i))) (zeros [] d);
-    ports = rw (length-replicate {A = List Event} (16 + passes) []) (omega arith);
-    fronts = λ p. subst (λ (l : List Event). IsPrefix l []) (sym (replicated [] (16 + passes) p)) (prefix_self []);
+    each_lawful = λ d i _ _. subst (lawful [] d) (sym (replicated 0 ROW_WORDS (place_of d i))) (zeros [] d);
+    ports = rw (length-replicate {A = List Event} (DEVICES + passes) []) (omega arith);
+    fronts = λ p. subst (λ (l : List Event). IsPrefix l []) (sym (replicated [] (DEVICES + passes) p)) (prefix_self []);
   }
 
-  pub front_of : (passes : ℕ) (steps front rest : List PortStep) → IsRun legal lawful (empty passes) steps → steps ≡ front ++ rest → IsSoundCore (led_to passes front)
-  front_of passes steps front rest r is = sound (empty passes) front (sound_empty passes) (run_front (empty passes) front rest (subst (IsRun legal lawful (empty passes)) is r))
+  pub front_of : (passes : ℕ) (steps front rest : List PortStep) → IsRun legal lawful (empty passes) steps → steps ≡ front ++ rest
+      → IsSoundCore (led_to passes front)
+  front_of passes steps front rest r is =
+      sound (empty passes) front (sound_empty passes) (run_front (empty passes) front rest (subst (IsRun legal lawful (empty passes)) is r))
 
-  pub step_of : (passes : ℕ) (steps front rest : List PortStep) (s : PortStep) → IsRun legal lawful (empty passes) steps → steps ≡ front ++ s ∷ rest → IsPortStep legal lawful (led_to passes front) s
-  step_of passes steps front rest s r is = let all = run_rest (empty passes) front (s ∷ rest) (subst (IsRun legal lawful (empty passes)) is r) in all.0
+  pub step_of : (passes : ℕ) (steps front rest : List PortStep) (s : PortStep) → IsRun legal lawful (empty passes) steps
+      → steps ≡ front ++ s ∷ rest → IsPortStep legal lawful (led_to passes front) s
+  step_of passes steps front rest s r is =
+      let all = run_rest (empty passes) front (s ∷ rest) (subst (IsRun legal lawful (empty passes)) is r) in all.0
 
-grown : (passes : ℕ) (steps front rest : List PortStep) → steps ≡ front ++ rest → IsPrefix (led_to passes front).history (led_to passes steps).history
+grown : (passes : ℕ) (steps front rest : List PortStep) → steps ≡ front ++ rest
+    → IsPrefix (led_to passes front).history (led_to passes steps).history
 grown passes steps front rest is =
-    subst (λ (c : Core). IsPrefix (led_to passes front).history c.history) (sym (ap (stepped_by (empty passes)) is ∙ stepped_by-append (empty passes) front rest)) (grows (led_to passes front) rest)
+    subst (λ (c : Core). IsPrefix (led_to passes front).history c.history)
+    (sym (ap (stepped_by (empty passes)) is ∙ stepped_by-append (empty passes) front rest)) (grows (led_to passes front) rest)
 
 pub whole_run : WholeRun
 whole_run frames passes steps r =
     let legal = IsLegal frames in
     let lawful = IsLawfulAfter frames in
-    let at = λ (front rest : List PortStep) (is : steps ≡ front ++ rest). front_of legal lawful (legal_empty frames) (lawful_zero frames) passes steps front rest r is in
+    let at = λ (front rest : List PortStep) (is : steps ≡ front ++ rest).
+    front_of legal lawful (legal_empty frames) (lawful_zero frames) passes steps front rest r is in
     record {
-      legal = (sound legal lawful (legal_empty frames) (lawful_zero frames) (empty passes) steps (sound_empty legal lawful (legal_empty frames) (lawful_zero frames) passes) r).is_legal;
-      seen = λ front rest caller is. prefix_trans (seen_by (led_to passes front) caller) (led_to passes front).history (led_to passes steps).history ((at front rest is).fronts caller) (grown passes steps front rest is);
+      legal = (sound legal lawful (legal_empty frames) (lawful_zero frames) (empty passes) steps
+          (sound_empty legal lawful (legal_empty frames) (lawful_zero frames) passes) r).is_legal;
+      seen = λ front rest caller is.
+          prefix_trans (seen_by (led_to passes front) caller) (led_to passes front).history (led_to passes steps).history
+          ((at front rest is).fronts caller) (grown passes steps front rest is);
       lawful = λ front rest port slot word is.
           let s = at front (loads_word port slot word ∷ rest) is in
-          let may : (port < 16) × (slot < 16) × (word ≡ word_at (led_to passes front) port slot) = step_of legal lawful (legal_empty frames) (lawful_zero frames) passes steps front rest (loads_word port slot word) r is in
+          let may : (port < DEVICES) × (slot < SLOTS) × (word ≡ word_at (led_to passes front) port slot) =
+          step_of legal lawful (legal_empty frames) (lawful_zero frames) passes steps front rest (loads_word port slot word) r is in
           let c : Core = led_to passes front in
           let lt : port < length c.seen = omega (arith, s.ports, may.0) in (
             subst (lawful c.history port) (sym may.2) (s.each_lawful port slot may.0 may.1),
-            ap (λ (d : Core). seen_by d port) (stepped_by-append (empty passes) front (loads_word port slot word ∷ [])) ∙ get_or-set_same c.seen port c.history [] lt,
+            ap (λ (d : Core). seen_by d port) (stepped_by-append (empty passes) front (loads_word port slot word ∷ []))
+                ∙ get_or-set_same c.seen port c.history [] lt,
           );
       ordered = λ front between rest one other caller _ _ is.
-          subst (λ (c : Core). IsPrefix (led_to passes front).history c.history) (sym (stepped_by-append (empty passes) front (one ∷ between))) (grows (led_to passes front) (one ∷ between));
+          subst (λ (c : Core). IsPrefix (led_to passes front).history c.history)
+          (sym (stepped_by-append (empty passes) front (one ∷ between))) (grows (led_to passes front) (one ∷ between));
     }

@@ -1,6 +1,7 @@
 -- Stores and the addition of an event keep the rule.
 -- Of `legal` and `lawful` these proofs use only that the empty history is legal and 0 always lawful.
-use Rattle.std.proofs.Common.{◌≡◌, ◌≢◌, ◌⊎◌, ℕ, suc, ◌+◌, ◌%◌, ◌^◌, ◌<◌, true, List, [], ◌∷◌, ◌++◌, length, set, refl, sym, ap, ◌∙◌, subst, inl, inr, ⊎_elim, arith, length-set, length-append, get_or-set_same, get_or-set_other}
+use Rattle.std.proofs.Common.{◌≡◌, ◌≢◌, ◌⊎◌, ℕ, suc, ◌+◌, ◌%◌, ◌^◌, ◌<◌, true, List, [], ◌∷◌, ◌++◌, length, set, refl, sym, ap, ◌∙◌, subst}
+use Rattle.std.proofs.Common.{inl, inr, ⊎_elim, arith, length-set, length-append, get_or-set_same, get_or-set_other}
 use Rattle.std.specs.Prelude.{slice_index, slice_set}
 use mathlib.Core.Option.{none, some}
 use mathlib.Core.Logic.{dite}
@@ -13,25 +14,49 @@ use Rattle.ports.specs.declared.known.OwnStep.TheVariants.{Stored}
 use Rattle.ports.specs.declared.known.Known.{Known}
 use Rattle.ports.specs.declared.known.View.{View}
 use Rattle.ports.specs.Steps.{empties_word, stores_word, adds_event, counter, place_of, stepped, IsReached, AreLawful}
-use Rattle.ports.specs.Rule.{view_of, desk_of, Truth, Fits, Table, Sat, IsKept, Emptied, Filled, Appended}
+use Rattle.ports.specs.Rule.{caller_view, desk_view, Truth, Fits, Table, Sat, IsKept, Emptied, Filled, Appended}
 use Rattle.ports.proofs.Fronts.{prefix_self, prefix_trans}
 use Rattle.ports.proofs.Reaching.{reached_more}
+use Rattle.dmatypes.specs.declared.limits.TheConstants.{DEVICES, MOST_CALLS}
+use Rattle.ports.specs.declared.rule.TheConstants.{COUNTER, ROW_WORDS, SLOTS}
 use Rattle.ports.proofs.Views.{Stays, caller_fits, desk_fits_as, fits_stays, desk_else, others}
 
-module _ (legal : List Event → Type 0) (lawful : List Event → ℕ → ℕ → Type 0) (none_legal : legal []) (zeros : (log : List Event) (device : ℕ) → lawful log device 0) (passes : ℕ) where
+module _ (legal : List Event → Type 0) (lawful : List Event → ℕ → ℕ → Type 0) (none_legal : legal [])
+    (zeros : (log : List Event) (device : ℕ) → lawful log device 0) (passes : ℕ) where
   abbrev K : Table → Type 0
   K s = IsKept legal lawful passes s
 
   -- the word at a place becomes n, which is 0 or the last word that the desk stored there
-  stores : (s : Table) (r : K s) (device slot n id : ℕ) (c : List (ℕ × Unit {0})) (w : View) (last : List ℕ) (t : Truth) → device < 16 → slot < 16
-      → t ≡ record { core = record { history = r.truth.core.history; words = slice_set r.truth.core.words (place_of device slot) n; seen = r.truth.core.seen }; last = last; desk = r.truth.desk; made = r.truth.made; place = r.truth.place }
-      → (n ≡ 0) ⊎ (n ≡ slice_index last (place_of device slot)) → ((k : ℕ) → k ≢ place_of device slot → slice_index last k ≡ slice_index r.truth.last k)
-      → AreLawful lawful r.truth.core.history last → IsReached legal lawful passes t.core → ((j : ℕ) (v : View) → get_elem? (set s.views id w) j ≡ some v → Fits t j v)
+  stores : (s : Table) (r : K s) (device slot n id : ℕ) (c : List (ℕ × Unit {0})) (w : View) (last : List ℕ) (t : Truth) → device < DEVICES
+      → slot < SLOTS
+      → t ≡ record {
+        core =
+            record {
+              history = r.truth.core.history;
+              words = slice_set r.truth.core.words (place_of device slot) n;
+              seen = r.truth.core.seen;
+            };
+        last = last;
+        desk = r.truth.desk;
+        made = r.truth.made;
+        place = r.truth.place;
+      }
+      → (n ≡ 0) ⊎ (n ≡ slice_index last (place_of device slot))
+      → ((k : ℕ) → k ≢ place_of device slot → slice_index last k ≡ slice_index r.truth.last k)
+      → AreLawful lawful r.truth.core.history last → IsReached legal lawful passes t.core
+      → ((j : ℕ) (v : View) → get_elem? (set s.views id w) j ≡ some v → Fits t j v)
       → K (table_after s (place_of device slot) n id c w keeps)
   stores s r device slot n id c w last t hd hs is here there lawfuls reached fits =
       let i : ℕ = place_of device slot in
-      let now : Truth = record { core = record { history = r.truth.core.history; words = slice_set r.truth.core.words i n; seen = r.truth.core.seen }; last = last; desk = r.truth.desk; made = r.truth.made; place = r.truth.place } in
-      let lt : i < 256 = omega arith in
+      let now : Truth =
+      record {
+        core = record { history = r.truth.core.history; words = slice_set r.truth.core.words i n; seen = r.truth.core.seen };
+        last = last;
+        desk = r.truth.desk;
+        made = r.truth.made;
+        place = r.truth.place;
+      } in
+      let lt : i < ROW_WORDS = omega arith in
       let lt' : i < length s.words = rw r.wide (omega arith) in
       let lt'' : i < length r.truth.core.words = rw r.core_wide lt in
       let ne : counter ≢ i = omega arith in
@@ -39,17 +64,20 @@ module _ (legal : List Event → Type 0) (lawful : List Event → ℕ → ℕ �
         truth = now;
         reached = subst (λ (x : Truth). IsReached legal lawful passes x.core) is reached;
         wide = length-set s.words i n ∙ r.wide;
-        count = get_or-set_other s.words i 256 n 0 ne ∙ r.count;
+        count = get_or-set_other s.words i COUNTER n 0 ne ∙ r.count;
         is_legal = r.is_legal;
         core_wide = length-set r.truth.core.words i n ∙ r.core_wide;
         words = λ k h. dite (ℕ_discrete k i)
-            (λ e. ap (slice_index (slice_set r.truth.core.words i n)) e ∙ get_or-set_same r.truth.core.words i n 0 lt'' ∙ sym (ap (slice_index (slice_set s.words i n)) e ∙ get_or-set_same s.words i n 0 lt'))
+            (λ e. ap (slice_index (slice_set r.truth.core.words i n)) e ∙ get_or-set_same r.truth.core.words i n 0 lt''
+            ∙ sym (ap (slice_index (slice_set s.words i n)) e ∙ get_or-set_same s.words i n 0 lt'))
             (λ e. get_or-set_other r.truth.core.words i k n 0 e ∙ r.words k h ∙ sym (get_or-set_other s.words i k n 0 e));
         rows = λ k h. dite (ℕ_discrete k i)
-            (λ e. let same : slice_index (slice_set s.words i n) k ≡ n = ap (slice_index (slice_set s.words i n)) e ∙ get_or-set_same s.words i n 0 lt' in
+            (λ e. let same : slice_index (slice_set s.words i n) k ≡ n = ap (slice_index (slice_set s.words i n)) e
+            ∙ get_or-set_same s.words i n 0 lt' in
             ⊎_elim (λ (z : n ≡ 0). inl (same ∙ z)) (λ (z : n ≡ slice_index last i). inr (same ∙ z ∙ ap (slice_index last) (sym e))) here)
             (λ e. let same : slice_index (slice_set s.words i n) k ≡ slice_index s.words k = get_or-set_other s.words i k n 0 e in
-            ⊎_elim (λ (z : slice_index s.words k ≡ 0). inl (same ∙ z)) (λ (z : slice_index s.words k ≡ slice_index r.truth.last k). inr (same ∙ z ∙ sym (there k e))) (r.rows k h));
+            ⊎_elim (λ (z : slice_index s.words k ≡ 0). inl (same ∙ z))
+            (λ (z : slice_index s.words k ≡ slice_index r.truth.last k). inr (same ∙ z ∙ sym (there k e))) (r.rows k h));
         each_lawful = lawfuls;
         callers = r.callers;
         made = r.made;
@@ -58,38 +86,57 @@ module _ (legal : List Event → Type 0) (lawful : List Event → ℕ → ℕ �
       }
 
   -- a port stores 0 in its row
-  pub empties : (slots id : ℕ) (me : Sat) (port slot : ℕ) → port < 16 → slot < 16 → me.0.mine.who ≡ suc port
+  pub empties : (slots id : ℕ) (me : Sat) (port slot : ℕ) → port < DEVICES → slot < SLOTS → me.0.mine.who ≡ suc port
       → Allows K slots id me (place_of port slot) (λ _. 0) (λ _. Emptied (step slots (place_of port slot) 0 0 none) me 0)
   unfolding Stays
   empties slots id me port slot hp hs who s r _ at _ =
       let i : ℕ = place_of port slot in
       let now : Known = record { who = me.0.mine.who; seen = me.0.mine.seen; did = me.0.mine.did ++ Stored i 0 ∷ [] } in
-      let t : Truth = record { core = stepped r.truth.core (empties_word port slot); last = r.truth.last; desk = r.truth.desk; made = r.truth.made; place = r.truth.place } in
+      let t : Truth =
+      record {
+        core = stepped r.truth.core (empties_word port slot);
+        last = r.truth.last;
+        desk = r.truth.desk;
+        made = r.truth.made;
+        place = r.truth.place;
+      } in
       let fits = r.each_seat id me.0 at in (
-        view_of me.0.frames now,
+        caller_view me.0.frames now,
         keeps,
         tt,
-        stores s r port slot 0 id me.1 (view_of me.0.frames now) r.truth.last t hp hs refl (inl refl) (λ k _. refl) r.each_lawful (reached_more legal lawful passes r.truth.core (empties_word port slot) r.reached (hp, hs))
-            (others t id s.views (view_of me.0.frames now)
-            (λ j v _ e. fits_stays r.truth t j v (prefix_self r.truth.core.history) (omega arith) (λ _. (refl, refl, refl, refl)) (λ q side _ x. (refl, refl)) (r.each_seat j v e))
+        stores s r port slot 0 id me.1 (caller_view me.0.frames now) r.truth.last t hp hs refl (inl refl) (λ k _. refl) r.each_lawful
+            (reached_more legal lawful passes r.truth.core (empties_word port slot) r.reached (hp, hs))
+            (others t id s.views (caller_view me.0.frames now)
+            (λ j v _ e.
+            fits_stays r.truth t j v (prefix_self r.truth.core.history) (omega arith) (λ _. (refl, refl, refl, refl))
+            (λ q side _ x. (refl, refl)) (r.each_seat j v e))
             (caller_fits t id me.0.frames now fits.seen (record { is = fits.mine_named.is }))),
         refl,
       )
 
   -- the desk stores a lawful word in a row
-  pub fills : (slots id : ℕ) (me : Sat) (device slot n : ℕ) → device < 16 → slot < 16 → me.0.is_desk ≡ true → length me.0.last ≡ 256 → lawful me.0.mine.seen device n
+  pub fills : (slots id : ℕ) (me : Sat) (device slot n : ℕ) → device < DEVICES → slot < SLOTS → me.0.is_desk ≡ true
+      → length me.0.last ≡ ROW_WORDS
+      → lawful me.0.mine.seen device n
       → Allows K slots id me (place_of device slot) (λ _. n) (λ _. Filled (step slots (place_of device slot) n 0 none) me n)
   unfolding Stays
   fills slots id me device slot n d k is long may s r _ at _ =
       let i : ℕ = place_of device slot in
-      let lt : i < 256 = omega arith in
+      let lt : i < ROW_WORDS = omega arith in
       let lt' : i < length me.0.last = rw long lt in
       let fits = r.each_seat id me.0 at in
       let whole = fits.whole is in
       let last = slice_set me.0.last i n in
-      let w = desk_of me.0.frames me.0.mine.seen last me.0.made me.0.guest in
+      let w = desk_view me.0.frames me.0.mine.seen last me.0.made me.0.guest in
       let may' : lawful r.truth.core.history device n = subst (λ (l : List Event). lawful l device n) whole.1 may in
-      let t : Truth = record { core = stepped r.truth.core (stores_word device slot n); last = last; desk = r.truth.desk; made = r.truth.made; place = r.truth.place } in (
+      let t : Truth =
+      record {
+        core = stepped r.truth.core (stores_word device slot n);
+        last = last;
+        desk = r.truth.desk;
+        made = r.truth.made;
+        place = r.truth.place;
+      } in (
         w,
         keeps,
         tt,
@@ -97,12 +144,18 @@ module _ (legal : List Event → Type 0) (lawful : List Event → ℕ → ℕ �
             (λ j ne. get_or-set_other me.0.last i j n 0 ne ∙ ap (λ (l : List ℕ). slice_index l j) whole.2)
             (λ device' slot' d' k'. dite (ℕ_discrete (place_of device' slot') i)
             (λ e. let same : device ≡ device' = omega arith in
-            subst (λ (x : ℕ × ℕ). lawful r.truth.core.history x.0 x.1) (λ j. (same j, sym (ap (slice_index last) e ∙ get_or-set_same me.0.last i n 0 lt') j)) may')
-            (λ e. subst (lawful r.truth.core.history device') (sym (get_or-set_other me.0.last i (place_of device' slot') n 0 e ∙ ap (λ (l : List ℕ). slice_index l (place_of device' slot')) whole.2)) (r.each_lawful device' slot' d' k')))
+            subst (λ (x : ℕ × ℕ). lawful r.truth.core.history x.0 x.1)
+            (λ j. (same j, sym (ap (slice_index last) e ∙ get_or-set_same me.0.last i n 0 lt') j)) may')
+            (λ e. subst (lawful r.truth.core.history device')
+            (sym (get_or-set_other me.0.last i (place_of device' slot') n 0 e
+            ∙ ap (λ (l : List ℕ). slice_index l (place_of device' slot')) whole.2)) (r.each_lawful device' slot' d' k')))
             (reached_more legal lawful passes r.truth.core (stores_word device slot n) r.reached (d, k, may'))
             (others t id s.views w
-            (λ j v ne e. desk_else r.truth t id whole.0 (prefix_self r.truth.core.history) (omega arith) j (λ q side _ x. (refl, refl)) v ne (r.each_seat j v e))
-            (desk_fits_as t id me.0.frames me.0.mine.seen last me.0.made me.0.guest whole.1 refl whole.3 whole.0 fits.guest (record { is = fits.guest_named.is }))),
+            (λ j v ne e.
+            desk_else r.truth t id whole.0 (prefix_self r.truth.core.history) (omega arith) j (λ q side _ x. (refl, refl)) v ne
+            (r.each_seat j v e))
+            (desk_fits_as t id me.0.frames me.0.mine.seen last me.0.made me.0.guest whole.1 refl whole.3 whole.0 fits.guest
+            (record { is = fits.guest_named.is }))),
         refl,
       )
 
@@ -110,13 +163,14 @@ module _ (legal : List Event → Type 0) (lawful : List Event → ℕ → ℕ �
   words_lawful : (s : Table) (r : K s) (log : List Event) → AreLawful lawful log r.truth.last → AreLawful lawful log r.truth.core.words
   words_lawful s r log all device slot d k =
       let i : ℕ = place_of device slot in
-      let lt : i < 256 = omega arith in
+      let lt : i < ROW_WORDS = omega arith in
       subst (lawful log device) (sym (r.words i lt))
       (⊎_elim (λ (e : slice_index s.words i ≡ 0). subst (lawful log device) (sym e) (zeros log device))
       (λ (e : slice_index s.words i ≡ slice_index r.truth.last i). subst (lawful log device) (sym e) (all device slot d k)) (r.rows i lt))
 
   -- the desk appends an event
-  pub appends : (slots id : ℕ) (me : Sat) (event : Event) → me.0.is_desk ≡ true → length me.0.mine.seen < 1048576 → legal (me.0.mine.seen ++ event ∷ []) → AreLawful lawful (me.0.mine.seen ++ event ∷ []) me.0.last
+  pub appends : (slots id : ℕ) (me : Sat) (event : Event) → me.0.is_desk ≡ true → length me.0.mine.seen < MOST_CALLS
+      → legal (me.0.mine.seen ++ event ∷ []) → AreLawful lawful (me.0.mine.seen ++ event ∷ []) me.0.last
       → Allows K slots id me counter (λ n. (n + 1) % 2 ^ 64) (Appended event (step slots counter 1 0 none) me)
   unfolding Stays
   appends slots id me event is room may lawfuls s r _ at _ =
@@ -125,14 +179,22 @@ module _ (legal : List Event → Type 0) (lawful : List Event → ℕ → ℕ �
       let whole = fits.whole is in
       let log = r.truth.core.history ++ event ∷ [] in
       let now : me.0.mine.seen ++ event ∷ [] ≡ log = ap (λ (l : List Event). l ++ event ∷ []) whole.1 in
-      let t : Truth = record { core = stepped r.truth.core (adds_event event); last = r.truth.last; desk = r.truth.desk; made = r.truth.made; place = r.truth.place } in
-      let w = desk_of me.0.frames (me.0.mine.seen ++ event ∷ []) me.0.last me.0.made me.0.guest in
+      let t : Truth =
+      record {
+        core = stepped r.truth.core (adds_event event);
+        last = r.truth.last;
+        desk = r.truth.desk;
+        made = r.truth.made;
+        place = r.truth.place;
+      } in
+      let w = desk_view me.0.frames (me.0.mine.seen ++ event ∷ []) me.0.last me.0.made me.0.guest in
       let wide : counter < length s.words = rw r.wide (omega arith) in
-      let room' : length r.truth.core.history < 1048576 = subst (λ (l : List Event). length l < 1048576) whole.1 room in
+      let room' : length r.truth.core.history < MOST_CALLS = subst (λ (l : List Event). length l < MOST_CALLS) whole.1 room in
       let count = r.count in
       let more : (n + 1) % 18446744073709551616 ≡ length log = omega (arith, length-append r.truth.core.history (event ∷ [])) in
       let may' : legal log = subst legal now may in
-      let lawfuls' : AreLawful lawful log r.truth.last = subst (λ (x : List Event × List ℕ). AreLawful lawful x.0 x.1) (λ j. (now j, whole.2 j)) lawfuls in
+      let lawfuls' : AreLawful lawful log r.truth.last =
+      subst (λ (x : List Event × List ℕ). AreLawful lawful x.0 x.1) (λ j. (now j, whole.2 j)) lawfuls in
       let pre : IsPrefix r.truth.core.history log = (event ∷ [], refl) in (
         w,
         keeps,
@@ -144,16 +206,22 @@ module _ (legal : List Event → Type 0) (lawful : List Event → ℕ → ℕ �
           count = get_or-set_same s.words counter ((n + 1) % 2 ^ 64) 0 wide ∙ more;
           is_legal = may';
           core_wide = r.core_wide;
-          words = λ k h. let ne : k ≢ counter = omega arith in r.words k h ∙ sym (get_or-set_other s.words counter k ((n + 1) % 2 ^ 64) 0 ne);
+          words = λ k h. let ne : k ≢ counter =
+              omega arith in r.words k h ∙ sym (get_or-set_other s.words counter k ((n + 1) % 2 ^ 64) 0 ne);
           rows = λ k h. let ne : k ≢ counter = omega arith in
-              let was : slice_index (slice_set s.words counter ((n + 1) % 2 ^ 64)) k ≡ slice_index s.words k = get_or-set_other s.words counter k ((n + 1) % 2 ^ 64) 0 ne in
-              ⊎_elim (λ (z : slice_index s.words k ≡ 0). inl (was ∙ z)) (λ (z : slice_index s.words k ≡ slice_index r.truth.last k). inr (was ∙ z)) (r.rows k h);
+              let was : slice_index (slice_set s.words counter ((n + 1) % 2 ^ 64)) k ≡ slice_index s.words k =
+              get_or-set_other s.words counter k ((n + 1) % 2 ^ 64) 0 ne in
+              ⊎_elim (λ (z : slice_index s.words k ≡ 0). inl (was ∙ z))
+              (λ (z : slice_index s.words k ≡ slice_index r.truth.last k). inr (was ∙ z)) (r.rows k h);
           each_lawful = lawfuls';
           callers = r.callers;
           made = r.made;
           fresh = r.fresh;
-          each_seat = others t id s.views w (λ j v ne e. desk_else r.truth t id whole.0 pre (omega arith) j (λ q side _ x. (refl, refl)) v ne (r.each_seat j v e))
-              (desk_fits_as t id me.0.frames (me.0.mine.seen ++ event ∷ []) me.0.last me.0.made me.0.guest now whole.2 whole.3 whole.0 (prefix_trans me.0.guest.seen r.truth.core.history log fits.guest pre) (record { is = fits.guest_named.is }));
+          each_seat =
+              others t id s.views w
+              (λ j v ne e. desk_else r.truth t id whole.0 pre (omega arith) j (λ q side _ x. (refl, refl)) v ne (r.each_seat j v e))
+              (desk_fits_as t id me.0.frames (me.0.mine.seen ++ event ∷ []) me.0.last me.0.made me.0.guest now whole.2 whole.3 whole.0
+              (prefix_trans me.0.guest.seen r.truth.core.history log fits.guest pre) (record { is = fits.guest_named.is }));
         },
         refl,
       )

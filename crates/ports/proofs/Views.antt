@@ -1,5 +1,7 @@
 -- What stays true of the views of all seats when one of them changes.
-use Rattle.std.proofs.Common.{◌≡◌, ◌≢◌, ◌⊎◌, ℕ, zero, suc, ◌<◌, ◌≤◌, Bool, true, false, true≢false, cond, eqb, List, [], ◌∷◌, ◌++◌, length, get_or, set, refl, sym, ap, ◌∙◌, subst, inl, inr, ⊎_elim, arith, get_or-set_same, get_or-set_other, eq-eqb, ne_eqb}
+use Rattle.std.proofs.Common.{◌≡◌, ◌≢◌, ◌⊎◌, ℕ, zero, suc, ◌<◌, ◌≤◌, Bool, true, false, true≢false, cond, eqb, List, [], ◌∷◌, ◌++◌, length}
+use Rattle.std.proofs.Common.{get_or, set, refl, sym, ap, ◌∙◌, subst, inl, inr, ⊎_elim, arith, get_or-set_same, get_or-set_other, eq-eqb}
+use Rattle.std.proofs.Common.{ne_eqb}
 use mathlib.Core.Option.{some, some-injective, some-ne-none}
 use mathlib.Core.Logic.{dite}
 use mathlib.Core.List.{IsPrefix}
@@ -10,13 +12,14 @@ use Rattle.dmatypes.specs.declared.reply.Event.{Event}
 use Rattle.ports.specs.declared.known.Known.{Known}
 use Rattle.ports.specs.declared.known.View.{View}
 use Rattle.ports.specs.Steps.{seen_by, shown_to}
-use Rattle.ports.specs.Rule.{nobody, left_seat, view_of, desk_of, Truth, IsNamed, Fits}
+use Rattle.ports.specs.Rule.{nobody, left_seat, caller_view, desk_view, Truth, IsNamed, Fits}
 use Rattle.ports.proofs.Fronts.{prefix_self, prefix_nil, prefix_trans}
 
 off : {X : Type 0} → false ≡ true → X
 off e = absurd (true≢false (sym e))
 
-at_snoc : {A : Type 0} (l : List A) (a b : A) (j : ℕ) → get_elem? (l ++ a ∷ []) j ≡ some b → (get_elem? l j ≡ some b) ⊎ ((j ≡ length l) × (a ≡ b))
+at_snoc : {A : Type 0} (l : List A) (a b : A) (j : ℕ) → get_elem? (l ++ a ∷ []) j ≡ some b
+    → (get_elem? l j ≡ some b) ⊎ ((j ≡ length l) × (a ≡ b))
 at_snoc [] a b zero e = inr (refl, some-injective a b e)
 at_snoc [] a b (suc j) e = absurd (some-ne-none b (sym e))
 at_snoc (x ∷ xs) a b zero e = inl e
@@ -36,18 +39,23 @@ put_else place p x q ne = rw (ne_eqb q p ne)
 pub nobody_named : (t : Truth) (j : ℕ) (as_guest : Bool) → IsNamed t j as_guest nobody
 nobody_named t j g = record { is = λ p e. absurd (omega arith) }
 
-pub named_as : (t : Truth) (j : ℕ) (as_guest : Bool) (known : Known) (p : ℕ) → known.who ≡ suc p → p < t.made → t.place p ≡ (j, as_guest) → seen_by t.core p ≡ known.seen → IsNamed t j as_guest known
+pub named_as : (t : Truth) (j : ℕ) (as_guest : Bool) (known : Known) (p : ℕ) → known.who ≡ suc p → p < t.made → t.place p ≡ (j, as_guest)
+    → seen_by t.core p ≡ known.seen → IsNamed t j as_guest known
 named_as t j g known p who lt at seen = record {
-  is = λ q e. let same : p ≡ q = omega arith in subst (λ (x : ℕ). (x < t.made) × (t.place x ≡ (j, g)) × (seen_by t.core x ≡ known.seen)) same (lt, at, seen);
+  is = λ q e. let same : p ≡ q =
+      omega arith in subst (λ (x : ℕ). (x < t.made) × (t.place x ≡ (j, g)) × (seen_by t.core x ≡ known.seen)) same (lt, at, seen);
 }
 
-pub caller_fits : (t : Truth) (j frames : ℕ) (known : Known) → IsPrefix known.seen t.core.history → IsNamed t j false known → Fits t j (view_of frames known)
-caller_fits t j frames known pre named = record { seen = pre; guest = prefix_nil t.core.history; whole = λ e. off e; mine_named = named; guest_named = nobody_named t j true }
+pub caller_fits : (t : Truth) (j frames : ℕ) (known : Known) → IsPrefix known.seen t.core.history → IsNamed t j false known
+    → Fits t j (caller_view frames known)
+caller_fits t j frames known pre named =
+    record { seen = pre; guest = prefix_nil t.core.history; whole = λ e. off e; mine_named = named; guest_named = nobody_named t j true }
 
 pub left_seat_fits : (t : Truth) (j : ℕ) → Fits t j left_seat
 left_seat_fits t j = caller_fits t j 0 nobody (prefix_nil t.core.history) (nobody_named t j false)
 
-pub desk_fits : (t : Truth) (j frames : ℕ) (guest : Known) → j ≡ t.desk → IsPrefix guest.seen t.core.history → IsNamed t j true guest → Fits t j (desk_of frames t.core.history t.last t.made guest)
+pub desk_fits : (t : Truth) (j frames : ℕ) (guest : Known) → j ≡ t.desk → IsPrefix guest.seen t.core.history → IsNamed t j true guest
+    → Fits t j (desk_view frames t.core.history t.last t.made guest)
 desk_fits t j frames guest at pre named = record {
   seen = prefix_self t.core.history;
   guest = pre;
@@ -57,21 +65,27 @@ desk_fits t j frames guest at pre named = record {
 }
 
 -- the same, where the desk's view is known to be this
-pub desk_fits_as : (t : Truth) (j frames : ℕ) (log : List Event) (last : List ℕ) (made : ℕ) (guest : Known) → log ≡ t.core.history → last ≡ t.last → made ≡ t.made
-    → j ≡ t.desk → IsPrefix guest.seen t.core.history → IsNamed t j true guest → Fits t j (desk_of frames log last made guest)
+pub desk_fits_as : (t : Truth) (j frames : ℕ) (log : List Event) (last : List ℕ) (made : ℕ) (guest : Known) → log ≡ t.core.history
+    → last ≡ t.last → made ≡ t.made
+    → j ≡ t.desk → IsPrefix guest.seen t.core.history → IsNamed t j true guest → Fits t j (desk_view frames log last made guest)
 desk_fits_as t j frames log last made guest a b c at pre named =
-    subst (λ (x : List Event × List ℕ × ℕ). Fits t j (desk_of frames x.0 x.1 x.2 guest)) (λ i. (sym a i, sym b i, sym c i)) (desk_fits t j frames guest at pre named)
+    subst (λ (x : List Event × List ℕ × ℕ). Fits t j (desk_view frames x.0 x.1 x.2 guest)) (λ i. (sym a i, sym b i, sym c i))
+    (desk_fits t j frames guest at pre named)
 
 -- what the callers at the seat k know stays true
 unfoldable pub Stays : Truth → Truth → ℕ → Type 0
-Stays t t' k = (q : ℕ) (as_guest : Bool) → q < t.made → t.place q ≡ (k, as_guest) → (t'.place q ≡ t.place q) × (seen_by t'.core q ≡ seen_by t.core q)
+Stays t t' k = (q : ℕ) (as_guest : Bool) → q < t.made → t.place q ≡ (k, as_guest)
+    → (t'.place q ≡ t.place q) × (seen_by t'.core q ≡ seen_by t.core q)
 
-pub named_stays : (t t' : Truth) (k : ℕ) (as_guest : Bool) (known : Known) → t.made ≤ t'.made → Stays t t' k → IsNamed t k as_guest known → IsNamed t' k as_guest known
+pub named_stays : (t t' : Truth) (k : ℕ) (as_guest : Bool) (known : Known) → t.made ≤ t'.made → Stays t t' k → IsNamed t k as_guest known
+    → IsNamed t' k as_guest known
 unfolding Stays
-named_stays t t' k g known more same n = record { is = λ p e. let x = n.is p e in let y = same p g x.0 x.1 in (omega arith, y.0 ∙ x.1, y.1 ∙ x.2) }
+named_stays t t' k g known more same n =
+    record { is = λ p e. let x = n.is p e in let y = same p g x.0 x.1 in (omega arith, y.0 ∙ x.1, y.1 ∙ x.2) }
 
 pub fits_stays : (t t' : Truth) (k : ℕ) (v : View) → IsPrefix t.core.history t'.core.history → t.made ≤ t'.made
-    → (k ≡ t.desk → (t.desk ≡ t'.desk) × (t.core.history ≡ t'.core.history) × (t.last ≡ t'.last) × (t.made ≡ t'.made)) → Stays t t' k → Fits t k v → Fits t' k v
+    → (k ≡ t.desk → (t.desk ≡ t'.desk) × (t.core.history ≡ t'.core.history) × (t.last ≡ t'.last) × (t.made ≡ t'.made)) → Stays t t' k
+    → Fits t k v → Fits t' k v
 fits_stays t t' k v pre more keep same f = record {
   seen = prefix_trans v.mine.seen t.core.history t'.core.history f.seen pre;
   guest = prefix_trans v.guest.seen t.core.history t'.core.history f.guest pre;
@@ -81,10 +95,12 @@ fits_stays t t' k v pre more keep same f = record {
 }
 
 -- where the desk moves, the others stay
-pub desk_else : (t t' : Truth) (id : ℕ) → id ≡ t.desk → IsPrefix t.core.history t'.core.history → t.made ≤ t'.made → (j : ℕ) → Stays t t' j → (v : View) → j ≢ id → Fits t j v → Fits t' j v
+pub desk_else : (t t' : Truth) (id : ℕ) → id ≡ t.desk → IsPrefix t.core.history t'.core.history → t.made ≤ t'.made → (j : ℕ) → Stays t t' j
+    → (v : View) → j ≢ id → Fits t j v → Fits t' j v
 desk_else t t' id at pre more j same v ne f = fits_stays t t' j v pre more (λ e. absurd (ne (e ∙ sym at))) same f
 
-pub others : (t : Truth) (id : ℕ) (views : List View) (w : View) → ((j : ℕ) (v : View) → j ≢ id → get_elem? views j ≡ some v → Fits t j v) → Fits t id w
+pub others : (t : Truth) (id : ℕ) (views : List View) (w : View) → ((j : ℕ) (v : View) → j ≢ id → get_elem? views j ≡ some v → Fits t j v)
+    → Fits t id w
     → (j : ℕ) (v : View) → get_elem? (set views id w) j ≡ some v → Fits t j v
 others t id views w rest mine j v e =
     ⊎_elim
@@ -93,10 +109,13 @@ others t id views w rest mine j v e =
     (at_set views id j w v e)
 
 -- one more view
-pub snoc_fits : (t : Truth) (views : List View) (w : View) → ((j : ℕ) (v : View) → get_elem? views j ≡ some v → Fits t j v) → Fits t (length views) w
+pub snoc_fits : (t : Truth) (views : List View) (w : View) → ((j : ℕ) (v : View) → get_elem? views j ≡ some v → Fits t j v)
+    → Fits t (length views) w
     → (j : ℕ) (v : View) → get_elem? (views ++ w ∷ []) j ≡ some v → Fits t j v
 snoc_fits t views w all new j v e =
-    ⊎_elim (λ was. all j v was) (λ (x : (j ≡ length views) × (w ≡ v)). subst (λ (y : ℕ × View). Fits t y.0 y.1) (λ i. (sym x.0 i, x.1 i)) new) (at_snoc views w v j e)
+    ⊎_elim (λ was. all j v was)
+    (λ (x : (j ≡ length views) × (w ≡ v)). subst (λ (y : ℕ × View). Fits t y.0 y.1) (λ i. (sym x.0 i, x.1 i)) new)
+    (at_snoc views w v j e)
 
 pub set_same : (ws : List ℕ) (i : ℕ) → i < length ws → (k : ℕ) → get_or (set ws i (get_or ws i 0)) k 0 ≡ get_or ws k 0
 set_same ws i lt k = dite (ℕ_discrete k i)
@@ -120,7 +139,9 @@ seeing_else t p id b at j v ne f = fits_stays t (seeing t p) j v (prefix_self t.
 unfoldable pub placing : Truth → ℕ → ℕ × Bool → Truth
 placing t p x = record { core = t.core; last = t.last; desk = t.desk; made = t.made; place = put_at t.place p x }
 
-pub placing_else : (t : Truth) (p id : ℕ) (b : Bool) (x : ℕ × Bool) → t.place p ≡ (id, b) → (j : ℕ) (v : View) → j ≢ id → Fits t j v → Fits (placing t p x) j v
+pub placing_else : (t : Truth) (p id : ℕ) (b : Bool) (x : ℕ × Bool) → t.place p ≡ (id, b) → (j : ℕ) (v : View) → j ≢ id → Fits t j v
+    → Fits (placing t p x) j v
 unfolding placing Stays
-placing_else t p id b x at j v ne f = fits_stays t (placing t p x) j v (prefix_self t.core.history) (omega arith) (λ _. (refl, refl, refl, refl))
+placing_else t p id b x at j v ne f =
+    fits_stays t (placing t p x) j v (prefix_self t.core.history) (omega arith) (λ _. (refl, refl, refl, refl))
     (λ q side _ y. (put_else t.place p x q (apart t q p j id side b y at ne), refl)) f

@@ -1,5 +1,6 @@
 -- What holds of the worlds that legal histories lead to: what is live or retired is a page, and no page is both.
-use Rattle.std.proofs.Common.{◌≡◌, ◌⊎◌, ℕ, ◌+◌, ◌/◌, ◌<◌, ◌≤◌, inl, inr, Bool, true, false, List, [], ◌∷◌, Option, Some, None, refl, sym, ap, subst, ◌∙◌, arith}
+use Rattle.std.proofs.Common.{◌≡◌, ◌⊎◌, ℕ, ◌+◌, ◌/◌, ◌<◌, ◌≤◌, inl, inr, Bool, true, false, List, [], ◌∷◌, Option, Some, None, refl, sym}
+use Rattle.std.proofs.Common.{ap, subst, ◌∙◌, arith}
 use Rattle.std.proofs.lemmas.List.Sums.{sum_by-cons}
 use Rattle.std.specs.Prelude.{if◌then◌else◌}
 use Rattle.std.proofs.lemmas.Option.{same_Some}
@@ -12,11 +13,14 @@ use Rattle.dmatypes.specs.declared.reply.Event.{Event}
 use Rattle.dmatypes.specs.declared.reply.Reply.{Reply}
 use Rattle.dmatypes.specs.declared.reply.Reply.TheVariants.{Made, Done, Mapped, Unmapped, Flushed}
 use Rattle.dmatypes.specs.Page.{Range, IsPage, IsWithin, byte_address, range_at}
-use Rattle.dmatypes.specs.World.{Target, Retired, Domain, World, AreFreePages, IsIn, change_of, empty, empty_domain, flushed, is_full, mapped, placed, put, put_off, record_of, restricted, unmapped, unmapped_by, with_domain, with_room, without}
+use Rattle.dmatypes.specs.World.{Target, Retired, Domain, World, AreFreePages, IsIn, change_of, empty, empty_domain, flushed, is_full}
+use Rattle.dmatypes.specs.World.{mapped, placed, put, put_off, record_of, restricted, unmapped, unmapped_by, with_domain, with_room}
+use Rattle.dmatypes.specs.World.{without}
 use Rattle.dmatypes.specs.Conditions.{total_pages}
 use Rattle.dmatypes.specs.Step.{Answers, IsMapAnswer, IsStep, next}
 use Rattle.dmatypes.specs.History.{after_from, IsLegal, IsLegalFrom, after}
 use Rattle.dmatypes.proofs.Ranges.{within_is, within_not, within_or_not}
+use Rattle.dmatypes.specs.declared.page.TheConstants.{PAGE_BYTES}
 use Rattle.ports.proofs.Maps.{put_same, put_other, same_or_not, in_either, none_is_no, some_and, from_either, second_of}
 
 pub record IsSoundDomain (v : Domain) : Type 0 where
@@ -60,12 +64,15 @@ restricted_some r map p t e = elim (within_or_not r p) [
 ]
 
 -- what segments map lies in their range
-pub placed_within : (ss : List Segment) (first rights p : ℕ) (t : Target) → placed ss first rights p ≡ Some t → IsWithin (record { first = first; pages = total_pages ss }) p
+pub placed_within : (ss : List Segment) (first rights p : ℕ) (t : Target) → placed ss first rights p ≡ Some t
+    → IsWithin (record { first = first; pages = total_pages ss }) p
 placed_within [] first rights p t e = absurd cc
 placed_within (s ∷ ss) first rights p t e = elim (within_or_not (record { first = first; pages = s.pages }) p) [
   | inl here ↦ (here.0, omega (arith, here.1, sum_by-cons (λ (x : Segment). x.pages) s ss))
   | inr past ↦
-      let later = placed_within ss (first + s.pages) rights p t (sym (rw (within_not (record { first = first; pages = s.pages }) p past) refl) ∙ e) in
+      let later =
+      placed_within ss (first + s.pages) rights p t (sym (rw (within_not (record { first = first; pages = s.pages }) p past) refl) ∙ e)
+      in
       (omega (arith, later.0), omega (arith, later.1, sum_by-cons (λ (x : Segment). x.pages) s ss))
 ]
 
@@ -74,7 +81,8 @@ placed_within (s ∷ ss) first rights p t e = elim (within_or_not (record { firs
 sound_empty : (mode : Mode) → IsSoundDomain (empty_domain mode)
 sound_empty mode = record { live = λ p t e. absurd cc; retired = λ r p t i e. absurd i; apart = λ r p i h. refl }
 
-sound_mapped : (v : Domain) (ss : List Segment) (first rights : ℕ) → AreFreePages v (record { first = first; pages = total_pages ss }) → IsSoundDomain v → IsSoundDomain (mapped ss first rights v)
+sound_mapped : (v : Domain) (ss : List Segment) (first rights : ℕ) → AreFreePages v (record { first = first; pages = total_pages ss })
+    → IsSoundDomain v → IsSoundDomain (mapped ss first rights v)
 sound_mapped v ss first rights free s = record {
   live = λ p t e. elim (from_either (placed ss first rights p) (v.live p) t e) [
     | inl x ↦ (free p (placed_within ss first rights p x.0 x.1)).0
@@ -82,7 +90,8 @@ sound_mapped v ss first rights free s = record {
   ];
   retired = s.retired;
   apart = λ r p i h.
-      second_of (placed ss first rights p) (v.live p) (λ t e. (free p (placed_within ss first rights p t e)).1.not_retired r i h) ∙ s.apart r p i h;
+      second_of (placed ss first rights p) (v.live p) (λ t e. (free p (placed_within ss first rights p t e)).1.not_retired r i h)
+      ∙ s.apart r p i h;
 }
 
 sound_flushed : (v : Domain) → IsSoundDomain v → IsSoundDomain (flushed v)
@@ -118,17 +127,20 @@ sound_unmapped_by modes.Lazy range v s = sound_put_off range (with_room v) (soun
 
 -- ---- worlds that change
 
-sound_put : (w : World) (d : ℕ) (o : Option Domain) → IsSoundWorld w → ((v : Domain) → o ≡ Some v → IsSoundDomain v) → (e : ℕ) (v : Domain) → put d o w.domains e ≡ Some v → IsSoundDomain v
+sound_put : (w : World) (d : ℕ) (o : Option Domain) → IsSoundWorld w → ((v : Domain) → o ≡ Some v → IsSoundDomain v) → (e : ℕ) (v : Domain)
+    → put d o w.domains e ≡ Some v → IsSoundDomain v
 sound_put w d o s new e v at = elim (same_or_not e d) [
   | inl same ↦ new v (sym (put_same d o w.domains) ∙ ap (put d o w.domains) (sym same) ∙ at)
   | inr ne ↦ s e v (sym (put_other d o w.domains e ne) ∙ at)
 ]
 
-sound_change : (change : Domain → Domain) (o : Option Domain) → ((v : Domain) → o ≡ Some v → IsSoundDomain (change v)) → (v : Domain) → change_of change o ≡ Some v → IsSoundDomain v
+sound_change : (change : Domain → Domain) (o : Option Domain) → ((v : Domain) → o ≡ Some v → IsSoundDomain (change v)) → (v : Domain)
+    → change_of change o ≡ Some v → IsSoundDomain v
 sound_change change None new v e = absurd cc
 sound_change change (Some u) new v e = subst IsSoundDomain (same_Some (change u) v e) (new u refl)
 
-sound_with : (w : World) (d : ℕ) (change : Domain → Domain) → IsSoundWorld w → ((v : Domain) → w.domains d ≡ Some v → IsSoundDomain (change v)) → IsSoundWorld (with_domain d change w)
+sound_with : (w : World) (d : ℕ) (change : Domain → Domain) → IsSoundWorld w
+    → ((v : Domain) → w.domains d ≡ Some v → IsSoundDomain (change v)) → IsSoundWorld (with_domain d change w)
 sound_with w d change s new = sound_put w d (change_of change (w.domains d)) s (sound_change change (w.domains d) new)
 
 address_in : Reply → ℕ
@@ -137,28 +149,33 @@ address_in _ = 0
 
 -- the page of the address that a map is answered, and that its pages are free
 pub map_start : (w : World) (domain : ℕ) (ss : List Segment) (order address : ℕ) → IsMapAnswer w domain ss order (Mapped address)
-    → (v : Domain) → w.domains domain ≡ Some v → AreFreePages v (record { first = address / 4096; pages = total_pages ss })
+    → (v : Domain) → w.domains domain ≡ Some v → AreFreePages v (record { first = address / PAGE_BYTES; pages = total_pages ss })
 unfolding address_in
 map_start w domain ss order address answer v there =
     let is : address ≡ byte_address answer.0 0 = ap address_in answer.3 in
-    let page : answer.0 ≡ address / 4096 = omega (arith, is) in
+    let page : answer.0 ≡ address / PAGE_BYTES = omega (arith, is) in
     subst (λ (s : ℕ). AreFreePages v (record { first = s; pages = total_pages ss })) page (some_and (w.domains domain) v _ there answer.2)
 
-sound_map : (w : World) (domain : ℕ) (ss : List Segment) (order rights address : ℕ) → IsSoundWorld w → IsMapAnswer w domain ss order (Mapped address)
-    → IsSoundWorld (with_domain domain (mapped ss (address / 4096) rights) w)
-sound_map w domain ss order rights address s answer = sound_with w domain (mapped ss (address / 4096) rights) s
-    (λ v there. sound_mapped v ss (address / 4096) rights (map_start w domain ss order address answer v there) (s domain v there))
+sound_map : (w : World) (domain : ℕ) (ss : List Segment) (order rights address : ℕ) → IsSoundWorld w
+    → IsMapAnswer w domain ss order (Mapped address)
+    → IsSoundWorld (with_domain domain (mapped ss (address / PAGE_BYTES) rights) w)
+sound_map w domain ss order rights address s answer = sound_with w domain (mapped ss (address / PAGE_BYTES) rights) s
+    (λ v there. sound_mapped v ss (address / PAGE_BYTES) rights (map_start w domain ss order address answer v there) (s domain v there))
 
 sound_next : (w : World) (call : Call) (reply : Reply) → IsSoundWorld w → IsStep w call reply → IsSoundWorld (next w call reply)
 unfolding next IsStep Answers
-sound_next w (calls.Domain mode) (Made d) s step = sound_put w d (Some (empty_domain mode)) s (λ v e. subst IsSoundDomain (same_Some (empty_domain mode) v e) (sound_empty mode))
+sound_next w (calls.Domain mode) (Made d) s step =
+    sound_put w d (Some (empty_domain mode)) s (λ v e. subst IsSoundDomain (same_Some (empty_domain mode) v e) (sound_empty mode))
 sound_next w (calls.Drop domain) Done s step = sound_put w domain None s (λ v e. absurd cc)
 sound_next w (calls.Attach device domain) Done s step = s
 sound_next w (calls.Detach device) Done s step = s
-sound_next w (calls.Map domain frame pages order rights) (Mapped address) s step = sound_map w domain (record { frame = frame; pages = pages } ∷ []) order rights address s step.1
-sound_next w (calls.MapList domain order rights segments) (Mapped address) s step = sound_map w domain segments.items order rights address s step.1
+sound_next w (calls.Map domain frame pages order rights) (Mapped address) s step =
+    sound_map w domain (record { frame = frame; pages = pages } ∷ []) order rights address s step.1
+sound_next w (calls.MapList domain order rights segments) (Mapped address) s step =
+    sound_map w domain segments.items order rights address s step.1
 sound_next w (calls.Unmap domain address pages) (Unmapped released) s step =
-    sound_with w domain (λ v. unmapped_by v.mode (range_at address pages) v) s (λ v there. sound_unmapped_by v.mode (range_at address pages) v (s domain v there))
+    sound_with w domain (λ v. unmapped_by v.mode (range_at address pages) v) s
+    (λ v there. sound_unmapped_by v.mode (range_at address pages) v (s domain v there))
 sound_next w (calls.Flush domain) (Flushed released) s step = sound_with w domain flushed s (λ v there. sound_flushed v (s domain v there))
 sound_next w call _ s step = s
 

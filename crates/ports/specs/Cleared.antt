@@ -8,16 +8,17 @@ use Rattle.dmatypes.specs.declared.reply.Reply.{Reply}
 use Rattle.dmatypes.specs.declared.reply.Reply.TheVariants.{Done, Unmapped, Flushed}
 use Rattle.dmatypes.specs.World.{World}
 use Rattle.dmatypes.specs.Step.{IsStep, next}
+use Rattle.dmatypes.specs.declared.limits.TheConstants.{MOST_RECORDS}
 use Rattle.ports.specs.Lawful.{IsLawful}
 
 abbrev pub IsAttachedTo : World → ℕ → ℕ → Type 0
 IsAttachedTo w device domain = w.devices device ≡ Some domain
 
--- what an unmap takes away for good: in a strict domain its own pages, in a lazy one those of all 256 records where
+-- what an unmap takes away for good: in a strict domain its own pages, in a lazy one those of all records where
 -- it empties the list, and else nothing
 abbrev pub TakesAway : Mode → ℕ → Type 0
 TakesAway modes.Strict released = Unit {0}
-TakesAway modes.Lazy released = released ≡ 256
+TakesAway modes.Lazy released = released ≡ MOST_RECORDS
 
 -- at this call and this reply the row of the device is cleared: at a detach it is the device's; at an unmap that takes
 -- pages away and at a flush those of all devices attached to the domain; else none, nor at a refused call

@@ -1,5 +1,6 @@
 -- The rule of the table, and what each step tells whoever makes it.
-use Rattle.std.specs.Prelude.{◌≡◌, ℕ, suc, ◌+◌, ◌<◌, ◌≤◌, ◌⊎◌, Bool, true, false, List, [], ◌∷◌, ◌++◌, length, slice_index, slice_set, replicate}
+use Rattle.std.specs.Prelude.{◌≡◌, ℕ, suc, ◌+◌, ◌<◌, ◌≤◌, ◌⊎◌, Bool, true, false, List, [], ◌∷◌, ◌++◌, length, slice_index, slice_set}
+use Rattle.std.specs.Prelude.{replicate}
 use mathlib.Core.Option.{some}
 use mathlib.Core.List.{IsPrefix}
 use lib.ListN.{get_elem?}
@@ -9,6 +10,8 @@ use Rattle.ports.specs.Steps.{Core, IsReached, IsSeenInRun, AreLawful, counter, 
 use Rattle.ports.specs.declared.known.OwnStep.{OwnStep}
 use Rattle.ports.specs.declared.known.OwnStep.TheVariants.{Loaded, Stored}
 use Rattle.ports.specs.declared.known.Known.{Known}
+use Rattle.dmatypes.specs.declared.limits.TheConstants.{DEVICES}
+use Rattle.ports.specs.declared.rule.TheConstants.{ROW_WORDS, SLOTS, WORDS}
 use Rattle.ports.specs.declared.known.View.{View}
 
 -- ---- views
@@ -25,28 +28,28 @@ abbrev pub told : Known → List Event → Known
 told known history = record { who = known.who; seen = history; did = known.did ++ Loaded counter (length history) ∷ [] }
 
 -- the view of a port or a pass
-abbrev pub view_of : ℕ → Known → View
-view_of frames known = record { frames = frames; is_desk = false; made = 0; mine = known; guest = nobody; last = [] }
+abbrev pub caller_view : ℕ → Known → View
+caller_view frames known = record { frames = frames; is_desk = false; made = 0; mine = known; guest = nobody; last = [] }
 
 -- the view of a seat that a caller has left
 abbrev pub left_seat : View
-left_seat = view_of 0 nobody
+left_seat = caller_view 0 nobody
 
-abbrev pub desk_of : ℕ → List Event → List ℕ → ℕ → Known → View
-desk_of frames history last made guest =
+abbrev pub desk_view : ℕ → List Event → List ℕ → ℕ → Known → View
+desk_view frames history last made guest =
     record { frames = frames; is_desk = true; made = made; mine = record { who = 0; seen = history; did = [] }; guest = guest; last = last }
 
 -- the desk of a new table that has made so many callers
 abbrev pub made_desk : ℕ → ℕ → View
-made_desk frames made = desk_of frames [] (replicate 256 0) made nobody
+made_desk frames made = desk_view frames [] (replicate ROW_WORDS 0) made nobody
 
 -- a guest sits down at the desk, or stands up
 abbrev pub with_guest : View → Known → View
-with_guest v guest = desk_of v.frames v.mine.seen v.last v.made guest
+with_guest v guest = desk_view v.frames v.mine.seen v.last v.made guest
 
 -- the desk makes one more caller
 abbrev pub one_more : View → View
-one_more v = desk_of v.frames v.mine.seen v.last (suc v.made) v.guest
+one_more v = desk_view v.frames v.mine.seen v.last (suc v.made) v.guest
 
 -- ---- the rule
 
@@ -84,15 +87,15 @@ module _ (legal : List Event → Type 0) (lawful : List Event → ℕ → ℕ �
   pub record IsKept (passes : ℕ) (s : Table) : Type 0 where
     pub truth : Truth
     pub reached : IsReached legal lawful passes truth.core
-    pub wide : length s.words ≡ 257
+    pub wide : length s.words ≡ WORDS
     pub count : slice_index s.words counter ≡ length truth.core.history
     pub is_legal : legal truth.core.history
-    pub core_wide : length truth.core.words ≡ 256
-    pub words : (k : ℕ) → k < 256 → slice_index truth.core.words k ≡ slice_index s.words k
-    pub rows : (k : ℕ) → k < 256 → (slice_index s.words k ≡ 0) ⊎ (slice_index s.words k ≡ slice_index truth.last k)
+    pub core_wide : length truth.core.words ≡ ROW_WORDS
+    pub words : (k : ℕ) → k < ROW_WORDS → slice_index truth.core.words k ≡ slice_index s.words k
+    pub rows : (k : ℕ) → k < ROW_WORDS → (slice_index s.words k ≡ 0) ⊎ (slice_index s.words k ≡ slice_index truth.last k)
     pub each_lawful : AreLawful lawful truth.core.history truth.last
-    pub callers : length truth.core.seen ≡ 16 + passes
-    pub made : truth.made ≤ 16 + passes
+    pub callers : length truth.core.seen ≡ DEVICES + passes
+    pub made : truth.made ≤ DEVICES + passes
     pub fresh : (p : ℕ) → truth.made ≤ p → seen_by truth.core p ≡ []
     pub each_seat : (j : ℕ) (v : View) → get_elem? s.views j ≡ some v → Fits truth j v
 
@@ -116,19 +119,19 @@ module _ (legal : List Event → Type 0) (lawful : List Event → ℕ → ℕ �
   abbrev pub Looked : Step (Unit {0}) → Sat → ℕ → Sat → Type 0
   Looked st m n m' =
       Learns m.0.mine m'.0.mine (Loaded st.word n)
-      × ((device slot : ℕ) → device < 16 → slot < 16 → st.word ≡ place_of device slot → lawful m'.0.mine.seen device n)
+      × ((device slot : ℕ) → device < DEVICES → slot < SLOTS → st.word ≡ place_of device slot → lawful m'.0.mine.seen device n)
       × ((p : ℕ) → m.0.mine.who ≡ suc p → IsSeenInRun legal lawful p m'.0.mine.seen (λ words. slice_index words st.word ≡ n))
       × (m'.0.frames ≡ m.0.frames)
 
 abbrev pub Emptied : Step (Unit {0}) → Sat → ℕ → Sat → Type 0
 Emptied st m n m' =
-    m'.0 ≡ view_of m.0.frames (record { who = m.0.mine.who; seen = m.0.mine.seen; did = m.0.mine.did ++ Stored st.word n ∷ [] })
+    m'.0 ≡ caller_view m.0.frames (record { who = m.0.mine.who; seen = m.0.mine.seen; did = m.0.mine.did ++ Stored st.word n ∷ [] })
 
 abbrev pub Filled : Step (Unit {0}) → Sat → ℕ → Sat → Type 0
-Filled st m n m' = m'.0 ≡ desk_of m.0.frames m.0.mine.seen (slice_set m.0.last st.word n) m.0.made m.0.guest
+Filled st m n m' = m'.0 ≡ desk_view m.0.frames m.0.mine.seen (slice_set m.0.last st.word n) m.0.made m.0.guest
 
 abbrev pub Appended : Event → Step (Unit {0}) → Sat → ℕ → Sat → Type 0
-Appended event st m n m' = m'.0 ≡ desk_of m.0.frames (m.0.mine.seen ++ event ∷ []) m.0.last m.0.made m.0.guest
+Appended event st m n m' = m'.0 ≡ desk_view m.0.frames (m.0.mine.seen ++ event ∷ []) m.0.last m.0.made m.0.guest
 
 -- the desk loads the counter for its guest, who has then seen all that the desk has
 abbrev pub Hosted : Step (Unit {0}) → Sat → ℕ → Sat → Type 0

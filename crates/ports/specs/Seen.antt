@@ -3,6 +3,8 @@ use Rattle.std.specs.Prelude.{◌≡◌, ℕ, ◌+◌, ◌<◌, List, [], replic
 use Rattle.atomic_table.specs.Seated.{TableId}
 use Rattle.dmatypes.specs.declared.reply.Event.{Event}
 use Rattle.ports.specs.declared.known.OwnStep.{OwnStep}
+use Rattle.dmatypes.specs.declared.limits.TheConstants.{DEVICES}
+use Rattle.ports.specs.declared.rule.TheConstants.{ROW_WORDS}
 use Rattle.ports.specs.declared.known.View.{View}
 
 -- which rows they are: their table, and how many table frames the world of their history has
@@ -34,14 +36,14 @@ pub record Desk : Type 0 where
 abbrev pub rows_of : TableId → ℕ → Rows
 rows_of table frames = record { table = table; frames = frames }
 
-abbrev pub port_knows : TableId → View → ℕ → Port
-port_knows table v device = record { rows = rows_of table v.frames; device = device; seen = v.mine.seen; did = v.mine.did }
+abbrev pub port_of : TableId → View → ℕ → Port
+port_of table v device = record { rows = rows_of table v.frames; device = device; seen = v.mine.seen; did = v.mine.did }
 
-abbrev pub pass_knows : TableId → View → ℕ → Pass
-pass_knows table v caller = record { rows = rows_of table v.frames; caller = caller; seen = v.mine.seen }
+abbrev pub pass_of : TableId → View → ℕ → Pass
+pass_of table v caller = record { rows = rows_of table v.frames; caller = caller; seen = v.mine.seen }
 
-abbrev pub desk_knows : TableId → View → Desk
-desk_knows table v = record { rows = rows_of table v.frames; history = v.mine.seen; last = v.last }
+abbrev pub desk_of : TableId → View → Desk
+desk_of table v = record { rows = rows_of table v.frames; history = v.mine.seen; last = v.last }
 
 -- ---- what is made with new rows
 
@@ -52,12 +54,12 @@ abbrev pub new_pass : Rows → ℕ → Pass
 new_pass rows caller = record { rows = rows; caller = caller; seen = [] }
 
 abbrev pub new_desk : Rows → Desk
-new_desk rows = record { rows = rows; history = []; last = replicate 256 0 }
+new_desk rows = record { rows = rows; history = []; last = replicate ROW_WORDS 0 }
 
 -- the first so many are the ports of devices 0, 1 and so on
 abbrev pub ArePorts : Rows → List Port → ℕ → Type 0
 ArePorts rows ports count = (k : ℕ) → k < count → slice_get ports k ≡ Some (new_port rows k)
 
--- the first so many are the passes from the caller 16 on
+-- the first so many are the passes, which are callers behind the ports
 abbrev pub ArePasses : Rows → List Pass → ℕ → Type 0
-ArePasses rows passes count = (k : ℕ) → k < count → slice_get passes k ≡ Some (new_pass rows (16 + k))
+ArePasses rows passes count = (k : ℕ) → k < count → slice_get passes k ≡ Some (new_pass rows (DEVICES + k))

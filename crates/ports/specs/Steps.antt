@@ -1,28 +1,30 @@
--- The steps of ports, passes and the desk, and what runs of them lead to. Places 0 to 255 are the words of the rows,
--- 16 for each device, and place 256 is the counter.
+-- The steps of ports, passes and the desk, and what runs of them lead to. Places up to ROW_WORDS are the words of the rows,
+-- SLOTS for each device, and the place behind them is the counter.
 use Rattle.std.specs.Prelude.{◌≡◌, ℕ, ◌+◌, ◌*◌, ◌%◌, ◌<◌, List, [], ◌∷◌, ◌++◌, length, replicate, slice_index, slice_index_or, slice_set}
 use mathlib.Core.List.{IsPrefix}
 use Rattle.dmatypes.specs.declared.reply.Event.{Event}
 use Rattle.dmatypes.specs.History.{IsLegal}
+use Rattle.dmatypes.specs.declared.limits.TheConstants.{DEVICES}
+use Rattle.ports.specs.declared.rule.TheConstants.{COUNTER, ROW_WORDS, SLOTS}
 use Rattle.ports.specs.Lawful.{IsLawfulAfter}
 
 -- the place of a word: its slot in the row of a device
 abbrev pub place_of : ℕ → ℕ → ℕ
-place_of device slot = 16 * device + slot
+place_of device slot = SLOTS * device + slot
 
 -- the slot of a page in a row
 abbrev pub slot_of : ℕ → ℕ
-slot_of page = page % 16
+slot_of page = page % SLOTS
 
 abbrev pub counter : ℕ
-counter = 256
+counter = COUNTER
 
 -- each word is lawful in its device's row
 abbrev pub AreLawful : (List Event → ℕ → ℕ → Type 0) → List Event → List ℕ → Type 0
 AreLawful lawful history words =
-    (device slot : ℕ) → device < 16 → slot < 16 → lawful history device (slice_index words (place_of device slot))
+    (device slot : ℕ) → device < DEVICES → slot < SLOTS → lawful history device (slice_index words (place_of device slot))
 
--- a history, the 256 row words, and what each caller has seen: the 16 ports, then the passes
+-- a history, the words of the rows, and what each caller has seen: the ports, one for each device, then the passes
 pub record Core : Type 0 where
   pub history : List Event
   pub words : List ℕ
@@ -42,7 +44,7 @@ pub data PortStep : Type 0 where
   loads_counter : ℕ → ℕ → PortStep
 
 abbrev pub empty : ℕ → Core
-empty passes = record { history = []; words = replicate 256 0; seen = replicate (16 + passes) [] }
+empty passes = record { history = []; words = replicate ROW_WORDS 0; seen = replicate (DEVICES + passes) [] }
 
 abbrev pub seen_by : Core → ℕ → List Event
 seen_by c caller = slice_index_or c.seen caller []
@@ -75,9 +77,9 @@ module _ (legal : List Event → Type 0) (lawful : List Event → ℕ → ℕ �
   -- a port loads the word that stands there; the desk stores a lawful word; the history with the event is legal, and
   -- every word stays lawful after it; the answer of the counter is the length of the history
   abbrev pub IsPortStep : Core → PortStep → Type 0
-  IsPortStep c (loads_word port slot word) = (port < 16) × (slot < 16) × (word ≡ word_at c port slot)
-  IsPortStep c (empties_word port slot) = (port < 16) × (slot < 16)
-  IsPortStep c (stores_word device slot word) = (device < 16) × (slot < 16) × lawful c.history device word
+  IsPortStep c (loads_word port slot word) = (port < DEVICES) × (slot < SLOTS) × (word ≡ word_at c port slot)
+  IsPortStep c (empties_word port slot) = (port < DEVICES) × (slot < SLOTS)
+  IsPortStep c (stores_word device slot word) = (device < DEVICES) × (slot < SLOTS) × lawful c.history device word
   IsPortStep c (adds_event event) =
       legal (c.history ++ event ∷ []) × AreLawful lawful (c.history ++ event ∷ []) c.words
   IsPortStep c (loads_counter caller answer) = (caller < length c.seen) × (answer ≡ length c.history)

@@ -6,13 +6,13 @@ ghost use Rattle.dmatypes.specs.History.{IsLegal, after};
 ghost use Rattle.vtdbits.specs.Port.{Spells};
 ghost use Rattle.ports.specs.Lawful.{IsBacked, IsLawfulAfter};
 ghost use Rattle.ports.specs.Steps.{AreLawful, counter, place_of, slot_of};
-ghost use Rattle.ports.specs.Rule.{desk_of, nobody, told, view_of, with_guest};
+ghost use Rattle.ports.specs.Rule.{desk_view, nobody, told, caller_view, with_guest};
 ghost use Rattle.ports.specs.declared.known.OwnStep.TheVariants.{Loaded};
 
 use crate::port::{Pass, Port, place};
 use crate::rows::Rows;
 use crate::rule::{Appends, COUNTER, Fills, Hosts, Leaves, Place, SLOTS, Told, Visit};
-use dmatypes::Event;
+use dmatypes::{DEVICES, Event, MOST_CALLS};
 use std::marker::{Brand, Model};
 use vtdbits::PortWord;
 
@@ -24,13 +24,14 @@ pub struct Desk {
 
 impl Model for Desk {
     ghost use Rattle.std.specs.Prelude.{◌≡◌, true, length};
-    ghost use Rattle.ports.specs.Seen.{Desk, desk_knows};
+    ghost use Rattle.ports.specs.Seen.{Desk, desk_of};
+    ghost use Rattle.ports.specs.declared.rule.TheConstants.{ROW_WORDS};
 
     ghost Value = { Desk };
 
-    ghost view = { λ d. desk_knows d.seat.table_id d.seat.me.0 };
+    ghost view = { λ d. desk_of d.seat.table_id d.seat.me.0 };
 
-    ghost invariant = { λ d. (d.seat.me.0.is_desk ≡ true) × (length d.seat.me.0.last ≡ 256) };
+    ghost invariant = { λ d. (d.seat.me.0.is_desk ≡ true) × (length d.seat.me.0.last ≡ ROW_WORDS) };
 }
 
 impl Desk {
@@ -39,7 +40,7 @@ impl Desk {
     #[tactic(auto, using(crate::proofs::Histories::backed_word))]
     pub fn fill(&mut self, rows: &Rows, device: u64, word: PortWord)
         requires rows { self.old.rows ≡ rows.now }
-        requires device { device < 16 }
+        requires device { device < DEVICES }
         requires lawful { IsBacked (after self.old.rows.frames self.old.history) device word }
         ensures word { Spells (slice_index self.new.last (place_of device (slot_of word.page))) word }
         ensures last { self.new.last ≡ slice_set self.old.last (place_of device (slot_of word.page))
@@ -49,13 +50,13 @@ impl Desk {
         self.store(rows, device, word.page.number() % SLOTS, word.encode());
     }
 
-    /// Empties all 16 words in the row of a device.
+    /// Empties all words in the row of a device.
     #[tactic(auto, using(crate::proofs::Histories::lawful_zero))]
     pub fn clear(&mut self, rows: &Rows, device: u64)
         requires rows { self.old.rows ≡ rows.now }
-        requires device { device < 16 }
-        ensures cleared { (slot : ℕ) → slot < 16 → slice_index self.new.last (place_of device slot) ≡ 0 }
-        ensures others { (k : ℕ) → (k < 16 * device) ⊎ (16 * device + 16 ≤ k)
+        requires device { device < DEVICES }
+        ensures cleared { (slot : ℕ) → slot < SLOTS → slice_index self.new.last (place_of device slot) ≡ 0 }
+        ensures others { (k : ℕ) → (k < SLOTS * device) ⊎ (SLOTS * device + SLOTS ≤ k)
             → slice_index self.new.last k ≡ slice_index self.old.last k }
         ensures same { (self.new.rows ≡ self.old.rows) × (self.new.history ≡ self.old.history) }
     {
@@ -67,7 +68,7 @@ impl Desk {
     // Stores a lawful word.
     fn store(&mut self, rows: &Rows, device: u64, slot: u64, word: u64)
         requires rows { self.old.rows ≡ rows.now }
-        requires place { (device < 16) × (slot < 16) }
+        requires place { (device < DEVICES) × (slot < SLOTS) }
         requires lawful { IsLawfulAfter self.old.rows.frames self.old.history device word }
         ensures last { self.new.last ≡ slice_set self.old.last (place_of device slot) word }
         ensures stored { slice_index self.new.last (place_of device slot) ≡ word }
@@ -82,7 +83,7 @@ impl Desk {
     /// Adds an event to the history. All words that the desk last stored are lawful after it.
     pub fn append(&mut self, rows: &Rows, event: &Event)
         requires rows { self.old.rows ≡ rows.now }
-        requires room { length self.old.history < 1048576 }
+        requires room { length self.old.history < MOST_CALLS }
         requires legal { IsLegal self.old.rows.frames (self.old.history ++ event.now ∷ []) }
         requires lawful { AreLawful (IsLawfulAfter self.old.rows.frames) (self.old.history ++ event.now ∷ []) self.old.last }
         ensures history { self.new.history ≡ self.old.history ++ event.now ∷ [] }
@@ -114,11 +115,11 @@ impl Desk {
 // Adds the event that its type names.
 fn append_as<E: Told>(desk: &mut Place, rows: &Rows, event: &Event)
     requires rows { (desk.old.table_id ≡ rows.now.table) × (desk.old.me.0.frames ≡ rows.now.frames) }
-    requires desk { (desk.old.me.0.is_desk ≡ true) × (length desk.old.me.0.mine.seen < 1048576) }
+    requires desk { (desk.old.me.0.is_desk ≡ true) × (length desk.old.me.0.mine.seen < MOST_CALLS) }
     requires legal { IsLegal rows.now.frames (desk.old.me.0.mine.seen ++ E.event ∷ []) }
     requires lawful { AreLawful (IsLawfulAfter rows.now.frames) (desk.old.me.0.mine.seen ++ E.event ∷ []) desk.old.me.0.last }
     ensures { (desk.new.table_id ≡ desk.old.table_id)
-        × (desk.new.me.0 ≡ desk_of desk.old.me.0.frames (desk.old.me.0.mine.seen ++ E.event ∷ [])
+        × (desk.new.me.0 ≡ desk_view desk.old.me.0.frames (desk.old.me.0.mine.seen ++ E.event ∷ [])
         desk.old.me.0.last desk.old.me.0.made desk.old.me.0.guest) }
 {
     let _ = event;
@@ -134,7 +135,7 @@ fn host(desk: &mut Place, rows: &Rows, place: &mut Place, caller: u64)
     ensures desk { (desk.new.table_id ≡ desk.old.table_id)
         × (desk.new.me.0 ≡ with_guest desk.old.me.0 nobody) }
     ensures place { (place.new.table_id ≡ place.old.table_id)
-        × (place.new.me.0 ≡ view_of desk.old.me.0.frames (told place.old.me.0.mine desk.old.me.0.mine.seen)) }
+        × (place.new.me.0 ≡ caller_view desk.old.me.0.frames (told place.old.me.0.mine desk.old.me.0.mine.seen)) }
     ensures seen { IsPrefix place.old.me.0.mine.seen desk.old.me.0.mine.seen }
 {
     let _ = caller;

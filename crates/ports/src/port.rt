@@ -14,7 +14,7 @@ ghost use Rattle.ports.specs.declared.known.OwnStep.TheVariants.{Loaded, Stored}
 
 use crate::rows::Rows;
 use crate::rule::{COUNTER, Counts, Empties, Looks, Place, SLOTS};
-use dmatypes::Access;
+use dmatypes::{Access, DEVICES, PAGE_BYTES};
 use std::marker::Model;
 use vtdbits::PortWord;
 
@@ -27,13 +27,14 @@ pub struct Port {
 
 impl Model for Port {
     ghost use Rattle.std.specs.Prelude.{◌≡◌, ◌<◌, suc};
-    ghost use Rattle.ports.specs.Seen.{Port, port_knows};
+    ghost use Rattle.ports.specs.Seen.{Port, port_of};
+    ghost use Rattle.dmatypes.specs.declared.limits.TheConstants.{DEVICES};
 
     ghost Value = { Port };
 
-    ghost view = { λ p. port_knows p.seat.table_id p.seat.me.0 p.device };
+    ghost view = { λ p. port_of p.seat.table_id p.seat.me.0 p.device };
 
-    ghost invariant = { λ p. (p.device < 16) × (p.seat.me.0.mine.who ≡ suc p.device) };
+    ghost invariant = { λ p. (p.device < DEVICES) × (p.seat.me.0.mine.who ≡ suc p.device) };
 }
 
 /// A port without a row: what its holder has seen of the history.
@@ -45,11 +46,11 @@ pub struct Pass {
 
 impl Model for Pass {
     ghost use Rattle.std.specs.Prelude.{◌≡◌, suc};
-    ghost use Rattle.ports.specs.Seen.{Pass, pass_knows};
+    ghost use Rattle.ports.specs.Seen.{Pass, pass_of};
 
     ghost Value = { Pass };
 
-    ghost view = { λ p. pass_knows p.seat.table_id p.seat.me.0 p.caller };
+    ghost view = { λ p. pass_of p.seat.table_id p.seat.me.0 p.caller };
 
     ghost invariant = { λ p. p.seat.me.0.mine.who ≡ suc p.caller };
 }
@@ -76,7 +77,7 @@ impl Port {
         ensures same { (self.new.rows ≡ self.old.rows) × (self.new.device ≡ self.old.device) }
     {
         let count = self.count(rows);
-        let place = place(self.device, address / 4096 % SLOTS);
+        let place = place(self.device, address / PAGE_BYTES % SLOTS);
         let word = rows.words.shared.load::<Looks>(&mut self.seat, place);
         (PortWord::host(word, address, access), count)
     }
@@ -98,7 +99,7 @@ impl Port {
     /// Empties a word of its row.
     pub fn evict(&mut self, rows: &Rows, slot: u64)
         requires rows { self.old.rows ≡ rows.now }
-        requires slot { slot < 16 }
+        requires slot { slot < SLOTS }
         ensures did { self.new.did ≡ self.old.did ++ Stored (place_of self.old.device slot) 0 ∷ [] }
         ensures seen { self.new.seen ≡ self.old.seen }
         ensures same { (self.new.rows ≡ self.old.rows) × (self.new.device ≡ self.old.device) }
@@ -111,7 +112,7 @@ impl Port {
 /// The place of a word: its slot in the row of a device.
 #[inline]
 pub(crate) fn place(device: u64, slot: u64) -> usize
-    requires { (device < 16) × (slot < 16) }
+    requires { (device < DEVICES) × (slot < SLOTS) }
     ensures { result ≡ place_of device slot }
 {
     (SLOTS * device + slot) as usize

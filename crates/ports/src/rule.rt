@@ -2,15 +2,21 @@
 
 use crate::known::View;
 use atomic_table::{Join, Play, Seat, Split, Table, TableRule};
-use dmatypes::Event;
+use dmatypes::{DEVICES, Event};
 use std::alloc::Global;
 use std::marker::{Brand, PhantomData};
 
-/// The place of the counter, behind the 16 words of each of the 16 devices.
-pub(crate) const COUNTER: usize = 256;
-
 /// The words in a device's row (own).
 pub(crate) const SLOTS: u64 = 16;
+
+/// The words of all rows.
+pub(crate) const ROW_WORDS: usize = (DEVICES * SLOTS) as usize;
+
+/// The place of the counter, behind the words of all rows.
+pub(crate) const COUNTER: usize = ROW_WORDS;
+
+/// The words of the table: those of the rows, and the counter.
+pub(crate) const WORDS: usize = ROW_WORDS + 1;
 
 /// What a table is told when it is made: how many table frames the world of its history has, and how many
 /// passes there are.
@@ -115,22 +121,22 @@ impl Play<(), View> for Hosts {
 pub(crate) struct Newcomer;
 
 impl Split<View> for Newcomer {
-    ghost use Rattle.ports.specs.Rule.{newcomer, one_more, view_of};
+    ghost use Rattle.ports.specs.Rule.{newcomer, one_more, caller_view};
 
     ghost left = { one_more };
 
-    ghost right = { λ v. view_of v.frames (newcomer v.made) };
+    ghost right = { λ v. caller_view v.frames (newcomer v.made) };
 }
 
 /// A caller's view leaves its seat.
 pub(crate) struct Leaves;
 
 impl Split<View> for Leaves {
-    ghost use Rattle.ports.specs.Rule.{left_seat, view_of};
+    ghost use Rattle.ports.specs.Rule.{left_seat, caller_view};
 
     ghost left = { λ v. left_seat };
 
-    ghost right = { λ v. view_of v.frames v.mine };
+    ghost right = { λ v. caller_view v.frames v.mine };
 }
 
 /// The desk takes in a guest, and gives it back.
@@ -145,9 +151,9 @@ impl Join<View> for Visit {
 }
 
 impl Split<View> for Visit {
-    ghost use Rattle.ports.specs.Rule.{nobody, view_of, with_guest};
+    ghost use Rattle.ports.specs.Rule.{nobody, caller_view, with_guest};
 
     ghost left = { λ v. with_guest v nobody };
 
-    ghost right = { λ v. view_of v.frames v.guest };
+    ghost right = { λ v. caller_view v.frames v.guest };
 }

@@ -1,5 +1,6 @@
 -- A part of a list that may go around its end.
-use Rattle.std.proofs.Common.{◌≡◌, ℕ, ◌+◌, ◌-◌, ◌%◌, ◌<◌, ◌≤◌, ◌⊎◌, List, [], ◌∷◌, ◌++◌, length, get_or, set, refl, ap, ◌∙◌, ap₂, inl, inr, mod-eq_of_lt, arith, length-append, length-drop, length-set, length-take-le, get_or-drop, get_or-take}
+use Rattle.std.proofs.Common.{◌≡◌, ℕ, ◌+◌, ◌-◌, ◌%◌, ◌<◌, ◌≤◌, ◌⊎◌, List, [], ◌∷◌, ◌++◌, length, get_or, set, refl, ap, ◌∙◌, ap₂, inl, inr}
+use Rattle.std.proofs.Common.{mod-eq_of_lt, arith, length-append, length-drop, length-set, length-take-le, get_or-drop, get_or-take}
 use native.Mathlib.Nat.{mod-eq-sub-mod, mod-add-mod}
 use Rattle.std.proofs.lemmas.List.{same_lists, drop_more, get_or_append_left, get_or-append_right}
 use Rattle.std.proofs.lemmas.Bool.{cases_lt}
@@ -29,7 +30,9 @@ module _ {A : Type 0} (N k n : ℕ) (xs : List A) (inside : k < N) (fits : n ≤
       let length_behind = length-drop k xs in
       get_or-take n _ i d within ∙ elim (around_once N (k + i) (omega arith)) [
         | inl straight ↦ get_or_append_left _ _ d i (omega arith) ∙ get_or-drop k xs i d ∙ ap (λ j. get_or xs j d) (omega arith)
-        | inr around ↦ get_or-append_right _ _ (N - k) i d (omega arith) (omega arith) ∙ get_or-take k xs _ d (omega arith) ∙ ap (λ j. get_or xs j d) (omega arith)
+        | inr around ↦
+            get_or-append_right _ _ (N - k) i d (omega arith) (omega arith) ∙ get_or-take k xs _ d (omega arith)
+            ∙ ap (λ j. get_or xs j d) (omega arith)
       ]
 
 module _ {A : Type 0} (N k n : ℕ) (xs : List A) (inside : k < N) (fits : n ≤ N) (all : length xs ≡ N) where
@@ -56,7 +59,8 @@ module _ {A : Type 0} (N k n : ℕ) (xs : List A) (inside : k < N) (fits : n ≤
       let length_old = length-window N k n xs inside fits all in
       let length_new = length-window N ((k + 1) % N) (n - 1) xs next_inside (omega arith) all in
       let old_at = get_or-window N k n xs inside fits all in
-      drop_more _ 0 d (omega arith) ∙ ap₂ ◌∷◌ (grind (arith, old_at 0 d, around_once N k)) (same_lists _ _ (simp length-drop (omega arith)) (λ i e within. grind (
+      drop_more _ 0 d (omega arith)
+      ∙ ap₂ ◌∷◌ (grind (arith, old_at 0 d, around_once N k)) (same_lists _ _ (simp length-drop (omega arith)) (λ i e within. grind (
         arith,
         length-drop 1 (window k n xs),
         get_or-drop 1 (window k n xs) i e,

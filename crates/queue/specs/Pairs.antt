@@ -1,8 +1,9 @@
--- A queue of descriptors in the pairs of words of one page.
+-- A ring of descriptors in the pairs of words of one page.
 use Rattle.std.specs.Prelude.{◌≡◌, ℕ, ◌+◌, ◌-◌, ◌%◌, ◌<◌, List, [], ◌∷◌, ◌++◌, length, take, drop, reverse, All, Option, None, Some, IsSome}
 use Rattle.std.specs.List.{filter_map}
 use Rattle.vtdbits.specs.declared.descriptor.Descriptor.{Descriptor}
 use Rattle.vtdbits.specs.declared.words.Words.{Words}
+use Rattle.queue.specs.declared.ring.TheConstants.{PAIRS}
 use Rattle.vtdbits.specs.Descriptor.{descriptor_of}
 
 -- so many elements from a place on, around the list's end
@@ -11,7 +12,7 @@ window place count xs = take count (drop place xs ++ take place xs)
 
 -- the pairs from the head up to the tail, around the page's end
 abbrev pub pairs_between : ℕ → ℕ → List Words → List Words
-pairs_between head tail page = window head ((tail + 256 - head) % 256) page
+pairs_between head tail page = window head ((tail + PAIRS - head) % PAIRS) page
 
 -- the descriptors that they spell
 abbrev pub waiting_in : ℕ → ℕ → List Words → List Descriptor
@@ -19,7 +20,7 @@ waiting_in head tail page = filter_map descriptor_of (pairs_between head tail pa
 
 -- the pairs that are free, from the tail up to the head around the page's end, the one behind the head first
 abbrev pub free_pairs : ℕ → ℕ → List Words → List Words
-free_pairs head tail page = reverse (window tail (256 - (tail + 256 - head) % 256) page)
+free_pairs head tail page = reverse (window tail (PAIRS - (tail + PAIRS - head) % PAIRS) page)
 
 abbrev pub before : Option Descriptor → List Descriptor → List Descriptor
 before None ds = []
@@ -36,7 +37,7 @@ taken_in head tail page = spelled_first (free_pairs head tail page)
 
 -- head and tail are places of the page, and each pair between them spells a descriptor
 pub record IsRing (head tail : ℕ) (page : List Words) : Type 0 where
-  pub head_inside : head < 256
-  pub tail_inside : tail < 256
-  pub pairs : length page ≡ 256
+  pub head_inside : head < PAIRS
+  pub tail_inside : tail < PAIRS
+  pub pairs : length page ≡ PAIRS
   pub spelled : All (λ w. IsSome (descriptor_of w)) (pairs_between head tail page)

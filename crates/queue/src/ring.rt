@@ -7,10 +7,10 @@ use crate::error::RingFull;
 use std::marker::Model;
 use vtdbits::{Descriptor, Words};
 
-// How many pairs of words one page holds.
+// How many pairs of words one page of the ring holds (own).
 const PAIRS: usize = 256;
 
-/// A queue of descriptors, as the words of one page of 256 pairs, and the status that the last wait left.
+/// A ring of descriptors, as the pairs of words of one page, and the status that the last wait left.
 /// The pairs from the head up to the tail wait, around the page's end; one pair stays free, so that a full
 /// ring can be told from an empty one. The free pairs behind the head still hold what was taken last.
 #[derive(Debug, Drop)]
@@ -35,8 +35,8 @@ impl Model for Ring {
 }
 
 impl Ring {
-    /// How many descriptors can wait.
-    pub const CAPACITY: u64 = 255;
+    /// How many descriptors can wait: one pair of the page stays free (own).
+    pub const CAPACITY: u64 = PAIRS as u64 - 1;
 
     /// A ring in which nothing waits and of which nothing was taken, with the status 0. It takes no memory of its own.
     pub fn new() -> Ring

@@ -6,7 +6,8 @@ use Rattle.dmatypes.specs.declared.call.Call.{Call}
 use Rattle.manager.specs.Kept.{Book}
 use Rattle.manager.specs.Report.{report_text}
 use Rattle.script.specs.Bytes.{Sent, SentFront}
-use Rattle.script.specs.Reported.{OutputKnown, Concludes, IsOf, Reported, ReportedKnown, GoneThrough, GoneThroughKnown, replies_of, report_of}
+use Rattle.script.specs.Reported.{OutputKnown, Concludes, IsOf, Reported, ReportedKnown, GoneThrough, GoneThroughKnown, replies_of}
+use Rattle.script.specs.Reported.{report_of}
 use Rattle.script.specs.Run.{Answers, IsAllSent, RanPartly, RanToBadLine, RanToEnd, RanToFailedRead, ScriptSays, Size, WroteAll, WroteFront}
 use Rattle.script.specs.declared.error.RunError.{RunError}
 use Rattle.script.specs.declared.error.RunError.TheVariants as errors
@@ -42,9 +43,9 @@ partly_read size input left written r = record {
 -- ---- what is written
 
 -- the report of the answers is that of the history and the state that they come from
-report_is : (account : Book) (size : Size) (calls : List Call) (written : List ℕ) (a : Answers size calls written)
-    → IsOf account size calls written a → report_of size calls written a ≡ report_text (length account.history) account.state
-report_is account size calls written a is = rw (is.history, is.state) refl
+report_is : (book : Book) (size : Size) (calls : List Call) (written : List ℕ) (a : Answers size calls written)
+    → IsOf book size calls written a → report_of size calls written a ≡ report_text (length book.history) book.state
+report_is book size calls written a is = rw (is.history, is.state) refl
 
 -- all of it is, behind what was pending
 all_written : (before pending after after' block text : List ℕ) → WroteAll before pending after [] → block ≡ []
@@ -85,28 +86,28 @@ ends_so U size input left before pending after after' block rest written text en
 ends_so U size input left before pending after after' block rest written text end result partly is wrote empty told (inr h) =
     rw h.0 (partly, rw is (front_written before pending after after' block text wrote empty h.1))
 
-concluded : (U : Type 0) (size : Size) (input left before pending after after' block rest written : List ℕ) (account : Book)
-    (end result : Result U RunError) → GoneThrough Silent size input left before pending after written account end → IsAllSent block end
-    → end ≢ Err errors.NoMemory → Concludes (Some after) (Some after') block rest (report_text (length account.history) account.state)
+concluded : (U : Type 0) (size : Size) (input left before pending after after' block rest written : List ℕ) (book : Book)
+    (end result : Result U RunError) → GoneThrough Silent size input left before pending after written book end → IsAllSent block end
+    → end ≢ Err errors.NoMemory → Concludes (Some after) (Some after') block rest (report_text (length book.history) book.state)
     end result → Reported size input left before pending after' written result
 unfolding partly_end partly_bad partly_read
-concluded U size input left before pending after after' block rest written account (Ok u) result w empty made c =
-    let is = report_is account size w.1.0.calls written w.1.0.answers w.1.1 in
-    ends_so U size input left before pending after after' block rest written (report_text (length account.history) account.state) (Ok u)
+concluded U size input left before pending after after' block rest written book (Ok u) result w empty made c =
+    let is = report_is book size w.1.0.calls written w.1.0.answers w.1.1 in
+    ends_so U size input left before pending after after' block rest written (report_text (length book.history) book.state) (Ok u)
     result (partly_end size input left written w.1.0) is w.0 empty (λ all. (w.1.0, rw is all)) c
-concluded U size input left before pending after after' block rest written account (Err (errors.BadLine k)) result w empty made c =
-    let is = report_is account size w.1.0.calls written w.1.0.answers w.1.1 in
-    ends_so U size input left before pending after after' block rest written (report_text (length account.history) account.state)
+concluded U size input left before pending after after' block rest written book (Err (errors.BadLine k)) result w empty made c =
+    let is = report_is book size w.1.0.calls written w.1.0.answers w.1.1 in
+    ends_so U size input left before pending after after' block rest written (report_text (length book.history) book.state)
     (Err (errors.BadLine k)) result (partly_bad size input left written k w.1.0) is w.0 empty (λ all. (w.1.0, rw is all)) c
-concluded U size input left before pending after after' block rest written account (Err errors.Read) result w empty made c =
-    let is = report_is account size w.1.0.calls written w.1.0.answers w.1.1 in
-    ends_so U size input left before pending after after' block rest written (report_text (length account.history) account.state)
+concluded U size input left before pending after after' block rest written book (Err errors.Read) result w empty made c =
+    let is = report_is book size w.1.0.calls written w.1.0.answers w.1.1 in
+    ends_so U size input left before pending after after' block rest written (report_text (length book.history) book.state)
     (Err errors.Read) result (partly_read size input left written w.1.0) is w.0 empty (λ all. (w.1.0, rw is all)) c
-concluded U size input left before pending after after' block rest written account (Err errors.Write) result w empty made c = rw c.0
+concluded U size input left before pending after after' block rest written book (Err errors.Write) result w empty made c = rw c.0
     (w.1, rw (same after' after c.1) (none_written before pending after _ w.0)) where
       same : (a b : List ℕ) → Some a ≡ Some b → a ≡ b
       same a b e = cc
-concluded U size input left before pending after after' block rest written account (Err errors.NoMemory) result w empty made c = absurd
+concluded U size input left before pending after after' block rest written book (Err errors.NoMemory) result w empty made c = absurd
     (made refl)
 
 -- the writer doesn't lose what it holds
@@ -125,18 +126,18 @@ still_known U after block rest text (Err errors.Write) result h = none_some afte
   none_some a e = cc
 
 pub report_known : (U : Type 0) (size : Size) (old left before : Option (List ℕ)) (pending : List ℕ) (after after' : Option (List ℕ))
-    (block rest : List ℕ) (account : Book) (end result : Result U RunError)
-    → GoneThroughKnown Silent size old left before pending after account end → IsAllSent block end
-    → end ≢ Err errors.NoMemory → Concludes after after' block rest (report_text (length account.history) account.state) end result
+    (block rest : List ℕ) (book : Book) (end result : Result U RunError)
+    → GoneThroughKnown Silent size old left before pending after book end → IsAllSent block end
+    → end ≢ Err errors.NoMemory → Concludes after after' block rest (report_text (length book.history) book.state) end result
     → ReportedKnown size old left before pending after' result
-report_known U size None left before pending after after' block rest account end result w empty made c = tt
-report_known U size (Some input) None before pending after after' block rest account end result w empty made c = absurd w
-report_known U size (Some input) (Some left) None pending after after' block rest account end result w empty made c = tt
-report_known U size (Some input) (Some left) (Some before) pending None after' block rest account end result w empty made c = absurd w
-report_known U size (Some input) (Some left) (Some before) pending (Some after) None block rest account end result w empty made c =
+report_known U size None left before pending after after' block rest book end result w empty made c = tt
+report_known U size (Some input) None before pending after after' block rest book end result w empty made c = absurd w
+report_known U size (Some input) (Some left) None pending after after' block rest book end result w empty made c = tt
+report_known U size (Some input) (Some left) (Some before) pending None after' block rest book end result w empty made c = absurd w
+report_known U size (Some input) (Some left) (Some before) pending (Some after) None block rest book end result w empty made c =
     absurd (still_known U after block rest _ end result c)
-report_known U size (Some input) (Some left) (Some before) pending (Some after) (Some after') block rest account end result w empty made c =
-    (w.0, concluded U size input left before pending after after' block rest w.0 account end result w.1 empty made c)
+report_known U size (Some input) (Some left) (Some before) pending (Some after) (Some after') block rest book end result w empty made c =
+    (w.0, concluded U size input left before pending after after' block rest w.0 book end result w.1 empty made c)
 
 -- nothing was read and nothing written
 pub nothing_done : (U : Type 0) (size : Size) (old before : Option (List ℕ)) (pending : List ℕ)
@@ -151,24 +152,25 @@ nothing_written U outputs.Answers size old before pending = no_memory U size old
 nothing_written U (outputs.Report text) size old before pending = nothing_done U size old before pending
 
 pub answers_known : (U : Type 0) (output : Output) (replies : Replies) (size : Size) (old left before : Option (List ℕ))
-    (pending : List ℕ) (after : Option (List ℕ)) (account : Book) (result : Result U RunError) → output ≡ outputs.Answers
+    (pending : List ℕ) (after : Option (List ℕ)) (book : Book) (result : Result U RunError) → output ≡ outputs.Answers
     → replies ≡ replies_of output
-    → GoneThroughKnown replies size old left before pending after account result → OutputKnown output size old left before pending after result
-answers_known U outputs.Answers Written size old left before pending after account result is so w = run_known U size old left before
-    pending after account result w
-answers_known U outputs.Answers Silent size old left before pending after account result is so w = absurd cc
-answers_known U (outputs.Report text) replies size old left before pending after account result is so w = absurd cc
+    → GoneThroughKnown replies size old left before pending after book result
+    → OutputKnown output size old left before pending after result
+answers_known U outputs.Answers Written size old left before pending after book result is so w = run_known U size old left before
+    pending after book result w
+answers_known U outputs.Answers Silent size old left before pending after book result is so w = absurd cc
+answers_known U (outputs.Report text) replies size old left before pending after book result is so w = absurd cc
 
 pub report_is_known : (U : Type 0) (output : Output) (replies : Replies) (text : List ℕ) (size : Size)
-    (old left before : Option (List ℕ)) (pending : List ℕ) (after after' : Option (List ℕ)) (block rest : List ℕ) (account : Book)
+    (old left before : Option (List ℕ)) (pending : List ℕ) (after after' : Option (List ℕ)) (block rest : List ℕ) (book : Book)
     (end result : Result U RunError) → output ≡ outputs.Report text → replies ≡ replies_of output
-    → GoneThroughKnown replies size old left before pending after account end → IsAllSent block end → end ≢ Err errors.NoMemory
-    → Concludes after after' block rest (report_text (length account.history) account.state) end result
+    → GoneThroughKnown replies size old left before pending after book end → IsAllSent block end → end ≢ Err errors.NoMemory
+    → Concludes after after' block rest (report_text (length book.history) book.state) end result
     → OutputKnown output size old left before pending after' result
-report_is_known U outputs.Answers replies text size old left before pending after after' block rest account end result is so w empty made
+report_is_known U outputs.Answers replies text size old left before pending after after' block rest book end result is so w empty made
     c = absurd cc
-report_is_known U (outputs.Report text') Written text size old left before pending after after' block rest account end result is so w
+report_is_known U (outputs.Report text') Written text size old left before pending after after' block rest book end result is so w
     empty made c = absurd cc
-report_is_known U (outputs.Report text') Silent text size old left before pending after after' block rest account end result is so w
+report_is_known U (outputs.Report text') Silent text size old left before pending after after' block rest book end result is so w
     empty made c =
-    report_known U size old left before pending after after' block rest account end result w empty made c
+    report_known U size old left before pending after after' block rest book end result w empty made c

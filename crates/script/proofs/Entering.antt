@@ -35,11 +35,11 @@ entered_none room =
       take_nil zero = refl
       take_nil (suc n) = refl
 
-unfoldable pub answers : (size : Size) (account : Book) (calls : List Call) (written : List ℕ) → IsKept size.frames size.room account
-    → Entered size.room account.history calls written → Answers size calls written
-answers size account calls written kept entered = record {
-  history = account.history;
-  state = account.state;
+unfoldable pub answers : (size : Size) (book : Book) (calls : List Call) (written : List ℕ) → IsKept size.frames size.room book
+    → Entered size.room book.history calls written → Answers size calls written
+answers size book calls written kept entered = record {
+  history = book.history;
+  state = book.state;
   legal = kept.legal;
   along = kept.goes;
   calls_are = entered.calls_are;

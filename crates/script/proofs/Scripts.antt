@@ -5,6 +5,7 @@ use Rattle.std.specs.Prelude.{nat_le}
 use Rattle.dmatypes.specs.declared.call.Call.{Call}
 use Rattle.dmatypes.specs.Grammar.{says, fields, call_of}
 use Rattle.script.specs.Bytes.{IsUnbroken}
+use Rattle.dmatypes.specs.declared.limits.TheConstants.{LONGEST_LINE}
 use Rattle.script.specs.Run.{LineSays, ScriptSays, BeginsBadly}
 
 -- what follows is the rest
@@ -43,10 +44,10 @@ no_shorter (c ∷ known) x (d ∷ line) more p e = omega
     (arith, no_shorter known x line more p.1 (tail_is c d (known ++ x) (line ++ 10 ∷ more) e))
 
 -- a line that says something is short
-pub says_short : (line : List ℕ) (call : Call) → says line ≡ Some call → length line ≤ 512
+pub says_short : (line : List ℕ) (call : Call) → says line ≡ Some call → length line ≤ LONGEST_LINE
 unfolding says
-says_short line call e = short (nat_le (length line) 512) refl e where
-  short : (b : Bool) → nat_le (length line) 512 ≡ b → cond b (call_of (fields line)) None ≡ Some call → length line ≤ 512
+says_short line call e = short (nat_le (length line) LONGEST_LINE) refl e where
+  short : (b : Bool) → nat_le (length line) LONGEST_LINE ≡ b → cond b (call_of (fields line)) None ≡ Some call → length line ≤ LONGEST_LINE
   short true h s = grind arith
   short false h s = absurd cc
 
@@ -80,8 +81,8 @@ cut_line line whole some = record {
   no_line = λ other rest call e said. unbroken_no line other rest whole e;
 }
 
--- a line of more than 512 bytes
-pub long_line : (known x : List ℕ) → IsUnbroken known → 512 < length known → BeginsBadly (known ++ x)
+-- a line of more bytes than the longest line has
+pub long_line : (known x : List ℕ) → IsUnbroken known → LONGEST_LINE < length known → BeginsBadly (known ++ x)
 long_line known x whole long = record {
   something = λ e. nonempty (longer known x e);
   no_line = λ other rest call e said. absurd (omega (arith, no_shorter known x other rest whole e, says_short other call said.said, long));

@@ -7,6 +7,7 @@ use Rattle.script.specs.declared.counted.Taken.TheVariants as parts
 use Rattle.script.specs.declared.error.RunError.{RunError}
 use Rattle.script.specs.declared.error.RunError.TheVariants as errors
 use Rattle.script.specs.declared.lines.LineEnd.{LineEnd}
+use Rattle.dmatypes.specs.declared.limits.TheConstants.{LONGEST_LINE}
 use Rattle.script.specs.declared.lines.LineEnd.TheVariants.{Newline, Nothing, Cut, Long}
 
 -- no newline stands in these bytes
@@ -20,13 +21,14 @@ Filled old new block (Ok false) = Consumes old new [] × IsAtEnd new × (block �
 Filled old new block (Err e) = Consumes old new [] × (block ≡ [])
 
 -- bytes of the block were moved to the line: up to a newline, or all of them, or up to a byte for which
--- the line of 512 bytes has no room
+-- the longest line has no room
 abbrev pub TakesLine : List ℕ → List ℕ → List ℕ → List ℕ → Taken → Type 0
 TakesLine block rest line longer parts.Newline =
     (more : List ℕ) × (longer ≡ line ++ more) × (block ≡ more ++ 10 ∷ rest) × IsUnbroken more
 TakesLine block rest line longer parts.More = (longer ≡ line ++ block) × (rest ≡ []) × IsUnbroken block
 TakesLine block rest line longer parts.Long =
-    (more : List ℕ) × (b : ℕ) × (longer ≡ line ++ more) × (block ≡ more ++ b ∷ rest) × IsUnbroken (more ++ b ∷ []) × (length longer ≡ 512)
+    (more : List ℕ) × (b : ℕ) × (longer ≡ line ++ more) × (block ≡ more ++ b ∷ rest) × IsUnbroken (more ++ b ∷ [])
+    × (length longer ≡ LONGEST_LINE)
 
 -- of the bytes that were still to be written and a text behind them, a front is written, and the rest is
 -- still to be
@@ -42,7 +44,7 @@ abbrev pub ReadLine : {E : Type 0} → Option (List ℕ) → Option (List ℕ) �
 ReadLine old new line (Ok Newline) = Consumes old new (line ++ 10 ∷ []) × IsUnbroken line
 ReadLine old new line (Ok Nothing) = Consumes old new [] × IsAtEnd new
 ReadLine old new line (Ok Cut) = Consumes old new line × IsUnbroken line × (line ≢ []) × IsAtEnd new
-ReadLine old new line (Ok Long) = (b : ℕ) × Consumes old new (line ++ b ∷ []) × IsUnbroken (line ++ b ∷ []) × (length line ≡ 512)
+ReadLine old new line (Ok Long) = (b : ℕ) × Consumes old new (line ++ b ∷ []) × IsUnbroken (line ++ b ∷ []) × (length line ≡ LONGEST_LINE)
 ReadLine old new line (Err e) = Consumes old new line × IsUnbroken line
 
 -- nothing is still to be written where a read found the end, or failed

@@ -20,36 +20,37 @@ shown Written text = text
 shown Silent text = []
 
 -- the answers come from this history and this state
-pub record IsOf (account : Book) (size : Size) (calls : List Call) (written : List ℕ) (answers : Answers size calls written) : Type 0
+pub record IsOf (book : Book) (size : Size) (calls : List Call) (written : List ℕ) (answers : Answers size calls written) : Type 0
   where
-    pub history : answers.history ≡ account.history
-    pub state : answers.state ≡ account.state
+    pub history : answers.history ≡ book.history
+    pub state : answers.state ≡ book.state
 
 -- a script was gone through as by a run, which would answer so, and it led to this history and this state
-abbrev pub GoneThrough : {U : Type 0} → Replies → Size → (input left before pending after written : List ℕ) → Book → Result U RunError → Type 0
-GoneThrough replies size input left before pending after written account (Ok u) =
+abbrev pub GoneThrough : {U : Type 0} → Replies → Size → (input left before pending after written : List ℕ) → Book → Result U RunError
+    → Type 0
+GoneThrough replies size input left before pending after written book (Ok u) =
     WroteAll before pending after (shown replies written)
-    × ((ran : RanToEnd size input left written) × IsOf account size ran.calls written ran.answers)
-GoneThrough replies size input left before pending after written account (Err (errors.BadLine k)) =
+    × ((ran : RanToEnd size input left written) × IsOf book size ran.calls written ran.answers)
+GoneThrough replies size input left before pending after written book (Err (errors.BadLine k)) =
     WroteAll before pending after (shown replies written)
-    × ((ran : RanToBadLine size input left written k) × IsOf account size ran.calls written ran.answers)
-GoneThrough replies size input left before pending after written account (Err errors.Read) =
+    × ((ran : RanToBadLine size input left written k) × IsOf book size ran.calls written ran.answers)
+GoneThrough replies size input left before pending after written book (Err errors.Read) =
     WroteAll before pending after (shown replies written)
-    × ((ran : RanToFailedRead size input left written) × IsOf account size ran.calls written ran.answers)
-GoneThrough replies size input left before pending after written account (Err errors.Write) =
+    × ((ran : RanToFailedRead size input left written) × IsOf book size ran.calls written ran.answers)
+GoneThrough replies size input left before pending after written book (Err errors.Write) =
     WroteFront before pending after (shown replies written) × RanPartly size input written
-GoneThrough replies size input left before pending after written account (Err errors.NoMemory) =
+GoneThrough replies size input left before pending after written book (Err errors.NoMemory) =
     WroteFront before pending after (shown replies written) × RanPartly size input written
 
 -- the same where the reader and the writer tell their bytes
 abbrev pub GoneThroughKnown : {U : Type 0} → Replies → Size → (input left before : Option (List ℕ)) → List ℕ → Option (List ℕ) → Book
     → Result U RunError → Type 0
-GoneThroughKnown replies size None left before pending after account result = Unit {0}
-GoneThroughKnown replies size (Some input) None before pending after account result = ⊥
-GoneThroughKnown replies size (Some input) (Some left) None pending after account result = Unit {0}
-GoneThroughKnown replies size (Some input) (Some left) (Some before) pending None account result = ⊥
-GoneThroughKnown replies size (Some input) (Some left) (Some before) pending (Some after) account result =
-    (written : List ℕ) × GoneThrough replies size input left before pending after written account result
+GoneThroughKnown replies size None left before pending after book result = Unit {0}
+GoneThroughKnown replies size (Some input) None before pending after book result = ⊥
+GoneThroughKnown replies size (Some input) (Some left) None pending after book result = Unit {0}
+GoneThroughKnown replies size (Some input) (Some left) (Some before) pending None book result = ⊥
+GoneThroughKnown replies size (Some input) (Some left) (Some before) pending (Some after) book result =
+    (written : List ℕ) × GoneThrough replies size input left before pending after written book result
 
 -- ---- a report
 

@@ -15,6 +15,7 @@ use Rattle.engine.specs.State.{State}
 use Rattle.engine.specs.Steps.{GoesTo}
 use Rattle.script.specs.Bytes.{IsUnbroken}
 use Rattle.script.specs.declared.error.RunError.{RunError}
+use Rattle.dmatypes.specs.declared.limits.TheConstants.{LONGEST_LINE}
 use Rattle.script.specs.declared.error.RunError.TheVariants as errors
 
 -- ---- the script
@@ -69,17 +70,17 @@ pub record RanToEnd (size : Size) (input left written : List ℕ) : Type 0 where
   pub answers : Answers size calls written
   pub all_read : left ≡ []
 
--- these bytes are of one line: at most 512 of them, and one more, which alone may be its newline
+-- these bytes are of one line: at most as many as the longest line has, and one more, which alone may be its newline
 pub record IsOfOneLine (bytes : List ℕ) : Type 0 where
   pub line : List ℕ
   pub last : List ℕ
   pub parts : bytes ≡ line ++ last
   pub whole : IsUnbroken line
-  pub few : length line ≤ 512
+  pub few : length line ≤ LONGEST_LINE
   pub one : length last ≤ 1
 
--- the first bad line has this number, and those before it are answered. At most 513 bytes of that line were taken, and
--- nothing behind them
+-- the first bad line has this number, and those before it are answered. Of that line at most one byte more was taken
+-- than the longest line has, and nothing behind it
 pub record RanToBadLine (size : Size) (input left written : List ℕ) (number : ℕ) : Type 0 where
   pub calls : List Call
   pub rest : List ℕ
@@ -100,7 +101,7 @@ pub record RanToFailedRead (size : Size) (input left written : List ℕ) : Type 
   pub rest : List ℕ
   pub script : ScriptSays taken calls rest
   pub no_more : IsUnbroken rest
-  pub short : length rest ≤ 512
+  pub short : length rest ≤ LONGEST_LINE
   pub answers : Answers size calls written
 
 -- whole lines at the beginning of the script would be answered so

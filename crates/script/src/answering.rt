@@ -13,7 +13,7 @@ use crate::lines::{LineEnd, next_line};
 use crate::wrapped::Failed;
 use arrayvec::{ArrayString, ArrayVec};
 use dmatypes::{Call, Refusal, Reply, parse_line, reply_line};
-use manager::{Book, HistoryFull, Owner, Share};
+use manager::{Book, HistoryFull, Owner, Rows, Share};
 use std::io::{Read, Write};
 use std::sync::Wait;
 
@@ -29,6 +29,7 @@ pub(crate) enum Replies {
 pub(crate) fn answer_lines<B: Owner, T: Wait, R: Read, W: Write>(
     rt: &T,
     book: &mut Book<B>,
+    rows: &Rows<B>,
     mine: &mut Share<B>,
     reader: &mut Counted<R>,
     writer: &mut Counted<W>,
@@ -37,7 +38,7 @@ pub(crate) fn answer_lines<B: Owner, T: Wait, R: Read, W: Write>(
     requires none { book.old.history ≡ [] }
     requires reader { reader.old.wrapped.failed ≡ false }
     requires writer { writer.old.wrapped.failed ≡ false }
-    ensures told { GoneThroughKnown replies (record { frames = B.frames; room = B.room })
+    ensures written { GoneThroughKnown replies (record { frames = B.frames; room = B.room })
         (prepend_known reader.old.block (R.remaining reader.old.wrapped.inner))
         (prepend_known reader.new.block (R.remaining reader.new.wrapped.inner))
         (W.contents writer.old.wrapped.inner) writer.old.block (W.contents writer.new.wrapped.inner) book.new result }
@@ -50,6 +51,7 @@ pub(crate) fn answer_lines<B: Owner, T: Wait, R: Read, W: Write>(
     let mut line = ArrayVec::new();
     let mut text = ArrayString::new();
     let mut number = 1u64;
+    // It changes nothing: its contract tells what every book keeps, here before the first call.
     book.keeps();
     for _ in rt.forever() {
         match next_line(reader, writer, &mut line) {
@@ -62,7 +64,7 @@ pub(crate) fn answer_lines<B: Owner, T: Wait, R: Read, W: Write>(
         let Some(call) = parse_line(line.as_slice()) else {
             return stop_at(writer, number);
         };
-        answer(book, mine, call, &mut text);
+        answer(book, rows, mine, call, &mut text);
         match writer.put(shown(replies, &text)) {
             Ok(()) => {}
             Err(Failed) => return Err(RunError::Write),
@@ -86,14 +88,21 @@ fn stop_at<W: Write>(writer: &mut Counted<W>, number: u64) -> Result<(), RunErro
 }
 
 // One call of the book, and the line of its answer.
-fn answer<B: Owner>(book: &mut Book<B>, mine: &mut Share<B>, call: Call, text: &mut ArrayString<64>)
+fn answer<B: Owner>(
+    book: &mut Book<B>,
+    rows: &Rows<B>,
+    mine: &mut Share<B>,
+    call: Call,
+    text: &mut ArrayString<64>,
+)
     ensures one { AnswersOne B.room book.old book.new call text.new.bytes }
     ensures kept { IsKept B.frames B.room book.new }
 {
-    let reply = match book.call(mine, call) {
+    let reply = match book.call(rows, mine, call) {
         Ok((_, reply)) => reply,
         Err(HistoryFull) => Reply::Refused(Refusal::HistoryFull),
     };
+    // The same of the book after the call.
     book.keeps();
     reply_line(reply, text);
 }

@@ -6,10 +6,13 @@ ghost use Rattle.std.specs.Prelude.{IsTrue, IfSome, IfNone, OnOk, OnErr};
 use arrayvec::ArrayVec;
 use std::marker::Model;
 
-/// At most 4,096 bytes that came in and have not gone out, in their order.
+/// The most bytes of a block.
+pub(crate) const BLOCK_BYTES: usize = 4096;
+
+/// Bytes that came in and have not gone out, in their order.
 #[derive(Drop)]
 pub(crate) struct Block {
-    bytes: ArrayVec<u8, 4096>,
+    bytes: ArrayVec<u8, BLOCK_BYTES>,
     gone: usize,
 }
 
@@ -77,7 +80,7 @@ impl Block {
 
     /// Puts bytes at the end, where there is room; there is in an empty block. Else it stays as it is.
     pub(crate) fn append(&mut self, bytes: &[u8]) -> Result<(), Full>
-        requires { length bytes.now ≤ 4096 }
+        requires { length bytes.now ≤ BLOCK_BYTES }
         ensures ok { OnOk result (self.new ≡ self.old ++ bytes.now) }
         ensures err { OnErr result ((self.new ≡ self.old) × (self.old ≢ [])) }
     {
@@ -94,7 +97,7 @@ impl Block {
     /// Puts bytes into the empty block.
     pub(crate) fn refill(&mut self, bytes: &[u8])
         requires empty { self.old ≡ [] }
-        requires room { length bytes.now ≤ 4096 }
+        requires room { length bytes.now ≤ BLOCK_BYTES }
         ensures { self.new ≡ bytes.now }
     {
         self.bytes.clear();

@@ -4,9 +4,10 @@ ghost use Rattle.std.specs.Prelude.{◌≡◌, ◌≢◌, ◌≤◌, ◌++◌, [
 ghost use Rattle.std.specs.Io.KnownBytes.{Appends, Consumes, IsAtEnd};
 ghost use Rattle.script.specs.Bytes.{Filled, Sent, SentFront, TakesLine};
 
-use crate::block::{Block, Full};
+use crate::block::{BLOCK_BYTES, Block, Full};
 use crate::wrapped::{Failed, Wrapped};
 use arrayvec::ArrayVec;
+use dmatypes::LONGEST_LINE;
 use std::io::{Read, Write};
 
 /// Wraps a reader or a writer, with a block of the bytes that were read and not yet used, or that are
@@ -24,7 +25,7 @@ pub(crate) enum Taken {
     Newline,
     /// To the block's end.
     More,
-    /// Past 512 bytes.
+    /// Past the bytes of the longest line.
     Long,
 }
 
@@ -57,7 +58,7 @@ impl<R: Read> Counted<R> {
         ensures bytes { Filled (R.remaining self.old.wrapped.inner) (R.remaining self.new.wrapped.inner) self.new.block result }
         ensures failed { self.new.wrapped.failed ≡ is_err result }
     {
-        let mut bytes = [0u8; 4096];
+        let mut bytes = [0u8; BLOCK_BYTES];
         match self.wrapped.read(&mut bytes) {
             Ok(0) => Ok(false),
             Ok(count) => {
@@ -69,9 +70,9 @@ impl<R: Read> Counted<R> {
     }
 
     /// Moves bytes of the block to the line's end, up to a newline, which is left out.
-    pub(crate) fn take_line(&mut self, line: &mut ArrayVec<u8, 512>) -> Taken
-        requires { length line.old.items ≤ 512 }
-        ensures few { length line.new.items ≤ 512 }
+    pub(crate) fn take_line(&mut self, line: &mut ArrayVec<u8, LONGEST_LINE>) -> Taken
+        requires { length line.old.items ≤ LONGEST_LINE }
+        ensures few { length line.new.items ≤ LONGEST_LINE }
         ensures bytes { TakesLine self.old.block self.new.block line.old.items line.new.items result }
         ensures wrapped { self.new.wrapped ≡ self.old.wrapped }
     {
@@ -107,7 +108,7 @@ impl<W: Write> Counted<W> {
 
     /// Puts a text behind what is still to be written, which is written first where there is no room.
     pub(crate) fn put(&mut self, text: &[u8]) -> Result<(), Failed>
-        requires short { length text.now ≤ 4096 }
+        requires short { length text.now ≤ BLOCK_BYTES }
         requires unfailed { self.old.wrapped.failed ≡ false }
         ensures sent { Sent (W.contents self.old.wrapped.inner) (W.contents self.new.wrapped.inner) self.old.block self.new.block
             (if is_ok result then text.now else []) }
@@ -127,7 +128,7 @@ impl<W: Write> Counted<W> {
     /// Writes what is still to be written, and a text behind it. Where a write fails, or takes nothing, a front of these
     /// is written.
     pub(crate) fn send(&mut self, text: &[u8]) -> Result<(), Failed>
-        requires short { length text.now ≤ 4096 }
+        requires short { length text.now ≤ BLOCK_BYTES }
         requires unfailed { self.old.wrapped.failed ≡ false }
         ensures sent { OnOk result (Sent (W.contents self.old.wrapped.inner) (W.contents self.new.wrapped.inner)
             self.old.block [] text.now) }

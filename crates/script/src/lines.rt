@@ -8,6 +8,7 @@ use crate::counted::{Counted, Taken};
 use crate::error::RunError;
 use crate::wrapped::Failed;
 use arrayvec::ArrayVec;
+use dmatypes::LONGEST_LINE;
 use std::io::{Read, Write};
 
 /// How a line ended.
@@ -19,21 +20,22 @@ pub(crate) enum LineEnd {
     Nothing,
     /// The bytes ended before a newline.
     Cut,
-    /// It is longer than 512 bytes.
+    /// It is longer than a line may be.
     Long,
 }
 
-/// Reads the bytes of the next line, its newline left out. Of a line that is too long 513 bytes are taken.
+/// Reads the bytes of the next line, its newline left out. Of a line that is too long one byte more is taken than the
+/// longest line has.
 /// What is still to be written is written before each read, so that whoever feeds the reader has all
 /// answers to the lines that it was given.
 pub(crate) fn next_line<R: Read, W: Write>(
     reader: &mut Counted<R>,
     writer: &mut Counted<W>,
-    line: &mut ArrayVec<u8, 512>,
+    line: &mut ArrayVec<u8, LONGEST_LINE>,
 ) -> Result<LineEnd, RunError>
     requires reader { reader.old.wrapped.failed ≡ false }
     requires writer { writer.old.wrapped.failed ≡ false }
-    ensures few { length line.new.items ≤ 512 }
+    ensures few { length line.new.items ≤ LONGEST_LINE }
     ensures bytes { ReadLine (prepend_known reader.old.block (R.remaining reader.old.wrapped.inner))
         (prepend_known reader.new.block (R.remaining reader.new.wrapped.inner)) line.new.items result }
     ensures sent { Sent (W.contents writer.old.wrapped.inner) (W.contents writer.new.wrapped.inner) writer.old.block writer.new.block [] }

@@ -2,7 +2,7 @@
 
 ghost use Rattle.std.specs.Prelude.{◌≡◌, ◌↔◌, ◌≤◌, ◌⊎◌, [], Err, true, false, length, IsErrOf};
 ghost use Rattle.std.specs.Io.KnownBytes.{prepend_known};
-ghost use Rattle.manager.specs.Kept.{Seed};
+ghost use Rattle.manager.specs.Kept.{IsNamedBy};
 ghost use Rattle.script.specs.Reported.{Concludes, OutputKnown, ReaderEnds, ReportedKnown, replies_of};
 ghost use Rattle.script.specs.Run.{IsAllSent, RanKnown};
 
@@ -41,7 +41,7 @@ pub fn run<T: Wait, R: Read, W: Write>(
     requires one { config.shares ≡ 1 }
     requires reader { reader.old.wrapped.failed ≡ false }
     requires writer { writer.old.wrapped.failed ≡ false }
-    ensures told { RanKnown (record { frames = config.frames; room = config.calls })
+    ensures written { RanKnown (record { frames = config.frames; room = config.calls })
         (prepend_known reader.old.block (R.remaining reader.old.wrapped.inner))
         (prepend_known reader.new.block (R.remaining reader.new.wrapped.inner))
         (W.contents writer.old.wrapped.inner) writer.old.block (W.contents writer.new.wrapped.inner) result }
@@ -73,7 +73,7 @@ pub fn report<T: Wait, R: Read, W: Write>(
     requires one { config.shares ≡ 1 }
     requires reader { reader.old.wrapped.failed ≡ false }
     requires writer { writer.old.wrapped.failed ≡ false }
-    ensures told { ReportedKnown (record { frames = config.frames; room = config.calls })
+    ensures written { ReportedKnown (record { frames = config.frames; room = config.calls })
         (prepend_known reader.old.block (R.remaining reader.old.wrapped.inner))
         (prepend_known reader.new.block (R.remaining reader.new.wrapped.inner))
         (W.contents writer.old.wrapped.inner) writer.old.block (W.contents writer.new.wrapped.inner) result }
@@ -102,15 +102,11 @@ fn work_through<B: Owner, T: Wait, R: Read, W: Write>(
     seed: Seed,
     output: Output,
 ) -> Result<(), RunError>
-    requires name { seed.name ≡ B.name }
-    requires parts { seed.shares ≡ B.parts }
-    requires shares { seed.shares ≡ B.shares }
-    requires room { seed.room ≡ B.room }
-    requires frames { seed.frames ≡ B.frames }
+    requires named { IsNamedBy seed B.name B.parts B.shares B.room B.frames B.rows }
     requires one { seed.shares ≡ 1 }
     requires reader { reader.old.wrapped.failed ≡ false }
     requires writer { writer.old.wrapped.failed ≡ false }
-    ensures told { OutputKnown output (record { frames = seed.frames; room = seed.room })
+    ensures written { OutputKnown output (record { frames = seed.frames; room = seed.room })
         (prepend_known reader.old.block (R.remaining reader.old.wrapped.inner))
         (prepend_known reader.new.block (R.remaining reader.new.wrapped.inner))
         (W.contents writer.old.wrapped.inner) writer.old.block (W.contents writer.new.wrapped.inner) result }
@@ -123,7 +119,9 @@ fn work_through<B: Owner, T: Wait, R: Read, W: Write>(
     let Ok(
         Made {
             manager,
+            rows,
             mut shares,
+            ..
         },
     ) = Manager::<B>::new(alloc, seed)
     else {
@@ -135,7 +133,7 @@ fn work_through<B: Owner, T: Wait, R: Read, W: Write>(
     let mut guard = manager.lock(rt);
     let book = &mut *guard;
     book.audit(&mut mine);
-    let end = answer_lines(rt, book, &mut mine, reader, writer, replies_for(&output));
+    let end = answer_lines(rt, book, &rows, &mut mine, reader, writer, replies_for(&output));
     match output {
         Output::Answers => end,
         Output::Report(mut text) => {

@@ -1,6 +1,6 @@
 //! A wrapped reader or writer, and what its calls answer.
 
-ghost use Rattle.std.specs.Prelude.{◌≡◌, true, false, length, is_err, IfOk};
+ghost use Rattle.std.specs.Prelude.{◌≡◌, ◌≢◌, [], true, false, is_err, IfOk};
 ghost use Rattle.std.specs.Io.{ReadsAtMost, WritesAtMost};
 ghost use Rattle.std.specs.Io.KnownBytes.{ReadConsumes, WriteAppends};
 ghost use Rattle.script.specs.Judged.{JudgesRead, JudgesWrite};
@@ -54,12 +54,13 @@ impl<R: Read> Wrapped<R> {
 }
 
 impl<W: Write> Wrapped<W> {
-    /// One write, which takes at least one byte where there is one.
+    /// One write of at least one byte, which takes at least one.
     pub(crate) fn write(&mut self, bytes: &[u8]) -> Result<usize, Failed>
-        requires { self.old.failed ≡ false }
+        requires unfailed { self.old.failed ≡ false }
+        requires some { bytes.now ≢ [] }
         ensures bound { WritesAtMost result bytes.now }
         ensures bytes { WriteAppends (W.contents self.old.inner) (W.contents self.new.inner) result bytes.now }
-        ensures some { IfOk result (λ n. n ≡ 0 → length bytes.now ≡ 0) }
+        ensures some { IfOk result (λ n. n ≢ 0) }
         ensures failed { self.new.failed ≡ is_err result }
     {
         let answer = self.inner.write(bytes);

@@ -13,6 +13,15 @@ unfolding span
 span_pos zero = omega arith
 span_pos (suc l) = let k : 0 < span l = span_pos l in omega arith
 
+-- a table of a higher level covers no fewer pages
+pub span_grows : (j l : ℕ) → j ≤ l → span j ≤ span l
+unfolding span
+span_grows j zero le = subst (λ i. span i ≤ 1) (let z : 0 ≡ j = omega arith in z) (omega arith)
+span_grows j (suc l) le =
+    ⊎_elim (λ (same : j ≡ suc l). subst (λ i. span j ≤ span i) same (omega arith))
+    (λ (lt : j < suc l). let k : span j ≤ span l = span_grows j l (omega arith) in omega arith)
+    (eq-or-lt_of_le le)
+
 div_part : (x z n : ℕ) → 0 < n → x < n → (x + n * z) / n ≡ z
 div_part x z n pos lt = add-mul-div_left x z pos ∙ (let k : x / n ≡ 0 = div-eq_of_lt lt in omega arith)
 

@@ -8,39 +8,48 @@ ghost use Rattle.tables.specs.Tree.{span, index_in, states, leaf_from, table_fro
 ghost use Rattle.tables.specs.Pool.{memory, IsTree};
 
 use crate::frames::Pool;
-use dmatypes::{Frame, Rights};
+use dmatypes::{Frame, Rights, SPAN_PAGES};
 use vtdbits::{SsEntry, Translation};
 
-/// How many pages a table of the level covers.
+/// How many pages a table of a level covers, and an entry of the level above (second-stage paging): one at level 0.
 #[tactic(auto, unfolding(crate::specs::Tree::span))]
 pub fn span_of(level: u64) -> u64
     requires { level ≤ 3 }
     ensures exact { result ≡ span level }
     ensures some { 0 < result }
-    ensures few { result ≤ 2 ^ 27 }
+    ensures few { result ≤ span 3 }
 {
     match level {
         0 => 1,
-        1 => 512,
-        2 => 1 << 18,
-        _ => 1 << 27,
+        1 => SPAN_PAGES,
+        2 => SPAN_PAGES * SPAN_PAGES,
+        _ => SPAN_PAGES * SPAN_PAGES * SPAN_PAGES,
     }
 }
 
-/// The index of a page in a table of the level.
+/// The index of a page's entry in a table of a level (second-stage paging).
 pub fn index_of(level: u64, page: u64) -> u64
     requires low { 1 ≤ level }
     requires high { level ≤ 4 }
     ensures exact { result ≡ index_in (level - 1) page }
-    ensures inside { result < 512 }
+    ensures inside { result < SPAN_PAGES }
 {
-    page / span_of(level - 1) % 512
+    page / span_of(level - 1) % SPAN_PAGES
 }
 
-/// The entry of a table at an index: absent where the word spells none.
-pub fn entry(pool: &Pool, level: u64, table: Frame, index: u64) -> SsEntry
+/// The entry of a table at an index: absent where the word spells none, and where the pool doesn't have the frame.
+pub fn read_entry(pool: &Pool, level: u64, table: Frame, index: u64) -> SsEntry
+    requires index { index < SPAN_PAGES }
+    ensures is { memory pool.now.words level table index ≡ result }
+    ensures stands { MayStandAt level result }
+{
+    SsEntry::decode(level, pool.read(table, index)).unwrap_or(SsEntry::Absent)
+}
+
+/// The entry of a table of the pool at an index: `read_entry` without its test, for the tables of a tree.
+pub(crate) fn entry(pool: &Pool, level: u64, table: Frame, index: u64) -> SsEntry
     requires table { table < pool.now.frames }
-    requires index { index < 512 }
+    requires index { index < SPAN_PAGES }
     ensures is { memory pool.now.words level table index ≡ result }
     ensures stands { MayStandAt level result }
 {
@@ -48,7 +57,7 @@ pub fn entry(pool: &Pool, level: u64, table: Frame, index: u64) -> SsEntry
 }
 
 /// The word of a leaf of one page.
-pub fn leaf_word(frame: u64, rights: Rights) -> u64
+pub(crate) fn leaf_word(frame: u64, rights: Rights) -> u64
     requires frame { frame < 2 ^ 24 }
     requires rights { AreRights (bits_of rights) }
     ensures { look 1 result ≡ SsEntry.Leaf (target frame (bits_of rights)) }
@@ -58,7 +67,7 @@ pub fn leaf_word(frame: u64, rights: Rights) -> u64
 
 /// What a table of the level states of a page. A loop, so that it can be inlined where a walk begins.
 #[inline(always)]
-pub fn find(pool: &Pool, level: u64, table: Frame, page: u64) -> Option<Translation>
+pub(crate) fn find(pool: &Pool, level: u64, table: Frame, page: u64) -> Option<Translation>
     requires low { 1 ≤ level }
     requires high { level ≤ 4 }
     requires tree { IsTree pool.now level table }
@@ -84,7 +93,13 @@ pub fn find(pool: &Pool, level: u64, table: Frame, page: u64) -> Option<Translat
 }
 
 /// The table of the wanted level on a page's way from a table of the level.
-pub fn table_at(pool: &Pool, level: u64, table: Frame, page: u64, wanted: u64) -> Option<Frame>
+pub(crate) fn table_at(
+    pool: &Pool,
+    level: u64,
+    table: Frame,
+    page: u64,
+    wanted: u64,
+) -> Option<Frame>
     requires low { 1 ≤ level }
     requires high { level ≤ 4 }
     requires wanted { 1 ≤ wanted }
@@ -101,7 +116,7 @@ pub fn table_at(pool: &Pool, level: u64, table: Frame, page: u64, wanted: u64) -
 }
 
 /// Whether the page's leaf stands for more than one page.
-pub fn is_in_large_leaf(pool: &Pool, level: u64, table: Frame, page: u64) -> bool
+pub(crate) fn is_in_large_leaf(pool: &Pool, level: u64, table: Frame, page: u64) -> bool
     requires low { 1 ≤ level }
     requires high { level ≤ 4 }
     requires tree { IsTree pool.now level table }

@@ -68,6 +68,13 @@ impl Pool {
         self.free as u64
     }
 
+    /// How many table frames the pool has.
+    pub fn frames(&self) -> u64
+        ensures { result ≡ self.now.frames }
+    {
+        self.slots.len() as u64
+    }
+
     /// The word of a frame at an index; 0 in a frame that the pool doesn't have.
     pub fn read(&self, frame: Frame, index: u64) -> u64
         requires { index < 512 }

@@ -1,12 +1,13 @@
 -- What is in the caches after a step, an eviction and a request, entry by entry.
-use Rattle.std.proofs.Common.{◌≡◌, ℕ, zero, suc, inl, inr, Bool, true, false, cond, not, List, [], ◌∷◌, filter, remove, Option, Some, None, refl, sym, ap, ◌∙◌, cond}
+use Rattle.std.proofs.Common.{◌≡◌, ℕ, zero, suc, inl, inr, Bool, true, false, cond, not, List, [], ◌∷◌, filter, remove, Option, Some, None}
+use Rattle.std.proofs.Common.{refl, sym, ap, ◌∙◌, cond}
 use Rattle.std.proofs.lemmas.Option.{same_Some}
 use Rattle.dmatypes.specs.World.{IsIn}
 use Rattle.dmatypes.specs.declared.call.Cache.{Cache}
 use Rattle.dmatypes.specs.declared.call.Cache.TheVariants as kinds
 use Rattle.vtdbits.specs.declared.descriptor.Descriptor.{Descriptor}
 use Rattle.tables.specs.Tree.{Found}
-use Rattle.unit.specs.Caches.{Leaf, NonLeaf, Context, Caches, without}
+use Rattle.unit.specs.Caches.{CachedLeaf, CachedNonLeaf, CachedContext, Caches, without}
 use Rattle.unit.specs.Filters.{drops_leaf, drops_non_leaf, drops_context, left_by}
 use Rattle.unit.specs.Walking.{met, met_leaf}
 
@@ -38,29 +39,33 @@ of_not false e = refl
 -- ---- descriptors
 
 -- what a descriptor leaves was there, and the descriptor doesn't drop it
-pub left_leaf : (d : Descriptor) (c : Caches) (l : Leaf) → IsIn l (left_by d c).leaves → IsIn l c.leaves × (drops_leaf d l ≡ false)
+pub left_leaf : (d : Descriptor) (c : Caches) (l : CachedLeaf) → IsIn l (left_by d c).leaves → IsIn l c.leaves × (drops_leaf d l ≡ false)
 left_leaf d c l h = let k = in_filter (λ l. not (drops_leaf d l)) l c.leaves h in (k.0, of_not (drops_leaf d l) k.1)
 
-pub left_non_leaf : (d : Descriptor) (c : Caches) (t : NonLeaf) → IsIn t (left_by d c).non_leaves → IsIn t c.non_leaves × (drops_non_leaf d t ≡ false)
+pub left_non_leaf : (d : Descriptor) (c : Caches) (t : CachedNonLeaf) → IsIn t (left_by d c).non_leaves
+    → IsIn t c.non_leaves × (drops_non_leaf d t ≡ false)
 left_non_leaf d c t h = let k = in_filter (λ t. not (drops_non_leaf d t)) t c.non_leaves h in (k.0, of_not (drops_non_leaf d t) k.1)
 
-pub left_context : (d : Descriptor) (c : Caches) (x : Context) → IsIn x (left_by d c).contexts → IsIn x c.contexts × (drops_context d x ≡ false)
+pub left_context : (d : Descriptor) (c : Caches) (x : CachedContext) → IsIn x (left_by d c).contexts
+    → IsIn x c.contexts × (drops_context d x ≡ false)
 left_context d c x h = let k = in_filter (λ x. not (drops_context d x)) x c.contexts h in (k.0, of_not (drops_context d x) k.1)
 
 -- ---- evictions
 
 -- what an eviction leaves was there
-pub without_leaf : (kind : Cache) (place : ℕ) (c : Caches) (l : Leaf) → IsIn l (without kind place c).leaves → IsIn l c.leaves
+pub without_leaf : (kind : Cache) (place : ℕ) (c : Caches) (l : CachedLeaf) → IsIn l (without kind place c).leaves → IsIn l c.leaves
 without_leaf kinds.Leaf place c l h = in_remove l c.leaves place h
 without_leaf kinds.NonLeaf place c l h = h
 without_leaf kinds.Context place c l h = h
 
-pub without_non_leaf : (kind : Cache) (place : ℕ) (c : Caches) (t : NonLeaf) → IsIn t (without kind place c).non_leaves → IsIn t c.non_leaves
+pub without_non_leaf : (kind : Cache) (place : ℕ) (c : Caches) (t : CachedNonLeaf) → IsIn t (without kind place c).non_leaves
+    → IsIn t c.non_leaves
 without_non_leaf kinds.Leaf place c t h = h
 without_non_leaf kinds.NonLeaf place c t h = in_remove t c.non_leaves place h
 without_non_leaf kinds.Context place c t h = h
 
-pub without_context : (kind : Cache) (place : ℕ) (c : Caches) (x : Context) → IsIn x (without kind place c).contexts → IsIn x c.contexts
+pub without_context : (kind : Cache) (place : ℕ) (c : Caches) (x : CachedContext) → IsIn x (without kind place c).contexts
+    → IsIn x c.contexts
 without_context kinds.Leaf place c x h = h
 without_context kinds.NonLeaf place c x h = h
 without_context kinds.Context place c x h = in_remove x c.contexts place h
@@ -68,7 +73,7 @@ without_context kinds.Context place c x h = in_remove x c.contexts place h
 -- ---- requests
 
 -- a leaf that a walk met is that of the entry on the page's way
-pub met_is : (domain page : ℕ) (r : Option Found) (l : Leaf) → met domain page r ≡ Some l
+pub met_is : (domain page : ℕ) (r : Option Found) (l : CachedLeaf) → met domain page r ≡ Some l
     → (x : Found) × (r ≡ Some x) × (l ≡ met_leaf domain page x)
 met_is domain page None l e = absurd (cc)
 met_is domain page (Some x) l e = (x, refl, sym (same_Some (met_leaf domain page x) l e))

@@ -1,5 +1,6 @@
 -- What a list that remembers an entry has.
-use Rattle.std.proofs.Common.{◌≡◌, ℕ, ◌⊎◌, ◌||◌, inl, inr, sym, Bool, true, false, if◌then◌else◌, List, [], ◌∷◌, ◌++◌, length, drop, nat_lt, IsTrue, subst, refl}
+use Rattle.std.proofs.Common.{◌≡◌, ℕ, ◌⊎◌, ◌||◌, inl, inr, sym, Bool, true, false, if◌then◌else◌, List, [], ◌∷◌, ◌++◌, length, drop, nat_lt}
+use Rattle.std.proofs.Common.{IsTrue, subst, refl}
 use Rattle.std.specs.List.{list_any}
 use Rattle.std.specs.Prelude.{IfOk, IfSome, Option, Result, Ok, Err}
 use Rattle.dmatypes.specs.Page.{page_of}
@@ -7,7 +8,7 @@ use Rattle.dmatypes.specs.World.{Target}
 use Rattle.dmatypes.specs.declared.call.Access.{Access}
 use Rattle.dmatypes.specs.declared.refusal.Fault.{Fault}
 use Rattle.unit.specs.Answers.{IsRemembered, IsRememberedIn, Tells}
-use Rattle.unit.specs.Caches.{Caches, Context}
+use Rattle.unit.specs.Caches.{Caches, CachedContext}
 use Rattle.unit.specs.declared.hit.Hit.{Hit}
 use Rattle.dmatypes.specs.World.{IsIn}
 use Rattle.unit.specs.Lists.{with_entry, Gains}
@@ -36,7 +37,8 @@ in_with_entry {A} same most x y xs = by_there (list_any (λ z. same z x) xs) (na
     first_lost (inl h) = inl (in_rest y xs h)
     first_lost (inr e) = inr e
 
-    by_there : (there room : Bool) → IsIn y (if there then xs else (if room then xs ++ x ∷ [] else drop 1 xs ++ x ∷ [])) → IsIn y xs ⊎ (y ≡ x)
+    by_there : (there room : Bool) → IsIn y (if there then xs else (if room then xs ++ x ∷ [] else drop 1 xs ++ x ∷ []))
+        → IsIn y xs ⊎ (y ≡ x)
     by_there true room h = inl h
     by_there false true h = in_push x y xs h
     by_there false false h = first_lost (in_push x y (drop 1 xs) h)
@@ -69,27 +71,34 @@ in_last : {A : Type 0} (x : A) (xs : List A) → IsIn x (xs ++ x ∷ [])
 in_last x [] = inl refl
 in_last x (y ∷ ys) = inr (in_last x ys)
 
-any_by_first : {A : Type 0} (same : A → A → Bool) (x y : A) (ys : List A) (b : Bool) → ((y : A) → same y x ≡ true → y ≡ x) → (list_any (λ y. same y x) ys ≡ true → IsIn x ys)
+any_by_first : {A : Type 0} (same : A → A → Bool) (x y : A) (ys : List A) (b : Bool) → ((y : A) → same y x ≡ true → y ≡ x)
+    → (list_any (λ y. same y x) ys ≡ true → IsIn x ys)
     → same y x ≡ b → (b || list_any (λ y. same y x) ys) ≡ true → IsIn x (y ∷ ys)
 any_by_first same x y ys true law later is any = inl (sym (law y is))
 any_by_first same x y ys false law later is any = inr (later any)
 
-any_in : {A : Type 0} (same : A → A → Bool) (x : A) (xs : List A) → ((y : A) → same y x ≡ true → y ≡ x) → list_any (λ y. same y x) xs ≡ true → IsIn x xs
+any_in : {A : Type 0} (same : A → A → Bool) (x : A) (xs : List A) → ((y : A) → same y x ≡ true → y ≡ x) → list_any (λ y. same y x) xs ≡ true
+    → IsIn x xs
 any_in same x [] law any = absurd (cc)
 any_in same x (y ∷ ys) law any = any_by_first same x y ys (same y x) law (λ rest. any_in same x ys law rest) refl any
 
 -- the entry is in the list then
-pub remembered_in : {A : Type 0} (same : A → A → Bool) (most : ℕ) (x : A) (xs : List A) → ((y : A) → same y x ≡ true → y ≡ x) → IsIn x (with_entry same most x xs)
+pub remembered_in : {A : Type 0} (same : A → A → Bool) (most : ℕ) (x : A) (xs : List A) → ((y : A) → same y x ≡ true → y ≡ x)
+    → IsIn x (with_entry same most x xs)
 unfolding with_entry
 remembered_in {A} same most x xs law = by_there (list_any (λ y. same y x) xs) (nat_lt (length xs) most) refl
   where
-    by_there : (there room : Bool) → list_any (λ y. same y x) xs ≡ there → IsIn x (if there then xs else (if room then xs ++ x ∷ [] else drop 1 xs ++ x ∷ []))
+    by_there : (there room : Bool) → list_any (λ y. same y x) xs ≡ there
+        → IsIn x (if there then xs else (if room then xs ++ x ∷ [] else drop 1 xs ++ x ∷ []))
     by_there true room is = any_in same x xs law is
     by_there false true is = in_last x xs
     by_there false false is = in_last x (drop 1 xs)
 
 -- what a request was told is remembered, as what it was read off is
-pub told_remembered : (to : Option Target) (address : ℕ) (access : Access) (result : Result Hit Fault) (caches : Caches) (x : Context) (device : ℕ) → Tells to address access result
-    → IsIn x caches.contexts → x.device ≡ device → IfSome to (IsRememberedIn caches.leaves x.domain (page_of address)) → IfOk result (IsRemembered caches device address)
-told_remembered to address access (Ok hit) caches x device (y, is, permits, host, told) there same served = (x, there, same, subst (IsRememberedIn caches.leaves x.domain (page_of address)) told (rw is at served))
+pub told_remembered : (to : Option Target) (address : ℕ) (access : Access) (result : Result Hit Fault) (caches : Caches) (x : CachedContext)
+    (device : ℕ) → Tells to address access result
+    → IsIn x caches.contexts → x.device ≡ device → IfSome to (IsRememberedIn caches.leaves x.domain (page_of address))
+    → IfOk result (IsRemembered caches device address)
+told_remembered to address access (Ok hit) caches x device (y, is, permits, host, told) there same served =
+    (x, there, same, subst (IsRememberedIn caches.leaves x.domain (page_of address)) told (rw is at served))
 told_remembered to address access (Err fault) caches x device tells there same served = tt

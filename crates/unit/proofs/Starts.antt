@@ -1,19 +1,20 @@
 -- Where a walk may begin, by the tables that a search by level found.
-use Rattle.std.proofs.Common.{◌≡◌, ◌≢◌, ℕ, ◌+◌, ◌≤◌, ◌==◌, ◌&&◌, inr, Bool, true, false, List, Some, None, IsTrue, find, refl, sym, ◌∙◌, arith, eq-eqb}
+use Rattle.std.proofs.Common.{◌≡◌, ◌≢◌, ℕ, ◌+◌, ◌≤◌, ◌==◌, ◌&&◌, inr, Bool, true, false, List, Some, None, IsTrue, find, refl, sym, ◌∙◌}
+use Rattle.std.proofs.Common.{arith, eq-eqb}
 use Rattle.std.proofs.lemmas.Bool.{eqb-true}
 use Rattle.dmatypes.specs.World.{IsIn}
-use Rattle.unit.specs.Caches.{NonLeaf, Context}
+use Rattle.unit.specs.Caches.{CachedNonLeaf, CachedContext}
 use Rattle.unit.specs.Walking.{hold}
 use Rattle.unit.specs.Answers.{IsStart}
 use Rattle.unit.proofs.Found.{find_in, find_none, both}
 
 -- the table is of the level and the domain, and its span holds the page
-abbrev pub serves : ℕ → ℕ → ℕ → NonLeaf → Bool
+abbrev pub serves : ℕ → ℕ → ℕ → CachedNonLeaf → Bool
 serves domain page level t = (t.level == level) && ((t.domain == domain) && hold t.first t.pages page)
 
-module _ (cached : List NonLeaf) (look : Bool) (x : Context) (page level d : ℕ) (same : d ≡ x.domain) where
+module _ (cached : List CachedNonLeaf) (look : Bool) (x : CachedContext) (page level d : ℕ) (same : d ≡ x.domain) where
   -- at a table that was found
-  pub start_found : (t : NonLeaf) (frame : ℕ) → IsTrue look → find (serves d page level) cached ≡ Some t → t.frame ≡ frame
+  pub start_found : (t : CachedNonLeaf) (frame : ℕ) → IsTrue look → find (serves d page level) cached ≡ Some t → t.frame ≡ frame
       → IsStart cached look x page level frame
   start_found t frame looks is at =
       let found = find_in (serves d page level) cached t is in
@@ -29,7 +30,10 @@ module _ (cached : List NonLeaf) (look : Bool) (x : Context) (page level d : ℕ
 
   -- where none was found of a level, each that serves is of another
   pub none_at_level : find (serves d page level) cached ≡ None
-      → (i : NonLeaf) → IsIn i cached → i.domain ≡ x.domain → IsTrue (hold i.first i.pages page) → level ≤ i.level → level + 1 ≤ i.level
+      → (i : CachedNonLeaf) → IsIn i cached → i.domain ≡ x.domain → IsTrue (hold i.first i.pages page) → level ≤ i.level
+      → level + 1 ≤ i.level
   none_at_level is i there domain holds least =
-      let other : i.level ≢ level = λ e. find_none (serves d page level) cached is i there (all_true _ _ _ (eq-eqb i.level level e) (eq-eqb i.domain d (domain ∙ sym same)) holds) in
+      let other : i.level ≢ level =
+      λ e. find_none (serves d page level) cached is i there
+      (all_true _ _ _ (eq-eqb i.level level e) (eq-eqb i.domain d (domain ∙ sym same)) holds) in
       omega arith

@@ -5,7 +5,8 @@ use Rattle.vtdbits.specs.declared.entry.SsEntry.{SsEntry}
 use Rattle.vtdbits.specs.declared.entry.SsEntry.TheVariants.{Absent, Table, Leaf, LargeLeaf}
 use Rattle.dmatypes.specs.World.{Target}
 use Rattle.tables.specs.Tree.{Memory, span, index_in, leaf_of, leaf_from, table_from}
-use Rattle.unit.specs.Caches.{NonLeaf, leaf}
+use Rattle.unit.specs.Caches.{CachedNonLeaf, leaf}
+use Rattle.dmatypes.specs.declared.page.TheConstants.{SPAN_PAGES}
 use Rattle.unit.specs.Walking.{met, met_non_leaf, IsPassed}
 
 module _ (m : Memory) (t p : ℕ) (e : SsEntry) where
@@ -40,7 +41,7 @@ module _ (m : Memory) (d t p level : ℕ) (some : 1 ≤ level) where
       rw (found, low) (ap (λ (f : ℕ). Some (leaf d f 1 x.frame x.rights)) (sym whole))
 
   pub met_large : (x : Target) → m level t (index_in (level - 1) p) ≡ LargeLeaf x → level ≡ 2
-      → Some (leaf d (p - p % 512) 512 x.frame x.rights) ≡ met d p (leaf_from m level t p)
+      → Some (leaf d (p - p % SPAN_PAGES) SPAN_PAGES x.frame x.rights) ≡ met d p (leaf_from m level t p)
   unfolding span
   met_large x is at =
       let high : level - 1 ≡ 1 = omega arith in
@@ -69,13 +70,27 @@ module _ (m : Memory) (d t p c level : ℕ) (deep : 2 ≤ level) (is : m level t
   at_level = let at : suc (level - 1) ≡ level = omega arith in ap (λ (k : ℕ). m k t (index_in (level - 1) p)) at ∙ is
 
   -- the table that the entry names is passed
-  pub passed_next : (i : NonLeaf) → i ≡ met_non_leaf d p (level - 1) c → IsPassed m level t d p i
+  pub passed_next : (i : CachedNonLeaf) → i ≡ met_non_leaf d p (level - 1) c → IsPassed m level t d p i
   passed_next i e =
-      let at : suc (level - 1) ≡ level = omega arith in
-      (level - 1, c, omega arith, omega arith, ap (λ (k : ℕ). table_from m k t p (level - 1)) (sym at) ∙ table_next m t p c (level - 1) (level - 1) at_level (omega arith) refl, e)
+      let at : suc (level - 1) ≡ level = omega arith in (
+        level - 1,
+        c,
+        omega arith,
+        omega arith,
+        ap (λ (k : ℕ). table_from m k t p (level - 1)) (sym at)
+            ∙ table_next m t p c (level - 1) (level - 1) at_level (omega arith) refl,
+        e,
+      )
 
   -- and so is each that is passed from there
-  pub passed_below : (i : NonLeaf) → IsPassed m (level - 1) c d p i → IsPassed m level t d p i
+  pub passed_below : (i : CachedNonLeaf) → IsPassed m (level - 1) c d p i → IsPassed m level t d p i
   passed_below i (l, f, some, below, from, e) =
-      let at : suc (level - 1) ≡ level = omega arith in
-      (l, f, some, omega arith, ap (λ (k : ℕ). table_from m k t p l) (sym at) ∙ table_below m t p c (level - 1) l at_level (omega arith) ∙ from, e)
+      let at : suc (level - 1) ≡ level = omega arith in (
+        l,
+        f,
+        some,
+        omega arith,
+        ap (λ (k : ℕ). table_from m k t p l) (sym at) ∙ table_below m t p c (level - 1) l at_level (omega arith)
+            ∙ from,
+        e,
+      )

@@ -2,74 +2,67 @@
 use Rattle.std.specs.Prelude.{◌≡◌, ℕ, ◌%◌, ◌^◌, ◌<◌, ◌≤◌, ◌⊎◌, List, [], length, remove}
 use Rattle.dmatypes.specs.Rights.{AreRights}
 use Rattle.dmatypes.specs.declared.call.Cache.{Cache}
+use Rattle.dmatypes.specs.declared.limits.TheConstants.{MOST_CACHED_CONTEXTS, MOST_CACHED_LEAVES, MOST_CACHED_NON_LEAVES}
+use Rattle.dmatypes.specs.declared.page.TheConstants.{SPAN_PAGES}
+use Rattle.vtdbits.specs.declared.number.TheConstants.{WIDE_PAGES_END}
 use Rattle.dmatypes.specs.declared.call.Cache.TheVariants as kinds
 
 -- a leaf that a walk met: the domain, the pages from a first one on that it stands for, and what they are
 -- mapped to: the frames from one on, one after the other, and the rights
-pub record Leaf : Type 0 where
+pub record CachedLeaf : Type 0 where
   pub domain : ℕ
   pub first : ℕ
   pub pages : ℕ
   pub frame : ℕ
   pub rights : ℕ
 
-abbrev pub leaf : ℕ → ℕ → ℕ → ℕ → ℕ → Leaf
+abbrev pub leaf : ℕ → ℕ → ℕ → ℕ → ℕ → CachedLeaf
 leaf domain first pages frame rights =
     record { domain = domain; first = first; pages = pages; frame = frame; rights = rights }
 
 -- a table below a root that a walk passed: the domain, the pages from a first one on that it covers (its
 -- span), its level and its frame
-pub record NonLeaf : Type 0 where
+pub record CachedNonLeaf : Type 0 where
   pub domain : ℕ
   pub first : ℕ
   pub pages : ℕ
   pub level : ℕ
   pub frame : ℕ
 
-abbrev pub non_leaf : ℕ → ℕ → ℕ → ℕ → ℕ → NonLeaf
+abbrev pub non_leaf : ℕ → ℕ → ℕ → ℕ → ℕ → CachedNonLeaf
 non_leaf domain first pages level frame =
     record { domain = domain; first = first; pages = pages; level = level; frame = frame }
 
 -- a device's context: the domain that it is attached to, and the frame of that domain's root
-pub record Context : Type 0 where
+pub record CachedContext : Type 0 where
   pub device : ℕ
   pub domain : ℕ
   pub root : ℕ
 
-abbrev pub context : ℕ → ℕ → ℕ → Context
+abbrev pub context : ℕ → ℕ → ℕ → CachedContext
 context device domain root = record { device = device; domain = domain; root = root }
 
 -- what is remembered, in the order in which it came
 pub record Caches : Type 0 where
-  pub leaves : List Leaf
-  pub non_leaves : List NonLeaf
-  pub contexts : List Context
+  pub leaves : List CachedLeaf
+  pub non_leaves : List CachedNonLeaf
+  pub contexts : List CachedContext
 
-abbrev pub caches : List Leaf → List NonLeaf → List Context → Caches
+abbrev pub caches : List CachedLeaf → List CachedNonLeaf → List CachedContext → Caches
 caches leaves non_leaves contexts =
     record { leaves = leaves; non_leaves = non_leaves; contexts = contexts }
 
--- how many leaves, tables and contexts are remembered at most
-abbrev pub most_leaves : ℕ
-most_leaves = 64
-
-abbrev pub most_non_leaves : ℕ
-most_non_leaves = 32
-
-abbrev pub most_contexts : ℕ
-most_contexts = 16
-
--- no more are
+-- no more leaves, tables and contexts are remembered
 pub record AreFew (c : Caches) : Type 0 where
-  pub leaves : length c.leaves ≤ most_leaves
-  pub non_leaves : length c.non_leaves ≤ most_non_leaves
-  pub contexts : length c.contexts ≤ most_contexts
+  pub leaves : length c.leaves ≤ MOST_CACHED_LEAVES
+  pub non_leaves : length c.non_leaves ≤ MOST_CACHED_NON_LEAVES
+  pub contexts : length c.contexts ≤ MOST_CACHED_CONTEXTS
 
 -- there are places for so many
 pub record HavePlaces (leaves non_leaves contexts : ℕ) : Type 0 where
-  pub for_leaves : leaves ≡ most_leaves
-  pub for_non_leaves : non_leaves ≡ most_non_leaves
-  pub for_contexts : contexts ≡ most_contexts
+  pub for_leaves : leaves ≡ MOST_CACHED_LEAVES
+  pub for_non_leaves : non_leaves ≡ MOST_CACHED_NON_LEAVES
+  pub for_contexts : contexts ≡ MOST_CACHED_CONTEXTS
 
 abbrev pub nothing : Caches
 nothing = caches [] [] []
@@ -80,7 +73,8 @@ without kinds.Leaf place c = record c { leaves = remove c.leaves place }
 without kinds.NonLeaf place c = record c { non_leaves = remove c.non_leaves place }
 without kinds.Context place c = record c { contexts = remove c.contexts place }
 
--- the unit: what it remembers, how many steps it made, and how many descriptors it did in them, one in each that found
+-- The unit: it has another name than in code, since `Unit` is the type with one value here. What it remembers, how many steps it made, and
+-- how many descriptors it did in them, one in each that found
 -- one
 pub record UnitState : Type 0 where
   pub caches : Caches
@@ -92,15 +86,15 @@ unit_state caches steps done = record { caches = caches; steps = steps; done = d
 
 -- ---- what a leaf and a table can be
 
--- one page, or 512 onto as many frames from an aligned one on
-pub record IsLeaf (l : Leaf) : Type 0 where
-  pub first : l.first < 2 ^ 36
-  pub pages : (l.pages ≡ 1) ⊎ ((l.pages ≡ 512) × (l.frame % 512 ≡ 0))
+-- one page, or those of a span onto as many frames from an aligned one on
+pub record IsLeaf (l : CachedLeaf) : Type 0 where
+  pub first : l.first < WIDE_PAGES_END
+  pub pages : (l.pages ≡ 1) ⊎ ((l.pages ≡ SPAN_PAGES) × (l.frame % SPAN_PAGES ≡ 0))
   pub rights : AreRights l.rights
 
 -- a table of level 1 or 2
-pub record IsNonLeaf (t : NonLeaf) : Type 0 where
-  pub first : t.first < 2 ^ 36
+pub record IsNonLeaf (t : CachedNonLeaf) : Type 0 where
+  pub first : t.first < WIDE_PAGES_END
   pub pages : t.pages ≤ 2 ^ 18
   pub low : 1 ≤ t.level
   pub high : t.level ≤ 2

@@ -3,9 +3,10 @@ use Rattle.std.specs.Prelude.{ℕ, ◌+◌, ◌^◌, ◌==◌, ◌&&◌, nat_le,
 use Rattle.dmatypes.specs.Page.{Range, IsWithin}
 use Rattle.dmatypes.specs.Block.{Block, IsInBlock}
 use Rattle.vtdbits.specs.declared.descriptor.Descriptor.{Descriptor}
-use Rattle.vtdbits.specs.declared.descriptor.Descriptor.TheVariants.{ContextGlobal, ContextDomain, ContextDevice, IotlbGlobal, IotlbDomain, IotlbPages, Wait}
+use Rattle.vtdbits.specs.declared.descriptor.Descriptor.TheVariants.{ContextGlobal, ContextDomain, ContextDevice, IotlbGlobal, IotlbDomain}
+use Rattle.vtdbits.specs.declared.descriptor.Descriptor.TheVariants.{IotlbPages, Wait}
 use Rattle.queue.specs.Ring.{Ring, ring_of}
-use Rattle.unit.specs.Caches.{Leaf, NonLeaf, Context, Caches, caches}
+use Rattle.unit.specs.Caches.{CachedLeaf, CachedNonLeaf, CachedContext, Caches, caches}
 
 -- so many pages from a first one on lie wholly in the block
 abbrev pub lie_in : Block → ℕ → ℕ → Bool
@@ -22,7 +23,7 @@ Meets block range = (p : ℕ) × IsWithin range p × IsInBlock block p
 -- ---- what goes
 
 -- leaves go by a page-selective descriptor where they lie wholly in its block
-abbrev pub drops_leaf : Descriptor → Leaf → Bool
+abbrev pub drops_leaf : Descriptor → CachedLeaf → Bool
 drops_leaf IotlbGlobal l = true
 drops_leaf (IotlbDomain domain) l = l.domain == domain
 drops_leaf (IotlbPages domain block hint) l = (l.domain == domain) && lie_in block l.first l.pages
@@ -32,7 +33,7 @@ drops_leaf (ContextDevice domain device) l = false
 drops_leaf (Wait status) l = false
 
 -- tables where their span meets it, and only with the invalidation hint clear
-abbrev pub drops_non_leaf : Descriptor → NonLeaf → Bool
+abbrev pub drops_non_leaf : Descriptor → CachedNonLeaf → Bool
 drops_non_leaf IotlbGlobal t = true
 drops_non_leaf (IotlbDomain domain) t = t.domain == domain
 drops_non_leaf (IotlbPages domain block hint) t =
@@ -43,7 +44,7 @@ drops_non_leaf (ContextDevice domain device) t = false
 drops_non_leaf (Wait status) t = false
 
 -- contexts by context-cache descriptors alone
-abbrev pub drops_context : Descriptor → Context → Bool
+abbrev pub drops_context : Descriptor → CachedContext → Bool
 drops_context ContextGlobal c = true
 drops_context (ContextDomain domain) c = c.domain == domain
 drops_context (ContextDevice domain device) c = c.device == device

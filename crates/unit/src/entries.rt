@@ -4,10 +4,10 @@ ghost use Rattle.std.specs.Prelude.{◌≡◌, ◌==◌, ◌&&◌, IsTrue, ◌-�
 ghost use Rattle.unit.specs.Caches.{leaf};
 ghost use Rattle.unit.specs.Walking.{hold, met_non_leaf, stated_by};
 
-use crate::walking::span_of;
-use dmatypes::{Frame, Rights};
+use dmatypes::{Frame, PAGES_END, Rights, SPAN_PAGES};
 use std::marker::Model;
-use vtdbits::{DeviceNumber, DomainId, LargeTranslation, Translation};
+use tables::span_of;
+use vtdbits::{DeviceNumber, DomainId, LargeTranslation, Translation, WIDE_PAGES_END};
 
 /// A leaf that a walk met: the pages that it stands for, and what they are mapped to, one frame after the
 /// other.
@@ -22,21 +22,22 @@ pub(crate) struct CachedLeaf {
 
 impl Model for CachedLeaf {
     ghost use Rattle.dmatypes.specs.Rights.{bits_of};
-    ghost use Rattle.unit.specs.Caches.{Leaf, IsLeaf, leaf};
+    ghost use Rattle.unit.specs.Caches.{CachedLeaf, IsLeaf, leaf};
 
-    ghost Value = { Leaf };
+    ghost Value = { CachedLeaf };
 
     ghost view = { λ l. leaf l.domain l.first l.pages l.frame (bits_of l.rights) };
 
     ghost invariant = { λ l. IsLeaf (leaf l.domain l.first l.pages l.frame (bits_of l.rights)) };
 
-    ghost inverse = { λ v. record { domain = v.domain; first = v.first; pages = v.pages; frame = v.frame; rights = record { 0 = v.rights } } };
+    ghost inverse =
+        { λ v. record { domain = v.domain; first = v.first; pages = v.pages; frame = v.frame; rights = record { 0 = v.rights } } };
 }
 
 impl CachedLeaf {
     /// The leaf of one page of a domain.
     pub(crate) fn small(domain: DomainId, page: u64, to: Translation) -> CachedLeaf
-        requires { page < 2 ^ 36 }
+        requires { page < WIDE_PAGES_END }
         ensures { result ≡ leaf domain page 1 to.frame to.rights }
     {
         CachedLeaf {
@@ -48,15 +49,15 @@ impl CachedLeaf {
         }
     }
 
-    /// The leaf of the 512 pages of a domain around a page, aligned.
+    /// The leaf of the span of a domain around a page.
     pub(crate) fn large(domain: DomainId, page: u64, to: LargeTranslation) -> CachedLeaf
-        requires { page < 2 ^ 36 }
-        ensures { result ≡ leaf domain (page - page % 512) 512 to.frame to.rights }
+        requires { page < WIDE_PAGES_END }
+        ensures { result ≡ leaf domain (page - page % SPAN_PAGES) SPAN_PAGES to.frame to.rights }
     {
         CachedLeaf {
             domain,
-            first: page - page % 512,
-            pages: 512,
+            first: page - page % SPAN_PAGES,
+            pages: SPAN_PAGES,
             frame: to.frame(),
             rights: to.rights(),
         }
@@ -103,9 +104,9 @@ pub(crate) struct CachedNonLeaf {
 }
 
 impl Model for CachedNonLeaf {
-    ghost use Rattle.unit.specs.Caches.{NonLeaf, IsNonLeaf, non_leaf};
+    ghost use Rattle.unit.specs.Caches.{CachedNonLeaf, IsNonLeaf, non_leaf};
 
-    ghost Value = { NonLeaf };
+    ghost Value = { CachedNonLeaf };
 
     ghost view = { λ t. non_leaf t.domain t.first t.pages t.level t.frame };
 
@@ -117,7 +118,7 @@ impl Model for CachedNonLeaf {
 impl CachedNonLeaf {
     /// The table of a level that covers a page of a domain.
     pub(crate) fn new(domain: DomainId, page: u64, level: u64, frame: Frame) -> CachedNonLeaf
-        requires page { page < 2 ^ 27 }
+        requires page { page < PAGES_END }
         requires low { 1 ≤ level }
         requires high { level ≤ 2 }
         ensures { result ≡ met_non_leaf domain page level frame }
@@ -152,7 +153,7 @@ impl Default for CachedNonLeaf {
         CachedNonLeaf {
             domain: DomainId::new(1).unwrap(),
             first: 0,
-            pages: 512,
+            pages: SPAN_PAGES,
             level: 1,
             frame: Frame::new(0).unwrap(),
         }
@@ -168,9 +169,9 @@ pub(crate) struct CachedContext {
 }
 
 impl Model for CachedContext {
-    ghost use Rattle.unit.specs.Caches.{Context, context};
+    ghost use Rattle.unit.specs.Caches.{CachedContext, context};
 
-    ghost Value = { Context };
+    ghost Value = { CachedContext };
 
     ghost view = { λ c. context c.device c.domain c.root };
 

@@ -5,7 +5,7 @@ ghost use Rattle.unit.specs.Filters.{drops_leaf, drops_non_leaf, drops_context, 
 
 use crate::entries::{CachedContext, CachedLeaf, CachedNonLeaf};
 use arrayvec::ArrayVec;
-use vtdbits::{Descriptor, PageBlock};
+use vtdbits::{Descriptor, PageBlock, WIDE_PAGES_END};
 
 /// An entry that a descriptor can make the unit forget.
 pub(crate) trait Cached {
@@ -86,7 +86,7 @@ pub(crate) fn forget<T: Cached + Copy + Default, const N: usize>(
 
 // Whether so many pages from a first one on lie wholly in the block.
 fn lie_in(block: PageBlock, first: u64, pages: u64) -> bool
-    requires first { first < 2 ^ 36 }
+    requires first { first < WIDE_PAGES_END }
     requires pages { pages ≤ 2 ^ 18 }
     ensures { result ≡ lie_in block first pages }
 {
@@ -95,7 +95,7 @@ fn lie_in(block: PageBlock, first: u64, pages: u64) -> bool
 
 // Whether some of them lie in it.
 fn meet(block: PageBlock, first: u64, pages: u64) -> bool
-    requires first { first < 2 ^ 36 }
+    requires first { first < WIDE_PAGES_END }
     requires pages { pages ≤ 2 ^ 18 }
     ensures { result ≡ meet block first pages }
 {

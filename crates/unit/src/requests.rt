@@ -11,15 +11,12 @@ use crate::lists::remember;
 use crate::lookups::{first_context, first_leaf, first_table};
 use crate::walking::{NON_LEAVES, Way, walk};
 use arrayvec::ArrayVec;
-use dmatypes::{Frame, Whim};
+use dmatypes::{DEVICES, Frame, LEVELS, MOST_CACHED_LEAVES, PAGES_END, Whim};
 use tables::Pool;
 use vtdbits::{ContextEntry, DeviceNumber, Translation};
 
-/// How many leaves are remembered at most (own).
-pub(crate) const LEAVES: usize = 64;
-
-// The level of a root: addresses have 39 bits.
-const LEVELS: u64 = 3;
+/// The places for leaves.
+pub(crate) const LEAVES: usize = MOST_CACHED_LEAVES;
 
 /// The context of a device: with a look the first cached one, else the row's.
 pub(crate) fn context_of(
@@ -28,7 +25,7 @@ pub(crate) fn context_of(
     device: u64,
     look: bool,
 ) -> Option<CachedContext>
-    requires { device < 16 }
+    requires { device < DEVICES }
     ensures some { IfSome result (IsContextOf contexts.now cached.now look device) }
     ensures none { IfNone result (HasNoContext contexts.now cached.now look device) }
     ensures first { IsTrue look → IfSome (find (λ c. c.device == device) cached.now) (λ c. result ≡ Some c) }
@@ -59,7 +56,7 @@ pub(crate) fn translation_of(
     page: u64,
     whim: Whim,
 ) -> Option<Translation>
-    requires { page < 2 ^ 27 }
+    requires { page < PAGES_END }
     ensures read { IsRead (memory pool.now.words) context whim.look whim.fill page leaves.old.items leaves.new.items
         tables.old.items tables.new.items result }
     ensures remembered { IsTrue whim.fill → IfSome result (IsRememberedIn leaves.new.items context.domain page) }
@@ -90,7 +87,7 @@ fn start_of(cached: &[CachedNonLeaf], context: CachedContext, page: u64, look: b
     ensures start { IsStart cached.now look context page result.0 result.1 }
     ensures lowest { IsTrue look → IsLowest cached.now context.domain page result.0 }
     ensures low { 1 ≤ result.0 }
-    ensures high { result.0 ≤ 3 }
+    ensures high { result.0 ≤ LEVELS }
 {
     if look {
         if let Some(table) = first_table(cached, context.domain, page, 1) {

@@ -5,11 +5,8 @@ ghost use Rattle.dmatypes.specs.Allows.{fault_of};
 ghost use Rattle.unit.specs.Answers.{Tells};
 
 use crate::hit::Hit;
-use dmatypes::{Access, Fault};
+use dmatypes::{Access, Fault, PAGE_BYTES};
 use vtdbits::Translation;
-
-// The bytes of a page.
-const PAGE: u64 = 4096;
 
 /// The host address, where there is a translation with the right, else the fault.
 pub(crate) fn tell(to: Option<Translation>, address: u64, access: Access) -> Result<Hit, Fault>
@@ -24,7 +21,7 @@ pub(crate) fn tell(to: Option<Translation>, address: u64, access: Access) -> Res
     }
     let frame = to.frame();
     Ok(Hit {
-        host: PAGE * frame.number() + address % PAGE,
+        host: PAGE_BYTES * frame.number() + address % PAGE_BYTES,
         frame,
         rights,
     })

@@ -15,7 +15,9 @@ use crate::requests::{LEAVES, context_of, translation_of};
 use crate::telling::tell;
 use crate::walking::NON_LEAVES;
 use arrayvec::ArrayVec;
-use dmatypes::{Access, Cache, Fault, Whim};
+use dmatypes::{
+    ADDRESSES_END, Access, Cache, DEVICES, Fault, MOST_CACHED_CONTEXTS, PAGE_BYTES, Whim,
+};
 use queue::Ring;
 use std::marker::Model;
 use tables::Pool;
@@ -26,11 +28,8 @@ mod request_tests;
 #[cfg(test)]
 mod tests;
 
-// How many contexts are remembered at most (own).
-const CONTEXTS: usize = 16;
-
-// The first byte address beyond the width of 39 bits.
-const BEYOND: u64 = 1 << 39;
+// The places for contexts.
+const CONTEXTS: usize = MOST_CACHED_CONTEXTS;
 
 /// Whether a step of the unit did a descriptor.
 #[derive(Clone, Copy, Debug, PartialEq, Eq)]
@@ -93,7 +92,7 @@ impl Unit {
         access: Access,
         whim: Whim,
     ) -> Result<Hit, Fault>
-        requires { device < 16 }
+        requires { device < DEVICES }
         ensures answers { Answers (memory pool.now.words) contexts.now whim.look whim.fill device address access
             self.old.caches self.new.caches result }
         ensures remembered { IsTrue whim.fill → IfOk result (IsRemembered self.new.caches device address) }
@@ -104,7 +103,7 @@ impl Unit {
             return Err(Fault::NotAttached);
         };
         remember(&mut self.contexts, context, whim.fill);
-        if address >= BEYOND {
+        if address >= ADDRESSES_END {
             return Err(Fault::BeyondWidth);
         }
         let to = translation_of(
@@ -112,7 +111,7 @@ impl Unit {
             &mut self.leaves,
             &mut self.non_leaves,
             context,
-            address >> 12,
+            address / PAGE_BYTES,
             whim,
         );
         tell(to, address, access)

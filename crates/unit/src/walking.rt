@@ -5,19 +5,19 @@ ghost use Rattle.dmatypes.specs.World.{IsIn};
 ghost use Rattle.vtdbits.specs.Entry.{MayStandAt};
 ghost use Rattle.tables.specs.Tree.{span, index_in, leaf_from};
 ghost use Rattle.tables.specs.Pool.{memory};
-ghost use Rattle.unit.specs.Caches.{NonLeaf};
+ghost use Rattle.unit.specs.Caches.{CachedNonLeaf};
 ghost use Rattle.unit.specs.Walking.{met, IsPassed};
 ghost use Rattle.unit.specs.Lists.{Gains};
 
 use crate::entries::{CachedLeaf, CachedNonLeaf};
 use crate::lists::remember;
 use arrayvec::ArrayVec;
-use dmatypes::Frame;
-use tables::Pool;
+use dmatypes::{Frame, LEVELS, MOST_CACHED_NON_LEAVES, PAGES_END};
+use tables::{Pool, index_of, read_entry};
 use vtdbits::{DomainId, SsEntry};
 
-/// How many tables are remembered at most (own).
-pub(crate) const NON_LEAVES: usize = 32;
+/// The places for tables.
+pub(crate) const NON_LEAVES: usize = MOST_CACHED_NON_LEAVES;
 
 /// What a walk is for: a page of a domain, and whether what it passes is remembered.
 #[derive(Clone, Copy)]
@@ -35,14 +35,14 @@ pub(crate) fn walk(
     level: u64,
     table: Frame,
 ) -> Option<CachedLeaf>
-    requires page { way.page < 2 ^ 27 }
+    requires page { way.page < PAGES_END }
     requires low { 1 ≤ level }
-    requires high { level ≤ 3 }
+    requires high { level ≤ LEVELS }
     ensures leaf { result ≡ met way.domain way.page (leaf_from (memory pool.now.words) level table way.page) }
     ensures passed { Gains way.fill (IsPassed (memory pool.now.words) level table way.domain way.page) passed.old.items passed.new.items }
     ensures few { length passed.old.items ≤ NON_LEAVES → length passed.new.items ≤ NON_LEAVES }
 {
-    match entry(pool, level, table, way.page) {
+    match read_entry(pool, level, table, index_of(level, way.page)) {
         SsEntry::Absent => None,
         SsEntry::Table(below) => {
             let table = CachedNonLeaf::new(way.domain, way.page, level - 1, below);
@@ -51,32 +51,5 @@ pub(crate) fn walk(
         }
         SsEntry::Leaf(leaf) => Some(CachedLeaf::small(way.domain, way.page, leaf)),
         SsEntry::LargeLeaf(leaf) => Some(CachedLeaf::large(way.domain, way.page, leaf)),
-    }
-}
-
-// The entry of a page in a table of a level: absent where the word spells none, and where the pool has no
-// such table.
-fn entry(pool: &Pool, level: u64, table: Frame, page: u64) -> SsEntry
-    requires low { 1 ≤ level }
-    requires high { level ≤ 3 }
-    ensures is { memory pool.now.words level table (index_in (level - 1) page) ≡ result }
-    ensures stands { MayStandAt level result }
-{
-    let index = page / span_of(level - 1) % 512;
-    SsEntry::decode(level, pool.read(table, index)).unwrap_or(SsEntry::Absent)
-}
-
-/// How many pages a table of a level covers.
-#[tactic(auto, unfolding(tables::specs::Tree::span))]
-pub(crate) fn span_of(level: u64) -> u64
-    requires { level ≤ 2 }
-    ensures exact { result ≡ span level }
-    ensures some { 0 < result }
-    ensures few { result ≤ 2 ^ 18 }
-{
-    match level {
-        0 => 1,
-        1 => 512,
-        _ => 1 << 18,
     }
 }

@@ -1,11 +1,13 @@
 -- What words of second-stage tables spell.
-use Rattle.std.proofs.Common.{◌≡◌, ℕ, ◌/◌, ◌%◌, ◌^◌, ◌-◌, true, ◌&&◌, nat_le, nat_lt, ◌==◌, Option, Some, None, refl, sym, ap, subst, ◌∙◌, arith, unwrap_or, inl, inr}
+use Rattle.std.proofs.Common.{◌≡◌, ℕ, ◌/◌, ◌%◌, ◌^◌, ◌-◌, true, ◌&&◌, nat_le, nat_lt, ◌==◌, Option, Some, None, refl, sym, ap, subst, ◌∙◌}
+use Rattle.std.proofs.Common.{arith, unwrap_or, inl, inr}
 use Rattle.std.proofs.lemmas.Bool.Decides.{nat_tests}
 use Rattle.vtdbits.proofs.Cascades.{if_some, same_some, not_some, none_read}
 use Rattle.dmatypes.specs.World.{Target}
 use Rattle.vtdbits.specs.Translation.{target}
 use Rattle.vtdbits.specs.Entry.{Spells, entry_at, entry_of, look}
 use Rattle.vtdbits.specs.declared.entry.SsEntry.{SsEntry}
+use Rattle.dmatypes.specs.declared.page.TheConstants.{FRAMES_END, SPAN_PAGES}
 use Rattle.vtdbits.specs.declared.entry.SsEntry.TheVariants.{Absent, Table, Leaf, LargeLeaf}
 
 -- a word that spells an entry is read as that entry
@@ -17,17 +19,17 @@ entry_of-spelled level word (Leaf t) s = grind (arith, nat_tests)
 entry_of-spelled level word (LargeLeaf t) s = grind (arith, nat_tests)
 
 -- each test makes its word spell its form
-leaf_tested : (level word : ℕ) → nat_lt (word / 2 ^ 12) (2 ^ 24) ≡ true
+leaf_tested : (level word : ℕ) → nat_lt (word / 2 ^ 12) FRAMES_END ≡ true
     → ((level == 1) && nat_le 1 (word % 2 ^ 12) && nat_le (word % 2 ^ 12) 3) ≡ true
     → Spells level word (Leaf (target (word / 2 ^ 12) (word % 2 ^ 12)))
 leaf_tested level word frame t = grind (arith, nat_tests)
 
-table_tested : (level word : ℕ) → nat_lt (word / 2 ^ 12) (2 ^ 24) ≡ true
+table_tested : (level word : ℕ) → nat_lt (word / 2 ^ 12) FRAMES_END ≡ true
     → (nat_le 2 level && nat_le level 4 && (word % 2 ^ 12 == 3)) ≡ true → Spells level word (Table (word / 2 ^ 12))
 table_tested level word frame t = grind (arith, nat_tests)
 
-large_tested : (level word : ℕ) → nat_lt (word / 2 ^ 12) (2 ^ 24) ≡ true
-    → ((level == 2) && nat_le 0x81 (word % 2 ^ 12) && nat_le (word % 2 ^ 12) 0x83 && (word / 2 ^ 12 % 512 == 0)) ≡ true
+large_tested : (level word : ℕ) → nat_lt (word / 2 ^ 12) FRAMES_END ≡ true
+    → ((level == 2) && nat_le 0x81 (word % 2 ^ 12) && nat_le (word % 2 ^ 12) 0x83 && (word / 2 ^ 12 % SPAN_PAGES == 0)) ≡ true
     → Spells level word (LargeLeaf (target (word / 2 ^ 12) (word % 2 ^ 12 - 2 ^ 7)))
 large_tested level word frame t = grind (arith, nat_tests)
 
@@ -35,7 +37,7 @@ zero_tested : (level word : ℕ) → (word == 0) ≡ true → Spells level word 
 zero_tested level word t = grind (arith, nat_tests)
 
 -- what is read of a word other than 0 is spelled
-spelled_at : (level word : ℕ) (e : SsEntry) → nat_lt (word / 2 ^ 12) (2 ^ 24) ≡ true
+spelled_at : (level word : ℕ) (e : SsEntry) → nat_lt (word / 2 ^ 12) FRAMES_END ≡ true
     → entry_at level (word % 2 ^ 12) (word / 2 ^ 12) ≡ Some e → Spells level word e
 spelled_at level word e fits h =
     let low : ℕ = word % 2 ^ 12 in
@@ -45,10 +47,11 @@ spelled_at level word e fits h =
       | inl (t, s) ↦ subst P (same_some (Leaf (target frame low)) e s) (leaf_tested level word fits t)
       | inr h ↦ elim (if_some (nat_le 2 level && nat_le level 4 && (low == 3)) (Some (Table frame)) _ e h) [
         | inl (t, s) ↦ subst P (same_some (Table frame) e s) (table_tested level word fits t)
-        | inr h ↦ elim (if_some ((level == 2) && nat_le 0x81 low && nat_le low 0x83 && (frame % 512 == 0)) (Some (LargeLeaf (target frame (low - 2 ^ 7)))) _ e h) [
-          | inl (t, s) ↦ subst P (same_some (LargeLeaf (target frame (low - 2 ^ 7))) e s) (large_tested level word fits t)
-          | inr h ↦ absurd (not_some e h)
-        ]
+        | inr h ↦ elim (if_some ((level == 2) && nat_le 0x81 low && nat_le low 0x83 && (frame % SPAN_PAGES == 0))
+            (Some (LargeLeaf (target frame (low - 2 ^ 7)))) _ e h) [
+              | inl (t, s) ↦ subst P (same_some (LargeLeaf (target frame (low - 2 ^ 7))) e s) (large_tested level word fits t)
+              | inr h ↦ absurd (not_some e h)
+            ]
       ]
     ]
 
@@ -59,7 +62,7 @@ spelled_of-entry level word e h =
     let P : SsEntry → Type 0 = λ e. Spells level word e in
     elim (if_some (word == 0) (Some Absent) _ e h) [
       | inl (t, s) ↦ subst P (same_some Absent e s) (zero_tested level word t)
-      | inr h ↦ elim (if_some (nat_lt (word / 2 ^ 12) (2 ^ 24)) (entry_at level (word % 2 ^ 12) (word / 2 ^ 12)) None e h) [
+      | inr h ↦ elim (if_some (nat_lt (word / 2 ^ 12) FRAMES_END) (entry_at level (word % 2 ^ 12) (word / 2 ^ 12)) None e h) [
         | inl (fits, h) ↦ spelled_at level word e fits h
         | inr h ↦ absurd (not_some e h)
       ]

@@ -1,10 +1,13 @@
 -- Spellings of descriptors.
-use Rattle.std.specs.Prelude.{◌≡◌, ℕ, ◌+◌, ◌*◌, ◌/◌, ◌%◌, ◌^◌, ◌<◌, ◌==◌, ◌&&◌, nat_le, nat_lt, Bool, if◌then◌else◌, Option, Some, None}
+use Rattle.std.specs.Prelude.{◌≡◌, ℕ, ◌+◌, ◌-◌, ◌*◌, ◌/◌, ◌%◌, ◌^◌, ◌<◌, ◌==◌, ◌&&◌, nat_le, nat_lt, Bool, if◌then◌else◌, Option, Some}
+use Rattle.std.specs.Prelude.{None}
 use Rattle.dmatypes.specs.Block.{Block, block}
 use Rattle.vtdbits.specs.Numbers.{IsDomainId, IsDevice, IsPageBlock, bit_of_flag, is_domain_id, is_page_block}
 use Rattle.vtdbits.specs.declared.words.Words.{Words}
 use Rattle.vtdbits.specs.declared.descriptor.Descriptor.{Descriptor}
-use Rattle.vtdbits.specs.declared.descriptor.Descriptor.TheVariants.{ContextGlobal, ContextDomain, ContextDevice, IotlbGlobal, IotlbDomain, IotlbPages, Wait}
+use Rattle.vtdbits.specs.declared.descriptor.Descriptor.TheVariants.{ContextGlobal, ContextDomain, ContextDevice, IotlbGlobal, IotlbDomain}
+use Rattle.dmatypes.specs.declared.limits.TheConstants.{DEVICES}
+use Rattle.vtdbits.specs.declared.descriptor.Descriptor.TheVariants.{IotlbPages, Wait}
 
 -- the words spell the descriptor
 abbrev pub Spells : Words → Descriptor → Type 0
@@ -39,7 +42,7 @@ is_of_domain form words =
 abbrev pub is_of_device : ℕ → Words → Bool
 is_of_device form words =
     (words.low % 2 ^ 16 == form) && is_domain_id (words.low / 2 ^ 16 % 2 ^ 16)
-    && (words.low / 2 ^ 32 % 8 == 0) && nat_le (words.low / 2 ^ 35) 15 && (words.high == 0)
+    && (words.low / 2 ^ 32 % 8 == 0) && nat_le (words.low / 2 ^ 35) (DEVICES - 1) && (words.high == 0)
 
 -- the block in the high word
 abbrev pub block_in : Words → Block

@@ -1,8 +1,10 @@
 -- Spellings of second-stage entries.
-use Rattle.std.specs.Prelude.{◌≡◌, ℕ, ◌+◌, ◌-◌, ◌*◌, ◌/◌, ◌%◌, ◌^◌, ◌≤◌, ◌==◌, ◌&&◌, nat_le, nat_lt, if◌then◌else◌, Option, Some, None, unwrap_or}
+use Rattle.std.specs.Prelude.{◌≡◌, ℕ, ◌+◌, ◌-◌, ◌*◌, ◌/◌, ◌%◌, ◌^◌, ◌≤◌, ◌==◌, ◌&&◌, nat_le, nat_lt, if◌then◌else◌, Option, Some, None}
+use Rattle.std.specs.Prelude.{unwrap_or}
 use Rattle.dmatypes.specs.Page.{IsFrame}
 use Rattle.vtdbits.specs.Translation.{IsTranslation, IsLargeTranslation, target}
 use Rattle.vtdbits.specs.declared.entry.SsEntry.{SsEntry}
+use Rattle.dmatypes.specs.declared.page.TheConstants.{FRAMES_END, SPAN_PAGES}
 use Rattle.vtdbits.specs.declared.entry.SsEntry.TheVariants.{Absent, Table, Leaf, LargeLeaf}
 
 -- the word spells the entry in a table of the level
@@ -28,7 +30,7 @@ abbrev pub entry_at : ℕ → ℕ → ℕ → Option SsEntry
 entry_at level low frame =
     if (level == 1) && nat_le 1 low && nat_le low 3 then Some (Leaf (target frame low))
     else (if nat_le 2 level && nat_le level 4 && (low == 3) then Some (Table frame)
-    else (if (level == 2) && nat_le 0x81 low && nat_le low 0x83 && (frame % 512 == 0)
+    else (if (level == 2) && nat_le 0x81 low && nat_le low 0x83 && (frame % SPAN_PAGES == 0)
     then Some (LargeLeaf (target frame (low - 2 ^ 7)))
     else None))
 
@@ -36,7 +38,7 @@ entry_at level low frame =
 unfoldable pub entry_of : ℕ → ℕ → Option SsEntry
 entry_of level word =
     if word == 0 then Some Absent
-    else (if nat_lt (word / 2 ^ 12) (2 ^ 24) then entry_at level (word % 2 ^ 12) (word / 2 ^ 12) else None)
+    else (if nat_lt (word / 2 ^ 12) FRAMES_END then entry_at level (word % 2 ^ 12) (word / 2 ^ 12) else None)
 
 -- what a walk sees there: the entry, and nothing where the word spells none
 unfoldable pub look : ℕ → ℕ → SsEntry

@@ -2,6 +2,7 @@
 use Rattle.std.specs.Prelude.{◌≡◌, ℕ, ◌%◌}
 use Rattle.dmatypes.specs.Page.{IsFrame}
 use Rattle.dmatypes.specs.Rights.{AreRights}
+use Rattle.dmatypes.specs.declared.page.TheConstants.{SPAN_PAGES}
 use Rattle.dmatypes.specs.World.{Target}
 
 abbrev pub target : ℕ → ℕ → Target
@@ -11,6 +12,6 @@ target frame rights = record { frame = frame; rights = rights }
 abbrev pub IsTranslation : Target → Type 0
 IsTranslation t = IsFrame t.frame × AreRights t.rights
 
--- of 512 pages, onto the frames from an aligned one on
+-- of the pages of a span, onto the frames from an aligned one on
 abbrev pub IsLargeTranslation : Target → Type 0
-IsLargeTranslation t = IsTranslation t × (t.frame % 512 ≡ 0)
+IsLargeTranslation t = IsTranslation t × (t.frame % SPAN_PAGES ≡ 0)

@@ -5,6 +5,7 @@ ghost use Rattle.std.specs.Prelude.{◌≡◌, ◌<◌, ◌^◌, IfSome, IfNone}
 use crate::bits::field;
 use crate::number::{DeviceNumber, DomainId, PageBlock};
 use crate::words::Words;
+use dmatypes::{FRAMES_END, PAGE_BYTES};
 
 /// What the unit is told to drop or to answer (own, after queued invalidation).
 #[derive(Clone, Copy, Debug, PartialEq, Eq)]
@@ -49,7 +50,7 @@ const IOTLB_PAGES: u64 = 0xf2;
 const WAIT: u64 = 0x25;
 
 // Where every wait writes its status: the first address behind the host frames.
-const STATUS_ADDRESS: u64 = 1 << 36;
+const STATUS_ADDRESS: u64 = FRAMES_END * PAGE_BYTES;
 
 impl Descriptor {
     ghost use Rattle.vtdbits.specs.Descriptor.{Spells, descriptor_of};

@@ -5,7 +5,7 @@ ghost use Rattle.std.specs.Prelude.{◌≡◌, ℕ, IfSome, IfNone, unwrap_or};
 use crate::bits::field;
 use crate::translation::{LargeTranslation, Translation};
 use bitflags::Flags;
-use dmatypes::{Frame, Rights};
+use dmatypes::{Frame, Rights, SPAN_PAGES};
 
 /// What a word of a second-stage table states (second-stage paging).
 #[derive(Clone, Copy, Debug, PartialEq, Eq)]
@@ -48,7 +48,7 @@ impl SsEntry {
         match level {
             1 if other == 0 => Some(SsEntry::Leaf(Translation::new(frame, rights))),
             2..=4 if other == 0 && number == 3 => Some(SsEntry::Table(frame)),
-            2 if other == PAGE_SIZE && frame.number() % 512 == 0 => {
+            2 if other == PAGE_SIZE && frame.number() % SPAN_PAGES == 0 => {
                 Some(SsEntry::LargeLeaf(LargeTranslation::new(frame, rights)))
             }
             _ => None,

@@ -18,7 +18,7 @@ mod words;
 pub use context::ContextEntry;
 pub use descriptor::Descriptor;
 pub use entry::SsEntry;
-pub use number::{DeviceNumber, DomainId, PageBlock};
+pub use number::{DeviceNumber, DomainId, MOST_BLOCK_ORDER, PageBlock, WIDE_PAGES_END};
 pub use port::{PortWord, WidePage};
 pub use spellings::{context_spellings, descriptor_spellings, entry_spellings, port_spellings};
 pub use translation::{LargeTranslation, Translation};

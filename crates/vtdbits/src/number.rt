@@ -5,7 +5,14 @@ ghost use Rattle.dmatypes.specs.Block.{block};
 ghost use Rattle.vtdbits.specs.Numbers.{IsDevice, IsDomainId, IsPageBlock};
 
 use crate::bits::field;
+use dmatypes::{DEVICES, MOST_DOMAINS};
 use std::marker::Model;
+
+/// Page numbers of the widest address space that words can speak of, 48 bits, are below it.
+pub const WIDE_PAGES_END: u64 = 1 << 36;
+
+/// The greatest order (AM) of a block that a page-selective descriptor names (own).
+pub const MOST_BLOCK_ORDER: u8 = 9;
 
 /// The id of a domain: 1 to 15 (own).
 #[derive(Clone, Copy, Debug, PartialEq, Eq, PartialOrd, Ord)]
@@ -32,7 +39,7 @@ impl DomainId {
         ensures some { IsSome result ↔ IsDomainId number }
         ensures value { IfSome result (λ d. d ≡ number) }
     {
-        if 1 <= number && number <= 15 {
+        if 1 <= number && number <= MOST_DOMAINS {
             Some(DomainId { number })
         } else {
             None
@@ -73,7 +80,7 @@ impl DeviceNumber {
         ensures some { IsSome result ↔ IsDevice number }
         ensures value { IfSome result (λ v. v ≡ number) }
     {
-        if number <= 15 {
+        if number < DEVICES {
             Some(DeviceNumber { number })
         } else {
             None
@@ -116,7 +123,10 @@ impl PageBlock {
         ensures some { IsSome result ↔ IsPageBlock (block first order) }
         ensures value { IfSome result (λ b. b ≡ block first order) }
     {
-        if order <= 9 && first < 1 << 36 && field(first, 0, u32::from(order)) == 0 {
+        if order <= MOST_BLOCK_ORDER
+            && first < WIDE_PAGES_END
+            && field(first, 0, u32::from(order)) == 0
+        {
             Some(PageBlock { first, order })
         } else {
             None

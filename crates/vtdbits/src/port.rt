@@ -4,9 +4,10 @@ ghost use Rattle.std.specs.Prelude.{◌≡◌, ◌↔◌, ℕ, IsSome, IfSome, I
 ghost use Rattle.vtdbits.specs.Numbers.{IsWidePage};
 
 use crate::bits::field;
+use crate::number::WIDE_PAGES_END;
 use crate::translation::Translation;
 use bitflags::Flags;
-use dmatypes::{Access, Frame, Page, Rights};
+use dmatypes::{Access, Frame, Page, Rights, WINDOW_FIRST, WINDOW_LAST};
 use std::marker::Model;
 
 /// A page of the widest address space that words can speak of, 48 bits: a number from 1 to 2^36 - 1 that
@@ -35,7 +36,10 @@ impl WidePage {
         ensures some { IsSome result ↔ IsWidePage number }
         ensures value { IfSome result (λ p. p ≡ number) }
     {
-        if 1 <= number && number < 1 << 36 && (number < 0xFEE00 || number > 0xFEEFF) {
+        if 1 <= number
+            && number < WIDE_PAGES_END
+            && (number < WINDOW_FIRST || number > WINDOW_LAST)
+        {
             Some(WidePage { number })
         } else {
             None

@@ -4,7 +4,7 @@ ghost use Rattle.std.specs.Prelude.{◌≡◌, ◌+◌, ◌%◌, ◌<◌};
 ghost use Rattle.dmatypes.specs.Rights.{AreRights, bits_of};
 ghost use Rattle.vtdbits.specs.Translation.{target};
 
-use dmatypes::{Frame, Rights};
+use dmatypes::{Frame, Rights, SPAN_PAGES};
 use std::marker::Model;
 
 /// The host frame of one page, and what may be done there: at least one right.
@@ -63,6 +63,7 @@ pub struct LargeTranslation {
 
 impl Model for LargeTranslation {
     ghost use Rattle.std.specs.Prelude.{◌≡◌, ◌%◌};
+    ghost use Rattle.dmatypes.specs.declared.page.TheConstants.{SPAN_PAGES};
     ghost use Rattle.dmatypes.specs.Rights.{AreRights, bits_of};
     ghost use Rattle.dmatypes.specs.World.{Target};
     ghost use Rattle.vtdbits.specs.Translation.{target};
@@ -71,7 +72,7 @@ impl Model for LargeTranslation {
 
     ghost view = { λ t. target t.frame (bits_of t.rights) };
 
-    ghost invariant = { λ t. AreRights (bits_of t.rights) × (t.frame % 512 ≡ 0) };
+    ghost invariant = { λ t. AreRights (bits_of t.rights) × (t.frame % SPAN_PAGES ≡ 0) };
 
     ghost inverse = { λ v. record { frame = v.frame; rights = record { 0 = v.rights } } };
 }
@@ -79,7 +80,7 @@ impl Model for LargeTranslation {
 impl LargeTranslation {
     /// The frames from this multiple of 512 on with these rights, of which there is at least one.
     pub fn new(frame: Frame, rights: Rights) -> LargeTranslation
-        requires aligned { frame % 512 ≡ 0 }
+        requires aligned { frame % SPAN_PAGES ≡ 0 }
         requires rights { AreRights (bits_of rights) }
         ensures { result ≡ target frame (bits_of rights) }
     {
@@ -88,7 +89,7 @@ impl LargeTranslation {
 
     /// What it states of the page at this place among its 512.
     pub fn page(self, place: u64) -> Translation
-        requires { place < 512 }
+        requires { place < SPAN_PAGES }
         ensures { result ≡ target (self.frame + place) self.rights }
     {
         let frame = Frame::new(self.frame.number() + place).unwrap();
@@ -101,7 +102,7 @@ impl LargeTranslation {
     /// The first host frame.
     pub fn frame(self) -> Frame
         ensures value { result ≡ self.frame }
-        ensures aligned { self.frame % 512 ≡ 0 }
+        ensures aligned { self.frame % SPAN_PAGES ≡ 0 }
     {
         self.frame
     }

@@ -5,5 +5,6 @@ use Rattle.ports.proofs.rows.make_ports.Given as goal
 
 abbrev pub invariant-loop-device : goal.invariant-loop-device
 invariant-loop-device l =
-    (l.desk.table_id ≡ l.initial.desk.table_id) × (l.desk.me.0 ≡ made_desk l.words.shared.key.frames l.device) × (vec_len l.ports ≡ l.device)
+    (l.desk.table_id ≡ l.initial.desk.table_id) × (l.desk.me.0 ≡ made_desk l.words.shared.key.frames l.device)
+    × (vec_len l.ports ≡ l.device)
     × ArePorts (rows_of l.words.shared.table_id l.words.shared.key.frames) l.ports.items l.device

@@ -13,16 +13,16 @@ loop-init g c = record {
   writer = c.requires.writer;
 }
 
-pub returns-in-Ok-Nothing-clause-told : goal.returns-in-Ok-Nothing-clause-told
-returns-in-Ok-Nothing-clause-told g c =
+pub returns-in-Ok-Nothing-clause-written : goal.returns-in-Ok-Nothing-clause-written
+returns-in-Ok-Nothing-clause-written g c =
     let h = rw c.in-Ok-Nothing.field-0-is at c.in-Ok-Nothing.ensures.bytes in
     let empty = rw c.in-Ok-Nothing.field-0-is at c.in-Ok-Nothing.ensures.answered in
     ends _ _ _ _ _ _ _ _ _ _ c.loop.book c.loop.number tt c.loop.invariant.going h.0 h.1
     (subst (λ (b : List ℕ). Sent (g.W.Write.contents c.loop.writer.wrapped.inner)
     (g.W.Write.contents c.next_line.new.writer.wrapped.inner) c.loop.writer.block b []) empty c.in-Ok-Nothing.ensures.sent)
 
-pub returns-in-Ok-Cut-clause-told : goal.returns-in-Ok-Cut-clause-told
-returns-in-Ok-Cut-clause-told g c =
+pub returns-in-Ok-Cut-clause-written : goal.returns-in-Ok-Cut-clause-written
+returns-in-Ok-Cut-clause-written g c =
     let h = rw c.in-Ok-Cut.field-0-is at c.in-Ok-Cut.ensures.bytes in
     let empty = rw c.in-Ok-Cut.field-0-is at c.in-Ok-Cut.ensures.answered in
     stops_cut _ _ _ _ _ _ _ _ _ _ _ c.loop.book c.loop.number c.next_line.new.line.items c.loop.invariant.going h.0 h.1
@@ -30,22 +30,22 @@ returns-in-Ok-Cut-clause-told g c =
     (subst (λ (b : List ℕ). Sent (g.W.Write.contents c.loop.writer.wrapped.inner)
     (g.W.Write.contents c.next_line.new.writer.wrapped.inner) c.loop.writer.block b []) empty c.in-Ok-Cut.ensures.sent)
 
-pub returns-in-Ok-Long-clause-told : goal.returns-in-Ok-Long-clause-told
-returns-in-Ok-Long-clause-told g c =
+pub returns-in-Ok-Long-clause-written : goal.returns-in-Ok-Long-clause-written
+returns-in-Ok-Long-clause-written g c =
     let h = rw c.in-Ok-Long.field-0-is at c.in-Ok-Long.ensures.bytes in
     stopped _ _ _ _ _ _ _ _ _ _ _ _ _ _ c.loop.book c.loop.number (c.next_line.new.line.items ++ h.0 ∷ []) c.stop_at.result _ _
     c.loop.invariant.going h.1 c.in-Ok-Long.ensures.sent c.stop_at.ensures.sent c.stop_at.ensures.stopped
     (λ sent. stops_long _ _ _ _ _ _ _ _ _ _ _ c.loop.book c.loop.number c.next_line.new.line.items h.0 c.loop.invariant.going h.1 h.2 h.3
     sent)
 
-pub returns-in-Err-clause-told : goal.returns-in-Err-clause-told
-returns-in-Err-clause-told g c =
+pub returns-in-Err-clause-written : goal.returns-in-Err-clause-written
+returns-in-Err-clause-written g c =
     fails _ _ _ _ _ _ _ _ _ _ _ _ _ c.loop.book c.loop.number c.next_line.new.line.items c.in-Err.error (Err c.in-Err.error)
     c.loop.invariant.going c.in-Err.ensures.bytes.0 c.in-Err.ensures.bytes.1 c.in-Err.ensures.few c.in-Err.ensures.sent
     c.in-Err.ensures.answered refl c.in-Err.ensures.no_other
 
-pub returns-in_default-clause-told : goal.returns-in_default-clause-told
-returns-in_default-clause-told g c =
+pub returns-in_default-clause-written : goal.returns-in_default-clause-written
+returns-in_default-clause-written g c =
     let h = rw c.in-Ok-Newline.field-0-is at c.in-Ok-Newline.ensures.bytes in
     let unsaid = ap says (sym c.as_slice.ensures.value) ∙ sym c.parse_line.ensures ∙ c.in_default.is in
     stopped _ _ _ _ _ _ _ _ _ _ _ _ _ _ c.loop.book c.loop.number (c.next_line.new.line.items ++ 10 ∷ []) c.stop_at-in_default.result _ _
@@ -53,8 +53,8 @@ returns-in_default-clause-told g c =
     (λ sent. stops_unsaid _ _ _ _ _ _ _ _ _ _ _ c.loop.book c.loop.number c.next_line.new.line.items c.loop.invariant.going h.0 h.1
     c.in-Ok-Newline.ensures.few unsaid sent)
 
-pub returns-in-Err-put-clause-told : goal.returns-in-Err-put-clause-told
-returns-in-Err-put-clause-told g c =
+pub returns-in-Err-put-clause-written : goal.returns-in-Err-put-clause-written
+returns-in-Err-put-clause-written g c =
     let h = rw c.in-Ok-Newline.field-0-is at c.in-Ok-Newline.ensures.bytes in
     fails_writing _ _ _ _ _ _ _ _ _ _ _ _ c.loop.book _ c.loop.number (c.next_line.new.line.items ++ 10 ∷ []) c.loop.invariant.going h.0
     (sent_more _ _ _ _ _ _ [] [] c.in-Ok-Newline.ensures.sent c.in-Err-put.ensures.sent)

@@ -1,6 +1,7 @@
 use Rattle.std.proofs.Common.{false, ◌≡◌, ◌+◌, ◌*◌, ◌-◌, ◌≤◌, [], length}
 use Rattle.std.specs.Io.KnownBytes.{Consumes, prepend_known}
 use Rattle.script.specs.Bytes.{IsUnbroken, Sent}
+use Rattle.dmatypes.specs.declared.limits.TheConstants.{LONGEST_LINE}
 use Rattle.script.proofs.lines.next_line.Given as goal
 
 abbrev pub invariant-reading : goal.invariant-reading
@@ -8,7 +9,7 @@ invariant-reading g l = record {
   read : Consumes (prepend_known l.fn.reader.block (g.R.Read.remaining l.fn.reader.wrapped.inner))
       (prepend_known l.reader.block (g.R.Read.remaining l.reader.wrapped.inner)) l.line.items;
   whole : IsUnbroken l.line.items;
-  few : length l.line.items ≤ 512;
+  few : length l.line.items ≤ LONGEST_LINE;
   sent : Sent (g.W.Write.contents l.fn.writer.wrapped.inner) (g.W.Write.contents l.writer.wrapped.inner) l.fn.writer.block l.writer.block
       [];
   reader : l.reader.wrapped.failed ≡ false;
@@ -17,4 +18,4 @@ invariant-reading g l = record {
 
 -- a block that isn't empty makes the line longer
 abbrev pub decreases-reading : goal.decreases-reading
-decreases-reading g l = 2 * (512 - length l.line.items) + (1 - length l.reader.block)
+decreases-reading g l = 2 * (LONGEST_LINE - length l.line.items) + (1 - length l.reader.block)

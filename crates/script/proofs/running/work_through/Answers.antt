@@ -18,21 +18,22 @@ pub answer_lines-end-requires-clause-none : goal.answer_lines-end-requires-claus
 answer_lines-end-requires-clause-none g c =
     let zero : c.in-Some.mine.calls ≡ 0 = last_has (λ s. s.calls ≡ 0) c.in-Ok.field-0.shares.items c.pop.new.self.items c.in-Some.mine
     c.in-Some.ensures.items c.in-Ok.ensures.none in
-    let one : g.B.Owner.shares ≡ 1 = sym c.requires.shares ∙ c.requires.one in
+    let one : g.B.Owner.shares ≡ 1 = sym c.requires.named.shares_are ∙ c.requires.one in
     rw c.audit.ensures.same (none_in _ (c.audit.ensures.alone one ∙ zero))
 
-pub returns-in_default-clause-told : goal.returns-in_default-clause-told
-returns-in_default-clause-told g c = nothing_written _ c.args.output _ _ _ _
+pub returns-in_default-clause-written : goal.returns-in_default-clause-written
+returns-in_default-clause-written g c = nothing_written _ c.args.output _ _ _ _
 
-pub returns-in-Answers-clause-told : goal.returns-in-Answers-clause-told
-returns-in-Answers-clause-told g c =
-    rw (c.requires.frames, c.requires.room) (answers_known _ c.args.output c.replies_for.result _ _ _ _ _ _ c.answer_lines-end.new.book
-    c.answer_lines-end.result c.in-Answers.is c.replies_for.ensures c.answer_lines-end.ensures.told)
+pub returns-in-Answers-clause-written : goal.returns-in-Answers-clause-written
+returns-in-Answers-clause-written g c =
+    rw (c.requires.named.frames_are, c.requires.named.room_is)
+    (answers_known _ c.args.output c.replies_for.result _ _ _ _ _ _ c.answer_lines-end.new.book
+    c.answer_lines-end.result c.in-Answers.is c.replies_for.ensures c.answer_lines-end.ensures.written)
 
-pub returns-clause-told : goal.returns-clause-told
-returns-clause-told g c =
-    rw (c.requires.frames, c.requires.room) (report_is_known _ c.args.output c.replies_for.result _ _ _ _ _ _ _ _
+pub returns-clause-written : goal.returns-clause-written
+returns-clause-written g c =
+    rw (c.requires.named.frames_are, c.requires.named.room_is) (report_is_known _ c.args.output c.replies_for.result _ _ _ _ _ _ _ _
     c.answer_lines-end.new.writer.block c.send_report.new.writer.block c.answer_lines-end.new.book
-    c.answer_lines-end.result c.send_report.result c.in-Report.is c.replies_for.ensures c.answer_lines-end.ensures.told
+    c.answer_lines-end.result c.send_report.result c.in-Report.is c.replies_for.ensures c.answer_lines-end.ensures.written
     c.answer_lines-end.ensures.all_sent (λ e. c.answer_lines-end.ensures.memory (rw e refl))
     (rw c.write_report.ensures at c.send_report.ensures.sent))

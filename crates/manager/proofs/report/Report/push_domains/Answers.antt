@@ -9,12 +9,16 @@ loop-index-init c = record { so_far = no_domains c.args.state.now c.args.self.no
 pub loop-index-preserved : goal.loop-index-preserved
 loop-index-preserved c = elim c.match-domain_totals.branch [
   | in-Some w ↦ record {
-    so_far = w.self-is ∙ domain_there c.args.state.now c.loop-index.index w.in-Some.totals c.args.self.now c.loop-index.self w.push.new.self c.loop-index.invariant.so_far (sym c.domain_totals.ensures ∙ w.in-Some.is)
+    so_far = w.self-is
+        ∙ domain_there c.args.state.now c.loop-index.index w.in-Some.totals c.args.self.now c.loop-index.self w.push.new.self
+        c.loop-index.invariant.so_far (sym c.domain_totals.ensures ∙ w.in-Some.is)
         (w.push.ensures.bytes ∙ ap (λ (line : List ℕ). c.loop-index.self ++ line) w.domain_line.ensures);
     few = omega (arith, ap length w.self-is, w.push.ensures.few, c.loop-index.invariant.few);
   }
   | in_default w ↦ record {
-    so_far = w.self-is ∙ domain_missing c.args.state.now c.loop-index.index c.args.self.now c.loop-index.self c.loop-index.invariant.so_far (sym c.domain_totals.ensures ∙ w.in_default.is);
+    so_far = w.self-is
+        ∙ domain_missing c.args.state.now c.loop-index.index c.args.self.now c.loop-index.self c.loop-index.invariant.so_far
+        (sym c.domain_totals.ensures ∙ w.in_default.is);
     few = omega (arith, ap length w.self-is, c.loop-index.invariant.few);
   }
 ]

@@ -12,11 +12,16 @@ use Rattle.ports.proofs.desk.Desk.store.Goals as goal
 pub store-requires : goal.store-requires
 store-requires c =
     let rows = ap (λ (v : Desk). v.rows) c.self.view_is ∙ c.requires.rows ∙ sym c.rows.view_is in
-    let lawful = subst (λ (v : Desk). IsLawfulAfter v.rows.frames v.history c.args.device c.args.word) (sym c.self.view_is) c.requires.lawful in
+    let lawful =
+    subst (λ (v : Desk). IsLawfulAfter v.rows.frames v.history c.args.device c.args.word) (sym c.self.view_is) c.requires.lawful in
     let frames = ap (λ (r : Rows). r.frames) rows in (
       ap (λ (r : Rows). r.table) rows,
       omega (arith, c.rows.invariant, c.place-place.ensures, c.requires.place),
-      rw c.place-place.ensures (fills (IsLegal c.rows.inside.words.shared.key.frames) (IsLawfulAfter c.rows.inside.words.shared.key.frames) (legal_empty c.rows.inside.words.shared.key.frames) (lawful_zero c.rows.inside.words.shared.key.frames) _ _ _ _ _ _ _ c.requires.place.0 c.requires.place.1 c.self.invariant.0 c.self.invariant.1
+      rw c.place-place.ensures
+          (fills (IsLegal c.rows.inside.words.shared.key.frames) (IsLawfulAfter c.rows.inside.words.shared.key.frames)
+          (legal_empty c.rows.inside.words.shared.key.frames)
+          (lawful_zero c.rows.inside.words.shared.key.frames) _ _ _ _ _ _ _ c.requires.place.0 c.requires.place.1 c.self.invariant.0
+          c.self.invariant.1
           (subst (λ (f : ℕ). IsLawfulAfter f c.self.inside.seat.me.0.mine.seen c.args.device c.args.word) frames lawful)),
     )
 
@@ -24,4 +29,5 @@ pub returns-clause-stored : goal.returns-clause-stored
 returns-clause-stored c =
     let i : ℕ = place_of c.args.device c.args.slot in
     let lt : i < length c.self.inside.seat.me.0.last = rw c.self.invariant.1 (omega (arith, c.requires.place)) in
-    ap (λ (v : View). slice_index v.last i) c.store.ensures.2 ∙ rw c.place-place.ensures (get_or-set_same c.self.inside.seat.me.0.last i c.args.word 0 lt)
+    ap (λ (v : View). slice_index v.last i) c.store.ensures.2
+    ∙ rw c.place-place.ensures (get_or-set_same c.self.inside.seat.me.0.last i c.args.word 0 lt)

@@ -12,12 +12,14 @@ use Rattle.ports.specs.declared.known.OwnStep.TheVariants.{Loaded}
 use Rattle.ports.proofs.Maps.{some_of}
 use Rattle.ports.proofs.Told.{looked}
 use Rattle.ports.proofs.Allowed.{allowed_word, spelled_word}
+use Rattle.dmatypes.specs.declared.page.TheConstants.{PAGE_BYTES}
+use Rattle.ports.specs.declared.rule.TheConstants.{SLOTS}
 use Rattle.ports.proofs.port.Port.hit.Goals as goal
 
 pub load-word-requires : goal.load-word-requires
 load-word-requires c =
     let rows = ap (λ (v : Port). v.rows) c.self.view_is ∙ c.count-count.ensures.same.0 ∙ c.requires ∙ sym c.rows.view_is in
-    let slot : c.args.address / 4096 % 16 < 16 = omega arith in (
+    let slot : c.args.address / PAGE_BYTES % SLOTS < SLOTS = omega arith in (
       ap (λ (r : Rows). r.table) rows,
       omega (arith, c.rows.invariant, c.place-place.ensures, c.self.invariant.0),
       rw c.place-place.ensures (looked _ _ _ _ _ _ _ (ap (λ (r : Rows). r.frames) rows) c.self.invariant.0 slot c.self.invariant.1),
@@ -25,8 +27,9 @@ load-word-requires c =
 
 pub host-requires : goal.host-requires
 host-requires c =
-    let slot : c.args.address / 4096 % 16 < 16 = omega arith in
-    spelled_word c.self.inside.seat.me.0.frames c.load-word.new.seat.me.0.mine.seen c.self.inside.device c.load-word.result (c.load-word.ensures.2.1 _ _ c.self.invariant.0 slot c.place-place.ensures)
+    let slot : c.args.address / PAGE_BYTES % SLOTS < SLOTS = omega arith in
+    spelled_word c.self.inside.seat.me.0.frames c.load-word.new.seat.me.0.mine.seen c.self.inside.device c.load-word.result
+    (c.load-word.ensures.2.1 _ _ c.self.invariant.0 slot c.place-place.ensures)
 
 pub returns-clause-did : goal.returns-clause-did
 returns-clause-did c =
@@ -40,21 +43,30 @@ returns-clause-did c =
     let did = c.args.self.now.did in
     let before = ap (λ (v : Port). v.did) c.self.view_is ∙ c.count-count.ensures.did in (
       word,
-      looked.0.did ∙ ap (λ (l : List OwnStep). l ++ Loaded c.place-place.result word ∷ []) before ∙ append_assoc did (Loaded counter count ∷ []) (Loaded c.place-place.result word ∷ [])
+      looked.0.did ∙ ap (λ (l : List OwnStep). l ++ Loaded c.place-place.result word ∷ []) before
+          ∙ append_assoc did (Loaded counter count ∷ []) (Loaded c.place-place.result word ∷ [])
           ∙ ap (λ (k : ℕ). did ++ Loaded counter count ∷ Loaded k word ∷ []) place,
       c.host.ensures.some,
       c.host.ensures.none,
-      subst (λ (x : ℕ × ℕ × ℕ). IsSeenInRun (IsLegal x.0) (IsLawfulAfter x.0) x.1 c.load-word.new.seat.me.0.mine.seen (λ words. slice_index words x.2 ≡ word)) (λ i. (frames i, device i, place i))
+      subst (λ (x : ℕ × ℕ × ℕ).
+          IsSeenInRun (IsLegal x.0) (IsLawfulAfter x.0) x.1 c.load-word.new.seat.me.0.mine.seen (λ words. slice_index words x.2 ≡ word))
+          (λ i. (frames i, device i, place i))
           (looked.2 c.self.inside.device c.self.invariant.1),
     )
 
 pub returns-clause-allowed : goal.returns-clause-allowed
 returns-clause-allowed c =
     let told = c.load-word.ensures.2 in
-    let slot : c.args.address / 4096 % 16 < 16 = omega arith in
+    let slot : c.args.address / PAGE_BYTES % SLOTS < SLOTS = omega arith in
     let seen = c.load-word.new.seat.me.0.mine.seen in
     let frames = ap (λ (v : Port). v.rows.frames) c.self.view_is ∙ ap (λ (r : Rows). r.frames) c.count-count.ensures.same.0 in
     let device = ap (λ (v : Port). v.device) c.self.view_is ∙ c.count-count.ensures.same.1 in
     let lawful = told.1 _ _ c.self.invariant.0 slot c.place-place.ensures in
-    subst (λ (x : ℕ × ℕ). IsLegal x.0 seen × IfSome c.host.result (λ host. Allows (after x.0 seen) x.1 c.args.address c.args.access (Host host))) (λ i. (frames i, device i))
-    (told.0.is_legal, some_of _ _ _ (λ host states. allowed_word c.self.inside.seat.me.0.frames seen c.self.inside.device c.load-word.result c.args.address c.args.access host told.0.is_legal lawful states) c.host.ensures.some)
+    subst (λ (x : ℕ × ℕ). IsLegal x.0 seen
+    × IfSome c.host.result (λ host. Allows (after x.0 seen) x.1 c.args.address c.args.access (Host host))) (λ i. (frames i, device i)) (
+      told.0.is_legal,
+      some_of _ _ _
+          (λ host states.
+          allowed_word c.self.inside.seat.me.0.frames seen c.self.inside.device c.load-word.result c.args.address c.args.access host
+          told.0.is_legal lawful states) c.host.ensures.some,
+    )

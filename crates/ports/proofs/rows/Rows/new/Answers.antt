@@ -5,4 +5,5 @@ use Rattle.ports.proofs.Seats.{opens}
 use Rattle.ports.proofs.rows.Rows.new.Goals as goal
 
 pub of_words-requires : goal.of_words-requires
-of_words-requires c = opens (IsLegal c.args.frames) (IsLawfulAfter c.args.frames) (legal_empty c.args.frames) (lawful_zero c.args.frames) _ _
+of_words-requires c =
+    opens (IsLegal c.args.frames) (IsLawfulAfter c.args.frames) (legal_empty c.args.frames) (lawful_zero c.args.frames) _ _

@@ -27,7 +27,8 @@ pub returns-clause-some : goal.returns-clause-some
 returns-clause-some c =
     let first = first_waiting _ _ _ c.self.invariant _ (record { low = 0; high = 0 }) c.following-self-inside.ensures c.if-self.false in
     let one : first.0 ≡ c.in-Some.descriptor = same_Some _ _ (sym first.1 ∙ sym c.decode.ensures.read ∙ c.in-Some.is) in
-    sym (ap (λ (q : Ring). q.waiting) c.self.view_is) ∙ first.2 ∙ ap (λ d. d ∷ waiting_in c.following-self-inside.result c.self.inside.tail c.self.inside.page) one
+    sym (ap (λ (q : Ring). q.waiting) c.self.view_is) ∙ first.2
+    ∙ ap (λ d. d ∷ waiting_in c.following-self-inside.result c.self.inside.tail c.self.inside.page) one
 
 pub returns-clause-taken : goal.returns-clause-taken
 returns-clause-taken c =

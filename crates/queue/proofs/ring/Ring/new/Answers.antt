@@ -13,4 +13,6 @@ invariant_of-result c = record { head_inside = omega arith; tail_inside = omega 
 
 pub returns : goal.returns
 unfolding descriptor_of
-returns c = ap₂ (λ (ws : List Descriptor) (ts : List Descriptor). ring_of ws 0 ts) (ap (filter_map descriptor_of) (window-none 0 _)) (taken-none _ (record { low = 0; high = 0 }) refl refl)
+returns c =
+    ap₂ (λ (ws : List Descriptor) (ts : List Descriptor). ring_of ws 0 ts) (ap (filter_map descriptor_of) (window-none 0 _))
+    (taken-none _ (record { low = 0; high = 0 }) refl refl)

@@ -1,12 +1,13 @@
 use Rattle.std.proofs.Common.{◌≡◌, ◌≤◌, ◌++◌, List, ℕ, length}
 use Rattle.script.specs.Bytes.{IsUnbroken}
+use Rattle.dmatypes.specs.declared.limits.TheConstants.{LONGEST_LINE}
 use Rattle.script.proofs.counted.Counted.take_line.Given as goal
 
 -- what is no more in the block is in the line
 abbrev pub invariant-loop-byte : goal.invariant-loop-byte
 invariant-loop-byte g l = record {
   moved : (more : List ℕ) × (l.fn.self.block ≡ more ++ l.self.block) × (l.line.items ≡ l.fn.line.items ++ more) × IsUnbroken more;
-  few : length l.line.items ≤ 512;
+  few : length l.line.items ≤ LONGEST_LINE;
   wrapped : l.self.wrapped ≡ l.fn.self.wrapped;
 }
 

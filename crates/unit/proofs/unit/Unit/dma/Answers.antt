@@ -3,7 +3,7 @@ use Rattle.dmatypes.specs.Page.{IsBeyond}
 use Rattle.dmatypes.specs.declared.refusal.Fault.TheVariants as faults
 use Rattle.tables.specs.Pool.{memory}
 use Rattle.unit.specs.Answers.{Answers, IsContextOf, HasNoContext}
-use Rattle.unit.specs.Caches.{Caches, Context, UnitState, caches}
+use Rattle.unit.specs.Caches.{Caches, CachedContext, UnitState, caches}
 use Rattle.dmatypes.specs.World.{IsIn}
 use Rattle.unit.proofs.Remembered.{gains_entry, remembered_in, told_remembered}
 use Rattle.unit.proofs.unit.Unit.dma.Goals as goal
@@ -11,33 +11,56 @@ use Rattle.unit.proofs.unit.Unit.dma.Goals as goal
 pub returns-in_default-clause-answers : goal.returns-in_default-clause-answers
 returns-in_default-clause-answers c =
     let without : HasNoContext c.args.contexts.now c.self.inside.contexts.items c.args.whim.look c.args.device =
-    subst (λ (cs : List Context). HasNoContext c.args.contexts.now cs c.args.whim.look c.args.device) c.deref.ensures.0 c.in_default.ensures.none in
-    subst (λ (old : Caches). Answers (memory c.args.pool.now.words) c.args.contexts.now c.args.whim.look c.args.whim.fill c.args.device c.args.address c.args.access old old (Err faults.NotAttached))
+    subst (λ (cs : List CachedContext). HasNoContext c.args.contexts.now cs c.args.whim.look c.args.device) c.deref.ensures.0
+    c.in_default.ensures.none in
+    subst (λ (old : Caches).
+    Answers (memory c.args.pool.now.words) c.args.contexts.now c.args.whim.look c.args.whim.fill c.args.device c.args.address
+    c.args.access old old (Err faults.NotAttached))
     (ap (λ (u : UnitState). u.caches) c.self.view_is) (inl (without, refl, refl))
 
-pub returns-then-address-ge-BEYOND-clause-answers : goal.returns-then-address-ge-BEYOND-clause-answers
-returns-then-address-ge-BEYOND-clause-answers c =
+pub returns-then-address-ge-ADDRESSES_END-clause-answers : goal.returns-then-address-ge-ADDRESSES_END-clause-answers
+returns-then-address-ge-ADDRESSES_END-clause-answers c =
     let serves : IsContextOf c.args.contexts.now c.self.inside.contexts.items c.args.whim.look c.args.device c.in-Some.context =
-    subst (λ (cs : List Context). IsContextOf c.args.contexts.now cs c.args.whim.look c.args.device c.in-Some.context) c.deref.ensures.0 c.in-Some.ensures.some in
+    subst (λ (cs : List CachedContext). IsContextOf c.args.contexts.now cs c.args.whim.look c.args.device c.in-Some.context)
+    c.deref.ensures.0
+    c.in-Some.ensures.some in
     let beyond : IsBeyond c.args.address = omega arith in
-    subst (λ (old : Caches). Answers (memory c.args.pool.now.words) c.args.contexts.now c.args.whim.look c.args.whim.fill c.args.device c.args.address c.args.access old (caches c.self.inside.leaves.items c.self.inside.non_leaves.items c.remember.new.list.items) (Err faults.BeyondWidth))
+    subst (λ (old : Caches).
+    Answers (memory c.args.pool.now.words) c.args.contexts.now c.args.whim.look c.args.whim.fill c.args.device c.args.address
+    c.args.access old (caches c.self.inside.leaves.items c.self.inside.non_leaves.items c.remember.new.list.items)
+    (Err faults.BeyondWidth))
     (ap (λ (u : UnitState). u.caches) c.self.view_is)
     (inr (c.in-Some.context, serves, gains_entry _ _ _ _ _ _ c.remember.ensures.items, inl (beyond, refl, refl, refl)))
 
 pub returns-clause-answers : goal.returns-clause-answers
 returns-clause-answers c =
     let serves : IsContextOf c.args.contexts.now c.self.inside.contexts.items c.args.whim.look c.args.device c.in-Some.context =
-    subst (λ (cs : List Context). IsContextOf c.args.contexts.now cs c.args.whim.look c.args.device c.in-Some.context) c.deref.ensures.0 c.in-Some.ensures.some in
+    subst (λ (cs : List CachedContext). IsContextOf c.args.contexts.now cs c.args.whim.look c.args.device c.in-Some.context)
+    c.deref.ensures.0
+    c.in-Some.ensures.some in
     let within : IsBeyond c.args.address → ⊥ = λ b. absurd (omega arith) in
-    subst (λ (old : Caches). Answers (memory c.args.pool.now.words) c.args.contexts.now c.args.whim.look c.args.whim.fill c.args.device c.args.address c.args.access old (caches c.translation_of-to.new.leaves.items c.translation_of-to.new.tables.items c.remember.new.list.items) c.tell.result)
+    subst (λ (old : Caches).
+    Answers (memory c.args.pool.now.words) c.args.contexts.now c.args.whim.look c.args.whim.fill c.args.device c.args.address
+    c.args.access old
+    (caches c.translation_of-to.new.leaves.items c.translation_of-to.new.tables.items c.remember.new.list.items) c.tell.result)
     (ap (λ (u : UnitState). u.caches) c.self.view_is)
-    (inr (c.in-Some.context, serves, gains_entry _ _ _ _ _ _ c.remember.ensures.items, inr (within, (c.translation_of-to.result, c.translation_of-to.ensures.read, c.tell.ensures))))
+    (inr (
+      c.in-Some.context,
+      serves,
+      gains_entry _ _ _ _ _ _ c.remember.ensures.items,
+      inr (within, (c.translation_of-to.result, c.translation_of-to.ensures.read, c.tell.ensures)),
+    ))
 
 pub returns-clause-remembered : goal.returns-clause-remembered
 returns-clause-remembered c = λ fill.
     let serves : IsContextOf c.args.contexts.now c.self.inside.contexts.items c.args.whim.look c.args.device c.in-Some.context =
-    subst (λ (cs : List Context). IsContextOf c.args.contexts.now cs c.args.whim.look c.args.device c.in-Some.context) c.deref.ensures.0 c.in-Some.ensures.some in
+    subst (λ (cs : List CachedContext). IsContextOf c.args.contexts.now cs c.args.whim.look c.args.device c.in-Some.context)
+    c.deref.ensures.0
+    c.in-Some.ensures.some in
     let there : IsIn c.in-Some.context c.remember.new.list.items =
-    subst (IsIn c.in-Some.context) (sym c.remember.ensures.items) (rw fill (remembered_in _ _ c.in-Some.context c.self.inside.contexts.items (λ y same. search rules))) in
-    told_remembered c.translation_of-to.result c.args.address c.args.access c.tell.result (caches c.translation_of-to.new.leaves.items c.translation_of-to.new.tables.items c.remember.new.list.items) c.in-Some.context c.args.device
+    subst (IsIn c.in-Some.context) (sym c.remember.ensures.items)
+    (rw fill (remembered_in _ _ c.in-Some.context c.self.inside.contexts.items (λ y same. search rules))) in
+    told_remembered c.translation_of-to.result c.args.address c.args.access c.tell.result
+    (caches c.translation_of-to.new.leaves.items c.translation_of-to.new.tables.items c.remember.new.list.items) c.in-Some.context
+    c.args.device
     c.tell.ensures there serves.0 (c.translation_of-to.ensures.remembered fill)
