@@ -2,6 +2,8 @@
 use Rattle.std.proofs.Common.{◌≡◌, ℕ, zero, suc, ◌+◌, ◌-◌, ◌*◌, ◌/◌, ◌<◌, ◌≤◌, true, false, cond, refl, sym, ap, ◌∙◌, arith}
 use Rattle.std.proofs.Math.Nat.{div-mul-le_self, lt-div-mul-add, mul-le-mul_right, add-mul, mul_assoc}
 use Rattle.std.proofs.lemmas.Bool.Decides.{nat_tests}
+use Rattle.dmatypes.specs.declared.page.TheConstants.{SPAN_PAGES}
+use Rattle.tables.specs.declared.entries.TheConstants.{TABLE_ENTRIES}
 use Rattle.tables.specs.Tree.{span, total}
 use Rattle.tables.specs.Lacks.{sum_spans}
 use Rattle.tables.specs.ByEntries.{is_met}
@@ -119,7 +121,7 @@ among_spans g w from to b n some low high =
 pub span_plus : (w d : ℕ) → span (w + d) ≡ span d * span w
 span_plus w zero = ap span (let e : w + 0 ≡ w = omega arith in e) ∙ (let one : 1 * span w ≡ span w = omega arith in sym one) ∙ ap (λ x. x * span w) (sym span-zero)
 span_plus w (suc d) =
-    ap span (let e : w + suc d ≡ suc (w + d) = omega arith in e) ∙ span-suc (w + d) ∙ ap (λ x. 512 * x) (span_plus w d) ∙ sym (mul_assoc 512 (span d) (span w)) ∙ ap (λ x. x * span w) (sym (span-suc d))
+    ap span (let e : w + suc d ≡ suc (w + d) = omega arith in e) ∙ span-suc (w + d) ∙ ap (λ x. SPAN_PAGES * x) (span_plus w d) ∙ sym (mul_assoc SPAN_PAGES (span d) (span w)) ∙ ap (λ x. x * span w) (sym (span-suc d))
 
 pub span_in : (w l : ℕ) → w ≤ l → span (l - w) * span w ≡ span l
 span_in w l le = sym (span_plus w (l - w)) ∙ ap span (let e : w + (l - w) ≡ l = omega arith in e)
@@ -136,14 +138,14 @@ unmet_spans g w l from to first le apart =
 
 -- the spans in the 512 spans of the level below
 pub spans_below : (g : ℕ → ℕ) (w l from to first : ℕ) → w ≤ l
-    → met_spans g w from to first (span (suc l - w)) ≡ total (λ i. met_spans g w from to (first + i * span l) (span (l - w))) 512
+    → met_spans g w from to first (span (suc l - w)) ≡ total (λ i. met_spans g w from to (first + i * span l) (span (l - w))) TABLE_ENTRIES
 spans_below g w l from to first le =
     let h : ℕ → ℕ = λ k. met g w from to (first + k * span w) in
-    let wide : span (suc l - w) ≡ 512 * span (l - w) = ap span (let e : suc l - w ≡ suc (l - w) = omega arith in e) ∙ span-suc (l - w) in
+    let wide : span (suc l - w) ≡ TABLE_ENTRIES * span (l - w) = ap span (let e : suc l - w ≡ suc (l - w) = omega arith in e) ∙ span-suc (l - w) in
     met_spans-is g w from to first (span (suc l - w))
     ∙ ap (total h) wide
-    ∙ total_blocks h (span (l - w)) 512
-    ∙ total_same (λ i. met_spans g w from to (first + i * span l) (span (l - w))) (λ i. total (λ k. h (i * span (l - w) + k)) (span (l - w))) 512
+    ∙ total_blocks h (span (l - w)) TABLE_ENTRIES
+    ∙ total_same (λ i. met_spans g w from to (first + i * span l) (span (l - w))) (λ i. total (λ k. h (i * span (l - w) + k)) (span (l - w))) TABLE_ENTRIES
     (λ i i_in. total_same (λ k. met g w from to (first + i * span l + k * span w)) (λ k. h (i * span (l - w) + k)) (span (l - w))
     (λ k k_in. ap (met g w from to) (place i k)) ∙ sym (met_spans-is g w from to (first + i * span l) (span (l - w))))
   where

@@ -5,6 +5,8 @@ use Rattle.std.proofs.lemmas.Nat.{div-mul-add, le-div}
 use Rattle.std.proofs.lemmas.Bool.{cases_lt}
 use Rattle.std.proofs.lemmas.Bool.Decides.{nat_tests}
 use Rattle.std.proofs.lemmas.Option.{none-some}
+use Rattle.dmatypes.specs.declared.page.TheConstants.{SPAN_PAGES}
+use Rattle.tables.specs.declared.entries.TheConstants.{TABLE_ENTRIES}
 use Rattle.vtdbits.specs.declared.entry.SsEntry.{SsEntry}
 use Rattle.vtdbits.specs.declared.entry.SsEntry.TheVariants.{Absent, Table, Leaf, LargeLeaf}
 use Rattle.tables.specs.Tree.{Memory, Found, span, index_in, leaf_of, table_of, leaf_from, table_from, stated, states, total}
@@ -66,12 +68,12 @@ own_lacks m l first p w (LargeLeaf t) b e h = absurd (none-some (record { size =
 -- ---- places
 
 -- the spans of the entries of a table
-entry_first : (q i l : ℕ) → q * span (suc l) + i * span l ≡ (q * 512 + i) * span l
-entry_first q i l = omega (arith, add-mul (q * 512) i (span l), mul_assoc q 512 (span l), ap (λ n. q * n) (span-suc l))
+entry_first : (q i l : ℕ) → q * span (suc l) + i * span l ≡ (q * TABLE_ENTRIES + i) * span l
+entry_first q i l = omega (arith, add-mul (q * SPAN_PAGES) i (span l), mul_assoc q SPAN_PAGES (span l), ap (λ n. q * n) (span-suc l))
 
 -- a page in the span of the entry at an index
-entry_page : (q i l p : ℕ) → i < 512 → p / span l ≡ q * 512 + i → (p / span (suc l) ≡ q) × (index_in l p ≡ i)
-entry_page q i l p i_in at = ((let e : p / span l / 512 ≡ q = omega arith in div_span-suc l p ∙ e), (let e : p / span l % 512 ≡ i = omega arith in e))
+entry_page : (q i l p : ℕ) → i < TABLE_ENTRIES → p / span l ≡ q * TABLE_ENTRIES + i → (p / span (suc l) ≡ q) × (index_in l p ≡ i)
+entry_page q i l p i_in at = ((let e : p / span l / TABLE_ENTRIES ≡ q = omega arith in div_span-suc l p ∙ e), (let e : p / span l % TABLE_ENTRIES ≡ i = omega arith in e))
 
 -- a page of the pages in a span that meets them
 page_met : (q l from to : ℕ) → from < to → is_met l from to (q * span l) ≡ true → (p : ℕ) × ((from ≤ p) × (p < to) × (p / span l ≡ q))
@@ -102,7 +104,7 @@ unfolding entries_below
 entries_below-is m l e large from to first i = refl
 
 lacks-suc : (m : Memory) (l : ℕ) (e : SsEntry) (large : ℕ → Bool) (from to first : ℕ)
-    → entry_lacks m (suc l) e large from to first ≡ cond (is_met (suc l) from to first) (own_lack e (suc l) (large first) + total (entries_below m l e large from to first) 512) 0
+    → entry_lacks m (suc l) e large from to first ≡ cond (is_met (suc l) from to first) (own_lack e (suc l) (large first) + total (entries_below m l e large from to first) TABLE_ENTRIES) 0
 unfolding entry_lacks entries_below
 lacks-suc m l e large from to first = refl
 
@@ -126,30 +128,30 @@ top_level m l e large from to first p meets clear =
 -- the tables of a lower level, entry by entry
 lower_level : (m : Memory) (l : ℕ) (e : SsEntry) (large : ℕ → Bool) (from to q v : ℕ) → v < l
     → level_lacks m (suc l) e large from to (q * span (suc l)) v
-    ≡ total (λ i. level_lacks m l (entry_below e (λ c. m (suc l) c i)) large from to (q * span (suc l) + i * span l) v) 512
+    ≡ total (λ i. level_lacks m l (entry_below e (λ c. m (suc l) c i)) large from to (q * span (suc l) + i * span l) v) TABLE_ENTRIES
 unfolding level_lacks
 lower_level m l e large from to q v v_in =
     spans_below (below_lacks m (suc l) e large (v + 1)) (v + 1) l from to (q * span (suc l)) (omega arith)
     ∙ total_same (λ i. met_spans (below_lacks m l (entry_below e (λ c. m (suc l) c i)) large (v + 1)) (v + 1) from to (q * span (suc l) + i * span l) (span (l - (v + 1))))
-    (λ i. met_spans (below_lacks m (suc l) e large (v + 1)) (v + 1) from to (q * span (suc l) + i * span l) (span (l - (v + 1)))) 512
+    (λ i. met_spans (below_lacks m (suc l) e large (v + 1)) (v + 1) from to (q * span (suc l) + i * span l) (span (l - (v + 1)))) TABLE_ENTRIES
     (λ i i_in. met_spans_same (below_lacks m l (entry_below e (λ c. m (suc l) c i)) large (v + 1)) (below_lacks m (suc l) e large (v + 1)) (v + 1) from to (q * span (suc l) + i * span l) (span (l - (v + 1)))
     (λ k k_in. step_lacks m l e large (v + 1) (q * span (suc l) + i * span l + k * span (v + 1)) i (omega arith) (inside i k i_in k_in)))
   where
-    inside : (i k : ℕ) → i < 512 → k < span (l - (v + 1)) → index_in l (q * span (suc l) + i * span l + k * span (v + 1)) ≡ i
+    inside : (i k : ℕ) → i < TABLE_ENTRIES → k < span (l - (v + 1)) → index_in l (q * span (suc l) + i * span l + k * span (v + 1)) ≡ i
     inside i k i_in k_in =
         let next : (k + 1) * span (v + 1) ≤ span (l - (v + 1)) * span (v + 1) = mul-le-mul_right (span (v + 1)) (let le : k + 1 ≤ span (l - (v + 1)) = omega arith in le) in
         let short : k * span (v + 1) < span l = omega (arith, one_more_mul k (span (v + 1)), span_in (v + 1) l (omega arith), span_pos (v + 1)) in
-        let at = ap (λ x. (x + k * span (v + 1)) / span l) (entry_first q i l) ∙ div-mul-add (q * 512 + i) (span l) (k * span (v + 1)) short in
+        let at = ap (λ x. (x + k * span (v + 1)) / span l) (entry_first q i l) ∙ div-mul-add (q * SPAN_PAGES + i) (span l) (k * span (v + 1)) short in
         (entry_page q i l (q * span (suc l) + i * span l + k * span (v + 1)) i_in at).1
 
 -- the step from the entries of a table to the entry that names it
 step_levels : (m : Memory) (l : ℕ) (e : SsEntry) (large : ℕ → Bool) (from to q : ℕ) → from < to → ((p : ℕ) → from ≤ p → p < to → p / span (suc l) ≡ q → IsClear m (suc l) e p)
-    → ((i : ℕ) → i < 512 → entry_lacks m l (entry_below e (λ c. m (suc l) c i)) large from to ((q * 512 + i) * span l)
-    ≡ total (level_lacks m l (entry_below e (λ c. m (suc l) c i)) large from to ((q * 512 + i) * span l)) l)
+    → ((i : ℕ) → i < TABLE_ENTRIES → entry_lacks m l (entry_below e (λ c. m (suc l) c i)) large from to ((q * SPAN_PAGES + i) * span l)
+    ≡ total (level_lacks m l (entry_below e (λ c. m (suc l) c i)) large from to ((q * SPAN_PAGES + i) * span l)) l)
     → entry_lacks m (suc l) e large from to (q * span (suc l)) ≡ total (level_lacks m (suc l) e large from to (q * span (suc l))) (suc l)
 step_levels m l e large from to q some clear each = by_met (is_met (suc l) from to (q * span (suc l))) refl
   where
-    below : (i : ℕ) → i < 512 → entries_below m l e large from to (q * span (suc l)) i ≡ total (level_lacks m l (entry_below e (λ c. m (suc l) c i)) large from to (q * span (suc l) + i * span l)) l
+    below : (i : ℕ) → i < TABLE_ENTRIES → entries_below m l e large from to (q * span (suc l)) i ≡ total (level_lacks m l (entry_below e (λ c. m (suc l) c i)) large from to (q * span (suc l) + i * span l)) l
     below i i_in =
         entries_below-is m l e large from to (q * span (suc l)) i
         ∙ ap (entry_lacks m l (entry_below e (λ c. m (suc l) c i)) large from to) (entry_first q i l)
@@ -159,20 +161,20 @@ step_levels m l e large from to q some clear each = by_met (is_met (suc l) from 
     by_met : (b : Bool) → is_met (suc l) from to (q * span (suc l)) ≡ b → entry_lacks m (suc l) e large from to (q * span (suc l)) ≡ total (level_lacks m (suc l) e large from to (q * span (suc l))) (suc l)
     by_met false apart =
         lacks-suc m l e large from to (q * span (suc l))
-        ∙ ap (λ b. cond b (own_lack e (suc l) (large (q * span (suc l))) + total (entries_below m l e large from to (q * span (suc l))) 512) 0) apart
+        ∙ ap (λ b. cond b (own_lack e (suc l) (large (q * span (suc l))) + total (entries_below m l e large from to (q * span (suc l))) TABLE_ENTRIES) 0) apart
         ∙ sym (total-none (level_lacks m (suc l) e large from to (q * span (suc l))) (suc l)
         (λ v v_in. unmet_level m l e large from to (q * span (suc l)) v apart v_in))
     by_met true meets =
         let first : ℕ = q * span (suc l) in
         let page = page_met q (suc l) from to some meets in
         let top : level_lacks m (suc l) e large from to first l ≡ own_lack e (suc l) (large first) = top_level m l e large from to first page.0 meets (clear page.0 page.1.0 page.1.1 page.1.2) in
-        let lower : total (level_lacks m (suc l) e large from to first) l ≡ total (entries_below m l e large from to first) 512 =
-        total_same (λ v. total (λ i. level_lacks m l (entry_below e (λ c. m (suc l) c i)) large from to (first + i * span l) v) 512) (level_lacks m (suc l) e large from to first) l (λ v v_in. lower_level m l e large from to q v v_in)
-        ∙ total_swap (λ v i. level_lacks m l (entry_below e (λ c. m (suc l) c i)) large from to (first + i * span l) v) 512 l
-        ∙ total_same (entries_below m l e large from to first) (λ i. total (λ v. level_lacks m l (entry_below e (λ c. m (suc l) c i)) large from to (first + i * span l) v) l) 512 (λ i i_in. sym (below i i_in)) in
-        let whole : entry_lacks m (suc l) e large from to first ≡ own_lack e (suc l) (large first) + total (entries_below m l e large from to first) 512 =
+        let lower : total (level_lacks m (suc l) e large from to first) l ≡ total (entries_below m l e large from to first) TABLE_ENTRIES =
+        total_same (λ v. total (λ i. level_lacks m l (entry_below e (λ c. m (suc l) c i)) large from to (first + i * span l) v) TABLE_ENTRIES) (level_lacks m (suc l) e large from to first) l (λ v v_in. lower_level m l e large from to q v v_in)
+        ∙ total_swap (λ v i. level_lacks m l (entry_below e (λ c. m (suc l) c i)) large from to (first + i * span l) v) TABLE_ENTRIES l
+        ∙ total_same (entries_below m l e large from to first) (λ i. total (λ v. level_lacks m l (entry_below e (λ c. m (suc l) c i)) large from to (first + i * span l) v) l) TABLE_ENTRIES (λ i i_in. sym (below i i_in)) in
+        let whole : entry_lacks m (suc l) e large from to first ≡ own_lack e (suc l) (large first) + total (entries_below m l e large from to first) TABLE_ENTRIES =
         lacks-suc m l e large from to first
-        ∙ ap (λ b. cond b (own_lack e (suc l) (large first) + total (entries_below m l e large from to first) 512) 0) meets in
+        ∙ ap (λ b. cond b (own_lack e (suc l) (large first) + total (entries_below m l e large from to first) TABLE_ENTRIES) 0) meets in
         omega (arith, top, lower, whole, total-suc (level_lacks m (suc l) e large from to first) l)
 
 -- what an entry lacks is what the spans of each level in its own lack
@@ -181,7 +183,7 @@ by_levels : (m : Memory) (l : ℕ) (e : SsEntry) (large : ℕ → Bool) (from to
 by_levels m zero e large from to q some clear = lacks-zero m e large from to (q * span 0) ∙ sym (total-zero (level_lacks m 0 e large from to (q * span 0)))
 by_levels m (suc l) e large from to q some clear =
     step_levels m l e large from to q some clear
-    (λ i i_in. by_levels m l (entry_below e (λ c. m (suc l) c i)) large from to (q * 512 + i) some
+    (λ i i_in. by_levels m l (entry_below e (λ c. m (suc l) c i)) large from to (q * SPAN_PAGES + i) some
     (λ p low high at. clear_below m l e q i p (entry_page q i l p i_in at) (clear p low high)))
 
 -- ---- from the root

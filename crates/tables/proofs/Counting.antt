@@ -4,6 +4,7 @@ use Rattle.std.proofs.Math.Nat.{div-mul-le_self, mul-le-mul_right, lt-div-mul-ad
 use Rattle.std.proofs.lemmas.Nat.{div-mul-add}
 use Rattle.std.proofs.lemmas.Bool.Decides.{nat_tests}
 use Rattle.std.proofs.lemmas.Option.{none-some}
+use Rattle.dmatypes.specs.declared.page.TheConstants.{SPAN_PAGES}
 use Rattle.dmatypes.specs.World.{Target}
 use Rattle.tables.specs.Tree.{Memory, span, total, table_from}
 use Rattle.tables.specs.Pool.{Pool, memory}
@@ -60,7 +61,7 @@ unfolding lacks_at
 lacks_at-is m level t large p = refl
 
 -- what the span of a page lacks
-own_span : (m : Memory) (level t : ℕ) (large : ℕ → Bool) (b : Bool) (w from : ℕ) → 1 ≤ w → large (from / 512 * 512) ≡ b
+own_span : (m : Memory) (level t : ℕ) (large : ℕ → Bool) (b : Bool) (w from : ℕ) → 1 ≤ w → large (from / SPAN_PAGES * SPAN_PAGES) ≡ b
     → lacking m level t (large (from / span w * span w)) w (from / span w * span w) ≡ lacking m level t b w from
 own_span m level t large b w from some flag =
     lacking_flag m level t (large (from / span w * span w)) b w (from / span w * span w)
@@ -68,7 +69,7 @@ own_span m level t large b w from some flag =
     ∙ lacking_same m m level level t t b w from (from / span w * span w) (near_same m level t from (from / span w * span w) w (sym (span_first (from / span w) w)))
 
 -- the tables of one page's way are among them
-pub lacks_least : (m : Memory) (level t : ℕ) (large : ℕ → Bool) (b : Bool) (from to : ℕ) → from < to → large (from / 512 * 512) ≡ b → lacks_at m level t b from ≤ lacks m level t large from to
+pub lacks_least : (m : Memory) (level t : ℕ) (large : ℕ → Bool) (b : Bool) (from to : ℕ) → from < to → large (from / SPAN_PAGES * SPAN_PAGES) ≡ b → lacks_at m level t b from ≤ lacks m level t large from to
 lacks_least m level t large b from to some flag =
     let each = total_le_each (λ v. lacking m level t b (v + 1) from) (λ v. sum_spans (λ p. lacking m level t (large p) (v + 1) p) (v + 1) from to) (level - 1)
     (λ v v_in. omega (arith, least_spans (λ p. lacking m level t (large p) (v + 1) p) (v + 1) from to (span_pos (v + 1)) some, own_span m level t large b (v + 1) from (omega arith) flag)) in
@@ -81,18 +82,18 @@ pub record Placed (old new : Pool) (level t from next : ℕ) (says : ℕ → Opt
   pub maps : Maps old new level t from next says
   pub made : (w : ℕ) → 1 ≤ w → w < level → (w ≡ 1 → b ≡ false) → IsSome (table_from (memory new.words) level t from w)
   pub some : from < next
-  pub one : from / 512 ≡ (next - 1) / 512
-  pub short : 0 < next % 512 → b ≡ false
+  pub one : from / SPAN_PAGES ≡ (next - 1) / SPAN_PAGES
+  pub short : 0 < next % SPAN_PAGES → b ≡ false
 
-pub piece_near : (w from next q : ℕ) → 1 ≤ w → from / 512 ≡ (next - 1) / 512 → from ≤ q → q < next → q / span w ≡ from / span w
+pub piece_near : (w from next q : ℕ) → 1 ≤ w → from / SPAN_PAGES ≡ (next - 1) / SPAN_PAGES → from ≤ q → q < next → q / span w ≡ from / span w
 piece_near w from next q some one low high =
-    near_at 1 w q from some (div_span_one q ∙ (let e : q / 512 ≡ from / 512 = omega arith in e) ∙ sym (div_span_one from))
+    near_at 1 w q from some (div_span_one q ∙ (let e : q / SPAN_PAGES ≡ from / SPAN_PAGES = omega arith in e) ∙ sym (div_span_one from))
 
 none_left : (old new : Pool) (level t from next : ℕ) (says : ℕ → Option Target) (large : ℕ → Bool) (b : Bool) (w : ℕ) → 1 ≤ w → w < level → Placed old new level t from next says b
     → next / span w ≡ from / span w → lacking (memory new.words) level t (large (from / span w * span w)) w (from / span w * span w) ≡ 0
 none_left old new level t from next says large b w some low x stay =
     let short : w ≡ 1 → b ≡ false = λ e.
-    let same : next / 512 ≡ from / 512 = sym (ap (λ n. next / n) span-one) ∙ subst (λ v. next / span v ≡ from / span v) e stay ∙ ap (λ n. from / n) span-one in
+    let same : next / SPAN_PAGES ≡ from / SPAN_PAGES = sym (ap (λ n. next / n) span-one) ∙ subst (λ v. next / span v ≡ from / span v) e stay ∙ ap (λ n. from / n) span-one in
     x.short (omega (arith, x.one, x.some)) in
     some_is (memory new.words) level t w (from / span w * span w) (large (from / span w * span w))
     (subst (λ (o : Option ℕ). IsSome o) (sym (near_same (memory new.words) level t from (from / span w * span w) w (sym (span_first (from / span w) w)))) (x.made w some low short))
@@ -120,7 +121,7 @@ same_behind old new level t from next to says large b w k some x wide inside low
     lt_next a n pos = lt-div-mul-add pos
 
 pub lacks_step : (old new : Pool) (level t from next to : ℕ) (says : ℕ → Option Target) (large : ℕ → Bool) (b : Bool) → Placed old new level t from next says b → next ≤ to
-    → ((p : ℕ) → from ≤ p → p < to → p / span level ≡ from / span level) → large (from / 512 * 512) ≡ b
+    → ((p : ℕ) → from ≤ p → p < to → p / span level ≡ from / span level) → large (from / SPAN_PAGES * SPAN_PAGES) ≡ b
     → lacks (memory old.words) level t large from to ≡ lacks_at (memory old.words) level t b from + lacks (memory new.words) level t large next to
 lacks_step old new level t from next to says large b x le wide flag =
     let m : Memory = memory old.words in

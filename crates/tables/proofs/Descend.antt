@@ -1,6 +1,8 @@
 -- A piece mapped through the table under its entry.
 use Rattle.std.proofs.Common.{◌≡◌, ◌≢◌, ℕ, zero, suc, ◌+◌, ◌-◌, ◌/◌, ◌<◌, ◌≤◌, ⊎_elim, Bool, false, IsSome, Option, Some, None, [], refl, sym, ap, subst, ◌∙◌, arith}
 use Rattle.std.proofs.lemmas.Option.{none-some}
+use Rattle.dmatypes.specs.declared.page.TheConstants.{SPAN_PAGES}
+use Rattle.tables.specs.declared.entries.TheConstants.{TABLE_ENTRIES}
 use Rattle.dmatypes.specs.World.{Target}
 use Rattle.vtdbits.specs.declared.entry.SsEntry.{SsEntry}
 use Rattle.vtdbits.specs.declared.entry.SsEntry.TheVariants.{Absent, Table}
@@ -17,27 +19,27 @@ use Rattle.tables.proofs.Lacking.{lacks_some, lacks_at-table, lacks_at-grown}
 use Rattle.tables.proofs.Walks.{IsBare, table_zeroed}
 
 -- the pages of a piece are in one span of each level
-pub piece_span : (l from to p : ℕ) → 1 ≤ l → from / 512 ≡ (to - 1) / 512 → from ≤ p → p < to → p / span l ≡ from / span l
+pub piece_span : (l from to p : ℕ) → 1 ≤ l → from / SPAN_PAGES ≡ (to - 1) / SPAN_PAGES → from ≤ p → p < to → p / span l ≡ from / span l
 piece_span l from to p some one low high =
-    near_at 1 l p from some (div_span_one p ∙ (let e : p / 512 ≡ from / 512 = omega arith in e) ∙ sym (div_span_one from))
+    near_at 1 l p from some (div_span_one p ∙ (let e : p / SPAN_PAGES ≡ from / SPAN_PAGES = omega arith in e) ∙ sym (div_span_one from))
 
 -- a map through the table under an entry is one of the table
 abbrev pub Through : Pool → Pool → ℕ → ℕ → ℕ → ℕ → ℕ → ℕ → ℕ → (ℕ → Option Target) → Type 0
 Through old new level l t i c from to says =
     TakesAndGivesFrames old new level t [] × Maps old new level t from to says × (memory new.words level t i ≡ Table c)
 
-pub map_through : (old new : Pool) (level l t i c from to : ℕ) (says : ℕ → Option Target) → level ≡ suc l → 1 ≤ l → from / 512 ≡ (to - 1) / 512
-    → IsTree old level t → i < 512 → i ≡ index_in l from → memory old.words level t i ≡ Table c
+pub map_through : (old new : Pool) (level l t i c from to : ℕ) (says : ℕ → Option Target) → level ≡ suc l → 1 ≤ l → from / SPAN_PAGES ≡ (to - 1) / SPAN_PAGES
+    → IsTree old level t → i < TABLE_ENTRIES → i ≡ index_in l from → memory old.words level t i ≡ Table c
     → TakesAndGivesFrames old new l c [] → Maps old new l c from to says → Through old new level l t i c from to says
 map_through old new level l t i c from to says up some one =
-    subst (λ n. IsTree old n t → i < 512 → i ≡ index_in l from → memory old.words n t i ≡ Table c
+    subst (λ n. IsTree old n t → i < TABLE_ENTRIES → i ≡ index_in l from → memory old.words n t i ≡ Table c
     → TakesAndGivesFrames old new l c [] → Maps old new l c from to says → Through old new n l t i c from to says) (sym up)
     (λ tree a is names moves maps.
     let both = below_under old new l t i c [] tree a names moves in
     (under_moves old new l t i [] tree a both.0, maps_up old new l t i c from to says tree a is names (λ p low high. piece_span l from to p some one low high) moves maps, both.1))
 
 -- what was absent is absent below
-pub absent_below : (m : Memory) (level l t i c from to p : ℕ) → level ≡ suc l → 1 ≤ l → from / 512 ≡ (to - 1) / 512 → i ≡ index_in l from → m level t i ≡ Table c → from ≤ p → p < to
+pub absent_below : (m : Memory) (level l t i c from to p : ℕ) → level ≡ suc l → 1 ≤ l → from / SPAN_PAGES ≡ (to - 1) / SPAN_PAGES → i ≡ index_in l from → m level t i ≡ Table c → from ≤ p → p < to
     → leaf_from m level t p ≡ leaf_from m l c p
 absent_below m level l t i c from to p up some one is names low high =
     subst (λ n. m n t i ≡ Table c → leaf_from m n t p ≡ leaf_from m l c p) (sym up)

@@ -2,6 +2,7 @@
 use Rattle.std.proofs.Common.{◌≡◌, ◌≢◌, ℕ, suc, ◌+◌, ◌/◌, ◌<◌, ◌⊎◌, inl, inr, ⊎_elim, Some, [], sym, ap, subst, ◌∙◌, arith}
 use Rattle.std.proofs.lemmas.Bool.{cases_lt}
 use Rattle.std.proofs.lemmas.Option.{none-some, same_Some}
+use Rattle.tables.specs.declared.entries.TheConstants.{TABLE_ENTRIES}
 use Rattle.vtdbits.specs.Entry.{look}
 use Rattle.vtdbits.specs.declared.entry.SsEntry.TheVariants.{Absent, Table}
 use Rattle.tables.specs.Under.{Under, child}
@@ -18,10 +19,10 @@ no_word : (t i f k : ℕ) → (f ≡ t → k ≡ i → ⊥) → f ≢ t ⊎ (k �
 no_word t i f k h = ⊎_elim (λ same. inr (λ e. h same e)) (λ ne. inl ne) (same_or_not f t)
 
 -- a table of nothing, in a frame that was free
-pub under_grown : (old new : Pool) (l t i c : ℕ) → IsTree old (suc (suc l)) t → i < 512
+pub under_grown : (old new : Pool) (l t i c : ℕ) → IsTree old (suc (suc l)) t → i < TABLE_ENTRIES
     → memory old.words (suc (suc l)) t i ≡ Absent → memory new.words (suc (suc l)) t i ≡ Table c
     → ((f : ℕ) → occurs f new.free + here c f ≡ occurs f old.free) → IsBare (memory new.words) c
-    → ((f k : ℕ) → k < 512 → (f ≡ t → k ≡ i → ⊥) → word new.words f k ≡ word old.words f k) → new.frames ≡ old.frames
+    → ((f k : ℕ) → k < TABLE_ENTRIES → (f ≡ t → k ≡ i → ⊥) → word new.words f k ≡ word old.words f k) → new.frames ≡ old.frames
     → Under old new (suc l) t i []
 under_grown old new l t i c tree a absent names free bare rest frames =
     let m : Memory = memory old.words in
@@ -45,7 +46,7 @@ pub record IsGrown (old new : Pool) (l t i c : ℕ) : Type 0 where
   pub bare : IsBare (memory new.words) c
   pub free : 0 < occurs c old.free
 
-pub grown_leaf : (old new : Pool) (l t i c p : ℕ) → IsTree old (suc l) t → i < 512 → IsGrown old new l t i c
+pub grown_leaf : (old new : Pool) (l t i c p : ℕ) → IsTree old (suc l) t → i < TABLE_ENTRIES → IsGrown old new l t i c
     → leaf_from (memory new.words) (suc l) t p ≡ leaf_from (memory old.words) (suc l) t p
 grown_leaf old new l t i c p tree a g =
     let m : Memory = memory old.words in
@@ -65,7 +66,7 @@ new_table n l c p w x bare h =
     (cases_lt w (suc l)))
     (same_or_not w (suc l))
 
-pub grown_maps : (old new : Pool) (l t i c from to : ℕ) → IsTree old (suc (suc l)) t → i < 512 → from < to → index_in (suc l) from ≡ i → IsGrown old new (suc l) t i c
+pub grown_maps : (old new : Pool) (l t i c from to : ℕ) → IsTree old (suc (suc l)) t → i < TABLE_ENTRIES → from < to → index_in (suc l) from ≡ i → IsGrown old new (suc l) t i c
     → Maps old new (suc (suc l)) t from to (states (memory old.words) (suc (suc l)) t)
 grown_maps old new l t i c from to tree a some is g =
     let m : Memory = memory old.words in
@@ -121,7 +122,7 @@ pub record Grows (old new : Pool) (level l t i c : ℕ) : Type 0 where
   pub names : memory new.words level t i ≡ Table c
   pub zeroed : IsZeroed new.words c
 
-grows_two : (old mid new : Pool) (l t i c value : ℕ) → IsTree old (suc (suc l)) t → i < 512 → memory old.words (suc (suc l)) t i ≡ Absent
+grows_two : (old mid new : Pool) (l t i c value : ℕ) → IsTree old (suc (suc l)) t → i < TABLE_ENTRIES → memory old.words (suc (suc l)) t i ≡ Absent
     → look (suc (suc l)) value ≡ Table c → ((f : ℕ) → occurs f mid.free + here c f ≡ occurs f old.free) → IsZeroed mid.words c → mid.words ≡ old.words → mid.frames ≡ old.frames
     → IsWrite mid.words new.words t i value → new.free ≡ mid.free → new.frames ≡ mid.frames → Grows old new (suc (suc l)) (suc l) t i c
 grows_two old mid new l t i c value tree a absent reads free zeroed same_words same_frames wrote same_free frames =
@@ -131,7 +132,7 @@ grows_two old mid new l t i c value tree a absent reads free zeroed same_words s
     let names : n (suc (suc l)) t i ≡ Table c = memory_at new.words (suc (suc l)) t i ∙ ap (look (suc (suc l))) wrote.0 ∙ reads in
     let zeroed_now : IsZeroed new.words c = λ k k_in. wrote.1 c k k_in (λ e _. apart e) ∙ zeroed k k_in in
     let free_now : (f : ℕ) → occurs f new.free + here c f ≡ occurs f old.free = λ f. omega (arith, free f, ap (λ xs. occurs f xs) same_free) in
-    let rest : (f k : ℕ) → k < 512 → (f ≡ t → k ≡ i → ⊥) → word new.words f k ≡ word old.words f k = λ f k k_in ne. wrote.1 f k k_in ne ∙ ap (λ ws. word ws f k) same_words in
+    let rest : (f k : ℕ) → k < TABLE_ENTRIES → (f ≡ t → k ≡ i → ⊥) → word new.words f k ≡ word old.words f k = λ f k k_in ne. wrote.1 f k k_in ne ∙ ap (λ ws. word ws f k) same_words in
     let bare : IsBare n c = zeroed_bare new.words c zeroed_now in
     let u : Under old new (suc l) t i [] = under_grown old new l t i c tree a absent names free_now bare rest (frames ∙ same_frames) in
     let g : IsGrown old new (suc l) t i c = record { under = u; absent = absent; names = names; bare = bare; free = c_free } in
@@ -143,11 +144,11 @@ grows_two old mid new l t i c value tree a absent reads free zeroed same_words s
       zeroed = zeroed_now;
     }
 
-pub grows : (old mid new : Pool) (level l t i c value : ℕ) → level ≡ suc (suc l) → IsTree old level t → i < 512 → memory old.words level t i ≡ Absent
+pub grows : (old mid new : Pool) (level l t i c value : ℕ) → level ≡ suc (suc l) → IsTree old level t → i < TABLE_ENTRIES → memory old.words level t i ≡ Absent
     → look level value ≡ Table c → ((f : ℕ) → occurs f mid.free + here c f ≡ occurs f old.free) → IsZeroed mid.words c → mid.words ≡ old.words → mid.frames ≡ old.frames
     → IsWrite mid.words new.words t i value → new.free ≡ mid.free → new.frames ≡ mid.frames → Grows old new level (suc l) t i c
 grows old mid new level l t i c value up =
-    subst (λ n. IsTree old n t → i < 512 → memory old.words n t i ≡ Absent
+    subst (λ n. IsTree old n t → i < TABLE_ENTRIES → memory old.words n t i ≡ Absent
     → look n value ≡ Table c → ((f : ℕ) → occurs f mid.free + here c f ≡ occurs f old.free) → IsZeroed mid.words c → mid.words ≡ old.words → mid.frames ≡ old.frames
     → IsWrite mid.words new.words t i value → new.free ≡ mid.free → new.frames ≡ mid.frames → Grows old new n (suc l) t i c) (sym up)
     (grows_two old mid new l t i c value)

@@ -1,9 +1,11 @@
 -- What stays in a tree and in others, over a whole call.
-use Rattle.std.proofs.Common.{◌≡◌, ℕ, zero, suc, ◌+◌, ◌/◌, ◌%◌, ◌^◌, ◌<◌, ◌≤◌, ◌⊎◌, inl, inr, ⊎_elim, Option, Some, None, List, refl, sym, ◌∙◌, arith}
+use Rattle.std.proofs.Common.{◌≡◌, ℕ, zero, suc, ◌+◌, ◌/◌, ◌%◌, ◌<◌, ◌≤◌, ◌⊎◌, inl, inr, ⊎_elim, Option, Some, None, List, refl, sym, ◌∙◌, arith}
 use Rattle.std.proofs.Math.Nat.{div-eq_of_lt}
 use Rattle.std.proofs.lemmas.Bool.{cases_lt}
 use Rattle.std.proofs.lemmas.Option.{none-some}
 use Rattle.std.specs.Prelude.{OnOk, OnErr, Result, Ok, Err}
+use Rattle.dmatypes.specs.declared.width.TheConstants.{LEVELS, PAGES_END}
+use Rattle.tables.specs.declared.entries.TheConstants.{TABLE_ENTRIES}
 use Rattle.dmatypes.specs.World.{Target}
 use Rattle.tables.specs.Tree.{Memory, Found, span, leaf_from, stated, states, uses, IsLeafAt, IsTableAt}
 use Rattle.tables.specs.Pool.{Pool, word, memory, occurs, IsTree}
@@ -12,7 +14,7 @@ use Rattle.tables.proofs.Agree.{AgreeAt, to_agree, leaf_agrees, table_agrees, us
 use Rattle.tables.proofs.Words.{same_entry}
 use Rattle.tables.proofs.Near.{div_within, near_at, span_pos}
 
-pub span-three : span 3 ≡ 2 ^ 27
+pub span-three : span LEVELS ≡ PAGES_END
 unfolding span
 span-three = refl
 
@@ -93,7 +95,7 @@ on_done (Err e) ok f = ok
 
 -- a tree apart from one that was given back stays
 pub given_stays : (old new : Pool) (l t l' t' : ℕ) → IsTree old l t → ((f : ℕ) → occurs f new.free ≡ occurs f old.free + uses (memory old.words) l t f)
-    → ((f k : ℕ) → k < 512 → uses (memory old.words) l t f ≡ 0 → word new.words f k ≡ word old.words f k) → new.frames ≡ old.frames
+    → ((f k : ℕ) → k < TABLE_ENTRIES → uses (memory old.words) l t f ≡ 0 → word new.words f k ≡ word old.words f k) → new.frames ≡ old.frames
     → IsTree old l' t' → IsApart old l t l' t' → Stays old new l' t'
 given_stays old new l t l' t' first free others frames tree apart =
     let m : Memory = memory old.words in

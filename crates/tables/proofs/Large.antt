@@ -1,5 +1,7 @@
 -- A leaf of 512 pages under an absent entry of a table of level 2.
 use Rattle.std.proofs.Common.{◌≡◌, ◌≢◌, ℕ, suc, ◌+◌, ◌-◌, ◌/◌, ◌%◌, ◌<◌, ◌≤◌, inl, ⊎_elim, Option, Some, None, List, [], refl, sym, ap, ◌∙◌, arith}
+use Rattle.dmatypes.specs.declared.page.TheConstants.{SPAN_PAGES}
+use Rattle.tables.specs.declared.entries.TheConstants.{TABLE_ENTRIES}
 use Rattle.vtdbits.specs.Translation.{target}
 use Rattle.vtdbits.specs.declared.entry.SsEntry.{SsEntry}
 use Rattle.vtdbits.specs.declared.entry.SsEntry.TheVariants.{Absent, LargeLeaf}
@@ -34,7 +36,7 @@ pub no_table_at : (m : Memory) (l t p w i : ℕ) (e : SsEntry) → index_in l p 
 no_table_at m l t p w i e at is none lower = table_under m l t p w e lower (ap (λ j. m (suc l) t j) at ∙ is) ∙ none (λ c. table_from m l c p w)
 
 -- the tables, where one entry without a table took the place of another
-pub same_tables : (old new : Pool) (l t i p w : ℕ) (cut : List ℕ) (before after : SsEntry) → IsTree old (suc l) t → i < 512 → Under old new l t i cut
+pub same_tables : (old new : Pool) (l t i p w : ℕ) (cut : List ℕ) (before after : SsEntry) → IsTree old (suc l) t → i < TABLE_ENTRIES → Under old new l t i cut
     → memory old.words (suc l) t i ≡ before → memory new.words (suc l) t i ≡ after
     → ((below : ℕ → Option ℕ) → table_of before below ≡ None) → ((below : ℕ → Option ℕ) → table_of after below ≡ None)
     → table_from (memory new.words) (suc l) t p w ≡ table_from (memory old.words) (suc l) t p w
@@ -48,10 +50,10 @@ same_tables old new l t i p w cut before after tree a u was is none none_now =
     (same_or_not (index_in l p) i)
 
 -- the leaf of 512 pages, from its first page on
-pub large_maps : (old new : Pool) (t i from frame rights value : ℕ) → IsTree old 2 t → i < 512 → i ≡ index_in 1 from → from % 512 ≡ 0
+pub large_maps : (old new : Pool) (t i from frame rights value : ℕ) → IsTree old 2 t → i < TABLE_ENTRIES → i ≡ index_in 1 from → from % SPAN_PAGES ≡ 0
     → IsWrite old.words new.words t i value → new.free ≡ old.free → new.frames ≡ old.frames
     → memory old.words 2 t i ≡ Absent → memory new.words 2 t i ≡ LargeLeaf (target frame rights)
-    → TakesAndGivesFrames old new 2 t [] × Maps old new 2 t from (from + 512) (λ p. Some (target (frame + (p - from)) rights))
+    → TakesAndGivesFrames old new 2 t [] × Maps old new 2 t from (from + SPAN_PAGES) (λ p. Some (target (frame + (p - from)) rights))
     × ((p w : ℕ) → table_from (memory new.words) 2 t p w ≡ table_from (memory old.words) 2 t p w)
 large_maps old new t i from frame rights value tree a at aligned wrote free frames was is =
     let n : Memory = memory new.words in
@@ -61,15 +63,15 @@ large_maps old new t i from frame rights value tree a at aligned wrote free fram
       under_moves old new 1 t i [] tree a u,
       record {
         mapped = λ p low high.
-            let near : p / 512 ≡ from / 512 = omega arith in
+            let near : p / SPAN_PAGES ≡ from / SPAN_PAGES = omega arith in
             let e : index_in 1 p ≡ i = same_index 1 p from (div_span_one p ∙ near ∙ sym (div_span_one from)) ∙ sym at in
-            let offset : p % 512 ≡ p - from = omega arith in
+            let offset : p % SPAN_PAGES ≡ p - from = omega arith in
             ap (stated p) (leaf_under n 1 t p (LargeLeaf (target frame rights)) (ap (λ j. n 2 t j) e ∙ is))
             ∙ stated_large p 1 (target frame rights) refl ∙ ap (λ k. Some (target (frame + k) rights)) offset;
         elsewhere = λ p wide out.
             ⊎_elim
-            (λ e. let near : p / 512 ≡ from / 512 = sym (div_span_one p) ∙ same_span 1 p from wide (e ∙ at) ∙ div_span_one from in
-            ⊎_elim (λ (h : p < from). absurd (omega arith)) (λ (h : from + 512 ≤ p). absurd (omega arith)) out)
+            (λ e. let near : p / SPAN_PAGES ≡ from / SPAN_PAGES = sym (div_span_one p) ∙ same_span 1 p from wide (e ∙ at) ∙ div_span_one from in
+            ⊎_elim (λ (h : p < from). absurd (omega arith)) (λ (h : from + SPAN_PAGES ≤ p). absurd (omega arith)) out)
             (λ ne. other_leaf old new 1 t i p [] tree a u ne)
             (same_or_not (index_in 1 p) i);
         tables = λ p w c h. tables p w ∙ h;

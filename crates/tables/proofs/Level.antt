@@ -2,6 +2,8 @@
 use Rattle.std.proofs.Common.{◌≡◌, ◌≢◌, ℕ, suc, ◌+◌, ◌%◌, ◌<◌, Some, sym, ap, subst, ◌∙◌, arith}
 use Rattle.std.proofs.Common.{true, false, nat_lt}
 use Rattle.std.proofs.Math.Nat.{mod-one}
+use Rattle.dmatypes.specs.declared.page.TheConstants.{SPAN_PAGES}
+use Rattle.tables.specs.declared.entries.TheConstants.{TABLE_ENTRIES}
 use Rattle.vtdbits.specs.declared.entry.SsEntry.{SsEntry}
 use Rattle.vtdbits.specs.declared.entry.SsEntry.TheVariants.{Table}
 use Rattle.vtdbits.specs.Translation.{target}
@@ -27,16 +29,16 @@ root_in_level pool l t level up tree = root_in pool l t (subst (λ n. IsTree poo
 pub root_taken_level : (pool : Pool) (l t level : ℕ) → level ≡ suc l → IsTree pool level t → occurs t pool.free ≡ 0
 root_taken_level pool l t level up tree = root_taken pool l t (subst (λ n. IsTree pool n t) up tree)
 
-pub below_level : (pool : Pool) (l t i c level : ℕ) → level ≡ suc l → IsTree pool level t → i < 512 → memory pool.words level t i ≡ Table c → IsTree pool l c
+pub below_level : (pool : Pool) (l t i c level : ℕ) → level ≡ suc l → IsTree pool level t → i < TABLE_ENTRIES → memory pool.words level t i ≡ Table c → IsTree pool l c
 below_level pool l t i c level up =
-    subst (λ n. IsTree pool n t → i < 512 → memory pool.words n t i ≡ Table c → IsTree pool l c) (sym up) (below_in pool l t i c)
+    subst (λ n. IsTree pool n t → i < TABLE_ENTRIES → memory pool.words n t i ≡ Table c → IsTree pool l c) (sym up) (below_in pool l t i c)
 
 -- what is stated where the entry was read
 pub stated_level : (m : Memory) (l t p level index : ℕ) (e : SsEntry) → level ≡ suc l → index ≡ index_in l p → m level t index ≡ e → states m level t p ≡ stated p (leaf_of e l (λ c. leaf_from m l c p))
 stated_level m l t p level index e up is read = ap (stated p) (leaf_level m l t p level e up (ap (λ i. m level t i) (sym is) ∙ read))
 
 -- a leaf of 512 pages states the frame of its page
-pub stated_large : (p l : ℕ) (t : Target) → l ≡ 1 → stated p (Some (record { size = l; frame = t.frame; rights = t.rights })) ≡ Some (target (t.frame + p % 512) t.rights)
+pub stated_large : (p l : ℕ) (t : Target) → l ≡ 1 → stated p (Some (record { size = l; frame = t.frame; rights = t.rights })) ≡ Some (target (t.frame + p % SPAN_PAGES) t.rights)
 stated_large p l t e = ap (λ n. Some (target (t.frame + p % n) t.rights)) (ap span e ∙ span-one)
 
 -- and a leaf of one page its own

@@ -1,6 +1,7 @@
 -- Maps one level up, and one after the other.
 use Rattle.std.proofs.Common.{◌≡◌, ℕ, suc, ◌/◌, ◌<◌, ◌≤◌, ◌⊎◌, inl, inr, ⊎_elim, Option, Some, List, [], ◌++◌, refl, sym, ap, ◌∙◌, arith}
 use Rattle.std.proofs.lemmas.Bool.{cases_lt}
+use Rattle.tables.specs.declared.entries.TheConstants.{TABLE_ENTRIES}
 use Rattle.dmatypes.specs.World.{Target}
 use Rattle.vtdbits.specs.declared.entry.SsEntry.TheVariants.{Table}
 use Rattle.tables.specs.Under.{Under}
@@ -38,7 +39,7 @@ table_either m n l t c p w x P e f h same below =
     (same_or_not w (suc l))
 
 -- a map under an entry is one of the table
-pub maps_up : (old new : Pool) (l t i c from to : ℕ) (says : ℕ → Option Target) → IsTree old (suc l) t → i < 512 → i ≡ index_in l from
+pub maps_up : (old new : Pool) (l t i c from to : ℕ) (says : ℕ → Option Target) → IsTree old (suc l) t → i < TABLE_ENTRIES → i ≡ index_in l from
     → memory old.words (suc l) t i ≡ Table c → ((p : ℕ) → from ≤ p → p < to → p / span l ≡ from / span l)
     → TakesAndGivesFrames old new l c [] → Maps old new l c from to says → Maps old new (suc l) t from to says
 maps_up old new l t i c from to says tree a is names one moves maps =

@@ -3,6 +3,7 @@ use Rattle.std.proofs.Common.{◌≡◌, ℕ, zero, suc, ◌+◌, ◌-◌, ◌*�
 use Rattle.std.proofs.Math.Nat.{div-div-eq-div-mul, add-mul-div_left, div-eq_of_lt}
 use Rattle.std.proofs.lemmas.Bool.Decides.{nat_tests}
 use Rattle.std.proofs.lemmas.Option.{none-some, same_Some}
+use Rattle.tables.specs.declared.entries.TheConstants.{TABLE_ENTRIES}
 use Rattle.tables.proofs.Walks.{deeper}
 use Rattle.vtdbits.specs.declared.entry.SsEntry.{SsEntry}
 use Rattle.vtdbits.specs.declared.entry.SsEntry.TheVariants.{Absent, Table, Leaf, LargeLeaf}
@@ -36,7 +37,7 @@ div_within first p n pos e a b =
 pub wider : (l p q : ℕ) → p / span l ≡ q / span l → p / span (suc l) ≡ q / span (suc l)
 unfolding span
 wider l p q e =
-    ap (λ n. p / n) (mul_comm 512 (span l)) ∙ sym (div-div-eq-div-mul p (span l) 512) ∙ ap (λ x. x / 512) e ∙ div-div-eq-div-mul q (span l) 512 ∙ ap (λ n. q / n) (mul_comm (span l) 512)
+    ap (λ n. p / n) (mul_comm TABLE_ENTRIES (span l)) ∙ sym (div-div-eq-div-mul p (span l) TABLE_ENTRIES) ∙ ap (λ x. x / TABLE_ENTRIES) e ∙ div-div-eq-div-mul q (span l) TABLE_ENTRIES ∙ ap (λ n. q / n) (mul_comm (span l) TABLE_ENTRIES)
 
 pub near_at : (j l p q : ℕ) → j ≤ l → p / span j ≡ q / span j → p / span l ≡ q / span l
 near_at j zero p q le e = let z : j ≡ 0 = omega arith in subst (λ i. p / span i ≡ q / span i) z e

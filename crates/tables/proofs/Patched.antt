@@ -3,6 +3,7 @@ use Rattle.std.proofs.Common.{◌≡◌, ℕ, ◌+◌, ◌-◌, ◌*◌, ◌<◌
 use Rattle.std.proofs.Math.Seq.{take-length}
 use Rattle.std.proofs.lemmas.List.{take-append-le, length-take-le, get_or-take, get_or-drop, get_or_append_left, get_or-append_right}
 use Rattle.std.proofs.lemmas.Bool.{cases_lt}
+use Rattle.tables.specs.declared.entries.TheConstants.{TABLE_ENTRIES}
 use Rattle.tables.specs.Pool.{Pool, word, occurs, IsPool, IsRest}
 
 -- a list whose elements from a up to b were lent, and came back as others
@@ -56,31 +57,31 @@ pub record IsPatch (pool : Pool) (new : List ℕ) (table from : ℕ) (run : List
 
 -- the words of such a pool, where the place of the run in the list is counted from the frame's number
 pub patch : (limit n t i count : ℕ) (pool : Pool) (ys run : List ℕ) → n ≡ t → ys ≡ pool.words → limit ≡ length pool.words → IsPool pool → t < pool.frames
-    → occurs t pool.free ≡ 0 → i + count ≤ 512 → length run ≡ count
-    → IsPatch pool (patched limit (n * 512 + i) (n * 512 + i + count) pool.words ys run) t i run
+    → occurs t pool.free ≡ 0 → i + count ≤ TABLE_ENTRIES → length run ≡ count
+    → IsPatch pool (patched limit (n * TABLE_ENTRIES + i) (n * TABLE_ENTRIES + i + count) pool.words ys run) t i run
 unfolding word
 patch limit n t i count pool ys run at same all ok t_in taken i_in long =
     let xs : List ℕ = pool.words in
-    let a : ℕ = n * 512 + i in
-    let b : ℕ = n * 512 + i + count in
+    let a : ℕ = n * TABLE_ENTRIES + i in
+    let b : ℕ = n * TABLE_ENTRIES + i + count in
     let within : b ≤ length xs = omega (arith, ok.fit) in
     let size : length run ≡ b - a = omega arith in
     let low : a ≤ b = omega arith in
     let is : patched limit a b xs ys run ≡ put_back a b xs run = patched_is limit a b xs ys run same all low within size in
     let inside : (k : ℕ) → k < length run → word (put_back a b xs run) t (i + k) ≡ get_or run k 0 =
     λ k k_in.
-    let place : t * 512 + (i + k) ≡ a + k = omega arith in
+    let place : t * TABLE_ENTRIES + (i + k) ≡ a + k = omega arith in
     ap (λ p. get_or (put_back a b xs run) p 0) place ∙ read_inside a b k xs run low within size (omega arith) in
     let rest : IsRest xs (put_back a b xs run) t i (length run) =
     λ f k k_in other.
     ⊎_elim
-    (λ (l : f * 512 + k < a). read_below a b (f * 512 + k) xs run (omega arith) l)
-    (λ (g : a ≤ f * 512 + k).
+    (λ (l : f * TABLE_ENTRIES + k < a). read_below a b (f * TABLE_ENTRIES + k) xs run (omega arith) l)
+    (λ (g : a ≤ f * TABLE_ENTRIES + k).
     ⊎_elim
-    (λ (l : f * 512 + k < b). absurd (other (omega arith) (omega arith) (omega arith)))
-    (λ (h : b ≤ f * 512 + k). read_above a b (f * 512 + k) xs run low within size h)
-    (cases_lt (f * 512 + k) b))
-    (cases_lt (f * 512 + k) a) in
+    (λ (l : f * TABLE_ENTRIES + k < b). absurd (other (omega arith) (omega arith) (omega arith)))
+    (λ (h : b ≤ f * TABLE_ENTRIES + k). read_above a b (f * TABLE_ENTRIES + k) xs run low within size h)
+    (cases_lt (f * TABLE_ENTRIES + k) b))
+    (cases_lt (f * TABLE_ENTRIES + k) a) in
     subst (λ zs. IsPatch pool zs t i run) (sym is) (record {
       keeps = record {
         fit = length_put a b xs run low within size ∙ ok.fit;

@@ -1,9 +1,11 @@
 -- Where the pages of segments lie.
-use Rattle.std.proofs.Common.{◌≡◌, ℕ, zero, suc, ◌+◌, ◌-◌, ◌*◌, ◌/◌, ◌%◌, ◌^◌, ◌<◌, ◌≤◌, ◌⊎◌, inl, inr, ⊎_elim, Bool, true, false, cond, ◌&&◌, eqb, Option, Some, None, List, [], ◌∷◌, length, drop, get_or, refl, sym, ap, subst, ◌∙◌, arith, add-one, drop-cons}
+use Rattle.std.proofs.Common.{◌≡◌, ℕ, zero, suc, ◌+◌, ◌-◌, ◌*◌, ◌/◌, ◌%◌, ◌<◌, ◌≤◌, ◌⊎◌, inl, inr, ⊎_elim, Bool, true, false, cond, ◌&&◌, eqb, Option, Some, None, List, [], ◌∷◌, length, drop, get_or, refl, sym, ap, subst, ◌∙◌, arith, add-one, drop-cons}
 use Rattle.std.proofs.lemmas.Bool.{cases_lt}
 use Rattle.std.proofs.lemmas.Bool.Decides.{nat_tests}
 use Rattle.std.proofs.lemmas.Option.{none-some, same_Some}
 use Rattle.std.proofs.lemmas.List.Sums.{sum_by-cons}
+use Rattle.dmatypes.specs.declared.page.TheConstants.{FRAMES_END, SPAN_PAGES}
+use Rattle.tables.specs.declared.entries.TheConstants.{TABLE_ENTRIES}
 use Rattle.dmatypes.specs.Conditions.{total_pages}
 use Rattle.dmatypes.specs.declared.call.Segment.{Segment}
 use Rattle.dmatypes.specs.World.{placed, is_within}
@@ -53,7 +55,7 @@ pub record HasRest (ss : List Segment) (first p : ℕ) (r : Segment) : Type 0 wh
   pub some : 1 ≤ r.pages
   pub after : first ≤ p
   pub within : p + r.pages ≤ first + total_pages ss
-  pub frames : r.frame + r.pages ≤ 2 ^ 24
+  pub frames : r.frame + r.pages ≤ FRAMES_END
 
 pub rest_bounds : (ss : List Segment) (first p : ℕ) (r : Segment) → AreSegments ss → rest_at ss first p ≡ Some r → HasRest ss first p r
 rest_bounds [] first p r good e = absurd (none-some r (sym (rest-nil first p) ∙ e))
@@ -129,36 +131,36 @@ drop_ended (s ∷ ss) (suc i) le = drop_ended ss i (omega arith)
 
 -- ---- whether a large leaf begins
 
-large_flag : (p : ℕ) (o : Option Segment) (b : Bool) → fills_large o ≡ b → (eqb (p % 512) 0 && fills_large o) ≡ (eqb (p % 512) 0 && b)
-large_flag p o b e = ap (λ x. eqb (p % 512) 0 && x) e
+large_flag : (p : ℕ) (o : Option Segment) (b : Bool) → fills_large o ≡ b → (eqb (p % SPAN_PAGES) 0 && fills_large o) ≡ (eqb (p % SPAN_PAGES) 0 && b)
+large_flag p o b e = ap (λ x. eqb (p % SPAN_PAGES) 0 && x) e
 
 and_false : (b : Bool) → (b && false) ≡ false
 and_false true = refl
 and_false false = refl
 
 pub not_large : (ss : List Segment) (first p : ℕ) → rest_at ss first p ≡ None → is_large_at ss first p ≡ false
-not_large ss first p e = ap (λ o. eqb (p % 512) 0 && fills_large o) e ∙ and_false (eqb (p % 512) 0)
+not_large ss first p e = ap (λ o. eqb (p % SPAN_PAGES) 0 && fills_large o) e ∙ and_false (eqb (p % SPAN_PAGES) 0)
 
-pub small_rest : (ss : List Segment) (first p : ℕ) (r : Segment) → rest_at ss first p ≡ Some r → r.pages < 512 → is_large_at ss first p ≡ false
+pub small_rest : (ss : List Segment) (first p : ℕ) (r : Segment) → rest_at ss first p ≡ Some r → r.pages < TABLE_ENTRIES → is_large_at ss first p ≡ false
 small_rest ss first p r e lt =
     let no : fills_large (Some r) ≡ false = grind (arith, nat_tests) in
-    ap (λ o. eqb (p % 512) 0 && fills_large o) e ∙ ap (λ x. eqb (p % 512) 0 && x) no ∙ and_false (eqb (p % 512) 0)
+    ap (λ o. eqb (p % SPAN_PAGES) 0 && fills_large o) e ∙ ap (λ x. eqb (p % SPAN_PAGES) 0 && x) no ∙ and_false (eqb (p % SPAN_PAGES) 0)
 
 -- no large leaf begins in the span of a page where a segment ends in it
-pub inner_small : (ss : List Segment) (first p to : ℕ) (r : Segment) → rest_at ss first p ≡ Some r → to ≡ p + r.pages → 0 < to % 512 → p < to → p / 512 ≡ (to - 1) / 512
-    → is_large_at ss first (512 * (to / 512)) ≡ false
-inner_small ss first p to r e is inside some one = by_rest (rest_at ss first (512 * (to / 512))) refl
+pub inner_small : (ss : List Segment) (first p to : ℕ) (r : Segment) → rest_at ss first p ≡ Some r → to ≡ p + r.pages → 0 < to % SPAN_PAGES → p < to → p / SPAN_PAGES ≡ (to - 1) / SPAN_PAGES
+    → is_large_at ss first (SPAN_PAGES * (to / SPAN_PAGES)) ≡ false
+inner_small ss first p to r e is inside some one = by_rest (rest_at ss first (SPAN_PAGES * (to / SPAN_PAGES))) refl
   where
-    by_rest : (o : Option Segment) → rest_at ss first (512 * (to / 512)) ≡ o → is_large_at ss first (512 * (to / 512)) ≡ false
-    by_rest None h = not_large ss first (512 * (to / 512)) h
+    by_rest : (o : Option Segment) → rest_at ss first (SPAN_PAGES * (to / SPAN_PAGES)) ≡ o → is_large_at ss first (SPAN_PAGES * (to / SPAN_PAGES)) ≡ false
+    by_rest None h = not_large ss first (SPAN_PAGES * (to / SPAN_PAGES)) h
     by_rest (Some s) h =
-        ⊎_elim (λ (lt : s.pages < 512). small_rest ss first (512 * (to / 512)) s h lt)
-        (λ (le : 512 ≤ s.pages).
-        let k : ℕ = 512 * (to / 512) in
-        let low : 512 * (to / 512) ≤ p = omega arith in
-        let high : p < 512 * (to / 512) + s.pages = omega arith in
-        let same : record { frame = s.frame + (p - 512 * (to / 512)); pages = 512 * (to / 512) + s.pages - p } ≡ r =
-        same_Some _ r (sym (rest_onward ss first (512 * (to / 512)) p s h low high) ∙ e) in
-        let pages : 512 * (to / 512) + s.pages - p ≡ r.pages = ap (λ (x : Segment). x.pages) same in
+        ⊎_elim (λ (lt : s.pages < TABLE_ENTRIES). small_rest ss first (SPAN_PAGES * (to / SPAN_PAGES)) s h lt)
+        (λ (le : SPAN_PAGES ≤ s.pages).
+        let k : ℕ = SPAN_PAGES * (to / SPAN_PAGES) in
+        let low : SPAN_PAGES * (to / SPAN_PAGES) ≤ p = omega arith in
+        let high : p < TABLE_ENTRIES * (to / SPAN_PAGES) + s.pages = omega arith in
+        let same : record { frame = s.frame + (p - SPAN_PAGES * (to / SPAN_PAGES)); pages = SPAN_PAGES * (to / SPAN_PAGES) + s.pages - p } ≡ r =
+        same_Some _ r (sym (rest_onward ss first (SPAN_PAGES * (to / SPAN_PAGES)) p s h low high) ∙ e) in
+        let pages : SPAN_PAGES * (to / SPAN_PAGES) + s.pages - p ≡ r.pages = ap (λ (x : Segment). x.pages) same in
         absurd (omega arith))
-        (cases_lt s.pages 512)
+        (cases_lt s.pages SPAN_PAGES)

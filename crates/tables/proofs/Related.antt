@@ -1,6 +1,7 @@
 -- The relation of walks along words, and the function that tells what a tree states.
 use Rattle.std.proofs.Common.{◌≡◌, ℕ, zero, suc, ◌+◌, ◌%◌, inl, inr, Some, List, refl, ap, sym, ◌∙◌, subst, arith}
 use Rattle.std.proofs.lemmas.Option.{none-some, same_Some}
+use Rattle.dmatypes.specs.declared.page.TheConstants.{SPAN_PAGES}
 use Rattle.dmatypes.specs.World.{Target}
 use Rattle.vtdbits.specs.Entry.{look, Spells}
 use Rattle.vtdbits.specs.Translation.{target}
@@ -39,9 +40,9 @@ by_entry words l t p f r (Leaf x) is h below =
     inl (subst (λ y. Spells (suc l) (word words t (index_in l p)) (Leaf y)) same s)
 by_entry words l t p f r (LargeLeaf x) is h below =
     let s = large_leaf_looked (suc l) (word words t (index_in l p)) x is in
-    let same : target (x.frame + p % 512) x.rights ≡ target f r = same_Some (target (x.frame + p % 512) x.rights) (target f r) (sym (stated_large p l x (omega (arith, s.0))) ∙ h) in
+    let same : target (x.frame + p % SPAN_PAGES) x.rights ≡ target f r = same_Some (target (x.frame + p % SPAN_PAGES) x.rights) (target f r) (sym (stated_large p l x (omega (arith, s.0))) ∙ h) in
     let rights : x.rights ≡ r = ap (λ (y : Target). y.rights) same in
-    let frame : f ≡ x.frame + p % 512 = sym (ap (λ (y : Target). y.frame) same) in
+    let frame : f ≡ x.frame + p % SPAN_PAGES = sym (ap (λ (y : Target). y.frame) same) in
     inr (inl (x.frame, (subst (λ y. Spells (suc l) (word words t (index_in l p)) (LargeLeaf (target x.frame y))) rights s, frame)))
 
 pub walks_of_stated : (words : List ℕ) (l t p f r : ℕ) → states (memory words) l t p ≡ Some (target f r) → Walks (word words) l t p f r

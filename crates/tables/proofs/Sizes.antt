@@ -3,6 +3,8 @@ use Rattle.std.proofs.Common.{◌≡◌, ℕ, zero, suc, ◌+◌, ◌-◌, ◌*�
 use Rattle.std.proofs.lemmas.Bool.{cases_lt}
 use Rattle.std.proofs.lemmas.Bool.Decides.{nat_tests}
 use Rattle.std.proofs.lemmas.Option.{none-some, same_Some}
+use Rattle.dmatypes.specs.declared.page.TheConstants.{SPAN_PAGES}
+use Rattle.tables.specs.declared.entries.TheConstants.{TABLE_ENTRIES}
 use Rattle.vtdbits.specs.Entry.{look}
 use Rattle.vtdbits.proofs.Entries.{leaf_looked, large_leaf_looked}
 use Rattle.vtdbits.specs.declared.entry.SsEntry.{SsEntry}
@@ -60,16 +62,16 @@ same_large words l t p q near = by_both (is_large_leaf (leaf_from (memory words)
     by_both false false x y = refl
 
 -- a leaf behind pages that were unmapped up to an edge is as it was
-pub leaf_ahead : (old cur : Pool) (level root from place : ℕ) (cut : List ℕ) → Unmaps old cur level root from place cut → ((place % 512 ≡ 0) ⊎ (place ≡ from)) → place / span level ≡ from / span level
+pub leaf_ahead : (old cur : Pool) (level root from place : ℕ) (cut : List ℕ) → Unmaps old cur level root from place cut → ((place % SPAN_PAGES ≡ 0) ⊎ (place ≡ from)) → place / span level ≡ from / span level
     → IsSome (leaf_from (memory old.words) level root place) → leaf_from (memory cur.words) level root place ≡ leaf_from (memory old.words) level root place
 leaf_ahead old cur level root from place cut un edge wide there = by_leaf (leaf_from (memory old.words) level root place) refl there
   where
     far : (x : Found) → x.size < 2 → (q : ℕ) → from ≤ q → q < place → place / span x.size ≡ q / span x.size → ⊥
     far x size q low high e =
         ⊎_elim
-        (λ (even : place % 512 ≡ 0).
+        (λ (even : place % SPAN_PAGES ≡ 0).
         let wider : place / span 1 ≡ q / span 1 = near_at x.size 1 place q (omega arith) e in
-        let near : place / 512 ≡ q / 512 = sym (div_span_one place) ∙ wider ∙ div_span_one q in
+        let near : place / SPAN_PAGES ≡ q / SPAN_PAGES = sym (div_span_one place) ∙ wider ∙ div_span_one q in
         omega arith)
         (λ (here : place ≡ from). omega arith)
         edge
@@ -79,26 +81,26 @@ leaf_ahead old cur level root from place cut un edge wide there = by_leaf (leaf_
     by_leaf (Some x) e h = un.leaves place x wide e (far x (leaf_size old.words level root place x e))
 
 -- what a piece splits is what its span splits of the whole
-pub piece_is : (old cur : Pool) (level root from to place next : ℕ) → from ≤ place → place < next → next ≤ to → place / 512 ≡ (next - 1) / 512 → ((place % 512 ≡ 0) ⊎ (place ≡ from))
-    → ((next % 512 ≡ 0) ⊎ (next ≡ to)) → leaf_from (memory cur.words) level root place ≡ leaf_from (memory old.words) level root place
-    → piece_splits (memory cur.words) level root place next ≡ splitting (memory old.words) level root from to (place / 512 * 512)
+pub piece_is : (old cur : Pool) (level root from to place next : ℕ) → from ≤ place → place < next → next ≤ to → place / SPAN_PAGES ≡ (next - 1) / SPAN_PAGES → ((place % SPAN_PAGES ≡ 0) ⊎ (place ≡ from))
+    → ((next % SPAN_PAGES ≡ 0) ⊎ (next ≡ to)) → leaf_from (memory cur.words) level root place ≡ leaf_from (memory old.words) level root place
+    → piece_splits (memory cur.words) level root place next ≡ splitting (memory old.words) level root from to (place / SPAN_PAGES * SPAN_PAGES)
 piece_is old cur level root from to place next low some high one edge end same =
     ⊎_elim
-    (λ (part : next - place < 512).
+    (λ (part : next - place < TABLE_ENTRIES).
     splits_part (memory cur.words) level root place next part
     ∙ ap (λ o. cond (is_large_leaf o) 1 0) same
-    ∙ ap (λ (b : Bool). cond b 1 0) (same_large old.words level root place (place / 512 * 512) (div_span_one place ∙ (let e : place / 512 ≡ place / 512 * 512 / 512 = omega arith in e) ∙ sym (div_span_one (place / 512 * 512))))
-    ∙ sym (splitting_else (memory old.words) level root from to (place / 512 * 512) (opened from to place next low some high one part edge end)))
-    (λ (whole : 512 ≤ next - place).
-    splits_whole (memory cur.words) level root place next whole ∙ sym (splitting_covered (memory old.words) level root from to (place / 512 * 512) (omega arith) (omega arith)))
-    (cases_lt (next - place) 512)
+    ∙ ap (λ (b : Bool). cond b 1 0) (same_large old.words level root place (place / SPAN_PAGES * SPAN_PAGES) (div_span_one place ∙ (let e : place / SPAN_PAGES ≡ place / SPAN_PAGES * SPAN_PAGES / SPAN_PAGES = omega arith in e) ∙ sym (div_span_one (place / SPAN_PAGES * SPAN_PAGES))))
+    ∙ sym (splitting_else (memory old.words) level root from to (place / SPAN_PAGES * SPAN_PAGES) (opened from to place next low some high one part edge end)))
+    (λ (whole : SPAN_PAGES ≤ next - place).
+    splits_whole (memory cur.words) level root place next whole ∙ sym (splitting_covered (memory old.words) level root from to (place / SPAN_PAGES * SPAN_PAGES) (omega arith) (omega arith)))
+    (cases_lt (next - place) SPAN_PAGES)
   where
-    opened : (from to place next : ℕ) → from ≤ place → place < next → next ≤ to → place / 512 ≡ (next - 1) / 512 → next - place < 512 → ((place % 512 ≡ 0) ⊎ (place ≡ from)) → ((next % 512 ≡ 0) ⊎ (next ≡ to))
-        → (place / 512 * 512 < from) ⊎ (to < place / 512 * 512 + 512)
+    opened : (from to place next : ℕ) → from ≤ place → place < next → next ≤ to → place / SPAN_PAGES ≡ (next - 1) / SPAN_PAGES → next - place < TABLE_ENTRIES → ((place % SPAN_PAGES ≡ 0) ⊎ (place ≡ from)) → ((next % SPAN_PAGES ≡ 0) ⊎ (next ≡ to))
+        → (place / SPAN_PAGES * SPAN_PAGES < from) ⊎ (to < place / SPAN_PAGES * SPAN_PAGES + SPAN_PAGES)
     opened from to place next low some high one part (inl even) (inl stop) = absurd (omega arith)
     opened from to place next low some high one part (inl even) (inr stop) = inr (omega arith)
-    opened from to place next low some high one part (inr here) end = ⊎_elim (λ (h : place / 512 * 512 < from). inl h) (λ (h : from ≤ place / 512 * 512). by_end end (omega arith)) (cases_lt (place / 512 * 512) from)
+    opened from to place next low some high one part (inr here) end = ⊎_elim (λ (h : place / SPAN_PAGES * SPAN_PAGES < from). inl h) (λ (h : from ≤ place / SPAN_PAGES * SPAN_PAGES). by_end end (omega arith)) (cases_lt (place / SPAN_PAGES * SPAN_PAGES) from)
       where
-        by_end : ((next % 512 ≡ 0) ⊎ (next ≡ to)) → place % 512 ≡ 0 → (place / 512 * 512 < from) ⊎ (to < place / 512 * 512 + 512)
+        by_end : ((next % SPAN_PAGES ≡ 0) ⊎ (next ≡ to)) → place % SPAN_PAGES ≡ 0 → (place / SPAN_PAGES * SPAN_PAGES < from) ⊎ (to < place / SPAN_PAGES * SPAN_PAGES + SPAN_PAGES)
         by_end (inl stop) even = absurd (omega arith)
         by_end (inr stop) even = inr (omega arith)

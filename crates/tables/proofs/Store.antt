@@ -4,6 +4,7 @@ use Rattle.std.proofs.lemmas.List.Sums.{sum_by_more, sum_by_push, sum_by-cons}
 use Rattle.std.proofs.lemmas.List.{take_more_set, get_or-replicate}
 use Rattle.std.proofs.lemmas.Bool.{cases_lt}
 use Rattle.std.proofs.lemmas.Bool.Decides.{eqb_tells}
+use Rattle.tables.specs.declared.entries.TheConstants.{TABLE_ENTRIES}
 use Rattle.tables.specs.Tree.{total, here}
 use Rattle.tables.specs.Pool.{Pool, word, occurs, IsZeroed, IsPool, IsWrite}
 use Rattle.tables.proofs.Total.{total_same, total_change, total-zeros}
@@ -67,20 +68,20 @@ shorter xs n g once within g_in none =
     omega (arith, total_le (λ f. occurs f xs + here g f) n (λ f. at_most xs g f (once f) none), total_plus (λ f. occurs f xs) (here g) n, total_here g n g_in, length_total xs n within)
 
 -- two places of the words are one only at one table and index
-pub one_place : (t i f k : ℕ) → i < 512 → k < 512 → f * 512 + k ≡ t * 512 + i → (f ≡ t) × (k ≡ i)
+pub one_place : (t i f k : ℕ) → i < TABLE_ENTRIES → k < TABLE_ENTRIES → f * TABLE_ENTRIES + k ≡ t * TABLE_ENTRIES + i → (f ≡ t) × (k ≡ i)
 one_place t i f k a b e = (omega arith, omega arith)
 
-pub wrote : (words : List ℕ) (frames t i w : ℕ) → length words ≡ frames * 512 → t < frames → i < 512 → IsWrite words (set words (t * 512 + i) w) t i w
+pub wrote : (words : List ℕ) (frames t i w : ℕ) → length words ≡ frames * TABLE_ENTRIES → t < frames → i < TABLE_ENTRIES → IsWrite words (set words (t * TABLE_ENTRIES + i) w) t i w
 unfolding word
 wrote words frames t i w fit t_in i_in =
-    let inside : t * 512 + i < length words = omega arith in (
-      get_or-set_same words (t * 512 + i) w 0 inside,
-      λ f k k_in other. get_or-set_other words (t * 512 + i) (f * 512 + k) w 0 (λ e. let one : (f ≡ t) × (k ≡ i) = one_place t i f k i_in k_in e in other one.0 one.1),
+    let inside : t * TABLE_ENTRIES + i < length words = omega arith in (
+      get_or-set_same words (t * TABLE_ENTRIES + i) w 0 inside,
+      λ f k k_in other. get_or-set_other words (t * TABLE_ENTRIES + i) (f * TABLE_ENTRIES + k) w 0 (λ e. let one : (f ≡ t) × (k ≡ i) = one_place t i f k i_in k_in e in other one.0 one.1),
     )
 
-pub write_keeps : (pool : Pool) (t i w : ℕ) → IsPool pool → t < pool.frames → i < 512 → occurs t pool.free ≡ 0 → IsPool (record pool { words = set pool.words (t * 512 + i) w })
+pub write_keeps : (pool : Pool) (t i w : ℕ) → IsPool pool → t < pool.frames → i < TABLE_ENTRIES → occurs t pool.free ≡ 0 → IsPool (record pool { words = set pool.words (t * TABLE_ENTRIES + i) w })
 write_keeps pool t i w ok t_in i_in taken = record {
-  fit = length-set pool.words (t * 512 + i) w ∙ ok.fit;
+  fit = length-set pool.words (t * TABLE_ENTRIES + i) w ∙ ok.fit;
   few = ok.few;
   once = ok.once;
   within = ok.within;
@@ -121,8 +122,8 @@ counted_past xs n past f l = omega (arith, sum_by_push (λ y. here y f) xs n, pa
 pub counted_once : (xs : List ℕ) (n : ℕ) → ((f : ℕ) → f < n → occurs f xs ≡ 1) → ((f : ℕ) → n ≤ f → occurs f xs ≡ 0) → (f : ℕ) → occurs f xs ≤ 1
 counted_once xs n below past f = ⊎_elim (λ l. omega (arith, below f l)) (λ g. omega (arith, past f g)) (cases_lt f n)
 
-pub zero_words : (words : List ℕ) (frames : ℕ) → words ≡ replicate (frames * 512) 0 → (f k : ℕ) → f < frames → k < 512 → word words f k ≡ 0
+pub zero_words : (words : List ℕ) (frames : ℕ) → words ≡ replicate (frames * TABLE_ENTRIES) 0 → (f k : ℕ) → f < frames → k < TABLE_ENTRIES → word words f k ≡ 0
 unfolding word
 zero_words words frames e f k f_in k_in =
-    let inside : f * 512 + k < frames * 512 = omega arith in
-    ap (λ w. get_or w (f * 512 + k) 0) e ∙ get_or-replicate (frames * 512) (f * 512 + k) 0 0 inside
+    let inside : f * TABLE_ENTRIES + k < frames * TABLE_ENTRIES = omega arith in
+    ap (λ w. get_or w (f * TABLE_ENTRIES + k) 0) e ∙ get_or-replicate (frames * TABLE_ENTRIES) (f * TABLE_ENTRIES + k) 0 0 inside

@@ -5,6 +5,8 @@ use Rattle.std.proofs.lemmas.Nat.{le-div, div-mul-add, div-add-mod'}
 use Rattle.std.proofs.lemmas.Bool.{cases_lt}
 use Rattle.std.proofs.Common.{nat_le}
 use Rattle.std.proofs.lemmas.Bool.Decides.{nat_tests}
+use Rattle.dmatypes.specs.declared.page.TheConstants.{SPAN_PAGES}
+use Rattle.tables.specs.declared.entries.TheConstants.{TABLE_ENTRIES}
 use Rattle.tables.specs.Tree.{Memory, span, total, leaf_from, is_large_leaf}
 use Rattle.std.proofs.Common.{List}
 use Rattle.dmatypes.specs.declared.call.Segment.{Segment}
@@ -172,17 +174,17 @@ pub level_at : (pool : Pool) (level root : ℕ) (segments : List Segment) (first
 unfolding level_lacking lacking_at
 level_at pool level root segments first end v w n e is = is ∙ ap (λ (x : ℕ). sum_spans (λ p. lacking (memory pool.words) level root (is_large_at segments first p) x p) x first end) (sym e)
 
-pub splitting_covered : (m : Memory) (level t from to p : ℕ) → from ≤ p → p + 512 ≤ to → splitting m level t from to p ≡ 0
+pub splitting_covered : (m : Memory) (level t from to p : ℕ) → from ≤ p → p + SPAN_PAGES ≤ to → splitting m level t from to p ≡ 0
 unfolding splitting
 splitting_covered m level t from to p low high =
-    let yes : (nat_le from p && nat_le (p + 512) to) ≡ true = grind (arith, nat_tests) in
+    let yes : (nat_le from p && nat_le (p + SPAN_PAGES) to) ≡ true = grind (arith, nat_tests) in
     ap (λ b. cond b 0 (cond (is_large_leaf (leaf_from m level t p)) 1 0)) yes
 
-pub splitting_else : (m : Memory) (level t from to p : ℕ) → ((p < from) ⊎ (to < p + 512)) → splitting m level t from to p ≡ cond (is_large_leaf (leaf_from m level t p)) 1 0
+pub splitting_else : (m : Memory) (level t from to p : ℕ) → ((p < from) ⊎ (to < p + SPAN_PAGES)) → splitting m level t from to p ≡ cond (is_large_leaf (leaf_from m level t p)) 1 0
 unfolding splitting
 splitting_else m level t from to p out = ap (λ b. cond b 0 (cond (is_large_leaf (leaf_from m level t p)) 1 0)) (no out)
   where
-    no : ((p < from) ⊎ (to < p + 512)) → (nat_le from p && nat_le (p + 512) to) ≡ false
+    no : ((p < from) ⊎ (to < p + SPAN_PAGES)) → (nat_le from p && nat_le (p + SPAN_PAGES) to) ≡ false
     no (inl h) = grind (arith, nat_tests)
     no (inr h) = grind (arith, nat_tests)
 
@@ -190,66 +192,66 @@ splitting_else m level t from to p out = ap (λ b. cond b 0 (cond (is_large_leaf
 
 -- as pieces end at edges of spans, those of the spans that have begun
 pub split_so_far : Pool → ℕ → ℕ → ℕ → ℕ → ℕ → ℕ
-split_so_far pool level root from to place = cond (eqb place from) 0 (so_far (splitting_at pool level root from to) 512 from ((place - 1) / 512 + 1))
+split_so_far pool level root from to place = cond (eqb place from) 0 (so_far (splitting_at pool level root from to) SPAN_PAGES from ((place - 1) / SPAN_PAGES + 1))
 
 pub split_so_far-start : (pool : Pool) (level root from to : ℕ) → split_so_far pool level root from to from ≡ 0
 unfolding split_so_far
 split_so_far-start pool level root from to =
     let yes : eqb from from ≡ true = grind (arith, nat_tests) in
-    ap (λ b. cond b 0 (so_far (splitting_at pool level root from to) 512 from ((from - 1) / 512 + 1))) yes
+    ap (λ b. cond b 0 (so_far (splitting_at pool level root from to) SPAN_PAGES from ((from - 1) / SPAN_PAGES + 1))) yes
 
-split_later : (pool : Pool) (level root from to place : ℕ) → from < place → split_so_far pool level root from to place ≡ so_far (splitting_at pool level root from to) 512 from ((place - 1) / 512 + 1)
+split_later : (pool : Pool) (level root from to place : ℕ) → from < place → split_so_far pool level root from to place ≡ so_far (splitting_at pool level root from to) SPAN_PAGES from ((place - 1) / SPAN_PAGES + 1)
 unfolding split_so_far
 split_later pool level root from to place lt =
     let no : eqb place from ≡ false = grind (arith, nat_tests) in
-    ap (λ b. cond b 0 (so_far (splitting_at pool level root from to) 512 from ((place - 1) / 512 + 1))) no
+    ap (λ b. cond b 0 (so_far (splitting_at pool level root from to) SPAN_PAGES from ((place - 1) / SPAN_PAGES + 1))) no
 
-pub split_so_far-step : (pool : Pool) (level root from to place next : ℕ) → from ≤ place → place < next → place / 512 ≡ (next - 1) / 512 → ((place % 512 ≡ 0) ⊎ (place ≡ from))
-    → split_so_far pool level root from to next ≡ split_so_far pool level root from to place + splitting (memory pool.words) level root from to (place / 512 * 512)
+pub split_so_far-step : (pool : Pool) (level root from to place next : ℕ) → from ≤ place → place < next → place / SPAN_PAGES ≡ (next - 1) / SPAN_PAGES → ((place % SPAN_PAGES ≡ 0) ⊎ (place ≡ from))
+    → split_so_far pool level root from to next ≡ split_so_far pool level root from to place + splitting (memory pool.words) level root from to (place / SPAN_PAGES * SPAN_PAGES)
 unfolding splitting_at
 split_so_far-step pool level root from to place next low some one edge =
     let g : ℕ → ℕ = splitting_at pool level root from to in
-    let after : split_so_far pool level root from to next ≡ so_far g 512 from (place / 512 + 1) =
-    split_later pool level root from to next (omega arith) ∙ ap (λ (k : ℕ). so_far g 512 from (k + 1)) (sym one) in
-    let more : so_far g 512 from (place / 512 + 1) ≡ so_far g 512 from (place / 512) + g (place / 512 * 512) = so_far-more g 512 from (place / 512) (div_mono from place 512 (omega arith) low) in
-    let before : split_so_far pool level root from to place ≡ so_far g 512 from (place / 512) =
+    let after : split_so_far pool level root from to next ≡ so_far g SPAN_PAGES from (place / SPAN_PAGES + 1) =
+    split_later pool level root from to next (omega arith) ∙ ap (λ (k : ℕ). so_far g SPAN_PAGES from (k + 1)) (sym one) in
+    let more : so_far g SPAN_PAGES from (place / SPAN_PAGES + 1) ≡ so_far g SPAN_PAGES from (place / SPAN_PAGES) + g (place / SPAN_PAGES * SPAN_PAGES) = so_far-more g SPAN_PAGES from (place / SPAN_PAGES) (div_mono from place SPAN_PAGES (omega arith) low) in
+    let before : split_so_far pool level root from to place ≡ so_far g SPAN_PAGES from (place / SPAN_PAGES) =
     ⊎_elim
     (λ (here : place ≡ from).
-    ap (split_so_far pool level root from to) here ∙ split_so_far-start pool level root from to ∙ sym (so_far-start g 512 from) ∙ ap (λ (k : ℕ). so_far g 512 from (k / 512)) (sym here))
+    ap (split_so_far pool level root from to) here ∙ split_so_far-start pool level root from to ∙ sym (so_far-start g SPAN_PAGES from) ∙ ap (λ (k : ℕ). so_far g SPAN_PAGES from (k / SPAN_PAGES)) (sym here))
     (λ (ne : place ≢ from).
-    let even : place % 512 ≡ 0 = only_even place from edge ne in
-    split_later pool level root from to place (omega arith) ∙ ap (so_far g 512 from) (let e : (place - 1) / 512 + 1 ≡ place / 512 = omega arith in e))
+    let even : place % SPAN_PAGES ≡ 0 = only_even place from edge ne in
+    split_later pool level root from to place (omega arith) ∙ ap (so_far g SPAN_PAGES from) (let e : (place - 1) / SPAN_PAGES + 1 ≡ place / SPAN_PAGES = omega arith in e))
     (same_or_not place from) in
     omega arith
   where
-    only_even : (place from : ℕ) → ((place % 512 ≡ 0) ⊎ (place ≡ from)) → place ≢ from → place % 512 ≡ 0
+    only_even : (place from : ℕ) → ((place % SPAN_PAGES ≡ 0) ⊎ (place ≡ from)) → place ≢ from → place % SPAN_PAGES ≡ 0
     only_even place from (inl h) ne = h
     only_even place from (inr h) ne = absurd (ne h)
 
 pub split_so_far-end : (pool : Pool) (level root from to : ℕ) → from < to → split_so_far pool level root from to to ≡ splits (memory pool.words) level root from to
 unfolding splits splitting_at
 split_so_far-end pool level root from to some =
-    split_later pool level root from to to some ∙ so_far-end (splitting_at pool level root from to) 1 512 from to ((to - 1) / 512 + 1) (sym span-one) refl
+    split_later pool level root from to to some ∙ so_far-end (splitting_at pool level root from to) 1 SPAN_PAGES from to ((to - 1) / SPAN_PAGES + 1) (sym span-one) refl
 
 pub split_so_far-most : (pool : Pool) (level root from to next : ℕ) → from < next → next ≤ to → split_so_far pool level root from to next ≤ splits (memory pool.words) level root from to
 unfolding so_far
 split_so_far-most pool level root from to next some le =
-    let g : ℕ → ℕ = λ k. splitting_at pool level root from to ((from / 512 + k) * 512) in
-    let more : total g ((next - 1) / 512 + 1 - from / 512) ≤ total g ((to - 1) / 512 + 1 - from / 512) = total_le_more g ((next - 1) / 512 + 1 - from / 512) ((to - 1) / 512 + 1 - from / 512) (omega (arith, div_mono (next - 1) (to - 1) 512 (omega arith) (omega arith))) in
+    let g : ℕ → ℕ = λ k. splitting_at pool level root from to ((from / SPAN_PAGES + k) * SPAN_PAGES) in
+    let more : total g ((next - 1) / SPAN_PAGES + 1 - from / SPAN_PAGES) ≤ total g ((to - 1) / SPAN_PAGES + 1 - from / SPAN_PAGES) = total_le_more g ((next - 1) / SPAN_PAGES + 1 - from / SPAN_PAGES) ((to - 1) / SPAN_PAGES + 1 - from / SPAN_PAGES) (omega (arith, div_mono (next - 1) (to - 1) TABLE_ENTRIES (omega arith) (omega arith))) in
     omega (arith, split_later pool level root from to next some, split_later pool level root from to to (omega arith), split_so_far-end pool level root from to (omega arith), more)
 
 -- where no leaf is split, none of a page's span is
-pub none_split : (m : Memory) (level t from to p : ℕ) → from ≤ p → p < to → splits m level t from to ≡ 0 → splitting m level t from to (p / 512 * 512) ≡ 0
+pub none_split : (m : Memory) (level t from to p : ℕ) → from ≤ p → p < to → splits m level t from to ≡ 0 → splitting m level t from to (p / SPAN_PAGES * SPAN_PAGES) ≡ 0
 unfolding splits
 none_split m level t from to p low high none =
     let g : ℕ → ℕ = splitting m level t from to in
-    let k : ℕ = p / 512 - from / 512 in
-    let first : from / 512 ≤ p / 512 = div_mono from p 512 (omega arith) low in
-    let last : p / 512 ≤ (to - 1) / 512 = div_mono p (to - 1) 512 (omega arith) (omega arith) in
-    let sum : total (λ j. g ((from / 512 + j) * 512)) ((to - 1) / 512 + 1 - from / 512) ≡ 0 =
+    let k : ℕ = p / SPAN_PAGES - from / SPAN_PAGES in
+    let first : from / SPAN_PAGES ≤ p / SPAN_PAGES = div_mono from p SPAN_PAGES (omega arith) low in
+    let last : p / SPAN_PAGES ≤ (to - 1) / SPAN_PAGES = div_mono p (to - 1) SPAN_PAGES (omega arith) (omega arith) in
+    let sum : total (λ j. g ((from / SPAN_PAGES + j) * SPAN_PAGES)) ((to - 1) / SPAN_PAGES + 1 - from / SPAN_PAGES) ≡ 0 =
     ap (λ (n : ℕ). total (λ j. g ((from / n + j) * n)) ((to - 1) / n + 1 - from / n)) (sym span-one) ∙ sym (sum_spans-is g 1 from to) ∙ none in
-    let part = total_part (λ j. g ((from / 512 + j) * 512)) ((to - 1) / 512 + 1 - from / 512) (p / 512 - from / 512) (omega arith) in
-    let here : g ((from / 512 + (p / 512 - from / 512)) * 512) ≡ g (p / 512 * 512) = ap (λ (j : ℕ). g (j * 512)) (omega arith) in
+    let part = total_part (λ j. g ((from / SPAN_PAGES + j) * SPAN_PAGES)) ((to - 1) / SPAN_PAGES + 1 - from / SPAN_PAGES) (p / SPAN_PAGES - from / SPAN_PAGES) (omega arith) in
+    let here : g ((from / SPAN_PAGES + (p / SPAN_PAGES - from / SPAN_PAGES)) * SPAN_PAGES) ≡ g (p / SPAN_PAGES * SPAN_PAGES) = ap (λ (j : ℕ). g (j * SPAN_PAGES)) (omega arith) in
     omega arith
 
 -- values of at most 1 sum to no more than their number
@@ -279,11 +281,11 @@ splitting_few : (m : Memory) (level root from to p : ℕ) → splitting m level 
 unfolding splitting
 splitting_few m level root from to p = cond_one _ _
 
-pub splits_few : (m : Memory) (level root from to : ℕ) → splits m level root from to ≤ (to - 1) / 512 + 1 - from / 512
+pub splits_few : (m : Memory) (level root from to : ℕ) → splits m level root from to ≤ (to - 1) / SPAN_PAGES + 1 - from / SPAN_PAGES
 unfolding splits
 splits_few m level root from to =
     let few = sum_few (splitting m level root from to) 1 from to (splitting_few m level root from to) in
-    let same : (to - 1) / span 1 + 1 - from / span 1 ≡ (to - 1) / 512 + 1 - from / 512 = ap (λ (n : ℕ). (to - 1) / n + 1 - from / n) span-one in
+    let same : (to - 1) / span 1 + 1 - from / span 1 ≡ (to - 1) / SPAN_PAGES + 1 - from / SPAN_PAGES = ap (λ (n : ℕ). (to - 1) / n + 1 - from / n) span-one in
     omega arith
 
 -- the tables of one level that a map lacks

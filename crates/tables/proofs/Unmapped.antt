@@ -1,6 +1,8 @@
 -- Unmaps one level up, and one after the other.
 use Rattle.std.proofs.Common.{◌≡◌, ℕ, suc, ◌+◌, ◌-◌, ◌*◌, ◌/◌, ◌%◌, ◌<◌, ◌≤◌, ◌⊎◌, inl, inr, ⊎_elim, Some, List, [], ◌++◌, refl, sym, ap, subst, ◌∙◌, arith}
 use Rattle.std.proofs.lemmas.Bool.{cases_lt}
+use Rattle.dmatypes.specs.declared.page.TheConstants.{SPAN_PAGES}
+use Rattle.tables.specs.declared.entries.TheConstants.{TABLE_ENTRIES}
 use Rattle.vtdbits.specs.declared.entry.SsEntry.TheVariants.{Table}
 use Rattle.tables.specs.Under.{Under}
 use Rattle.tables.specs.Tree.{Memory, span, index_in, leaf_from, table_from, stated}
@@ -14,7 +16,7 @@ use Rattle.tables.proofs.Steps.{leaf_under, table_under, table_top, same_or_not,
 use Rattle.tables.proofs.Near.{near_at}
 
 -- an unmap under an entry is one of the table
-pub unmaps_up : (old new : Pool) (l t i c from to : ℕ) (cut : List ℕ) → IsTree old (suc l) t → i < 512 → i ≡ index_in l from → 1 ≤ l
+pub unmaps_up : (old new : Pool) (l t i c from to : ℕ) (cut : List ℕ) → IsTree old (suc l) t → i < TABLE_ENTRIES → i ≡ index_in l from → 1 ≤ l
     → memory old.words (suc l) t i ≡ Table c → ((p : ℕ) → from ≤ p → p < to → p / span l ≡ from / span l)
     → ((p : ℕ) → IsCovered from to p → p / span (suc l) ≡ from / span (suc l) → index_in l p ≡ i)
     → TakesAndGivesFrames old new l c cut → (1 < l ⊎ (cut ≡ [])) → Unmaps old new l c from to cut → Unmaps old new (suc l) t from to cut
@@ -85,18 +87,18 @@ before from mid to p lo hi (inl h) = (inl h, inl (omega arith))
 before from mid to p lo hi (inr h) = (inr (omega arith), inr h)
 
 -- a span of 512 lies before a page at its edge, or behind it
-split_cover : (from mid to p : ℕ) → mid % 512 ≡ 0 ⊎ (mid ≡ from) → IsCovered from to p → IsCovered from mid p ⊎ IsCovered mid to p
+split_cover : (from mid to p : ℕ) → mid % SPAN_PAGES ≡ 0 ⊎ (mid ≡ from) → IsCovered from to p → IsCovered from mid p ⊎ IsCovered mid to p
 split_cover from mid to p edge all =
     ⊎_elim
-    (λ (even : mid % 512 ≡ 0). ⊎_elim
-    (λ (low : 512 * (p / 512) < mid). inl (all.0, omega arith))
-    (λ (high : mid ≤ 512 * (p / 512)). inr (high, all.1))
-    (cases_lt (512 * (p / 512)) mid))
+    (λ (even : mid % SPAN_PAGES ≡ 0). ⊎_elim
+    (λ (low : SPAN_PAGES * (p / SPAN_PAGES) < mid). inl (all.0, omega arith))
+    (λ (high : mid ≤ SPAN_PAGES * (p / SPAN_PAGES)). inr (high, all.1))
+    (cases_lt (SPAN_PAGES * (p / SPAN_PAGES)) mid))
     (λ (start : mid ≡ from). inr (omega (arith, all.0), all.1))
     edge
 
 -- two unmaps one after the other, of pages one after the other
-pub unmaps_then : (a b c : Pool) (level t from mid to : ℕ) (cut more : List ℕ) → from ≤ mid → mid < to → (mid % 512 ≡ 0 ⊎ (mid ≡ from)) → IsTree a level t
+pub unmaps_then : (a b c : Pool) (level t from mid to : ℕ) (cut more : List ℕ) → from ≤ mid → mid < to → (mid % SPAN_PAGES ≡ 0 ⊎ (mid ≡ from)) → IsTree a level t
     → ((p : ℕ) → from ≤ p → p < to → p / span level ≡ from / span level)
     → TakesAndGivesFrames a b level t cut → TakesAndGivesFrames b c level t more → Unmaps a b level t from mid cut → Unmaps b c level t mid to more → Unmaps a c level t from to (cut ++ more)
 unmaps_then a b c level t from mid to cut more lo hi edge tree one moves moves' x y =
@@ -154,17 +156,17 @@ unmaps_then a b c level t from mid to cut more lo hi edge tree one moves moves' 
   where
     apart_spans : (from mid to p q : ℕ) → IsCovered mid to p → from ≤ q → q < mid → p / span 1 ≡ q / span 1 → ⊥
     apart_spans from mid to p q all low high e =
-        let same : p / 512 ≡ q / 512 = sym (div_span_one p) ∙ e ∙ div_span_one q in omega (arith, all.0)
+        let same : p / SPAN_PAGES ≡ q / SPAN_PAGES = sym (div_span_one p) ∙ e ∙ div_span_one q in omega (arith, all.0)
 
 -- an unmap of a piece through the table under an entry, at a level one above
-pub unmap_through : (old new : Pool) (level l t i c from to : ℕ) (cut : List ℕ) → level ≡ suc l → 1 < l → from < to → from / 512 ≡ (to - 1) / 512
-    → IsTree old level t → i < 512 → i ≡ index_in l from → memory old.words level t i ≡ Table c
+pub unmap_through : (old new : Pool) (level l t i c from to : ℕ) (cut : List ℕ) → level ≡ suc l → 1 < l → from < to → from / SPAN_PAGES ≡ (to - 1) / SPAN_PAGES
+    → IsTree old level t → i < TABLE_ENTRIES → i ≡ index_in l from → memory old.words level t i ≡ Table c
     → TakesAndGivesFrames old new l c cut → Unmaps old new l c from to cut → TakesAndGivesFrames old new level t cut × Unmaps old new level t from to cut
 unmap_through old new level l t i c from to cut up deep some one =
-    subst (λ n. IsTree old n t → i < 512 → i ≡ index_in l from → memory old.words n t i ≡ Table c
+    subst (λ n. IsTree old n t → i < TABLE_ENTRIES → i ≡ index_in l from → memory old.words n t i ≡ Table c
     → TakesAndGivesFrames old new l c cut → Unmaps old new l c from to cut → TakesAndGivesFrames old new n t cut × Unmaps old new n t from to cut) (sym up)
     (λ tree a is names moves un.
-    let near : (p : ℕ) → p / 512 ≡ from / 512 → p / span l ≡ from / span l = λ p e. near_at 1 l p from (omega arith) (div_span_one p ∙ e ∙ sym (div_span_one from)) in (
+    let near : (p : ℕ) → p / SPAN_PAGES ≡ from / SPAN_PAGES → p / span l ≡ from / span l = λ p e. near_at 1 l p from (omega arith) (div_span_one p ∙ e ∙ sym (div_span_one from)) in (
       under_moves old new l t i cut tree a (below_under old new l t i c cut tree a names moves).0,
       unmaps_up old new l t i c from to cut tree a is (omega arith) names (λ p low high. near p (omega (arith, low, high)))
           (λ p all wide. same_index l p from (near p (omega (arith, all.0, all.1))) ∙ sym is) moves (inl deep) un,

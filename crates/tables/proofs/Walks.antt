@@ -3,6 +3,7 @@ use Rattle.std.proofs.Common.{◌≡◌, ℕ, zero, suc, ◌/◌, ◌<◌, ◌�
 use Rattle.std.proofs.lemmas.Bool.Decides.{nat_tests}
 use Rattle.std.proofs.lemmas.Option.{none-some, same_Some}
 use Rattle.std.proofs.lemmas.Bool.{eqb-true}
+use Rattle.tables.specs.declared.entries.TheConstants.{TABLE_ENTRIES}
 use Rattle.vtdbits.specs.declared.entry.SsEntry.{SsEntry}
 use Rattle.vtdbits.specs.declared.entry.SsEntry.TheVariants.{Absent, Table, Leaf, LargeLeaf}
 use Rattle.tables.specs.Tree.{Memory, span, index_in, leaf_of, table_of, leaf_from, table_from}
@@ -68,9 +69,9 @@ table_on m (suc l) t p w v c lt h = table_here m l t p w v c (nat_eq w (suc l)) 
 
 -- the frame has no entry at any level
 abbrev pub IsBare : Memory → ℕ → Type 0
-IsBare m f = (l k : ℕ) → k < 512 → m l f k ≡ Absent
+IsBare m f = (l k : ℕ) → k < TABLE_ENTRIES → m l f k ≡ Absent
 
-pub index_lt : (l p : ℕ) → index_in l p < 512
+pub index_lt : (l p : ℕ) → index_in l p < TABLE_ENTRIES
 index_lt l p = mod-lt (p / span l) (omega arith)
 
 -- nothing is met from a bare table

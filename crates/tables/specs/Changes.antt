@@ -1,6 +1,8 @@
 -- What a call on one tree changes in its pool. Pages go from a first one up to a last one that is no more
 -- among them. A table is told by its place: its level, and a page on whose way it lies.
 use Rattle.std.specs.Prelude.{◌≡◌, ℕ, ◌+◌, ◌*◌, ◌/◌, ◌<◌, ◌≤◌, ◌⊎◌, Bool, true, false, List, Option, Some, None, IsSome}
+use Rattle.dmatypes.specs.declared.page.TheConstants.{SPAN_PAGES}
+use Rattle.tables.specs.declared.entries.TheConstants.{TABLE_ENTRIES}
 use Rattle.dmatypes.specs.World.{Target}
 use Rattle.tables.specs.Tree.{Found, span, leaf_from, table_from, states, uses}
 use Rattle.tables.specs.Pool.{Pool, word, memory, occurs, IsZeroed, IsTree}
@@ -15,7 +17,7 @@ IsClear w from to p = (q : ℕ) → from ≤ q → q < to → p / span w ≡ q /
 
 -- the page's span of 512 pages is wholly among them
 abbrev pub IsCovered : ℕ → ℕ → ℕ → Type 0
-IsCovered from to p = (from ≤ 512 * (p / 512)) × (512 * (p / 512) + 512 ≤ to)
+IsCovered from to p = (from ≤ SPAN_PAGES * (p / SPAN_PAGES)) × (SPAN_PAGES * (p / SPAN_PAGES) + SPAN_PAGES ≤ to)
 
 -- free frames came into the tree, frames of the tree were cut from it, and no other frame changed
 pub record TakesAndGivesFrames (old new : Pool) (level table : ℕ) (cut : List ℕ) : Type 0 where
@@ -23,7 +25,7 @@ pub record TakesAndGivesFrames (old new : Pool) (level table : ℕ) (cut : List 
       uses (memory new.words) level table f + occurs f new.free + occurs f cut
       ≡ uses (memory old.words) level table f + occurs f old.free
   pub fewer : (f : ℕ) → occurs f new.free ≤ occurs f old.free
-  pub others : (f k : ℕ) → k < 512 → uses (memory old.words) level table f + occurs f old.free ≡ 0
+  pub others : (f k : ℕ) → k < TABLE_ENTRIES → uses (memory old.words) level table f + occurs f old.free ≡ 0
       → word new.words f k ≡ word old.words f k
   pub frames : new.frames ≡ old.frames
 
@@ -46,9 +48,9 @@ pub record Maps (old new : Pool) (level table from to : ℕ) (says : ℕ → Opt
 -- where a map made tables: every span that meets the pages has its table, but one of level 1 where a test lets
 -- a large leaf begin, which is as it was
 pub record MakesTables (old new : Pool) (level table from to : ℕ) (large : ℕ → Bool) : Type 0 where
-  pub made : (p w : ℕ) → from ≤ p → p < to → 1 ≤ w → w < level → (w ≡ 1 → large (p / 512 * 512) ≡ false)
+  pub made : (p w : ℕ) → from ≤ p → p < to → 1 ≤ w → w < level → (w ≡ 1 → large (p / SPAN_PAGES * SPAN_PAGES) ≡ false)
       → IsSome (table_from (memory new.words) level table p w)
-  pub spared : (p : ℕ) → from ≤ p → p < to → 1 < level → large (p / 512 * 512) ≡ true
+  pub spared : (p : ℕ) → from ≤ p → p < to → 1 < level → large (p / SPAN_PAGES * SPAN_PAGES) ≡ true
       → table_from (memory new.words) level table p 1 ≡ table_from (memory old.words) level table p 1
 
 -- the pages from one up to another were unmapped; the facts are of pages in one span of the table

@@ -1,5 +1,6 @@
 -- How many free frames a map or an unmap takes.
 use Rattle.std.specs.Prelude.{ℕ, ◌+◌, ◌-◌, ◌*◌, ◌/◌, Bool, ◌==◌, ◌&&◌, nat_le, if◌then◌else◌, is_some, List}
+use Rattle.dmatypes.specs.declared.page.TheConstants.{SPAN_PAGES}
 use Rattle.dmatypes.specs.Conditions.{total_pages}
 use Rattle.dmatypes.specs.declared.call.Segment.{Segment}
 use Rattle.tables.specs.Tree.{Memory, span, total, leaf_from, table_from, is_large_leaf}
@@ -28,7 +29,7 @@ lacks_at m level table large p = total (λ v. lacking m level table large (v + 1
 -- 1 where the page is in a large leaf, and the pages don't cover the 512 from it on
 unfoldable pub splitting : Memory → ℕ → ℕ → ℕ → ℕ → ℕ → ℕ
 splitting m level table from to p =
-    if nat_le from p && nat_le (p + 512) to then 0 else (if is_large_leaf (leaf_from m level table p) then 1 else 0)
+    if nat_le from p && nat_le (p + SPAN_PAGES) to then 0 else (if is_large_leaf (leaf_from m level table p) then 1 else 0)
 
 -- for an unmap: the large leaves that meet the pages and aren't covered by them
 unfoldable pub splits : Memory → ℕ → ℕ → ℕ → ℕ → ℕ

@@ -11,12 +11,14 @@ ghost use Rattle.tables.specs.Segments.{is_large_at, AreSegments};
 ghost use Rattle.tables.specs.Lacks.{lacking, lacks, lacks_at, map_lacks, sum_spans};
 ghost use Rattle.tables.specs.Pieces.{says, is_large, IsRun, leaf_at};
 
-use crate::entries::{entry, index_of, span_of, table_at};
+use crate::entries::{
+    MOST_LEVELS, TABLE_ENTRIES, WIDEST_PAGES_END, entry, index_of, span_of, table_at,
+};
 use crate::error::NoFrames;
 use crate::frames::Pool;
 use crate::piece::Piece;
 use crate::segments::is_large_at;
-use dmatypes::{Frame, Rights, Segment};
+use dmatypes::{Frame, Rights, SPAN_PAGES, Segment};
 use vtdbits::{LargeTranslation, SsEntry};
 
 /// Writes the leaves of a piece in a table of level 1.
@@ -30,7 +32,7 @@ pub fn write_run(pool: &mut Pool, table: Frame, piece: Piece)
 {
     pool.write_leaves(
         table,
-        piece.from % 512,
+        piece.from % SPAN_PAGES,
         piece.to - piece.from,
         piece.frame,
         piece.rights,
@@ -40,9 +42,9 @@ pub fn write_run(pool: &mut Pool, table: Frame, piece: Piece)
 /// A new table under an absent entry.
 fn grow(pool: &mut Pool, level: u64, table: Frame, index: u64) -> Frame
     requires low { 2 ≤ level }
-    requires high { level ≤ 4 }
+    requires high { level ≤ MOST_LEVELS }
     requires tree { IsTree pool.old level table }
-    requires index { index < 512 }
+    requires index { index < TABLE_ENTRIES }
     requires absent { memory pool.old.words level table index ≡ SsEntry.Absent }
     requires room { 0 < length pool.old.free }
     ensures moves { TakesAndGivesFrames pool.old pool.new level table [] }
@@ -62,7 +64,7 @@ fn grow(pool: &mut Pool, level: u64, table: Frame, index: u64) -> Frame
 /// Maps a piece: one walk down, with the tables that it lacks, and one run of words or one leaf of 512 pages.
 pub fn map_piece(pool: &mut Pool, level: u64, table: Frame, piece: &Piece)
     requires low { 1 ≤ level }
-    requires high { level ≤ 4 }
+    requires high { level ≤ MOST_LEVELS }
     requires tree { IsTree pool.old level table }
     requires absent { (p : ℕ) → piece.now.from ≤ p → p < piece.now.to → leaf_from (memory pool.old.words) level table p ≡ None }
     requires room { lacks_at (memory pool.old.words) level table (is_large piece.now) piece.now.from ≤ length pool.old.free }
@@ -125,10 +127,10 @@ fn lacks_table(
 ) -> bool
     requires low { 1 ≤ wanted }
     requires lower { wanted < level }
-    requires high { level ≤ 4 }
+    requires high { level ≤ MOST_LEVELS }
     requires tree { IsTree pool.now level root }
     requires segments { AreSegments segments.now }
-    requires within { first + total_pages segments.now ≤ 2 ^ 36 }
+    requires within { first + total_pages segments.now ≤ WIDEST_PAGES_END }
     ensures { (if result then 1 else 0) ≡ lacking (memory pool.now.words) level root (is_large_at segments.now first page) wanted page }
 {
     if table_at(pool, level, root, page, wanted).is_some() {
@@ -149,14 +151,14 @@ fn spans_lacking(
 ) -> u64
     requires low { 1 ≤ wanted }
     requires lower { wanted < level }
-    requires high { level ≤ 4 }
+    requires high { level ≤ MOST_LEVELS }
     requires tree { IsTree pool.now level root }
     requires segments { AreSegments segments.now }
     requires some { first < end }
     requires end { end ≡ first + total_pages segments.now }
-    requires within { end ≤ 2 ^ 36 }
+    requires within { end ≤ WIDEST_PAGES_END }
     ensures value { result ≡ sum_spans (λ p. lacking (memory pool.now.words) level root (is_large_at segments.now first p) wanted p) wanted first end }
-    ensures small { result ≤ 2 ^ 36 }
+    ensures small { result ≤ WIDEST_PAGES_END }
 {
     let width = span_of(wanted);
     let mut count = 0;
@@ -179,12 +181,12 @@ fn tables_lacking(
     end: u64,
 ) -> u64
     requires low { 1 ≤ level }
-    requires high { level ≤ 4 }
+    requires high { level ≤ MOST_LEVELS }
     requires tree { IsTree pool.now level root }
     requires segments { AreSegments segments.now }
     requires some { first < end }
     requires end { end ≡ first + total_pages segments.now }
-    requires within { end ≤ 2 ^ 36 }
+    requires within { end ≤ WIDEST_PAGES_END }
     ensures { result ≡ lacks (memory pool.now.words) level root (is_large_at segments.now first) first end }
 {
     let mut count = 0;
@@ -198,9 +200,9 @@ fn tables_lacking(
 /// meet.
 fn most_lacking(level: u64, first: u64, end: u64) -> u64
     requires low { 1 ≤ level }
-    requires high { level ≤ 4 }
+    requires high { level ≤ MOST_LEVELS }
     requires some { first < end }
-    requires within { end ≤ 2 ^ 36 }
+    requires within { end ≤ WIDEST_PAGES_END }
     ensures { (m : Memory) (root : ℕ) (large : ℕ → Bool) → lacks m level root large first end ≤ result }
 {
     let mut most = 0;
@@ -222,11 +224,11 @@ fn map_pieces(
     rights: Rights,
 )
     requires low { 1 ≤ level }
-    requires high { level ≤ 4 }
+    requires high { level ≤ MOST_LEVELS }
     requires tree { IsTree pool.old level root }
     requires segments { AreSegments segments.now }
     requires some { 0 < total_pages segments.now }
-    requires within { first + total_pages segments.now ≤ 2 ^ 36 }
+    requires within { first + total_pages segments.now ≤ WIDEST_PAGES_END }
     requires one_span { first / span level ≡ (first + total_pages segments.now - 1) / span level }
     requires rights { AreRights (bits_of rights) }
     requires absent { (p : ℕ) → first ≤ p → p < first + total_pages segments.now → leaf_from (memory pool.old.words) level root p ≡ None }
@@ -255,11 +257,11 @@ pub fn map_segments(
     rights: Rights,
 ) -> Result<(), NoFrames>
     requires low { 1 ≤ level }
-    requires high { level ≤ 4 }
+    requires high { level ≤ MOST_LEVELS }
     requires tree { IsTree pool.old level root }
     requires segments { AreSegments segments.now }
     requires some { 0 < total_pages segments.now }
-    requires within { first + total_pages segments.now ≤ 2 ^ 36 }
+    requires within { first + total_pages segments.now ≤ WIDEST_PAGES_END }
     requires one_span { first / span level ≡ (first + total_pages segments.now - 1) / span level }
     requires rights { AreRights (bits_of rights) }
     requires absent { (p : ℕ) → first ≤ p → p < first + total_pages segments.now → leaf_from (memory pool.old.words) level root p ≡ None }

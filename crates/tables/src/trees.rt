@@ -13,15 +13,12 @@ ghost use Rattle.tables.specs.Segments.{AreSegments, is_large_at, one_segment};
 ghost use Rattle.tables.specs.Lacks.{map_lacks, splits};
 
 use crate::cut::Cut;
-use crate::entries::find;
+use crate::entries::{TABLE_ENTRIES, find};
 use crate::error::NoFrames;
 use crate::frames::Pool;
 use crate::mapping::map_segments;
 use crate::unmapping::{leaves_splitting, release, spans_met, unmap_pieces};
-use dmatypes::{Frame, Page, PageRange, Rights, Segment};
-
-/// The levels of a tree of 39-bit addresses: its root is of level 3.
-const LEVELS: u64 = 3;
+use dmatypes::{FRAMES_END, Frame, LEVELS, Page, PageRange, Rights, SPAN_PAGES, Segment};
 
 /// A tree of tables in a pool, by the frame of its root. Its calls ask that it is a tree of the pool that
 /// they are given.
@@ -77,7 +74,7 @@ impl Tree {
     ) -> Result<(), NoFrames>
         requires tree { IsTree pool.old LEVELS self.old.root }
         requires absent { (p : ℕ) → IsWithin range p → states (memory pool.old.words) LEVELS self.old.root p ≡ None }
-        requires frames { frame + range.pages ≤ 2 ^ 24 }
+        requires frames { frame + range.pages ≤ FRAMES_END }
         requires rights { AreRights (bits_of rights) }
         ensures refused { IsErr result ↔ (length pool.old.free < map_lacks pool.old LEVELS self.old.root (one_segment frame range.pages) range.first) }
         ensures unchanged { OnErr result (pool.new ≡ pool.old) }
@@ -180,7 +177,7 @@ impl Tree {
             → IsLeafAt (memory pool.new.words) LEVELS self.old.root first pages frame rights }
         ensures tables { (first level table : ℕ) → IsTableAt (memory pool.old.words) LEVELS self.old.root first level table
             → IsTableAt (memory pool.new.words) LEVELS self.old.root first level table
-            ⊎ ((level ≡ 1) × (range.first ≤ first) × (first + 512 ≤ range.first + range.pages) × (0 < occurs table result.frames)) }
+            ⊎ ((level ≡ 1) × (range.first ≤ first) × (first + SPAN_PAGES ≤ range.first + range.pages) × (0 < occurs table result.frames)) }
         ensures others { (level table : ℕ) → IsTree pool.old level table → IsApart pool.old LEVELS self.old.root level table
             → Stays pool.old pool.new level table }
         ensures tree { IsTree pool.new LEVELS self.old.root }
@@ -194,7 +191,7 @@ impl Tree {
     pub fn destroy(self, pool: &mut Pool)
         requires { IsTree pool.old LEVELS self.root }
         ensures free { (f : ℕ) → occurs f pool.new.free ≡ occurs f pool.old.free + uses (memory pool.old.words) LEVELS self.root f }
-        ensures words { (f k : ℕ) → k < 512 → uses (memory pool.old.words) LEVELS self.root f ≡ 0 → word pool.new.words f k ≡ word pool.old.words f k }
+        ensures words { (f k : ℕ) → k < TABLE_ENTRIES → uses (memory pool.old.words) LEVELS self.root f ≡ 0 → word pool.new.words f k ≡ word pool.old.words f k }
         ensures others { (level table : ℕ) → IsTree pool.old level table → IsApart pool.old LEVELS self.root level table
             → Stays pool.old pool.new level table }
         ensures size { pool.new.frames ≡ pool.old.frames }

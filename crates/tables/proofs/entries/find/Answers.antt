@@ -1,4 +1,5 @@
 use Rattle.std.proofs.Common.{◌≡◌, ◌+◌, ◌-◌, ◌%◌, Some, sym, ap, ◌∙◌, arith}
+use Rattle.dmatypes.specs.declared.page.TheConstants.{SPAN_PAGES}
 use Rattle.vtdbits.specs.declared.entry.SsEntry.TheVariants.{Absent, Table, Leaf, LargeLeaf}
 use Rattle.vtdbits.specs.Translation.{target}
 use Rattle.tables.specs.Pool.{memory}
@@ -24,7 +25,7 @@ returns-in-Leaf c = sym (stated_small c.args.page (c.loop-height.height - 1) c.i
 
 pub returns-in-LargeLeaf : goal.returns-in-LargeLeaf
 returns-in-LargeLeaf c =
-    let named : c.unwrap.result ≡ c.number.result + c.args.page % 512 = (rw c.unwrap.ensures at c.new.ensures.value) in
-    let frame : c.unwrap.result ≡ c.in-LargeLeaf.leaf.frame + c.args.page % 512 = omega (arith, c.number.ensures.value, c.frame.ensures.value) in
-    ap (λ x. Some x) (c.new-in-LargeLeaf.ensures ∙ ap (λ f. target f c.rights.result.0) frame ∙ ap (λ r. target (c.in-LargeLeaf.leaf.frame + c.args.page % 512) r) c.rights.ensures.value)
+    let named : c.unwrap.result ≡ c.number.result + c.args.page % SPAN_PAGES = (rw c.unwrap.ensures at c.new.ensures.value) in
+    let frame : c.unwrap.result ≡ c.in-LargeLeaf.leaf.frame + c.args.page % SPAN_PAGES = omega (arith, c.number.ensures.value, c.frame.ensures.value) in
+    ap (λ x. Some x) (c.new-in-LargeLeaf.ensures ∙ ap (λ f. target f c.rights.result.0) frame ∙ ap (λ r. target (c.in-LargeLeaf.leaf.frame + c.args.page % SPAN_PAGES) r) c.rights.ensures.value)
     ∙ sym (stated_large c.args.page (c.loop-height.height - 1) c.in-LargeLeaf.leaf (omega (arith, c.in-LargeLeaf.ensures.stands))) ∙ sym (c.loop-height.invariant.same ∙ stated_level (memory c.args.pool.now.words) (c.loop-height.height - 1) c.loop-height.at c.args.page c.loop-height.height c.index_of.result (LargeLeaf c.in-LargeLeaf.leaf) (omega (arith, c.loop-height.invariant.low)) c.index_of.ensures.exact c.in-LargeLeaf.ensures.is)

@@ -1,5 +1,6 @@
 use Rattle.std.proofs.Common.{◌≡◌, ℕ, ◌+◌, ◌-◌, ◌*◌, ◌/◌, ◌%◌, ◌<◌, ◌≤◌, inr, ⊎_elim, false, List, [], refl, sym, ap, subst, ◌∙◌, arith}
 use Rattle.std.proofs.lemmas.Bool.{cases_lt}
+use Rattle.dmatypes.specs.declared.page.TheConstants.{SPAN_PAGES}
 use Rattle.dmatypes.specs.Conditions.{total_pages}
 use Rattle.dmatypes.specs.Rights.{bits_of}
 use Rattle.dmatypes.specs.World.{placed}
@@ -29,17 +30,17 @@ in_span l from to p some one low high =
 
 -- where a large leaf begins, a piece can be one
 flag : (segments : List Segment) (first place : ℕ) (x : Piece) → x.from ≡ place → is_large x ≡ is_large_at segments first place
-    → (0 < place % 512 → is_large_at segments first (512 * (place / 512)) ≡ false) → is_large_at segments first (x.from / 512 * 512) ≡ is_large x
+    → (0 < place % SPAN_PAGES → is_large_at segments first (SPAN_PAGES * (place / SPAN_PAGES)) ≡ false) → is_large_at segments first (x.from / SPAN_PAGES * SPAN_PAGES) ≡ is_large x
 flag segments first place x at large inner =
     ⊎_elim
-    (λ (inside : 0 < place % 512).
-    let start : x.from / 512 * 512 ≡ 512 * (place / 512) = omega arith in
+    (λ (inside : 0 < place % SPAN_PAGES).
+    let start : x.from / SPAN_PAGES * SPAN_PAGES ≡ SPAN_PAGES * (place / SPAN_PAGES) = omega arith in
     let small : is_large x ≡ false = small_piece x (omega arith) in
     ap (is_large_at segments first) start ∙ inner inside ∙ sym small)
-    (λ (edge : place % 512 ≤ 0).
-    let start : x.from / 512 * 512 ≡ place = omega arith in
+    (λ (edge : place % SPAN_PAGES ≤ 0).
+    let start : x.from / SPAN_PAGES * SPAN_PAGES ≡ place = omega arith in
     ap (is_large_at segments first) start ∙ sym large)
-    (cases_lt 0 (place % 512))
+    (cases_lt 0 (place % SPAN_PAGES))
 
 pub loop-piece-init : goal.loop-piece-init
 loop-piece-init c = record {
@@ -48,7 +49,7 @@ loop-piece-init c = record {
   moves = no_moves c.args.pool.now c.args.level c.args.root;
   maps = no_maps c.args.pool.now c.args.level c.args.root c.args.first (placed c.args.segments.now c.args.first (bits_of c.args.rights));
   count = refl;
-  inner = λ inside. not_large c.args.segments.now c.args.first (512 * (c.args.first / 512)) (rest_below c.args.segments.now c.args.first (512 * (c.args.first / 512)) (omega (arith, inside)));
+  inner = λ inside. not_large c.args.segments.now c.args.first (SPAN_PAGES * (c.args.first / SPAN_PAGES)) (rest_below c.args.segments.now c.args.first (SPAN_PAGES * (c.args.first / SPAN_PAGES)) (omega (arith, inside)));
   ended = λ e. absurd (omega (arith, e, c.requires.some));
   pool = λ some. absurd (omega (arith, some));
   makes = no_makes c.args.pool.now c.args.level c.args.root c.args.first (is_large_at c.args.segments.now c.args.first);

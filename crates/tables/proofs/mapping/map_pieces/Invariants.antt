@@ -1,4 +1,5 @@
 use Rattle.std.proofs.Common.{◌≡◌, ◌+◌, ◌-◌, ◌*◌, ◌/◌, ◌%◌, ◌<◌, ◌≤◌, false, [], length}
+use Rattle.dmatypes.specs.declared.page.TheConstants.{SPAN_PAGES}
 use Rattle.dmatypes.specs.Conditions.{total_pages}
 use Rattle.dmatypes.specs.Rights.{bits_of}
 use Rattle.dmatypes.specs.World.{placed}
@@ -16,7 +17,7 @@ invariant-loop-piece l = record {
   maps : Maps l.initial.pool l.pool l.level l.root l.first l.place (placed l.segments l.first (bits_of l.rights));
   count : length l.pool.free + map_lacks l.initial.pool l.level l.root l.segments l.first
       ≡ length l.initial.pool.free + lacks (memory l.pool.words) l.level l.root (is_large_at l.segments l.first) l.place (l.first + total_pages l.segments);
-  inner : 0 < l.place % 512 → is_large_at l.segments l.first (512 * (l.place / 512)) ≡ false;
+  inner : 0 < l.place % SPAN_PAGES → is_large_at l.segments l.first (SPAN_PAGES * (l.place / SPAN_PAGES)) ≡ false;
   ended : l.place ≡ l.first + total_pages l.segments → lacks (memory l.pool.words) l.level l.root (is_large_at l.segments l.first) l.place l.place ≡ 0;
   pool : l.first < l.place → IsPool l.pool;
   makes : MakesTables l.initial.pool l.pool l.level l.root l.first l.place (is_large_at l.segments l.first);

@@ -1,4 +1,6 @@
 use Rattle.std.proofs.Common.{◌≡◌, ◌+◌, ◌<◌, ap, ◌∙◌, subst, arith, refl}
+use Rattle.dmatypes.specs.declared.page.TheConstants.{SPAN_PAGES}
+use Rattle.tables.specs.declared.entries.TheConstants.{TABLE_ENTRIES}
 use Rattle.vtdbits.specs.Entry.{look}
 use Rattle.vtdbits.specs.Translation.{target}
 use Rattle.vtdbits.specs.declared.entry.SsEntry.TheVariants.{LargeLeaf}
@@ -26,7 +28,7 @@ returns-clause-moves c =
     let leaf : c.new-leaf.result ≡ target c.args.piece.now.frame (bits_of c.args.piece.now.rights) = c.new-leaf.ensures ∙ ap (λ f. target f (bits_of c.args.piece.now.rights)) named in
     let names : memory c.write.new.self.words 2 c.args.table c.args.index ≡ LargeLeaf (target c.args.piece.now.frame (bits_of c.args.piece.now.rights)) =
     memory_at c.write.new.self.words 2 c.args.table c.args.index ∙ ap (look 2) c.write.ensures.wrote.0 ∙ c.encode.ensures.looked 2 refl ∙ ap LargeLeaf leaf in
-    let inside : c.args.index < 512 = omega (arith, index_lt 1 c.args.piece.now.from, c.requires.index) in
+    let inside : c.args.index < TABLE_ENTRIES = omega (arith, index_lt 1 c.args.piece.now.from, c.requires.index) in
     let all = large_maps c.args.pool.now c.write.new.self c.args.table c.args.index c.args.piece.now.from c.args.piece.now.frame (bits_of c.args.piece.now.rights) c.encode.result
     c.requires.tree inside c.requires.index whole.0 c.write.ensures.wrote c.write.ensures.free c.write.ensures.frames c.requires.absent names in
     all.0
@@ -38,7 +40,7 @@ returns-clause-tables c =
     let leaf : c.new-leaf.result ≡ target c.args.piece.now.frame (bits_of c.args.piece.now.rights) = c.new-leaf.ensures ∙ ap (λ f. target f (bits_of c.args.piece.now.rights)) named in
     let names : memory c.write.new.self.words 2 c.args.table c.args.index ≡ LargeLeaf (target c.args.piece.now.frame (bits_of c.args.piece.now.rights)) =
     memory_at c.write.new.self.words 2 c.args.table c.args.index ∙ ap (look 2) c.write.ensures.wrote.0 ∙ c.encode.ensures.looked 2 refl ∙ ap LargeLeaf leaf in
-    let inside : c.args.index < 512 = omega (arith, index_lt 1 c.args.piece.now.from, c.requires.index) in
+    let inside : c.args.index < TABLE_ENTRIES = omega (arith, index_lt 1 c.args.piece.now.from, c.requires.index) in
     let all = large_maps c.args.pool.now c.write.new.self c.args.table c.args.index c.args.piece.now.from c.args.piece.now.frame (bits_of c.args.piece.now.rights) c.encode.result
     c.requires.tree inside c.requires.index whole.0 c.write.ensures.wrote c.write.ensures.free c.write.ensures.frames c.requires.absent names in
     all.2
@@ -50,8 +52,8 @@ returns-clause-maps c =
     let leaf : c.new-leaf.result ≡ target c.args.piece.now.frame (bits_of c.args.piece.now.rights) = c.new-leaf.ensures ∙ ap (λ f. target f (bits_of c.args.piece.now.rights)) named in
     let names : memory c.write.new.self.words 2 c.args.table c.args.index ≡ LargeLeaf (target c.args.piece.now.frame (bits_of c.args.piece.now.rights)) =
     memory_at c.write.new.self.words 2 c.args.table c.args.index ∙ ap (look 2) c.write.ensures.wrote.0 ∙ c.encode.ensures.looked 2 refl ∙ ap LargeLeaf leaf in
-    let inside : c.args.index < 512 = omega (arith, index_lt 1 c.args.piece.now.from, c.requires.index) in
+    let inside : c.args.index < TABLE_ENTRIES = omega (arith, index_lt 1 c.args.piece.now.from, c.requires.index) in
     let all = large_maps c.args.pool.now c.write.new.self c.args.table c.args.index c.args.piece.now.from c.args.piece.now.frame (bits_of c.args.piece.now.rights) c.encode.result
     c.requires.tree inside c.requires.index whole.0 c.write.ensures.wrote c.write.ensures.free c.write.ensures.frames c.requires.absent names in
-    let end : c.args.piece.now.from + 512 ≡ c.args.piece.now.to = omega (arith, whole.1, c.args.piece.now.some) in
+    let end : c.args.piece.now.from + SPAN_PAGES ≡ c.args.piece.now.to = omega (arith, whole.1, c.args.piece.now.some) in
     subst (λ to. Maps c.args.pool.now c.write.new.self 2 c.args.table c.args.piece.now.from to (says c.args.piece.now)) end all.1

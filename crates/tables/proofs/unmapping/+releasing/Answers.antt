@@ -1,4 +1,6 @@
 use Rattle.std.proofs.Common.{◌≡◌, ℕ, ◌-◌, refl, ap, ◌∙◌, arith, inl, inr}
+use Rattle.dmatypes.specs.declared.page.TheConstants.{SPAN_PAGES}
+use Rattle.tables.specs.declared.entries.TheConstants.{TABLE_ENTRIES}
 use Rattle.vtdbits.specs.declared.entry.SsEntry.TheVariants.{Absent, Leaf, LargeLeaf}
 use Rattle.tables.specs.Tree.{total, uses}
 use Rattle.tables.specs.Pool.{memory, word, occurs}
@@ -46,14 +48,14 @@ release-give-requires-clause-taken t c =
 
 pub release-returns-clause-free : goal.release-returns-clause-free
 release-returns-clause-free t c f =
-    let done : c.loop-index.index ≡ 512 = omega (arith, c.loop-index.auto.index-end, c.loop-index-test.false) in
-    let all : total (used_at c.args.pool.now c.args.level c.args.table f) c.loop-index.index ≡ total (used_at c.args.pool.now c.args.level c.args.table f) 512 = ap (total (used_at c.args.pool.now c.args.level c.args.table f)) done in
+    let done : c.loop-index.index ≡ SPAN_PAGES = omega (arith, c.loop-index.auto.index-end, c.loop-index-test.false) in
+    let all : total (used_at c.args.pool.now c.args.level c.args.table f) c.loop-index.index ≡ total (used_at c.args.pool.now c.args.level c.args.table f) TABLE_ENTRIES = ap (total (used_at c.args.pool.now c.args.level c.args.table f)) done in
     omega (arith, c.give.ensures.free f, c.loop-index.invariant.free f, all, uses_level c.args.pool.now c.args.level (c.args.level - 1) c.args.table f (omega arith))
 
 pub release-returns-clause-others : goal.release-returns-clause-others
 release-returns-clause-others t c f k k_in none =
-    let done : c.loop-index.index ≡ 512 = omega (arith, c.loop-index.auto.index-end, c.loop-index-test.false) in
-    let all : total (used_at c.args.pool.now c.args.level c.args.table f) c.loop-index.index ≡ total (used_at c.args.pool.now c.args.level c.args.table f) 512 = ap (total (used_at c.args.pool.now c.args.level c.args.table f)) done in
+    let done : c.loop-index.index ≡ SPAN_PAGES = omega (arith, c.loop-index.auto.index-end, c.loop-index-test.false) in
+    let all : total (used_at c.args.pool.now c.args.level c.args.table f) c.loop-index.index ≡ total (used_at c.args.pool.now c.args.level c.args.table f) TABLE_ENTRIES = ap (total (used_at c.args.pool.now c.args.level c.args.table f)) done in
     let whole = uses_level c.args.pool.now c.args.level (c.args.level - 1) c.args.table f (omega arith) in
     ap (λ ws. word ws f k) c.give.ensures.words
     ∙ c.loop-index.invariant.others f k k_in

@@ -1,4 +1,6 @@
 use Rattle.std.proofs.Common.{◌≡◌, ℕ, ◌+◌, ◌-◌, ◌/◌, ◌%◌, ◌<◌, [], ◌∷◌, length, refl, sym, ap, subst, ◌∙◌, arith}
+use Rattle.dmatypes.specs.declared.page.TheConstants.{SPAN_PAGES}
+use Rattle.tables.specs.declared.entries.TheConstants.{TABLE_ENTRIES}
 use Rattle.vtdbits.specs.Entry.{look}
 use Rattle.vtdbits.proofs.Entries.{look-zero}
 use Rattle.vtdbits.specs.declared.entry.SsEntry.TheVariants.{Absent}
@@ -31,11 +33,11 @@ clear_run-requires-clause-taken c =
     root_taken c.args.pool.now 0 c.in-Table.below (below_in c.args.pool.now 1 c.args.table c.index_of-index.result c.in-Table.below c.requires.tree c.index_of-index.ensures.inside c.in-Table.ensures.is)
 
 -- less than a whole span
-part : (from to : ℕ) → from < to → from / 512 ≡ (to - 1) / 512 → (to - from ≡ 512 → ⊥) → to - from < 512
+part : (from to : ℕ) → from < to → from / SPAN_PAGES ≡ (to - 1) / SPAN_PAGES → (to - from ≡ SPAN_PAGES → ⊥) → to - from < TABLE_ENTRIES
 part from to some one ne = omega arith
 
 -- the first page of a whole one
-even : (from to : ℕ) → from < to → from / 512 ≡ (to - 1) / 512 → to - from ≡ 512 → (from % 512 ≡ 0) × (from + 512 ≡ to)
+even : (from to : ℕ) → from < to → from / SPAN_PAGES ≡ (to - 1) / SPAN_PAGES → to - from ≡ SPAN_PAGES → (from % SPAN_PAGES ≡ 0) × (from + SPAN_PAGES ≡ to)
 even from to some one e = (omega arith, omega arith)
 
 -- through a table, in part

@@ -1,4 +1,5 @@
 use Rattle.std.proofs.Common.{◌≡◌, ℕ, ◌+◌, ◌-◌, ◌*◌, ◌/◌, ◌%◌, ◌<◌, ◌≤◌, [], ap, ap₂, arith}
+use Rattle.dmatypes.specs.declared.page.TheConstants.{SPAN_PAGES}
 use Rattle.dmatypes.specs.World.{Target}
 use Rattle.vtdbits.specs.Translation.{target}
 use Rattle.vtdbits.specs.declared.entry.SsEntry.TheVariants.{Leaf}
@@ -14,10 +15,10 @@ pub write_run-requires-clause-taken : goal.write_run-requires-clause-taken
 write_run-requires-clause-taken c = omega (arith, c.take-below.ensures.free c.take-below.result, c.take-below.ensures.old_pool.once c.take-below.result, here-same c.take-below.result)
 
 -- the leaves of the run, page by page
-leaves : (page number rights : ℕ) (x : Target) → number ≡ x.frame → rights ≡ x.rights → (p : ℕ) → page / 512 * 512 ≤ p → p < page / 512 * 512 + 512
-    → Leaf (target (number + (p - page / 512 * 512)) rights) ≡ Leaf (target (x.frame + p % 512) x.rights)
+leaves : (page number rights : ℕ) (x : Target) → number ≡ x.frame → rights ≡ x.rights → (p : ℕ) → page / SPAN_PAGES * SPAN_PAGES ≤ p → p < page / SPAN_PAGES * SPAN_PAGES + SPAN_PAGES
+    → Leaf (target (number + (p - page / SPAN_PAGES * SPAN_PAGES)) rights) ≡ Leaf (target (x.frame + p % SPAN_PAGES) x.rights)
 leaves page number rights x frame same p low high =
-    let offset : number + (p - page / 512 * 512) ≡ x.frame + p % 512 = omega arith in
+    let offset : number + (p - page / SPAN_PAGES * SPAN_PAGES) ≡ x.frame + p % SPAN_PAGES = omega arith in
     ap₂ (λ f r. Leaf (target f r)) offset same
 
 pub link-requires : goal.link-requires

@@ -1,5 +1,6 @@
 use Rattle.std.proofs.Common.{◌≡◌, ℕ, ◌+◌, ◌-◌, ◌*◌, ◌/◌, ◌%◌, ◌<◌, ◌≤◌, ◌⊎◌, min, inl, inr, ⊎_elim, Bool, true, false, cond, ◌||◌, Option, Some, None, IsSome, ◌++◌, length, length-append, refl, sym, ap, subst, ◌∙◌, arith}
 use Rattle.std.proofs.lemmas.Bool.{cases_lt}
+use Rattle.dmatypes.specs.declared.page.TheConstants.{SPAN_PAGES}
 use Rattle.tables.specs.Tree.{Found, span, leaf_from, stated}
 use Rattle.tables.specs.Pool.{memory}
 use Rattle.tables.specs.Changes.{TakesAndGivesFrames, Unmaps}
@@ -20,22 +21,22 @@ wide l from to p one low high =
     omega arith
 
 -- where a piece begins
-edge_of : (place from to : ℕ) → place < to → (place % 512 ≡ 0) ⊎ ((place ≡ from) ⊎ (place ≡ to)) → (place % 512 ≡ 0) ⊎ (place ≡ from)
+edge_of : (place from to : ℕ) → place < to → (place % SPAN_PAGES ≡ 0) ⊎ ((place ≡ from) ⊎ (place ≡ to)) → (place % SPAN_PAGES ≡ 0) ⊎ (place ≡ from)
 edge_of place from to lt (inl h) = inl h
 edge_of place from to lt (inr (inl h)) = inr h
 edge_of place from to lt (inr (inr h)) = absurd (omega arith)
 
 -- where it ends
-one_of : (place to next : ℕ) → next ≡ min to ((place / 512 + 1) * 512) → place < to
-    → (place < next) × (next ≤ to) × (place / 512 ≡ (next - 1) / 512) × ((next % 512 ≡ 0) ⊎ (next ≡ to))
+one_of : (place to next : ℕ) → next ≡ min to ((place / SPAN_PAGES + 1) * SPAN_PAGES) → place < to
+    → (place < next) × (next ≤ to) × (place / SPAN_PAGES ≡ (next - 1) / SPAN_PAGES) × ((next % SPAN_PAGES ≡ 0) ⊎ (next ≡ to))
 one_of place to next e lt = (
   omega arith,
   omega arith,
   omega arith,
-  ⊎_elim (λ (h : to < (place / 512 + 1) * 512). inr (omega arith)) (λ (h : (place / 512 + 1) * 512 ≤ to). inl (omega arith)) (cases_lt to ((place / 512 + 1) * 512)),
+  ⊎_elim (λ (h : to < (place / SPAN_PAGES + 1) * SPAN_PAGES). inr (omega arith)) (λ (h : (place / SPAN_PAGES + 1) * SPAN_PAGES ≤ to). inl (omega arith)) (cases_lt to ((place / SPAN_PAGES + 1) * SPAN_PAGES)),
 )
 
-stop_of : (next to from : ℕ) → (next % 512 ≡ 0) ⊎ (next ≡ to) → (next % 512 ≡ 0) ⊎ ((next ≡ from) ⊎ (next ≡ to))
+stop_of : (next to from : ℕ) → (next % SPAN_PAGES ≡ 0) ⊎ (next ≡ to) → (next % SPAN_PAGES ≡ 0) ⊎ ((next ≡ from) ⊎ (next ≡ to))
 stop_of next to from (inl h) = inl h
 stop_of next to from (inr h) = inr (inr h)
 

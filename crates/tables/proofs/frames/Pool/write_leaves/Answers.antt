@@ -1,5 +1,6 @@
 use Rattle.std.proofs.Common.{◌≡◌, ◌+◌, ◌*◌, length, drop, take, ap, ◌∙◌, arith}
 use Rattle.std.proofs.lemmas.List.{length-take-le, length-drop}
+use Rattle.tables.specs.declared.entries.TheConstants.{TABLE_ENTRIES}
 use Rattle.vtdbits.specs.Entry.{look}
 use Rattle.tables.specs.Pool.{Pool, word, occurs}
 use Rattle.tables.proofs.Patched.{IsPatch, patched, patch}
@@ -11,13 +12,13 @@ count : (c : After-self-1) → length c.spell_leaves.new.words ≡ c.args.count
 count c =
     let frames : length c.self.inside.slots.items ≡ c.args.self.now.frames = ap (λ (p : Pool). p.frames) c.self.view_is in
     c.spell_leaves.ensures.length
-    ∙ length-take-le _ (drop (c.number.result * 512 + c.args.from) c.deref_mut.result.now)
-    (omega (arith, length-drop (c.number.result * 512 + c.args.from) c.deref_mut.result.now, ap (λ xs. length xs) c.deref_mut.ensures.value, c.self.invariant.0.fit, c.number.ensures.value, c.requires.frame, c.requires.within))
+    ∙ length-take-le _ (drop (c.number.result * TABLE_ENTRIES + c.args.from) c.deref_mut.result.now)
+    (omega (arith, length-drop (c.number.result * TABLE_ENTRIES + c.args.from) c.deref_mut.result.now, ap (λ xs. length xs) c.deref_mut.ensures.value, c.self.invariant.0.fit, c.number.ensures.value, c.requires.frame, c.requires.within))
     ∙ omega arith
 
 spelled : (c : After-self-1)
     → IsPatch (record { words = c.self.inside.words.items; free = take c.self.inside.free c.self.inside.slots.items; frames = length c.self.inside.slots.items })
-    (patched c.self.inside.words.len (c.number.result * 512 + c.args.from) (c.number.result * 512 + c.args.from + c.args.count) c.self.inside.words.items c.deref_mut.result.now c.spell_leaves.new.words)
+    (patched c.self.inside.words.len (c.number.result * TABLE_ENTRIES + c.args.from) (c.number.result * TABLE_ENTRIES + c.args.from + c.args.count) c.self.inside.words.items c.deref_mut.result.now c.spell_leaves.new.words)
     c.args.frame c.args.from c.spell_leaves.new.words
 spelled c =
     let frames : length c.self.inside.slots.items ≡ c.args.self.now.frames = ap (λ (p : Pool). p.frames) c.self.view_is in
