@@ -11,7 +11,8 @@ use Rattle.tables.proofs.Total.{total_part, total_same}
 pub AgreeAt : Memory → Memory → ℕ → ℕ → Type 0
 AgreeAt a b l t = (f : ℕ) → 0 < uses a l t f → (l' k : ℕ) → k < TABLE_ENTRIES → b l' f k ≡ a l' f k
 
-pub to_agree : (a b : Memory) (l t : ℕ) → ((f : ℕ) → 0 < uses a l t f → (l' k : ℕ) → k < TABLE_ENTRIES → b l' f k ≡ a l' f k) → AgreeAt a b l t
+pub to_agree : (a b : Memory) (l t : ℕ) → ((f : ℕ) → 0 < uses a l t f → (l' k : ℕ) → k < TABLE_ENTRIES → b l' f k ≡ a l' f k)
+    → AgreeAt a b l t
 unfolding AgreeAt
 to_agree a b l t h = h
 
@@ -34,7 +35,8 @@ below_same : (a b : Memory) (l t k c : ℕ) → k < TABLE_ENTRIES → a (suc l) 
 unfolding AgreeAt
 below_same a b l t k c lt e h f some = h f (under a l t k c f lt e some)
 
-pub leaf_by : (a b : Memory) (l p : ℕ) (e : SsEntry) → ((c : ℕ) → e ≡ Table c → leaf_from b l c p ≡ leaf_from a l c p) → leaf_of e l (λ c. leaf_from b l c p) ≡ leaf_of e l (λ c. leaf_from a l c p)
+pub leaf_by : (a b : Memory) (l p : ℕ) (e : SsEntry) → ((c : ℕ) → e ≡ Table c → leaf_from b l c p ≡ leaf_from a l c p)
+    → leaf_of e l (λ c. leaf_from b l c p) ≡ leaf_of e l (λ c. leaf_from a l c p)
 leaf_by a b l p Absent h = refl
 leaf_by a b l p (Table c) h = h c refl
 leaf_by a b l p (Leaf s) h = refl
@@ -48,7 +50,8 @@ leaf_agrees a b (suc l) t p h =
     ap (λ e. leaf_of e l (λ c. leaf_from b l c p)) (root_same a b l t (index_in l p) lt h)
     ∙ leaf_by a b l p (a (suc l) t (index_in l p)) (λ c e. leaf_agrees a b l c p (below_same a b l t (index_in l p) c lt e h))
 
-pub table_by : (a b : Memory) (l p w : ℕ) (e : SsEntry) → ((c : ℕ) → e ≡ Table c → table_from b l c p w ≡ table_from a l c p w) → table_of e (λ c. table_from b l c p w) ≡ table_of e (λ c. table_from a l c p w)
+pub table_by : (a b : Memory) (l p w : ℕ) (e : SsEntry) → ((c : ℕ) → e ≡ Table c → table_from b l c p w ≡ table_from a l c p w)
+    → table_of e (λ c. table_from b l c p w) ≡ table_of e (λ c. table_from a l c p w)
 table_by a b l p w Absent h = refl
 table_by a b l p w (Table c) h = h c refl
 table_by a b l p w (Leaf s) h = refl
@@ -63,7 +66,8 @@ table_agrees a b (suc l) t p w h =
     (ap (λ e. table_of e (λ c. table_from b l c p w)) (root_same a b l t (index_in l p) lt h)
     ∙ table_by a b l p w (a (suc l) t (index_in l p)) (λ c e. table_agrees a b l c p w (below_same a b l t (index_in l p) c lt e h)))
 
-pub uses_by : (a b : Memory) (l f : ℕ) (e : SsEntry) → ((c : ℕ) → e ≡ Table c → uses b l c f ≡ uses a l c f) → entry_uses e (λ c. uses b l c f) ≡ entry_uses e (λ c. uses a l c f)
+pub uses_by : (a b : Memory) (l f : ℕ) (e : SsEntry) → ((c : ℕ) → e ≡ Table c → uses b l c f ≡ uses a l c f)
+    → entry_uses e (λ c. uses b l c f) ≡ entry_uses e (λ c. uses a l c f)
 uses_by a b l f Absent h = refl
 uses_by a b l f (Table c) h = h c refl
 uses_by a b l f (Leaf s) h = refl
@@ -75,4 +79,6 @@ uses_agree a b zero t f h = refl
 uses_agree a b (suc l) t f h =
     ap (λ x. here t f + x)
     (total_same (λ i. entry_uses (a (suc l) t i) (λ c. uses a l c f)) (λ i. entry_uses (b (suc l) t i) (λ c. uses b l c f)) TABLE_ENTRIES
-    (λ i lt. ap (λ e. entry_uses e (λ c. uses b l c f)) (root_same a b l t i lt h) ∙ uses_by a b l f (a (suc l) t i) (λ c e. uses_agree a b l c f (below_same a b l t i c lt e h))))
+    (λ i lt.
+    ap (λ e. entry_uses e (λ c. uses b l c f)) (root_same a b l t i lt h)
+    ∙ uses_by a b l f (a (suc l) t i) (λ c e. uses_agree a b l c f (below_same a b l t i c lt e h))))

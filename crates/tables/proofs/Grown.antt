@@ -52,8 +52,9 @@ grown_leaf old new l t i c p tree a g =
     let m : Memory = memory old.words in
     let n : Memory = memory new.words in
     ⊎_elim
-    (λ e. leaf_under n l t p (Table c) (ap (λ j. n (suc l) t j) e ∙ g.names) ∙ leaf_zeroed n l c p g.bare ∙ sym (leaf_under m l t p Absent (ap (λ j. m (suc l) t j) e ∙ g.absent)))
-    (λ ne. other_leaf old new l t i p [] tree a g.under ne)
+    (λ e.
+    leaf_under n l t p (Table c) (ap (λ j. n (suc l) t j) e ∙ g.names) ∙ leaf_zeroed n l c p g.bare
+    ∙ sym (leaf_under m l t p Absent (ap (λ j. m (suc l) t j) e ∙ g.absent))) (λ ne. other_leaf old new l t i p [] tree a g.under ne)
     (same_or_not (index_in l p) i)
 
 -- the only new table on a way is the new one
@@ -66,13 +67,16 @@ new_table n l c p w x bare h =
     (cases_lt w (suc l)))
     (same_or_not w (suc l))
 
-pub grown_maps : (old new : Pool) (l t i c from to : ℕ) → IsTree old (suc (suc l)) t → i < TABLE_ENTRIES → from < to → index_in (suc l) from ≡ i → IsGrown old new (suc l) t i c
+pub grown_maps : (old new : Pool) (l t i c from to : ℕ) → IsTree old (suc (suc l)) t → i < TABLE_ENTRIES → from < to
+    → index_in (suc l) from ≡ i → IsGrown old new (suc l) t i c
     → Maps old new (suc (suc l)) t from to (states (memory old.words) (suc (suc l)) t)
 grown_maps old new l t i c from to tree a some is g =
     let m : Memory = memory old.words in
     let n : Memory = memory new.words in
-    let here_old : (p : ℕ) → index_in (suc l) p ≡ i → m (suc (suc l)) t (index_in (suc l) p) ≡ Absent = λ p e. ap (λ j. m (suc (suc l)) t j) e ∙ g.absent in
-    let here_new : (p : ℕ) → index_in (suc l) p ≡ i → n (suc (suc l)) t (index_in (suc l) p) ≡ Table c = λ p e. ap (λ j. n (suc (suc l)) t j) e ∙ g.names in
+    let here_old : (p : ℕ) → index_in (suc l) p ≡ i → m (suc (suc l)) t (index_in (suc l) p) ≡ Absent =
+    λ p e. ap (λ j. m (suc (suc l)) t j) e ∙ g.absent in
+    let here_new : (p : ℕ) → index_in (suc l) p ≡ i → n (suc (suc l)) t (index_in (suc l) p) ≡ Table c =
+    λ p e. ap (λ j. n (suc (suc l)) t j) e ∙ g.names in
     record {
       mapped = λ p low high. ap (stated p) (grown_leaf old new (suc l) t i c p tree a g);
       elsewhere = λ p wide out. grown_leaf old new (suc l) t i c p tree a g;
@@ -122,17 +126,24 @@ pub record Grows (old new : Pool) (level l t i c : ℕ) : Type 0 where
   pub names : memory new.words level t i ≡ Table c
   pub zeroed : IsZeroed new.words c
 
-grows_two : (old mid new : Pool) (l t i c value : ℕ) → IsTree old (suc (suc l)) t → i < TABLE_ENTRIES → memory old.words (suc (suc l)) t i ≡ Absent
-    → look (suc (suc l)) value ≡ Table c → ((f : ℕ) → occurs f mid.free + here c f ≡ occurs f old.free) → IsZeroed mid.words c → mid.words ≡ old.words → mid.frames ≡ old.frames
+grows_two : (old mid new : Pool) (l t i c value : ℕ) → IsTree old (suc (suc l)) t → i < TABLE_ENTRIES
+    → memory old.words (suc (suc l)) t i ≡ Absent → look (suc (suc l)) value ≡ Table c
+    → ((f : ℕ) → occurs f mid.free + here c f ≡ occurs f old.free) → IsZeroed mid.words c → mid.words ≡ old.words → mid.frames ≡ old.frames
     → IsWrite mid.words new.words t i value → new.free ≡ mid.free → new.frames ≡ mid.frames → Grows old new (suc (suc l)) (suc l) t i c
 grows_two old mid new l t i c value tree a absent reads free zeroed same_words same_frames wrote same_free frames =
     let n : Memory = memory new.words in
     let c_free : 0 < occurs c old.free = omega (arith, free c, here-same c) in
-    let apart : c ≡ t → ⊥ = λ e. let same : occurs c old.free ≡ occurs t old.free = ap (λ x. occurs x old.free) e in omega (arith, root_apart old (suc l) t i tree a) in
+    let apart : c ≡ t → ⊥ =
+    λ e.
+    let same : occurs c old.free ≡ occurs t old.free =
+    ap (λ x. occurs x old.free) e in
+    omega (arith, root_apart old (suc l) t i tree a) in
     let names : n (suc (suc l)) t i ≡ Table c = memory_at new.words (suc (suc l)) t i ∙ ap (look (suc (suc l))) wrote.0 ∙ reads in
     let zeroed_now : IsZeroed new.words c = λ k k_in. wrote.1 c k k_in (λ e _. apart e) ∙ zeroed k k_in in
-    let free_now : (f : ℕ) → occurs f new.free + here c f ≡ occurs f old.free = λ f. omega (arith, free f, ap (λ xs. occurs f xs) same_free) in
-    let rest : (f k : ℕ) → k < TABLE_ENTRIES → (f ≡ t → k ≡ i → ⊥) → word new.words f k ≡ word old.words f k = λ f k k_in ne. wrote.1 f k k_in ne ∙ ap (λ ws. word ws f k) same_words in
+    let free_now : (f : ℕ) → occurs f new.free + here c f ≡ occurs f old.free =
+    λ f. omega (arith, free f, ap (λ xs. occurs f xs) same_free) in
+    let rest : (f k : ℕ) → k < TABLE_ENTRIES → (f ≡ t → k ≡ i → ⊥) → word new.words f k ≡ word old.words f k =
+    λ f k k_in ne. wrote.1 f k k_in ne ∙ ap (λ ws. word ws f k) same_words in
     let bare : IsBare n c = zeroed_bare new.words c zeroed_now in
     let u : Under old new (suc l) t i [] = under_grown old new l t i c tree a absent names free_now bare rest (frames ∙ same_frames) in
     let g : IsGrown old new (suc l) t i c = record { under = u; absent = absent; names = names; bare = bare; free = c_free } in
@@ -144,11 +155,13 @@ grows_two old mid new l t i c value tree a absent reads free zeroed same_words s
       zeroed = zeroed_now;
     }
 
-pub grows : (old mid new : Pool) (level l t i c value : ℕ) → level ≡ suc (suc l) → IsTree old level t → i < TABLE_ENTRIES → memory old.words level t i ≡ Absent
-    → look level value ≡ Table c → ((f : ℕ) → occurs f mid.free + here c f ≡ occurs f old.free) → IsZeroed mid.words c → mid.words ≡ old.words → mid.frames ≡ old.frames
-    → IsWrite mid.words new.words t i value → new.free ≡ mid.free → new.frames ≡ mid.frames → Grows old new level (suc l) t i c
+pub grows : (old mid new : Pool) (level l t i c value : ℕ) → level ≡ suc (suc l) → IsTree old level t → i < TABLE_ENTRIES
+    → memory old.words level t i ≡ Absent → look level value ≡ Table c → ((f : ℕ) → occurs f mid.free + here c f ≡ occurs f old.free)
+    → IsZeroed mid.words c → mid.words ≡ old.words → mid.frames ≡ old.frames → IsWrite mid.words new.words t i value → new.free ≡ mid.free
+    → new.frames ≡ mid.frames → Grows old new level (suc l) t i c
 grows old mid new level l t i c value up =
     subst (λ n. IsTree old n t → i < TABLE_ENTRIES → memory old.words n t i ≡ Absent
-    → look n value ≡ Table c → ((f : ℕ) → occurs f mid.free + here c f ≡ occurs f old.free) → IsZeroed mid.words c → mid.words ≡ old.words → mid.frames ≡ old.frames
+    → look n value ≡ Table c → ((f : ℕ) → occurs f mid.free + here c f ≡ occurs f old.free) → IsZeroed mid.words c → mid.words ≡ old.words
+    → mid.frames ≡ old.frames
     → IsWrite mid.words new.words t i value → new.free ≡ mid.free → new.frames ≡ mid.frames → Grows old new n (suc l) t i c) (sym up)
     (grows_two old mid new l t i c value)

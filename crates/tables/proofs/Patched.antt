@@ -1,5 +1,6 @@
 -- Words of one frame replaced, in the middle of the pool's list of words.
-use Rattle.std.proofs.Common.{◌≡◌, ℕ, ◌+◌, ◌-◌, ◌*◌, ◌<◌, ◌≤◌, List, ◌++◌, length, take, drop, length-append, length-drop, get_or, ap, sym, ◌∙◌, subst, ⊎_elim, arith}
+use Rattle.std.proofs.Common.{◌≡◌, ℕ, ◌+◌, ◌-◌, ◌*◌, ◌<◌, ◌≤◌, List, ◌++◌, length, take, drop, length-append, length-drop, get_or, ap, sym}
+use Rattle.std.proofs.Common.{◌∙◌, subst, ⊎_elim, arith}
 use Rattle.std.proofs.Math.Seq.{take-length}
 use Rattle.std.proofs.lemmas.List.{take-append-le, length-take-le, get_or-take, get_or-drop, get_or_append_left, get_or-append_right}
 use Rattle.std.proofs.lemmas.Bool.{cases_lt}
@@ -16,7 +17,14 @@ patched limit a b xs ys new = take limit (put_back a b ys new ++ drop (length (p
 
 length_put : (a b : ℕ) (xs new : List ℕ) → a ≤ b → b ≤ length xs → length new ≡ b - a → length (put_back a b xs new) ≡ length xs
 length_put a b xs new le within long =
-    omega (arith, length-append (take a xs) (new ++ drop (b - a) (drop a xs)), length-append new (drop (b - a) (drop a xs)), length-drop (b - a) (drop a xs), length-drop a xs, length-take-le a xs (omega arith))
+    omega (
+      arith,
+      length-append (take a xs) (new ++ drop (b - a) (drop a xs)),
+      length-append new (drop (b - a) (drop a xs)),
+      length-drop (b - a) (drop a xs),
+      length-drop a xs,
+      length-take-le a xs (omega arith),
+    )
 
 patched_is : (limit a b : ℕ) (xs ys new : List ℕ) → ys ≡ xs → limit ≡ length xs → a ≤ b → b ≤ length xs → length new ≡ b - a
     → patched limit a b xs ys new ≡ put_back a b xs new
@@ -28,7 +36,8 @@ patched_is limit a b xs ys new same all le within long =
     ∙ ap (λ n. take n (put_back a b xs new)) whole
     ∙ take-length (put_back a b xs new)
 
-read_inside : (a b k : ℕ) (xs new : List ℕ) → a ≤ b → b ≤ length xs → length new ≡ b - a → k < b - a → get_or (put_back a b xs new) (a + k) 0 ≡ get_or new k 0
+read_inside : (a b k : ℕ) (xs new : List ℕ) → a ≤ b → b ≤ length xs → length new ≡ b - a → k < b - a
+    → get_or (put_back a b xs new) (a + k) 0 ≡ get_or new k 0
 read_inside a b k xs new le within long k_in =
     let past : a + k - a ≡ k = omega arith in
     get_or-append_right (take a xs) (new ++ drop (b - a) (drop a xs)) a (a + k) 0 (length-take-le a xs (omega arith)) (omega arith)
@@ -40,7 +49,8 @@ read_below a b i xs new within low =
     get_or_append_left (take a xs) (new ++ drop (b - a) (drop a xs)) 0 i (omega (arith, length-take-le a xs within))
     ∙ get_or-take a xs i 0 low
 
-read_above : (a b i : ℕ) (xs new : List ℕ) → a ≤ b → b ≤ length xs → length new ≡ b - a → b ≤ i → get_or (put_back a b xs new) i 0 ≡ get_or xs i 0
+read_above : (a b i : ℕ) (xs new : List ℕ) → a ≤ b → b ≤ length xs → length new ≡ b - a → b ≤ i
+    → get_or (put_back a b xs new) i 0 ≡ get_or xs i 0
 read_above a b i xs new le within long high =
     let place : a + (b - a + (i - a - (b - a))) ≡ i = omega arith in
     get_or-append_right (take a xs) (new ++ drop (b - a) (drop a xs)) a i 0 (length-take-le a xs (omega arith)) (omega arith)
@@ -56,8 +66,8 @@ pub record IsPatch (pool : Pool) (new : List ℕ) (table from : ℕ) (run : List
   pub rest : IsRest pool.words new table from (length run)
 
 -- the words of such a pool, where the place of the run in the list is counted from the frame's number
-pub patch : (limit n t i count : ℕ) (pool : Pool) (ys run : List ℕ) → n ≡ t → ys ≡ pool.words → limit ≡ length pool.words → IsPool pool → t < pool.frames
-    → occurs t pool.free ≡ 0 → i + count ≤ TABLE_ENTRIES → length run ≡ count
+pub patch : (limit n t i count : ℕ) (pool : Pool) (ys run : List ℕ) → n ≡ t → ys ≡ pool.words → limit ≡ length pool.words → IsPool pool
+    → t < pool.frames → occurs t pool.free ≡ 0 → i + count ≤ TABLE_ENTRIES → length run ≡ count
     → IsPatch pool (patched limit (n * TABLE_ENTRIES + i) (n * TABLE_ENTRIES + i + count) pool.words ys run) t i run
 unfolding word
 patch limit n t i count pool ys run at same all ok t_in taken i_in long =
@@ -89,7 +99,8 @@ patch limit n t i count pool ys run at same all ok t_in taken i_in long =
         once = ok.once;
         within = ok.within;
         zeroed = λ f free k k_in.
-            rest f k k_in (λ e _ _. let one : occurs f pool.free ≡ occurs t pool.free = ap (λ x. occurs x pool.free) e in absurd (omega arith))
+            rest f k k_in
+            (λ e _ _. let one : occurs f pool.free ≡ occurs t pool.free = ap (λ x. occurs x pool.free) e in absurd (omega arith))
             ∙ ok.zeroed f free k k_in;
       };
       inside = inside;

@@ -1,5 +1,6 @@
 -- A run of entries written in a table of level 1, and one leaf of 512 pages.
-use Rattle.std.proofs.Common.{◌≡◌, ◌≢◌, ℕ, ◌+◌, ◌-◌, ◌/◌, ◌%◌, ◌<◌, ◌≤◌, inl, inr, ⊎_elim, Some, None, List, [], refl, sym, ap, subst, ◌∙◌, arith, mod-lt}
+use Rattle.std.proofs.Common.{◌≡◌, ◌≢◌, ℕ, ◌+◌, ◌-◌, ◌/◌, ◌%◌, ◌<◌, ◌≤◌, inl, inr, ⊎_elim, Some, None, List, [], refl, sym, ap, subst, ◌∙◌}
+use Rattle.std.proofs.Common.{arith, mod-lt}
 use Rattle.dmatypes.specs.declared.page.TheConstants.{SPAN_PAGES}
 use Rattle.tables.specs.declared.entries.TheConstants.{TABLE_ENTRIES}
 use Rattle.dmatypes.specs.World.{Target}
@@ -32,7 +33,8 @@ no_table m t p w ne = table_under m 0 t p w (m 1 t (index_in 0 p)) ne refl ∙ b
 
 pub table_one : (m n : Memory) (t p w : ℕ) → table_from n 1 t p w ≡ table_from m 1 t p w
 table_one m n t p w =
-    ⊎_elim (λ top. table_top n 0 t p w top ∙ sym (table_top m 0 t p w top)) (λ lower. no_table n t p w lower ∙ sym (no_table m t p w lower)) (same_or_not w 1)
+    ⊎_elim (λ top. table_top n 0 t p w top ∙ sym (table_top m 0 t p w top)) (λ lower. no_table n t p w lower ∙ sym (no_table m t p w lower))
+    (same_or_not w 1)
 
 pub run_moves : (old new : Pool) (t from to : ℕ) (entry : ℕ → SsEntry) → IsRun old.words new.words t from to entry
     → new.free ≡ old.free → new.frames ≡ old.frames → TakesAndGivesFrames old new 1 t []
@@ -45,8 +47,8 @@ run_moves old new t from to entry run free frames = record {
 }
 
 -- the leaf of a page of the run
-pub run_leaf : (old new : Pool) (t from to p : ℕ) (entry : ℕ → SsEntry) (e : SsEntry) → IsRun old.words new.words t from to entry → from ≤ p → p < to → entry p ≡ e
-    → leaf_from (memory new.words) 1 t p ≡ leaf_of e 0 (λ c. leaf_from (memory new.words) 0 c p)
+pub run_leaf : (old new : Pool) (t from to p : ℕ) (entry : ℕ → SsEntry) (e : SsEntry) → IsRun old.words new.words t from to entry → from ≤ p
+    → p < to → entry p ≡ e → leaf_from (memory new.words) 1 t p ≡ leaf_of e 0 (λ c. leaf_from (memory new.words) 0 c p)
 run_leaf old new t from to p entry e run low high is =
     leaf_under (memory new.words) 0 t p e (ap (λ i. memory new.words 1 t i) (index-zero p) ∙ run.entries p low high ∙ is)
 
@@ -63,15 +65,20 @@ run_rest old new t from to p entry run one same out =
     let kept : word new.words t (p % SPAN_PAGES) ≡ word old.words t (p % SPAN_PAGES) =
     run.rest t (p % SPAN_PAGES) small (λ _ q low high e. not_both from to p q out (one_page q p (one q low high ∙ sym same) e) low high) in
     let entry_kept : memory new.words 1 t (index_in 0 p) ≡ memory old.words 1 t (index_in 0 p) =
-    subst (λ i. memory new.words 1 t i ≡ memory old.words 1 t i) (sym (index-zero p)) (same_entry old.words new.words 1 t (p % SPAN_PAGES) kept) in
+    subst (λ i. memory new.words 1 t i ≡ memory old.words 1 t i) (sym (index-zero p))
+    (same_entry old.words new.words 1 t (p % SPAN_PAGES) kept) in
     leaf_under (memory new.words) 0 t p (memory old.words 1 t (index_in 0 p)) entry_kept
-    ∙ leaf_by (memory old.words) (memory new.words) 0 p (memory old.words 1 t (index_in 0 p)) (λ c e. leaf-zero (memory new.words) c p ∙ sym (leaf-zero (memory old.words) c p))
+    ∙ leaf_by (memory old.words) (memory new.words) 0 p (memory old.words 1 t (index_in 0 p))
+    (λ c e. leaf-zero (memory new.words) c p ∙ sym (leaf-zero (memory old.words) c p))
     ∙ sym (leaf_under (memory old.words) 0 t p (memory old.words 1 t (index_in 0 p)) refl)
 
 pub run_maps : (old new : Pool) (t from to : ℕ) (entry : ℕ → SsEntry) (says : ℕ → Target) → IsRun old.words new.words t from to entry
-    → ((q : ℕ) → from ≤ q → q < to → q / SPAN_PAGES ≡ from / SPAN_PAGES) → ((p : ℕ) → entry p ≡ Leaf (says p)) → Maps old new 1 t from to (λ p. Some (says p))
+    → ((q : ℕ) → from ≤ q → q < to → q / SPAN_PAGES ≡ from / SPAN_PAGES) → ((p : ℕ) → entry p ≡ Leaf (says p))
+    → Maps old new 1 t from to (λ p. Some (says p))
 run_maps old new t from to entry says run one leaves = record {
-  mapped = λ p low high. ap (stated p) (run_leaf old new t from to p entry (Leaf (says p)) run low high (leaves p)) ∙ stated_small p 0 (says p) refl;
+  mapped =
+      λ p low high.
+      ap (stated p) (run_leaf old new t from to p entry (Leaf (says p)) run low high (leaves p)) ∙ stated_small p 0 (says p) refl;
   elsewhere = λ p wide out. run_rest old new t from to p entry run one (sym (div_span_one p) ∙ wide ∙ div_span_one from) out;
   tables = λ p w c h. table_one (memory old.words) (memory new.words) t p w ∙ h;
   taken = λ p w c h. inl (table_one (memory new.words) (memory old.words) t p w ∙ h);
@@ -80,7 +87,8 @@ run_maps old new t from to entry says run one leaves = record {
 
 -- a run by the places of its words
 pub run_of : (old new : List ℕ) (t from to : ℕ) (entry : ℕ → SsEntry) → from < to → from / SPAN_PAGES ≡ (to - 1) / SPAN_PAGES
-    → ((k : ℕ) → k < to - from → look 1 (word new t (from % SPAN_PAGES + k)) ≡ entry (from + k)) → IsRest old new t (from % SPAN_PAGES) (to - from) → IsRun old new t from to entry
+    → ((k : ℕ) → k < to - from → look 1 (word new t (from % SPAN_PAGES + k)) ≡ entry (from + k))
+    → IsRest old new t (from % SPAN_PAGES) (to - from) → IsRun old new t from to entry
 run_of old new t from to entry some one words rest = record {
   entries = λ p low high.
       let place : p % SPAN_PAGES ≡ from % SPAN_PAGES + (p - from) = omega arith in

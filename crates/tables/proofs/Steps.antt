@@ -1,5 +1,6 @@
 -- One step of a walk, and of the count of frames.
-use Rattle.std.proofs.Common.{◌≡◌, ◌≢◌, ℕ, suc, ◌+◌, ◌*◌, ◌/◌, ◌%◌, ◌<◌, ◌≤◌, ◌⊎◌, inl, inr, cond, eqb, true, false, Option, Some, None, refl, sym, ap, ◌∙◌, arith, mul_comm}
+use Rattle.std.proofs.Common.{◌≡◌, ◌≢◌, ℕ, suc, ◌+◌, ◌*◌, ◌/◌, ◌%◌, ◌<◌, ◌≤◌, ◌⊎◌, inl, inr, cond, eqb, true, false, Option, Some, None}
+use Rattle.std.proofs.Common.{refl, sym, ap, ◌∙◌, arith, mul_comm}
 use Rattle.std.proofs.Math.Nat.{div-div-eq-div-mul, div-one}
 use Rattle.std.proofs.lemmas.Bool.Decides.{nat_tests, eqb_tells}
 use Rattle.dmatypes.specs.declared.page.TheConstants.{SPAN_PAGES}
@@ -16,7 +17,8 @@ pub leaf-suc : (m : Memory) (l t p : ℕ) → leaf_from m (suc l) t p ≡ leaf_o
 unfolding leaf_from
 leaf-suc m l t p = refl
 
-pub table-suc : (m : Memory) (l t p w : ℕ) → table_from m (suc l) t p w ≡ cond (eqb w (suc l)) (Some t) (table_of (m (suc l) t (index_in l p)) (λ c. table_from m l c p w))
+pub table-suc : (m : Memory) (l t p w : ℕ)
+    → table_from m (suc l) t p w ≡ cond (eqb w (suc l)) (Some t) (table_of (m (suc l) t (index_in l p)) (λ c. table_from m l c p w))
 unfolding table_from
 table-suc m l t p w = refl
 
@@ -37,17 +39,23 @@ pub same_or_not : (a b : ℕ) → (a ≡ b) ⊎ (a ≢ b)
 same_or_not a b = elim (eqb_tells a b) [ inl h ↦ inl h.1 | inr h ↦ inr h.1 ]
 
 -- the leaf under an entry, by what it is
-pub leaf_under : (m : Memory) (l t p : ℕ) (e : SsEntry) → m (suc l) t (index_in l p) ≡ e → leaf_from m (suc l) t p ≡ leaf_of e l (λ c. leaf_from m l c p)
+pub leaf_under : (m : Memory) (l t p : ℕ) (e : SsEntry) → m (suc l) t (index_in l p) ≡ e
+    → leaf_from m (suc l) t p ≡ leaf_of e l (λ c. leaf_from m l c p)
 leaf_under m l t p e is = leaf-suc m l t p ∙ ap (λ x. leaf_of x l (λ c. leaf_from m l c p)) is
 
 -- the table of the level itself, and one below an entry
 pub table_top : (m : Memory) (l t p w : ℕ) → w ≡ suc l → table_from m (suc l) t p w ≡ Some t
-table_top m l t p w e = let yes : eqb w (suc l) ≡ true = grind (arith, nat_tests) in table-suc m l t p w ∙ ap (λ b. cond b (Some t) (table_of (m (suc l) t (index_in l p)) (λ c. table_from m l c p w))) yes
+table_top m l t p w e =
+    let yes : eqb w (suc l) ≡ true =
+    grind (arith, nat_tests) in
+    table-suc m l t p w ∙ ap (λ b. cond b (Some t) (table_of (m (suc l) t (index_in l p)) (λ c. table_from m l c p w))) yes
 
-pub table_under : (m : Memory) (l t p w : ℕ) (e : SsEntry) → w ≢ suc l → m (suc l) t (index_in l p) ≡ e → table_from m (suc l) t p w ≡ table_of e (λ c. table_from m l c p w)
+pub table_under : (m : Memory) (l t p w : ℕ) (e : SsEntry) → w ≢ suc l → m (suc l) t (index_in l p) ≡ e
+    → table_from m (suc l) t p w ≡ table_of e (λ c. table_from m l c p w)
 table_under m l t p w e ne is =
     let no : eqb w (suc l) ≡ false = grind (arith, nat_tests) in
-    table-suc m l t p w ∙ ap (λ b. cond b (Some t) (table_of (m (suc l) t (index_in l p)) (λ c. table_from m l c p w))) no ∙ ap (λ x. table_of x (λ c. table_from m l c p w)) is
+    table-suc m l t p w ∙ ap (λ b. cond b (Some t) (table_of (m (suc l) t (index_in l p)) (λ c. table_from m l c p w))) no
+    ∙ ap (λ x. table_of x (λ c. table_from m l c p w)) is
 
 -- no table lies above the one where a walk begins
 pub too_high : (m : Memory) (l t p w : ℕ) → l < w → table_from m l t p w ≡ None
@@ -64,13 +72,15 @@ own_use m l t i inside = omega (arith, uses-suc m l t t, here-same t, total_part
 pub child_use : (m : Memory) (l t f i : ℕ) → i < TABLE_ENTRIES → child m l t f i ≤ uses m (suc l) t f
 child_use m l t f i inside = omega (arith, uses-suc m l t f, total_part (child m l t f) TABLE_ENTRIES i inside)
 
-pub two_uses : (m : Memory) (l t f i j : ℕ) → i < TABLE_ENTRIES → j < TABLE_ENTRIES → j ≢ i → child m l t f i + child m l t f j ≤ uses m (suc l) t f
+pub two_uses : (m : Memory) (l t f i j : ℕ) → i < TABLE_ENTRIES → j < TABLE_ENTRIES → j ≢ i
+    → child m l t f i + child m l t f j ≤ uses m (suc l) t f
 two_uses m l t f i j a b ne = omega (arith, uses-suc m l t f, total_two (child m l t f) TABLE_ENTRIES i j a b ne)
 
 -- a bare table uses itself alone
 pub uses-bare : (m : Memory) (l t f : ℕ) → IsBare m t → uses m (suc l) t f ≡ here t f
 uses-bare m l t f bare =
-    let none : total (child m l t f) TABLE_ENTRIES ≡ 0 = total-none (child m l t f) TABLE_ENTRIES (λ j lt. ap (λ e. entry_uses e (λ c. uses m l c f)) (bare (suc l) j lt)) in
+    let none : total (child m l t f) TABLE_ENTRIES ≡ 0 =
+    total-none (child m l t f) TABLE_ENTRIES (λ j lt. ap (λ e. entry_uses e (λ c. uses m l c f)) (bare (suc l) j lt)) in
     omega (arith, uses-suc m l t f)
 
 -- and so does a table of level 1

@@ -1,5 +1,6 @@
 -- Pieces: pages in one span of 512, with what they are mapped to or with what became of them.
-use Rattle.std.specs.Prelude.{◌≡◌, ℕ, ◌+◌, ◌-◌, ◌%◌, ◌<◌, ◌≤◌, Bool, true, false, ◌==◌, ◌&&◌, nat_le, if◌then◌else◌, Option, Some, List, [], ◌∷◌}
+use Rattle.std.specs.Prelude.{◌≡◌, ℕ, ◌+◌, ◌-◌, ◌%◌, ◌<◌, ◌≤◌, Bool, true, false, ◌==◌, ◌&&◌, nat_le, if◌then◌else◌, Option, Some, List, []}
+use Rattle.std.specs.Prelude.{◌∷◌}
 use Rattle.dmatypes.specs.declared.page.TheConstants.{SPAN_PAGES}
 use Rattle.tables.specs.declared.entries.TheConstants.{TABLE_ENTRIES}
 use Rattle.dmatypes.specs.Rights.{bits_of}
@@ -28,7 +29,8 @@ is_large x = (x.from % SPAN_PAGES == 0) && (x.to - x.from == SPAN_PAGES) && (x.f
 -- in a table of level 1 the entries of these pages were written, and no other word changed
 pub record IsRun (old new : List ℕ) (table from to : ℕ) (entry : ℕ → SsEntry) : Type 0 where
   pub entries : (p : ℕ) → from ≤ p → p < to → memory new 1 table (p % SPAN_PAGES) ≡ entry p
-  pub rest : (f k : ℕ) → k < TABLE_ENTRIES → (f ≡ table → (p : ℕ) → from ≤ p → p < to → p % SPAN_PAGES ≡ k → ⊥) → word new f k ≡ word old f k
+  pub rest : (f k : ℕ) → k < TABLE_ENTRIES → (f ≡ table → (p : ℕ) → from ≤ p → p < to → p % SPAN_PAGES ≡ k → ⊥)
+      → word new f k ≡ word old f k
 
 -- the table that was cut with a piece
 abbrev pub cut_of : Cleared → List ℕ

@@ -31,5 +31,6 @@ pub record IsSplit (old new : Pool) (t i page c : ℕ) (x : Target) : Type 0 whe
   pub under : Under old new 1 t i []
   pub was : memory old.words 2 t i ≡ LargeLeaf x
   pub is : memory new.words 2 t i ≡ Table c
-  pub spelled : (p : ℕ) → p / SPAN_PAGES ≡ page / SPAN_PAGES → memory new.words 1 c (p % SPAN_PAGES) ≡ Leaf (target (x.frame + p % SPAN_PAGES) x.rights)
+  pub spelled : (p : ℕ) → p / SPAN_PAGES ≡ page / SPAN_PAGES
+      → memory new.words 1 c (p % SPAN_PAGES) ≡ Leaf (target (x.frame + p % SPAN_PAGES) x.rights)
   pub free : 0 < occurs c old.free

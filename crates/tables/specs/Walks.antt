@@ -12,5 +12,6 @@ unfoldable pub Walks : (ℕ → ℕ → ℕ) → ℕ → ℕ → ℕ → ℕ →
 Walks words zero table page frame rights = ⊥
 Walks words (suc l) table page frame rights =
     Spells (suc l) (words table (index_in l page)) (Leaf (target frame rights))
-    ⊎ ((first : ℕ) × (Spells (suc l) (words table (index_in l page)) (LargeLeaf (target first rights)) × (frame ≡ first + page % SPAN_PAGES)))
+    ⊎ ((first : ℕ)
+    × (Spells (suc l) (words table (index_in l page)) (LargeLeaf (target first rights)) × (frame ≡ first + page % SPAN_PAGES)))
     ⊎ ((below : ℕ) × (Spells (suc l) (words table (index_in l page)) (Table below) × Walks words l below page frame rights))

@@ -36,7 +36,9 @@ impl Model for Pool {
 
     ghost view = { λ a. record { words = a.words.items; free = take a.free a.slots.items; frames = length a.slots.items } };
 
-    ghost invariant = { λ a. IsPool (record { words = a.words.items; free = take a.free a.slots.items; frames = length a.slots.items }) × (a.free ≤ length a.slots.items) };
+    ghost invariant = { λ a.
+        IsPool (record { words = a.words.items; free = take a.free a.slots.items; frames = length a.slots.items })
+        × (a.free ≤ length a.slots.items) };
 }
 
 impl Pool {
@@ -142,7 +144,8 @@ impl Pool {
         requires taken { occurs frame self.old.free ≡ 0 }
         requires frames { first + count ≤ FRAMES_END }
         requires rights { AreRights (bits_of rights) }
-        ensures leaves { (k : ℕ) → k < count → look 1 (word self.new.words frame (from + k)) ≡ SsEntry.Leaf (target (first + k) (bits_of rights)) }
+        ensures leaves { (k : ℕ) → k < count
+            → look 1 (word self.new.words frame (from + k)) ≡ SsEntry.Leaf (target (first + k) (bits_of rights)) }
         ensures rest { IsRest self.old.words self.new.words frame from count }
         ensures free { self.new.free ≡ self.old.free }
         ensures frames { self.new.frames ≡ self.old.frames }
@@ -209,7 +212,8 @@ fn spell_leaves(words: &mut [u64], first: u64, rights: Rights)
     requires frames { first + length words.old ≤ FRAMES_END }
     requires rights { AreRights (bits_of rights) }
     ensures length { length words.new ≡ length words.old }
-    ensures leaves { (k : ℕ) → k < length words.old → look 1 (slice_index words.new k) ≡ SsEntry.Leaf (target (first + k) (bits_of rights)) }
+    ensures leaves { (k : ℕ) → k < length words.old
+        → look 1 (slice_index words.new k) ≡ SsEntry.Leaf (target (first + k) (bits_of rights)) }
 {
     for (k, word) in words.iter_mut().enumerate() {
         *word = leaf_word(first + k as u64, rights);

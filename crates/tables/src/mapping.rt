@@ -1,6 +1,7 @@
 //! Pages mapped to host frames, in trees of up to 4 levels, and so of up to 2^36 pages.
 
-ghost use Rattle.std.specs.Prelude.{◌≡◌, ℕ, Bool, ◌+◌, ◌-◌, ◌*◌, ◌/◌, ◌%◌, ◌^◌, ◌<◌, ◌≤◌, [], length, if◌then◌else◌, false, None, IsSome, IsErr, OnOk, OnErr, true, ◌↔◌};
+ghost use Rattle.std.specs.Prelude.{◌≡◌, ℕ, Bool, ◌+◌, ◌-◌, ◌*◌, ◌/◌, ◌%◌, ◌^◌, ◌<◌, ◌≤◌, [], length, if◌then◌else◌, false, None, IsSome};
+ghost use Rattle.std.specs.Prelude.{IsErr, OnOk, OnErr, true, ◌↔◌};
 ghost use Rattle.dmatypes.specs.Conditions.{total_pages};
 ghost use Rattle.dmatypes.specs.Rights.{AreRights, bits_of};
 ghost use Rattle.dmatypes.specs.World.{placed};
@@ -73,7 +74,8 @@ pub fn map_piece(pool: &mut Pool, level: u64, table: Frame, piece: &Piece)
     ensures made { (w : ℕ) → 1 ≤ w → w < level → (w ≡ 1 → is_large piece.now ≡ false)
         → IsSome (table_from (memory pool.new.words) level table piece.now.from w) }
     ensures spared { 1 < level → is_large piece.now ≡ true
-        → table_from (memory pool.new.words) level table piece.now.from 1 ≡ table_from (memory pool.old.words) level table piece.now.from 1 }
+        → table_from (memory pool.new.words) level table piece.now.from 1
+        ≡ table_from (memory pool.old.words) level table piece.now.from 1 }
     ensures count { length pool.new.free + lacks_at (memory pool.old.words) level table (is_large piece.now) piece.now.from
         ≡ length pool.old.free }
     ensures pool { IsPool pool.new }
@@ -157,7 +159,8 @@ fn spans_lacking(
     requires some { first < end }
     requires end { end ≡ first + total_pages segments.now }
     requires within { end ≤ WIDEST_PAGES_END }
-    ensures value { result ≡ sum_spans (λ p. lacking (memory pool.now.words) level root (is_large_at segments.now first p) wanted p) wanted first end }
+    ensures value { result
+        ≡ sum_spans (λ p. lacking (memory pool.now.words) level root (is_large_at segments.now first p) wanted p) wanted first end }
     ensures small { result ≤ WIDEST_PAGES_END }
 {
     let width = span_of(wanted);
@@ -268,8 +271,10 @@ pub fn map_segments(
     ensures refused { IsErr result ↔ (length pool.old.free < map_lacks pool.old level root segments.now first) }
     ensures unchanged { OnErr result (pool.new ≡ pool.old) }
     ensures moves { TakesAndGivesFrames pool.old pool.new level root [] }
-    ensures maps { OnOk result (Maps pool.old pool.new level root first (first + total_pages segments.now) (placed segments.now first (bits_of rights))) }
-    ensures makes { OnOk result (MakesTables pool.old pool.new level root first (first + total_pages segments.now) (is_large_at segments.now first)) }
+    ensures maps { OnOk result
+        (Maps pool.old pool.new level root first (first + total_pages segments.now) (placed segments.now first (bits_of rights))) }
+    ensures makes { OnOk result
+        (MakesTables pool.old pool.new level root first (first + total_pages segments.now) (is_large_at segments.now first)) }
     ensures count { OnOk result (length pool.new.free + map_lacks pool.old level root segments.now first ≡ length pool.old.free) }
     ensures pool { IsPool pool.new }
 {

@@ -42,7 +42,8 @@ impl Piece {
         ensures within { IfSome result (λ x. x.to ≤ first + total_pages segments.now) }
         ensures placed { IfSome result (λ x. (p : ℕ) → page ≤ p → p < x.to → placed segments.now first (bits_of rights) p ≡ says x p) }
         ensures large { IfSome result (λ x. is_large x ≡ is_large_at segments.now first page) }
-        ensures inner { IfSome result (λ x. 0 < x.to % SPAN_PAGES → is_large_at segments.now first (SPAN_PAGES * (x.to / SPAN_PAGES)) ≡ false) }
+        ensures inner { IfSome result
+            (λ x. 0 < x.to % SPAN_PAGES → is_large_at segments.now first (SPAN_PAGES * (x.to / SPAN_PAGES)) ≡ false) }
     {
         let rest = rest_at(segments, first, page)?;
         let to = (page + rest.pages).min((page / SPAN_PAGES + 1) * SPAN_PAGES);

@@ -1,6 +1,7 @@
 //! Trees of tables in a pool.
 
-ghost use Rattle.std.specs.Prelude.{◌≡◌, ◌↔◌, ℕ, ◌+◌, ◌-◌, ◌/◌, ◌^◌, ◌<◌, ◌≤◌, ◌⊎◌, [], false, Some, None, length, IsErr, IsSome, IfOk, OnOk, OnErr, IfSome, IfNone, IsTrue};
+ghost use Rattle.std.specs.Prelude.{◌≡◌, ◌↔◌, ℕ, ◌+◌, ◌-◌, ◌/◌, ◌^◌, ◌<◌, ◌≤◌, ◌⊎◌, [], false, Some, None, length, IsErr, IsSome, IfOk};
+ghost use Rattle.std.specs.Prelude.{OnOk, OnErr, IfSome, IfNone, IsTrue};
 ghost use Rattle.dmatypes.specs.Conditions.{total_pages};
 ghost use Rattle.dmatypes.specs.Page.{IsPageRange, IsWithin};
 ghost use Rattle.dmatypes.specs.Rights.{AreRights, bits_of};
@@ -76,7 +77,8 @@ impl Tree {
         requires absent { (p : ℕ) → IsWithin range p → states (memory pool.old.words) LEVELS self.old.root p ≡ None }
         requires frames { frame + range.pages ≤ FRAMES_END }
         requires rights { AreRights (bits_of rights) }
-        ensures refused { IsErr result ↔ (length pool.old.free < map_lacks pool.old LEVELS self.old.root (one_segment frame range.pages) range.first) }
+        ensures refused { IsErr result
+            ↔ (length pool.old.free < map_lacks pool.old LEVELS self.old.root (one_segment frame range.pages) range.first) }
         ensures unchanged { OnErr result (pool.new ≡ pool.old) }
         ensures root { self.new ≡ self.old }
         ensures moves { TakesAndGivesFrames pool.old pool.new LEVELS self.old.root [] }
@@ -84,8 +86,8 @@ impl Tree {
             (λ p. Some (target (frame + (p - range.first)) (bits_of rights)))) }
         ensures makes { OnOk result (MakesTables pool.old pool.new LEVELS self.old.root range.first (range.first + range.pages)
             (is_large_at (one_segment frame range.pages) range.first)) }
-        ensures count { OnOk result (length pool.new.free + map_lacks pool.old LEVELS self.old.root (one_segment frame range.pages) range.first
-            ≡ length pool.old.free) }
+        ensures count { OnOk result (length pool.new.free
+            + map_lacks pool.old LEVELS self.old.root (one_segment frame range.pages) range.first ≡ length pool.old.free) }
         ensures leaves { (first pages frame rights : ℕ) → IsLeafAt (memory pool.old.words) LEVELS self.old.root first pages frame rights
             → IsLeafAt (memory pool.new.words) LEVELS self.old.root first pages frame rights }
         ensures tables { (first level table : ℕ) → IsTableAt (memory pool.old.words) LEVELS self.old.root first level table
@@ -115,7 +117,8 @@ impl Tree {
         requires few { length segments.now ≤ 16 }
         requires segments { AreSegments segments.now }
         requires range { IsPageRange (record { first = start; pages = total_pages segments.now }) }
-        requires absent { (p : ℕ) → start ≤ p → p < start + total_pages segments.now → states (memory pool.old.words) LEVELS self.old.root p ≡ None }
+        requires absent { (p : ℕ) → start ≤ p → p < start + total_pages segments.now
+            → states (memory pool.old.words) LEVELS self.old.root p ≡ None }
         requires rights { AreRights (bits_of rights) }
         ensures refused { IsErr result ↔ (length pool.old.free < map_lacks pool.old LEVELS self.old.root segments.now start) }
         ensures unchanged { OnErr result (pool.new ≡ pool.old) }
@@ -125,7 +128,8 @@ impl Tree {
             (placed segments.now start (bits_of rights))) }
         ensures makes { OnOk result (MakesTables pool.old pool.new LEVELS self.old.root start (start + total_pages segments.now)
             (is_large_at segments.now start)) }
-        ensures count { OnOk result (length pool.new.free + map_lacks pool.old LEVELS self.old.root segments.now start ≡ length pool.old.free) }
+        ensures count { OnOk result
+            (length pool.new.free + map_lacks pool.old LEVELS self.old.root segments.now start ≡ length pool.old.free) }
         ensures leaves { (first pages frame rights : ℕ) → IsLeafAt (memory pool.old.words) LEVELS self.old.root first pages frame rights
             → IsLeafAt (memory pool.new.words) LEVELS self.old.root first pages frame rights }
         ensures tables { (first level table : ℕ) → IsTableAt (memory pool.old.words) LEVELS self.old.root first level table
@@ -142,7 +146,8 @@ impl Tree {
     /// takes one.
     pub fn may_unmap(&self, pool: &Pool, range: PageRange) -> Result<(), NoFrames>
         requires { IsTree pool.now LEVELS self.now.root }
-        ensures { IsErr result ↔ (length pool.now.free < splits (memory pool.now.words) LEVELS self.now.root range.first (range.first + range.pages)) }
+        ensures { IsErr result
+            ↔ (length pool.now.free < splits (memory pool.now.words) LEVELS self.now.root range.first (range.first + range.pages)) }
     {
         let from = range.first();
         let to = from + range.pages();
@@ -166,7 +171,8 @@ impl Tree {
         ensures root { self.new ≡ self.old }
         ensures moves { TakesAndGivesFrames pool.old pool.new LEVELS self.old.root result.frames }
         ensures unmaps { Unmaps pool.old pool.new LEVELS self.old.root range.first (range.first + range.pages) result.frames }
-        ensures split { IsTrue result.split ↔ (0 < splits (memory pool.old.words) LEVELS self.old.root range.first (range.first + range.pages)) }
+        ensures split { IsTrue result.split
+            ↔ (0 < splits (memory pool.old.words) LEVELS self.old.root range.first (range.first + range.pages)) }
         ensures whole { (p : ℕ) (x : Found) → IsWithin range p → result.split ≡ false
             → leaf_from (memory pool.old.words) LEVELS self.old.root p ≡ Some x
             → (q : ℕ) → q / span x.size ≡ p / span x.size → IsWithin range q }
@@ -191,7 +197,8 @@ impl Tree {
     pub fn destroy(self, pool: &mut Pool)
         requires { IsTree pool.old LEVELS self.root }
         ensures free { (f : ℕ) → occurs f pool.new.free ≡ occurs f pool.old.free + uses (memory pool.old.words) LEVELS self.root f }
-        ensures words { (f k : ℕ) → k < TABLE_ENTRIES → uses (memory pool.old.words) LEVELS self.root f ≡ 0 → word pool.new.words f k ≡ word pool.old.words f k }
+        ensures words { (f k : ℕ) → k < TABLE_ENTRIES → uses (memory pool.old.words) LEVELS self.root f ≡ 0
+            → word pool.new.words f k ≡ word pool.old.words f k }
         ensures others { (level table : ℕ) → IsTree pool.old level table → IsApart pool.old LEVELS self.root level table
             → Stays pool.old pool.new level table }
         ensures size { pool.new.frames ≡ pool.old.frames }

@@ -1,6 +1,7 @@
 //! Pages unmapped, and tables given back, in trees of up to 4 levels, and so of up to 2^36 pages.
 
-ghost use Rattle.std.specs.Prelude.{◌≡◌, ◌≢◌, ℕ, ◌+◌, ◌-◌, ◌*◌, ◌/◌, ◌%◌, ◌^◌, ◌<◌, ◌≤◌, [], false, length, if◌then◌else◌, IsSome, IsTrue, ◌↔◌};
+ghost use Rattle.std.specs.Prelude.{◌≡◌, ◌≢◌, ℕ, ◌+◌, ◌-◌, ◌*◌, ◌/◌, ◌%◌, ◌^◌, ◌<◌, ◌≤◌, [], false, length, if◌then◌else◌, IsSome, IsTrue};
+ghost use Rattle.std.specs.Prelude.{◌↔◌};
 ghost use Rattle.tables.specs.Tree.{Memory, span, index_in, leaf_from, uses};
 ghost use Rattle.tables.specs.Pool.{word, memory, occurs, IsPool, IsTree, IsWrite};
 ghost use Rattle.vtdbits.specs.Entry.{look};
@@ -82,7 +83,8 @@ fn link(pool: &mut Pool, table: Frame, page: u64, below: Frame, leaf: LargeTrans
     requires taken { occurs table pool.old.free ≡ 0 }
     requires leaf { memory pool.old.words 2 table (index_in 1 page) ≡ SsEntry.LargeLeaf leaf }
     requires filled { (i : ℕ) → i < TABLE_ENTRIES → memory pool.old.words 1 below i ≡ SsEntry.Leaf (target (leaf.frame + i) leaf.rights) }
-    ensures wrote { (value : ℕ) × IsWrite pool.old.words pool.new.words table (index_in 1 page) value × (look 2 value ≡ SsEntry.Table below) }
+    ensures wrote { (value : ℕ) × IsWrite pool.old.words pool.new.words table (index_in 1 page) value
+        × (look 2 value ≡ SsEntry.Table below) }
     ensures free { pool.new.free ≡ pool.old.free }
     ensures frames { pool.new.frames ≡ pool.old.frames }
     ensures pool { IsPool pool.new }
@@ -233,7 +235,8 @@ pub fn release(pool: &mut Pool, level: u64, table: Frame)
     requires high { level ≤ MOST_LEVELS }
     requires tree { IsTree pool.old level table }
     ensures free { (f : ℕ) → occurs f pool.new.free ≡ occurs f pool.old.free + uses (memory pool.old.words) level table f }
-    ensures others { (f k : ℕ) → k < TABLE_ENTRIES → uses (memory pool.old.words) level table f ≡ 0 → word pool.new.words f k ≡ word pool.old.words f k }
+    ensures others { (f k : ℕ) → k < TABLE_ENTRIES → uses (memory pool.old.words) level table f ≡ 0
+        → word pool.new.words f k ≡ word pool.old.words f k }
     ensures frames { pool.new.frames ≡ pool.old.frames }
     ensures pool { IsPool pool.new }
 {
@@ -255,7 +258,8 @@ fn release_entry(pool: &mut Pool, level: u64, table: Frame, index: u64)
     ensures free { (f : ℕ) → occurs f pool.new.free ≡ occurs f pool.old.free + used_at pool.old level table f index }
     ensures cleared { word pool.new.words table index ≡ 0 }
     ensures row { (k : ℕ) → k < TABLE_ENTRIES → k ≢ index → word pool.new.words table k ≡ word pool.old.words table k }
-    ensures others { (f k : ℕ) → k < TABLE_ENTRIES → f ≢ table → used_at pool.old level table f index ≡ 0 → word pool.new.words f k ≡ word pool.old.words f k }
+    ensures others { (f k : ℕ) → k < TABLE_ENTRIES → f ≢ table → used_at pool.old level table f index ≡ 0
+        → word pool.new.words f k ≡ word pool.old.words f k }
     ensures frames { pool.new.frames ≡ pool.old.frames }
     ensures pool { IsPool pool.new }
 {

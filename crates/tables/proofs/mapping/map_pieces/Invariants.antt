@@ -16,9 +16,11 @@ invariant-loop-piece l = record {
   moves : TakesAndGivesFrames l.initial.pool l.pool l.level l.root [];
   maps : Maps l.initial.pool l.pool l.level l.root l.first l.place (placed l.segments l.first (bits_of l.rights));
   count : length l.pool.free + map_lacks l.initial.pool l.level l.root l.segments l.first
-      ≡ length l.initial.pool.free + lacks (memory l.pool.words) l.level l.root (is_large_at l.segments l.first) l.place (l.first + total_pages l.segments);
+      ≡ length l.initial.pool.free
+      + lacks (memory l.pool.words) l.level l.root (is_large_at l.segments l.first) l.place (l.first + total_pages l.segments);
   inner : 0 < l.place % SPAN_PAGES → is_large_at l.segments l.first (SPAN_PAGES * (l.place / SPAN_PAGES)) ≡ false;
-  ended : l.place ≡ l.first + total_pages l.segments → lacks (memory l.pool.words) l.level l.root (is_large_at l.segments l.first) l.place l.place ≡ 0;
+  ended : l.place ≡ l.first + total_pages l.segments
+      → lacks (memory l.pool.words) l.level l.root (is_large_at l.segments l.first) l.place l.place ≡ 0;
   pool : l.first < l.place → IsPool l.pool;
   makes : MakesTables l.initial.pool l.pool l.level l.root l.first l.place (is_large_at l.segments l.first);
 }

@@ -25,35 +25,50 @@ pub returns-clause-moves : goal.returns-clause-moves
 returns-clause-moves c =
     let whole = large_from c.args.piece.now c.requires.large in
     let named : c.unwrap-frame.result ≡ c.args.piece.now.frame = (rw c.unwrap-frame.ensures at c.new.ensures.value) in
-    let leaf : c.new-leaf.result ≡ target c.args.piece.now.frame (bits_of c.args.piece.now.rights) = c.new-leaf.ensures ∙ ap (λ f. target f (bits_of c.args.piece.now.rights)) named in
-    let names : memory c.write.new.self.words 2 c.args.table c.args.index ≡ LargeLeaf (target c.args.piece.now.frame (bits_of c.args.piece.now.rights)) =
-    memory_at c.write.new.self.words 2 c.args.table c.args.index ∙ ap (look 2) c.write.ensures.wrote.0 ∙ c.encode.ensures.looked 2 refl ∙ ap LargeLeaf leaf in
+    let leaf : c.new-leaf.result ≡ target c.args.piece.now.frame (bits_of c.args.piece.now.rights) =
+    c.new-leaf.ensures ∙ ap (λ f. target f (bits_of c.args.piece.now.rights)) named in
+    let names : memory c.write.new.self.words 2 c.args.table c.args.index
+    ≡ LargeLeaf (target c.args.piece.now.frame (bits_of c.args.piece.now.rights)) =
+    memory_at c.write.new.self.words 2 c.args.table c.args.index ∙ ap (look 2) c.write.ensures.wrote.0 ∙ c.encode.ensures.looked 2 refl
+    ∙ ap LargeLeaf leaf in
     let inside : c.args.index < TABLE_ENTRIES = omega (arith, index_lt 1 c.args.piece.now.from, c.requires.index) in
-    let all = large_maps c.args.pool.now c.write.new.self c.args.table c.args.index c.args.piece.now.from c.args.piece.now.frame (bits_of c.args.piece.now.rights) c.encode.result
-    c.requires.tree inside c.requires.index whole.0 c.write.ensures.wrote c.write.ensures.free c.write.ensures.frames c.requires.absent names in
+    let all =
+    large_maps c.args.pool.now c.write.new.self c.args.table c.args.index c.args.piece.now.from c.args.piece.now.frame
+    (bits_of c.args.piece.now.rights) c.encode.result c.requires.tree inside c.requires.index whole.0 c.write.ensures.wrote
+    c.write.ensures.free c.write.ensures.frames c.requires.absent names in
     all.0
 
 pub returns-clause-tables : goal.returns-clause-tables
 returns-clause-tables c =
     let whole = large_from c.args.piece.now c.requires.large in
     let named : c.unwrap-frame.result ≡ c.args.piece.now.frame = (rw c.unwrap-frame.ensures at c.new.ensures.value) in
-    let leaf : c.new-leaf.result ≡ target c.args.piece.now.frame (bits_of c.args.piece.now.rights) = c.new-leaf.ensures ∙ ap (λ f. target f (bits_of c.args.piece.now.rights)) named in
-    let names : memory c.write.new.self.words 2 c.args.table c.args.index ≡ LargeLeaf (target c.args.piece.now.frame (bits_of c.args.piece.now.rights)) =
-    memory_at c.write.new.self.words 2 c.args.table c.args.index ∙ ap (look 2) c.write.ensures.wrote.0 ∙ c.encode.ensures.looked 2 refl ∙ ap LargeLeaf leaf in
+    let leaf : c.new-leaf.result ≡ target c.args.piece.now.frame (bits_of c.args.piece.now.rights) =
+    c.new-leaf.ensures ∙ ap (λ f. target f (bits_of c.args.piece.now.rights)) named in
+    let names : memory c.write.new.self.words 2 c.args.table c.args.index
+    ≡ LargeLeaf (target c.args.piece.now.frame (bits_of c.args.piece.now.rights)) =
+    memory_at c.write.new.self.words 2 c.args.table c.args.index ∙ ap (look 2) c.write.ensures.wrote.0 ∙ c.encode.ensures.looked 2 refl
+    ∙ ap LargeLeaf leaf in
     let inside : c.args.index < TABLE_ENTRIES = omega (arith, index_lt 1 c.args.piece.now.from, c.requires.index) in
-    let all = large_maps c.args.pool.now c.write.new.self c.args.table c.args.index c.args.piece.now.from c.args.piece.now.frame (bits_of c.args.piece.now.rights) c.encode.result
-    c.requires.tree inside c.requires.index whole.0 c.write.ensures.wrote c.write.ensures.free c.write.ensures.frames c.requires.absent names in
+    let all =
+    large_maps c.args.pool.now c.write.new.self c.args.table c.args.index c.args.piece.now.from c.args.piece.now.frame
+    (bits_of c.args.piece.now.rights) c.encode.result c.requires.tree inside c.requires.index whole.0 c.write.ensures.wrote
+    c.write.ensures.free c.write.ensures.frames c.requires.absent names in
     all.2
 
 pub returns-clause-maps : goal.returns-clause-maps
 returns-clause-maps c =
     let whole = large_from c.args.piece.now c.requires.large in
     let named : c.unwrap-frame.result ≡ c.args.piece.now.frame = (rw c.unwrap-frame.ensures at c.new.ensures.value) in
-    let leaf : c.new-leaf.result ≡ target c.args.piece.now.frame (bits_of c.args.piece.now.rights) = c.new-leaf.ensures ∙ ap (λ f. target f (bits_of c.args.piece.now.rights)) named in
-    let names : memory c.write.new.self.words 2 c.args.table c.args.index ≡ LargeLeaf (target c.args.piece.now.frame (bits_of c.args.piece.now.rights)) =
-    memory_at c.write.new.self.words 2 c.args.table c.args.index ∙ ap (look 2) c.write.ensures.wrote.0 ∙ c.encode.ensures.looked 2 refl ∙ ap LargeLeaf leaf in
+    let leaf : c.new-leaf.result ≡ target c.args.piece.now.frame (bits_of c.args.piece.now.rights) =
+    c.new-leaf.ensures ∙ ap (λ f. target f (bits_of c.args.piece.now.rights)) named in
+    let names : memory c.write.new.self.words 2 c.args.table c.args.index
+    ≡ LargeLeaf (target c.args.piece.now.frame (bits_of c.args.piece.now.rights)) =
+    memory_at c.write.new.self.words 2 c.args.table c.args.index ∙ ap (look 2) c.write.ensures.wrote.0 ∙ c.encode.ensures.looked 2 refl
+    ∙ ap LargeLeaf leaf in
     let inside : c.args.index < TABLE_ENTRIES = omega (arith, index_lt 1 c.args.piece.now.from, c.requires.index) in
-    let all = large_maps c.args.pool.now c.write.new.self c.args.table c.args.index c.args.piece.now.from c.args.piece.now.frame (bits_of c.args.piece.now.rights) c.encode.result
-    c.requires.tree inside c.requires.index whole.0 c.write.ensures.wrote c.write.ensures.free c.write.ensures.frames c.requires.absent names in
+    let all =
+    large_maps c.args.pool.now c.write.new.self c.args.table c.args.index c.args.piece.now.from c.args.piece.now.frame
+    (bits_of c.args.piece.now.rights) c.encode.result c.requires.tree inside c.requires.index whole.0 c.write.ensures.wrote
+    c.write.ensures.free c.write.ensures.frames c.requires.absent names in
     let end : c.args.piece.now.from + SPAN_PAGES ≡ c.args.piece.now.to = omega (arith, whole.1, c.args.piece.now.some) in
     subst (λ to. Maps c.args.pool.now c.write.new.self 2 c.args.table c.args.piece.now.from to (says c.args.piece.now)) end all.1

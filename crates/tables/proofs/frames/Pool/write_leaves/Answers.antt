@@ -13,19 +13,37 @@ count c =
     let frames : length c.self.inside.slots.items ≡ c.args.self.now.frames = ap (λ (p : Pool). p.frames) c.self.view_is in
     c.spell_leaves.ensures.length
     ∙ length-take-le _ (drop (c.number.result * TABLE_ENTRIES + c.args.from) c.deref_mut.result.now)
-    (omega (arith, length-drop (c.number.result * TABLE_ENTRIES + c.args.from) c.deref_mut.result.now, ap (λ xs. length xs) c.deref_mut.ensures.value, c.self.invariant.0.fit, c.number.ensures.value, c.requires.frame, c.requires.within))
+    (omega (
+      arith,
+      length-drop (c.number.result * TABLE_ENTRIES + c.args.from) c.deref_mut.result.now,
+      ap (λ xs. length xs) c.deref_mut.ensures.value,
+      c.self.invariant.0.fit,
+      c.number.ensures.value,
+      c.requires.frame,
+      c.requires.within,
+    ))
     ∙ omega arith
 
 spelled : (c : After-self-1)
-    → IsPatch (record { words = c.self.inside.words.items; free = take c.self.inside.free c.self.inside.slots.items; frames = length c.self.inside.slots.items })
-    (patched c.self.inside.words.len (c.number.result * TABLE_ENTRIES + c.args.from) (c.number.result * TABLE_ENTRIES + c.args.from + c.args.count) c.self.inside.words.items c.deref_mut.result.now c.spell_leaves.new.words)
-    c.args.frame c.args.from c.spell_leaves.new.words
+    → IsPatch (record {
+      words = c.self.inside.words.items;
+      free = take c.self.inside.free c.self.inside.slots.items;
+      frames = length c.self.inside.slots.items;
+    })
+    (patched c.self.inside.words.len (c.number.result * TABLE_ENTRIES + c.args.from)
+    (c.number.result * TABLE_ENTRIES + c.args.from + c.args.count) c.self.inside.words.items c.deref_mut.result.now
+    c.spell_leaves.new.words) c.args.frame c.args.from c.spell_leaves.new.words
 spelled c =
     let frames : length c.self.inside.slots.items ≡ c.args.self.now.frames = ap (λ (p : Pool). p.frames) c.self.view_is in
-    let taken : occurs c.args.frame (take c.self.inside.free c.self.inside.slots.items) ≡ 0 = ap (λ (p : Pool). occurs c.args.frame p.free) c.self.view_is ∙ c.requires.taken in
+    let taken : occurs c.args.frame (take c.self.inside.free c.self.inside.slots.items) ≡ 0 =
+    ap (λ (p : Pool). occurs c.args.frame p.free) c.self.view_is ∙ c.requires.taken in
     patch c.self.inside.words.len c.number.result c.args.frame c.args.from c.args.count
-    (record { words = c.self.inside.words.items; free = take c.self.inside.free c.self.inside.slots.items; frames = length c.self.inside.slots.items })
-    c.deref_mut.result.now c.spell_leaves.new.words c.number.ensures.value c.deref_mut.ensures.value (omega arith) c.self.invariant.0 (omega arith) taken c.requires.within (count c)
+    (record {
+      words = c.self.inside.words.items;
+      free = take c.self.inside.free c.self.inside.slots.items;
+      frames = length c.self.inside.slots.items;
+    }) c.deref_mut.result.now c.spell_leaves.new.words c.number.ensures.value c.deref_mut.ensures.value (omega arith) c.self.invariant.0
+    (omega arith) taken c.requires.within (count c)
 
 pub invariant_of-self : goal.invariant_of-self
 invariant_of-self c = ((spelled c).keeps, c.self.invariant.1)
@@ -37,7 +55,8 @@ returns-clause-leaves c k k_in =
 
 pub returns-clause-rest : goal.returns-clause-rest
 returns-clause-rest c f k k_in other =
-    (spelled c).rest f k k_in (λ e low high. other e low (omega (arith, high, count c))) ∙ ap (λ (p : Pool). word p.words f k) c.self.view_is
+    (spelled c).rest f k k_in (λ e low high. other e low (omega (arith, high, count c)))
+    ∙ ap (λ (p : Pool). word p.words f k) c.self.view_is
 
 pub returns-clause-pool : goal.returns-clause-pool
 returns-clause-pool c = (spelled c).keeps
