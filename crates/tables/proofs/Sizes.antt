@@ -5,7 +5,6 @@ use Rattle.std.proofs.lemmas.Bool.{cases_lt}
 use Rattle.std.proofs.lemmas.Bool.Decides.{nat_tests}
 use Rattle.std.proofs.lemmas.Option.{none-some, same_Some}
 use Rattle.dmatypes.specs.declared.page.TheConstants.{SPAN_PAGES}
-use Rattle.tables.specs.declared.entries.TheConstants.{TABLE_ENTRIES}
 use Rattle.vtdbits.specs.Entry.{look}
 use Rattle.vtdbits.proofs.Entries.{leaf_looked, large_leaf_looked}
 use Rattle.vtdbits.specs.declared.entry.SsEntry.{SsEntry}

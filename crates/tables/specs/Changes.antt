@@ -4,7 +4,7 @@ use Rattle.std.specs.Prelude.{◌≡◌, ℕ, ◌+◌, ◌*◌, ◌/◌, ◌<◌
 use Rattle.dmatypes.specs.declared.page.TheConstants.{SPAN_PAGES}
 use Rattle.tables.specs.declared.entries.TheConstants.{TABLE_ENTRIES}
 use Rattle.dmatypes.specs.World.{Target}
-use Rattle.tables.specs.Tree.{Found, span, leaf_from, table_from, states, uses}
+use Rattle.tables.specs.Tree.{Found, IsLeafAt, IsTableAt, span, leaf_from, table_from, states, uses}
 use Rattle.tables.specs.Pool.{Pool, word, memory, occurs, IsZeroed, IsTree}
 
 -- the page is not among those from one up to another
@@ -93,3 +93,20 @@ pub record Stays (old new : Pool) (level table : ℕ) : Type 0 where
   pub same_frames : (f : ℕ) → uses (memory new.words) level table f ≡ uses (memory old.words) level table f
   pub same_leaves : (p : ℕ) → leaf_from (memory new.words) level table p ≡ leaf_from (memory old.words) level table p
   pub same_tables : (p w : ℕ) → table_from (memory new.words) level table p w ≡ table_from (memory old.words) level table p w
+
+-- the leaf entries of a tree stay
+abbrev pub KeepsLeaves : Pool → Pool → ℕ → ℕ → Type 0
+KeepsLeaves old new level root =
+    (first pages frame rights : ℕ) → IsLeafAt (memory old.words) level root first pages frame rights
+    → IsLeafAt (memory new.words) level root first pages frame rights
+
+-- its tables stay
+abbrev pub KeepsTables : Pool → Pool → ℕ → ℕ → Type 0
+KeepsTables old new level root =
+    (first height table : ℕ) → IsTableAt (memory old.words) level root first height table
+    → IsTableAt (memory new.words) level root first height table
+
+-- every tree that stands apart from it stays as it is
+abbrev pub KeepsOthers : Pool → Pool → ℕ → ℕ → Type 0
+KeepsOthers old new level root =
+    (height table : ℕ) → IsTree old height table → IsApart old level root height table → Stays old new height table

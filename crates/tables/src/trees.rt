@@ -9,7 +9,7 @@ ghost use Rattle.dmatypes.specs.World.{placed};
 ghost use Rattle.vtdbits.specs.Translation.{target};
 ghost use Rattle.tables.specs.Tree.{here, span, states, leaf_from, table_from, uses, IsLeafAt, IsTableAt, Found};
 ghost use Rattle.tables.specs.Pool.{word, memory, occurs, IsPool, IsTree};
-ghost use Rattle.tables.specs.Changes.{TakesAndGivesFrames, Maps, MakesTables, Unmaps, IsApart, Stays};
+ghost use Rattle.tables.specs.Changes.{TakesAndGivesFrames, Maps, MakesTables, Unmaps, KeepsLeaves, KeepsTables, KeepsOthers};
 ghost use Rattle.tables.specs.Segments.{AreSegments, is_large_at, one_segment};
 ghost use Rattle.tables.specs.Lacks.{map_lacks, splits};
 
@@ -88,12 +88,9 @@ impl Tree {
             (is_large_at (one_segment frame range.pages) range.first)) }
         ensures count { OnOk result (length pool.new.free
             + map_lacks pool.old LEVELS self.old.root (one_segment frame range.pages) range.first ≡ length pool.old.free) }
-        ensures leaves { (first pages frame rights : ℕ) → IsLeafAt (memory pool.old.words) LEVELS self.old.root first pages frame rights
-            → IsLeafAt (memory pool.new.words) LEVELS self.old.root first pages frame rights }
-        ensures tables { (first level table : ℕ) → IsTableAt (memory pool.old.words) LEVELS self.old.root first level table
-            → IsTableAt (memory pool.new.words) LEVELS self.old.root first level table }
-        ensures others { (level table : ℕ) → IsTree pool.old level table → IsApart pool.old LEVELS self.old.root level table
-            → Stays pool.old pool.new level table }
+        ensures leaves { KeepsLeaves pool.old pool.new LEVELS self.old.root }
+        ensures tables { KeepsTables pool.old pool.new LEVELS self.old.root }
+        ensures others { KeepsOthers pool.old pool.new LEVELS self.old.root }
         ensures tree { IsTree pool.new LEVELS self.old.root }
         ensures pool { IsPool pool.new }
     {
@@ -101,7 +98,8 @@ impl Tree {
             frame: frame.number(),
             pages: range.pages(),
         };
-        map_segments(pool, LEVELS, self.root, &[segment], range.first(), rights)
+        let start = Page::new(range.first()).unwrap();
+        self.map_list(pool, start, &[segment], rights)
     }
 
     /// Maps the pages from a start on, which are absent, to 1 to 16 segments, one after the other.
@@ -130,12 +128,9 @@ impl Tree {
             (is_large_at segments.now start)) }
         ensures count { OnOk result
             (length pool.new.free + map_lacks pool.old LEVELS self.old.root segments.now start ≡ length pool.old.free) }
-        ensures leaves { (first pages frame rights : ℕ) → IsLeafAt (memory pool.old.words) LEVELS self.old.root first pages frame rights
-            → IsLeafAt (memory pool.new.words) LEVELS self.old.root first pages frame rights }
-        ensures tables { (first level table : ℕ) → IsTableAt (memory pool.old.words) LEVELS self.old.root first level table
-            → IsTableAt (memory pool.new.words) LEVELS self.old.root first level table }
-        ensures others { (level table : ℕ) → IsTree pool.old level table → IsApart pool.old LEVELS self.old.root level table
-            → Stays pool.old pool.new level table }
+        ensures leaves { KeepsLeaves pool.old pool.new LEVELS self.old.root }
+        ensures tables { KeepsTables pool.old pool.new LEVELS self.old.root }
+        ensures others { KeepsOthers pool.old pool.new LEVELS self.old.root }
         ensures tree { IsTree pool.new LEVELS self.old.root }
         ensures pool { IsPool pool.new }
     {
@@ -184,8 +179,7 @@ impl Tree {
         ensures tables { (first level table : ℕ) → IsTableAt (memory pool.old.words) LEVELS self.old.root first level table
             → IsTableAt (memory pool.new.words) LEVELS self.old.root first level table
             ⊎ ((level ≡ 1) × (range.first ≤ first) × (first + SPAN_PAGES ≤ range.first + range.pages) × (0 < occurs table result.frames)) }
-        ensures others { (level table : ℕ) → IsTree pool.old level table → IsApart pool.old LEVELS self.old.root level table
-            → Stays pool.old pool.new level table }
+        ensures others { KeepsOthers pool.old pool.new LEVELS self.old.root }
         ensures tree { IsTree pool.new LEVELS self.old.root }
         ensures pool { IsPool pool.new }
     {
@@ -199,8 +193,7 @@ impl Tree {
         ensures free { (f : ℕ) → occurs f pool.new.free ≡ occurs f pool.old.free + uses (memory pool.old.words) LEVELS self.root f }
         ensures words { (f k : ℕ) → k < TABLE_ENTRIES → uses (memory pool.old.words) LEVELS self.root f ≡ 0
             → word pool.new.words f k ≡ word pool.old.words f k }
-        ensures others { (level table : ℕ) → IsTree pool.old level table → IsApart pool.old LEVELS self.root level table
-            → Stays pool.old pool.new level table }
+        ensures others { KeepsOthers pool.old pool.new LEVELS self.root }
         ensures size { pool.new.frames ≡ pool.old.frames }
         ensures pool { IsPool pool.new }
     {
