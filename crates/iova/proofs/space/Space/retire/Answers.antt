@@ -63,7 +63,7 @@ pub invariant_of-self : goal.invariant_of-self
 invariant_of-self c =
     let a : Space = record { last = c.self.inside.last; pieces = c.self.inside.pieces.items } in (
       subst (λ ps. IsSpace (record a { pieces = ps })) (sym c.put.ensures.items)
-      (was_read (goal.at.invariant_of-self c).After-place-to).space,
+          (was_read (goal.at.invariant_of-self c).After-place-to).space,
       omega (arith, c.put.ensures.capacity, c.self.invariant.1),
     )
 
@@ -82,5 +82,5 @@ returns-clause-space c =
     let a : Space = record { last = c.self.inside.last; pieces = c.self.inside.pieces.items } in (
       subst (λ v. IsSpace v) c.self.view_is c.self.invariant.0,
       subst (λ ps. IsSpace (record a { pieces = ps })) (sym c.put.ensures.items)
-      (was_read (goal.at.returns-clause-space c).After-place-to).space,
+          (was_read (goal.at.returns-clause-space c).After-place-to).space,
     )
