@@ -11,7 +11,7 @@ use Rattle.tables.specs.declared.entries.TheConstants.{TABLE_ENTRIES}
 use Rattle.vtdbits.specs.declared.entry.SsEntry.{SsEntry}
 use Rattle.vtdbits.specs.declared.entry.SsEntry.TheVariants.{Absent, Table, Leaf, LargeLeaf}
 use Rattle.tables.specs.Tree.{Memory, Found, span, index_in, leaf_of, table_of, leaf_from, table_from, stated, states, total}
-use Rattle.tables.specs.Lacks.{lacking, lacks, sum_spans}
+use Rattle.tables.specs.Lacks.{lacks_table, tables_lacking, sum_spans}
 use Rattle.tables.specs.ByEntries.{is_met, own_lack, entry_below, entry_lacks}
 use Rattle.tables.proofs.Total.{total_same, total-suc, total-zero, total-none}
 use Rattle.tables.proofs.Near.{span_pos}
@@ -35,13 +35,14 @@ level_lacks : Memory → ℕ → SsEntry → (ℕ → Bool) → ℕ → ℕ → 
 level_lacks m l e large from to first v = met_spans (below_lacks m l e large (v + 1)) (v + 1) from to first (span (l - (v + 1)))
 
 -- no leaf lies under the entry for a page
-IsClear : Memory → ℕ → SsEntry → ℕ → Type 0
-IsClear m l e p = leaf_of e l (λ c. leaf_from m l c p) ≡ None
+MeetsNone : Memory → ℕ → SsEntry → ℕ → Type 0
+MeetsNone m l e p = leaf_of e l (λ c. leaf_from m l c p) ≡ None
 
 -- ---- one step down
 
-step_clear : (m : Memory) (l p : ℕ) (e : SsEntry) → IsClear m (suc l) e p → IsClear m l (entry_below e (λ c. m (suc l) c (index_in l p))) p
-unfolding IsClear
+step_clear : (m : Memory) (l p : ℕ) (e : SsEntry) → MeetsNone m (suc l) e p
+    → MeetsNone m l (entry_below e (λ c. m (suc l) c (index_in l p))) p
+unfolding MeetsNone
 step_clear m l p Absent h = refl
 step_clear m l p (Table c) h = sym (leaf-suc m l c p) ∙ h
 step_clear m l p (Leaf t) h = refl
@@ -62,9 +63,9 @@ step_lacks m l e large w p i le at =
     ∙ ap (λ j. lacking_by (table_of (entry_below e (λ c. m (suc l) c j)) (λ c. table_from m l c p w)) w (large p)) at
 
 -- an entry under which no leaf lies lacks its own table or names it
-own_lacks : (m : Memory) (l first p w : ℕ) (e : SsEntry) (b : Bool) → w ≡ suc l → IsClear m (suc l) e p
+own_lacks : (m : Memory) (l first p w : ℕ) (e : SsEntry) (b : Bool) → w ≡ suc l → MeetsNone m (suc l) e p
     → own_lack e (suc l) b ≡ lacking_by (table_of e (λ c. table_from m (suc l) c first w)) w b
-unfolding IsClear lacking_by
+unfolding MeetsNone lacking_by
 own_lacks m l first p w Absent b e h = ap (λ x. cond (eqb x 1 && b) 0 1) (sym e)
 own_lacks m l first p w (Table c) b e h = sym (ap (λ o. lacking_by o w b) (table_top m l c first w e))
 own_lacks m l first p w (Leaf t) b e h = absurd (none-some (record { size = suc l; frame = t.frame; rights = t.rights }) (sym h))
@@ -109,9 +110,9 @@ page_met q l from to some meets =
     (cases_lt from (q * span l))
 
 clear_below : (m : Memory) (l : ℕ) (e : SsEntry) (q i p : ℕ) → (p / span (suc l) ≡ q) × (index_in l p ≡ i)
-    → (p / span (suc l) ≡ q → IsClear m (suc l) e p) → IsClear m l (entry_below e (λ c. m (suc l) c i)) p
+    → (p / span (suc l) ≡ q → MeetsNone m (suc l) e p) → MeetsNone m l (entry_below e (λ c. m (suc l) c i)) p
 clear_below m l e q i p place clear =
-    subst (λ j. IsClear m l (entry_below e (λ c. m (suc l) c j)) p) place.1 (step_clear m l p e (clear place.0))
+    subst (λ j. MeetsNone m l (entry_below e (λ c. m (suc l) c j)) p) place.1 (step_clear m l p e (clear place.0))
 
 -- ---- an entry by levels
 
@@ -143,7 +144,7 @@ unmet_level m l e large from to first v apart v_in =
 
 -- the tables of the entry's own level
 top_level : (m : Memory) (l : ℕ) (e : SsEntry) (large : ℕ → Bool) (from to first p : ℕ) → is_met (suc l) from to first ≡ true
-    → IsClear m (suc l) e p → level_lacks m (suc l) e large from to first l ≡ own_lack e (suc l) (large first)
+    → MeetsNone m (suc l) e p → level_lacks m (suc l) e large from to first l ≡ own_lack e (suc l) (large first)
 unfolding level_lacks
 top_level m l e large from to first p meets clear =
     let level : l + 1 ≡ suc l = omega arith in
@@ -183,7 +184,7 @@ lower_level m l e large from to q v v_in =
 
 -- the step from the entries of a table to the entry that names it
 step_levels : (m : Memory) (l : ℕ) (e : SsEntry) (large : ℕ → Bool) (from to q : ℕ) → from < to
-    → ((p : ℕ) → from ≤ p → p < to → p / span (suc l) ≡ q → IsClear m (suc l) e p)
+    → ((p : ℕ) → from ≤ p → p < to → p / span (suc l) ≡ q → MeetsNone m (suc l) e p)
     → ((i : ℕ) → i < TABLE_ENTRIES → entry_lacks m l (entry_below e (λ c. m (suc l) c i)) large from to ((q * SPAN_PAGES + i) * span l)
     ≡ total (level_lacks m l (entry_below e (λ c. m (suc l) c i)) large from to ((q * SPAN_PAGES + i) * span l)) l)
     → entry_lacks m (suc l) e large from to (q * span (suc l)) ≡ total (level_lacks m (suc l) e large from to (q * span (suc l))) (suc l)
@@ -230,7 +231,7 @@ step_levels m l e large from to q some clear each = by_met (is_met (suc l) from 
 
 -- what an entry lacks is what the spans of each level in its own lack
 by_levels : (m : Memory) (l : ℕ) (e : SsEntry) (large : ℕ → Bool) (from to q : ℕ) → from < to
-    → ((p : ℕ) → from ≤ p → p < to → p / span l ≡ q → IsClear m l e p)
+    → ((p : ℕ) → from ≤ p → p < to → p / span l ≡ q → MeetsNone m l e p)
     → entry_lacks m l e large from to (q * span l) ≡ total (level_lacks m l e large from to (q * span l)) l
 by_levels m zero e large from to q some clear =
     lacks-zero m e large from to (q * span 0) ∙ sym (total-zero (level_lacks m 0 e large from to (q * span 0)))
@@ -246,8 +247,8 @@ unstated : (p : ℕ) (o : Option Found) → stated p o ≡ None → o ≡ None
 unstated p None h = refl
 unstated p (Some x) h = absurd (none-some _ (sym h))
 
-root_clear : (m : Memory) (level root p : ℕ) → states m level root p ≡ None → IsClear m level (Table root) p
-unfolding IsClear
+root_clear : (m : Memory) (level root p : ℕ) → states m level root p ≡ None → MeetsNone m level (Table root) p
+unfolding MeetsNone
 root_clear m level root p h = unstated p (leaf_from m level root p) h
 
 -- the root lacks no table of its own level
@@ -265,7 +266,7 @@ root_level m l root large from to first meets =
 under_root : (m : Memory) (l root : ℕ) (large : ℕ → Bool) (from to v : ℕ) → from < to → from / span (suc l) ≡ (to - 1) / span (suc l)
     → v < l
     → level_lacks m (suc l) (Table root) large from to (from / span (suc l) * span (suc l)) v
-    ≡ sum_spans (λ p. lacking m (suc l) root (large p) (v + 1) p) (v + 1) from to
+    ≡ sum_spans (λ p. lacks_table m (suc l) root (large p) (v + 1) p) (v + 1) from to
 unfolding level_lacks
 under_root m l root large from to v some one v_in =
     let wide : span (suc l - (v + 1)) * span (v + 1) ≡ span (suc l) = span_in (v + 1) (suc l) (omega arith) in
@@ -280,12 +281,12 @@ under_root m l root large from to v some one v_in =
     div_below (to - 1) (b + span (suc l - (v + 1))) (span (v + 1)) (span_pos (v + 1))
     (omega (arith, above, same, place, wide, add-mul b (span (suc l - (v + 1))) (span (v + 1)))) in
     ap (λ x. met_spans (below_lacks m (suc l) (Table root) large (v + 1)) (v + 1) from to x (span (suc l - (v + 1)))) place
-    ∙ met_spans_same (λ p. lacking m (suc l) root (large p) (v + 1) p) (below_lacks m (suc l) (Table root) large (v + 1)) (v + 1) from to
-    (b * span (v + 1)) (span (suc l - (v + 1))) (λ k k_in.
+    ∙ met_spans_same (λ p. lacks_table m (suc l) root (large p) (v + 1) p) (below_lacks m (suc l) (Table root) large (v + 1)) (v + 1) from
+    to (b * span (v + 1)) (span (suc l - (v + 1))) (λ k k_in.
     below_lacks-is m (suc l) (Table root) large (v + 1) (b * span (v + 1) + k * span (v + 1))
     ∙ sym (lacking_is m (suc l) root (large (b * span (v + 1) + k * span (v + 1))) (v + 1) (b * span (v + 1) + k * span (v + 1))
     (table_from m (suc l) root (b * span (v + 1) + k * span (v + 1)) (v + 1)) refl))
-    ∙ among_spans (λ p. lacking m (suc l) root (large p) (v + 1) p) (v + 1) from to b (span (suc l - (v + 1))) some low high
+    ∙ among_spans (λ p. lacks_table m (suc l) root (large p) (v + 1) p) (v + 1) from to b (span (suc l - (v + 1))) some low high
   where
     div_below : (x k n : ℕ) → 0 < n → x < k * n → x / n < k
     div_below x k n pos lt =
@@ -295,11 +296,11 @@ under_root m l root large from to v some one v_in =
 
 pub lacks_by_entries : (m : Memory) (level root : ℕ) (large : ℕ → Bool) (from to : ℕ) → from < to
     → from / span level ≡ (to - 1) / span level → ((p : ℕ) → from ≤ p → p < to → states m level root p ≡ None)
-    → lacks m level root large from to ≡ entry_lacks m level (Table root) large from to (from / span level * span level)
+    → tables_lacking m level root large from to ≡ entry_lacks m level (Table root) large from to (from / span level * span level)
 lacks_by_entries m zero root large from to some one absent =
     lacks-is m 0 root large from to
-    ∙ ap (total (λ v. sum_spans (λ p. lacking m 0 root (large p) (v + 1) p) (v + 1) from to)) (let e : 0 - 1 ≡ 0 = omega arith in e)
-    ∙ total-zero (λ v. sum_spans (λ p. lacking m 0 root (large p) (v + 1) p) (v + 1) from to)
+    ∙ ap (total (λ v. sum_spans (λ p. lacks_table m 0 root (large p) (v + 1) p) (v + 1) from to)) (let e : 0 - 1 ≡ 0 = omega arith in e)
+    ∙ total-zero (λ v. sum_spans (λ p. lacks_table m 0 root (large p) (v + 1) p) (v + 1) from to)
     ∙ sym (lacks-zero m (Table root) large from to (from / span 0 * span 0))
 lacks_by_entries m (suc l) root large from to some one absent =
     let first : ℕ = from / span (suc l) * span (suc l) in
@@ -310,13 +311,13 @@ lacks_by_entries m (suc l) root large from to some one absent =
     let meets : is_met (suc l) from to first ≡ true =
     is_met-yes (suc l) from to first above (omega (arith, div-mul-le_self from (span (suc l)))) in
     let top = root_level m l root large from to first meets in
-    let flat : lacks m (suc l) root large from to
-    ≡ total (λ v. sum_spans (λ p. lacking m (suc l) root (large p) (v + 1) p) (v + 1) from to) l =
+    let flat : tables_lacking m (suc l) root large from to
+    ≡ total (λ v. sum_spans (λ p. lacks_table m (suc l) root (large p) (v + 1) p) (v + 1) from to) l =
     lacks-is m (suc l) root large from to
-    ∙ ap (total (λ v. sum_spans (λ p. lacking m (suc l) root (large p) (v + 1) p) (v + 1) from to))
+    ∙ ap (total (λ v. sum_spans (λ p. lacks_table m (suc l) root (large p) (v + 1) p) (v + 1) from to))
     (let e : suc l - 1 ≡ l = omega arith in e) in
     let lower : total (level_lacks m (suc l) (Table root) large from to first) l
-    ≡ total (λ v. sum_spans (λ p. lacking m (suc l) root (large p) (v + 1) p) (v + 1) from to) l =
-    total_same (λ v. sum_spans (λ p. lacking m (suc l) root (large p) (v + 1) p) (v + 1) from to)
+    ≡ total (λ v. sum_spans (λ p. lacks_table m (suc l) root (large p) (v + 1) p) (v + 1) from to) l =
+    total_same (λ v. sum_spans (λ p. lacks_table m (suc l) root (large p) (v + 1) p) (v + 1) from to)
     (level_lacks m (suc l) (Table root) large from to first) l (λ v v_in. under_root m l root large from to v some one v_in) in
     omega (arith, levels, top, flat, lower, total-suc (level_lacks m (suc l) (Table root) large from to first) l)

@@ -9,11 +9,11 @@ use Rattle.tables.specs.declared.entries.TheConstants.{TABLE_ENTRIES}
 use Rattle.dmatypes.specs.World.{Target}
 use Rattle.vtdbits.specs.declared.entry.SsEntry.{SsEntry}
 use Rattle.vtdbits.specs.declared.entry.SsEntry.TheVariants.{Absent, Table, LargeLeaf}
-use Rattle.tables.specs.Under.{Under}
+use Rattle.tables.specs.Under.{ChangesUnder}
 use Rattle.tables.specs.Tree.{Memory, Found, span, index_in, leaf_from, table_from, stated, here}
 use Rattle.tables.specs.Pool.{Pool, memory, occurs, IsTree, IsWrite}
 use Rattle.tables.specs.Changes.{TakesAndGivesFrames, Unmaps, IsOutside, IsCovered}
-use Rattle.tables.specs.Pieces.{IsRun}
+use Rattle.tables.specs.Pieces.{WritesEntries}
 use Rattle.tables.proofs.Under.{under_moves, below_under, other_leaf}
 use Rattle.tables.proofs.Large.{under_written, no_table_at, same_tables}
 use Rattle.tables.proofs.Runs.{run_leaf, run_rest, run_moves, table_one}
@@ -24,7 +24,7 @@ one_list : (f c : ℕ) → occurs f (c ∷ []) ≡ here c f
 one_list f c = sum_by-cons (λ y. here y f) c [] ∙ (let e : here c f + 0 ≡ here c f = omega arith in e)
 
 -- a run cleared in a table of level 1, short of the whole
-pub run_unmaps : (old new : Pool) (t from to : ℕ) → IsRun old.words new.words t from to (λ p. Absent) → from < to
+pub run_unmaps : (old new : Pool) (t from to : ℕ) → WritesEntries old.words new.words t from to (λ p. Absent) → from < to
     → ((q : ℕ) → from ≤ q → q < to → q / SPAN_PAGES ≡ from / SPAN_PAGES) → to - from < SPAN_PAGES → Unmaps old new 1 t from to []
 run_unmaps old new t from to run some one short =
     let m : Memory = memory old.words in
@@ -52,8 +52,8 @@ run_unmaps old new t from to run some one short =
 
 -- it is unmapped through the table under its entry
 pub run_through : (old new : Pool) (t i c from to : ℕ) → IsTree old 2 t → i < TABLE_ENTRIES → i ≡ index_in 1 from
-    → memory old.words 2 t i ≡ Table c → IsRun old.words new.words c from to (λ p. Absent) → new.free ≡ old.free → new.frames ≡ old.frames
-    → from < to → from / SPAN_PAGES ≡ (to - 1) / SPAN_PAGES → to - from < SPAN_PAGES
+    → memory old.words 2 t i ≡ Table c → WritesEntries old.words new.words c from to (λ p. Absent) → new.free ≡ old.free
+    → new.frames ≡ old.frames → from < to → from / SPAN_PAGES ≡ (to - 1) / SPAN_PAGES → to - from < SPAN_PAGES
     → TakesAndGivesFrames old new 2 t [] × Unmaps old new 2 t from to []
 run_through old new t i c from to tree a is names run free frames some one short =
     let near : (q : ℕ) → from ≤ q → q < to → q / SPAN_PAGES ≡ from / SPAN_PAGES = λ q low high. omega (arith, low, high) in
@@ -68,7 +68,7 @@ run_through old new t i c from to tree a is names run free frames some one short
 
 -- the walks after an entry became absent
 pub record IsGone (old new : Pool) (t i : ℕ) (cut : List ℕ) (before : SsEntry) : Type 0 where
-  pub under : Under old new 1 t i cut
+  pub under : ChangesUnder old new 1 t i cut
   pub was : memory old.words 2 t i ≡ before
   pub is : memory new.words 2 t i ≡ Absent
 
@@ -100,7 +100,7 @@ pub large_gone : (old new : Pool) (t i from value : ℕ) (x : Target) → IsTree
 large_gone old new t i from value x tree a is even wrote free frames was now =
     let m : Memory = memory old.words in
     let n : Memory = memory new.words in
-    let u : Under old new 1 t i [] =
+    let u : ChangesUnder old new 1 t i [] =
     under_written old new 1 t i value (LargeLeaf x) Absent wrote free frames was now (λ below. refl) (λ below. refl) in
     let g : IsGone old new t i [] (LargeLeaf x) = record { under = u; was = was; is = now } in
     let tables : (p w : ℕ) → table_from n 2 t p w ≡ table_from m 2 t p w =

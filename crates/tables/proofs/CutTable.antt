@@ -5,11 +5,11 @@ use Rattle.std.proofs.lemmas.List.Sums.{sum_by-cons}
 use Rattle.dmatypes.specs.declared.page.TheConstants.{SPAN_PAGES}
 use Rattle.tables.specs.declared.entries.TheConstants.{TABLE_ENTRIES}
 use Rattle.vtdbits.specs.declared.entry.SsEntry.TheVariants.{Absent, Table}
-use Rattle.tables.specs.Under.{Under, child}
+use Rattle.tables.specs.Under.{ChangesUnder, used_by_entry}
 use Rattle.tables.specs.Tree.{Memory, span, index_in, table_from, stated, uses, here, entry_uses}
 use Rattle.tables.specs.Pool.{Pool, word, memory, occurs, IsTree, IsZeroed, IsWrite}
 use Rattle.tables.specs.Changes.{TakesAndGivesFrames, Unmaps, IsOutside, IsCovered}
-use Rattle.tables.specs.Pieces.{IsRun}
+use Rattle.tables.specs.Pieces.{WritesEntries}
 use Rattle.tables.proofs.Here.{here-same, here_is}
 use Rattle.tables.proofs.Under.{under_moves, other_leaf, other_table, root_apart}
 use Rattle.tables.proofs.Runs.{no_table}
@@ -32,19 +32,19 @@ at_whole from i p even is low high =
     ∙ sym is
 
 pub table_cut : (old mid new : Pool) (t i c from value : ℕ) → IsTree old 2 t → i < TABLE_ENTRIES → i ≡ index_in 1 from
-    → from % SPAN_PAGES ≡ 0 → memory old.words 2 t i ≡ Table c → IsRun old.words mid.words c from (from + SPAN_PAGES) (λ p. Absent)
+    → from % SPAN_PAGES ≡ 0 → memory old.words 2 t i ≡ Table c → WritesEntries old.words mid.words c from (from + SPAN_PAGES) (λ p. Absent)
     → ((p : ℕ) → from ≤ p → p < from + SPAN_PAGES → word mid.words c (p % SPAN_PAGES) ≡ 0) → mid.free ≡ old.free → mid.frames ≡ old.frames
     → IsWrite mid.words new.words t i value → new.free ≡ mid.free → new.frames ≡ mid.frames → memory new.words 2 t i ≡ Absent
     → TakesAndGivesFrames old new 2 t (c ∷ []) × Unmaps old new 2 t from (from + SPAN_PAGES) (c ∷ [])
 table_cut old mid new t i c from value tree a is even names run blank free frames wrote free' frames' now =
     let m : Memory = memory old.words in
     let n : Memory = memory new.words in
-    let used : (f : ℕ) → child m 1 t f i ≡ here c f = λ f. ap (λ e. entry_uses e (λ c. uses m 1 c f)) names ∙ uses-one m c f in
-    let left : (f : ℕ) → child n 1 t f i ≡ 0 = λ f. ap (λ e. entry_uses e (λ c. uses n 1 c f)) now in
+    let used : (f : ℕ) → used_by_entry m 1 t f i ≡ here c f = λ f. ap (λ e. entry_uses e (λ c. uses m 1 c f)) names ∙ uses-one m c f in
+    let left : (f : ℕ) → used_by_entry n 1 t f i ≡ 0 = λ f. ap (λ e. entry_uses e (λ c. uses n 1 c f)) now in
     let apart : c ≡ t → ⊥ =
     λ e. let own : here c t ≡ here t t = ap (λ x. here x t) e in omega (arith, root_apart old 1 t i tree a, used t, here-same t) in
     let same_free : (f : ℕ) → occurs f new.free ≡ occurs f old.free = λ f. ap (λ xs. occurs f xs) (free' ∙ free) in
-    let u : Under old new 1 t i (c ∷ []) = record {
+    let u : ChangesUnder old new 1 t i (c ∷ []) = record {
       account = λ f. omega (arith, used f, left f, same_free f, one_list f c);
       fewer = λ f. omega (arith, same_free f);
       others = λ f k k_in ne none.

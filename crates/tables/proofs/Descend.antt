@@ -10,7 +10,7 @@ use Rattle.vtdbits.specs.declared.entry.SsEntry.TheVariants.{Absent, Table}
 use Rattle.tables.specs.Tree.{Memory, Found, span, index_in, leaf_of, leaf_from, table_from}
 use Rattle.tables.specs.Pool.{Pool, memory, IsTree}
 use Rattle.tables.specs.Changes.{TakesAndGivesFrames, Maps}
-use Rattle.tables.specs.Lacks.{lacks_at}
+use Rattle.tables.specs.Lacks.{tables_lacking_at}
 use Rattle.tables.proofs.Mapped.{maps_up}
 use Rattle.tables.proofs.Under.{under_moves, below_under}
 use Rattle.tables.proofs.Steps.{leaf_under, table_under, table_top, same_or_not, same_index, div_span_one}
@@ -74,34 +74,35 @@ made_through m level l t i c from large up =
 
 -- how many frames that takes
 pub count_through : (m : Memory) (level l t i c from : ℕ) (large : Bool) → level ≡ suc l → 1 ≤ l → i ≡ index_in l from
-    → m level t i ≡ Table c → lacks_at m level t large from ≡ lacks_at m l c large from
+    → m level t i ≡ Table c → tables_lacking_at m level t large from ≡ tables_lacking_at m l c large from
 count_through m level l t i c from large up some is names =
-    subst (λ k. level ≡ suc k → i ≡ index_in k from → lacks_at m level t large from ≡ lacks_at m k c large from)
+    subst (λ k. level ≡ suc k → i ≡ index_in k from → tables_lacking_at m level t large from ≡ tables_lacking_at m k c large from)
     (let e : suc (l - 1) ≡ l = omega arith in e)
-    (λ up is. subst (λ n. m n t i ≡ Table c → lacks_at m n t large from ≡ lacks_at m (suc (l - 1)) c large from) (sym up)
+    (λ up is. subst (λ n. m n t i ≡ Table c → tables_lacking_at m n t large from ≡ tables_lacking_at m (suc (l - 1)) c large from) (sym up)
     (λ names. lacks_at-table m (l - 1) t c large from (ap (λ j. m (suc (suc (l - 1))) t j) (sym is) ∙ names)) names)
     up is
 
 pub count_grown : (m n : Memory) (level l t i c from : ℕ) (large : Bool) → level ≡ suc l → 1 ≤ l → i ≡ index_in l from
     → m level t i ≡ Absent → n level t i ≡ Table c → IsBare n c → (l ≡ 1 → large ≡ false)
-    → lacks_at m level t large from ≡ lacks_at n level t large from + 1
+    → tables_lacking_at m level t large from ≡ tables_lacking_at n level t large from + 1
 count_grown m n level l t i c from large up some is absent names bare ok =
     subst (λ k.
-    level ≡ suc k → i ≡ index_in k from → (k ≡ 1 → large ≡ false) → lacks_at m level t large from ≡ lacks_at n level t large from + 1)
+    level ≡ suc k → i ≡ index_in k from → (k ≡ 1 → large ≡ false)
+    → tables_lacking_at m level t large from ≡ tables_lacking_at n level t large from + 1)
     (let e : suc (l - 1) ≡ l = omega arith in e)
-    (λ up is ok. subst (λ v. m v t i ≡ Absent → n v t i ≡ Table c → lacks_at m v t large from ≡ lacks_at n v t large from + 1) (sym up)
-    (λ absent names.
+    (λ up is ok.
+    subst (λ v. m v t i ≡ Absent → n v t i ≡ Table c → tables_lacking_at m v t large from ≡ tables_lacking_at n v t large from + 1)
+    (sym up) (λ absent names.
     lacks_at-grown m n (l - 1) t c large from (ap (λ j. m (suc (suc (l - 1))) t j) (sym is) ∙ absent) bare (λ z. ok (omega arith))
-    ∙ ap (λ k. k + 1) (sym (lacks_at-table n (l - 1) t c large from (ap (λ j. n (suc (suc (l - 1))) t j) (sym is) ∙ names))))
-    absent names)
-    up is ok
+    ∙ ap (λ k. k + 1) (sym (lacks_at-table n (l - 1) t c large from (ap (λ j. n (suc (suc (l - 1))) t j) (sym is) ∙ names)))) absent
+    names) up is ok
 
 pub count_absent : (m : Memory) (level l t i from : ℕ) (large : Bool) → level ≡ suc l → 1 ≤ l → i ≡ index_in l from → m level t i ≡ Absent
-    → (l ≡ 1 → large ≡ false) → 1 ≤ lacks_at m level t large from
+    → (l ≡ 1 → large ≡ false) → 1 ≤ tables_lacking_at m level t large from
 count_absent m level l t i from large up some is absent ok =
-    subst (λ k. level ≡ suc k → i ≡ index_in k from → (k ≡ 1 → large ≡ false) → 1 ≤ lacks_at m level t large from)
+    subst (λ k. level ≡ suc k → i ≡ index_in k from → (k ≡ 1 → large ≡ false) → 1 ≤ tables_lacking_at m level t large from)
     (let e : suc (l - 1) ≡ l = omega arith in e)
-    (λ up is ok. subst (λ v. m v t i ≡ Absent → 1 ≤ lacks_at m v t large from) (sym up)
+    (λ up is ok. subst (λ v. m v t i ≡ Absent → 1 ≤ tables_lacking_at m v t large from) (sym up)
     (λ absent. lacks_some m (l - 1) t large from (ap (λ j. m (suc (suc (l - 1))) t j) (sym is) ∙ absent) (λ z. ok (omega arith)))
     absent)
     up is ok

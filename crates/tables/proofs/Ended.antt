@@ -9,7 +9,7 @@ use Rattle.dmatypes.specs.declared.page.TheConstants.{SPAN_PAGES}
 use Rattle.tables.specs.Tree.{Found, span, leaf_from, table_from, is_large_leaf, IsLeafAt, IsTableAt}
 use Rattle.tables.specs.Pool.{Pool, memory, occurs}
 use Rattle.tables.specs.Changes.{Unmaps}
-use Rattle.tables.specs.Lacks.{splitting, splits}
+use Rattle.tables.specs.Lacks.{splits_leaf, splits}
 use Rattle.tables.proofs.Kept.{same_root, leaf_inside}
 use Rattle.tables.proofs.Near.{near_table, div_within, span_pos}
 use Rattle.tables.proofs.Sizes.{leaf_size, same_large}
@@ -96,7 +96,7 @@ unmap_whole old level root from to none p x low high leaf q near = by_size (case
         let one : x.size ≡ 1 = omega (arith, leaf_size old.words level root p x leaf) in
         let span_same : q / SPAN_PAGES ≡ p / SPAN_PAGES =
         sym (div_span_one q) ∙ subst (λ v. q / span v ≡ p / span v) one near ∙ div_span_one p in
-        let zero_here : splitting (memory old.words) level root from to (p / SPAN_PAGES * SPAN_PAGES) ≡ 0 =
+        let zero_here : splits_leaf (memory old.words) level root from to (p / SPAN_PAGES * SPAN_PAGES) ≡ 0 =
         none_split (memory old.words) level root from to p low high none in
         let is : is_large_leaf (leaf_from (memory old.words) level root (p / SPAN_PAGES * SPAN_PAGES)) ≡ true =
         sym (same_large old.words level root p (p / SPAN_PAGES * SPAN_PAGES)
@@ -114,7 +114,7 @@ unmap_whole old level root from to none p x low high leaf q near = by_size (case
         large_is h = grind (arith, nat_tests)
 
         not_both : ((p / SPAN_PAGES * SPAN_PAGES < from) ⊎ (to < p / SPAN_PAGES * SPAN_PAGES + SPAN_PAGES))
-            → splitting (memory old.words) level root from to (p / SPAN_PAGES * SPAN_PAGES) ≡ 0
+            → splits_leaf (memory old.words) level root from to (p / SPAN_PAGES * SPAN_PAGES) ≡ 0
             → is_large_leaf (leaf_from (memory old.words) level root (p / SPAN_PAGES * SPAN_PAGES)) ≡ true → ⊥
         not_both out zero_here is =
             let value =

@@ -5,7 +5,7 @@ use Rattle.std.proofs.lemmas.Option.{none-some, same_Some}
 use Rattle.tables.specs.declared.entries.TheConstants.{TABLE_ENTRIES}
 use Rattle.vtdbits.specs.Entry.{look}
 use Rattle.vtdbits.specs.declared.entry.SsEntry.TheVariants.{Absent, Table}
-use Rattle.tables.specs.Under.{Under, child}
+use Rattle.tables.specs.Under.{ChangesUnder, used_by_entry}
 use Rattle.tables.specs.Tree.{Memory, span, index_in, leaf_from, table_from, stated, states, uses, here, entry_uses}
 use Rattle.tables.specs.Pool.{Pool, word, memory, occurs, IsTree, IsZeroed, IsWrite}
 use Rattle.tables.specs.Changes.{TakesAndGivesFrames, Maps}
@@ -23,14 +23,15 @@ pub under_grown : (old new : Pool) (l t i c : ℕ) → IsTree old (suc (suc l)) 
     → memory old.words (suc (suc l)) t i ≡ Absent → memory new.words (suc (suc l)) t i ≡ Table c
     → ((f : ℕ) → occurs f new.free + here c f ≡ occurs f old.free) → IsBare (memory new.words) c
     → ((f k : ℕ) → k < TABLE_ENTRIES → (f ≡ t → k ≡ i → ⊥) → word new.words f k ≡ word old.words f k) → new.frames ≡ old.frames
-    → Under old new (suc l) t i []
+    → ChangesUnder old new (suc l) t i []
 under_grown old new l t i c tree a absent names free bare rest frames =
     let m : Memory = memory old.words in
     let n : Memory = memory new.words in
     record {
       account = λ f.
-          let before : child m (suc l) t f i ≡ 0 = ap (λ e. entry_uses e (λ c. uses m (suc l) c f)) absent in
-          let after : child n (suc l) t f i ≡ here c f = ap (λ e. entry_uses e (λ c. uses n (suc l) c f)) names ∙ uses-bare n l c f bare in
+          let before : used_by_entry m (suc l) t f i ≡ 0 = ap (λ e. entry_uses e (λ c. uses m (suc l) c f)) absent in
+          let after : used_by_entry n (suc l) t f i ≡ here c f =
+          ap (λ e. entry_uses e (λ c. uses n (suc l) c f)) names ∙ uses-bare n l c f bare in
           omega (arith, free f);
       fewer = λ f. omega (arith, free f);
       others = λ f k k_in ne none. rest f k k_in (λ e _. ne e);
@@ -40,7 +41,7 @@ under_grown old new l t i c tree a absent names free bare rest frames =
 
 -- the facts of a grown table: nothing that is stated changes
 pub record IsGrown (old new : Pool) (l t i c : ℕ) : Type 0 where
-  pub under : Under old new l t i []
+  pub under : ChangesUnder old new l t i []
   pub absent : memory old.words (suc l) t i ≡ Absent
   pub names : memory new.words (suc l) t i ≡ Table c
   pub bare : IsBare (memory new.words) c
@@ -145,7 +146,8 @@ grows_two old mid new l t i c value tree a absent reads free zeroed same_words s
     let rest : (f k : ℕ) → k < TABLE_ENTRIES → (f ≡ t → k ≡ i → ⊥) → word new.words f k ≡ word old.words f k =
     λ f k k_in ne. wrote.1 f k k_in ne ∙ ap (λ ws. word ws f k) same_words in
     let bare : IsBare n c = zeroed_bare new.words c zeroed_now in
-    let u : Under old new (suc l) t i [] = under_grown old new l t i c tree a absent names free_now bare rest (frames ∙ same_frames) in
+    let u : ChangesUnder old new (suc l) t i [] =
+    under_grown old new l t i c tree a absent names free_now bare rest (frames ∙ same_frames) in
     let g : IsGrown old new (suc l) t i c = record { under = u; absent = absent; names = names; bare = bare; free = c_free } in
     record {
       moves = under_moves old new (suc l) t i [] tree a u;

@@ -6,7 +6,7 @@ use Rattle.tables.specs.declared.entries.TheConstants.{TABLE_ENTRIES}
 use Rattle.vtdbits.specs.Translation.{target}
 use Rattle.vtdbits.specs.declared.entry.SsEntry.{SsEntry}
 use Rattle.vtdbits.specs.declared.entry.SsEntry.TheVariants.{Absent, LargeLeaf}
-use Rattle.tables.specs.Under.{Under, child}
+use Rattle.tables.specs.Under.{ChangesUnder, used_by_entry}
 use Rattle.tables.specs.Tree.{Memory, index_in, table_of, table_from, stated, uses, entry_uses}
 use Rattle.tables.specs.Pool.{Pool, memory, occurs, IsTree, IsWrite}
 use Rattle.tables.specs.Changes.{TakesAndGivesFrames, Maps}
@@ -17,14 +17,14 @@ use Rattle.tables.proofs.Steps.{leaf_under, table_under, table_top, same_or_not,
 -- an entry was written that uses no frame, where there was none
 pub under_written : (old new : Pool) (l t i value : ℕ) (before after : SsEntry) → IsWrite old.words new.words t i value
     → new.free ≡ old.free → new.frames ≡ old.frames → memory old.words (suc l) t i ≡ before → memory new.words (suc l) t i ≡ after
-    → ((below : ℕ → ℕ) → entry_uses before below ≡ 0) → ((below : ℕ → ℕ) → entry_uses after below ≡ 0) → Under old new l t i []
+    → ((below : ℕ → ℕ) → entry_uses before below ≡ 0) → ((below : ℕ → ℕ) → entry_uses after below ≡ 0) → ChangesUnder old new l t i []
 under_written old new l t i value before after wrote free frames was is none none_now =
     let m : Memory = memory old.words in
     let n : Memory = memory new.words in
     record {
       account = λ f.
-          let a : child m l t f i ≡ 0 = ap (λ e. entry_uses e (λ c. uses m l c f)) was ∙ none (λ c. uses m l c f) in
-          let b : child n l t f i ≡ 0 = ap (λ e. entry_uses e (λ c. uses n l c f)) is ∙ none_now (λ c. uses n l c f) in
+          let a : used_by_entry m l t f i ≡ 0 = ap (λ e. entry_uses e (λ c. uses m l c f)) was ∙ none (λ c. uses m l c f) in
+          let b : used_by_entry n l t f i ≡ 0 = ap (λ e. entry_uses e (λ c. uses n l c f)) is ∙ none_now (λ c. uses n l c f) in
           omega (arith, ap (λ xs. occurs f xs) free);
       fewer = λ f. omega (arith, ap (λ xs. occurs f xs) free);
       others = λ f k k_in ne _. wrote.1 f k k_in (λ e _. ne e);
@@ -40,7 +40,7 @@ no_table_at m l t p w i e at is none lower =
 
 -- the tables, where one entry without a table took the place of another
 pub same_tables : (old new : Pool) (l t i p w : ℕ) (cut : List ℕ) (before after : SsEntry) → IsTree old (suc l) t → i < TABLE_ENTRIES
-    → Under old new l t i cut → memory old.words (suc l) t i ≡ before → memory new.words (suc l) t i ≡ after
+    → ChangesUnder old new l t i cut → memory old.words (suc l) t i ≡ before → memory new.words (suc l) t i ≡ after
     → ((below : ℕ → Option ℕ) → table_of before below ≡ None) → ((below : ℕ → Option ℕ) → table_of after below ≡ None)
     → table_from (memory new.words) (suc l) t p w ≡ table_from (memory old.words) (suc l) t p w
 same_tables old new l t i p w cut before after tree a u was is none none_now =
@@ -62,7 +62,7 @@ pub large_maps : (old new : Pool) (t i from frame rights value : ℕ) → IsTree
     × ((p w : ℕ) → table_from (memory new.words) 2 t p w ≡ table_from (memory old.words) 2 t p w)
 large_maps old new t i from frame rights value tree a at aligned wrote free frames was is =
     let n : Memory = memory new.words in
-    let u : Under old new 1 t i [] =
+    let u : ChangesUnder old new 1 t i [] =
     under_written old new 1 t i value Absent (LargeLeaf (target frame rights)) wrote free frames was is (λ below. refl)
     (λ below. refl) in
     let tables : (p w : ℕ) → table_from n 2 t p w ≡ table_from (memory old.words) 2 t p w =

@@ -4,7 +4,7 @@ use Rattle.std.proofs.lemmas.Bool.{cases_lt}
 use Rattle.tables.specs.declared.entries.TheConstants.{TABLE_ENTRIES}
 use Rattle.dmatypes.specs.World.{Target}
 use Rattle.vtdbits.specs.declared.entry.SsEntry.TheVariants.{Table}
-use Rattle.tables.specs.Under.{Under}
+use Rattle.tables.specs.Under.{ChangesUnder}
 use Rattle.tables.specs.Tree.{Memory, span, index_in, leaf_from, table_from, stated, states}
 use Rattle.tables.specs.Pool.{Pool, memory, occurs, IsTree}
 use Rattle.tables.specs.Changes.{TakesAndGivesFrames, Maps, IsOutside}
@@ -47,7 +47,7 @@ maps_up old new l t i c from to says tree a is names one moves maps =
     let m : Memory = memory old.words in
     let n : Memory = memory new.words in
     let both = below_under old new l t i c [] tree a names moves in
-    let u : Under old new l t i [] = both.0 in
+    let u : ChangesUnder old new l t i [] = both.0 in
     let here_old : (p : ℕ) → index_in l p ≡ i → m (suc l) t (index_in l p) ≡ Table c = λ p e. ap (λ j. m (suc l) t j) e ∙ names in
     let here_new : (p : ℕ) → index_in l p ≡ i → n (suc l) t (index_in l p) ≡ Table c = λ p e. ap (λ j. n (suc l) t j) e ∙ both.1 in
     let near : (p : ℕ) → p / span (suc l) ≡ from / span (suc l) → index_in l p ≡ i → p / span l ≡ from / span l =

@@ -5,7 +5,7 @@ use Rattle.std.proofs.Math.Seq.{take-length}
 use Rattle.std.proofs.lemmas.List.{take-append-le, length-take-le, get_or-take, get_or-drop, get_or_append_left, get_or-append_right}
 use Rattle.std.proofs.lemmas.Bool.{cases_lt}
 use Rattle.tables.specs.declared.entries.TheConstants.{TABLE_ENTRIES}
-use Rattle.tables.specs.Pool.{Pool, word, occurs, IsPool, IsRest}
+use Rattle.tables.specs.Pool.{Pool, word, occurs, IsPool, KeepsOtherWords}
 
 -- a list whose elements from a up to b were lent, and came back as others
 abbrev pub put_back : ℕ → ℕ → List ℕ → List ℕ → List ℕ
@@ -63,7 +63,7 @@ read_above a b i xs new le within long high =
 pub record IsPatch (pool : Pool) (new : List ℕ) (table from : ℕ) (run : List ℕ) : Type 0 where
   pub keeps : IsPool (record pool { words = new })
   pub inside : (k : ℕ) → k < length run → word new table (from + k) ≡ get_or run k 0
-  pub rest : IsRest pool.words new table from (length run)
+  pub rest : KeepsOtherWords pool.words new table from (length run)
 
 -- the words of such a pool, where the place of the run in the list is counted from the frame's number
 pub patch : (limit n t i count : ℕ) (pool : Pool) (ys run : List ℕ) → n ≡ t → ys ≡ pool.words → limit ≡ length pool.words → IsPool pool
@@ -82,7 +82,7 @@ patch limit n t i count pool ys run at same all ok t_in taken i_in long =
     λ k k_in.
     let place : t * TABLE_ENTRIES + (i + k) ≡ a + k = omega arith in
     ap (λ p. get_or (put_back a b xs run) p 0) place ∙ read_inside a b k xs run low within size (omega arith) in
-    let rest : IsRest xs (put_back a b xs run) t i (length run) =
+    let rest : KeepsOtherWords xs (put_back a b xs run) t i (length run) =
     λ f k k_in other.
     ⊎_elim
     (λ (l : f * TABLE_ENTRIES + k < a). read_below a b (f * TABLE_ENTRIES + k) xs run (omega arith) l)

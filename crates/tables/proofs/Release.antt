@@ -5,7 +5,7 @@ use Rattle.tables.specs.declared.entries.TheConstants.{TABLE_ENTRIES}
 use Rattle.vtdbits.specs.declared.entry.SsEntry.{SsEntry}
 use Rattle.vtdbits.specs.declared.entry.SsEntry.TheVariants.{Absent, Table, Leaf, LargeLeaf}
 use Rattle.tables.specs.Tree.{total, here, entry_uses, uses}
-use Rattle.tables.specs.Under.{child, used_at}
+use Rattle.tables.specs.Under.{used_by_entry, used_at}
 use Rattle.tables.specs.Pool.{Pool, word, memory, occurs, IsTree}
 use Rattle.tables.proofs.Total.{total_same, total-suc, total-zero, total_le_more}
 use Rattle.tables.proofs.Here.{here-same}
@@ -13,7 +13,7 @@ use Rattle.tables.proofs.Words.{same_entry}
 use Rattle.tables.proofs.Agree.{to_agree, uses_agree}
 use Rattle.tables.proofs.Steps.{uses-suc, same_or_not}
 
-pub used_child : (pool : Pool) (l t f i : ℕ) → used_at pool (suc l) t f i ≡ child (memory pool.words) l t f i
+pub used_child : (pool : Pool) (l t f i : ℕ) → used_at pool (suc l) t f i ≡ used_by_entry (memory pool.words) l t f i
 unfolding used_at
 used_child pool l t f i =
     ap (λ n. entry_uses (memory pool.words (suc l) t i) (λ c. uses (memory pool.words) n c f)) (let e : suc l - 1 ≡ l = omega arith in e)
@@ -36,7 +36,7 @@ uses_level pool level l t f up =
     subst (λ n. uses (memory pool.words) n t f ≡ here t f + total (used_at pool n t f) TABLE_ENTRIES) (sym up)
     (uses-suc (memory pool.words) l t f
     ∙ ap (λ k. here t f + k)
-    (total_same (used_at pool (suc l) t f) (child (memory pool.words) l t f) TABLE_ENTRIES (λ i lt. sym (used_child pool l t f i))))
+    (total_same (used_at pool (suc l) t f) (used_by_entry (memory pool.words) l t f) TABLE_ENTRIES (λ i lt. sym (used_child pool l t f i))))
 
 -- the first entries are cleared and their tables free, and the others are as they were
 pub record IsReleasing (old cur : Pool) (level t i : ℕ) : Type 0 where

@@ -8,9 +8,9 @@ use Rattle.vtdbits.specs.Entry.{look}
 use Rattle.vtdbits.specs.declared.entry.SsEntry.{SsEntry}
 use Rattle.vtdbits.specs.declared.entry.SsEntry.TheVariants.{Absent, Table, Leaf, LargeLeaf}
 use Rattle.tables.specs.Tree.{Memory, index_in, leaf_of, table_of, leaf_from, table_from, stated, here}
-use Rattle.tables.specs.Pool.{Pool, word, memory, occurs, IsRest}
+use Rattle.tables.specs.Pool.{Pool, word, memory, occurs, KeepsOtherWords}
 use Rattle.tables.specs.Changes.{TakesAndGivesFrames, Maps, IsOutside}
-use Rattle.tables.specs.Pieces.{IsRun}
+use Rattle.tables.specs.Pieces.{WritesEntries}
 use Rattle.tables.proofs.Here.{here-same}
 use Rattle.tables.proofs.Words.{same_entry, memory_at}
 use Rattle.tables.proofs.Level.{stated_small}
@@ -36,7 +36,7 @@ table_one m n t p w =
     ⊎_elim (λ top. table_top n 0 t p w top ∙ sym (table_top m 0 t p w top)) (λ lower. no_table n t p w lower ∙ sym (no_table m t p w lower))
     (same_or_not w 1)
 
-pub run_moves : (old new : Pool) (t from to : ℕ) (entry : ℕ → SsEntry) → IsRun old.words new.words t from to entry
+pub run_moves : (old new : Pool) (t from to : ℕ) (entry : ℕ → SsEntry) → WritesEntries old.words new.words t from to entry
     → new.free ≡ old.free → new.frames ≡ old.frames → TakesAndGivesFrames old new 1 t []
 run_moves old new t from to entry run free frames = record {
   account = λ f. omega (arith, uses-one (memory old.words) t f, uses-one (memory new.words) t f, ap (λ xs. occurs f xs) free);
@@ -47,8 +47,8 @@ run_moves old new t from to entry run free frames = record {
 }
 
 -- the leaf of a page of the run
-pub run_leaf : (old new : Pool) (t from to p : ℕ) (entry : ℕ → SsEntry) (e : SsEntry) → IsRun old.words new.words t from to entry → from ≤ p
-    → p < to → entry p ≡ e → leaf_from (memory new.words) 1 t p ≡ leaf_of e 0 (λ c. leaf_from (memory new.words) 0 c p)
+pub run_leaf : (old new : Pool) (t from to p : ℕ) (entry : ℕ → SsEntry) (e : SsEntry) → WritesEntries old.words new.words t from to entry
+    → from ≤ p → p < to → entry p ≡ e → leaf_from (memory new.words) 1 t p ≡ leaf_of e 0 (λ c. leaf_from (memory new.words) 0 c p)
 run_leaf old new t from to p entry e run low high is =
     leaf_under (memory new.words) 0 t p e (ap (λ i. memory new.words 1 t i) (index-zero p) ∙ run.entries p low high ∙ is)
 
@@ -57,7 +57,7 @@ not_both from to p q (inl h) e low high = omega arith
 not_both from to p q (inr h) e low high = omega arith
 
 -- and of another page in the span
-pub run_rest : (old new : Pool) (t from to p : ℕ) (entry : ℕ → SsEntry) → IsRun old.words new.words t from to entry
+pub run_rest : (old new : Pool) (t from to p : ℕ) (entry : ℕ → SsEntry) → WritesEntries old.words new.words t from to entry
     → ((q : ℕ) → from ≤ q → q < to → q / SPAN_PAGES ≡ from / SPAN_PAGES) → p / SPAN_PAGES ≡ from / SPAN_PAGES → IsOutside from to p
     → leaf_from (memory new.words) 1 t p ≡ leaf_from (memory old.words) 1 t p
 run_rest old new t from to p entry run one same out =
@@ -72,9 +72,9 @@ run_rest old new t from to p entry run one same out =
     (λ c e. leaf-zero (memory new.words) c p ∙ sym (leaf-zero (memory old.words) c p))
     ∙ sym (leaf_under (memory old.words) 0 t p (memory old.words 1 t (index_in 0 p)) refl)
 
-pub run_maps : (old new : Pool) (t from to : ℕ) (entry : ℕ → SsEntry) (says : ℕ → Target) → IsRun old.words new.words t from to entry
-    → ((q : ℕ) → from ≤ q → q < to → q / SPAN_PAGES ≡ from / SPAN_PAGES) → ((p : ℕ) → entry p ≡ Leaf (says p))
-    → Maps old new 1 t from to (λ p. Some (says p))
+pub run_maps : (old new : Pool) (t from to : ℕ) (entry : ℕ → SsEntry) (says : ℕ → Target)
+    → WritesEntries old.words new.words t from to entry → ((q : ℕ) → from ≤ q → q < to → q / SPAN_PAGES ≡ from / SPAN_PAGES)
+    → ((p : ℕ) → entry p ≡ Leaf (says p)) → Maps old new 1 t from to (λ p. Some (says p))
 run_maps old new t from to entry says run one leaves = record {
   mapped =
       λ p low high.
@@ -88,7 +88,7 @@ run_maps old new t from to entry says run one leaves = record {
 -- a run by the places of its words
 pub run_of : (old new : List ℕ) (t from to : ℕ) (entry : ℕ → SsEntry) → from < to → from / SPAN_PAGES ≡ (to - 1) / SPAN_PAGES
     → ((k : ℕ) → k < to - from → look 1 (word new t (from % SPAN_PAGES + k)) ≡ entry (from + k))
-    → IsRest old new t (from % SPAN_PAGES) (to - from) → IsRun old new t from to entry
+    → KeepsOtherWords old new t (from % SPAN_PAGES) (to - from) → WritesEntries old new t from to entry
 run_of old new t from to entry some one words rest = record {
   entries = λ p low high.
       let place : p % SPAN_PAGES ≡ from % SPAN_PAGES + (p - from) = omega arith in

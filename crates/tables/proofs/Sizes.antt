@@ -12,7 +12,7 @@ use Rattle.vtdbits.specs.declared.entry.SsEntry.TheVariants.{Absent, Table, Leaf
 use Rattle.tables.specs.Tree.{Found, span, index_in, leaf_of, leaf_from, is_large_leaf}
 use Rattle.tables.specs.Pool.{Pool, word, memory}
 use Rattle.tables.specs.Changes.{Unmaps}
-use Rattle.tables.specs.Lacks.{splitting}
+use Rattle.tables.specs.Lacks.{splits_leaf}
 use Rattle.tables.specs.Pieces.{piece_splits}
 use Rattle.tables.proofs.Near.{near_leaf, near_at}
 use Rattle.tables.proofs.Steps.{leaf-suc, leaf-zero, div_span_one}
@@ -93,7 +93,7 @@ pub piece_is : (old cur : Pool) (level root from to place next : ℕ) → from �
     → place / SPAN_PAGES ≡ (next - 1) / SPAN_PAGES → ((place % SPAN_PAGES ≡ 0) ⊎ (place ≡ from)) → ((next % SPAN_PAGES ≡ 0) ⊎ (next ≡ to))
     → leaf_from (memory cur.words) level root place ≡ leaf_from (memory old.words) level root place
     → piece_splits (memory cur.words) level root place next
-    ≡ splitting (memory old.words) level root from to (place / SPAN_PAGES * SPAN_PAGES)
+    ≡ splits_leaf (memory old.words) level root from to (place / SPAN_PAGES * SPAN_PAGES)
 piece_is old cur level root from to place next low some high one edge end same =
     ⊎_elim
     (λ (part : next - place < SPAN_PAGES).

@@ -10,11 +10,11 @@ use Rattle.vtdbits.specs.Entry.{look}
 use Rattle.vtdbits.specs.Translation.{target}
 use Rattle.vtdbits.specs.declared.entry.SsEntry.{SsEntry}
 use Rattle.vtdbits.specs.declared.entry.SsEntry.TheVariants.{Table, Leaf, LargeLeaf}
-use Rattle.tables.specs.Under.{IsSplit, Under, child}
+use Rattle.tables.specs.Under.{IsSplit, ChangesUnder, used_by_entry}
 use Rattle.tables.specs.Tree.{Memory, Found, span, index_in, leaf_from, stated, states, uses, here, entry_uses, is_large_leaf}
 use Rattle.tables.specs.Pool.{Pool, word, memory, occurs, IsTree, IsWrite}
 use Rattle.tables.specs.Changes.{TakesAndGivesFrames, Unmaps}
-use Rattle.tables.specs.Pieces.{IsRun, piece_splits}
+use Rattle.tables.specs.Pieces.{WritesEntries, piece_splits}
 use Rattle.tables.proofs.Here.{here-same}
 use Rattle.tables.proofs.Level.{stated_small, stated_large}
 use Rattle.tables.proofs.Mapped.{moves_then}
@@ -28,11 +28,12 @@ use Rattle.tables.proofs.Under.{under_moves, other_leaf, other_table, root_apart
 pub under_split : (old new : Pool) (t i c : ℕ) (x : Target) → IsTree old 2 t → i < TABLE_ENTRIES → memory old.words 2 t i ≡ LargeLeaf x
     → memory new.words 2 t i ≡ Table c → ((f : ℕ) → occurs f new.free + here c f ≡ occurs f old.free)
     → ((f k : ℕ) → k < TABLE_ENTRIES → f ≢ t → f ≢ c → word new.words f k ≡ word old.words f k)
-    → ((k : ℕ) → k < TABLE_ENTRIES → k ≢ i → word new.words t k ≡ word old.words t k) → new.frames ≡ old.frames → Under old new 1 t i []
+    → ((k : ℕ) → k < TABLE_ENTRIES → k ≢ i → word new.words t k ≡ word old.words t k) → new.frames ≡ old.frames
+    → ChangesUnder old new 1 t i []
 under_split old new t i c x tree a was is free stay row frames = record {
   account = λ f.
-      let before : child (memory old.words) 1 t f i ≡ 0 = ap (λ e. entry_uses e (λ c. uses (memory old.words) 1 c f)) was in
-      let after : child (memory new.words) 1 t f i ≡ here c f =
+      let before : used_by_entry (memory old.words) 1 t f i ≡ 0 = ap (λ e. entry_uses e (λ c. uses (memory old.words) 1 c f)) was in
+      let after : used_by_entry (memory new.words) 1 t f i ≡ here c f =
       ap (λ e. entry_uses e (λ c. uses (memory new.words) 1 c f)) is ∙ uses-one (memory new.words) c f in
       omega (arith, free f);
   fewer = λ f. omega (arith, free f);
@@ -47,7 +48,7 @@ under_split old new t i c x tree a was is free stay row frames = record {
 pub splits : (old took ran new : Pool) (t i page c value : ℕ) (entry : ℕ → SsEntry) (x : Target) → IsTree old 2 t → i < TABLE_ENTRIES
     → memory old.words 2 t i ≡ LargeLeaf x → ((f : ℕ) → occurs f took.free + here c f ≡ occurs f old.free) → took.words ≡ old.words
     → took.frames ≡ old.frames
-    → IsRun took.words ran.words c (page / SPAN_PAGES * SPAN_PAGES) (page / SPAN_PAGES * SPAN_PAGES + SPAN_PAGES) entry
+    → WritesEntries took.words ran.words c (page / SPAN_PAGES * SPAN_PAGES) (page / SPAN_PAGES * SPAN_PAGES + SPAN_PAGES) entry
     → ran.free ≡ took.free → ran.frames ≡ took.frames → IsWrite ran.words new.words t i value → new.free ≡ ran.free
     → new.frames ≡ ran.frames → look 2 value ≡ Table c
     → ((p : ℕ) → page / SPAN_PAGES * SPAN_PAGES ≤ p → p < page / SPAN_PAGES * SPAN_PAGES + SPAN_PAGES
@@ -78,7 +79,7 @@ splits old took ran new t i page c value entry x tree a was free words frames ru
 
 -- the table before it is linked: it spells the leaf, which is still there
 pub spells_leaf : (took ran : Pool) (page c : ℕ) (entry : ℕ → SsEntry) (x : Target)
-    → IsRun took.words ran.words c (page / SPAN_PAGES * SPAN_PAGES) (page / SPAN_PAGES * SPAN_PAGES + SPAN_PAGES) entry
+    → WritesEntries took.words ran.words c (page / SPAN_PAGES * SPAN_PAGES) (page / SPAN_PAGES * SPAN_PAGES + SPAN_PAGES) entry
     → ((p : ℕ) → page / SPAN_PAGES * SPAN_PAGES ≤ p → p < page / SPAN_PAGES * SPAN_PAGES + SPAN_PAGES
     → entry p ≡ Leaf (target (x.frame + p % SPAN_PAGES) x.rights)) → (i : ℕ) → i < TABLE_ENTRIES
     → memory ran.words 1 c i ≡ Leaf (target (x.frame + i) x.rights)
@@ -90,7 +91,7 @@ spells_leaf took ran page c entry x run leaves i small =
 
 pub leaf_stays : (old took ran : Pool) (t i page c : ℕ) (entry : ℕ → SsEntry) (x : Target) → IsTree old 2 t → i < TABLE_ENTRIES
     → memory old.words 2 t i ≡ LargeLeaf x → ((f : ℕ) → occurs f took.free + here c f ≡ occurs f old.free) → took.words ≡ old.words
-    → IsRun took.words ran.words c (page / SPAN_PAGES * SPAN_PAGES) (page / SPAN_PAGES * SPAN_PAGES + SPAN_PAGES) entry
+    → WritesEntries took.words ran.words c (page / SPAN_PAGES * SPAN_PAGES) (page / SPAN_PAGES * SPAN_PAGES + SPAN_PAGES) entry
     → memory ran.words 2 t i ≡ LargeLeaf x
 leaf_stays old took ran t i page c entry x tree small was free words run =
     let apart : c ≡ t → ⊥ =

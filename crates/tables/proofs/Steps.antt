@@ -7,7 +7,7 @@ use Rattle.dmatypes.specs.declared.page.TheConstants.{SPAN_PAGES}
 use Rattle.tables.specs.declared.entries.TheConstants.{TABLE_ENTRIES}
 use Rattle.vtdbits.specs.declared.entry.SsEntry.{SsEntry}
 use Rattle.vtdbits.specs.declared.entry.SsEntry.TheVariants.{Absent, Table, Leaf, LargeLeaf}
-use Rattle.tables.specs.Under.{child}
+use Rattle.tables.specs.Under.{used_by_entry}
 use Rattle.tables.specs.Tree.{Memory, span, index_in, leaf_of, table_of, leaf_from, table_from, total, here, entry_uses, uses}
 use Rattle.tables.proofs.Total.{total_part, total_two, total-none}
 use Rattle.tables.proofs.Here.{here-same}
@@ -31,7 +31,7 @@ pub table-zero : (m : Memory) (t p w : ℕ) → table_from m 0 t p w ≡ None
 unfolding table_from
 table-zero m t p w = refl
 
-pub uses-suc : (m : Memory) (l t f : ℕ) → uses m (suc l) t f ≡ here t f + total (child m l t f) TABLE_ENTRIES
+pub uses-suc : (m : Memory) (l t f : ℕ) → uses m (suc l) t f ≡ here t f + total (used_by_entry m l t f) TABLE_ENTRIES
 unfolding uses
 uses-suc m l t f = refl
 
@@ -66,28 +66,29 @@ too_high m l t p w lt = by_value (table_from m l t p w) refl
     by_value (Some c) e = absurd (let le : w ≤ l = deeper m l t p w c e in omega arith)
 
 -- a table is used by itself, beside its entries
-pub own_use : (m : Memory) (l t i : ℕ) → i < TABLE_ENTRIES → 1 + child m l t t i ≤ uses m (suc l) t t
-own_use m l t i inside = omega (arith, uses-suc m l t t, here-same t, total_part (child m l t t) TABLE_ENTRIES i inside)
+pub own_use : (m : Memory) (l t i : ℕ) → i < TABLE_ENTRIES → 1 + used_by_entry m l t t i ≤ uses m (suc l) t t
+own_use m l t i inside = omega (arith, uses-suc m l t t, here-same t, total_part (used_by_entry m l t t) TABLE_ENTRIES i inside)
 
-pub child_use : (m : Memory) (l t f i : ℕ) → i < TABLE_ENTRIES → child m l t f i ≤ uses m (suc l) t f
-child_use m l t f i inside = omega (arith, uses-suc m l t f, total_part (child m l t f) TABLE_ENTRIES i inside)
+pub child_use : (m : Memory) (l t f i : ℕ) → i < TABLE_ENTRIES → used_by_entry m l t f i ≤ uses m (suc l) t f
+child_use m l t f i inside = omega (arith, uses-suc m l t f, total_part (used_by_entry m l t f) TABLE_ENTRIES i inside)
 
 pub two_uses : (m : Memory) (l t f i j : ℕ) → i < TABLE_ENTRIES → j < TABLE_ENTRIES → j ≢ i
-    → child m l t f i + child m l t f j ≤ uses m (suc l) t f
-two_uses m l t f i j a b ne = omega (arith, uses-suc m l t f, total_two (child m l t f) TABLE_ENTRIES i j a b ne)
+    → used_by_entry m l t f i + used_by_entry m l t f j ≤ uses m (suc l) t f
+two_uses m l t f i j a b ne = omega (arith, uses-suc m l t f, total_two (used_by_entry m l t f) TABLE_ENTRIES i j a b ne)
 
 -- a bare table uses itself alone
 pub uses-bare : (m : Memory) (l t f : ℕ) → IsBare m t → uses m (suc l) t f ≡ here t f
 uses-bare m l t f bare =
-    let none : total (child m l t f) TABLE_ENTRIES ≡ 0 =
-    total-none (child m l t f) TABLE_ENTRIES (λ j lt. ap (λ e. entry_uses e (λ c. uses m l c f)) (bare (suc l) j lt)) in
+    let none : total (used_by_entry m l t f) TABLE_ENTRIES ≡ 0 =
+    total-none (used_by_entry m l t f) TABLE_ENTRIES (λ j lt. ap (λ e. entry_uses e (λ c. uses m l c f)) (bare (suc l) j lt)) in
     omega (arith, uses-suc m l t f)
 
 -- and so does a table of level 1
 pub uses-one : (m : Memory) (t f : ℕ) → uses m 1 t f ≡ here t f
 unfolding uses
 uses-one m t f =
-    let none : total (child m 0 t f) TABLE_ENTRIES ≡ 0 = total-none (child m 0 t f) TABLE_ENTRIES (λ j lt. by_entry (m 1 t j)) in
+    let none : total (used_by_entry m 0 t f) TABLE_ENTRIES ≡ 0 =
+    total-none (used_by_entry m 0 t f) TABLE_ENTRIES (λ j lt. by_entry (m 1 t j)) in
     omega (arith, uses-suc m 0 t f)
   where
     by_entry : (e : SsEntry) → entry_uses e (λ c. uses m 0 c f) ≡ 0

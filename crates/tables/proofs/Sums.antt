@@ -12,7 +12,7 @@ use Rattle.std.proofs.Common.{List}
 use Rattle.dmatypes.specs.declared.call.Segment.{Segment}
 use Rattle.tables.specs.Pool.{Pool, memory}
 use Rattle.tables.specs.Segments.{is_large_at}
-use Rattle.tables.specs.Lacks.{sum_spans, lacking, lacks, splitting, splits}
+use Rattle.tables.specs.Lacks.{sum_spans, lacks_table, tables_lacking, splits_leaf, splits}
 use Rattle.tables.proofs.Steps.{span-one, same_or_not}
 use Rattle.tables.proofs.Total.{total_same, total-suc, total-zero, total_part, total_le_more}
 
@@ -178,10 +178,10 @@ so_far-test g width from number count more b le is test e = omega (arith, so_far
 
 -- what is lacking, and what is split, at a page
 unfoldable pub lacking_at : Pool → ℕ → ℕ → List Segment → ℕ → ℕ → ℕ → ℕ
-lacking_at pool level root segments first w p = lacking (memory pool.words) level root (is_large_at segments first p) w p
+lacking_at pool level root segments first w p = lacks_table (memory pool.words) level root (is_large_at segments first p) w p
 
 unfoldable pub splitting_at : Pool → ℕ → ℕ → ℕ → ℕ → ℕ → ℕ
-splitting_at pool level root from to p = splitting (memory pool.words) level root from to p
+splitting_at pool level root from to p = splits_leaf (memory pool.words) level root from to p
 
 pub few_more : (count more number first : ℕ) (b : Bool) → first ≤ number → more ≡ count + cond b 1 0 → count ≤ number - first
     → more ≤ number + 1 - first
@@ -193,21 +193,21 @@ unfoldable pub level_lacking : Pool → ℕ → ℕ → List Segment → ℕ →
 level_lacking pool level root segments first end v = sum_spans (lacking_at pool level root segments first (v + 1)) (v + 1) first end
 
 pub level_at : (pool : Pool) (level root : ℕ) (segments : List Segment) (first end v w n : ℕ) → v + 1 ≡ w
-    → n ≡ sum_spans (λ p. lacking (memory pool.words) level root (is_large_at segments first p) w p) w first end
+    → n ≡ sum_spans (λ p. lacks_table (memory pool.words) level root (is_large_at segments first p) w p) w first end
     → n ≡ level_lacking pool level root segments first end v
 unfolding level_lacking lacking_at
 level_at pool level root segments first end v w n e is =
-    is ∙ ap (λ (x : ℕ). sum_spans (λ p. lacking (memory pool.words) level root (is_large_at segments first p) x p) x first end) (sym e)
+    is ∙ ap (λ (x : ℕ). sum_spans (λ p. lacks_table (memory pool.words) level root (is_large_at segments first p) x p) x first end) (sym e)
 
-pub splitting_covered : (m : Memory) (level t from to p : ℕ) → from ≤ p → p + SPAN_PAGES ≤ to → splitting m level t from to p ≡ 0
-unfolding splitting
+pub splitting_covered : (m : Memory) (level t from to p : ℕ) → from ≤ p → p + SPAN_PAGES ≤ to → splits_leaf m level t from to p ≡ 0
+unfolding splits_leaf
 splitting_covered m level t from to p low high =
     let yes : (nat_le from p && nat_le (p + SPAN_PAGES) to) ≡ true = grind (arith, nat_tests) in
     ap (λ b. cond b 0 (cond (is_large_leaf (leaf_from m level t p)) 1 0)) yes
 
 pub splitting_else : (m : Memory) (level t from to p : ℕ) → ((p < from) ⊎ (to < p + SPAN_PAGES))
-    → splitting m level t from to p ≡ cond (is_large_leaf (leaf_from m level t p)) 1 0
-unfolding splitting
+    → splits_leaf m level t from to p ≡ cond (is_large_leaf (leaf_from m level t p)) 1 0
+unfolding splits_leaf
 splitting_else m level t from to p out = ap (λ b. cond b 0 (cond (is_large_leaf (leaf_from m level t p)) 1 0)) (no out)
   where
     no : ((p < from) ⊎ (to < p + SPAN_PAGES)) → (nat_le from p && nat_le (p + SPAN_PAGES) to) ≡ false
@@ -238,7 +238,7 @@ split_later pool level root from to place lt =
 pub split_so_far-step : (pool : Pool) (level root from to place next : ℕ) → from ≤ place → place < next
     → place / SPAN_PAGES ≡ (next - 1) / SPAN_PAGES → ((place % SPAN_PAGES ≡ 0) ⊎ (place ≡ from))
     → split_so_far pool level root from to next
-    ≡ split_so_far pool level root from to place + splitting (memory pool.words) level root from to (place / SPAN_PAGES * SPAN_PAGES)
+    ≡ split_so_far pool level root from to place + splits_leaf (memory pool.words) level root from to (place / SPAN_PAGES * SPAN_PAGES)
 unfolding splitting_at
 split_so_far-step pool level root from to place next low some one edge =
     let g : ℕ → ℕ = splitting_at pool level root from to in
@@ -288,10 +288,10 @@ split_so_far-most pool level root from to next some le =
 
 -- where no leaf is split, none of a page's span is
 pub none_split : (m : Memory) (level t from to p : ℕ) → from ≤ p → p < to → splits m level t from to ≡ 0
-    → splitting m level t from to (p / SPAN_PAGES * SPAN_PAGES) ≡ 0
+    → splits_leaf m level t from to (p / SPAN_PAGES * SPAN_PAGES) ≡ 0
 unfolding splits
 none_split m level t from to p low high none =
-    let g : ℕ → ℕ = splitting m level t from to in
+    let g : ℕ → ℕ = splits_leaf m level t from to in
     let k : ℕ = p / SPAN_PAGES - from / SPAN_PAGES in
     let first : from / SPAN_PAGES ≤ p / SPAN_PAGES = div_mono from p SPAN_PAGES (omega arith) low in
     let last : p / SPAN_PAGES ≤ (to - 1) / SPAN_PAGES = div_mono p (to - 1) SPAN_PAGES (omega arith) (omega arith) in
@@ -325,37 +325,37 @@ cond_one true b = omega arith
 cond_one false true = omega arith
 cond_one false false = omega arith
 
-pub lacking_few : (m : Memory) (level root : ℕ) (large : Bool) (w p : ℕ) → lacking m level root large w p ≤ 1
-unfolding lacking
+pub lacking_few : (m : Memory) (level root : ℕ) (large : Bool) (w p : ℕ) → lacks_table m level root large w p ≤ 1
+unfolding lacks_table
 lacking_few m level root large w p = cond_few _ _
 
-splitting_few : (m : Memory) (level root from to p : ℕ) → splitting m level root from to p ≤ 1
-unfolding splitting
+splitting_few : (m : Memory) (level root from to p : ℕ) → splits_leaf m level root from to p ≤ 1
+unfolding splits_leaf
 splitting_few m level root from to p = cond_one _ _
 
 pub splits_few : (m : Memory) (level root from to : ℕ) → splits m level root from to ≤ (to - 1) / SPAN_PAGES + 1 - from / SPAN_PAGES
 unfolding splits
 splits_few m level root from to =
-    let few = sum_few (splitting m level root from to) 1 from to (splitting_few m level root from to) in
+    let few = sum_few (splits_leaf m level root from to) 1 from to (splitting_few m level root from to) in
     let same : (to - 1) / span 1 + 1 - from / span 1 ≡ (to - 1) / SPAN_PAGES + 1 - from / SPAN_PAGES =
     ap (λ (n : ℕ). (to - 1) / n + 1 - from / n) span-one in
     omega arith
 
 -- the tables of one level that a map lacks
 unfoldable pub level_lacks : Memory → ℕ → ℕ → (ℕ → Bool) → ℕ → ℕ → ℕ → ℕ
-level_lacks m level root large first end v = sum_spans (λ p. lacking m level root (large p) (v + 1) p) (v + 1) first end
+level_lacks m level root large first end v = sum_spans (λ p. lacks_table m level root (large p) (v + 1) p) (v + 1) first end
 
 pub level_few : (m : Memory) (level root : ℕ) (large : ℕ → Bool) (first end v width : ℕ) → width ≡ span (v + 1)
     → level_lacks m level root large first end v ≤ (end - 1) / width + 1 - first / width
 unfolding level_lacks
 level_few m level root large first end v width e =
     let few =
-    sum_few (λ p. lacking m level root (large p) (v + 1) p) (v + 1) first end (λ p. lacking_few m level root (large p) (v + 1) p) in
+    sum_few (λ p. lacks_table m level root (large p) (v + 1) p) (v + 1) first end (λ p. lacking_few m level root (large p) (v + 1) p) in
     let same : (end - 1) / span (v + 1) + 1 - first / span (v + 1) ≡ (end - 1) / width + 1 - first / width =
     ap (λ (n : ℕ). (end - 1) / n + 1 - first / n) (sym e) in
     omega arith
 
 pub lacks_levels : (m : Memory) (level root : ℕ) (large : ℕ → Bool) (first end n : ℕ) → n ≡ level - 1
-    → lacks m level root large first end ≡ total (level_lacks m level root large first end) n
-unfolding lacks level_lacks
+    → tables_lacking m level root large first end ≡ total (level_lacks m level root large first end) n
+unfolding tables_lacking level_lacks
 lacks_levels m level root large first end n e = ap (total (level_lacks m level root large first end)) (sym e)

@@ -5,10 +5,10 @@ use Rattle.std.proofs.lemmas.Bool.{cases_lt}
 use Rattle.dmatypes.specs.declared.page.TheConstants.{SPAN_PAGES}
 use Rattle.tables.specs.declared.entries.TheConstants.{TABLE_ENTRIES}
 use Rattle.vtdbits.specs.declared.entry.SsEntry.TheVariants.{Table}
-use Rattle.tables.specs.Under.{Under}
+use Rattle.tables.specs.Under.{ChangesUnder}
 use Rattle.tables.specs.Tree.{Memory, span, index_in, leaf_from, table_from, stated}
 use Rattle.tables.specs.Pool.{Pool, memory, occurs, IsTree}
-use Rattle.tables.specs.Changes.{TakesAndGivesFrames, Unmaps, IsOutside, IsClear, IsCovered}
+use Rattle.tables.specs.Changes.{TakesAndGivesFrames, Unmaps, IsOutside, MeetsNone, IsCovered}
 use Rattle.tables.proofs.Given.{occurs-append}
 use Rattle.tables.proofs.Kept.{stated_none}
 use Rattle.tables.proofs.Mapped.{table_either}
@@ -25,7 +25,7 @@ unmaps_up old new l t i c from to cut tree a is some names one covers moves deep
     let m : Memory = memory old.words in
     let n : Memory = memory new.words in
     let both = below_under old new l t i c cut tree a names moves in
-    let u : Under old new l t i cut = both.0 in
+    let u : ChangesUnder old new l t i cut = both.0 in
     let here_old : (p : ℕ) → index_in l p ≡ i → m (suc l) t (index_in l p) ≡ Table c = λ p e. ap (λ j. m (suc l) t j) e ∙ names in
     let here_new : (p : ℕ) → index_in l p ≡ i → n (suc l) t (index_in l p) ≡ Table c = λ p e. ap (λ j. n (suc l) t j) e ∙ both.1 in
     let near : (p : ℕ) → p / span (suc l) ≡ from / span (suc l) → index_in l p ≡ i → p / span l ≡ from / span l =
@@ -119,7 +119,7 @@ pub unmaps_then : (a b c : Pool) (level t from mid to : ℕ) (cut more : List �
 unmaps_then a b c level t from mid to cut more lo hi edge tree one moves moves' x y =
     let shift : from / span level ≡ mid / span level = sym (one mid lo hi) in
     let joins : (f : ℕ) → occurs f (cut ++ more) ≡ occurs f cut + occurs f more = λ f. occurs-append f cut more in
-    let far_both : (w p : ℕ) → IsClear w from to p → IsClear w from mid p × IsClear w mid to p =
+    let far_both : (w p : ℕ) → MeetsNone w from to p → MeetsNone w from mid p × MeetsNone w mid to p =
     λ w p far. ((λ q low high. far q low (omega arith)), (λ q low high. far q (omega arith) high)) in
     record {
       gone = λ p low high.

@@ -12,8 +12,8 @@ abbrev pub IsOutside : ℕ → ℕ → ℕ → Type 0
 IsOutside from to p = (p < from) ⊎ (to ≤ p)
 
 -- the page's span of a level has none of them
-abbrev pub IsClear : ℕ → ℕ → ℕ → ℕ → Type 0
-IsClear w from to p = (q : ℕ) → from ≤ q → q < to → p / span w ≡ q / span w → ⊥
+abbrev pub MeetsNone : ℕ → ℕ → ℕ → ℕ → Type 0
+MeetsNone w from to p = (q : ℕ) → from ≤ q → q < to → p / span w ≡ q / span w → ⊥
 
 -- the page's span of 512 pages is wholly among them
 abbrev pub IsCovered : ℕ → ℕ → ℕ → Type 0
@@ -42,7 +42,7 @@ pub record Maps (old new : Pool) (level table from to : ℕ) (says : ℕ → Opt
   pub taken : (p w c : ℕ) → table_from (memory new.words) level table p w ≡ Some c
       → (table_from (memory old.words) level table p w ≡ Some c) ⊎ (0 < occurs c old.free)
   -- and its span meets the pages
-  pub clear : (p w : ℕ) → p / span level ≡ from / span level → IsClear w from to p
+  pub clear : (p w : ℕ) → p / span level ≡ from / span level → MeetsNone w from to p
       → table_from (memory new.words) level table p w ≡ table_from (memory old.words) level table p w
 
 -- where a map made tables: every span that meets the pages has its table, but one of level 1 where a test lets
@@ -60,7 +60,7 @@ pub record Unmaps (old new : Pool) (level table from to : ℕ) (cut : List ℕ) 
       → states (memory new.words) level table p ≡ states (memory old.words) level table p
   -- a leaf entry stays that states none of the pages
   pub leaves : (p : ℕ) (x : Found) → p / span level ≡ from / span level
-      → leaf_from (memory old.words) level table p ≡ Some x → IsClear x.size from to p
+      → leaf_from (memory old.words) level table p ≡ Some x → MeetsNone x.size from to p
       → leaf_from (memory new.words) level table p ≡ Some x
   -- a table stays in its place, or was cut: it is of level 1 and the pages cover its span
   pub tables : (p w c : ℕ) → p / span level ≡ from / span level
@@ -72,7 +72,7 @@ pub record Unmaps (old new : Pool) (level table from to : ℕ) (cut : List ℕ) 
       → table_from (memory new.words) level table p w ≡ Some c
       → (table_from (memory old.words) level table p w ≡ Some c) ⊎ (0 < occurs c old.free)
   -- and its span meets the pages
-  pub clear : (p w : ℕ) → p / span level ≡ from / span level → IsClear w from to p
+  pub clear : (p w : ℕ) → p / span level ≡ from / span level → MeetsNone w from to p
       → table_from (memory new.words) level table p w ≡ table_from (memory old.words) level table p w
   -- each table whose span they cover was cut
   pub covered : (p c : ℕ) → p / span level ≡ from / span level → IsCovered from to p

@@ -15,8 +15,8 @@ use Rattle.tables.specs.Tree.{Memory, leaf_from, is_large_leaf}
 use Rattle.tables.specs.Pool.{word, memory}
 
 -- what a piece is to state of a page
-abbrev pub says : Piece → ℕ → Option Target
-says x p = Some (target (x.frame + (p - x.from)) (bits_of x.rights))
+abbrev pub piece_states : Piece → ℕ → Option Target
+piece_states x p = Some (target (x.frame + (p - x.from)) (bits_of x.rights))
 
 -- its leaf of one page
 abbrev pub leaf_at : Piece → ℕ → SsEntry
@@ -27,7 +27,7 @@ abbrev pub is_large : Piece → Bool
 is_large x = (x.from % SPAN_PAGES == 0) && (x.to - x.from == SPAN_PAGES) && (x.frame % SPAN_PAGES == 0)
 
 -- in a table of level 1 the entries of these pages were written, and no other word changed
-pub record IsRun (old new : List ℕ) (table from to : ℕ) (entry : ℕ → SsEntry) : Type 0 where
+pub record WritesEntries (old new : List ℕ) (table from to : ℕ) (entry : ℕ → SsEntry) : Type 0 where
   pub entries : (p : ℕ) → from ≤ p → p < to → memory new 1 table (p % SPAN_PAGES) ≡ entry p
   pub rest : (f k : ℕ) → k < TABLE_ENTRIES → (f ≡ table → (p : ℕ) → from ≤ p → p < to → p % SPAN_PAGES ≡ k → ⊥)
       → word new f k ≡ word old f k

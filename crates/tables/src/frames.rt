@@ -5,7 +5,7 @@ ghost use Rattle.dmatypes.specs.Rights.{AreRights, bits_of};
 ghost use Rattle.vtdbits.specs.Entry.{look};
 ghost use Rattle.vtdbits.specs.Translation.{target};
 ghost use Rattle.tables.specs.Tree.{here};
-ghost use Rattle.tables.specs.Pool.{word, occurs, IsZeroed, IsWrite, IsRest, IsPool};
+ghost use Rattle.tables.specs.Pool.{word, occurs, IsZeroed, IsWrite, KeepsOtherWords, IsPool};
 
 use crate::entries::{TABLE_ENTRIES, leaf_word};
 use dmatypes::{FRAMES_END, Frame, Rights};
@@ -120,7 +120,7 @@ impl Pool {
         requires within { from + count ≤ TABLE_ENTRIES }
         requires taken { occurs frame self.old.free ≡ 0 }
         ensures cleared { (k : ℕ) → k < count → word self.new.words frame (from + k) ≡ 0 }
-        ensures rest { IsRest self.old.words self.new.words frame from count }
+        ensures rest { KeepsOtherWords self.old.words self.new.words frame from count }
         ensures free { self.new.free ≡ self.old.free }
         ensures frames { self.new.frames ≡ self.old.frames }
         ensures pool { IsPool self.new }
@@ -146,7 +146,7 @@ impl Pool {
         requires rights { AreRights (bits_of rights) }
         ensures leaves { (k : ℕ) → k < count
             → look 1 (word self.new.words frame (from + k)) ≡ SsEntry.Leaf (target (first + k) (bits_of rights)) }
-        ensures rest { IsRest self.old.words self.new.words frame from count }
+        ensures rest { KeepsOtherWords self.old.words self.new.words frame from count }
         ensures free { self.new.free ≡ self.old.free }
         ensures frames { self.new.frames ≡ self.old.frames }
         ensures pool { IsPool self.new }

@@ -9,8 +9,8 @@ ghost use Rattle.tables.specs.Tree.{Memory, span, index_in, states, leaf_from, t
 ghost use Rattle.tables.specs.Pool.{memory, occurs, IsPool, IsTree, IsZeroed};
 ghost use Rattle.tables.specs.Changes.{TakesAndGivesFrames, Maps, MakesTables};
 ghost use Rattle.tables.specs.Segments.{is_large_at, AreSegments};
-ghost use Rattle.tables.specs.Lacks.{lacking, lacks, lacks_at, map_lacks, sum_spans};
-ghost use Rattle.tables.specs.Pieces.{says, is_large, IsRun, leaf_at};
+ghost use Rattle.tables.specs.Lacks.{lacks_table, tables_lacking, tables_lacking_at, map_lacks, sum_spans};
+ghost use Rattle.tables.specs.Pieces.{piece_states, is_large, WritesEntries, leaf_at};
 
 use crate::entries::{
     MOST_LEVELS, TABLE_ENTRIES, WIDEST_PAGES_END, entry, index_of, span_of, table_at,
@@ -26,7 +26,7 @@ use vtdbits::{LargeTranslation, SsEntry};
 pub fn write_run(pool: &mut Pool, table: Frame, piece: Piece)
     requires table { table < pool.old.frames }
     requires taken { occurs table pool.old.free ≡ 0 }
-    ensures run { IsRun pool.old.words pool.new.words table piece.from piece.to (leaf_at piece) }
+    ensures run { WritesEntries pool.old.words pool.new.words table piece.from piece.to (leaf_at piece) }
     ensures free { pool.new.free ≡ pool.old.free }
     ensures frames { pool.new.frames ≡ pool.old.frames }
     ensures pool { IsPool pool.new }
@@ -68,15 +68,15 @@ pub fn map_piece(pool: &mut Pool, level: u64, table: Frame, piece: &Piece)
     requires high { level ≤ MOST_LEVELS }
     requires tree { IsTree pool.old level table }
     requires absent { (p : ℕ) → piece.now.from ≤ p → p < piece.now.to → leaf_from (memory pool.old.words) level table p ≡ None }
-    requires room { lacks_at (memory pool.old.words) level table (is_large piece.now) piece.now.from ≤ length pool.old.free }
+    requires room { tables_lacking_at (memory pool.old.words) level table (is_large piece.now) piece.now.from ≤ length pool.old.free }
     ensures moves { TakesAndGivesFrames pool.old pool.new level table [] }
-    ensures maps { Maps pool.old pool.new level table piece.now.from piece.now.to (says piece.now) }
+    ensures maps { Maps pool.old pool.new level table piece.now.from piece.now.to (piece_states piece.now) }
     ensures made { (w : ℕ) → 1 ≤ w → w < level → (w ≡ 1 → is_large piece.now ≡ false)
         → IsSome (table_from (memory pool.new.words) level table piece.now.from w) }
     ensures spared { 1 < level → is_large piece.now ≡ true
         → table_from (memory pool.new.words) level table piece.now.from 1
         ≡ table_from (memory pool.old.words) level table piece.now.from 1 }
-    ensures count { length pool.new.free + lacks_at (memory pool.old.words) level table (is_large piece.now) piece.now.from
+    ensures count { length pool.new.free + tables_lacking_at (memory pool.old.words) level table (is_large piece.now) piece.now.from
         ≡ length pool.old.free }
     ensures pool { IsPool pool.new }
 {
@@ -107,7 +107,7 @@ fn write_large(pool: &mut Pool, table: Frame, index: u64, piece: &Piece)
     requires absent { memory pool.old.words 2 table index ≡ SsEntry.Absent }
     requires large { is_large piece.now ≡ true }
     ensures moves { TakesAndGivesFrames pool.old pool.new 2 table [] }
-    ensures maps { Maps pool.old pool.new 2 table piece.now.from piece.now.to (says piece.now) }
+    ensures maps { Maps pool.old pool.new 2 table piece.now.from piece.now.to (piece_states piece.now) }
     ensures tables { (p w : ℕ) → table_from (memory pool.new.words) 2 table p w ≡ table_from (memory pool.old.words) 2 table p w }
     ensures free { pool.new.free ≡ pool.old.free }
     ensures pool { IsPool pool.new }
@@ -133,7 +133,7 @@ fn lacks_table(
     requires tree { IsTree pool.now level root }
     requires segments { AreSegments segments.now }
     requires within { first + total_pages segments.now ≤ WIDEST_PAGES_END }
-    ensures { (if result then 1 else 0) ≡ lacking (memory pool.now.words) level root (is_large_at segments.now first page) wanted page }
+    ensures { (if result then 1 else 0) ≡ lacks_table (memory pool.now.words) level root (is_large_at segments.now first page) wanted page }
 {
     if table_at(pool, level, root, page, wanted).is_some() {
         return false;
@@ -160,7 +160,7 @@ fn spans_lacking(
     requires end { end ≡ first + total_pages segments.now }
     requires within { end ≤ WIDEST_PAGES_END }
     ensures value { result
-        ≡ sum_spans (λ p. lacking (memory pool.now.words) level root (is_large_at segments.now first p) wanted p) wanted first end }
+        ≡ sum_spans (λ p. lacks_table (memory pool.now.words) level root (is_large_at segments.now first p) wanted p) wanted first end }
     ensures small { result ≤ WIDEST_PAGES_END }
 {
     let width = span_of(wanted);
@@ -190,7 +190,7 @@ fn tables_lacking(
     requires some { first < end }
     requires end { end ≡ first + total_pages segments.now }
     requires within { end ≤ WIDEST_PAGES_END }
-    ensures { result ≡ lacks (memory pool.now.words) level root (is_large_at segments.now first) first end }
+    ensures { result ≡ tables_lacking (memory pool.now.words) level root (is_large_at segments.now first) first end }
 {
     let mut count = 0;
     for wanted in 1..level {
@@ -206,7 +206,7 @@ fn most_lacking(level: u64, first: u64, end: u64) -> u64
     requires high { level ≤ MOST_LEVELS }
     requires some { first < end }
     requires within { end ≤ WIDEST_PAGES_END }
-    ensures { (m : Memory) (root : ℕ) (large : ℕ → Bool) → lacks m level root large first end ≤ result }
+    ensures { (m : Memory) (root : ℕ) (large : ℕ → Bool) → tables_lacking m level root large first end ≤ result }
 {
     let mut most = 0;
     for wanted in 1..level {

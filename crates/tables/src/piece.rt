@@ -28,7 +28,7 @@ impl Piece {
     ghost use Rattle.dmatypes.specs.Conditions.{total_pages};
     ghost use Rattle.dmatypes.specs.World.{placed};
     ghost use Rattle.tables.specs.Segments.{AreSegments, is_large_at};
-    ghost use Rattle.tables.specs.Pieces.{says, is_large};
+    ghost use Rattle.tables.specs.Pieces.{piece_states, is_large};
 
     /// The piece that begins at a page of the segments, which follow one another from a first page on: up to
     /// the end of the page's segment or of its span.
@@ -40,7 +40,8 @@ impl Piece {
         ensures none { IfNone result (first + total_pages segments.now ≤ page) }
         ensures page { IfSome result (λ x. x.from ≡ page) }
         ensures within { IfSome result (λ x. x.to ≤ first + total_pages segments.now) }
-        ensures placed { IfSome result (λ x. (p : ℕ) → page ≤ p → p < x.to → placed segments.now first (bits_of rights) p ≡ says x p) }
+        ensures placed { IfSome result
+            (λ x. (p : ℕ) → page ≤ p → p < x.to → placed segments.now first (bits_of rights) p ≡ piece_states x p) }
         ensures large { IfSome result (λ x. is_large x ≡ is_large_at segments.now first page) }
         ensures inner { IfSome result
             (λ x. 0 < x.to % SPAN_PAGES → is_large_at segments.now first (SPAN_PAGES * (x.to / SPAN_PAGES)) ≡ false) }

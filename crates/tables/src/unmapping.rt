@@ -7,9 +7,9 @@ ghost use Rattle.tables.specs.Pool.{word, memory, occurs, IsPool, IsTree, IsWrit
 ghost use Rattle.vtdbits.specs.Entry.{look};
 ghost use Rattle.vtdbits.specs.Translation.{target};
 ghost use Rattle.tables.specs.Changes.{TakesAndGivesFrames, Unmaps};
-ghost use Rattle.tables.specs.Lacks.{splitting, splits};
+ghost use Rattle.tables.specs.Lacks.{splits_leaf, splits};
 ghost use Rattle.tables.specs.Under.{IsSplit, used_at};
-ghost use Rattle.tables.specs.Pieces.{IsRun, cut_of, was_split, piece_splits};
+ghost use Rattle.tables.specs.Pieces.{WritesEntries, cut_of, was_split, piece_splits};
 
 use crate::cut::Cut;
 use crate::entries::{
@@ -38,7 +38,7 @@ fn clear_run(pool: &mut Pool, table: Frame, from: u64, to: u64)
     requires one_span { from / SPAN_PAGES ≡ (to - 1) / SPAN_PAGES }
     requires table { table < pool.old.frames }
     requires taken { occurs table pool.old.free ≡ 0 }
-    ensures run { IsRun pool.old.words pool.new.words table from to (λ p. SsEntry.Absent) }
+    ensures run { WritesEntries pool.old.words pool.new.words table from to (λ p. SsEntry.Absent) }
     ensures zeroed { (p : ℕ) → from ≤ p → p < to → word pool.new.words table (p % SPAN_PAGES) ≡ 0 }
     ensures free { pool.new.free ≡ pool.old.free }
     ensures frames { pool.new.frames ≡ pool.old.frames }
@@ -192,7 +192,7 @@ fn splits_leaf(pool: &Pool, level: u64, root: Frame, from: u64, to: u64, page: u
     requires high { level ≤ MOST_LEVELS }
     requires tree { IsTree pool.now level root }
     requires page { page ≤ WIDEST_PAGES_END }
-    ensures { (if result then 1 else 0) ≡ splitting (memory pool.now.words) level root from to page }
+    ensures { (if result then 1 else 0) ≡ splits_leaf (memory pool.now.words) level root from to page }
 {
     if from <= page && page + SPAN_PAGES <= to {
         return false;

@@ -3,8 +3,8 @@ use Rattle.vtdbits.specs.declared.entry.SsEntry.TheVariants.{Absent, Leaf, Large
 use Rattle.tables.specs.Tree.{index_in, table_from}
 use Rattle.tables.specs.Pool.{memory}
 use Rattle.tables.specs.Changes.{TakesAndGivesFrames, Maps}
-use Rattle.tables.specs.Lacks.{lacks_at}
-use Rattle.tables.specs.Pieces.{says, is_large}
+use Rattle.tables.specs.Lacks.{tables_lacking_at}
+use Rattle.tables.specs.Pieces.{piece_states, is_large}
 use Rattle.vtdbits.specs.Translation.{target}
 use Rattle.dmatypes.specs.Rights.{bits_of}
 use Rattle.tables.proofs.Descend.{map_through, absent_below, made_through, count_through, count_grown, count_absent, no_leaf}
@@ -38,15 +38,18 @@ returns-then-level-eq1-clause-moves t c =
 
 pub returns-then-level-eq1-clause-maps : goal.returns-then-level-eq1-clause-maps
 returns-then-level-eq1-clause-maps t c =
-    subst (λ n. Maps c.args.pool.now c.write_run.new.pool n c.args.table c.args.piece.now.from c.args.piece.now.to (says c.args.piece.now))
+    subst (λ n.
+    Maps c.args.pool.now c.write_run.new.pool n c.args.table c.args.piece.now.from c.args.piece.now.to (piece_states c.args.piece.now))
     (sym c.if-level-eq1.true) (run_maps c.args.pool.now c.write_run.new.pool c.args.table c.args.piece.now.from c.args.piece.now.to _
     (λ p. target (c.args.piece.now.frame + (p - c.args.piece.now.from)) (bits_of c.args.piece.now.rights)) c.write_run.ensures.run
     (λ q low high. omega (arith, low, high, c.args.piece.now.one_span)) (λ p. refl))
 
 pub returns-then-level-eq1-clause-count : goal.returns-then-level-eq1-clause-count
 returns-then-level-eq1-clause-count t c =
-    let none : lacks_at (memory c.args.pool.now.words) c.args.level c.args.table (is_large c.args.piece.now) c.args.piece.now.from ≡ 0 =
-    ap (λ n. lacks_at (memory c.args.pool.now.words) n c.args.table (is_large c.args.piece.now) c.args.piece.now.from) c.if-level-eq1.true
+    let none : tables_lacking_at (memory c.args.pool.now.words) c.args.level c.args.table (is_large c.args.piece.now) c.args.piece.now.from
+    ≡ 0 =
+    ap (λ n. tables_lacking_at (memory c.args.pool.now.words) n c.args.table (is_large c.args.piece.now) c.args.piece.now.from)
+    c.if-level-eq1.true
     ∙ lacks_at-one (memory c.args.pool.now.words) c.args.table (is_large c.args.piece.now) c.args.piece.now.from in
     omega (arith, none, ap length c.write_run.ensures.free)
 
@@ -92,14 +95,16 @@ map_piece-requires t c =
 pub returns-in-Table-clause-moves : goal.returns-in-Table-clause-moves
 returns-in-Table-clause-moves t c =
     (map_through c.args.pool.now c.map_piece.new.pool c.args.level (c.args.level - 1) c.args.table c.index_of-index.result c.in-Table.below
-    c.args.piece.now.from c.args.piece.now.to (says c.args.piece.now) (omega arith) (low c.args.level c.if-level-eq1.false c.requires.low)
+    c.args.piece.now.from c.args.piece.now.to (piece_states c.args.piece.now) (omega arith)
+    (low c.args.level c.if-level-eq1.false c.requires.low)
     c.args.piece.now.one_span c.requires.tree c.index_of-index.ensures.inside c.index_of-index.ensures.exact c.in-Table.ensures.is
     c.map_piece.ensures.moves c.map_piece.ensures.maps).0
 
 pub returns-in-Table-clause-maps : goal.returns-in-Table-clause-maps
 returns-in-Table-clause-maps t c =
     (map_through c.args.pool.now c.map_piece.new.pool c.args.level (c.args.level - 1) c.args.table c.index_of-index.result c.in-Table.below
-    c.args.piece.now.from c.args.piece.now.to (says c.args.piece.now) (omega arith) (low c.args.level c.if-level-eq1.false c.requires.low)
+    c.args.piece.now.from c.args.piece.now.to (piece_states c.args.piece.now) (omega arith)
+    (low c.args.level c.if-level-eq1.false c.requires.low)
     c.args.piece.now.one_span c.requires.tree c.index_of-index.ensures.inside c.index_of-index.ensures.exact c.in-Table.ensures.is
     c.map_piece.ensures.moves c.map_piece.ensures.maps).1
 
@@ -107,7 +112,7 @@ pub returns-in-Table-clause-made : goal.returns-in-Table-clause-made
 returns-in-Table-clause-made t c =
     let through =
     map_through c.args.pool.now c.map_piece.new.pool c.args.level (c.args.level - 1) c.args.table c.index_of-index.result
-    c.in-Table.below c.args.piece.now.from c.args.piece.now.to (says c.args.piece.now) (omega arith)
+    c.in-Table.below c.args.piece.now.from c.args.piece.now.to (piece_states c.args.piece.now) (omega arith)
     (low c.args.level c.if-level-eq1.false c.requires.low) c.args.piece.now.one_span c.requires.tree c.index_of-index.ensures.inside
     c.index_of-index.ensures.exact c.in-Table.ensures.is c.map_piece.ensures.moves c.map_piece.ensures.maps in
     made_through (memory c.map_piece.new.pool.words) c.args.level (c.args.level - 1) c.args.table c.index_of-index.result c.in-Table.below
@@ -118,7 +123,7 @@ returns-in-Table-clause-spared t c lower large =
     let some : 1 ≤ c.args.level - 1 = low c.args.level c.if-level-eq1.false c.requires.low in
     let through =
     map_through c.args.pool.now c.map_piece.new.pool c.args.level (c.args.level - 1) c.args.table c.index_of-index.result
-    c.in-Table.below c.args.piece.now.from c.args.piece.now.to (says c.args.piece.now) (omega arith) some c.args.piece.now.one_span
+    c.in-Table.below c.args.piece.now.from c.args.piece.now.to (piece_states c.args.piece.now) (omega arith) some c.args.piece.now.one_span
     c.requires.tree c.index_of-index.ensures.inside c.index_of-index.ensures.exact c.in-Table.ensures.is c.map_piece.ensures.moves
     c.map_piece.ensures.maps in
     spared_through (memory c.args.pool.now.words) (memory c.map_piece.new.pool.words) c.args.level (c.args.level - 1) c.args.table
@@ -145,9 +150,10 @@ returns-then-is_large-clause-count t c =
     ap (λ i. memory c.args.pool.now.words 2 c.args.table i) (sym index)
     ∙ subst (λ n. memory c.args.pool.now.words n c.args.table c.index_of-index.result ≡ Absent) c.if-level-eq2.true c.in-Absent.ensures.is
     in
-    let none : lacks_at (memory c.args.pool.now.words) c.args.level c.args.table (is_large c.args.piece.now) c.args.piece.now.from ≡ 0 =
-    ap (λ n. lacks_at (memory c.args.pool.now.words) n c.args.table (is_large c.args.piece.now) c.args.piece.now.from) c.if-level-eq2.true
-    ∙ ap (λ b. lacks_at (memory c.args.pool.now.words) 2 c.args.table b c.args.piece.now.from) large
+    let none : tables_lacking_at (memory c.args.pool.now.words) c.args.level c.args.table (is_large c.args.piece.now) c.args.piece.now.from
+    ≡ 0 =
+    ap (λ n. tables_lacking_at (memory c.args.pool.now.words) n c.args.table (is_large c.args.piece.now) c.args.piece.now.from)
+    c.if-level-eq2.true ∙ ap (λ b. tables_lacking_at (memory c.args.pool.now.words) 2 c.args.table b c.args.piece.now.from) large
     ∙ lacks_at-large (memory c.args.pool.now.words) c.args.table c.args.piece.now.from absent in
     omega (arith, none, ap length c.write_large.ensures.free)
 
@@ -237,7 +243,7 @@ returns-else-level-eq2-clause-moves t c =
     let some : 1 ≤ c.args.level - 1 = low c.args.level c.if-level-eq1.false c.requires.low in
     let through =
     map_through mid new c.args.level l c.args.table c.index_of-index.result c.grow-below.result c.args.piece.now.from
-    c.args.piece.now.to (says c.args.piece.now) (omega arith) some c.args.piece.now.one_span
+    c.args.piece.now.to (piece_states c.args.piece.now) (omega arith) some c.args.piece.now.one_span
     (moved_tree c.args.pool.now mid c.args.level c.args.table [] c.requires.tree c.grow-below.ensures.moves)
     c.index_of-index.ensures.inside c.index_of-index.ensures.exact c.grow-below.ensures.names c.map_piece-else-level-eq2.ensures.moves
     c.map_piece-else-level-eq2.ensures.maps in
@@ -251,11 +257,11 @@ returns-else-level-eq2-clause-maps t c =
     let some : 1 ≤ c.args.level - 1 = low c.args.level c.if-level-eq1.false c.requires.low in
     let through =
     map_through mid new c.args.level l c.args.table c.index_of-index.result c.grow-below.result c.args.piece.now.from
-    c.args.piece.now.to (says c.args.piece.now) (omega arith) some c.args.piece.now.one_span
+    c.args.piece.now.to (piece_states c.args.piece.now) (omega arith) some c.args.piece.now.one_span
     (moved_tree c.args.pool.now mid c.args.level c.args.table [] c.requires.tree c.grow-below.ensures.moves)
     c.index_of-index.ensures.inside c.index_of-index.ensures.exact c.grow-below.ensures.names c.map_piece-else-level-eq2.ensures.moves
     c.map_piece-else-level-eq2.ensures.maps in
-    maps_over c.args.pool.now mid new c.args.level c.args.table c.args.piece.now.from c.args.piece.now.to (says c.args.piece.now)
+    maps_over c.args.pool.now mid new c.args.level c.args.table c.args.piece.now.from c.args.piece.now.to (piece_states c.args.piece.now)
     c.grow-below.ensures.leaves c.grow-below.ensures.moves
     (c.grow-below.ensures.maps c.args.piece.now.from c.args.piece.now.to c.args.piece.now.some (sym c.index_of-index.ensures.exact))
     through.1
@@ -268,7 +274,7 @@ returns-else-level-eq2-clause-made t c =
     let some : 1 ≤ c.args.level - 1 = low c.args.level c.if-level-eq1.false c.requires.low in
     let through =
     map_through mid new c.args.level l c.args.table c.index_of-index.result c.grow-below.result c.args.piece.now.from
-    c.args.piece.now.to (says c.args.piece.now) (omega arith) some c.args.piece.now.one_span
+    c.args.piece.now.to (piece_states c.args.piece.now) (omega arith) some c.args.piece.now.one_span
     (moved_tree c.args.pool.now mid c.args.level c.args.table [] c.requires.tree c.grow-below.ensures.moves)
     c.index_of-index.ensures.inside c.index_of-index.ensures.exact c.grow-below.ensures.names c.map_piece-else-level-eq2.ensures.moves
     c.map_piece-else-level-eq2.ensures.maps in
@@ -283,7 +289,7 @@ returns-else-level-eq2-clause-spared t c lower large =
     let some : 1 ≤ c.args.level - 1 = low c.args.level c.if-level-eq1.false c.requires.low in
     let through =
     map_through mid new c.args.level l c.args.table c.index_of-index.result c.grow-below.result c.args.piece.now.from
-    c.args.piece.now.to (says c.args.piece.now) (omega arith) some c.args.piece.now.one_span
+    c.args.piece.now.to (piece_states c.args.piece.now) (omega arith) some c.args.piece.now.one_span
     (moved_tree c.args.pool.now mid c.args.level c.args.table [] c.requires.tree c.grow-below.ensures.moves)
     c.index_of-index.ensures.inside c.index_of-index.ensures.exact c.grow-below.ensures.names c.map_piece-else-level-eq2.ensures.moves
     c.map_piece-else-level-eq2.ensures.maps in

@@ -10,8 +10,8 @@ use Rattle.tables.specs.Tree.{span}
 use Rattle.tables.specs.Pool.{memory}
 use Rattle.tables.specs.Changes.{Maps, MakesTables}
 use Rattle.tables.specs.Segments.{is_large_at}
-use Rattle.tables.specs.Lacks.{lacks}
-use Rattle.tables.specs.Pieces.{says, is_large}
+use Rattle.tables.specs.Lacks.{tables_lacking}
+use Rattle.tables.specs.Pieces.{piece_states, is_large}
 use Rattle.tables.proofs.Counting.{Placed, lacks_least, lacks_step, lacks_ended}
 use Rattle.tables.proofs.LargePieces.{small_piece, short_piece}
 use Rattle.tables.proofs.Making.{no_makes, makes_then}
@@ -79,7 +79,7 @@ map_piece-requires-clause-room c =
     c.loop-piece.invariant.inner) in
     let moved =
     ap (λ q.
-    lacks (memory c.loop-piece.pool.words) c.args.level c.args.root (is_large_at c.args.segments.now c.args.first) q
+    tables_lacking (memory c.loop-piece.pool.words) c.args.level c.args.root (is_large_at c.args.segments.now c.args.first) q
     (c.args.first + total_pages c.args.segments.now)) c.in-Some.ensures.page in
     omega (arith, least, moved, c.loop-piece.invariant.count, c.requires.room)
 
@@ -111,7 +111,7 @@ loop-piece-preserved c =
     (is_large_at c.args.segments.now c.args.first))
     (sym at) c.loop-piece.invariant.makes in
     let here : Placed c.loop-piece.pool c.map_piece.new.pool c.args.level c.args.root c.in-Some.piece.from c.in-Some.piece.to
-    (says c.in-Some.piece) (is_large c.in-Some.piece) =
+    (piece_states c.in-Some.piece) (is_large c.in-Some.piece) =
     record {
       maps = c.map_piece.ensures.maps;
       made = c.map_piece.ensures.made;
@@ -119,11 +119,11 @@ loop-piece-preserved c =
       one = c.in-Some.piece.one_span;
       short = λ inside. short_piece c.in-Some.piece inside;
     } in
-    let step = lacks_step cur new c.args.level c.args.root x.from x.to end (says x) large (is_large x) here far
+    let step = lacks_step cur new c.args.level c.args.root x.from x.to end (piece_states x) large (is_large x) here far
     (λ p low high. wide p (omega arith) high ∙ sym (wide x.from near (omega arith)))
     (flag c.args.segments.now c.args.first c.loop-piece.place c.in-Some.piece c.in-Some.ensures.page c.in-Some.ensures.large
     c.loop-piece.invariant.inner) in
-    let moved = ap (λ q. lacks (memory cur.words) c.args.level c.args.root large q end) at in
+    let moved = ap (λ q. tables_lacking (memory cur.words) c.args.level c.args.root large q end) at in
     record {
       low = omega arith;
       high = far;
@@ -131,15 +131,16 @@ loop-piece-preserved c =
       maps =
           maps_then c.args.pool.now cur new c.args.level c.args.root c.args.first x.from x.to says_it near some
           (λ p low high. wide p low (omega arith)) c.loop-piece.invariant.moves before
-          (maps_said cur new c.args.level c.args.root x.from x.to (says x) says_it
+          (maps_said cur new c.args.level c.args.root x.from x.to (piece_states x) says_it
           (λ p low high. sym (c.in-Some.ensures.placed p (omega (arith, at, low)) high)) c.map_piece.ensures.maps);
       count = omega (arith, step, moved, c.map_piece.ensures.count, c.loop-piece.invariant.count);
       inner = c.in-Some.ensures.inner;
-      ended = λ e. lacks_ended cur new c.args.level c.args.root x.from x.to (says x) large (is_large x) here;
+      ended = λ e. lacks_ended cur new c.args.level c.args.root x.from x.to (piece_states x) large (is_large x) here;
       pool = λ _. c.map_piece.ensures.pool;
       makes =
-          makes_then c.args.pool.now cur new c.args.level c.args.root c.args.first x.from x.to says_it (says x) large (is_large x) near
-          (λ p low high. wide p low (omega arith)) made before here
+          makes_then c.args.pool.now cur new c.args.level c.args.root c.args.first x.from x.to says_it (piece_states x) large (is_large x)
+          near (λ p low high. wide p low (omega arith)) made before here
           (flag c.args.segments.now c.args.first c.loop-piece.place c.in-Some.piece c.in-Some.ensures.page c.in-Some.ensures.large
-          c.loop-piece.invariant.inner) (λ inside. small_piece x inside) c.map_piece.ensures.spared;
+          c.loop-piece.invariant.inner)
+          (λ inside. small_piece x inside) c.map_piece.ensures.spared;
     }

@@ -1,7 +1,7 @@
 use Rattle.std.proofs.Common.{◌≡◌, suc, ◌+◌, ◌-◌, ◌/◌, ◌≤◌, ap, ◌∙◌, arith}
 use Rattle.std.proofs.Math.Nat.{div-le_self}
 use Rattle.tables.specs.Tree.{span, total}
-use Rattle.tables.specs.Lacks.{lacks}
+use Rattle.tables.specs.Lacks.{tables_lacking}
 use Rattle.tables.proofs.Sums.{level_lacks, level_few, lacks_levels}
 use Rattle.tables.proofs.Total.{total-zero, total-suc}
 use Rattle.tables.proofs.mapping.most_lacking.Goals as goal
@@ -37,7 +37,7 @@ pub returns : goal.returns
 returns c m root large =
     let e : c.loop-wanted.wanted - 1 ≡ c.args.level - 1 =
     omega (arith, c.loop-wanted-test.false, c.loop-wanted.auto.wanted-end, c.requires.low) in
-    let all : lacks m c.args.level root large c.args.first c.args.end
+    let all : tables_lacking m c.args.level root large c.args.first c.args.end
     ≡ total (level_lacks m c.args.level root large c.args.first c.args.end) (c.loop-wanted.wanted - 1) =
     lacks_levels m c.args.level root large c.args.first c.args.end (c.loop-wanted.wanted - 1) e in
     omega (arith, all, c.loop-wanted.invariant.enough m root large)

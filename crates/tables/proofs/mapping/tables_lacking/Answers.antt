@@ -1,6 +1,6 @@
 use Rattle.std.proofs.Common.{◌≡◌, suc, ◌+◌, ◌-◌, sym, ap, ◌∙◌, arith}
 use Rattle.tables.specs.Tree.{total}
-use Rattle.tables.specs.Lacks.{lacks}
+use Rattle.tables.specs.Lacks.{tables_lacking}
 use Rattle.tables.proofs.Sums.{level_lacking, lacking_at, level_at}
 use Rattle.tables.proofs.Total.{total-zero, total-suc}
 use Rattle.tables.proofs.mapping.tables_lacking.Goals as goal
@@ -27,7 +27,7 @@ loop-wanted-preserved c =
     }
 
 pub returns : goal.returns
-unfolding lacks level_lacking lacking_at
+unfolding tables_lacking level_lacking lacking_at
 returns c =
     c.loop-wanted.invariant.sum
     ∙ ap (total (level_lacking c.args.pool.now c.args.level c.args.root c.args.segments.now c.args.first c.args.end))

@@ -6,7 +6,7 @@ use Rattle.vtdbits.specs.Translation.{target}
 use Rattle.vtdbits.specs.declared.entry.SsEntry.TheVariants.{LargeLeaf}
 use Rattle.dmatypes.specs.Rights.{bits_of}
 use Rattle.tables.specs.Changes.{Maps}
-use Rattle.tables.specs.Pieces.{says}
+use Rattle.tables.specs.Pieces.{piece_states}
 use Rattle.tables.specs.Pool.{memory}
 use Rattle.tables.proofs.Large.{large_maps}
 use Rattle.tables.proofs.LargePieces.{large_from}
@@ -71,4 +71,4 @@ returns-clause-maps c =
     (bits_of c.args.piece.now.rights) c.encode.result c.requires.tree inside c.requires.index whole.0 c.write.ensures.wrote
     c.write.ensures.free c.write.ensures.frames c.requires.absent names in
     let end : c.args.piece.now.from + SPAN_PAGES ≡ c.args.piece.now.to = omega (arith, whole.1, c.args.piece.now.some) in
-    subst (λ to. Maps c.args.pool.now c.write.new.self 2 c.args.table c.args.piece.now.from to (says c.args.piece.now)) end all.1
+    subst (λ to. Maps c.args.pool.now c.write.new.self 2 c.args.table c.args.piece.now.from to (piece_states c.args.piece.now)) end all.1

@@ -13,7 +13,7 @@ use Rattle.tables.proofs.Steps.{leaf_under}
 use Rattle.vtdbits.specs.Entry.{MayStandAt}
 use Rattle.tables.specs.Tree.{leaf_from}
 use Rattle.std.proofs.Common.{Option, Some, None, IsSome, inl, inr}
-use Rattle.tables.specs.Pieces.{IsRun}
+use Rattle.tables.specs.Pieces.{WritesEntries}
 use Rattle.tables.specs.Tree.{Found}
 use Rattle.tables.proofs.Cleared.{run_through, large_gone}
 use Rattle.tables.proofs.CutTable.{table_cut}
@@ -89,7 +89,7 @@ returns-else-not-is_whole-clause-moves c =
     let all =
     table_cut c.args.pool.now c.clear_run.new.pool c.write.new.self c.args.table c.index_of-index.result c.in-Table.below c.args.from 0
     c.requires.tree c.index_of-index.ensures.inside c.index_of-index.ensures.exact e.0 c.in-Table.ensures.is
-    (subst (λ to. IsRun c.args.pool.now.words c.clear_run.new.pool.words c.in-Table.below c.args.from to (λ p. Absent)) (sym e.1)
+    (subst (λ to. WritesEntries c.args.pool.now.words c.clear_run.new.pool.words c.in-Table.below c.args.from to (λ p. Absent)) (sym e.1)
     c.clear_run.ensures.run)
     (λ p low high. c.clear_run.ensures.zeroed p low (omega (arith, high, e.1))) c.clear_run.ensures.free c.clear_run.ensures.frames
     c.write.ensures.wrote c.write.ensures.free c.write.ensures.frames absent in
@@ -103,7 +103,7 @@ returns-else-not-is_whole-clause-unmaps c =
     let all =
     table_cut c.args.pool.now c.clear_run.new.pool c.write.new.self c.args.table c.index_of-index.result c.in-Table.below c.args.from 0
     c.requires.tree c.index_of-index.ensures.inside c.index_of-index.ensures.exact e.0 c.in-Table.ensures.is
-    (subst (λ to. IsRun c.args.pool.now.words c.clear_run.new.pool.words c.in-Table.below c.args.from to (λ p. Absent)) (sym e.1)
+    (subst (λ to. WritesEntries c.args.pool.now.words c.clear_run.new.pool.words c.in-Table.below c.args.from to (λ p. Absent)) (sym e.1)
     c.clear_run.ensures.run)
     (λ p low high. c.clear_run.ensures.zeroed p low (omega (arith, high, e.1))) c.clear_run.ensures.free c.clear_run.ensures.frames
     c.write.ensures.wrote c.write.ensures.free c.write.ensures.frames absent in

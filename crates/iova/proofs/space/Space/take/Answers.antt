@@ -71,7 +71,11 @@ put-requires-clause-bounded c =
 
 pub put-requires-clause-room : goal.put-requires-clause-room
 put-requires-clause-room c =
-    omega (arith, (found_space (goal.at.put-requires-clause-room c).After-put-arg-1 (found_free (goal.at.put-requires-clause-room c).In-Some)).few, c.self.invariant.1)
+    omega (
+      arith,
+      (found_space (goal.at.put-requires-clause-room c).After-put-arg-1 (found_free (goal.at.put-requires-clause-room c).In-Some)).few,
+      c.self.invariant.1,
+    )
 
 pub unwrap-requires : goal.unwrap-requires
 unwrap-requires c =
