@@ -106,3 +106,16 @@ patch limit n t i count pool ys run at same all ok t_in taken i_in long =
       inside = inside;
       rest = rest;
     })
+
+-- the same where what came back is as long as what was lent
+pub patch_lent : (limit n t i count m : ℕ) (pool : Pool) (ys run : List ℕ) → n ≡ t → ys ≡ pool.words → limit ≡ length pool.words
+    → IsPool pool → t < pool.frames → occurs t pool.free ≡ 0 → i + count ≤ TABLE_ENTRIES → m ≡ count
+    → length run ≡ length (take m (drop (n * TABLE_ENTRIES + i) ys))
+    → (length run ≡ count)
+    × IsPatch pool (patched limit (n * TABLE_ENTRIES + i) (n * TABLE_ENTRIES + i + count) pool.words ys run) t i run
+patch_lent limit n t i count m pool ys run at same all ok t_in taken i_in is lent =
+    let long : length run ≡ count =
+    lent ∙ length-take-le m (drop (n * TABLE_ENTRIES + i) ys)
+    (omega (arith, length-drop (n * TABLE_ENTRIES + i) ys, ap (λ xs. length xs) same, ok.fit))
+    ∙ is in
+    (long, patch limit n t i count pool ys run at same all ok t_in taken i_in long)
