@@ -5,7 +5,7 @@ use Rattle.vtdbits.proofs.Entries.{look-zero}
 use Rattle.vtdbits.specs.declared.entry.SsEntry.TheVariants.{Absent}
 use Rattle.tables.specs.Tree.{index_in}
 use Rattle.tables.specs.Pool.{occurs, memory, IsTree}
-use Rattle.tables.specs.Changes.{Unmaps}
+use Rattle.tables.specs.Changes.{TakesAndGivesFrames, Unmaps}
 use Rattle.tables.proofs.Under.{root_in, root_taken, below_in, moved_tree}
 use Rattle.tables.proofs.Words.{memory_at}
 use Rattle.tables.proofs.Walks.{index_lt}
@@ -19,6 +19,7 @@ use Rattle.tables.proofs.Cleared.{run_through, large_gone}
 use Rattle.tables.proofs.CutTable.{table_cut}
 use Rattle.tables.proofs.SplitLeaf.{split_unmaps, splits_whole, splits_table, splits_large}
 use Rattle.tables.proofs.unmapping.clear_span.Goals as goal
+use Rattle.tables.proofs.unmapping.clear_span.Goals.{After-write, After-write-then-is_whole, After-clear_run-in-LargeLeaf}
 
 pub entry-requires-clause-table : goal.entry-requires-clause-table
 entry-requires-clause-table c = root_in c.args.pool.now 1 c.args.table c.requires.tree
@@ -81,8 +82,10 @@ write-requires-clause-taken c =
     ap (occurs c.args.table) c.clear_run.ensures.free ∙ root_taken c.args.pool.now 1 c.args.table c.requires.tree
 
 -- the table itself, with its whole span
-pub returns-else-not-is_whole-clause-moves : goal.returns-else-not-is_whole-clause-moves
-returns-else-not-is_whole-clause-moves c =
+was_cut : (c : After-write)
+    → TakesAndGivesFrames c.args.pool.now c.write.new.self 2 c.args.table (c.in-Table.below ∷ [])
+    × Unmaps c.args.pool.now c.write.new.self 2 c.args.table c.args.from c.args.to (c.in-Table.below ∷ [])
+was_cut c =
     let e = even c.args.from c.args.to c.requires.some c.requires.one_span c.if-not-is_whole.false in
     let absent : memory c.write.new.self.words 2 c.args.table c.index_of-index.result ≡ Absent =
     memory_at c.write.new.self.words 2 c.args.table c.index_of-index.result ∙ ap (look 2) c.write.ensures.wrote.0 ∙ look-zero 2 in
@@ -93,21 +96,13 @@ returns-else-not-is_whole-clause-moves c =
     c.clear_run.ensures.run)
     (λ p low high. c.clear_run.ensures.zeroed p low (omega (arith, high, e.1))) c.clear_run.ensures.free c.clear_run.ensures.frames
     c.write.ensures.wrote c.write.ensures.free c.write.ensures.frames absent in
-    all.0
+    (all.0, subst (λ to. Unmaps c.args.pool.now c.write.new.self 2 c.args.table c.args.from to (c.in-Table.below ∷ [])) e.1 all.1)
+
+pub returns-else-not-is_whole-clause-moves : goal.returns-else-not-is_whole-clause-moves
+returns-else-not-is_whole-clause-moves c = (was_cut (goal.at.returns-else-not-is_whole-clause-moves c).After-write).0
 
 pub returns-else-not-is_whole-clause-unmaps : goal.returns-else-not-is_whole-clause-unmaps
-returns-else-not-is_whole-clause-unmaps c =
-    let e = even c.args.from c.args.to c.requires.some c.requires.one_span c.if-not-is_whole.false in
-    let absent : memory c.write.new.self.words 2 c.args.table c.index_of-index.result ≡ Absent =
-    memory_at c.write.new.self.words 2 c.args.table c.index_of-index.result ∙ ap (look 2) c.write.ensures.wrote.0 ∙ look-zero 2 in
-    let all =
-    table_cut c.args.pool.now c.clear_run.new.pool c.write.new.self c.args.table c.index_of-index.result c.in-Table.below c.args.from 0
-    c.requires.tree c.index_of-index.ensures.inside c.index_of-index.ensures.exact e.0 c.in-Table.ensures.is
-    (subst (λ to. WritesEntries c.args.pool.now.words c.clear_run.new.pool.words c.in-Table.below c.args.from to (λ p. Absent)) (sym e.1)
-    c.clear_run.ensures.run)
-    (λ p low high. c.clear_run.ensures.zeroed p low (omega (arith, high, e.1))) c.clear_run.ensures.free c.clear_run.ensures.frames
-    c.write.ensures.wrote c.write.ensures.free c.write.ensures.frames absent in
-    subst (λ to. Unmaps c.args.pool.now c.write.new.self 2 c.args.table c.args.from to (c.in-Table.below ∷ [])) e.1 all.1
+returns-else-not-is_whole-clause-unmaps c = (was_cut (goal.at.returns-else-not-is_whole-clause-unmaps c).After-write).1
 
 pub returns-else-not-is_whole-clause-split : goal.returns-else-not-is_whole-clause-split
 returns-else-not-is_whole-clause-split c =
@@ -129,8 +124,10 @@ write-requires-then-is_whole-clause-frame c = root_in c.args.pool.now 1 c.args.t
 pub write-requires-then-is_whole-clause-taken : goal.write-requires-then-is_whole-clause-taken
 write-requires-then-is_whole-clause-taken c = root_taken c.args.pool.now 1 c.args.table c.requires.tree
 
-pub returns-then-is_whole-clause-moves : goal.returns-then-is_whole-clause-moves
-returns-then-is_whole-clause-moves c =
+leaf_gone : (c : After-write-then-is_whole)
+    → TakesAndGivesFrames c.args.pool.now c.write-then-is_whole.new.self 2 c.args.table []
+    × Unmaps c.args.pool.now c.write-then-is_whole.new.self 2 c.args.table c.args.from c.args.to []
+leaf_gone c =
     let e = even c.args.from c.args.to c.requires.some c.requires.one_span c.if-is_whole.true in
     let new = c.write-then-is_whole.new.self in
     let absent : memory c.write-then-is_whole.new.self.words 2 c.args.table c.index_of-index.result ≡ Absent =
@@ -139,19 +136,13 @@ returns-then-is_whole-clause-moves c =
     large_gone c.args.pool.now new c.args.table c.index_of-index.result c.args.from 0 c.in-LargeLeaf.leaf c.requires.tree
     c.index_of-index.ensures.inside c.index_of-index.ensures.exact e.0 c.write-then-is_whole.ensures.wrote
     c.write-then-is_whole.ensures.free c.write-then-is_whole.ensures.frames c.in-LargeLeaf.ensures.is absent in
-    all.0
+    (all.0, subst (λ to. Unmaps c.args.pool.now new 2 c.args.table c.args.from to []) e.1 all.1)
+
+pub returns-then-is_whole-clause-moves : goal.returns-then-is_whole-clause-moves
+returns-then-is_whole-clause-moves c = (leaf_gone (goal.at.returns-then-is_whole-clause-moves c).After-write-then-is_whole).0
 
 pub returns-then-is_whole-clause-unmaps : goal.returns-then-is_whole-clause-unmaps
-returns-then-is_whole-clause-unmaps c =
-    let e = even c.args.from c.args.to c.requires.some c.requires.one_span c.if-is_whole.true in
-    let new = c.write-then-is_whole.new.self in
-    let absent : memory c.write-then-is_whole.new.self.words 2 c.args.table c.index_of-index.result ≡ Absent =
-    memory_at new.words 2 c.args.table c.index_of-index.result ∙ ap (look 2) c.write-then-is_whole.ensures.wrote.0 ∙ look-zero 2 in
-    let all =
-    large_gone c.args.pool.now new c.args.table c.index_of-index.result c.args.from 0 c.in-LargeLeaf.leaf c.requires.tree
-    c.index_of-index.ensures.inside c.index_of-index.ensures.exact e.0 c.write-then-is_whole.ensures.wrote
-    c.write-then-is_whole.ensures.free c.write-then-is_whole.ensures.frames c.in-LargeLeaf.ensures.is absent in
-    subst (λ to. Unmaps c.args.pool.now new 2 c.args.table c.args.from to []) e.1 all.1
+returns-then-is_whole-clause-unmaps c = (leaf_gone (goal.at.returns-then-is_whole-clause-unmaps c).After-write-then-is_whole).1
 
 pub returns-then-is_whole-clause-split : goal.returns-then-is_whole-clause-split
 returns-then-is_whole-clause-split c =
@@ -194,8 +185,10 @@ clear_run-requires-in-LargeLeaf-clause-taken c =
     root_taken mid 0 c.split-below.result
     (below_in mid 1 c.args.table (index_in 1 c.args.from) c.split-below.result tree (index_lt 1 c.args.from) s.is)
 
-pub returns-else-is_whole-clause-moves : goal.returns-else-is_whole-clause-moves
-returns-else-is_whole-clause-moves c =
+part_gone : (c : After-clear_run-in-LargeLeaf)
+    → TakesAndGivesFrames c.args.pool.now c.clear_run-in-LargeLeaf.new.pool 2 c.args.table []
+    × Unmaps c.args.pool.now c.clear_run-in-LargeLeaf.new.pool 2 c.args.table c.args.from c.args.to []
+part_gone c =
     let mid = c.split-below.new.pool in
     let s = c.split-below.ensures.split in
     let tree : IsTree c.split-below.new.pool 2 c.args.table =
@@ -209,24 +202,13 @@ returns-else-is_whole-clause-moves c =
     let all =
     split_unmaps c.args.pool.now mid new c.args.table (index_in 1 c.args.from) c.args.from c.args.to c.split-below.result
     c.in-LargeLeaf.leaf c.requires.tree (index_lt 1 c.args.from) refl s c.requires.some short run.0 run.1 in
-    all.0
+    all
+
+pub returns-else-is_whole-clause-moves : goal.returns-else-is_whole-clause-moves
+returns-else-is_whole-clause-moves c = (part_gone (goal.at.returns-else-is_whole-clause-moves c).After-clear_run-in-LargeLeaf).0
 
 pub returns-else-is_whole-clause-unmaps : goal.returns-else-is_whole-clause-unmaps
-returns-else-is_whole-clause-unmaps c =
-    let mid = c.split-below.new.pool in
-    let s = c.split-below.ensures.split in
-    let tree : IsTree c.split-below.new.pool 2 c.args.table =
-    moved_tree c.args.pool.now mid 2 c.args.table [] c.requires.tree c.split-below.ensures.moves in
-    let new = c.clear_run-in-LargeLeaf.new.pool in
-    let short = part c.args.from c.args.to c.requires.some c.requires.one_span c.if-is_whole.false in
-    let run =
-    run_through mid new c.args.table (index_in 1 c.args.from) c.split-below.result c.args.from c.args.to tree (index_lt 1 c.args.from)
-    refl s.is c.clear_run-in-LargeLeaf.ensures.run c.clear_run-in-LargeLeaf.ensures.free c.clear_run-in-LargeLeaf.ensures.frames
-    c.requires.some c.requires.one_span short in
-    let all =
-    split_unmaps c.args.pool.now mid new c.args.table (index_in 1 c.args.from) c.args.from c.args.to c.split-below.result
-    c.in-LargeLeaf.leaf c.requires.tree (index_lt 1 c.args.from) refl s c.requires.some short run.0 run.1 in
-    all.1
+returns-else-is_whole-clause-unmaps c = (part_gone (goal.at.returns-else-is_whole-clause-unmaps c).After-clear_run-in-LargeLeaf).1
 
 pub returns-else-is_whole-clause-split : goal.returns-else-is_whole-clause-split
 returns-else-is_whole-clause-split c =
