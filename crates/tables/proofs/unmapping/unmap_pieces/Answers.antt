@@ -5,14 +5,15 @@ use Rattle.dmatypes.specs.declared.page.TheConstants.{SPAN_PAGES}
 use Rattle.tables.specs.Tree.{Found, span, leaf_from, stated}
 use Rattle.tables.specs.Pool.{memory}
 use Rattle.tables.specs.Changes.{TakesAndGivesFrames, Unmaps}
-use Rattle.tables.specs.Lacks.{splits}
-use Rattle.tables.specs.Pieces.{cut_of, was_split}
+use Rattle.tables.specs.Lacks.{splits, splits_leaf}
+use Rattle.tables.specs.Pieces.{cut_of, piece_splits, was_split}
 use Rattle.tables.proofs.Mapped.{no_moves, moves_then}
 use Rattle.tables.proofs.Near.{span_pos}
 use Rattle.tables.proofs.Sizes.{leaf_ahead, piece_is}
 use Rattle.tables.proofs.Sums.{div_mono, split_so_far, split_so_far-start, split_so_far-step, split_so_far-end, split_so_far-most}
 use Rattle.tables.proofs.Unmapped.{no_unmaps, unmaps_then}
 use Rattle.tables.proofs.unmapping.unmap_pieces.Goals as goal
+use Rattle.tables.proofs.unmapping.unmap_pieces.Goals.{After-min-next}
 
 -- the pages are in one span of the root
 wide : (l from to p : ℕ) → from / span l ≡ (to - 1) / span l → from ≤ p → p < to → p / span l ≡ from / span l
@@ -92,9 +93,12 @@ clear_piece-cleared-requires-clause-there c p low high =
     (c.loop-place.invariant.unmaps.elsewhere p (wide c.args.level c.args.from c.args.to p c.requires.one_span start end) (inr low))
     (c.requires.there p start end)
 
-pub clear_piece-cleared-requires-clause-room : goal.clear_piece-cleared-requires-clause-room
-clear_piece-cleared-requires-clause-room c =
-    let is =
+-- what the piece splits is what its span splits of the whole
+its_splits : (c : After-min-next)
+    → piece_splits (memory c.loop-place.pool.words) c.args.level c.args.root c.loop-place.place c.min-next.result
+    ≡ splits_leaf (memory c.args.pool.now.words) c.args.level c.args.root c.args.from c.args.to
+    (c.loop-place.place / SPAN_PAGES * SPAN_PAGES)
+its_splits c =
     piece_is c.args.pool.now c.loop-place.pool c.args.level c.args.root c.args.from c.args.to c.loop-place.place c.min-next.result
     c.loop-place.invariant.low (one_of c.loop-place.place c.args.to c.min-next.result c.min-next.ensures c.loop-place-test.true).0
     (one_of c.loop-place.place c.args.to c.min-next.result c.min-next.ensures c.loop-place-test.true).1
@@ -106,12 +110,24 @@ clear_piece-cleared-requires-clause-room c =
     (edge_of c.loop-place.place c.args.from c.args.to c.loop-place-test.true c.loop-place.invariant.edge)
     (wide c.args.level c.args.from c.args.to c.loop-place.place c.requires.one_span c.loop-place.invariant.low
     c.loop-place-test.true)
-    (c.requires.there c.loop-place.place c.loop-place.invariant.low c.loop-place-test.true)) in
-    let step =
+    (c.requires.there c.loop-place.place c.loop-place.invariant.low c.loop-place-test.true))
+
+-- and is added to what was split before it
+added : (c : After-min-next)
+    → split_so_far c.args.pool.now c.args.level c.args.root c.args.from c.args.to c.min-next.result
+    ≡ split_so_far c.args.pool.now c.args.level c.args.root c.args.from c.args.to c.loop-place.place
+    + splits_leaf (memory c.args.pool.now.words) c.args.level c.args.root c.args.from c.args.to
+    (c.loop-place.place / SPAN_PAGES * SPAN_PAGES)
+added c =
     split_so_far-step c.args.pool.now c.args.level c.args.root c.args.from c.args.to c.loop-place.place c.min-next.result
     c.loop-place.invariant.low (one_of c.loop-place.place c.args.to c.min-next.result c.min-next.ensures c.loop-place-test.true).0
     (one_of c.loop-place.place c.args.to c.min-next.result c.min-next.ensures c.loop-place-test.true).2
-    (edge_of c.loop-place.place c.args.from c.args.to c.loop-place-test.true c.loop-place.invariant.edge) in
+    (edge_of c.loop-place.place c.args.from c.args.to c.loop-place-test.true c.loop-place.invariant.edge)
+
+pub clear_piece-cleared-requires-clause-room : goal.clear_piece-cleared-requires-clause-room
+clear_piece-cleared-requires-clause-room c =
+    let is = its_splits (goal.at.clear_piece-cleared-requires-clause-room c).After-min-next in
+    let step = added (goal.at.clear_piece-cleared-requires-clause-room c).After-min-next in
     let most =
     split_so_far-most c.args.pool.now c.args.level c.args.root c.args.from c.args.to c.min-next.result
     (omega (
@@ -131,24 +147,8 @@ loop-place-preserved c =
     let more = cut_of c.clear_piece-cleared.result in
     let one = (one_of c.loop-place.place c.args.to c.min-next.result c.min-next.ensures c.loop-place-test.true) in
     let joined : c.note.new.self.frames ≡ c.loop-place.cut.frames ++ cut_of c.clear_piece-cleared.result = c.note.ensures.frames in
-    let is =
-    piece_is c.args.pool.now c.loop-place.pool c.args.level c.args.root c.args.from c.args.to c.loop-place.place c.min-next.result
-    c.loop-place.invariant.low (one_of c.loop-place.place c.args.to c.min-next.result c.min-next.ensures c.loop-place-test.true).0
-    (one_of c.loop-place.place c.args.to c.min-next.result c.min-next.ensures c.loop-place-test.true).1
-    (one_of c.loop-place.place c.args.to c.min-next.result c.min-next.ensures c.loop-place-test.true).2
-    (edge_of c.loop-place.place c.args.from c.args.to c.loop-place-test.true c.loop-place.invariant.edge)
-    (one_of c.loop-place.place c.args.to c.min-next.result c.min-next.ensures c.loop-place-test.true).3
-    (leaf_ahead c.args.pool.now c.loop-place.pool c.args.level c.args.root c.args.from c.loop-place.place c.loop-place.cut.frames
-    c.loop-place.invariant.unmaps
-    (edge_of c.loop-place.place c.args.from c.args.to c.loop-place-test.true c.loop-place.invariant.edge)
-    (wide c.args.level c.args.from c.args.to c.loop-place.place c.requires.one_span c.loop-place.invariant.low
-    c.loop-place-test.true)
-    (c.requires.there c.loop-place.place c.loop-place.invariant.low c.loop-place-test.true)) in
-    let step =
-    split_so_far-step c.args.pool.now c.args.level c.args.root c.args.from c.args.to c.loop-place.place c.min-next.result
-    c.loop-place.invariant.low (one_of c.loop-place.place c.args.to c.min-next.result c.min-next.ensures c.loop-place-test.true).0
-    (one_of c.loop-place.place c.args.to c.min-next.result c.min-next.ensures c.loop-place-test.true).2
-    (edge_of c.loop-place.place c.args.from c.args.to c.loop-place-test.true c.loop-place.invariant.edge) in
+    let is = its_splits (goal.at.loop-place-preserved c).After-min-next in
+    let step = added (goal.at.loop-place-preserved c).After-min-next in
     let split =
     splits_on c.loop-place.cut.split (was_split c.clear_piece-cleared.result) c.note.new.self.split _ _ _ _ c.note.ensures.split step
     c.clear_piece-cleared.ensures.split is c.loop-place.invariant.split c.loop-place.invariant.none in
