@@ -7,7 +7,7 @@ use Rattle.tables.specs.Lacks.{tables_lacking_at}
 use Rattle.tables.specs.Pieces.{piece_states, is_large}
 use Rattle.vtdbits.specs.Translation.{target}
 use Rattle.dmatypes.specs.Rights.{bits_of}
-use Rattle.tables.proofs.Descend.{map_through, absent_below, made_through, count_through, count_grown, count_absent, no_leaf}
+use Rattle.tables.proofs.Descend.{Through, map_through, absent_below, made_through, count_through, count_grown, count_absent, no_leaf}
 use Rattle.tables.proofs.Descend.{spared_through, spared_grown}
 use Rattle.tables.proofs.Lacking.{lacks_at-one, lacks_at-large}
 use Rattle.tables.proofs.Level.{root_in_level, root_taken_level, below_level}
@@ -16,6 +16,7 @@ use Rattle.tables.proofs.Runs.{run_moves, run_maps}
 use Rattle.tables.proofs.Under.{moved_tree}
 use Rattle.tables.proofs.Words.{zeroed_bare}
 use Rattle.tables.proofs.mapping.+map_piece.Goals as goal
+use Rattle.tables.proofs.mapping.+map_piece.Goals.{After-grow-below, After-map_piece-else-level-eq2}
 use Rattle.tables.proofs.mapping.+map_piece.Goals.{else-level-eq2-via-then-level-eq2+else-is_large, else-level-eq2-via-else-level-eq2}
 
 pub write_run-requires-clause-table : goal.write_run-requires-clause-table
@@ -195,21 +196,28 @@ grow-below-requires-clause-room t c =
           ]),
     )
 
+-- the table that was grown is lacking no more
+grown_count : (t : ℕ) (c : After-grow-below t)
+    → tables_lacking_at (memory c.args.pool.now.words) c.args.level c.args.table (is_large c.args.piece.now) c.args.piece.now.from
+    ≡ tables_lacking_at (memory c.grow-below.new.pool.words) c.args.level c.args.table (is_large c.args.piece.now) c.args.piece.now.from + 1
+grown_count t c =
+    count_grown (memory c.args.pool.now.words) (memory c.grow-below.new.pool.words) c.args.level (c.args.level - 1) c.args.table
+    c.index_of-index.result c.grow-below.result c.args.piece.now.from
+    (is_large c.args.piece.now) (omega arith) (low c.args.level c.if-level-eq1.false c.requires.low) c.index_of-index.ensures.exact
+    c.in-Absent.ensures.is c.grow-below.ensures.names
+    (zeroed_bare c.grow-below.new.pool.words c.grow-below.result c.grow-below.ensures.zeroed)
+    (λ (e : c.args.level - 1 ≡ 1). elim c.else-level-eq2.branch [
+      | else-level-eq2-via-then-level-eq2+else-is_large w ↦ sym w.is_large.ensures ∙ w.if-is_large.false
+      | else-level-eq2-via-else-level-eq2 w ↦ absurd (w.if-level-eq2.false (omega arith))
+    ])
+
 pub map_piece-requires-else-level-eq2 : goal.map_piece-requires-else-level-eq2
 map_piece-requires-else-level-eq2 t c =
     let some : 1 ≤ c.args.level - 1 = low c.args.level c.if-level-eq1.false c.requires.low in
     let l = c.args.level - 1 in
     let mid = c.grow-below.new.pool in
-    let m = memory c.args.pool.now.words in
     let n = memory mid.words in
-    let grown =
-    count_grown m n c.args.level l c.args.table c.index_of-index.result c.grow-below.result c.args.piece.now.from
-    (is_large c.args.piece.now) (omega arith) some c.index_of-index.ensures.exact c.in-Absent.ensures.is c.grow-below.ensures.names
-    (zeroed_bare mid.words c.grow-below.result c.grow-below.ensures.zeroed)
-    (λ (e : c.args.level - 1 ≡ 1). elim c.else-level-eq2.branch [
-      | else-level-eq2-via-then-level-eq2+else-is_large w ↦ sym w.is_large.ensures ∙ w.if-is_large.false
-      | else-level-eq2-via-else-level-eq2 w ↦ absurd (w.if-level-eq2.false (omega arith))
-    ]) in
+    let grown = grown_count t (goal.at.map_piece-requires-else-level-eq2 t c).After-grow-below in
     let below =
     count_through n c.args.level l c.args.table c.index_of-index.result c.grow-below.result c.args.piece.now.from
     (is_large c.args.piece.now) (omega arith) some c.index_of-index.ensures.exact c.grow-below.ensures.names in (
@@ -235,18 +243,28 @@ map_piece-requires-else-level-eq2 t c =
       ),
     )
 
+-- what was mapped below the table that was grown, seen from this one
+grown_through : (t : ℕ) (c : After-map_piece-else-level-eq2 t)
+    → Through c.grow-below.new.pool c.map_piece-else-level-eq2.new.pool c.args.level (c.args.level - 1) c.args.table
+    c.index_of-index.result c.grow-below.result c.args.piece.now.from c.args.piece.now.to (piece_states c.args.piece.now)
+grown_through t c =
+    let mid = c.grow-below.new.pool in
+    let new = c.map_piece-else-level-eq2.new.pool in
+    let l = c.args.level - 1 in
+    let some : 1 ≤ c.args.level - 1 = low c.args.level c.if-level-eq1.false c.requires.low in
+    map_through mid new c.args.level l c.args.table c.index_of-index.result c.grow-below.result c.args.piece.now.from
+    c.args.piece.now.to (piece_states c.args.piece.now) (omega arith) some c.args.piece.now.one_span
+    (moved_tree c.args.pool.now mid c.args.level c.args.table [] c.requires.tree c.grow-below.ensures.moves)
+    c.index_of-index.ensures.inside c.index_of-index.ensures.exact c.grow-below.ensures.names c.map_piece-else-level-eq2.ensures.moves
+    c.map_piece-else-level-eq2.ensures.maps
+
 pub returns-else-level-eq2-clause-moves : goal.returns-else-level-eq2-clause-moves
 returns-else-level-eq2-clause-moves t c =
     let mid = c.grow-below.new.pool in
     let new = c.map_piece-else-level-eq2.new.pool in
     let l = c.args.level - 1 in
     let some : 1 ≤ c.args.level - 1 = low c.args.level c.if-level-eq1.false c.requires.low in
-    let through =
-    map_through mid new c.args.level l c.args.table c.index_of-index.result c.grow-below.result c.args.piece.now.from
-    c.args.piece.now.to (piece_states c.args.piece.now) (omega arith) some c.args.piece.now.one_span
-    (moved_tree c.args.pool.now mid c.args.level c.args.table [] c.requires.tree c.grow-below.ensures.moves)
-    c.index_of-index.ensures.inside c.index_of-index.ensures.exact c.grow-below.ensures.names c.map_piece-else-level-eq2.ensures.moves
-    c.map_piece-else-level-eq2.ensures.maps in
+    let through = grown_through t (goal.at.returns-else-level-eq2-clause-moves t c).After-map_piece-else-level-eq2 in
     moves_then c.args.pool.now mid new c.args.level c.args.table [] [] c.grow-below.ensures.moves through.0
 
 pub returns-else-level-eq2-clause-maps : goal.returns-else-level-eq2-clause-maps
@@ -255,12 +273,7 @@ returns-else-level-eq2-clause-maps t c =
     let new = c.map_piece-else-level-eq2.new.pool in
     let l = c.args.level - 1 in
     let some : 1 ≤ c.args.level - 1 = low c.args.level c.if-level-eq1.false c.requires.low in
-    let through =
-    map_through mid new c.args.level l c.args.table c.index_of-index.result c.grow-below.result c.args.piece.now.from
-    c.args.piece.now.to (piece_states c.args.piece.now) (omega arith) some c.args.piece.now.one_span
-    (moved_tree c.args.pool.now mid c.args.level c.args.table [] c.requires.tree c.grow-below.ensures.moves)
-    c.index_of-index.ensures.inside c.index_of-index.ensures.exact c.grow-below.ensures.names c.map_piece-else-level-eq2.ensures.moves
-    c.map_piece-else-level-eq2.ensures.maps in
+    let through = grown_through t (goal.at.returns-else-level-eq2-clause-maps t c).After-map_piece-else-level-eq2 in
     maps_over c.args.pool.now mid new c.args.level c.args.table c.args.piece.now.from c.args.piece.now.to (piece_states c.args.piece.now)
     c.grow-below.ensures.leaves c.grow-below.ensures.moves
     (c.grow-below.ensures.maps c.args.piece.now.from c.args.piece.now.to c.args.piece.now.some (sym c.index_of-index.ensures.exact))
@@ -272,12 +285,7 @@ returns-else-level-eq2-clause-made t c =
     let new = c.map_piece-else-level-eq2.new.pool in
     let l = c.args.level - 1 in
     let some : 1 ≤ c.args.level - 1 = low c.args.level c.if-level-eq1.false c.requires.low in
-    let through =
-    map_through mid new c.args.level l c.args.table c.index_of-index.result c.grow-below.result c.args.piece.now.from
-    c.args.piece.now.to (piece_states c.args.piece.now) (omega arith) some c.args.piece.now.one_span
-    (moved_tree c.args.pool.now mid c.args.level c.args.table [] c.requires.tree c.grow-below.ensures.moves)
-    c.index_of-index.ensures.inside c.index_of-index.ensures.exact c.grow-below.ensures.names c.map_piece-else-level-eq2.ensures.moves
-    c.map_piece-else-level-eq2.ensures.maps in
+    let through = grown_through t (goal.at.returns-else-level-eq2-clause-made t c).After-map_piece-else-level-eq2 in
     made_through (memory new.words) c.args.level l c.args.table c.index_of-index.result c.grow-below.result c.args.piece.now.from
     (is_large c.args.piece.now) (omega arith) c.index_of-index.ensures.exact through.2 c.map_piece-else-level-eq2.ensures.made
 
@@ -287,12 +295,7 @@ returns-else-level-eq2-clause-spared t c lower large =
     let new = c.map_piece-else-level-eq2.new.pool in
     let l = c.args.level - 1 in
     let some : 1 ≤ c.args.level - 1 = low c.args.level c.if-level-eq1.false c.requires.low in
-    let through =
-    map_through mid new c.args.level l c.args.table c.index_of-index.result c.grow-below.result c.args.piece.now.from
-    c.args.piece.now.to (piece_states c.args.piece.now) (omega arith) some c.args.piece.now.one_span
-    (moved_tree c.args.pool.now mid c.args.level c.args.table [] c.requires.tree c.grow-below.ensures.moves)
-    c.index_of-index.ensures.inside c.index_of-index.ensures.exact c.grow-below.ensures.names c.map_piece-else-level-eq2.ensures.moves
-    c.map_piece-else-level-eq2.ensures.maps in
+    let through = grown_through t (goal.at.returns-else-level-eq2-clause-spared t c).After-map_piece-else-level-eq2 in
     let deep : 1 < c.args.level - 1 = elim c.else-level-eq2.branch [
       | else-level-eq2-via-then-level-eq2+else-is_large w ↦ absurd (true_false (sym large ∙ sym w.is_large.ensures ∙ w.if-is_large.false))
       | else-level-eq2-via-else-level-eq2 w ↦ deeper c.args.level lower w.if-level-eq2.false
@@ -306,16 +309,8 @@ returns-else-level-eq2-clause-count t c =
     let some : 1 ≤ c.args.level - 1 = low c.args.level c.if-level-eq1.false c.requires.low in
     let l = c.args.level - 1 in
     let mid = c.grow-below.new.pool in
-    let m = memory c.args.pool.now.words in
     let n = memory mid.words in
-    let grown =
-    count_grown m n c.args.level l c.args.table c.index_of-index.result c.grow-below.result c.args.piece.now.from
-    (is_large c.args.piece.now) (omega arith) some c.index_of-index.ensures.exact c.in-Absent.ensures.is c.grow-below.ensures.names
-    (zeroed_bare mid.words c.grow-below.result c.grow-below.ensures.zeroed)
-    (λ (e : c.args.level - 1 ≡ 1). elim c.else-level-eq2.branch [
-      | else-level-eq2-via-then-level-eq2+else-is_large w ↦ sym w.is_large.ensures ∙ w.if-is_large.false
-      | else-level-eq2-via-else-level-eq2 w ↦ absurd (w.if-level-eq2.false (omega arith))
-    ]) in
+    let grown = grown_count t (goal.at.returns-else-level-eq2-clause-count t c).After-grow-below in
     let below =
     count_through n c.args.level l c.args.table c.index_of-index.result c.grow-below.result c.args.piece.now.from
     (is_large c.args.piece.now) (omega arith) some c.index_of-index.ensures.exact c.grow-below.ensures.names in
