@@ -1,6 +1,7 @@
 //! Work on pieces in order: where a page lies, where a range fits, and a piece put over others.
 
-ghost use Rattle.std.specs.Prelude.{◌≡◌, ◌≢◌, ℕ, ◌+◌, ◌-◌, ◌^◌, ◌<◌, ◌≤◌, ◌↔◌, ◌++◌, length, slice_index_or, take, drop, insert, [], ◌∷◌, IfSome, IfNone, All, IsTrue};
+ghost use Rattle.std.specs.Prelude.{◌≡◌, ◌≢◌, ℕ, ◌+◌, ◌-◌, ◌^◌, ◌<◌, ◌≤◌, ◌↔◌, ◌++◌, length, slice_index_or, take, drop, insert, [], ◌∷◌};
+ghost use Rattle.std.specs.Prelude.{IfSome, IfNone, All, IsTrue};
 ghost use Rattle.std.specs.List.{AllByRecursion, HoldsAt};
 ghost use Rattle.std.specs.Vec.{vec_capacity};
 ghost use Rattle.dmatypes.specs.Page.{IsWithin};
@@ -8,12 +9,16 @@ ghost use Rattle.iova.specs.Pieces.{AllIn, Holds, IsOrdered, free_end, free_star
 ghost use Rattle.iova.specs.Space.{CutsPiece, IsFit, IsLowestFit, new_space};
 
 use crate::piece::{PageState, Piece};
+use dmatypes::{WINDOW_FIRST, WINDOW_LAST};
 
 /// The last page before the interrupt address range.
-const BELOW_WINDOW: u64 = 0xFEDFF;
+const BELOW_WINDOW: u64 = WINDOW_FIRST - 1;
 
 /// The first page after it.
-const ABOVE_WINDOW: u64 = 0xFEF00;
+const ABOVE_WINDOW: u64 = WINDOW_LAST + 1;
+
+/// Page numbers, and counts of pages, are below it here: no sum of two of them wraps.
+const NUMBERS_END: u64 = 1 << 40;
 
 /// A start of free pages, and the index of the piece that they lie in.
 #[derive(Clone, Copy)]
@@ -45,11 +50,11 @@ pub(crate) fn place(pieces: &[Piece], page: u64) -> usize
 /// The lowest start of so many free pages that is a multiple of the unit.
 pub(crate) fn lowest_fit(pieces: &[Piece], pages: u64, unit: u64) -> Option<Fit>
     requires ordered { IsOrdered 1 pieces.now }
-    requires bounded { All (λ p. p.last < 2 ^ 40) pieces.now }
+    requires bounded { All (λ p. p.last < NUMBERS_END) pieces.now }
     requires some_pages { 1 ≤ pages }
-    requires pages { pages < 2 ^ 40 }
+    requires pages { pages < NUMBERS_END }
     requires some_unit { 0 < unit }
-    requires unit { unit < 2 ^ 40 }
+    requires unit { unit < NUMBERS_END }
     ensures lowest { IfSome result (λ fit. IsLowestFit pieces.now pages unit fit.start) }
     ensures at { IfSome result (λ fit. fit.at < length pieces.now) }
     ensures inside { IfSome result (λ fit. HoldsAt (λ p. Holds p fit.start × Holds p (fit.start + pages - 1)) pieces.now fit.at) }
@@ -87,16 +92,17 @@ pub(crate) fn state_of(pieces: &[Piece], page: u64) -> Option<PageState>
 /// before the piece at an index.
 pub(crate) fn live_end(pieces: &[Piece], from: usize, first: u64, pages: u64) -> Option<usize>
     requires ordered { IsOrdered 1 pieces.now }
-    requires bounded { All (λ p. p.last < 2 ^ 40) pieces.now }
+    requires bounded { All (λ p. p.last < NUMBERS_END) pieces.now }
     requires some_pages { 1 ≤ pages }
-    requires range { first + pages < 2 ^ 40 }
+    requires range { first + pages < NUMBERS_END }
     requires within { from ≤ length pieces.now }
     requires before { AllByRecursion (λ p. p.last < first) (take from pieces.now) }
     requires here { from < length pieces.now → HoldsAt (λ p. first ≤ p.last) pieces.now from }
     ensures live { IfSome result (λ _. AllIn PageState.Live (record { first = first; pages = pages }) pieces.now) }
     ensures at { IfSome result (λ to. (from ≤ to) × (to < length pieces.now)) }
     ensures inside { IfSome result (λ to. HoldsAt (λ p. Holds p (first + pages - 1)) pieces.now to) }
-    ensures none { IfNone result ((page : ℕ) × IsWithin (record { first = first; pages = pages }) page × (state_at pieces.now page ≢ Some PageState.Live)) }
+    ensures none { IfNone result
+        ((page : ℕ) × IsWithin (record { first = first; pages = pages }) page × (state_at pieces.now page ≢ Some PageState.Live)) }
 {
     let mut at = from;
     let mut next = first;
@@ -122,7 +128,7 @@ pub(crate) fn live_end(pieces: &[Piece], from: usize, first: u64, pages: u64) ->
 pub(crate) fn cuts_piece(pieces: &[Piece], from: usize, to: usize, first: u64, pages: u64) -> bool
     requires ordered { IsOrdered 1 pieces.now }
     requires some_pages { 1 ≤ pages }
-    requires range { first + pages < 2 ^ 40 }
+    requires range { first + pages < NUMBERS_END }
     requires from { from < length pieces.now }
     requires to { to < length pieces.now }
     requires first { HoldsAt (λ p. Holds p first) pieces.now from }
@@ -137,7 +143,7 @@ pub(crate) fn cuts_piece(pieces: &[Piece], from: usize, to: usize, first: u64, p
 #[inline(always)]
 pub(crate) fn put(pieces: &mut Vec<Piece>, from: usize, to: usize, piece: Piece)
     requires ordered { IsOrdered 1 pieces.old.items }
-    requires bounded { piece.last < 2 ^ 40 }
+    requires bounded { piece.last < NUMBERS_END }
     requires from { from ≤ to }
     requires to { to < length pieces.old.items }
     requires first { HoldsAt (λ p. Holds p piece.first) pieces.old.items from }
@@ -181,7 +187,7 @@ fn remove_some(pieces: &mut Vec<Piece>, from: usize, to: usize)
 fn insert_above(pieces: &mut Vec<Piece>, at: usize, page: u64, piece: Piece)
     requires at { at ≤ length pieces.old.items }
     requires page { Holds piece page }
-    requires bounded { page < 2 ^ 40 }
+    requires bounded { page < NUMBERS_END }
     requires room { length pieces.old.items + length (part_above page (piece ∷ [])) ≤ vec_capacity pieces.old }
     ensures items { pieces.new.items ≡ take at pieces.old.items ++ (part_above page (piece ∷ []) ++ drop at pieces.old.items) }
     ensures capacity { vec_capacity pieces.new ≡ vec_capacity pieces.old }
@@ -227,7 +233,7 @@ fn insert_one(pieces: &mut Vec<Piece>, at: usize, piece: Piece)
 /// Frees the piece at an index, which becomes one with the free pieces that it touches.
 pub(crate) fn free(pieces: &mut Vec<Piece>, at: usize)
     requires ordered { IsOrdered 1 pieces.old.items }
-    requires bounded { All (λ p. p.last < 2 ^ 40) pieces.old.items }
+    requires bounded { All (λ p. p.last < NUMBERS_END) pieces.old.items }
     requires at { at < length pieces.old.items }
     requires room { length pieces.old.items ≤ vec_capacity pieces.old }
     ensures items { HoldsAt (λ p. pieces.new.items ≡ with_free p pieces.old.items) pieces.old.items at }
@@ -246,10 +252,11 @@ pub(crate) fn free(pieces: &mut Vec<Piece>, at: usize)
 /// The index of the free piece that touches the one at an index from below, or that index.
 fn free_from(pieces: &[Piece], at: usize) -> usize
     requires ordered { IsOrdered 1 pieces.now }
-    requires bounded { All (λ p. p.last < 2 ^ 40) pieces.now }
+    requires bounded { All (λ p. p.last < NUMBERS_END) pieces.now }
     requires at { at < length pieces.now }
     ensures within { result ≤ at }
-    ensures first { (d : Piece) → (slice_index_or pieces.now result d).first ≡ free_start pieces.now (slice_index_or pieces.now at d).first }
+    ensures first { (d : Piece)
+        → (slice_index_or pieces.now result d).first ≡ free_start pieces.now (slice_index_or pieces.now at d).first }
 {
     if at == 0 {
         return at;
@@ -265,7 +272,7 @@ fn free_from(pieces: &[Piece], at: usize) -> usize
 /// The index of the free piece that touches the one at an index from above, or that index.
 fn free_to(pieces: &[Piece], at: usize) -> usize
     requires ordered { IsOrdered 1 pieces.now }
-    requires bounded { All (λ p. p.last < 2 ^ 40) pieces.now }
+    requires bounded { All (λ p. p.last < NUMBERS_END) pieces.now }
     requires at { at < length pieces.now }
     ensures from { at ≤ result }
     ensures within { result < length pieces.now }

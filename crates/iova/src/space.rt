@@ -4,7 +4,7 @@ ghost use Rattle.std.specs.Prelude.{◌≡◌, ◌≢◌, ℕ, ◌+◌, ◌^◌,
 
 use crate::list;
 use crate::piece::{PageState, Piece};
-use dmatypes::{Page, PageRange};
+use dmatypes::{MOST_PAGES, PAGES_END, Page, PageRange};
 use std::alloc::{AllocError, Global};
 use std::marker::Model;
 use thiserror::Error;
@@ -13,7 +13,10 @@ use thiserror::Error;
 const MOST_PIECES: usize = 1024;
 
 /// How many pieces may be there where one is cut (own): a cut can make two more.
-const MOST_PIECES_TO_CUT: usize = 1022;
+const MOST_PIECES_TO_CUT: usize = MOST_PIECES - 2;
+
+/// The highest order of a start that is a multiple of 2^order (own).
+const MOST_ORDER: u64 = 9;
 
 /// Why no pages are taken.
 #[derive(Clone, Copy, Debug, PartialEq, Eq, Error)]
@@ -49,12 +52,13 @@ impl Model for Space {
     ghost use Rattle.std.specs.Prelude.{◌≤◌};
     ghost use Rattle.std.specs.Vec.{vec_capacity};
     ghost use Rattle.iova.specs.Space.{Space, IsSpace};
+    ghost use Rattle.iova.specs.declared.space.TheConstants.{MOST_PIECES};
 
     ghost Value = { Space };
 
     ghost view = { λ a. record { last = a.last; pieces = a.pieces.items } };
 
-    ghost invariant = { λ a. IsSpace (record { last = a.last; pieces = a.pieces.items }) × (1024 ≤ vec_capacity a.pieces) };
+    ghost invariant = { λ a. IsSpace (record { last = a.last; pieces = a.pieces.items }) × (MOST_PIECES ≤ vec_capacity a.pieces) };
 }
 
 impl Space {
@@ -68,7 +72,7 @@ impl Space {
     /// takes any.
     pub fn new(alloc: Global, last: u64) -> Result<Space, AllocError>
         requires some { 1 ≤ last }
-        requires narrow { last < 2 ^ 27 }
+        requires narrow { last < PAGES_END }
         ensures new { IfOk result (λ space. space ≡ new_space last) }
         ensures free { IfOk result AllFree }
         ensures space { IfOk result IsSpace }
@@ -99,7 +103,7 @@ impl Space {
     /// How many pieces it has.
     pub fn piece_count(&self) -> usize
         ensures count { result ≡ length self.now.pieces }
-        ensures few { result ≤ 1024 }
+        ensures few { result ≤ MOST_PIECES }
     {
         self.pieces().len()
     }
@@ -117,8 +121,8 @@ impl Space {
     #[inline(always)]
     pub fn take(&mut self, pages: u64, order: u64) -> Result<Page, TakeError>
         requires some_pages { 1 ≤ pages }
-        requires few_pages { pages ≤ 4096 }
-        requires order { order ≤ 9 }
+        requires few_pages { pages ≤ MOST_PAGES }
+        requires order { order ≤ MOST_ORDER }
 
         // The start, and what the space then is.
         ensures lowest { IfOk result (IsLowestFit self.old.pieces pages (2 ^ order)) }
@@ -128,7 +132,9 @@ impl Space {
 
         // The refusals.
         ensures no_range { (result ≡ Err TakeError.NoRange) ↔ ((start : ℕ) → IsFit self.old.pieces pages (2 ^ order) start → ⊥) }
-        ensures too_many { (result ≡ Err TakeError.TooManyPieces) ↔ ((start : ℕ) × IsLowestFit self.old.pieces pages (2 ^ order) start × IsTooMany self.old.pieces (record { first = start; pages = pages })) }
+        ensures too_many { (result ≡ Err TakeError.TooManyPieces)
+            ↔ ((start : ℕ) × IsLowestFit self.old.pieces pages (2 ^ order) start
+            × IsTooMany self.old.pieces (record { first = start; pages = pages })) }
         ensures unchanged { OnErr result (self.new ≡ self.old) }
     {
         let Some(fit) = list::lowest_fit(&self.pieces, pages, 1 << order) else {
@@ -151,8 +157,10 @@ impl Space {
     /// Whether a range can be retired.
     pub fn may_retire(&self, range: PageRange) -> Result<(), RetireError>
         ensures ok { IsOk result ↔ MayRetire self.now.pieces range }
-        ensures not_live { (result ≡ Err RetireError.NotLive) ↔ ((page : ℕ) × IsWithin range page × (state_at self.now.pieces page ≢ Some PageState.Live)) }
-        ensures too_many { (result ≡ Err RetireError.TooManyPieces) ↔ (AllIn PageState.Live range self.now.pieces × IsTooMany self.now.pieces range) }
+        ensures not_live { (result ≡ Err RetireError.NotLive)
+            ↔ ((page : ℕ) × IsWithin range page × (state_at self.now.pieces page ≢ Some PageState.Live)) }
+        ensures too_many { (result ≡ Err RetireError.TooManyPieces)
+            ↔ (AllIn PageState.Live range self.now.pieces × IsTooMany self.now.pieces range) }
     {
         let first = range.first();
         let from = list::place(&self.pieces, first);

@@ -2,6 +2,8 @@
 use Rattle.std.proofs.Common.{◌≡◌, ℕ, zero, suc, ◌+◌, ◌-◌, ◌*◌, ◌/◌, ◌<◌, ◌≤◌, true, false, cond, refl, sym, ap, ◌∙◌, arith}
 use Rattle.std.proofs.Math.Nat.{div-mul-le_self, lt-div-mul-add, mul-le-mul_right, add-mul, mul_assoc}
 use Rattle.std.proofs.lemmas.Bool.Decides.{nat_tests}
+use Rattle.dmatypes.specs.declared.page.TheConstants.{SPAN_PAGES}
+use Rattle.tables.specs.declared.entries.TheConstants.{TABLE_ENTRIES}
 use Rattle.tables.specs.Tree.{span, total}
 use Rattle.tables.specs.Lacks.{sum_spans}
 use Rattle.tables.specs.ByEntries.{is_met}
@@ -20,7 +22,8 @@ total_append g a (suc n) =
 
 -- a sum by blocks of one length
 pub total_blocks : (g : ℕ → ℕ) (n a : ℕ) → total g (a * n) ≡ total (λ i. total (λ k. g (i * n + k)) n) a
-total_blocks g n zero = ap (total g) (let e : 0 * n ≡ 0 = omega arith in e) ∙ total-zero g ∙ sym (total-zero (λ i. total (λ k. g (i * n + k)) n))
+total_blocks g n zero =
+    ap (total g) (let e : 0 * n ≡ 0 = omega arith in e) ∙ total-zero g ∙ sym (total-zero (λ i. total (λ k. g (i * n + k)) n))
 total_blocks g n (suc a) =
     let e : suc a * n ≡ a * n + n = ap (λ x. x * n) (let s : suc a ≡ a + 1 = omega arith in s) ∙ one_more_mul a n in
     omega (arith, ap (total g) e, total_append g (a * n) n, total_blocks g n a, total-suc (λ i. total (λ k. g (i * n + k)) n) a)
@@ -31,7 +34,8 @@ total_swap f a zero =
     total-zero (λ v. total (λ i. f v i) a) ∙ sym (total-none (λ i. total (λ v. f v i) 0) a (λ i i_in. total-zero (λ v. f v i)))
 total_swap f a (suc b) =
     let last = total-suc (λ v. total (λ i. f v i) a) b in
-    let sums : total (λ i. total (λ v. f v i) b + f b i) a ≡ total (λ i. total (λ v. f v i) b) a + total (λ i. f b i) a = total_plus (λ i. total (λ v. f v i) b) (λ i. f b i) a in
+    let sums : total (λ i. total (λ v. f v i) b + f b i) a ≡ total (λ i. total (λ v. f v i) b) a + total (λ i. f b i) a =
+    total_plus (λ i. total (λ v. f v i) b) (λ i. f b i) a in
     let same : total (λ i. total (λ v. f v i) (suc b)) a ≡ total (λ i. total (λ v. f v i) b + f b i) a =
     total_same (λ i. total (λ v. f v i) b + f b i) (λ i. total (λ v. f v i) (suc b)) a (λ i i_in. total-suc (λ v. f v i) b) in
     omega (arith, last, sums, same, total_swap f a b)
@@ -94,7 +98,8 @@ numbered_behind w from to k high =
     is_met-behind w from to (k * span w) (omega (arith, one_more_mul ((to - 1) / span w) (span w)))
 
 -- the spans that meet the pages are all those of them among more spans
-pub among_spans : (g : ℕ → ℕ) (w from to b n : ℕ) → from < to → b ≤ from / span w → (to - 1) / span w < b + n → met_spans g w from to (b * span w) n ≡ sum_spans g w from to
+pub among_spans : (g : ℕ → ℕ) (w from to b n : ℕ) → from < to → b ≤ from / span w → (to - 1) / span w < b + n
+    → met_spans g w from to (b * span w) n ≡ sum_spans g w from to
 unfolding sum_spans
 among_spans g w from to b n some low high =
     let a : ℕ = from / span w in
@@ -102,30 +107,38 @@ among_spans g w from to b n some low high =
     let h : ℕ → ℕ = λ k. met g w from to (b * span w + k * span w) in
     let at : (k : ℕ) → h k ≡ met g w from to ((b + k) * span w) = λ k. ap (met g w from to) (sym (add-mul b k (span w))) in
     let le : from / span w ≤ (to - 1) / span w = div_mono from (to - 1) (span w) (span_pos w) (omega arith) in
-    let front : total h (a - b) ≡ 0 = total-none h (a - b) (λ k k_in. at k ∙ met_not g w from to ((b + k) * span w) (numbered_before w from to (b + k) (omega arith))) in
+    let front : total h (a - b) ≡ 0 =
+    total-none h (a - b) (λ k k_in. at k ∙ met_not g w from to ((b + k) * span w) (numbered_before w from to (b + k) (omega arith))) in
     let middle : total (λ k. h (a - b + k)) (z - a) ≡ total (λ k. g ((a + k) * span w)) (z - a) =
     total_same (λ k. g ((a + k) * span w)) (λ k. h (a - b + k)) (z - a)
     (λ k k_in. at (a - b + k) ∙ ap (λ x. met g w from to (x * span w)) (let e : b + (a - b + k) ≡ a + k = omega arith in e)
     ∙ met_there g w from to ((a + k) * span w) (numbered_met w from to (a + k) some (omega arith) (omega arith))) in
     let back : total (λ k. h (z - b + k)) (b + n - z) ≡ 0 = total-none (λ k. h (z - b + k)) (b + n - z)
-    (λ k k_in. at (z - b + k) ∙ met_not g w from to ((b + (z - b + k)) * span w) (numbered_behind w from to (b + (z - b + k)) (omega arith))) in
-    let parts : total h n ≡ total h (z - b) + total (λ k. h (z - b + k)) (b + n - z) = ap (total h) (let e : n ≡ (z - b) + (b + n - z) = omega arith in e) ∙ total_append h (z - b) (b + n - z) in
-    let front_parts : total h (z - b) ≡ total h (a - b) + total (λ k. h (a - b + k)) (z - a) = ap (total h) (let e : z - b ≡ (a - b) + (z - a) = omega arith in e) ∙ total_append h (a - b) (z - a) in
+    (λ k k_in.
+    at (z - b + k) ∙ met_not g w from to ((b + (z - b + k)) * span w) (numbered_behind w from to (b + (z - b + k)) (omega arith))) in
+    let parts : total h n ≡ total h (z - b) + total (λ k. h (z - b + k)) (b + n - z) =
+    ap (total h) (let e : n ≡ (z - b) + (b + n - z) = omega arith in e) ∙ total_append h (z - b) (b + n - z) in
+    let front_parts : total h (z - b) ≡ total h (a - b) + total (λ k. h (a - b + k)) (z - a) =
+    ap (total h) (let e : z - b ≡ (a - b) + (z - a) = omega arith in e) ∙ total_append h (a - b) (z - a) in
     met_spans-is g w from to (b * span w) n ∙ omega (arith, front, middle, back, parts, front_parts)
 
 -- ---- spans in spans
 
 -- a span of a level has so many of the level so much lower
 pub span_plus : (w d : ℕ) → span (w + d) ≡ span d * span w
-span_plus w zero = ap span (let e : w + 0 ≡ w = omega arith in e) ∙ (let one : 1 * span w ≡ span w = omega arith in sym one) ∙ ap (λ x. x * span w) (sym span-zero)
+span_plus w zero =
+    ap span (let e : w + 0 ≡ w = omega arith in e) ∙ (let one : 1 * span w ≡ span w = omega arith in sym one)
+    ∙ ap (λ x. x * span w) (sym span-zero)
 span_plus w (suc d) =
-    ap span (let e : w + suc d ≡ suc (w + d) = omega arith in e) ∙ span-suc (w + d) ∙ ap (λ x. 512 * x) (span_plus w d) ∙ sym (mul_assoc 512 (span d) (span w)) ∙ ap (λ x. x * span w) (sym (span-suc d))
+    ap span (let e : w + suc d ≡ suc (w + d) = omega arith in e) ∙ span-suc (w + d) ∙ ap (λ x. SPAN_PAGES * x) (span_plus w d)
+    ∙ sym (mul_assoc SPAN_PAGES (span d) (span w)) ∙ ap (λ x. x * span w) (sym (span-suc d))
 
 pub span_in : (w l : ℕ) → w ≤ l → span (l - w) * span w ≡ span l
 span_in w l le = sym (span_plus w (l - w)) ∙ ap span (let e : w + (l - w) ≡ l = omega arith in e)
 
 -- what lies in a span of a level that doesn't meet the pages doesn't meet them
-pub unmet_spans : (g : ℕ → ℕ) (w l from to first : ℕ) → w ≤ l → is_met l from to first ≡ false → met_spans g w from to first (span (l - w)) ≡ 0
+pub unmet_spans : (g : ℕ → ℕ) (w l from to first : ℕ) → w ≤ l → is_met l from to first ≡ false
+    → met_spans g w from to first (span (l - w)) ≡ 0
 unmet_spans g w l from to first le apart =
     met_spans-is g w from to first (span (l - w))
     ∙ total-none (λ k. met g w from to (first + k * span w)) (span (l - w))
@@ -136,15 +149,18 @@ unmet_spans g w l from to first le apart =
 
 -- the spans in the 512 spans of the level below
 pub spans_below : (g : ℕ → ℕ) (w l from to first : ℕ) → w ≤ l
-    → met_spans g w from to first (span (suc l - w)) ≡ total (λ i. met_spans g w from to (first + i * span l) (span (l - w))) 512
+    → met_spans g w from to first (span (suc l - w)) ≡ total (λ i. met_spans g w from to (first + i * span l) (span (l - w))) TABLE_ENTRIES
 spans_below g w l from to first le =
     let h : ℕ → ℕ = λ k. met g w from to (first + k * span w) in
-    let wide : span (suc l - w) ≡ 512 * span (l - w) = ap span (let e : suc l - w ≡ suc (l - w) = omega arith in e) ∙ span-suc (l - w) in
+    let wide : span (suc l - w) ≡ TABLE_ENTRIES * span (l - w) =
+    ap span (let e : suc l - w ≡ suc (l - w) = omega arith in e) ∙ span-suc (l - w) in
     met_spans-is g w from to first (span (suc l - w))
     ∙ ap (total h) wide
-    ∙ total_blocks h (span (l - w)) 512
-    ∙ total_same (λ i. met_spans g w from to (first + i * span l) (span (l - w))) (λ i. total (λ k. h (i * span (l - w) + k)) (span (l - w))) 512
-    (λ i i_in. total_same (λ k. met g w from to (first + i * span l + k * span w)) (λ k. h (i * span (l - w) + k)) (span (l - w))
+    ∙ total_blocks h (span (l - w)) TABLE_ENTRIES
+    ∙ total_same (λ i. met_spans g w from to (first + i * span l) (span (l - w)))
+    (λ i. total (λ k. h (i * span (l - w) + k)) (span (l - w))) TABLE_ENTRIES
+    (λ i i_in.
+    total_same (λ k. met g w from to (first + i * span l + k * span w)) (λ k. h (i * span (l - w) + k)) (span (l - w))
     (λ k k_in. ap (met g w from to) (place i k)) ∙ sym (met_spans-is g w from to (first + i * span l) (span (l - w))))
   where
     place : (i k : ℕ) → first + (i * span (l - w) + k) * span w ≡ first + i * span l + k * span w
@@ -152,15 +168,25 @@ spans_below g w l from to first le =
         let whole : i * span (l - w) * span w ≡ i * span l = mul_assoc i (span (l - w)) (span w) ∙ ap (λ x. i * x) (span_in w l le) in
         omega (arith, add-mul (i * span (l - w)) k (span w))
 
-pub met_spans_same : (g h : ℕ → ℕ) (w from to first n : ℕ) → ((k : ℕ) → k < n → h (first + k * span w) ≡ g (first + k * span w)) → met_spans h w from to first n ≡ met_spans g w from to first n
+pub met_spans_same : (g h : ℕ → ℕ) (w from to first n : ℕ) → ((k : ℕ) → k < n → h (first + k * span w) ≡ g (first + k * span w))
+    → met_spans h w from to first n ≡ met_spans g w from to first n
 unfolding met_spans
 met_spans_same g h w from to first n same =
-    total_same (λ k. met g w from to (first + k * span w)) (λ k. met h w from to (first + k * span w)) n (λ k k_in. met_same g h w from to (first + k * span w) (first + k * span w) refl (same k k_in))
+    total_same (λ k. met g w from to (first + k * span w)) (λ k. met h w from to (first + k * span w)) n
+    (λ k k_in. met_same g h w from to (first + k * span w) (first + k * span w) refl (same k k_in))
 
 -- one span alone
 pub met_one : (g : ℕ → ℕ) (w from to first n : ℕ) → n ≡ 1 → is_met w from to first ≡ true → met_spans g w from to first n ≡ g first
 met_one g w from to first n one meets =
     let here : first + 0 * span w ≡ first = omega arith in
-    let all : total (λ k. met g w from to (first + k * span w)) n ≡ total (λ k. met g w from to (first + k * span w)) 1 = ap (total (λ k. met g w from to (first + k * span w))) one in
+    let all : total (λ k. met g w from to (first + k * span w)) n ≡ total (λ k. met g w from to (first + k * span w)) 1 =
+    ap (total (λ k. met g w from to (first + k * span w))) one in
     let value : met g w from to (first + 0 * span w) ≡ g first = ap (met g w from to) here ∙ met_there g w from to first meets in
-    omega (arith, met_spans-is g w from to first n, all, total-suc (λ k. met g w from to (first + k * span w)) 0, total-zero (λ k. met g w from to (first + k * span w)), value)
+    omega (
+      arith,
+      met_spans-is g w from to first n,
+      all,
+      total-suc (λ k. met g w from to (first + k * span w)) 0,
+      total-zero (λ k. met g w from to (first + k * span w)),
+      value,
+    )

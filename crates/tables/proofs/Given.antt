@@ -1,5 +1,6 @@
 -- Several frames that become free at once.
-use Rattle.std.proofs.Common.{◌≡◌, ℕ, zero, suc, ◌+◌, ◌-◌, ◌<◌, ◌≤◌, List, ◌++◌, length, take, drop, length-take, length-drop, length-append, refl, ap, sym, ◌∙◌, subst, arith}
+use Rattle.std.proofs.Common.{◌≡◌, ℕ, zero, suc, ◌+◌, ◌-◌, ◌<◌, ◌≤◌, List, ◌++◌, length, take, drop, length-take, length-drop}
+use Rattle.std.proofs.Common.{length-append, refl, ap, sym, ◌∙◌, subst, arith}
 use Rattle.std.proofs.lemmas.List.{take-append-le, take-take}
 use Rattle.std.proofs.lemmas.List.Sums.{sum_by-append}
 use Rattle.std.proofs.Math.Seq.{take-append-add, take-append_seam}
@@ -18,10 +19,12 @@ front_given n limit xs given rest more short fits =
     let all : List ℕ = take n xs ++ (given ++ rest) ++ more in
     let outer : take (n + length given) (take limit all) ≡ take (n + length given) all = take-take (n + length given) limit all fits in
     let inner : take (n + length given) all ≡ take (n + length given) (take n xs ++ (given ++ rest)) =
-    take-append-le (n + length given) (take n xs ++ (given ++ rest)) more (omega (arith, length-append (take n xs) (given ++ rest), length-append given rest)) in
+    take-append-le (n + length given) (take n xs ++ (given ++ rest)) more
+    (omega (arith, length-append (take n xs) (given ++ rest), length-append given rest)) in
     let parts : take (length (take n xs) + length given) (take n xs ++ (given ++ rest)) ≡ take n xs ++ take (length given) (given ++ rest) =
     take-append-add (take n xs) (given ++ rest) (length given) in
-    outer ∙ inner ∙ ap (λ k. take (k + length given) (take n xs ++ (given ++ rest))) (sym long) ∙ parts ∙ ap (λ ys. take n xs ++ ys) (take-append_seam given rest)
+    outer ∙ inner ∙ ap (λ k. take (k + length given) (take n xs ++ (given ++ rest))) (sym long) ∙ parts
+    ∙ ap (λ ys. take n xs ++ ys) (take-append_seam given rest)
 
 pub length_given : (limit : ℕ) (xs front : List ℕ) → limit ≡ length xs → length front ≤ length xs
     → length (take limit (front ++ drop (length front) xs)) ≡ length xs
@@ -58,7 +61,9 @@ given_keeps pool given free ok once within zeroed e =
 pub given_fits : (pool : Pool) (given : List ℕ) → IsPool pool → ((f : ℕ) → occurs f pool.free + occurs f given ≤ 1)
     → ((f : ℕ) → 0 < occurs f given → f < pool.frames) → length pool.free + length given ≤ pool.frames
 given_fits pool given ok once within =
-    let all : length (pool.free ++ given) ≤ pool.frames = longest (pool.free ++ given) pool.frames (λ f. omega (arith, occurs-append f pool.free given, once f)) (λ f past. omega (arith, occurs-append f pool.free given, ok.within f past, none_past f past)) in
+    let all : length (pool.free ++ given) ≤ pool.frames =
+    longest (pool.free ++ given) pool.frames (λ f. omega (arith, occurs-append f pool.free given, once f))
+    (λ f past. omega (arith, occurs-append f pool.free given, ok.within f past, none_past f past)) in
     omega (arith, length-append pool.free given)
   where
     none_past : (f : ℕ) → pool.frames ≤ f → occurs f given ≡ 0
@@ -76,7 +81,11 @@ slots_given limit n k xs ys new =
 -- what a pool is then
 abbrev pub IsGiven : List ℕ → ℕ → ℕ → ℕ → List ℕ → List ℕ → List ℕ → List ℕ → Type 0
 IsGiven words limit n k xs ys new given =
-    IsPool (record { words = words; free = take (n + k) (slots_given limit n k xs ys new); frames = length (slots_given limit n k xs ys new) })
+    IsPool (record {
+      words = words;
+      free = take (n + k) (slots_given limit n k xs ys new);
+      frames = length (slots_given limit n k xs ys new);
+    })
     × (n + k ≤ length (slots_given limit n k xs ys new))
     × (take (n + k) (slots_given limit n k xs ys new) ≡ take n xs ++ given)
 
@@ -91,7 +100,13 @@ given_same words limit n xs given e short ok once within zeroed =
     let fits : length (take n xs) + k ≤ length xs = given_fits pool given ok once within in
     let long : length (take n xs) ≡ n = omega (arith, length-take n xs) in
     let front_long : length front ≤ length xs =
-    omega (arith, length-append (take n xs) (given ++ drop (n + k - n) (drop n xs)), length-append given (drop (n + k - n) (drop n xs)), length-drop (n + k - n) (drop n xs), length-drop n xs) in
+    omega (
+      arith,
+      length-append (take n xs) (given ++ drop (n + k - n) (drop n xs)),
+      length-append given (drop (n + k - n) (drop n xs)),
+      length-drop (n + k - n) (drop n xs),
+      length-drop n xs,
+    ) in
     let same : length (slots_given limit n k xs xs given) ≡ length xs = length_given limit xs front e front_long in
     let free : take (n + k) (slots_given limit n k xs xs given) ≡ take n xs ++ given =
     front_given n limit xs given (drop (n + k - n) (drop n xs)) (drop (length front) xs) short (omega arith) in (
@@ -107,4 +122,5 @@ pub given_state : (words : List ℕ) (limit n : ℕ) (xs ys new given : List ℕ
     → ((f : ℕ) → 0 < occurs f given → IsZeroed words f) → IsGiven words limit n (length given) xs ys new given
 given_state words limit n xs ys new given ey en e short ok once within zeroed =
     subst (λ (zs : List ℕ). IsGiven words limit n (length given) xs zs new given) (sym ey)
-    (subst (λ (zs : List ℕ). IsGiven words limit n (length given) xs xs zs given) (sym en) (given_same words limit n xs given e short ok once within zeroed))
+    (subst (λ (zs : List ℕ). IsGiven words limit n (length given) xs xs zs given) (sym en)
+    (given_same words limit n xs given e short ok once within zeroed))

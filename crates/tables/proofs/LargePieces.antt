@@ -1,15 +1,16 @@
 -- Pieces that can be one leaf of 512 pages.
 use Rattle.std.proofs.Common.{◌≡◌, ◌-◌, ◌%◌, ◌<◌, true, false, arith}
 use Rattle.std.proofs.lemmas.Bool.Decides.{nat_tests}
+use Rattle.dmatypes.specs.declared.page.TheConstants.{SPAN_PAGES}
 use Rattle.tables.specs.declared.piece.Piece.{Piece}
 use Rattle.tables.specs.Pieces.{is_large}
 
-pub large_from : (x : Piece) → is_large x ≡ true → (x.from % 512 ≡ 0) × (x.to - x.from ≡ 512)
+pub large_from : (x : Piece) → is_large x ≡ true → (x.from % SPAN_PAGES ≡ 0) × (x.to - x.from ≡ SPAN_PAGES)
 large_from x h = grind (arith, nat_tests)
 
 -- what is not a whole span can't
-pub small_piece : (x : Piece) → 0 < x.from % 512 → is_large x ≡ false
+pub small_piece : (x : Piece) → 0 < x.from % SPAN_PAGES → is_large x ≡ false
 small_piece x h = grind (arith, nat_tests)
 
-pub short_piece : (x : Piece) → 0 < x.to % 512 → is_large x ≡ false
+pub short_piece : (x : Piece) → 0 < x.to % SPAN_PAGES → is_large x ≡ false
 short_piece x h = grind (arith, nat_tests)

@@ -1,8 +1,10 @@
 -- Pages of one span are on one way.
-use Rattle.std.proofs.Common.{◌≡◌, ℕ, zero, suc, ◌+◌, ◌-◌, ◌*◌, ◌/◌, ◌%◌, ◌<◌, ◌≤◌, ⊎_elim, Bool, true, false, cond, nat_eq, Some, refl, sym, ap, subst, ◌∙◌, arith, eq-or-lt_of_le, mul_comm}
+use Rattle.std.proofs.Common.{◌≡◌, ℕ, zero, suc, ◌+◌, ◌-◌, ◌*◌, ◌/◌, ◌%◌, ◌<◌, ◌≤◌, ⊎_elim, Bool, true, false, cond, nat_eq, Some, refl}
+use Rattle.std.proofs.Common.{sym, ap, subst, ◌∙◌, arith, eq-or-lt_of_le, mul_comm}
 use Rattle.std.proofs.Math.Nat.{div-div-eq-div-mul, add-mul-div_left, div-eq_of_lt}
 use Rattle.std.proofs.lemmas.Bool.Decides.{nat_tests}
 use Rattle.std.proofs.lemmas.Option.{none-some, same_Some}
+use Rattle.tables.specs.declared.entries.TheConstants.{TABLE_ENTRIES}
 use Rattle.tables.proofs.Walks.{deeper}
 use Rattle.vtdbits.specs.declared.entry.SsEntry.{SsEntry}
 use Rattle.vtdbits.specs.declared.entry.SsEntry.TheVariants.{Absent, Table, Leaf, LargeLeaf}
@@ -36,13 +38,17 @@ div_within first p n pos e a b =
 pub wider : (l p q : ℕ) → p / span l ≡ q / span l → p / span (suc l) ≡ q / span (suc l)
 unfolding span
 wider l p q e =
-    ap (λ n. p / n) (mul_comm 512 (span l)) ∙ sym (div-div-eq-div-mul p (span l) 512) ∙ ap (λ x. x / 512) e ∙ div-div-eq-div-mul q (span l) 512 ∙ ap (λ n. q / n) (mul_comm (span l) 512)
+    ap (λ n. p / n) (mul_comm TABLE_ENTRIES (span l)) ∙ sym (div-div-eq-div-mul p (span l) TABLE_ENTRIES) ∙ ap (λ x. x / TABLE_ENTRIES) e
+    ∙ div-div-eq-div-mul q (span l) TABLE_ENTRIES ∙ ap (λ n. q / n) (mul_comm (span l) TABLE_ENTRIES)
 
 pub near_at : (j l p q : ℕ) → j ≤ l → p / span j ≡ q / span j → p / span l ≡ q / span l
 near_at j zero p q le e = let z : j ≡ 0 = omega arith in subst (λ i. p / span i ≡ q / span i) z e
-near_at j (suc l) p q le e = ⊎_elim (λ (same : j ≡ suc l). subst (λ i. p / span i ≡ q / span i) same e) (λ (lt : j < suc l). wider l p q (near_at j l p q (omega arith) e)) (eq-or-lt_of_le le)
+near_at j (suc l) p q le e =
+    ⊎_elim (λ (same : j ≡ suc l). subst (λ i. p / span i ≡ q / span i) same e)
+    (λ (lt : j < suc l). wider l p q (near_at j l p q (omega arith) e)) (eq-or-lt_of_le le)
 
-size_of : (m : Memory) (l p : ℕ) (x : Found) (e : SsEntry) → ((t : ℕ) → leaf_from m l t p ≡ Some x → x.size < l) → leaf_of e l (λ c. leaf_from m l c p) ≡ Some x → x.size ≤ l
+size_of : (m : Memory) (l p : ℕ) (x : Found) (e : SsEntry) → ((t : ℕ) → leaf_from m l t p ≡ Some x → x.size < l)
+    → leaf_of e l (λ c. leaf_from m l c p) ≡ Some x → x.size ≤ l
 size_of m l p x Absent go h = absurd (none-some x h)
 size_of m l p x (Table t) go h = let k : x.size < l = go t h in omega arith
 size_of m l p x (Leaf s) go h = let k : l ≡ x.size = ap (λ (y : Found). y.size) (same_Some _ x h) in omega arith
@@ -51,7 +57,8 @@ size_of m l p x (LargeLeaf s) go h = let k : l ≡ x.size = ap (λ (y : Found). 
 pub smaller : (m : Memory) (l t p : ℕ) (x : Found) → leaf_from m l t p ≡ Some x → x.size < l
 unfolding leaf_from
 smaller m zero t p x h = absurd (none-some x h)
-smaller m (suc l) t p x h = let k : x.size ≤ l = size_of m l p x (m (suc l) t (index_in l p)) (λ t' h'. smaller m l t' p x h') h in omega arith
+smaller m (suc l) t p x h =
+    let k : x.size ≤ l = size_of m l p x (m (suc l) t (index_in l p)) (λ t' h'. smaller m l t' p x h') h in omega arith
 
 near_by : (m : Memory) (l p q : ℕ) (x : Found) (e : SsEntry) → ((t : ℕ) → leaf_from m l t p ≡ Some x → leaf_from m l t q ≡ Some x)
     → leaf_of e l (λ c. leaf_from m l c p) ≡ Some x → leaf_of e l (λ c. leaf_from m l c q) ≡ Some x
@@ -61,7 +68,8 @@ near_by m l p q x (Leaf s) go h = h
 near_by m l p q x (LargeLeaf s) go h = h
 
 -- the pages of a leaf's span meet that leaf
-pub near_leaf : (m : Memory) (l t p q : ℕ) (x : Found) → p / span x.size ≡ q / span x.size → leaf_from m l t p ≡ Some x → leaf_from m l t q ≡ Some x
+pub near_leaf : (m : Memory) (l t p q : ℕ) (x : Found) → p / span x.size ≡ q / span x.size → leaf_from m l t p ≡ Some x
+    → leaf_from m l t q ≡ Some x
 unfolding leaf_from
 near_leaf m zero t p q x e h = h
 near_leaf m (suc l) t p q x e h =
@@ -76,8 +84,11 @@ near_table_by m l p q w c (Table t) go h = go t h
 near_table_by m l p q w c (Leaf s) go h = h
 near_table_by m l p q w c (LargeLeaf s) go h = h
 
-near_table_at : (m : Memory) (l t p q w c : ℕ) (b : Bool) → (table_of (m (suc l) t (index_in l p)) (λ c. table_from m l c p w) ≡ Some c → table_of (m (suc l) t (index_in l q)) (λ c. table_from m l c q w) ≡ Some c)
-    → cond b (Some t) (table_of (m (suc l) t (index_in l p)) (λ c. table_from m l c p w)) ≡ Some c → cond b (Some t) (table_of (m (suc l) t (index_in l q)) (λ c. table_from m l c q w)) ≡ Some c
+near_table_at : (m : Memory) (l t p q w c : ℕ) (b : Bool)
+    → (table_of (m (suc l) t (index_in l p)) (λ c. table_from m l c p w) ≡ Some c
+    → table_of (m (suc l) t (index_in l q)) (λ c. table_from m l c q w) ≡ Some c)
+    → cond b (Some t) (table_of (m (suc l) t (index_in l p)) (λ c. table_from m l c p w)) ≡ Some c
+    → cond b (Some t) (table_of (m (suc l) t (index_in l q)) (λ c. table_from m l c q w)) ≡ Some c
 near_table_at m l t p q w c true go h = h
 near_table_at m l t p q w c false go h = go h
 

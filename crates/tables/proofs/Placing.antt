@@ -1,9 +1,13 @@
 -- Where the pages of segments lie.
-use Rattle.std.proofs.Common.{◌≡◌, ℕ, zero, suc, ◌+◌, ◌-◌, ◌*◌, ◌/◌, ◌%◌, ◌^◌, ◌<◌, ◌≤◌, ◌⊎◌, inl, inr, ⊎_elim, Bool, true, false, cond, ◌&&◌, eqb, Option, Some, None, List, [], ◌∷◌, length, drop, get_or, refl, sym, ap, subst, ◌∙◌, arith, add-one, drop-cons}
+use Rattle.std.proofs.Common.{◌≡◌, ℕ, zero, suc, ◌+◌, ◌-◌, ◌*◌, ◌/◌, ◌%◌, ◌<◌, ◌≤◌, ◌⊎◌, inl, inr, ⊎_elim, Bool, true, false, cond, ◌&&◌}
+use Rattle.std.proofs.Common.{eqb, Option, Some, None, List, [], ◌∷◌, length, drop, get_or, refl, sym, ap, subst, ◌∙◌, arith, add-one}
+use Rattle.std.proofs.Common.{drop-cons}
 use Rattle.std.proofs.lemmas.Bool.{cases_lt}
 use Rattle.std.proofs.lemmas.Bool.Decides.{nat_tests}
 use Rattle.std.proofs.lemmas.Option.{none-some, same_Some}
 use Rattle.std.proofs.lemmas.List.Sums.{sum_by-cons}
+use Rattle.dmatypes.specs.declared.page.TheConstants.{FRAMES_END, SPAN_PAGES}
+use Rattle.tables.specs.declared.entries.TheConstants.{TABLE_ENTRIES}
 use Rattle.dmatypes.specs.Conditions.{total_pages}
 use Rattle.dmatypes.specs.declared.call.Segment.{Segment}
 use Rattle.dmatypes.specs.World.{placed, is_within}
@@ -15,17 +19,25 @@ use Rattle.tables.specs.Segments.{rest_at, fills_large, is_large_at, AreSegments
 abbrev pub rest_of : Segment → ℕ → ℕ → Segment
 rest_of s first p = record { frame = s.frame + (p - first); pages = first + s.pages - p }
 
-rest-cons : (s : Segment) (ss : List Segment) (first p : ℕ) → rest_at (s ∷ ss) first p ≡ cond (is_within (record { first = first; pages = s.pages }) p) (Some (rest_of s first p)) (rest_at ss (first + s.pages) p)
+rest-cons : (s : Segment) (ss : List Segment) (first p : ℕ)
+    → rest_at (s ∷ ss) first p
+    ≡ cond (is_within (record { first = first; pages = s.pages }) p) (Some (rest_of s first p)) (rest_at ss (first + s.pages) p)
 unfolding rest_at
 rest-cons s ss first p = refl
 
-pub rest_in : (s : Segment) (ss : List Segment) (first p : ℕ) → first ≤ p → p < first + s.pages → rest_at (s ∷ ss) first p ≡ Some (rest_of s first p)
+pub rest_in : (s : Segment) (ss : List Segment) (first p : ℕ) → first ≤ p → p < first + s.pages
+    → rest_at (s ∷ ss) first p ≡ Some (rest_of s first p)
 rest_in s ss first p low high =
-    rest-cons s ss first p ∙ ap (λ b. cond b (Some (rest_of s first p)) (rest_at ss (first + s.pages) p)) (within_is (record { first = first; pages = s.pages }) p (low, high))
+    rest-cons s ss first p
+    ∙ ap (λ b. cond b (Some (rest_of s first p)) (rest_at ss (first + s.pages) p))
+    (within_is (record { first = first; pages = s.pages }) p (low, high))
 
-pub rest_out : (s : Segment) (ss : List Segment) (first p : ℕ) → ((p < first) ⊎ (first + s.pages ≤ p)) → rest_at (s ∷ ss) first p ≡ rest_at ss (first + s.pages) p
+pub rest_out : (s : Segment) (ss : List Segment) (first p : ℕ) → ((p < first) ⊎ (first + s.pages ≤ p))
+    → rest_at (s ∷ ss) first p ≡ rest_at ss (first + s.pages) p
 rest_out s ss first p out =
-    rest-cons s ss first p ∙ ap (λ b. cond b (Some (rest_of s first p)) (rest_at ss (first + s.pages) p)) (within_not (record { first = first; pages = s.pages }) p out)
+    rest-cons s ss first p
+    ∙ ap (λ b. cond b (Some (rest_of s first p)) (rest_at ss (first + s.pages) p))
+    (within_not (record { first = first; pages = s.pages }) p out)
 
 pub rest-nil : (first p : ℕ) → rest_at [] first p ≡ None
 unfolding rest_at
@@ -53,7 +65,7 @@ pub record HasRest (ss : List Segment) (first p : ℕ) (r : Segment) : Type 0 wh
   pub some : 1 ≤ r.pages
   pub after : first ≤ p
   pub within : p + r.pages ≤ first + total_pages ss
-  pub frames : r.frame + r.pages ≤ 2 ^ 24
+  pub frames : r.frame + r.pages ≤ FRAMES_END
 
 pub rest_bounds : (ss : List Segment) (first p : ℕ) (r : Segment) → AreSegments ss → rest_at ss first p ≡ Some r → HasRest ss first p r
 rest_bounds [] first p r good e = absurd (none-some r (sym (rest-nil first p) ∙ e))
@@ -81,7 +93,8 @@ behind : (ss : List Segment) (first p : ℕ) (r : Segment) → rest_at ss first 
 behind ss first p r e = ⊎_elim (λ lt. absurd (none-some r (sym (rest_below ss first p lt) ∙ e))) (λ le. le) (cases_lt p first)
 
 -- what is left further on in the same segment
-pub rest_onward : (ss : List Segment) (first p q : ℕ) (r : Segment) → rest_at ss first p ≡ Some r → p ≤ q → q < p + r.pages → rest_at ss first q ≡ Some (record { frame = r.frame + (q - p); pages = p + r.pages - q })
+pub rest_onward : (ss : List Segment) (first p q : ℕ) (r : Segment) → rest_at ss first p ≡ Some r → p ≤ q → q < p + r.pages
+    → rest_at ss first q ≡ Some (record { frame = r.frame + (q - p); pages = p + r.pages - q })
 rest_onward [] first p q r e low high = absurd (none-some r (sym (rest-nil first p) ∙ e))
 rest_onward (s ∷ ss) first p q r e low high =
     elim (within_or_not (record { first = first; pages = s.pages }) p) [
@@ -90,8 +103,10 @@ rest_onward (s ∷ ss) first p q r e low high =
           let frame : s.frame + (p - first) ≡ r.frame = ap (λ (x : Segment). x.frame) same in
           let pages : first + s.pages - p ≡ r.pages = ap (λ (x : Segment). x.pages) same in
           rest_in s ss first q (omega arith) (omega arith)
-          ∙ ap (λ f. Some (record { frame = f; pages = first + s.pages - q })) (let k : s.frame + (q - first) ≡ r.frame + (q - p) = omega arith in k)
-          ∙ ap (λ n. Some (record { frame = r.frame + (q - p); pages = n })) (let k : first + s.pages - q ≡ p + r.pages - q = omega arith in k)
+          ∙ ap (λ f. Some (record { frame = f; pages = first + s.pages - q }))
+          (let k : s.frame + (q - first) ≡ r.frame + (q - p) = omega arith in k)
+          ∙ ap (λ n. Some (record { frame = r.frame + (q - p); pages = n }))
+          (let k : first + s.pages - q ≡ p + r.pages - q = omega arith in k)
       | inr out ↦
           let e' : rest_at ss (first + s.pages) p ≡ Some r = sym (rest_out s ss first p out) ∙ e in
           let le : first + s.pages ≤ p = behind ss (first + s.pages) p r e' in
@@ -99,17 +114,20 @@ rest_onward (s ∷ ss) first p q r e low high =
     ]
 
 -- and it tells where a page lies
-pub placed_at : (ss : List Segment) (first p rights : ℕ) (r : Segment) → rest_at ss first p ≡ Some r → placed ss first rights p ≡ Some (target r.frame rights)
+pub placed_at : (ss : List Segment) (first p rights : ℕ) (r : Segment) → rest_at ss first p ≡ Some r
+    → placed ss first rights p ≡ Some (target r.frame rights)
 placed_at [] first p rights r e = absurd (none-some r (sym (rest-nil first p) ∙ e))
 placed_at (s ∷ ss) first p rights r e =
     elim (within_or_not (record { first = first; pages = s.pages }) p) [
       | inl (from, to) ↦
           let same : rest_of s first p ≡ r = same_Some (rest_of s first p) r (sym (rest_in s ss first p from to) ∙ e) in
           let frame : s.frame + (p - first) ≡ r.frame = ap (λ (x : Segment). x.frame) same in
-          ap (λ b. cond b (Some (target (s.frame + (p - first)) rights)) (placed ss (first + s.pages) rights p)) (within_is (record { first = first; pages = s.pages }) p (from, to))
+          ap (λ b. cond b (Some (target (s.frame + (p - first)) rights)) (placed ss (first + s.pages) rights p))
+          (within_is (record { first = first; pages = s.pages }) p (from, to))
           ∙ ap (λ f. Some (target f rights)) frame
       | inr out ↦
-          ap (λ b. cond b (Some (target (s.frame + (p - first)) rights)) (placed ss (first + s.pages) rights p)) (within_not (record { first = first; pages = s.pages }) p out)
+          ap (λ b. cond b (Some (target (s.frame + (p - first)) rights)) (placed ss (first + s.pages) rights p))
+          (within_not (record { first = first; pages = s.pages }) p out)
           ∙ placed_at ss (first + s.pages) p rights r (sym (rest_out s ss first p out) ∙ e)
     ]
 
@@ -129,36 +147,40 @@ drop_ended (s ∷ ss) (suc i) le = drop_ended ss i (omega arith)
 
 -- ---- whether a large leaf begins
 
-large_flag : (p : ℕ) (o : Option Segment) (b : Bool) → fills_large o ≡ b → (eqb (p % 512) 0 && fills_large o) ≡ (eqb (p % 512) 0 && b)
-large_flag p o b e = ap (λ x. eqb (p % 512) 0 && x) e
+large_flag : (p : ℕ) (o : Option Segment) (b : Bool) → fills_large o ≡ b
+    → (eqb (p % SPAN_PAGES) 0 && fills_large o) ≡ (eqb (p % SPAN_PAGES) 0 && b)
+large_flag p o b e = ap (λ x. eqb (p % SPAN_PAGES) 0 && x) e
 
 and_false : (b : Bool) → (b && false) ≡ false
 and_false true = refl
 and_false false = refl
 
 pub not_large : (ss : List Segment) (first p : ℕ) → rest_at ss first p ≡ None → is_large_at ss first p ≡ false
-not_large ss first p e = ap (λ o. eqb (p % 512) 0 && fills_large o) e ∙ and_false (eqb (p % 512) 0)
+not_large ss first p e = ap (λ o. eqb (p % SPAN_PAGES) 0 && fills_large o) e ∙ and_false (eqb (p % SPAN_PAGES) 0)
 
-pub small_rest : (ss : List Segment) (first p : ℕ) (r : Segment) → rest_at ss first p ≡ Some r → r.pages < 512 → is_large_at ss first p ≡ false
+pub small_rest : (ss : List Segment) (first p : ℕ) (r : Segment) → rest_at ss first p ≡ Some r → r.pages < TABLE_ENTRIES
+    → is_large_at ss first p ≡ false
 small_rest ss first p r e lt =
     let no : fills_large (Some r) ≡ false = grind (arith, nat_tests) in
-    ap (λ o. eqb (p % 512) 0 && fills_large o) e ∙ ap (λ x. eqb (p % 512) 0 && x) no ∙ and_false (eqb (p % 512) 0)
+    ap (λ o. eqb (p % SPAN_PAGES) 0 && fills_large o) e ∙ ap (λ x. eqb (p % SPAN_PAGES) 0 && x) no ∙ and_false (eqb (p % SPAN_PAGES) 0)
 
 -- no large leaf begins in the span of a page where a segment ends in it
-pub inner_small : (ss : List Segment) (first p to : ℕ) (r : Segment) → rest_at ss first p ≡ Some r → to ≡ p + r.pages → 0 < to % 512 → p < to → p / 512 ≡ (to - 1) / 512
-    → is_large_at ss first (512 * (to / 512)) ≡ false
-inner_small ss first p to r e is inside some one = by_rest (rest_at ss first (512 * (to / 512))) refl
+pub inner_small : (ss : List Segment) (first p to : ℕ) (r : Segment) → rest_at ss first p ≡ Some r → to ≡ p + r.pages → 0 < to % SPAN_PAGES
+    → p < to → p / SPAN_PAGES ≡ (to - 1) / SPAN_PAGES → is_large_at ss first (SPAN_PAGES * (to / SPAN_PAGES)) ≡ false
+inner_small ss first p to r e is inside some one = by_rest (rest_at ss first (SPAN_PAGES * (to / SPAN_PAGES))) refl
   where
-    by_rest : (o : Option Segment) → rest_at ss first (512 * (to / 512)) ≡ o → is_large_at ss first (512 * (to / 512)) ≡ false
-    by_rest None h = not_large ss first (512 * (to / 512)) h
+    by_rest : (o : Option Segment) → rest_at ss first (SPAN_PAGES * (to / SPAN_PAGES)) ≡ o
+        → is_large_at ss first (SPAN_PAGES * (to / SPAN_PAGES)) ≡ false
+    by_rest None h = not_large ss first (SPAN_PAGES * (to / SPAN_PAGES)) h
     by_rest (Some s) h =
-        ⊎_elim (λ (lt : s.pages < 512). small_rest ss first (512 * (to / 512)) s h lt)
-        (λ (le : 512 ≤ s.pages).
-        let k : ℕ = 512 * (to / 512) in
-        let low : 512 * (to / 512) ≤ p = omega arith in
-        let high : p < 512 * (to / 512) + s.pages = omega arith in
-        let same : record { frame = s.frame + (p - 512 * (to / 512)); pages = 512 * (to / 512) + s.pages - p } ≡ r =
-        same_Some _ r (sym (rest_onward ss first (512 * (to / 512)) p s h low high) ∙ e) in
-        let pages : 512 * (to / 512) + s.pages - p ≡ r.pages = ap (λ (x : Segment). x.pages) same in
+        ⊎_elim (λ (lt : s.pages < TABLE_ENTRIES). small_rest ss first (SPAN_PAGES * (to / SPAN_PAGES)) s h lt)
+        (λ (le : SPAN_PAGES ≤ s.pages).
+        let k : ℕ = SPAN_PAGES * (to / SPAN_PAGES) in
+        let low : SPAN_PAGES * (to / SPAN_PAGES) ≤ p = omega arith in
+        let high : p < TABLE_ENTRIES * (to / SPAN_PAGES) + s.pages = omega arith in
+        let same : record { frame = s.frame + (p - SPAN_PAGES * (to / SPAN_PAGES)); pages = SPAN_PAGES * (to / SPAN_PAGES) + s.pages - p }
+        ≡ r =
+        same_Some _ r (sym (rest_onward ss first (SPAN_PAGES * (to / SPAN_PAGES)) p s h low high) ∙ e) in
+        let pages : SPAN_PAGES * (to / SPAN_PAGES) + s.pages - p ≡ r.pages = ap (λ (x : Segment). x.pages) same in
         absurd (omega arith))
-        (cases_lt s.pages 512)
+        (cases_lt s.pages SPAN_PAGES)

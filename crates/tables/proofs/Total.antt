@@ -67,14 +67,16 @@ unfolding total
 total_tail g i zero l h = let e : 0 ≡ i = omega arith in ap (total g) e
 total_tail g i (suc n) l h =
     let le : i < suc (suc n) = omega arith in
-    last_or_below i (suc n) (λ e. ap (total g) (sym e)) (λ below. let le' : i ≤ n = omega arith in omega (arith, total_tail g i n le' h, h n le')) le
+    last_or_below i (suc n) (λ e. ap (total g) (sym e))
+    (λ below. let le' : i ≤ n = omega arith in omega (arith, total_tail g i n le' h, h n le')) le
 
 pub total_le_more : (g : ℕ → ℕ) (i n : ℕ) → i ≤ n → total g i ≤ total g n
 unfolding total
 total_le_more g i zero l = let e : i ≡ 0 = omega arith in let same : total g i ≡ total g 0 = ap (total g) e in omega arith
 total_le_more g i (suc n) l =
     let le : i < suc (suc n) = omega arith in
-    last_or_below i (suc n) (λ e. let same : total g i ≡ total g (suc n) = ap (total g) e in omega arith) (λ below. let le' : i ≤ n = omega arith in omega (arith, total_le_more g i n le')) le
+    last_or_below i (suc n) (λ e. let same : total g i ≡ total g (suc n) = ap (total g) e in omega arith)
+    (λ below. let le' : i ≤ n = omega arith in omega (arith, total_le_more g i n le')) le
 
 pub total-none : (g : ℕ → ℕ) (n : ℕ) → ((j : ℕ) → j < n → g j ≡ 0) → total g n ≡ 0
 total-none g n h = total_same (λ _. 0) g n h ∙ total-zeros n

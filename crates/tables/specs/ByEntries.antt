@@ -1,6 +1,7 @@
 -- How many tables are lacking where pages are to be mapped, counted entry by entry down the tree. The pages
 -- go from a first one up to another, and a test tells where a large leaf begins at a page.
 use Rattle.std.specs.Prelude.{ℕ, zero, suc, ◌+◌, ◌*◌, Bool, ◌==◌, ◌&&◌, nat_lt, if◌then◌else◌}
+use Rattle.tables.specs.declared.entries.TheConstants.{TABLE_ENTRIES}
 use Rattle.vtdbits.specs.declared.entry.SsEntry.{SsEntry}
 use Rattle.vtdbits.specs.declared.entry.SsEntry.TheVariants.{Absent, Table, Leaf, LargeLeaf}
 use Rattle.tables.specs.Tree.{Memory, span, total}
@@ -31,5 +32,5 @@ entry_lacks m zero e large from to first = 0
 entry_lacks m (suc l) e large from to first =
     if is_met (suc l) from to first
     then own_lack e (suc l) (large first)
-    + total (λ i. entry_lacks m l (entry_below e (λ c. m (suc l) c i)) large from to (first + i * span l)) 512
+    + total (λ i. entry_lacks m l (entry_below e (λ c. m (suc l) c i)) large from to (first + i * span l)) TABLE_ENTRIES
     else 0

@@ -1,8 +1,10 @@
 -- What a call on one tree changes in its pool. Pages go from a first one up to a last one that is no more
 -- among them. A table is told by its place: its level, and a page on whose way it lies.
 use Rattle.std.specs.Prelude.{◌≡◌, ℕ, ◌+◌, ◌*◌, ◌/◌, ◌<◌, ◌≤◌, ◌⊎◌, Bool, true, false, List, Option, Some, None, IsSome}
+use Rattle.dmatypes.specs.declared.page.TheConstants.{SPAN_PAGES}
+use Rattle.tables.specs.declared.entries.TheConstants.{TABLE_ENTRIES}
 use Rattle.dmatypes.specs.World.{Target}
-use Rattle.tables.specs.Tree.{Found, span, leaf_from, table_from, states, uses}
+use Rattle.tables.specs.Tree.{Found, IsLeafAt, IsTableAt, span, leaf_from, table_from, states, uses}
 use Rattle.tables.specs.Pool.{Pool, word, memory, occurs, IsZeroed, IsTree}
 
 -- the page is not among those from one up to another
@@ -10,12 +12,12 @@ abbrev pub IsOutside : ℕ → ℕ → ℕ → Type 0
 IsOutside from to p = (p < from) ⊎ (to ≤ p)
 
 -- the page's span of a level has none of them
-abbrev pub IsClear : ℕ → ℕ → ℕ → ℕ → Type 0
-IsClear w from to p = (q : ℕ) → from ≤ q → q < to → p / span w ≡ q / span w → ⊥
+abbrev pub MeetsNone : ℕ → ℕ → ℕ → ℕ → Type 0
+MeetsNone w from to p = (q : ℕ) → from ≤ q → q < to → p / span w ≡ q / span w → ⊥
 
 -- the page's span of 512 pages is wholly among them
 abbrev pub IsCovered : ℕ → ℕ → ℕ → Type 0
-IsCovered from to p = (from ≤ 512 * (p / 512)) × (512 * (p / 512) + 512 ≤ to)
+IsCovered from to p = (from ≤ SPAN_PAGES * (p / SPAN_PAGES)) × (SPAN_PAGES * (p / SPAN_PAGES) + SPAN_PAGES ≤ to)
 
 -- free frames came into the tree, frames of the tree were cut from it, and no other frame changed
 pub record TakesAndGivesFrames (old new : Pool) (level table : ℕ) (cut : List ℕ) : Type 0 where
@@ -23,7 +25,7 @@ pub record TakesAndGivesFrames (old new : Pool) (level table : ℕ) (cut : List 
       uses (memory new.words) level table f + occurs f new.free + occurs f cut
       ≡ uses (memory old.words) level table f + occurs f old.free
   pub fewer : (f : ℕ) → occurs f new.free ≤ occurs f old.free
-  pub others : (f k : ℕ) → k < 512 → uses (memory old.words) level table f + occurs f old.free ≡ 0
+  pub others : (f k : ℕ) → k < TABLE_ENTRIES → uses (memory old.words) level table f + occurs f old.free ≡ 0
       → word new.words f k ≡ word old.words f k
   pub frames : new.frames ≡ old.frames
 
@@ -40,15 +42,15 @@ pub record Maps (old new : Pool) (level table from to : ℕ) (says : ℕ → Opt
   pub taken : (p w c : ℕ) → table_from (memory new.words) level table p w ≡ Some c
       → (table_from (memory old.words) level table p w ≡ Some c) ⊎ (0 < occurs c old.free)
   -- and its span meets the pages
-  pub clear : (p w : ℕ) → p / span level ≡ from / span level → IsClear w from to p
+  pub clear : (p w : ℕ) → p / span level ≡ from / span level → MeetsNone w from to p
       → table_from (memory new.words) level table p w ≡ table_from (memory old.words) level table p w
 
 -- where a map made tables: every span that meets the pages has its table, but one of level 1 where a test lets
 -- a large leaf begin, which is as it was
 pub record MakesTables (old new : Pool) (level table from to : ℕ) (large : ℕ → Bool) : Type 0 where
-  pub made : (p w : ℕ) → from ≤ p → p < to → 1 ≤ w → w < level → (w ≡ 1 → large (p / 512 * 512) ≡ false)
+  pub made : (p w : ℕ) → from ≤ p → p < to → 1 ≤ w → w < level → (w ≡ 1 → large (p / SPAN_PAGES * SPAN_PAGES) ≡ false)
       → IsSome (table_from (memory new.words) level table p w)
-  pub spared : (p : ℕ) → from ≤ p → p < to → 1 < level → large (p / 512 * 512) ≡ true
+  pub spared : (p : ℕ) → from ≤ p → p < to → 1 < level → large (p / SPAN_PAGES * SPAN_PAGES) ≡ true
       → table_from (memory new.words) level table p 1 ≡ table_from (memory old.words) level table p 1
 
 -- the pages from one up to another were unmapped; the facts are of pages in one span of the table
@@ -58,7 +60,7 @@ pub record Unmaps (old new : Pool) (level table from to : ℕ) (cut : List ℕ) 
       → states (memory new.words) level table p ≡ states (memory old.words) level table p
   -- a leaf entry stays that states none of the pages
   pub leaves : (p : ℕ) (x : Found) → p / span level ≡ from / span level
-      → leaf_from (memory old.words) level table p ≡ Some x → IsClear x.size from to p
+      → leaf_from (memory old.words) level table p ≡ Some x → MeetsNone x.size from to p
       → leaf_from (memory new.words) level table p ≡ Some x
   -- a table stays in its place, or was cut: it is of level 1 and the pages cover its span
   pub tables : (p w c : ℕ) → p / span level ≡ from / span level
@@ -70,7 +72,7 @@ pub record Unmaps (old new : Pool) (level table from to : ℕ) (cut : List ℕ) 
       → table_from (memory new.words) level table p w ≡ Some c
       → (table_from (memory old.words) level table p w ≡ Some c) ⊎ (0 < occurs c old.free)
   -- and its span meets the pages
-  pub clear : (p w : ℕ) → p / span level ≡ from / span level → IsClear w from to p
+  pub clear : (p w : ℕ) → p / span level ≡ from / span level → MeetsNone w from to p
       → table_from (memory new.words) level table p w ≡ table_from (memory old.words) level table p w
   -- each table whose span they cover was cut
   pub covered : (p c : ℕ) → p / span level ≡ from / span level → IsCovered from to p
@@ -91,3 +93,20 @@ pub record Stays (old new : Pool) (level table : ℕ) : Type 0 where
   pub same_frames : (f : ℕ) → uses (memory new.words) level table f ≡ uses (memory old.words) level table f
   pub same_leaves : (p : ℕ) → leaf_from (memory new.words) level table p ≡ leaf_from (memory old.words) level table p
   pub same_tables : (p w : ℕ) → table_from (memory new.words) level table p w ≡ table_from (memory old.words) level table p w
+
+-- the leaf entries of a tree stay
+abbrev pub KeepsLeaves : Pool → Pool → ℕ → ℕ → Type 0
+KeepsLeaves old new level root =
+    (first pages frame rights : ℕ) → IsLeafAt (memory old.words) level root first pages frame rights
+    → IsLeafAt (memory new.words) level root first pages frame rights
+
+-- its tables stay
+abbrev pub KeepsTables : Pool → Pool → ℕ → ℕ → Type 0
+KeepsTables old new level root =
+    (first height table : ℕ) → IsTableAt (memory old.words) level root first height table
+    → IsTableAt (memory new.words) level root first height table
+
+-- every tree that stands apart from it stays as it is
+abbrev pub KeepsOthers : Pool → Pool → ℕ → ℕ → Type 0
+KeepsOthers old new level root =
+    (height table : ℕ) → IsTree old height table → IsApart old level root height table → Stays old new height table

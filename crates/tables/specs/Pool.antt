@@ -1,5 +1,7 @@
 -- A pool of table frames: its words, the frames that are free, and how many frames it has.
 use Rattle.std.specs.Prelude.{◌≡◌, ℕ, ◌+◌, ◌*◌, ◌<◌, ◌≤◌, ◌==◌, List, length, slice_index, count_by}
+use Rattle.tables.specs.declared.frames.TheConstants.{MOST_FRAMES}
+use Rattle.tables.specs.declared.entries.TheConstants.{TABLE_ENTRIES}
 use Rattle.vtdbits.specs.Entry.{look}
 use Rattle.tables.specs.Tree.{Memory, uses}
 
@@ -10,7 +12,7 @@ pub record Pool : Type 0 where
 
 -- the word of a table at an index
 unfoldable pub word : List ℕ → ℕ → ℕ → ℕ
-word words table index = slice_index words (table * 512 + index)
+word words table index = slice_index words (table * TABLE_ENTRIES + index)
 
 -- what a walk sees there in a table of a level
 unfoldable pub memory : List ℕ → Memory
@@ -22,12 +24,12 @@ occurs frame frames = count_by (λ x. x == frame) frames
 
 -- every word of the frame is 0
 abbrev pub IsZeroed : List ℕ → ℕ → Type 0
-IsZeroed words frame = (k : ℕ) → k < 512 → word words frame k ≡ 0
+IsZeroed words frame = (k : ℕ) → k < TABLE_ENTRIES → word words frame k ≡ 0
 
 -- the free frames are different frames of the pool, and zeroed
 pub record IsPool (pool : Pool) : Type 0 where
-  pub fit : length pool.words ≡ pool.frames * 512
-  pub few : pool.frames ≤ 4096
+  pub fit : length pool.words ≡ pool.frames * TABLE_ENTRIES
+  pub few : pool.frames ≤ MOST_FRAMES
   pub once : (f : ℕ) → occurs f pool.free ≤ 1
   pub within : (f : ℕ) → pool.frames ≤ f → occurs f pool.free ≡ 0
   pub zeroed : (f : ℕ) → 0 < occurs f pool.free → IsZeroed pool.words f
@@ -40,9 +42,9 @@ pub record IsTree (pool : Pool) (level table : ℕ) : Type 0 where
 -- the words of both, but for one
 abbrev pub IsWrite : List ℕ → List ℕ → ℕ → ℕ → ℕ → Type 0
 IsWrite old new table index value =
-    (word new table index ≡ value) × ((f k : ℕ) → k < 512 → (f ≡ table → k ≡ index → ⊥) → word new f k ≡ word old f k)
+    (word new table index ≡ value) × ((f k : ℕ) → k < TABLE_ENTRIES → (f ≡ table → k ≡ index → ⊥) → word new f k ≡ word old f k)
 
 -- the words of both, but for so many of a table from an index on
-abbrev pub IsRest : List ℕ → List ℕ → ℕ → ℕ → ℕ → Type 0
-IsRest old new table from count =
-    (f k : ℕ) → k < 512 → (f ≡ table → from ≤ k → k < from + count → ⊥) → word new f k ≡ word old f k
+abbrev pub KeepsOtherWords : List ℕ → List ℕ → ℕ → ℕ → ℕ → Type 0
+KeepsOtherWords old new table from count =
+    (f k : ℕ) → k < TABLE_ENTRIES → (f ≡ table → from ≤ k → k < from + count → ⊥) → word new f k ≡ word old f k

@@ -1,5 +1,6 @@
 -- Segments of host frames, mapped one after the other from a first page on.
-use Rattle.std.specs.Prelude.{ℕ, ◌+◌, ◌-◌, ◌%◌, ◌^◌, ◌≤◌, Bool, false, ◌&&◌, ◌==◌, nat_le, if◌then◌else◌, Option, Some, None, List, [], ◌∷◌}
+use Rattle.std.specs.Prelude.{ℕ, ◌+◌, ◌-◌, ◌%◌, ◌≤◌, Bool, false, ◌&&◌, ◌==◌, nat_le, if◌then◌else◌, Option, Some, None, List, [], ◌∷◌}
+use Rattle.dmatypes.specs.declared.page.TheConstants.{FRAMES_END, SPAN_PAGES}
 use Rattle.dmatypes.specs.declared.call.Segment.{Segment}
 use Rattle.dmatypes.specs.World.{is_within}
 
@@ -14,16 +15,16 @@ rest_at (s ∷ ss) first p =
 -- 512 pages of frames from a multiple of 512 on
 abbrev pub fills_large : Option Segment → Bool
 fills_large None = false
-fills_large (Some s) = (s.frame % 512 == 0) && nat_le 512 s.pages
+fills_large (Some s) = (s.frame % SPAN_PAGES == 0) && nat_le SPAN_PAGES s.pages
 
 -- a leaf of 512 pages begins at the page, where no table is there
 abbrev pub is_large_at : List Segment → ℕ → ℕ → Bool
-is_large_at segments first p = (p % 512 == 0) && fills_large (rest_at segments first p)
+is_large_at segments first p = (p % SPAN_PAGES == 0) && fills_large (rest_at segments first p)
 
 -- each has a page, and its frames are host frames
 abbrev pub AreSegments : List Segment → Type 0
 AreSegments [] = Unit {0}
-AreSegments (s ∷ ss) = (1 ≤ s.pages) × (s.frame + s.pages ≤ 2 ^ 24) × AreSegments ss
+AreSegments (s ∷ ss) = (1 ≤ s.pages) × (s.frame + s.pages ≤ FRAMES_END) × AreSegments ss
 
 -- so many frames from one on
 abbrev pub one_segment : ℕ → ℕ → List Segment

@@ -1,5 +1,6 @@
 -- Trees of tables, and walks through them. A memory gives the entry at a level, a table and an index.
 use Rattle.std.specs.Prelude.{◌≡◌, ℕ, zero, suc, ◌+◌, ◌*◌, ◌/◌, ◌%◌, ◌<◌, ◌≤◌, Bool, false, ◌==◌, nat_lt, if◌then◌else◌, Option, Some, None}
+use Rattle.tables.specs.declared.entries.TheConstants.{TABLE_ENTRIES}
 use Rattle.dmatypes.specs.World.{Target}
 use Rattle.vtdbits.specs.Translation.{target}
 use Rattle.vtdbits.specs.declared.entry.SsEntry.{SsEntry}
@@ -11,11 +12,11 @@ Memory = ℕ → ℕ → ℕ → SsEntry
 -- how many pages a table of the level covers, and an entry of the level above
 unfoldable pub span : ℕ → ℕ
 span zero = 1
-span (suc l) = 512 * span l
+span (suc l) = TABLE_ENTRIES * span l
 
 -- the index of a page in a table whose entries cover tables of a level
 abbrev pub index_in : ℕ → ℕ → ℕ
-index_in l p = p / span l % 512
+index_in l p = p / span l % TABLE_ENTRIES
 
 -- ---- walks
 
@@ -95,4 +96,4 @@ entry_uses (LargeLeaf t) below = 0
 -- in how many places a tree has the frame as a table
 unfoldable pub uses : Memory → ℕ → ℕ → ℕ → ℕ
 uses m zero t f = 0
-uses m (suc l) t f = here t f + total (λ i. entry_uses (m (suc l) t i) (λ c. uses m l c f)) 512
+uses m (suc l) t f = here t f + total (λ i. entry_uses (m (suc l) t i) (λ c. uses m l c f)) TABLE_ENTRIES

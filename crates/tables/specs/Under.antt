@@ -1,5 +1,7 @@
 -- A change under one entry of a table.
 use Rattle.std.specs.Prelude.{◌≡◌, ◌≢◌, ℕ, suc, ◌+◌, ◌-◌, ◌/◌, ◌%◌, ◌<◌, ◌≤◌, List, []}
+use Rattle.dmatypes.specs.declared.page.TheConstants.{SPAN_PAGES}
+use Rattle.tables.specs.declared.entries.TheConstants.{TABLE_ENTRIES}
 use Rattle.dmatypes.specs.World.{Target}
 use Rattle.vtdbits.specs.Translation.{target}
 use Rattle.vtdbits.specs.declared.entry.SsEntry.TheVariants.{Table, Leaf, LargeLeaf}
@@ -7,27 +9,29 @@ use Rattle.tables.specs.Tree.{Memory, entry_uses, uses}
 use Rattle.tables.specs.Pool.{Pool, word, memory, occurs}
 
 -- what an entry of a table uses of a frame; l is the level below
-abbrev pub child : Memory → ℕ → ℕ → ℕ → ℕ → ℕ
-child m l t f i = entry_uses (m (suc l) t i) (λ c. uses m l c f)
+abbrev pub used_by_entry : Memory → ℕ → ℕ → ℕ → ℕ → ℕ
+used_by_entry m l t f i = entry_uses (m (suc l) t i) (λ c. uses m l c f)
 
 -- the same in a table of the level
 unfoldable pub used_at : Pool → ℕ → ℕ → ℕ → ℕ → ℕ
 used_at pool level t f i = entry_uses (memory pool.words level t i) (λ c. uses (memory pool.words) (level - 1) c f)
 
 -- only the entry at an index, what lies under it and free frames changed; l is the level below
-pub record Under (old new : Pool) (l t i : ℕ) (cut : List ℕ) : Type 0 where
+pub record ChangesUnder (old new : Pool) (l t i : ℕ) (cut : List ℕ) : Type 0 where
   pub account : (f : ℕ) →
-      child (memory new.words) l t f i + occurs f new.free + occurs f cut ≡ child (memory old.words) l t f i + occurs f old.free
+      used_by_entry (memory new.words) l t f i + occurs f new.free + occurs f cut
+      ≡ used_by_entry (memory old.words) l t f i + occurs f old.free
   pub fewer : (f : ℕ) → occurs f new.free ≤ occurs f old.free
-  pub others : (f k : ℕ) → k < 512 → f ≢ t → child (memory old.words) l t f i + occurs f old.free ≡ 0
+  pub others : (f k : ℕ) → k < TABLE_ENTRIES → f ≢ t → used_by_entry (memory old.words) l t f i + occurs f old.free ≡ 0
       → word new.words f k ≡ word old.words f k
-  pub row : (k : ℕ) → k < 512 → k ≢ i → word new.words t k ≡ word old.words t k
+  pub row : (k : ℕ) → k < TABLE_ENTRIES → k ≢ i → word new.words t k ≡ word old.words t k
   pub frames : new.frames ≡ old.frames
 
 -- the large leaf of a page is spelled by a table of 512 leaves, in a frame that was free
 pub record IsSplit (old new : Pool) (t i page c : ℕ) (x : Target) : Type 0 where
-  pub under : Under old new 1 t i []
+  pub under : ChangesUnder old new 1 t i []
   pub was : memory old.words 2 t i ≡ LargeLeaf x
   pub is : memory new.words 2 t i ≡ Table c
-  pub spelled : (p : ℕ) → p / 512 ≡ page / 512 → memory new.words 1 c (p % 512) ≡ Leaf (target (x.frame + p % 512) x.rights)
+  pub spelled : (p : ℕ) → p / SPAN_PAGES ≡ page / SPAN_PAGES
+      → memory new.words 1 c (p % SPAN_PAGES) ≡ Leaf (target (x.frame + p % SPAN_PAGES) x.rights)
   pub free : 0 < occurs c old.free

@@ -1,5 +1,6 @@
 -- What a root means, as a relation between a page, a frame and rights (second-stage paging).
 use Rattle.std.specs.Prelude.{◌≡◌, ℕ, zero, suc, ◌+◌, ◌%◌, ◌⊎◌}
+use Rattle.dmatypes.specs.declared.page.TheConstants.{SPAN_PAGES}
 use Rattle.vtdbits.specs.Entry.{Spells}
 use Rattle.vtdbits.specs.Translation.{target}
 use Rattle.vtdbits.specs.declared.entry.SsEntry.TheVariants.{Table, Leaf, LargeLeaf}
@@ -11,5 +12,6 @@ unfoldable pub Walks : (ℕ → ℕ → ℕ) → ℕ → ℕ → ℕ → ℕ →
 Walks words zero table page frame rights = ⊥
 Walks words (suc l) table page frame rights =
     Spells (suc l) (words table (index_in l page)) (Leaf (target frame rights))
-    ⊎ ((first : ℕ) × (Spells (suc l) (words table (index_in l page)) (LargeLeaf (target first rights)) × (frame ≡ first + page % 512)))
+    ⊎ ((first : ℕ)
+    × (Spells (suc l) (words table (index_in l page)) (LargeLeaf (target first rights)) × (frame ≡ first + page % SPAN_PAGES)))
     ⊎ ((below : ℕ) × (Spells (suc l) (words table (index_in l page)) (Table below) × Walks words l below page frame rights))

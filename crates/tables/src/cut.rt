@@ -4,15 +4,18 @@ ghost use Rattle.std.specs.Prelude.{◌≡◌, ◌+◌, ◌≤◌, [], ◌++◌,
 ghost use Rattle.tables.specs.Pieces.{cut_of, was_split};
 
 use crate::unmapping::Cleared;
-use dmatypes::Frame;
+use dmatypes::{Frame, MOST_PAGES, SPAN_PAGES};
 use std::marker::Model;
+
+/// The most tables that an unmap can cut: as many as its pages cover spans.
+const MOST_TABLES: usize = (MOST_PAGES / SPAN_PAGES) as usize;
 
 /// The table frames that an unmap cut, at most 8, and whether it split a leaf of 2 MiB. The frames are
 /// zeroed, and neither free nor used: [`crate::Pool::give_back`] makes them free.
 #[derive(Drop)]
 pub struct Cut {
     // The first ones count.
-    frames: [Frame; 8],
+    frames: [Frame; MOST_TABLES],
     count: usize,
     split: bool,
 }
@@ -20,12 +23,13 @@ pub struct Cut {
 impl Model for Cut {
     ghost use Rattle.std.specs.Prelude.{◌≡◌, ◌≤◌, length, take};
     ghost use Rattle.tables.specs.Cut.{Cut};
+    ghost use Rattle.tables.specs.declared.cut.TheConstants.{MOST_TABLES};
 
     ghost Value = { Cut };
 
     ghost view = { λ c. record { frames = take c.count c.frames; split = c.split } };
 
-    ghost invariant = { λ c. (c.count ≤ 8) × (length c.frames ≡ 8) };
+    ghost invariant = { λ c. (c.count ≤ MOST_TABLES) × (length c.frames ≡ MOST_TABLES) };
 }
 
 impl Cut {
@@ -35,7 +39,7 @@ impl Cut {
         ensures split { result.split ≡ false }
     {
         Cut {
-            frames: [blank; 8],
+            frames: [blank; MOST_TABLES],
             count: 0,
             split: false,
         }
@@ -43,7 +47,7 @@ impl Cut {
 
     // Notes what became of a piece.
     pub(crate) fn note(&mut self, cleared: Cleared)
-        requires { length self.old.frames + length (cut_of cleared) ≤ 8 }
+        requires { length self.old.frames + length (cut_of cleared) ≤ MOST_TABLES }
         ensures frames { self.new.frames ≡ self.old.frames ++ cut_of cleared }
         ensures split { self.new.split ≡ (self.old.split || was_split cleared) }
     {
@@ -60,7 +64,7 @@ impl Cut {
     /// The table frames.
     pub fn frames(&self) -> &[Frame]
         ensures all { result.now ≡ self.now.frames }
-        ensures few { length result.now ≤ 8 }
+        ensures few { length result.now ≤ MOST_TABLES }
     {
         &self.frames[..self.count]
     }

@@ -8,38 +8,50 @@ ghost use Rattle.tables.specs.Tree.{span, index_in, states, leaf_from, table_fro
 ghost use Rattle.tables.specs.Pool.{memory, IsTree};
 
 use crate::frames::Pool;
-use dmatypes::{Frame, Rights, SPAN_PAGES};
+use dmatypes::{FRAMES_END, Frame, Rights, SPAN_PAGES};
 use vtdbits::{SsEntry, Translation};
+
+/// Entries of a table, one a word of its frame; those of a lowest table have a page each (second-stage paging).
+pub const TABLE_ENTRIES: u64 = SPAN_PAGES;
+
+/// The most levels that trees can have here: those of 48-bit addresses (second-stage paging).
+pub(crate) const MOST_LEVELS: u64 = 4;
+
+/// The pages of such a tree are below it.
+pub(crate) const WIDEST_PAGES_END: u64 = TABLE_ENTRIES
+    * TABLE_ENTRIES
+    * TABLE_ENTRIES
+    * TABLE_ENTRIES;
 
 /// How many pages a table of a level covers, and an entry of the level above (second-stage paging): one at level 0.
 #[tactic(auto, unfolding(crate::specs::Tree::span))]
 pub fn span_of(level: u64) -> u64
-    requires { level ≤ 3 }
+    requires { level < MOST_LEVELS }
     ensures exact { result ≡ span level }
     ensures some { 0 < result }
-    ensures few { result ≤ span 3 }
+    ensures few { result ≤ span (MOST_LEVELS - 1) }
 {
     match level {
         0 => 1,
-        1 => SPAN_PAGES,
-        2 => SPAN_PAGES * SPAN_PAGES,
-        _ => SPAN_PAGES * SPAN_PAGES * SPAN_PAGES,
+        1 => TABLE_ENTRIES,
+        2 => TABLE_ENTRIES * TABLE_ENTRIES,
+        _ => TABLE_ENTRIES * TABLE_ENTRIES * TABLE_ENTRIES,
     }
 }
 
 /// The index of a page's entry in a table of a level (second-stage paging).
 pub fn index_of(level: u64, page: u64) -> u64
     requires low { 1 ≤ level }
-    requires high { level ≤ 4 }
+    requires high { level ≤ MOST_LEVELS }
     ensures exact { result ≡ index_in (level - 1) page }
-    ensures inside { result < SPAN_PAGES }
+    ensures inside { result < TABLE_ENTRIES }
 {
-    page / span_of(level - 1) % SPAN_PAGES
+    page / span_of(level - 1) % TABLE_ENTRIES
 }
 
 /// The entry of a table at an index: absent where the word spells none, and where the pool doesn't have the frame.
 pub fn read_entry(pool: &Pool, level: u64, table: Frame, index: u64) -> SsEntry
-    requires index { index < SPAN_PAGES }
+    requires index { index < TABLE_ENTRIES }
     ensures is { memory pool.now.words level table index ≡ result }
     ensures stands { MayStandAt level result }
 {
@@ -49,7 +61,7 @@ pub fn read_entry(pool: &Pool, level: u64, table: Frame, index: u64) -> SsEntry
 /// The entry of a table of the pool at an index: `read_entry` without its test, for the tables of a tree.
 pub(crate) fn entry(pool: &Pool, level: u64, table: Frame, index: u64) -> SsEntry
     requires table { table < pool.now.frames }
-    requires index { index < SPAN_PAGES }
+    requires index { index < TABLE_ENTRIES }
     ensures is { memory pool.now.words level table index ≡ result }
     ensures stands { MayStandAt level result }
 {
@@ -58,7 +70,7 @@ pub(crate) fn entry(pool: &Pool, level: u64, table: Frame, index: u64) -> SsEntr
 
 /// The word of a leaf of one page.
 pub(crate) fn leaf_word(frame: u64, rights: Rights) -> u64
-    requires frame { frame < 2 ^ 24 }
+    requires frame { frame < FRAMES_END }
     requires rights { AreRights (bits_of rights) }
     ensures { look 1 result ≡ SsEntry.Leaf (target frame (bits_of rights)) }
 {
@@ -69,7 +81,7 @@ pub(crate) fn leaf_word(frame: u64, rights: Rights) -> u64
 #[inline(always)]
 pub(crate) fn find(pool: &Pool, level: u64, table: Frame, page: u64) -> Option<Translation>
     requires low { 1 ≤ level }
-    requires high { level ≤ 4 }
+    requires high { level ≤ MOST_LEVELS }
     requires tree { IsTree pool.now level table }
     ensures { result ≡ states (memory pool.now.words) level table page }
 {
@@ -84,7 +96,7 @@ pub(crate) fn find(pool: &Pool, level: u64, table: Frame, page: u64) -> Option<T
             }
             SsEntry::Leaf(leaf) => return Some(leaf),
             SsEntry::LargeLeaf(leaf) => {
-                let frame = leaf.frame().number() + page % 512;
+                let frame = leaf.frame().number() + page % SPAN_PAGES;
                 return Some(Translation::new(Frame::new(frame).unwrap(), leaf.rights()));
             }
         }
@@ -101,7 +113,7 @@ pub(crate) fn table_at(
     wanted: u64,
 ) -> Option<Frame>
     requires low { 1 ≤ level }
-    requires high { level ≤ 4 }
+    requires high { level ≤ MOST_LEVELS }
     requires wanted { 1 ≤ wanted }
     requires tree { IsTree pool.now level table }
     ensures { result ≡ table_from (memory pool.now.words) level table page wanted }
@@ -118,7 +130,7 @@ pub(crate) fn table_at(
 /// Whether the page's leaf stands for more than one page.
 pub(crate) fn is_in_large_leaf(pool: &Pool, level: u64, table: Frame, page: u64) -> bool
     requires low { 1 ≤ level }
-    requires high { level ≤ 4 }
+    requires high { level ≤ MOST_LEVELS }
     requires tree { IsTree pool.now level table }
     ensures { result ≡ is_large_leaf (leaf_from (memory pool.now.words) level table page) }
 {

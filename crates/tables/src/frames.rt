@@ -5,18 +5,20 @@ ghost use Rattle.dmatypes.specs.Rights.{AreRights, bits_of};
 ghost use Rattle.vtdbits.specs.Entry.{look};
 ghost use Rattle.vtdbits.specs.Translation.{target};
 ghost use Rattle.tables.specs.Tree.{here};
-ghost use Rattle.tables.specs.Pool.{word, occurs, IsZeroed, IsWrite, IsRest, IsPool};
+ghost use Rattle.tables.specs.Pool.{word, occurs, IsZeroed, IsWrite, KeepsOtherWords, IsPool};
 
-use crate::entries::leaf_word;
-use dmatypes::{Frame, Rights};
+use crate::entries::{TABLE_ENTRIES, leaf_word};
+use dmatypes::{FRAMES_END, Frame, Rights};
 use std::alloc::{AllocError, Global};
 use std::marker::Model;
 use vtdbits::SsEntry;
 
-/// How many words a table frame has: 4 KiB.
-pub const WORDS: u64 = 512;
+/// How few and how many frames a pool can have (own).
+const FEWEST_FRAMES: u64 = 16;
 
-/// Frames of 512 words for tables. Some of them are free, and these are zeroed; the others are of trees, or
+const MOST_FRAMES: u64 = 4096;
+
+/// Frames for tables, of a word for each entry. Some of them are free, and these are zeroed; the others are of trees, or
 /// were cut from one and not given back.
 #[derive(Drop)]
 pub struct Pool {
@@ -34,21 +36,23 @@ impl Model for Pool {
 
     ghost view = { λ a. record { words = a.words.items; free = take a.free a.slots.items; frames = length a.slots.items } };
 
-    ghost invariant = { λ a. IsPool (record { words = a.words.items; free = take a.free a.slots.items; frames = length a.slots.items }) × (a.free ≤ length a.slots.items) };
+    ghost invariant = { λ a.
+        IsPool (record { words = a.words.items; free = take a.free a.slots.items; frames = length a.slots.items })
+        × (a.free ≤ length a.slots.items) };
 }
 
 impl Pool {
     /// A pool of so many frames, all of them free.
     pub fn new(alloc: Global, frames: u64) -> Result<Pool, AllocError>
-        requires some { 16 ≤ frames }
-        requires few { frames ≤ 4096 }
+        requires some { FEWEST_FRAMES ≤ frames }
+        requires few { frames ≤ MOST_FRAMES }
         ensures pool { IfOk result (λ pool. IsPool pool) }
         ensures frames { IfOk result (λ pool. pool.frames ≡ frames) }
         ensures free { IfOk result (λ pool. (f : ℕ) → f < frames → occurs f pool.free ≡ 1) }
         ensures zeroed { IfOk result (λ pool. (f : ℕ) → f < frames → IsZeroed pool.words f) }
         ensures count { IfOk result (λ pool. length pool.free ≡ frames) }
     {
-        let words = vec![in alloc; 0u64; (frames * WORDS) as usize]?;
+        let words = vec![in alloc; 0u64; (frames * TABLE_ENTRIES) as usize]?;
         let mut slots = Vec::new(alloc);
         for number in 0..frames {
             slots.push(Frame::new(number).unwrap())?;
@@ -77,10 +81,10 @@ impl Pool {
 
     /// The word of a frame at an index; 0 in a frame that the pool doesn't have.
     pub fn read(&self, frame: Frame, index: u64) -> u64
-        requires { index < 512 }
+        requires { index < TABLE_ENTRIES }
         ensures { result ≡ word self.now.words frame index }
     {
-        let place = (frame.number() * WORDS + index) as usize;
+        let place = (frame.number() * TABLE_ENTRIES + index) as usize;
         if place < self.words.len() {
             self.words[place]
         } else {
@@ -91,37 +95,37 @@ impl Pool {
     /// The word of a frame of the pool at an index: `read` without its test, for the tables of a tree.
     pub(crate) fn word_of(&self, frame: Frame, index: u64) -> u64
         requires frame { frame < self.now.frames }
-        requires index { index < 512 }
+        requires index { index < TABLE_ENTRIES }
         ensures { result ≡ word self.now.words frame index }
     {
-        self.words[(frame.number() * WORDS + index) as usize]
+        self.words[(frame.number() * TABLE_ENTRIES + index) as usize]
     }
 
     /// Sets a word of a frame that isn't free.
     pub(crate) fn write(&mut self, frame: Frame, index: u64, value: u64)
         requires frame { frame < self.old.frames }
-        requires index { index < 512 }
+        requires index { index < TABLE_ENTRIES }
         requires taken { occurs frame self.old.free ≡ 0 }
         ensures wrote { IsWrite self.old.words self.new.words frame index value }
         ensures free { self.new.free ≡ self.old.free }
         ensures frames { self.new.frames ≡ self.old.frames }
         ensures pool { IsPool self.new }
     {
-        self.words[(frame.number() * WORDS + index) as usize] = value;
+        self.words[(frame.number() * TABLE_ENTRIES + index) as usize] = value;
     }
 
     /// Clears so many words of a frame that isn't free, from an index on.
     pub(crate) fn clear(&mut self, frame: Frame, from: u64, count: u64)
         requires frame { frame < self.old.frames }
-        requires within { from + count ≤ 512 }
+        requires within { from + count ≤ TABLE_ENTRIES }
         requires taken { occurs frame self.old.free ≡ 0 }
         ensures cleared { (k : ℕ) → k < count → word self.new.words frame (from + k) ≡ 0 }
-        ensures rest { IsRest self.old.words self.new.words frame from count }
+        ensures rest { KeepsOtherWords self.old.words self.new.words frame from count }
         ensures free { self.new.free ≡ self.old.free }
         ensures frames { self.new.frames ≡ self.old.frames }
         ensures pool { IsPool self.new }
     {
-        let start = (frame.number() * WORDS + from) as usize;
+        let start = (frame.number() * TABLE_ENTRIES + from) as usize;
         self.words[start..start + count as usize].fill(0);
     }
 
@@ -136,17 +140,18 @@ impl Pool {
         rights: Rights,
     )
         requires frame { frame < self.old.frames }
-        requires within { from + count ≤ 512 }
+        requires within { from + count ≤ TABLE_ENTRIES }
         requires taken { occurs frame self.old.free ≡ 0 }
-        requires frames { first + count ≤ 2 ^ 24 }
+        requires frames { first + count ≤ FRAMES_END }
         requires rights { AreRights (bits_of rights) }
-        ensures leaves { (k : ℕ) → k < count → look 1 (word self.new.words frame (from + k)) ≡ SsEntry.Leaf (target (first + k) (bits_of rights)) }
-        ensures rest { IsRest self.old.words self.new.words frame from count }
+        ensures leaves { (k : ℕ) → k < count
+            → look 1 (word self.new.words frame (from + k)) ≡ SsEntry.Leaf (target (first + k) (bits_of rights)) }
+        ensures rest { KeepsOtherWords self.old.words self.new.words frame from count }
         ensures free { self.new.free ≡ self.old.free }
         ensures frames { self.new.frames ≡ self.old.frames }
         ensures pool { IsPool self.new }
     {
-        let start = (frame.number() * WORDS + from) as usize;
+        let start = (frame.number() * TABLE_ENTRIES + from) as usize;
         spell_leaves(
             &mut self.words[start..start + count as usize],
             first,
@@ -204,10 +209,11 @@ impl Pool {
 
 /// Spells leaves of one page each: host frames that follow one another from a first one on.
 fn spell_leaves(words: &mut [u64], first: u64, rights: Rights)
-    requires frames { first + length words.old ≤ 2 ^ 24 }
+    requires frames { first + length words.old ≤ FRAMES_END }
     requires rights { AreRights (bits_of rights) }
     ensures length { length words.new ≡ length words.old }
-    ensures leaves { (k : ℕ) → k < length words.old → look 1 (slice_index words.new k) ≡ SsEntry.Leaf (target (first + k) (bits_of rights)) }
+    ensures leaves { (k : ℕ) → k < length words.old
+        → look 1 (slice_index words.new k) ≡ SsEntry.Leaf (target (first + k) (bits_of rights)) }
 {
     for (k, word) in words.iter_mut().enumerate() {
         *word = leaf_word(first + k as u64, rights);

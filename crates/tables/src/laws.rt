@@ -7,7 +7,7 @@ ghost use Rattle.vtdbits.specs.declared.entry.SsEntry.TheVariants.{Table};
 ghost use Rattle.tables.specs.Tree.{Memory, span, states};
 ghost use Rattle.tables.specs.Pool.{word, memory};
 ghost use Rattle.tables.specs.Walks.{Walks};
-ghost use Rattle.tables.specs.Lacks.{lacks};
+ghost use Rattle.tables.specs.Lacks.{tables_lacking};
 ghost use Rattle.tables.specs.ByEntries.{entry_lacks};
 
 /// A tree states a frame and rights of a page exactly where the walk along its words relates them.
@@ -21,5 +21,5 @@ pub fn walks_are_stated()
 pub fn lacks_counts_entries()
     ensures { (m : Memory) (level root : ℕ) (large : ℕ → Bool) (from to : ℕ) → from < to → from / span level ≡ (to - 1) / span level
         → ((p : ℕ) → from ≤ p → p < to → states m level root p ≡ None)
-        → lacks m level root large from to ≡ entry_lacks m level (Table root) large from to (from / span level * span level) }
+        → tables_lacking m level root large from to ≡ entry_lacks m level (Table root) large from to (from / span level * span level) }
 {}

@@ -17,7 +17,7 @@ mod trees;
 mod unmapping;
 
 pub use cut::Cut;
-pub use entries::{index_of, read_entry, span_of};
+pub use entries::{TABLE_ENTRIES, index_of, read_entry, span_of};
 pub use error::NoFrames;
 pub use frames::Pool;
 pub use trees::Tree;

@@ -1,6 +1,7 @@
 //! Pages mapped to host frames, in trees of up to 4 levels, and so of up to 2^36 pages.
 
-ghost use Rattle.std.specs.Prelude.{◌≡◌, ℕ, Bool, ◌+◌, ◌-◌, ◌*◌, ◌/◌, ◌%◌, ◌^◌, ◌<◌, ◌≤◌, [], length, if◌then◌else◌, false, None, IsSome, IsErr, OnOk, OnErr, true, ◌↔◌};
+ghost use Rattle.std.specs.Prelude.{◌≡◌, ℕ, Bool, ◌+◌, ◌-◌, ◌*◌, ◌/◌, ◌%◌, ◌^◌, ◌<◌, ◌≤◌, [], length, if◌then◌else◌, false, None, IsSome};
+ghost use Rattle.std.specs.Prelude.{IsErr, OnOk, OnErr, true, ◌↔◌};
 ghost use Rattle.dmatypes.specs.Conditions.{total_pages};
 ghost use Rattle.dmatypes.specs.Rights.{AreRights, bits_of};
 ghost use Rattle.dmatypes.specs.World.{placed};
@@ -8,29 +9,31 @@ ghost use Rattle.tables.specs.Tree.{Memory, span, index_in, states, leaf_from, t
 ghost use Rattle.tables.specs.Pool.{memory, occurs, IsPool, IsTree, IsZeroed};
 ghost use Rattle.tables.specs.Changes.{TakesAndGivesFrames, Maps, MakesTables};
 ghost use Rattle.tables.specs.Segments.{is_large_at, AreSegments};
-ghost use Rattle.tables.specs.Lacks.{lacking, lacks, lacks_at, map_lacks, sum_spans};
-ghost use Rattle.tables.specs.Pieces.{says, is_large, IsRun, leaf_at};
+ghost use Rattle.tables.specs.Lacks.{lacks_table, tables_lacking, tables_lacking_at, map_lacks, sum_spans};
+ghost use Rattle.tables.specs.Pieces.{piece_states, is_large, WritesEntries, leaf_at};
 
-use crate::entries::{entry, index_of, span_of, table_at};
+use crate::entries::{
+    MOST_LEVELS, TABLE_ENTRIES, WIDEST_PAGES_END, entry, index_of, span_of, table_at,
+};
 use crate::error::NoFrames;
 use crate::frames::Pool;
 use crate::piece::Piece;
 use crate::segments::is_large_at;
-use dmatypes::{Frame, Rights, Segment};
+use dmatypes::{Frame, Rights, SPAN_PAGES, Segment};
 use vtdbits::{LargeTranslation, SsEntry};
 
 /// Writes the leaves of a piece in a table of level 1.
 pub fn write_run(pool: &mut Pool, table: Frame, piece: Piece)
     requires table { table < pool.old.frames }
     requires taken { occurs table pool.old.free ≡ 0 }
-    ensures run { IsRun pool.old.words pool.new.words table piece.from piece.to (leaf_at piece) }
+    ensures run { WritesEntries pool.old.words pool.new.words table piece.from piece.to (leaf_at piece) }
     ensures free { pool.new.free ≡ pool.old.free }
     ensures frames { pool.new.frames ≡ pool.old.frames }
     ensures pool { IsPool pool.new }
 {
     pool.write_leaves(
         table,
-        piece.from % 512,
+        piece.from % SPAN_PAGES,
         piece.to - piece.from,
         piece.frame,
         piece.rights,
@@ -40,9 +43,9 @@ pub fn write_run(pool: &mut Pool, table: Frame, piece: Piece)
 /// A new table under an absent entry.
 fn grow(pool: &mut Pool, level: u64, table: Frame, index: u64) -> Frame
     requires low { 2 ≤ level }
-    requires high { level ≤ 4 }
+    requires high { level ≤ MOST_LEVELS }
     requires tree { IsTree pool.old level table }
-    requires index { index < 512 }
+    requires index { index < TABLE_ENTRIES }
     requires absent { memory pool.old.words level table index ≡ SsEntry.Absent }
     requires room { 0 < length pool.old.free }
     ensures moves { TakesAndGivesFrames pool.old pool.new level table [] }
@@ -62,17 +65,18 @@ fn grow(pool: &mut Pool, level: u64, table: Frame, index: u64) -> Frame
 /// Maps a piece: one walk down, with the tables that it lacks, and one run of words or one leaf of 512 pages.
 pub fn map_piece(pool: &mut Pool, level: u64, table: Frame, piece: &Piece)
     requires low { 1 ≤ level }
-    requires high { level ≤ 4 }
+    requires high { level ≤ MOST_LEVELS }
     requires tree { IsTree pool.old level table }
     requires absent { (p : ℕ) → piece.now.from ≤ p → p < piece.now.to → leaf_from (memory pool.old.words) level table p ≡ None }
-    requires room { lacks_at (memory pool.old.words) level table (is_large piece.now) piece.now.from ≤ length pool.old.free }
+    requires room { tables_lacking_at (memory pool.old.words) level table (is_large piece.now) piece.now.from ≤ length pool.old.free }
     ensures moves { TakesAndGivesFrames pool.old pool.new level table [] }
-    ensures maps { Maps pool.old pool.new level table piece.now.from piece.now.to (says piece.now) }
+    ensures maps { Maps pool.old pool.new level table piece.now.from piece.now.to (piece_states piece.now) }
     ensures made { (w : ℕ) → 1 ≤ w → w < level → (w ≡ 1 → is_large piece.now ≡ false)
         → IsSome (table_from (memory pool.new.words) level table piece.now.from w) }
     ensures spared { 1 < level → is_large piece.now ≡ true
-        → table_from (memory pool.new.words) level table piece.now.from 1 ≡ table_from (memory pool.old.words) level table piece.now.from 1 }
-    ensures count { length pool.new.free + lacks_at (memory pool.old.words) level table (is_large piece.now) piece.now.from
+        → table_from (memory pool.new.words) level table piece.now.from 1
+        ≡ table_from (memory pool.old.words) level table piece.now.from 1 }
+    ensures count { length pool.new.free + tables_lacking_at (memory pool.old.words) level table (is_large piece.now) piece.now.from
         ≡ length pool.old.free }
     ensures pool { IsPool pool.new }
 {
@@ -103,7 +107,7 @@ fn write_large(pool: &mut Pool, table: Frame, index: u64, piece: &Piece)
     requires absent { memory pool.old.words 2 table index ≡ SsEntry.Absent }
     requires large { is_large piece.now ≡ true }
     ensures moves { TakesAndGivesFrames pool.old pool.new 2 table [] }
-    ensures maps { Maps pool.old pool.new 2 table piece.now.from piece.now.to (says piece.now) }
+    ensures maps { Maps pool.old pool.new 2 table piece.now.from piece.now.to (piece_states piece.now) }
     ensures tables { (p w : ℕ) → table_from (memory pool.new.words) 2 table p w ≡ table_from (memory pool.old.words) 2 table p w }
     ensures free { pool.new.free ≡ pool.old.free }
     ensures pool { IsPool pool.new }
@@ -125,11 +129,11 @@ fn lacks_table(
 ) -> bool
     requires low { 1 ≤ wanted }
     requires lower { wanted < level }
-    requires high { level ≤ 4 }
+    requires high { level ≤ MOST_LEVELS }
     requires tree { IsTree pool.now level root }
     requires segments { AreSegments segments.now }
-    requires within { first + total_pages segments.now ≤ 2 ^ 36 }
-    ensures { (if result then 1 else 0) ≡ lacking (memory pool.now.words) level root (is_large_at segments.now first page) wanted page }
+    requires within { first + total_pages segments.now ≤ WIDEST_PAGES_END }
+    ensures { (if result then 1 else 0) ≡ lacks_table (memory pool.now.words) level root (is_large_at segments.now first page) wanted page }
 {
     if table_at(pool, level, root, page, wanted).is_some() {
         return false;
@@ -149,14 +153,15 @@ fn spans_lacking(
 ) -> u64
     requires low { 1 ≤ wanted }
     requires lower { wanted < level }
-    requires high { level ≤ 4 }
+    requires high { level ≤ MOST_LEVELS }
     requires tree { IsTree pool.now level root }
     requires segments { AreSegments segments.now }
     requires some { first < end }
     requires end { end ≡ first + total_pages segments.now }
-    requires within { end ≤ 2 ^ 36 }
-    ensures value { result ≡ sum_spans (λ p. lacking (memory pool.now.words) level root (is_large_at segments.now first p) wanted p) wanted first end }
-    ensures small { result ≤ 2 ^ 36 }
+    requires within { end ≤ WIDEST_PAGES_END }
+    ensures value { result
+        ≡ sum_spans (λ p. lacks_table (memory pool.now.words) level root (is_large_at segments.now first p) wanted p) wanted first end }
+    ensures small { result ≤ WIDEST_PAGES_END }
 {
     let width = span_of(wanted);
     let mut count = 0;
@@ -179,13 +184,13 @@ fn tables_lacking(
     end: u64,
 ) -> u64
     requires low { 1 ≤ level }
-    requires high { level ≤ 4 }
+    requires high { level ≤ MOST_LEVELS }
     requires tree { IsTree pool.now level root }
     requires segments { AreSegments segments.now }
     requires some { first < end }
     requires end { end ≡ first + total_pages segments.now }
-    requires within { end ≤ 2 ^ 36 }
-    ensures { result ≡ lacks (memory pool.now.words) level root (is_large_at segments.now first) first end }
+    requires within { end ≤ WIDEST_PAGES_END }
+    ensures { result ≡ tables_lacking (memory pool.now.words) level root (is_large_at segments.now first) first end }
 {
     let mut count = 0;
     for wanted in 1..level {
@@ -198,10 +203,10 @@ fn tables_lacking(
 /// meet.
 fn most_lacking(level: u64, first: u64, end: u64) -> u64
     requires low { 1 ≤ level }
-    requires high { level ≤ 4 }
+    requires high { level ≤ MOST_LEVELS }
     requires some { first < end }
-    requires within { end ≤ 2 ^ 36 }
-    ensures { (m : Memory) (root : ℕ) (large : ℕ → Bool) → lacks m level root large first end ≤ result }
+    requires within { end ≤ WIDEST_PAGES_END }
+    ensures { (m : Memory) (root : ℕ) (large : ℕ → Bool) → tables_lacking m level root large first end ≤ result }
 {
     let mut most = 0;
     for wanted in 1..level {
@@ -222,11 +227,11 @@ fn map_pieces(
     rights: Rights,
 )
     requires low { 1 ≤ level }
-    requires high { level ≤ 4 }
+    requires high { level ≤ MOST_LEVELS }
     requires tree { IsTree pool.old level root }
     requires segments { AreSegments segments.now }
     requires some { 0 < total_pages segments.now }
-    requires within { first + total_pages segments.now ≤ 2 ^ 36 }
+    requires within { first + total_pages segments.now ≤ WIDEST_PAGES_END }
     requires one_span { first / span level ≡ (first + total_pages segments.now - 1) / span level }
     requires rights { AreRights (bits_of rights) }
     requires absent { (p : ℕ) → first ≤ p → p < first + total_pages segments.now → leaf_from (memory pool.old.words) level root p ≡ None }
@@ -255,19 +260,21 @@ pub fn map_segments(
     rights: Rights,
 ) -> Result<(), NoFrames>
     requires low { 1 ≤ level }
-    requires high { level ≤ 4 }
+    requires high { level ≤ MOST_LEVELS }
     requires tree { IsTree pool.old level root }
     requires segments { AreSegments segments.now }
     requires some { 0 < total_pages segments.now }
-    requires within { first + total_pages segments.now ≤ 2 ^ 36 }
+    requires within { first + total_pages segments.now ≤ WIDEST_PAGES_END }
     requires one_span { first / span level ≡ (first + total_pages segments.now - 1) / span level }
     requires rights { AreRights (bits_of rights) }
     requires absent { (p : ℕ) → first ≤ p → p < first + total_pages segments.now → leaf_from (memory pool.old.words) level root p ≡ None }
     ensures refused { IsErr result ↔ (length pool.old.free < map_lacks pool.old level root segments.now first) }
     ensures unchanged { OnErr result (pool.new ≡ pool.old) }
     ensures moves { TakesAndGivesFrames pool.old pool.new level root [] }
-    ensures maps { OnOk result (Maps pool.old pool.new level root first (first + total_pages segments.now) (placed segments.now first (bits_of rights))) }
-    ensures makes { OnOk result (MakesTables pool.old pool.new level root first (first + total_pages segments.now) (is_large_at segments.now first)) }
+    ensures maps { OnOk result
+        (Maps pool.old pool.new level root first (first + total_pages segments.now) (placed segments.now first (bits_of rights))) }
+    ensures makes { OnOk result
+        (MakesTables pool.old pool.new level root first (first + total_pages segments.now) (is_large_at segments.now first)) }
     ensures count { OnOk result (length pool.new.free + map_lacks pool.old level root segments.now first ≡ length pool.old.free) }
     ensures pool { IsPool pool.new }
 {

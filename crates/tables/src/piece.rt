@@ -2,9 +2,12 @@
 
 ghost use Rattle.std.specs.Prelude.{◌≡◌, ◌+◌, ◌-◌, ◌/◌, ◌^◌, ◌<◌, ◌≤◌};
 ghost use Rattle.dmatypes.specs.Rights.{AreRights, bits_of};
+ghost use Rattle.dmatypes.specs.declared.page.TheConstants.{FRAMES_END, SPAN_PAGES};
+ghost use Rattle.tables.specs.declared.entries.TheConstants.{WIDEST_PAGES_END};
 
+use crate::entries::WIDEST_PAGES_END;
 use crate::segments::rest_at;
-use dmatypes::{Rights, Segment};
+use dmatypes::{FRAMES_END, Rights, SPAN_PAGES, Segment};
 
 /// Pages in one span of 512, and the host frames from a first one on that they are to be mapped to.
 #[derive(Clone, Copy)]
@@ -14,9 +17,9 @@ pub struct Piece {
     pub frame: u64,
     pub rights: Rights,
     ghost some: { from < to },
-    ghost one_span: { from / 512 ≡ (to - 1) / 512 },
-    ghost pages: { to ≤ 2 ^ 36 },
-    ghost frames: { frame + (to - from) ≤ 2 ^ 24 },
+    ghost one_span: { from / SPAN_PAGES ≡ (to - 1) / SPAN_PAGES },
+    ghost pages: { to ≤ WIDEST_PAGES_END },
+    ghost frames: { frame + (to - from) ≤ FRAMES_END },
     ghost may: { AreRights (bits_of rights) },
 }
 
@@ -25,24 +28,26 @@ impl Piece {
     ghost use Rattle.dmatypes.specs.Conditions.{total_pages};
     ghost use Rattle.dmatypes.specs.World.{placed};
     ghost use Rattle.tables.specs.Segments.{AreSegments, is_large_at};
-    ghost use Rattle.tables.specs.Pieces.{says, is_large};
+    ghost use Rattle.tables.specs.Pieces.{piece_states, is_large};
 
     /// The piece that begins at a page of the segments, which follow one another from a first page on: up to
     /// the end of the page's segment or of its span.
     pub fn at(segments: &[Segment], first: u64, page: u64, rights: Rights) -> Option<Piece>
         requires segments { AreSegments segments.now }
-        requires within { first + total_pages segments.now ≤ 2 ^ 36 }
+        requires within { first + total_pages segments.now ≤ WIDEST_PAGES_END }
         requires after { first ≤ page }
         requires rights { AreRights (bits_of rights) }
         ensures none { IfNone result (first + total_pages segments.now ≤ page) }
         ensures page { IfSome result (λ x. x.from ≡ page) }
         ensures within { IfSome result (λ x. x.to ≤ first + total_pages segments.now) }
-        ensures placed { IfSome result (λ x. (p : ℕ) → page ≤ p → p < x.to → placed segments.now first (bits_of rights) p ≡ says x p) }
+        ensures placed { IfSome result
+            (λ x. (p : ℕ) → page ≤ p → p < x.to → placed segments.now first (bits_of rights) p ≡ piece_states x p) }
         ensures large { IfSome result (λ x. is_large x ≡ is_large_at segments.now first page) }
-        ensures inner { IfSome result (λ x. 0 < x.to % 512 → is_large_at segments.now first (512 * (x.to / 512)) ≡ false) }
+        ensures inner { IfSome result
+            (λ x. 0 < x.to % SPAN_PAGES → is_large_at segments.now first (SPAN_PAGES * (x.to / SPAN_PAGES)) ≡ false) }
     {
         let rest = rest_at(segments, first, page)?;
-        let to = (page + rest.pages).min((page / 512 + 1) * 512);
+        let to = (page + rest.pages).min((page / SPAN_PAGES + 1) * SPAN_PAGES);
         Some(Piece {
             from: page,
             to,
@@ -55,6 +60,8 @@ impl Piece {
     pub fn is_large(self) -> bool
         ensures { result ≡ is_large self }
     {
-        self.from % 512 == 0 && self.to - self.from == 512 && self.frame % 512 == 0
+        self.from % SPAN_PAGES == 0
+            && self.to - self.from == SPAN_PAGES
+            && self.frame % SPAN_PAGES == 0
     }
 }

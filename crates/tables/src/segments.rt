@@ -4,13 +4,14 @@ ghost use Rattle.std.specs.Prelude.{◌≡◌, ◌+◌, ◌<◌, ◌≤◌, ◌^
 ghost use Rattle.dmatypes.specs.Conditions.{total_pages};
 ghost use Rattle.tables.specs.Segments.{rest_at, is_large_at, AreSegments};
 
-use dmatypes::Segment;
+use crate::entries::WIDEST_PAGES_END;
+use dmatypes::{SPAN_PAGES, Segment};
 
 /// What is left of a page's segment from that page on, where the segments follow one another from a first
 /// page on.
 pub fn rest_at(segments: &[Segment], first: u64, page: u64) -> Option<Segment>
     requires segments { AreSegments segments.now }
-    requires within { first + total_pages segments.now ≤ 2 ^ 36 }
+    requires within { first + total_pages segments.now ≤ WIDEST_PAGES_END }
     ensures { result ≡ rest_at segments.now first page }
 {
     let mut start = first;
@@ -30,14 +31,14 @@ pub fn rest_at(segments: &[Segment], first: u64, page: u64) -> Option<Segment>
 /// Whether a leaf of 512 pages begins at the page, where no table is there.
 pub fn is_large_at(segments: &[Segment], first: u64, page: u64) -> bool
     requires segments { AreSegments segments.now }
-    requires within { first + total_pages segments.now ≤ 2 ^ 36 }
+    requires within { first + total_pages segments.now ≤ WIDEST_PAGES_END }
     ensures { result ≡ is_large_at segments.now first page }
 {
-    if page % 512 != 0 {
+    if page % SPAN_PAGES != 0 {
         return false;
     }
     match rest_at(segments, first, page) {
-        Some(rest) => rest.frame % 512 == 0 && rest.pages >= 512,
+        Some(rest) => rest.frame % SPAN_PAGES == 0 && rest.pages >= SPAN_PAGES,
         None => false,
     }
 }

@@ -3,13 +3,13 @@
 ghost use Rattle.std.specs.Prelude.{◌≡◌, ◌+◌, ◌<◌, ◌≤◌, ◌^◌};
 
 use crate::{Pool, Tree};
-use dmatypes::{Frame, Page, PageRange, Rights};
+use dmatypes::{FRAMES_END, Frame, MOST_PAGES, Page, PageRange, Rights};
 use std::test::Fail;
 
 // A few pages before the interrupt address range.
 fn pages(first: u64, pages: u64) -> PageRange
     requires some { 1 ≤ pages }
-    requires few { pages ≤ 4096 }
+    requires few { pages ≤ MOST_PAGES }
     requires first { 1 ≤ first }
     requires low { first + pages ≤ 0x1000 }
     ensures { result ≡ record { first = first; pages = pages } }
@@ -18,7 +18,7 @@ fn pages(first: u64, pages: u64) -> PageRange
 }
 
 fn frame(number: u64) -> Frame
-    requires { number < 2 ^ 24 }
+    requires { number < FRAMES_END }
     ensures { result ≡ number }
 {
     Frame::new(number).unwrap()

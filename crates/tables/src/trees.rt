@@ -1,6 +1,7 @@
 //! Trees of tables in a pool.
 
-ghost use Rattle.std.specs.Prelude.{◌≡◌, ◌↔◌, ℕ, ◌+◌, ◌-◌, ◌/◌, ◌^◌, ◌<◌, ◌≤◌, ◌⊎◌, [], false, Some, None, length, IsErr, IsSome, IfOk, OnOk, OnErr, IfSome, IfNone, IsTrue};
+ghost use Rattle.std.specs.Prelude.{◌≡◌, ◌↔◌, ℕ, ◌+◌, ◌-◌, ◌/◌, ◌^◌, ◌<◌, ◌≤◌, ◌⊎◌, [], false, Some, None, length, IsErr, IsSome, IfOk};
+ghost use Rattle.std.specs.Prelude.{OnOk, OnErr, IfSome, IfNone, IsTrue};
 ghost use Rattle.dmatypes.specs.Conditions.{total_pages};
 ghost use Rattle.dmatypes.specs.Page.{IsPageRange, IsWithin};
 ghost use Rattle.dmatypes.specs.Rights.{AreRights, bits_of};
@@ -8,20 +9,17 @@ ghost use Rattle.dmatypes.specs.World.{placed};
 ghost use Rattle.vtdbits.specs.Translation.{target};
 ghost use Rattle.tables.specs.Tree.{here, span, states, leaf_from, table_from, uses, IsLeafAt, IsTableAt, Found};
 ghost use Rattle.tables.specs.Pool.{word, memory, occurs, IsPool, IsTree};
-ghost use Rattle.tables.specs.Changes.{TakesAndGivesFrames, Maps, MakesTables, Unmaps, IsApart, Stays};
+ghost use Rattle.tables.specs.Changes.{TakesAndGivesFrames, Maps, MakesTables, Unmaps, KeepsLeaves, KeepsTables, KeepsOthers};
 ghost use Rattle.tables.specs.Segments.{AreSegments, is_large_at, one_segment};
 ghost use Rattle.tables.specs.Lacks.{map_lacks, splits};
 
 use crate::cut::Cut;
-use crate::entries::find;
+use crate::entries::{TABLE_ENTRIES, find};
 use crate::error::NoFrames;
 use crate::frames::Pool;
 use crate::mapping::map_segments;
 use crate::unmapping::{leaves_splitting, release, spans_met, unmap_pieces};
-use dmatypes::{Frame, Page, PageRange, Rights, Segment};
-
-/// The levels of a tree of 39-bit addresses: its root is of level 3.
-const LEVELS: u64 = 3;
+use dmatypes::{FRAMES_END, Frame, LEVELS, Page, PageRange, Rights, SPAN_PAGES, Segment};
 
 /// A tree of tables in a pool, by the frame of its root. Its calls ask that it is a tree of the pool that
 /// they are given.
@@ -77,9 +75,10 @@ impl Tree {
     ) -> Result<(), NoFrames>
         requires tree { IsTree pool.old LEVELS self.old.root }
         requires absent { (p : ℕ) → IsWithin range p → states (memory pool.old.words) LEVELS self.old.root p ≡ None }
-        requires frames { frame + range.pages ≤ 2 ^ 24 }
+        requires frames { frame + range.pages ≤ FRAMES_END }
         requires rights { AreRights (bits_of rights) }
-        ensures refused { IsErr result ↔ (length pool.old.free < map_lacks pool.old LEVELS self.old.root (one_segment frame range.pages) range.first) }
+        ensures refused { IsErr result
+            ↔ (length pool.old.free < map_lacks pool.old LEVELS self.old.root (one_segment frame range.pages) range.first) }
         ensures unchanged { OnErr result (pool.new ≡ pool.old) }
         ensures root { self.new ≡ self.old }
         ensures moves { TakesAndGivesFrames pool.old pool.new LEVELS self.old.root [] }
@@ -87,14 +86,11 @@ impl Tree {
             (λ p. Some (target (frame + (p - range.first)) (bits_of rights)))) }
         ensures makes { OnOk result (MakesTables pool.old pool.new LEVELS self.old.root range.first (range.first + range.pages)
             (is_large_at (one_segment frame range.pages) range.first)) }
-        ensures count { OnOk result (length pool.new.free + map_lacks pool.old LEVELS self.old.root (one_segment frame range.pages) range.first
-            ≡ length pool.old.free) }
-        ensures leaves { (first pages frame rights : ℕ) → IsLeafAt (memory pool.old.words) LEVELS self.old.root first pages frame rights
-            → IsLeafAt (memory pool.new.words) LEVELS self.old.root first pages frame rights }
-        ensures tables { (first level table : ℕ) → IsTableAt (memory pool.old.words) LEVELS self.old.root first level table
-            → IsTableAt (memory pool.new.words) LEVELS self.old.root first level table }
-        ensures others { (level table : ℕ) → IsTree pool.old level table → IsApart pool.old LEVELS self.old.root level table
-            → Stays pool.old pool.new level table }
+        ensures count { OnOk result (length pool.new.free
+            + map_lacks pool.old LEVELS self.old.root (one_segment frame range.pages) range.first ≡ length pool.old.free) }
+        ensures leaves { KeepsLeaves pool.old pool.new LEVELS self.old.root }
+        ensures tables { KeepsTables pool.old pool.new LEVELS self.old.root }
+        ensures others { KeepsOthers pool.old pool.new LEVELS self.old.root }
         ensures tree { IsTree pool.new LEVELS self.old.root }
         ensures pool { IsPool pool.new }
     {
@@ -102,7 +98,8 @@ impl Tree {
             frame: frame.number(),
             pages: range.pages(),
         };
-        map_segments(pool, LEVELS, self.root, &[segment], range.first(), rights)
+        let start = Page::new(range.first()).unwrap();
+        self.map_list(pool, start, &[segment], rights)
     }
 
     /// Maps the pages from a start on, which are absent, to 1 to 16 segments, one after the other.
@@ -118,7 +115,8 @@ impl Tree {
         requires few { length segments.now ≤ 16 }
         requires segments { AreSegments segments.now }
         requires range { IsPageRange (record { first = start; pages = total_pages segments.now }) }
-        requires absent { (p : ℕ) → start ≤ p → p < start + total_pages segments.now → states (memory pool.old.words) LEVELS self.old.root p ≡ None }
+        requires absent { (p : ℕ) → start ≤ p → p < start + total_pages segments.now
+            → states (memory pool.old.words) LEVELS self.old.root p ≡ None }
         requires rights { AreRights (bits_of rights) }
         ensures refused { IsErr result ↔ (length pool.old.free < map_lacks pool.old LEVELS self.old.root segments.now start) }
         ensures unchanged { OnErr result (pool.new ≡ pool.old) }
@@ -128,13 +126,11 @@ impl Tree {
             (placed segments.now start (bits_of rights))) }
         ensures makes { OnOk result (MakesTables pool.old pool.new LEVELS self.old.root start (start + total_pages segments.now)
             (is_large_at segments.now start)) }
-        ensures count { OnOk result (length pool.new.free + map_lacks pool.old LEVELS self.old.root segments.now start ≡ length pool.old.free) }
-        ensures leaves { (first pages frame rights : ℕ) → IsLeafAt (memory pool.old.words) LEVELS self.old.root first pages frame rights
-            → IsLeafAt (memory pool.new.words) LEVELS self.old.root first pages frame rights }
-        ensures tables { (first level table : ℕ) → IsTableAt (memory pool.old.words) LEVELS self.old.root first level table
-            → IsTableAt (memory pool.new.words) LEVELS self.old.root first level table }
-        ensures others { (level table : ℕ) → IsTree pool.old level table → IsApart pool.old LEVELS self.old.root level table
-            → Stays pool.old pool.new level table }
+        ensures count { OnOk result
+            (length pool.new.free + map_lacks pool.old LEVELS self.old.root segments.now start ≡ length pool.old.free) }
+        ensures leaves { KeepsLeaves pool.old pool.new LEVELS self.old.root }
+        ensures tables { KeepsTables pool.old pool.new LEVELS self.old.root }
+        ensures others { KeepsOthers pool.old pool.new LEVELS self.old.root }
         ensures tree { IsTree pool.new LEVELS self.old.root }
         ensures pool { IsPool pool.new }
     {
@@ -145,7 +141,8 @@ impl Tree {
     /// takes one.
     pub fn may_unmap(&self, pool: &Pool, range: PageRange) -> Result<(), NoFrames>
         requires { IsTree pool.now LEVELS self.now.root }
-        ensures { IsErr result ↔ (length pool.now.free < splits (memory pool.now.words) LEVELS self.now.root range.first (range.first + range.pages)) }
+        ensures { IsErr result
+            ↔ (length pool.now.free < splits (memory pool.now.words) LEVELS self.now.root range.first (range.first + range.pages)) }
     {
         let from = range.first();
         let to = from + range.pages();
@@ -169,7 +166,8 @@ impl Tree {
         ensures root { self.new ≡ self.old }
         ensures moves { TakesAndGivesFrames pool.old pool.new LEVELS self.old.root result.frames }
         ensures unmaps { Unmaps pool.old pool.new LEVELS self.old.root range.first (range.first + range.pages) result.frames }
-        ensures split { IsTrue result.split ↔ (0 < splits (memory pool.old.words) LEVELS self.old.root range.first (range.first + range.pages)) }
+        ensures split { IsTrue result.split
+            ↔ (0 < splits (memory pool.old.words) LEVELS self.old.root range.first (range.first + range.pages)) }
         ensures whole { (p : ℕ) (x : Found) → IsWithin range p → result.split ≡ false
             → leaf_from (memory pool.old.words) LEVELS self.old.root p ≡ Some x
             → (q : ℕ) → q / span x.size ≡ p / span x.size → IsWithin range q }
@@ -180,9 +178,8 @@ impl Tree {
             → IsLeafAt (memory pool.new.words) LEVELS self.old.root first pages frame rights }
         ensures tables { (first level table : ℕ) → IsTableAt (memory pool.old.words) LEVELS self.old.root first level table
             → IsTableAt (memory pool.new.words) LEVELS self.old.root first level table
-            ⊎ ((level ≡ 1) × (range.first ≤ first) × (first + 512 ≤ range.first + range.pages) × (0 < occurs table result.frames)) }
-        ensures others { (level table : ℕ) → IsTree pool.old level table → IsApart pool.old LEVELS self.old.root level table
-            → Stays pool.old pool.new level table }
+            ⊎ ((level ≡ 1) × (range.first ≤ first) × (first + SPAN_PAGES ≤ range.first + range.pages) × (0 < occurs table result.frames)) }
+        ensures others { KeepsOthers pool.old pool.new LEVELS self.old.root }
         ensures tree { IsTree pool.new LEVELS self.old.root }
         ensures pool { IsPool pool.new }
     {
@@ -194,9 +191,9 @@ impl Tree {
     pub fn destroy(self, pool: &mut Pool)
         requires { IsTree pool.old LEVELS self.root }
         ensures free { (f : ℕ) → occurs f pool.new.free ≡ occurs f pool.old.free + uses (memory pool.old.words) LEVELS self.root f }
-        ensures words { (f k : ℕ) → k < 512 → uses (memory pool.old.words) LEVELS self.root f ≡ 0 → word pool.new.words f k ≡ word pool.old.words f k }
-        ensures others { (level table : ℕ) → IsTree pool.old level table → IsApart pool.old LEVELS self.root level table
-            → Stays pool.old pool.new level table }
+        ensures words { (f k : ℕ) → k < TABLE_ENTRIES → uses (memory pool.old.words) LEVELS self.root f ≡ 0
+            → word pool.new.words f k ≡ word pool.old.words f k }
+        ensures others { KeepsOthers pool.old pool.new LEVELS self.root }
         ensures size { pool.new.frames ≡ pool.old.frames }
         ensures pool { IsPool pool.new }
     {

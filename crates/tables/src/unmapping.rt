@@ -1,21 +1,24 @@
 //! Pages unmapped, and tables given back, in trees of up to 4 levels, and so of up to 2^36 pages.
 
-ghost use Rattle.std.specs.Prelude.{◌≡◌, ◌≢◌, ℕ, ◌+◌, ◌-◌, ◌*◌, ◌/◌, ◌%◌, ◌^◌, ◌<◌, ◌≤◌, [], false, length, if◌then◌else◌, IsSome, IsTrue, ◌↔◌};
+ghost use Rattle.std.specs.Prelude.{◌≡◌, ◌≢◌, ℕ, ◌+◌, ◌-◌, ◌*◌, ◌/◌, ◌%◌, ◌^◌, ◌<◌, ◌≤◌, [], false, length, if◌then◌else◌, IsSome, IsTrue};
+ghost use Rattle.std.specs.Prelude.{◌↔◌};
 ghost use Rattle.tables.specs.Tree.{Memory, span, index_in, leaf_from, uses};
 ghost use Rattle.tables.specs.Pool.{word, memory, occurs, IsPool, IsTree, IsWrite};
 ghost use Rattle.vtdbits.specs.Entry.{look};
 ghost use Rattle.vtdbits.specs.Translation.{target};
 ghost use Rattle.tables.specs.Changes.{TakesAndGivesFrames, Unmaps};
-ghost use Rattle.tables.specs.Lacks.{splitting, splits};
+ghost use Rattle.tables.specs.Lacks.{splits_leaf, splits};
 ghost use Rattle.tables.specs.Under.{IsSplit, used_at};
-ghost use Rattle.tables.specs.Pieces.{IsRun, cut_of, was_split, piece_splits};
+ghost use Rattle.tables.specs.Pieces.{WritesEntries, cut_of, was_split, piece_splits};
 
 use crate::cut::Cut;
-use crate::entries::{entry, index_of, is_in_large_leaf};
-use crate::frames::{Pool, WORDS};
+use crate::entries::{
+    MOST_LEVELS, TABLE_ENTRIES, WIDEST_PAGES_END, entry, index_of, is_in_large_leaf,
+};
+use crate::frames::Pool;
 use crate::mapping::write_run;
 use crate::piece::Piece;
-use dmatypes::Frame;
+use dmatypes::{Frame, MOST_PAGES, SPAN_PAGES};
 use vtdbits::{LargeTranslation, SsEntry};
 
 /// What became of a piece that was unmapped.
@@ -32,27 +35,27 @@ pub enum Cleared {
 /// Clears the entries of pages in a table of level 1.
 fn clear_run(pool: &mut Pool, table: Frame, from: u64, to: u64)
     requires some { from < to }
-    requires one_span { from / 512 ≡ (to - 1) / 512 }
+    requires one_span { from / SPAN_PAGES ≡ (to - 1) / SPAN_PAGES }
     requires table { table < pool.old.frames }
     requires taken { occurs table pool.old.free ≡ 0 }
-    ensures run { IsRun pool.old.words pool.new.words table from to (λ p. SsEntry.Absent) }
-    ensures zeroed { (p : ℕ) → from ≤ p → p < to → word pool.new.words table (p % 512) ≡ 0 }
+    ensures run { WritesEntries pool.old.words pool.new.words table from to (λ p. SsEntry.Absent) }
+    ensures zeroed { (p : ℕ) → from ≤ p → p < to → word pool.new.words table (p % SPAN_PAGES) ≡ 0 }
     ensures free { pool.new.free ≡ pool.old.free }
     ensures frames { pool.new.frames ≡ pool.old.frames }
     ensures pool { IsPool pool.new }
 {
     // One word is what most unmaps clear, and less than what the call of a fill costs.
     if to - from == 1 {
-        pool.write(table, from % 512, 0);
+        pool.write(table, from % SPAN_PAGES, 0);
     } else {
-        pool.clear(table, from % 512, to - from);
+        pool.clear(table, from % SPAN_PAGES, to - from);
     }
 }
 
 /// Spells a leaf of 512 pages by a new table of 512 leaves.
 fn split(pool: &mut Pool, table: Frame, page: u64, leaf: LargeTranslation) -> Frame
     requires tree { IsTree pool.old 2 table }
-    requires page { page < 2 ^ 36 }
+    requires page { page < WIDEST_PAGES_END }
     requires leaf { memory pool.old.words 2 table (index_in 1 page) ≡ SsEntry.LargeLeaf leaf }
     requires room { 0 < length pool.old.free }
     ensures moves { TakesAndGivesFrames pool.old pool.new 2 table [] }
@@ -61,10 +64,10 @@ fn split(pool: &mut Pool, table: Frame, page: u64, leaf: LargeTranslation) -> Fr
     ensures pool { IsPool pool.new }
 {
     let below = pool.take();
-    let from = page / 512 * 512;
+    let from = page / SPAN_PAGES * SPAN_PAGES;
     let piece = Piece {
         from,
-        to: from + 512,
+        to: from + SPAN_PAGES,
         frame: leaf.frame().number(),
         rights: leaf.rights(),
     };
@@ -79,8 +82,9 @@ fn link(pool: &mut Pool, table: Frame, page: u64, below: Frame, leaf: LargeTrans
     requires table { table < pool.old.frames }
     requires taken { occurs table pool.old.free ≡ 0 }
     requires leaf { memory pool.old.words 2 table (index_in 1 page) ≡ SsEntry.LargeLeaf leaf }
-    requires filled { (i : ℕ) → i < 512 → memory pool.old.words 1 below i ≡ SsEntry.Leaf (target (leaf.frame + i) leaf.rights) }
-    ensures wrote { (value : ℕ) × IsWrite pool.old.words pool.new.words table (index_in 1 page) value × (look 2 value ≡ SsEntry.Table below) }
+    requires filled { (i : ℕ) → i < TABLE_ENTRIES → memory pool.old.words 1 below i ≡ SsEntry.Leaf (target (leaf.frame + i) leaf.rights) }
+    ensures wrote { (value : ℕ) × IsWrite pool.old.words pool.new.words table (index_in 1 page) value
+        × (look 2 value ≡ SsEntry.Table below) }
     ensures free { pool.new.free ≡ pool.old.free }
     ensures frames { pool.new.frames ≡ pool.old.frames }
     ensures pool { IsPool pool.new }
@@ -92,18 +96,18 @@ fn link(pool: &mut Pool, table: Frame, page: u64, below: Frame, leaf: LargeTrans
 fn clear_span(pool: &mut Pool, table: Frame, from: u64, to: u64) -> Cleared
     requires tree { IsTree pool.old 2 table }
     requires some { from < to }
-    requires one_span { from / 512 ≡ (to - 1) / 512 }
-    requires within { to ≤ 2 ^ 36 }
+    requires one_span { from / SPAN_PAGES ≡ (to - 1) / SPAN_PAGES }
+    requires within { to ≤ WIDEST_PAGES_END }
     requires there { (p : ℕ) → from ≤ p → p < to → IsSome (leaf_from (memory pool.old.words) 2 table p) }
     requires room { piece_splits (memory pool.old.words) 2 table from to ≤ length pool.old.free }
     ensures moves { TakesAndGivesFrames pool.old pool.new 2 table (cut_of result) }
     ensures unmaps { Unmaps pool.old pool.new 2 table from to (cut_of result) }
     ensures split { (if was_split result then 1 else 0) ≡ piece_splits (memory pool.old.words) 2 table from to }
     ensures count { length pool.new.free + piece_splits (memory pool.old.words) 2 table from to ≡ length pool.old.free }
-    ensures cut { 512 * length (cut_of result) ≤ to - from }
+    ensures cut { SPAN_PAGES * length (cut_of result) ≤ to - from }
     ensures pool { IsPool pool.new }
 {
-    let is_whole = to - from == 512;
+    let is_whole = to - from == SPAN_PAGES;
     let index = index_of(2, from);
     match entry(pool, 2, table, index) {
         SsEntry::Table(below) => {
@@ -130,18 +134,18 @@ fn clear_span(pool: &mut Pool, table: Frame, from: u64, to: u64) -> Cleared
 /// Unmaps a piece: one walk down, and one run of words or one leaf of 512 pages.
 fn clear_piece(pool: &mut Pool, level: u64, table: Frame, from: u64, to: u64) -> Cleared
     requires low { 2 ≤ level }
-    requires high { level ≤ 4 }
+    requires high { level ≤ MOST_LEVELS }
     requires tree { IsTree pool.old level table }
     requires some { from < to }
-    requires one_span { from / 512 ≡ (to - 1) / 512 }
-    requires within { to ≤ 2 ^ 36 }
+    requires one_span { from / SPAN_PAGES ≡ (to - 1) / SPAN_PAGES }
+    requires within { to ≤ WIDEST_PAGES_END }
     requires there { (p : ℕ) → from ≤ p → p < to → IsSome (leaf_from (memory pool.old.words) level table p) }
     requires room { piece_splits (memory pool.old.words) level table from to ≤ length pool.old.free }
     ensures moves { TakesAndGivesFrames pool.old pool.new level table (cut_of result) }
     ensures unmaps { Unmaps pool.old pool.new level table from to (cut_of result) }
     ensures split { (if was_split result then 1 else 0) ≡ piece_splits (memory pool.old.words) level table from to }
     ensures count { length pool.new.free + piece_splits (memory pool.old.words) level table from to ≡ length pool.old.free }
-    ensures cut { 512 * length (cut_of result) ≤ to - from }
+    ensures cut { SPAN_PAGES * length (cut_of result) ≤ to - from }
     ensures pool { IsPool pool.new }
 {
     if level == 2 {
@@ -157,11 +161,11 @@ fn clear_piece(pool: &mut Pool, level: u64, table: Frame, from: u64, to: u64) ->
 #[inline(always)]
 pub fn unmap_pieces(pool: &mut Pool, level: u64, root: Frame, from: u64, to: u64) -> Cut
     requires low { 2 ≤ level }
-    requires high { level ≤ 4 }
+    requires high { level ≤ MOST_LEVELS }
     requires tree { IsTree pool.old level root }
     requires some { from < to }
-    requires few { to - from ≤ 4096 }
-    requires within { to ≤ 2 ^ 36 }
+    requires few { to - from ≤ MOST_PAGES }
+    requires within { to ≤ WIDEST_PAGES_END }
     requires one_span { from / span level ≡ (to - 1) / span level }
     requires there { (p : ℕ) → from ≤ p → p < to → IsSome (leaf_from (memory pool.old.words) level root p) }
     requires room { splits (memory pool.old.words) level root from to ≤ length pool.old.free }
@@ -174,7 +178,7 @@ pub fn unmap_pieces(pool: &mut Pool, level: u64, root: Frame, from: u64, to: u64
     let mut cut = Cut::none(root);
     let mut place = from;
     while place < to {
-        let next = to.min((place / 512 + 1) * 512);
+        let next = to.min((place / SPAN_PAGES + 1) * SPAN_PAGES);
         let cleared = clear_piece(pool, level, root, place, next);
         cut.note(cleared);
         place = next;
@@ -185,12 +189,12 @@ pub fn unmap_pieces(pool: &mut Pool, level: u64, root: Frame, from: u64, to: u64
 /// Whether a page is in a large leaf, and the pages from one up to another don't cover the 512 from it on.
 fn splits_leaf(pool: &Pool, level: u64, root: Frame, from: u64, to: u64, page: u64) -> bool
     requires low { 1 ≤ level }
-    requires high { level ≤ 4 }
+    requires high { level ≤ MOST_LEVELS }
     requires tree { IsTree pool.now level root }
-    requires page { page ≤ 2 ^ 36 }
-    ensures { (if result then 1 else 0) ≡ splitting (memory pool.now.words) level root from to page }
+    requires page { page ≤ WIDEST_PAGES_END }
+    ensures { (if result then 1 else 0) ≡ splits_leaf (memory pool.now.words) level root from to page }
 {
-    if from <= page && page + 512 <= to {
+    if from <= page && page + SPAN_PAGES <= to {
         return false;
     }
     is_in_large_leaf(pool, level, root, page)
@@ -199,15 +203,15 @@ fn splits_leaf(pool: &Pool, level: u64, root: Frame, from: u64, to: u64, page: u
 /// How many large leaves meet the pages and aren't covered by them.
 pub fn leaves_splitting(pool: &Pool, level: u64, root: Frame, from: u64, to: u64) -> u64
     requires low { 1 ≤ level }
-    requires high { level ≤ 4 }
+    requires high { level ≤ MOST_LEVELS }
     requires tree { IsTree pool.now level root }
     requires some { from < to }
-    requires within { to ≤ 2 ^ 36 }
+    requires within { to ≤ WIDEST_PAGES_END }
     ensures { result ≡ splits (memory pool.now.words) level root from to }
 {
     let mut count = 0;
-    for number in from / 512..(to - 1) / 512 + 1 {
-        let page = number * 512;
+    for number in from / SPAN_PAGES..(to - 1) / SPAN_PAGES + 1 {
+        let page = number * SPAN_PAGES;
         if splits_leaf(pool, level, root, from, to, page) {
             count += 1;
         }
@@ -218,24 +222,25 @@ pub fn leaves_splitting(pool: &Pool, level: u64, root: Frame, from: u64, to: u64
 /// How many spans of 512 pages the pages meet: no fewer than the large leaves that meet them and aren't covered.
 pub fn spans_met(from: u64, to: u64) -> u64
     requires some { from < to }
-    requires within { to ≤ 2 ^ 36 }
+    requires within { to ≤ WIDEST_PAGES_END }
     ensures { (m : Memory) (level root : ℕ) → splits m level root from to ≤ result }
 {
-    (to - 1) / 512 + 1 - from / 512
+    (to - 1) / SPAN_PAGES + 1 - from / SPAN_PAGES
 }
 
 /// Gives back the frames of a table and of all tables below it.
 #[cycle(releasing)]
 pub fn release(pool: &mut Pool, level: u64, table: Frame)
     requires low { 1 ≤ level }
-    requires high { level ≤ 4 }
+    requires high { level ≤ MOST_LEVELS }
     requires tree { IsTree pool.old level table }
     ensures free { (f : ℕ) → occurs f pool.new.free ≡ occurs f pool.old.free + uses (memory pool.old.words) level table f }
-    ensures others { (f k : ℕ) → k < 512 → uses (memory pool.old.words) level table f ≡ 0 → word pool.new.words f k ≡ word pool.old.words f k }
+    ensures others { (f k : ℕ) → k < TABLE_ENTRIES → uses (memory pool.old.words) level table f ≡ 0
+        → word pool.new.words f k ≡ word pool.old.words f k }
     ensures frames { pool.new.frames ≡ pool.old.frames }
     ensures pool { IsPool pool.new }
 {
-    for index in 0..WORDS {
+    for index in 0..TABLE_ENTRIES {
         release_entry(pool, level, table, index);
     }
     pool.give(table);
@@ -245,15 +250,16 @@ pub fn release(pool: &mut Pool, level: u64, table: Frame)
 #[cycle(releasing)]
 fn release_entry(pool: &mut Pool, level: u64, table: Frame, index: u64)
     requires low { 1 ≤ level }
-    requires high { level ≤ 4 }
+    requires high { level ≤ MOST_LEVELS }
     requires table { table < pool.old.frames }
     requires taken { occurs table pool.old.free + used_at pool.old level table table index ≡ 0 }
-    requires index { index < 512 }
+    requires index { index < TABLE_ENTRIES }
     requires below { (c : ℕ) → memory pool.old.words level table index ≡ SsEntry.Table c → IsTree pool.old (level - 1) c }
     ensures free { (f : ℕ) → occurs f pool.new.free ≡ occurs f pool.old.free + used_at pool.old level table f index }
     ensures cleared { word pool.new.words table index ≡ 0 }
-    ensures row { (k : ℕ) → k < 512 → k ≢ index → word pool.new.words table k ≡ word pool.old.words table k }
-    ensures others { (f k : ℕ) → k < 512 → f ≢ table → used_at pool.old level table f index ≡ 0 → word pool.new.words f k ≡ word pool.old.words f k }
+    ensures row { (k : ℕ) → k < TABLE_ENTRIES → k ≢ index → word pool.new.words table k ≡ word pool.old.words table k }
+    ensures others { (f k : ℕ) → k < TABLE_ENTRIES → f ≢ table → used_at pool.old level table f index ≡ 0
+        → word pool.new.words f k ≡ word pool.old.words f k }
     ensures frames { pool.new.frames ≡ pool.old.frames }
     ensures pool { IsPool pool.new }
 {

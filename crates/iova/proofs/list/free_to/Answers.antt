@@ -9,11 +9,13 @@ abbrev blank : Piece
 blank = record { first = 0; last = 0; state = Free }
 
 pub returns-then-at-pieces-clause-last : goal.returns-then-at-pieces-clause-last
-returns-then-at-pieces-clause-last c d = free_end_here 1 c.args.pieces.now c.args.at d c.requires.ordered c.requires.at (inl (omega (arith, c.if-at-pieces.true)))
+returns-then-at-pieces-clause-last c d =
+    free_end_here 1 c.args.pieces.now c.args.at d c.requires.ordered c.requires.at (inl (omega (arith, c.if-at-pieces.true)))
 
 pub returns-then-pieces-at-clause-last : goal.returns-then-pieces-at-clause-last
 returns-then-pieces-at-clause-last c =
-    joins_above c.args.pieces.now c.args.at blank c.requires.ordered (omega (arith, c.if-at-pieces.false, c.requires.at)) (sym c.is_free.ensures ∙ c.if-is_free.true) c.if-pieces-at.true
+    joins_above c.args.pieces.now c.args.at blank c.requires.ordered (omega (arith, c.if-at-pieces.false, c.requires.at))
+    (sym c.is_free.ensures ∙ c.if-is_free.true) c.if-pieces-at.true
 
 pub returns-else-is_free-clause-last : goal.returns-else-is_free-clause-last
 returns-else-is_free-clause-last c =

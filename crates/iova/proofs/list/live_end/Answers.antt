@@ -15,7 +15,9 @@ pub returns-then-next-piece-clause-none : goal.returns-then-next-piece-clause-no
 returns-then-next-piece-clause-none c = (
   c.loop-at.next,
   (c.loop-at.invariant.start, c.loop-at.invariant.end),
-  none_some c.args.pieces.now c.loop-at.next Live (state_gap 1 c.args.pieces.now c.loop-at.at _ c.loop-at.next c.requires.ordered c.loop-at.invariant.before c.loop-at-test.true c.if-next-piece.true),
+  none_some c.args.pieces.now c.loop-at.next Live
+      (state_gap 1 c.args.pieces.now c.loop-at.at _ c.loop-at.next c.requires.ordered c.loop-at.invariant.before c.loop-at-test.true
+      c.if-next-piece.true),
 )
 
 pub returns-in_default : goal.returns-in_default
@@ -27,7 +29,8 @@ returns-in_default c = record {
     c.loop-at.next,
     (c.loop-at.invariant.start, c.loop-at.invariant.end),
     other_state c.args.pieces.now c.loop-at.next _ Live c.in_default.not-Live
-        (state_index c.args.pieces.now c.loop-at.at _ c.loop-at.next c.loop-at.invariant.before c.loop-at-test.true c.if-next-piece.false (c.loop-at.invariant.here c.loop-at-test.true _)),
+        (state_index c.args.pieces.now c.loop-at.at _ c.loop-at.next c.loop-at.invariant.before c.loop-at-test.true c.if-next-piece.false
+        (c.loop-at.invariant.here c.loop-at-test.true _)),
   );
 }
 
@@ -35,7 +38,9 @@ pub returns-then-first-pages-clause-live : goal.returns-then-first-pages-clause-
 returns-then-first-pages-clause-live c page w =
     elim (order c.loop-at.next page) [
       | inr k ↦ c.loop-at.invariant.live page w.0 k
-      | inl k ↦ state_index c.args.pieces.now c.loop-at.at _ page (more_ended (take c.loop-at.at c.args.pieces.now) c.loop-at.next page k c.loop-at.invariant.before) c.loop-at-test.true
+      | inl k ↦
+          state_index c.args.pieces.now c.loop-at.at _ page
+          (more_ended (take c.loop-at.at c.args.pieces.now) c.loop-at.next page k c.loop-at.invariant.before) c.loop-at-test.true
           (omega (arith, c.if-next-piece.false)) (omega (arith, c.if-first-pages.true, w.1)) ∙ ap (λ u. Some u) c.in-Live.is
     ]
 
@@ -49,19 +54,28 @@ loop-at-preserved c =
       end = omega (arith, c.if-first-pages.false);
       live = λ page l h. elim (order c.loop-at.next page) [
         | inr k ↦ c.loop-at.invariant.live page l k
-        | inl k ↦ state_index c.args.pieces.now c.loop-at.at _ page (more_ended (take c.loop-at.at c.args.pieces.now) c.loop-at.next page k c.loop-at.invariant.before) c.loop-at-test.true
+        | inl k ↦
+            state_index c.args.pieces.now c.loop-at.at _ page
+            (more_ended (take c.loop-at.at c.args.pieces.now) c.loop-at.next page k c.loop-at.invariant.before) c.loop-at-test.true
             (omega (arith, c.if-next-piece.false)) (omega (arith, h)) ∙ ap (λ u. Some u) c.in-Live.is
       ];
-      before = subst (λ n. AllByRecursion (λ p. p.last < (get_or c.args.pieces.now c.loop-at.at blank).last + 1) (take n c.args.pieces.now)) (sym (add-one c.loop-at.at))
-          (ended 1 c.args.pieces.now c.loop-at.at blank ((get_or c.args.pieces.now c.loop-at.at blank).last + 1) c.requires.ordered c.loop-at-test.true (omega arith));
-      here = λ h d. subst (λ q. (get_or c.args.pieces.now c.loop-at.at blank).last + 1 ≤ q.last) (any_default c.args.pieces.now (c.loop-at.at + 1) blank d h)
-          (subst (λ k. (get_or c.args.pieces.now c.loop-at.at blank).last + 1 ≤ (get_or c.args.pieces.now k blank).last) (sym (add-one c.loop-at.at))
-          (next_end 1 c.args.pieces.now c.loop-at.at blank c.requires.ordered (omega (arith, h))));
+      before =
+          subst (λ n. AllByRecursion (λ p. p.last < (get_or c.args.pieces.now c.loop-at.at blank).last + 1) (take n c.args.pieces.now))
+          (sym (add-one c.loop-at.at))
+          (ended 1 c.args.pieces.now c.loop-at.at blank ((get_or c.args.pieces.now c.loop-at.at blank).last + 1) c.requires.ordered
+          c.loop-at-test.true (omega arith));
+      here =
+          λ h d.
+          subst (λ q. (get_or c.args.pieces.now c.loop-at.at blank).last + 1 ≤ q.last)
+          (any_default c.args.pieces.now (c.loop-at.at + 1) blank d h)
+          (subst (λ k. (get_or c.args.pieces.now c.loop-at.at blank).last + 1 ≤ (get_or c.args.pieces.now k blank).last)
+          (sym (add-one c.loop-at.at)) (next_end 1 c.args.pieces.now c.loop-at.at blank c.requires.ordered (omega (arith, h))));
     }
 
 pub returns-clause-none : goal.returns-clause-none
 returns-clause-none c = (
   c.loop-at.next,
   (c.loop-at.invariant.start, c.loop-at.invariant.end),
-  none_some c.args.pieces.now c.loop-at.next Live (state_end c.args.pieces.now c.loop-at.at c.loop-at.next c.loop-at.invariant.before c.loop-at-test.false),
+  none_some c.args.pieces.now c.loop-at.next Live
+      (state_end c.args.pieces.now c.loop-at.at c.loop-at.next c.loop-at.invariant.before c.loop-at-test.false),
 )

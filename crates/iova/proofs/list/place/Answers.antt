@@ -8,6 +8,12 @@ pub loop-low-preserved-then-pieces-middle : goal.loop-low-preserved-then-pieces-
 loop-low-preserved-then-pieces-middle c = record {
   within = omega arith;
   inside = c.loop-low.invariant.inside;
-  before = let m : ℕ = c.loop-low.low + (c.loop-low.high - c.loop-low.low) / 2 in let inside : m < length c.args.pieces.now = omega (arith, c.loop-low.invariant.inside) in subst (λ n. AllByRecursion (λ p. p.last < c.args.page) (take n c.args.pieces.now)) (sym (add-one m)) (ended 1 c.args.pieces.now m _ c.args.page c.requires inside c.if-pieces-middle.true);
+  before =
+      let m : ℕ =
+      c.loop-low.low + (c.loop-low.high - c.loop-low.low) / 2 in
+      let inside : m < length c.args.pieces.now =
+      omega (arith, c.loop-low.invariant.inside) in
+      subst (λ n. AllByRecursion (λ p. p.last < c.args.page) (take n c.args.pieces.now)) (sym (add-one m))
+      (ended 1 c.args.pieces.now m _ c.args.page c.requires inside c.if-pieces-middle.true);
   here = c.loop-low.invariant.here;
 }

@@ -8,7 +8,8 @@ returns-then-at-pieces c = sym (state_end c.args.pieces.now c.place-at.result c.
 pub returns-then-piece-page : goal.returns-then-piece-page
 returns-then-piece-page c =
     let within : c.place-at.result < length c.args.pieces.now = omega (arith, c.place-at.ensures.within) in
-    sym (state_index c.args.pieces.now c.place-at.result _ c.args.page c.place-at.ensures.before within c.if-piece-page.true (c.place-at.ensures.here within _))
+    sym (state_index c.args.pieces.now c.place-at.result _ c.args.page c.place-at.ensures.before within c.if-piece-page.true
+    (c.place-at.ensures.here within _))
 
 pub returns-else-piece-page : goal.returns-else-piece-page
 returns-else-piece-page c =

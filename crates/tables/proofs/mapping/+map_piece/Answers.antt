@@ -3,11 +3,12 @@ use Rattle.vtdbits.specs.declared.entry.SsEntry.TheVariants.{Absent, Leaf, Large
 use Rattle.tables.specs.Tree.{index_in, table_from}
 use Rattle.tables.specs.Pool.{memory}
 use Rattle.tables.specs.Changes.{TakesAndGivesFrames, Maps}
-use Rattle.tables.specs.Lacks.{lacks_at}
-use Rattle.tables.specs.Pieces.{says, is_large}
+use Rattle.tables.specs.Lacks.{tables_lacking_at}
+use Rattle.tables.specs.Pieces.{piece_states, is_large}
 use Rattle.vtdbits.specs.Translation.{target}
 use Rattle.dmatypes.specs.Rights.{bits_of}
-use Rattle.tables.proofs.Descend.{map_through, absent_below, made_through, count_through, count_grown, count_absent, no_leaf, spared_through, spared_grown}
+use Rattle.tables.proofs.Descend.{Through, map_through, absent_below, made_through, count_through, count_grown, count_absent, no_leaf}
+use Rattle.tables.proofs.Descend.{spared_through, spared_grown}
 use Rattle.tables.proofs.Lacking.{lacks_at-one, lacks_at-large}
 use Rattle.tables.proofs.Level.{root_in_level, root_taken_level, below_level}
 use Rattle.tables.proofs.Mapped.{maps_over, moves_then}
@@ -15,13 +16,16 @@ use Rattle.tables.proofs.Runs.{run_moves, run_maps}
 use Rattle.tables.proofs.Under.{moved_tree}
 use Rattle.tables.proofs.Words.{zeroed_bare}
 use Rattle.tables.proofs.mapping.+map_piece.Goals as goal
+use Rattle.tables.proofs.mapping.+map_piece.Goals.{After-grow-below, After-map_piece-else-level-eq2}
 use Rattle.tables.proofs.mapping.+map_piece.Goals.{else-level-eq2-via-then-level-eq2+else-is_large, else-level-eq2-via-else-level-eq2}
 
 pub write_run-requires-clause-table : goal.write_run-requires-clause-table
-write_run-requires-clause-table t c = root_in_level c.args.pool.now (c.args.level - 1) c.args.table c.args.level (omega arith) c.requires.tree
+write_run-requires-clause-table t c =
+    root_in_level c.args.pool.now (c.args.level - 1) c.args.table c.args.level (omega arith) c.requires.tree
 
 pub write_run-requires-clause-taken : goal.write_run-requires-clause-taken
-write_run-requires-clause-taken t c = root_taken_level c.args.pool.now (c.args.level - 1) c.args.table c.args.level (omega arith) c.requires.tree
+write_run-requires-clause-taken t c =
+    root_taken_level c.args.pool.now (c.args.level - 1) c.args.table c.args.level (omega arith) c.requires.tree
 
 pub entry-requires-clause-table : goal.entry-requires-clause-table
 entry-requires-clause-table t c = root_in_level c.args.pool.now (c.args.level - 1) c.args.table c.args.level (omega arith) c.requires.tree
@@ -30,18 +34,24 @@ entry-requires-clause-table t c = root_in_level c.args.pool.now (c.args.level - 
 pub returns-then-level-eq1-clause-moves : goal.returns-then-level-eq1-clause-moves
 returns-then-level-eq1-clause-moves t c =
     subst (λ n. TakesAndGivesFrames c.args.pool.now c.write_run.new.pool n c.args.table []) (sym c.if-level-eq1.true)
-    (run_moves c.args.pool.now c.write_run.new.pool c.args.table c.args.piece.now.from c.args.piece.now.to _ c.write_run.ensures.run c.write_run.ensures.free c.write_run.ensures.frames)
+    (run_moves c.args.pool.now c.write_run.new.pool c.args.table c.args.piece.now.from c.args.piece.now.to _ c.write_run.ensures.run
+    c.write_run.ensures.free c.write_run.ensures.frames)
 
 pub returns-then-level-eq1-clause-maps : goal.returns-then-level-eq1-clause-maps
 returns-then-level-eq1-clause-maps t c =
-    subst (λ n. Maps c.args.pool.now c.write_run.new.pool n c.args.table c.args.piece.now.from c.args.piece.now.to (says c.args.piece.now)) (sym c.if-level-eq1.true)
-    (run_maps c.args.pool.now c.write_run.new.pool c.args.table c.args.piece.now.from c.args.piece.now.to _ (λ p. target (c.args.piece.now.frame + (p - c.args.piece.now.from)) (bits_of c.args.piece.now.rights)) c.write_run.ensures.run
+    subst (λ n.
+    Maps c.args.pool.now c.write_run.new.pool n c.args.table c.args.piece.now.from c.args.piece.now.to (piece_states c.args.piece.now))
+    (sym c.if-level-eq1.true) (run_maps c.args.pool.now c.write_run.new.pool c.args.table c.args.piece.now.from c.args.piece.now.to _
+    (λ p. target (c.args.piece.now.frame + (p - c.args.piece.now.from)) (bits_of c.args.piece.now.rights)) c.write_run.ensures.run
     (λ q low high. omega (arith, low, high, c.args.piece.now.one_span)) (λ p. refl))
 
 pub returns-then-level-eq1-clause-count : goal.returns-then-level-eq1-clause-count
 returns-then-level-eq1-clause-count t c =
-    let none : lacks_at (memory c.args.pool.now.words) c.args.level c.args.table (is_large c.args.piece.now) c.args.piece.now.from ≡ 0 =
-    ap (λ n. lacks_at (memory c.args.pool.now.words) n c.args.table (is_large c.args.piece.now) c.args.piece.now.from) c.if-level-eq1.true ∙ lacks_at-one (memory c.args.pool.now.words) c.args.table (is_large c.args.piece.now) c.args.piece.now.from in
+    let none : tables_lacking_at (memory c.args.pool.now.words) c.args.level c.args.table (is_large c.args.piece.now) c.args.piece.now.from
+    ≡ 0 =
+    ap (λ n. tables_lacking_at (memory c.args.pool.now.words) n c.args.table (is_large c.args.piece.now) c.args.piece.now.from)
+    c.if-level-eq1.true
+    ∙ lacks_at-one (memory c.args.pool.now.words) c.args.table (is_large c.args.piece.now) c.args.piece.now.from in
     omega (arith, none, ap length c.write_run.ensures.free)
 
 -- through the table that is there
@@ -63,10 +73,20 @@ map_piece-requires t c =
         (
           omega (arith, c.requires.high),
           (
-            below_level c.args.pool.now (c.args.level - 1) c.args.table c.index_of-index.result c.in-Table.below c.args.level (omega arith) c.requires.tree c.index_of-index.ensures.inside c.in-Table.ensures.is,
+            below_level c.args.pool.now (c.args.level - 1) c.args.table c.index_of-index.result c.in-Table.below c.args.level (omega arith)
+                c.requires.tree c.index_of-index.ensures.inside c.in-Table.ensures.is,
             (
-              (λ p from to. sym (absent_below (memory c.args.pool.now.words) c.args.level (c.args.level - 1) c.args.table c.index_of-index.result c.in-Table.below c.args.piece.now.from c.args.piece.now.to p (omega arith) some c.args.piece.now.one_span c.index_of-index.ensures.exact c.in-Table.ensures.is from to) ∙ c.requires.absent p from to),
-              omega (arith, c.requires.room, count_through (memory c.args.pool.now.words) c.args.level (c.args.level - 1) c.args.table c.index_of-index.result c.in-Table.below c.args.piece.now.from (is_large c.args.piece.now) (omega arith) some c.index_of-index.ensures.exact c.in-Table.ensures.is),
+              (λ p from to.
+                  sym (absent_below (memory c.args.pool.now.words) c.args.level (c.args.level - 1) c.args.table c.index_of-index.result
+                  c.in-Table.below c.args.piece.now.from c.args.piece.now.to p (omega arith) some c.args.piece.now.one_span
+                  c.index_of-index.ensures.exact c.in-Table.ensures.is from to) ∙ c.requires.absent p from to),
+              omega (
+                arith,
+                c.requires.room,
+                count_through (memory c.args.pool.now.words) c.args.level (c.args.level - 1) c.args.table c.index_of-index.result
+                    c.in-Table.below c.args.piece.now.from (is_large c.args.piece.now) (omega arith) some c.index_of-index.ensures.exact
+                    c.in-Table.ensures.is,
+              ),
             ),
           ),
         ),
@@ -75,58 +95,90 @@ map_piece-requires t c =
 
 pub returns-in-Table-clause-moves : goal.returns-in-Table-clause-moves
 returns-in-Table-clause-moves t c =
-    (map_through c.args.pool.now c.map_piece.new.pool c.args.level (c.args.level - 1) c.args.table c.index_of-index.result c.in-Table.below c.args.piece.now.from c.args.piece.now.to (says c.args.piece.now) (omega arith) (low c.args.level c.if-level-eq1.false c.requires.low) c.args.piece.now.one_span
-    c.requires.tree c.index_of-index.ensures.inside c.index_of-index.ensures.exact c.in-Table.ensures.is c.map_piece.ensures.moves c.map_piece.ensures.maps).0
+    (map_through c.args.pool.now c.map_piece.new.pool c.args.level (c.args.level - 1) c.args.table c.index_of-index.result c.in-Table.below
+    c.args.piece.now.from c.args.piece.now.to (piece_states c.args.piece.now) (omega arith)
+    (low c.args.level c.if-level-eq1.false c.requires.low)
+    c.args.piece.now.one_span c.requires.tree c.index_of-index.ensures.inside c.index_of-index.ensures.exact c.in-Table.ensures.is
+    c.map_piece.ensures.moves c.map_piece.ensures.maps).0
 
 pub returns-in-Table-clause-maps : goal.returns-in-Table-clause-maps
 returns-in-Table-clause-maps t c =
-    (map_through c.args.pool.now c.map_piece.new.pool c.args.level (c.args.level - 1) c.args.table c.index_of-index.result c.in-Table.below c.args.piece.now.from c.args.piece.now.to (says c.args.piece.now) (omega arith) (low c.args.level c.if-level-eq1.false c.requires.low) c.args.piece.now.one_span
-    c.requires.tree c.index_of-index.ensures.inside c.index_of-index.ensures.exact c.in-Table.ensures.is c.map_piece.ensures.moves c.map_piece.ensures.maps).1
+    (map_through c.args.pool.now c.map_piece.new.pool c.args.level (c.args.level - 1) c.args.table c.index_of-index.result c.in-Table.below
+    c.args.piece.now.from c.args.piece.now.to (piece_states c.args.piece.now) (omega arith)
+    (low c.args.level c.if-level-eq1.false c.requires.low)
+    c.args.piece.now.one_span c.requires.tree c.index_of-index.ensures.inside c.index_of-index.ensures.exact c.in-Table.ensures.is
+    c.map_piece.ensures.moves c.map_piece.ensures.maps).1
 
 pub returns-in-Table-clause-made : goal.returns-in-Table-clause-made
 returns-in-Table-clause-made t c =
-    let through = map_through c.args.pool.now c.map_piece.new.pool c.args.level (c.args.level - 1) c.args.table c.index_of-index.result c.in-Table.below c.args.piece.now.from c.args.piece.now.to (says c.args.piece.now) (omega arith) (low c.args.level c.if-level-eq1.false c.requires.low) c.args.piece.now.one_span
-    c.requires.tree c.index_of-index.ensures.inside c.index_of-index.ensures.exact c.in-Table.ensures.is c.map_piece.ensures.moves c.map_piece.ensures.maps in
-    made_through (memory c.map_piece.new.pool.words) c.args.level (c.args.level - 1) c.args.table c.index_of-index.result c.in-Table.below c.args.piece.now.from (is_large c.args.piece.now) (omega arith) c.index_of-index.ensures.exact through.2 c.map_piece.ensures.made
+    let through =
+    map_through c.args.pool.now c.map_piece.new.pool c.args.level (c.args.level - 1) c.args.table c.index_of-index.result
+    c.in-Table.below c.args.piece.now.from c.args.piece.now.to (piece_states c.args.piece.now) (omega arith)
+    (low c.args.level c.if-level-eq1.false c.requires.low) c.args.piece.now.one_span c.requires.tree c.index_of-index.ensures.inside
+    c.index_of-index.ensures.exact c.in-Table.ensures.is c.map_piece.ensures.moves c.map_piece.ensures.maps in
+    made_through (memory c.map_piece.new.pool.words) c.args.level (c.args.level - 1) c.args.table c.index_of-index.result c.in-Table.below
+    c.args.piece.now.from (is_large c.args.piece.now) (omega arith) c.index_of-index.ensures.exact through.2 c.map_piece.ensures.made
 
 pub returns-in-Table-clause-spared : goal.returns-in-Table-clause-spared
 returns-in-Table-clause-spared t c lower large =
     let some : 1 ≤ c.args.level - 1 = low c.args.level c.if-level-eq1.false c.requires.low in
-    let through = map_through c.args.pool.now c.map_piece.new.pool c.args.level (c.args.level - 1) c.args.table c.index_of-index.result c.in-Table.below c.args.piece.now.from c.args.piece.now.to (says c.args.piece.now) (omega arith) some c.args.piece.now.one_span
-    c.requires.tree c.index_of-index.ensures.inside c.index_of-index.ensures.exact c.in-Table.ensures.is c.map_piece.ensures.moves c.map_piece.ensures.maps in
-    spared_through (memory c.args.pool.now.words) (memory c.map_piece.new.pool.words) c.args.level (c.args.level - 1) c.args.table c.index_of-index.result c.in-Table.below c.args.piece.now.from (omega arith) some c.index_of-index.ensures.exact c.in-Table.ensures.is through.2
-    (λ deep. c.map_piece.ensures.spared deep large)
+    let through =
+    map_through c.args.pool.now c.map_piece.new.pool c.args.level (c.args.level - 1) c.args.table c.index_of-index.result
+    c.in-Table.below c.args.piece.now.from c.args.piece.now.to (piece_states c.args.piece.now) (omega arith) some c.args.piece.now.one_span
+    c.requires.tree c.index_of-index.ensures.inside c.index_of-index.ensures.exact c.in-Table.ensures.is c.map_piece.ensures.moves
+    c.map_piece.ensures.maps in
+    spared_through (memory c.args.pool.now.words) (memory c.map_piece.new.pool.words) c.args.level (c.args.level - 1) c.args.table
+    c.index_of-index.result c.in-Table.below c.args.piece.now.from (omega arith) some c.index_of-index.ensures.exact c.in-Table.ensures.is
+    through.2 (λ deep. c.map_piece.ensures.spared deep large)
 
 pub returns-in-Table-clause-count : goal.returns-in-Table-clause-count
 returns-in-Table-clause-count t c =
-    omega (arith, c.map_piece.ensures.count, count_through (memory c.args.pool.now.words) c.args.level (c.args.level - 1) c.args.table c.index_of-index.result c.in-Table.below c.args.piece.now.from (is_large c.args.piece.now) (omega arith) (low c.args.level c.if-level-eq1.false c.requires.low) c.index_of-index.ensures.exact c.in-Table.ensures.is)
+    omega (
+      arith,
+      c.map_piece.ensures.count,
+      count_through (memory c.args.pool.now.words) c.args.level (c.args.level - 1) c.args.table c.index_of-index.result c.in-Table.below
+          c.args.piece.now.from (is_large c.args.piece.now) (omega arith) (low c.args.level c.if-level-eq1.false c.requires.low)
+          c.index_of-index.ensures.exact c.in-Table.ensures.is,
+    )
 
 -- a large leaf
 pub returns-then-is_large-clause-count : goal.returns-then-is_large-clause-count
 returns-then-is_large-clause-count t c =
     let large : is_large c.args.piece.now ≡ true = sym c.is_large.ensures ∙ c.if-is_large.true in
-    let index : c.index_of-index.result ≡ index_in 1 c.args.piece.now.from = c.index_of-index.ensures.exact ∙ ap (λ n. index_in (n - 1) c.args.piece.now.from) c.if-level-eq2.true in
+    let index : c.index_of-index.result ≡ index_in 1 c.args.piece.now.from =
+    c.index_of-index.ensures.exact ∙ ap (λ n. index_in (n - 1) c.args.piece.now.from) c.if-level-eq2.true in
     let absent : memory c.args.pool.now.words 2 c.args.table (index_in 1 c.args.piece.now.from) ≡ Absent =
-    ap (λ i. memory c.args.pool.now.words 2 c.args.table i) (sym index) ∙ subst (λ n. memory c.args.pool.now.words n c.args.table c.index_of-index.result ≡ Absent) c.if-level-eq2.true c.in-Absent.ensures.is in
-    let none : lacks_at (memory c.args.pool.now.words) c.args.level c.args.table (is_large c.args.piece.now) c.args.piece.now.from ≡ 0 =
-    ap (λ n. lacks_at (memory c.args.pool.now.words) n c.args.table (is_large c.args.piece.now) c.args.piece.now.from) c.if-level-eq2.true
-    ∙ ap (λ b. lacks_at (memory c.args.pool.now.words) 2 c.args.table b c.args.piece.now.from) large
+    ap (λ i. memory c.args.pool.now.words 2 c.args.table i) (sym index)
+    ∙ subst (λ n. memory c.args.pool.now.words n c.args.table c.index_of-index.result ≡ Absent) c.if-level-eq2.true c.in-Absent.ensures.is
+    in
+    let none : tables_lacking_at (memory c.args.pool.now.words) c.args.level c.args.table (is_large c.args.piece.now) c.args.piece.now.from
+    ≡ 0 =
+    ap (λ n. tables_lacking_at (memory c.args.pool.now.words) n c.args.table (is_large c.args.piece.now) c.args.piece.now.from)
+    c.if-level-eq2.true ∙ ap (λ b. tables_lacking_at (memory c.args.pool.now.words) 2 c.args.table b c.args.piece.now.from) large
     ∙ lacks_at-large (memory c.args.pool.now.words) c.args.table c.args.piece.now.from absent in
     omega (arith, none, ap length c.write_large.ensures.free)
 
 pub returns-then-is_large-clause-spared : goal.returns-then-is_large-clause-spared
 returns-then-is_large-clause-spared t c lower large =
-    subst (λ n. table_from (memory c.write_large.new.pool.words) n c.args.table c.args.piece.now.from 1 ≡ table_from (memory c.args.pool.now.words) n c.args.table c.args.piece.now.from 1) (sym c.if-level-eq2.true)
-    (c.write_large.ensures.tables c.args.piece.now.from 1)
+    subst (λ n.
+    table_from (memory c.write_large.new.pool.words) n c.args.table c.args.piece.now.from 1
+    ≡ table_from (memory c.args.pool.now.words) n c.args.table c.args.piece.now.from 1)
+    (sym c.if-level-eq2.true) (c.write_large.ensures.tables c.args.piece.now.from 1)
 
 -- a leaf stands in no way of absent pages
 pub unreachable-requires : goal.unreachable-requires
 unreachable-requires t c =
     elim c.in-Leaf.is [
-      | inl (x, e) ↦ no_leaf (memory c.args.pool.now.words) c.args.level (c.args.level - 1) c.args.table c.index_of-index.result c.args.piece.now.from (Leaf x) (omega arith) c.index_of-index.ensures.exact (c.entry.ensures.is ∙ e)
-          (λ below. (record { size = c.args.level - 1; frame = x.frame; rights = x.rights }, refl)) (c.requires.absent c.args.piece.now.from (omega arith) c.args.piece.now.some)
-      | inr (x, e) ↦ no_leaf (memory c.args.pool.now.words) c.args.level (c.args.level - 1) c.args.table c.index_of-index.result c.args.piece.now.from (LargeLeaf x) (omega arith) c.index_of-index.ensures.exact (c.entry.ensures.is ∙ e)
-          (λ below. (record { size = c.args.level - 1; frame = x.frame; rights = x.rights }, refl)) (c.requires.absent c.args.piece.now.from (omega arith) c.args.piece.now.some)
+      | inl (x, e) ↦
+          no_leaf (memory c.args.pool.now.words) c.args.level (c.args.level - 1) c.args.table c.index_of-index.result c.args.piece.now.from
+          (Leaf x) (omega arith) c.index_of-index.ensures.exact (c.entry.ensures.is ∙ e)
+          (λ below. (record { size = c.args.level - 1; frame = x.frame; rights = x.rights }, refl))
+          (c.requires.absent c.args.piece.now.from (omega arith) c.args.piece.now.some)
+      | inr (x, e) ↦
+          no_leaf (memory c.args.pool.now.words) c.args.level (c.args.level - 1) c.args.table c.index_of-index.result c.args.piece.now.from
+          (LargeLeaf x) (omega arith) c.index_of-index.ensures.exact (c.entry.ensures.is ∙ e)
+          (λ below. (record { size = c.args.level - 1; frame = x.frame; rights = x.rights }, refl))
+          (c.requires.absent c.args.piece.now.from (omega arith) c.args.piece.now.some)
     ]
 
 -- through a new table
@@ -135,40 +187,76 @@ grow-below-requires-clause-room t c =
     omega (
       arith,
       c.requires.room,
-      count_absent (memory c.args.pool.now.words) c.args.level (c.args.level - 1) c.args.table c.index_of-index.result c.args.piece.now.from (is_large c.args.piece.now) (omega arith)
-          (low c.args.level c.if-level-eq1.false c.requires.low) c.index_of-index.ensures.exact c.in-Absent.ensures.is (λ (e : c.args.level - 1 ≡ 1). elim c.else-level-eq2.branch [
+      count_absent (memory c.args.pool.now.words) c.args.level (c.args.level - 1) c.args.table c.index_of-index.result c.args.piece.now.from
+          (is_large c.args.piece.now) (omega arith)
+          (low c.args.level c.if-level-eq1.false c.requires.low) c.index_of-index.ensures.exact c.in-Absent.ensures.is
+          (λ (e : c.args.level - 1 ≡ 1). elim c.else-level-eq2.branch [
             | else-level-eq2-via-then-level-eq2+else-is_large w ↦ sym w.is_large.ensures ∙ w.if-is_large.false
             | else-level-eq2-via-else-level-eq2 w ↦ absurd (w.if-level-eq2.false (omega arith))
           ]),
     )
+
+-- the table that was grown is lacking no more
+grown_count : (t : ℕ) (c : After-grow-below t)
+    → tables_lacking_at (memory c.args.pool.now.words) c.args.level c.args.table (is_large c.args.piece.now) c.args.piece.now.from
+    ≡ tables_lacking_at (memory c.grow-below.new.pool.words) c.args.level c.args.table (is_large c.args.piece.now) c.args.piece.now.from + 1
+grown_count t c =
+    count_grown (memory c.args.pool.now.words) (memory c.grow-below.new.pool.words) c.args.level (c.args.level - 1) c.args.table
+    c.index_of-index.result c.grow-below.result c.args.piece.now.from
+    (is_large c.args.piece.now) (omega arith) (low c.args.level c.if-level-eq1.false c.requires.low) c.index_of-index.ensures.exact
+    c.in-Absent.ensures.is c.grow-below.ensures.names
+    (zeroed_bare c.grow-below.new.pool.words c.grow-below.result c.grow-below.ensures.zeroed)
+    (λ (e : c.args.level - 1 ≡ 1). elim c.else-level-eq2.branch [
+      | else-level-eq2-via-then-level-eq2+else-is_large w ↦ sym w.is_large.ensures ∙ w.if-is_large.false
+      | else-level-eq2-via-else-level-eq2 w ↦ absurd (w.if-level-eq2.false (omega arith))
+    ])
 
 pub map_piece-requires-else-level-eq2 : goal.map_piece-requires-else-level-eq2
 map_piece-requires-else-level-eq2 t c =
     let some : 1 ≤ c.args.level - 1 = low c.args.level c.if-level-eq1.false c.requires.low in
     let l = c.args.level - 1 in
     let mid = c.grow-below.new.pool in
-    let m = memory c.args.pool.now.words in
     let n = memory mid.words in
-    let grown = count_grown m n c.args.level l c.args.table c.index_of-index.result c.grow-below.result c.args.piece.now.from (is_large c.args.piece.now) (omega arith) some c.index_of-index.ensures.exact c.in-Absent.ensures.is c.grow-below.ensures.names (zeroed_bare mid.words c.grow-below.result c.grow-below.ensures.zeroed) (λ (e : c.args.level - 1 ≡ 1). elim c.else-level-eq2.branch [
-      | else-level-eq2-via-then-level-eq2+else-is_large w ↦ sym w.is_large.ensures ∙ w.if-is_large.false
-      | else-level-eq2-via-else-level-eq2 w ↦ absurd (w.if-level-eq2.false (omega arith))
-    ]) in
-    let below = count_through n c.args.level l c.args.table c.index_of-index.result c.grow-below.result c.args.piece.now.from (is_large c.args.piece.now) (omega arith) some c.index_of-index.ensures.exact c.grow-below.ensures.names in (
+    let grown = grown_count t (goal.at.map_piece-requires-else-level-eq2 t c).After-grow-below in
+    let below =
+    count_through n c.args.level l c.args.table c.index_of-index.result c.grow-below.result c.args.piece.now.from
+    (is_large c.args.piece.now) (omega arith) some c.index_of-index.ensures.exact c.grow-below.ensures.names in (
       omega arith,
       (
         some,
         (
           omega (arith, c.requires.high),
           (
-            below_level mid l c.args.table c.index_of-index.result c.grow-below.result c.args.level (omega arith) (moved_tree c.args.pool.now mid c.args.level c.args.table [] c.requires.tree c.grow-below.ensures.moves) c.index_of-index.ensures.inside c.grow-below.ensures.names,
+            below_level mid l c.args.table c.index_of-index.result c.grow-below.result c.args.level (omega arith)
+                (moved_tree c.args.pool.now mid c.args.level c.args.table [] c.requires.tree c.grow-below.ensures.moves)
+                c.index_of-index.ensures.inside c.grow-below.ensures.names,
             (
-              (λ p from to. sym (absent_below n c.args.level l c.args.table c.index_of-index.result c.grow-below.result c.args.piece.now.from c.args.piece.now.to p (omega arith) some c.args.piece.now.one_span c.index_of-index.ensures.exact c.grow-below.ensures.names from to) ∙ c.grow-below.ensures.leaves p ∙ c.requires.absent p from to),
-              omega (arith, c.requires.room, grown, below, c.grow-below.ensures.count),
+              (λ p from to.
+                  sym (absent_below n c.args.level l c.args.table c.index_of-index.result c.grow-below.result c.args.piece.now.from
+                  c.args.piece.now.to p (omega arith) some c.args.piece.now.one_span c.index_of-index.ensures.exact
+                  c.grow-below.ensures.names from to) ∙ c.grow-below.ensures.leaves p ∙ c.requires.absent p from to),
+              omega
+                  (arith, c.requires.room, grown, below, c.grow-below.ensures.count),
             ),
           ),
         ),
       ),
     )
+
+-- what was mapped below the table that was grown, seen from this one
+grown_through : (t : ℕ) (c : After-map_piece-else-level-eq2 t)
+    → Through c.grow-below.new.pool c.map_piece-else-level-eq2.new.pool c.args.level (c.args.level - 1) c.args.table
+    c.index_of-index.result c.grow-below.result c.args.piece.now.from c.args.piece.now.to (piece_states c.args.piece.now)
+grown_through t c =
+    let mid = c.grow-below.new.pool in
+    let new = c.map_piece-else-level-eq2.new.pool in
+    let l = c.args.level - 1 in
+    let some : 1 ≤ c.args.level - 1 = low c.args.level c.if-level-eq1.false c.requires.low in
+    map_through mid new c.args.level l c.args.table c.index_of-index.result c.grow-below.result c.args.piece.now.from
+    c.args.piece.now.to (piece_states c.args.piece.now) (omega arith) some c.args.piece.now.one_span
+    (moved_tree c.args.pool.now mid c.args.level c.args.table [] c.requires.tree c.grow-below.ensures.moves)
+    c.index_of-index.ensures.inside c.index_of-index.ensures.exact c.grow-below.ensures.names c.map_piece-else-level-eq2.ensures.moves
+    c.map_piece-else-level-eq2.ensures.maps
 
 pub returns-else-level-eq2-clause-moves : goal.returns-else-level-eq2-clause-moves
 returns-else-level-eq2-clause-moves t c =
@@ -176,8 +264,7 @@ returns-else-level-eq2-clause-moves t c =
     let new = c.map_piece-else-level-eq2.new.pool in
     let l = c.args.level - 1 in
     let some : 1 ≤ c.args.level - 1 = low c.args.level c.if-level-eq1.false c.requires.low in
-    let through = map_through mid new c.args.level l c.args.table c.index_of-index.result c.grow-below.result c.args.piece.now.from c.args.piece.now.to (says c.args.piece.now) (omega arith) some c.args.piece.now.one_span
-    (moved_tree c.args.pool.now mid c.args.level c.args.table [] c.requires.tree c.grow-below.ensures.moves) c.index_of-index.ensures.inside c.index_of-index.ensures.exact c.grow-below.ensures.names c.map_piece-else-level-eq2.ensures.moves c.map_piece-else-level-eq2.ensures.maps in
+    let through = grown_through t (goal.at.returns-else-level-eq2-clause-moves t c).After-map_piece-else-level-eq2 in
     moves_then c.args.pool.now mid new c.args.level c.args.table [] [] c.grow-below.ensures.moves through.0
 
 pub returns-else-level-eq2-clause-maps : goal.returns-else-level-eq2-clause-maps
@@ -186,10 +273,11 @@ returns-else-level-eq2-clause-maps t c =
     let new = c.map_piece-else-level-eq2.new.pool in
     let l = c.args.level - 1 in
     let some : 1 ≤ c.args.level - 1 = low c.args.level c.if-level-eq1.false c.requires.low in
-    let through = map_through mid new c.args.level l c.args.table c.index_of-index.result c.grow-below.result c.args.piece.now.from c.args.piece.now.to (says c.args.piece.now) (omega arith) some c.args.piece.now.one_span
-    (moved_tree c.args.pool.now mid c.args.level c.args.table [] c.requires.tree c.grow-below.ensures.moves) c.index_of-index.ensures.inside c.index_of-index.ensures.exact c.grow-below.ensures.names c.map_piece-else-level-eq2.ensures.moves c.map_piece-else-level-eq2.ensures.maps in
-    maps_over c.args.pool.now mid new c.args.level c.args.table c.args.piece.now.from c.args.piece.now.to (says c.args.piece.now) c.grow-below.ensures.leaves c.grow-below.ensures.moves
-    (c.grow-below.ensures.maps c.args.piece.now.from c.args.piece.now.to c.args.piece.now.some (sym c.index_of-index.ensures.exact)) through.1
+    let through = grown_through t (goal.at.returns-else-level-eq2-clause-maps t c).After-map_piece-else-level-eq2 in
+    maps_over c.args.pool.now mid new c.args.level c.args.table c.args.piece.now.from c.args.piece.now.to (piece_states c.args.piece.now)
+    c.grow-below.ensures.leaves c.grow-below.ensures.moves
+    (c.grow-below.ensures.maps c.args.piece.now.from c.args.piece.now.to c.args.piece.now.some (sym c.index_of-index.ensures.exact))
+    through.1
 
 pub returns-else-level-eq2-clause-made : goal.returns-else-level-eq2-clause-made
 returns-else-level-eq2-clause-made t c =
@@ -197,9 +285,9 @@ returns-else-level-eq2-clause-made t c =
     let new = c.map_piece-else-level-eq2.new.pool in
     let l = c.args.level - 1 in
     let some : 1 ≤ c.args.level - 1 = low c.args.level c.if-level-eq1.false c.requires.low in
-    let through = map_through mid new c.args.level l c.args.table c.index_of-index.result c.grow-below.result c.args.piece.now.from c.args.piece.now.to (says c.args.piece.now) (omega arith) some c.args.piece.now.one_span
-    (moved_tree c.args.pool.now mid c.args.level c.args.table [] c.requires.tree c.grow-below.ensures.moves) c.index_of-index.ensures.inside c.index_of-index.ensures.exact c.grow-below.ensures.names c.map_piece-else-level-eq2.ensures.moves c.map_piece-else-level-eq2.ensures.maps in
-    made_through (memory new.words) c.args.level l c.args.table c.index_of-index.result c.grow-below.result c.args.piece.now.from (is_large c.args.piece.now) (omega arith) c.index_of-index.ensures.exact through.2 c.map_piece-else-level-eq2.ensures.made
+    let through = grown_through t (goal.at.returns-else-level-eq2-clause-made t c).After-map_piece-else-level-eq2 in
+    made_through (memory new.words) c.args.level l c.args.table c.index_of-index.result c.grow-below.result c.args.piece.now.from
+    (is_large c.args.piece.now) (omega arith) c.index_of-index.ensures.exact through.2 c.map_piece-else-level-eq2.ensures.made
 
 pub returns-else-level-eq2-clause-spared : goal.returns-else-level-eq2-clause-spared
 returns-else-level-eq2-clause-spared t c lower large =
@@ -207,13 +295,13 @@ returns-else-level-eq2-clause-spared t c lower large =
     let new = c.map_piece-else-level-eq2.new.pool in
     let l = c.args.level - 1 in
     let some : 1 ≤ c.args.level - 1 = low c.args.level c.if-level-eq1.false c.requires.low in
-    let through = map_through mid new c.args.level l c.args.table c.index_of-index.result c.grow-below.result c.args.piece.now.from c.args.piece.now.to (says c.args.piece.now) (omega arith) some c.args.piece.now.one_span
-    (moved_tree c.args.pool.now mid c.args.level c.args.table [] c.requires.tree c.grow-below.ensures.moves) c.index_of-index.ensures.inside c.index_of-index.ensures.exact c.grow-below.ensures.names c.map_piece-else-level-eq2.ensures.moves c.map_piece-else-level-eq2.ensures.maps in
+    let through = grown_through t (goal.at.returns-else-level-eq2-clause-spared t c).After-map_piece-else-level-eq2 in
     let deep : 1 < c.args.level - 1 = elim c.else-level-eq2.branch [
       | else-level-eq2-via-then-level-eq2+else-is_large w ↦ absurd (true_false (sym large ∙ sym w.is_large.ensures ∙ w.if-is_large.false))
       | else-level-eq2-via-else-level-eq2 w ↦ deeper c.args.level lower w.if-level-eq2.false
     ] in
-    spared_grown (memory c.args.pool.now.words) (memory mid.words) (memory new.words) c.args.level l c.args.table c.index_of-index.result c.grow-below.result c.args.piece.now.from (omega arith) deep c.index_of-index.ensures.exact c.in-Absent.ensures.is through.2
+    spared_grown (memory c.args.pool.now.words) (memory mid.words) (memory new.words) c.args.level l c.args.table c.index_of-index.result
+    c.grow-below.result c.args.piece.now.from (omega arith) deep c.index_of-index.ensures.exact c.in-Absent.ensures.is through.2
     (zeroed_bare mid.words c.grow-below.result c.grow-below.ensures.zeroed) (c.map_piece-else-level-eq2.ensures.spared deep large)
 
 pub returns-else-level-eq2-clause-count : goal.returns-else-level-eq2-clause-count
@@ -221,11 +309,9 @@ returns-else-level-eq2-clause-count t c =
     let some : 1 ≤ c.args.level - 1 = low c.args.level c.if-level-eq1.false c.requires.low in
     let l = c.args.level - 1 in
     let mid = c.grow-below.new.pool in
-    let m = memory c.args.pool.now.words in
     let n = memory mid.words in
-    let grown = count_grown m n c.args.level l c.args.table c.index_of-index.result c.grow-below.result c.args.piece.now.from (is_large c.args.piece.now) (omega arith) some c.index_of-index.ensures.exact c.in-Absent.ensures.is c.grow-below.ensures.names (zeroed_bare mid.words c.grow-below.result c.grow-below.ensures.zeroed) (λ (e : c.args.level - 1 ≡ 1). elim c.else-level-eq2.branch [
-      | else-level-eq2-via-then-level-eq2+else-is_large w ↦ sym w.is_large.ensures ∙ w.if-is_large.false
-      | else-level-eq2-via-else-level-eq2 w ↦ absurd (w.if-level-eq2.false (omega arith))
-    ]) in
-    let below = count_through n c.args.level l c.args.table c.index_of-index.result c.grow-below.result c.args.piece.now.from (is_large c.args.piece.now) (omega arith) some c.index_of-index.ensures.exact c.grow-below.ensures.names in
+    let grown = grown_count t (goal.at.returns-else-level-eq2-clause-count t c).After-grow-below in
+    let below =
+    count_through n c.args.level l c.args.table c.index_of-index.result c.grow-below.result c.args.piece.now.from
+    (is_large c.args.piece.now) (omega arith) some c.index_of-index.ensures.exact c.grow-below.ensures.names in
     omega (arith, grown, below, c.grow-below.ensures.count, c.map_piece-else-level-eq2.ensures.count)

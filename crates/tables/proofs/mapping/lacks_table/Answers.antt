@@ -16,16 +16,21 @@ is_eqb : (a b : ℕ) → a ≡ b → eqb a b ≡ true
 is_eqb a b e = grind (arith, nat_tests)
 
 pub returns-then-is_some : goal.returns-then-is_some
-returns-then-is_some c = sym (lacking_there (memory c.args.pool.now.words) c.args.level c.args.root (is_large_at c.args.segments.now c.args.first c.args.page) c.args.wanted c.args.page (ap is_some (sym c.table_at.ensures) ∙ sym c.is_some.ensures ∙ c.if-is_some.true))
+returns-then-is_some c =
+    sym (lacking_there (memory c.args.pool.now.words) c.args.level c.args.root (is_large_at c.args.segments.now c.args.first c.args.page)
+    c.args.wanted c.args.page (ap is_some (sym c.table_at.ensures) ∙ sym c.is_some.ensures ∙ c.if-is_some.true))
 
 pub returns-then-wanted-ne1 : goal.returns-then-wanted-ne1
 returns-then-wanted-ne1 c =
     let no : eqb c.args.wanted 1 ≡ false = not_eqb c.args.wanted 1 c.if-wanted-ne1.true in
     ap (λ b. cond (not b) 1 0) no ∙ ap (λ b. cond (b && is_large_at c.args.segments.now c.args.first c.args.page) 0 1) (sym no)
-    ∙ sym (lacking_else (memory c.args.pool.now.words) c.args.level c.args.root (is_large_at c.args.segments.now c.args.first c.args.page) c.args.wanted c.args.page (ap is_some (sym c.table_at.ensures) ∙ sym c.is_some.ensures ∙ c.if-is_some.false))
+    ∙ sym (lacking_else (memory c.args.pool.now.words) c.args.level c.args.root (is_large_at c.args.segments.now c.args.first c.args.page)
+    c.args.wanted c.args.page (ap is_some (sym c.table_at.ensures) ∙ sym c.is_some.ensures ∙ c.if-is_some.false))
 
 pub returns-else-wanted-ne1 : goal.returns-else-wanted-ne1
 returns-else-wanted-ne1 c =
     let yes : eqb c.args.wanted 1 ≡ true = is_eqb c.args.wanted 1 c.if-wanted-ne1.false in
-    ap (λ b. cond (not b) 1 0) c.is_large_at.ensures ∙ flip (is_large_at c.args.segments.now c.args.first c.args.page) ∙ ap (λ b. cond (b && is_large_at c.args.segments.now c.args.first c.args.page) 0 1) (sym yes)
-    ∙ sym (lacking_else (memory c.args.pool.now.words) c.args.level c.args.root (is_large_at c.args.segments.now c.args.first c.args.page) c.args.wanted c.args.page (ap is_some (sym c.table_at.ensures) ∙ sym c.is_some.ensures ∙ c.if-is_some.false))
+    ap (λ b. cond (not b) 1 0) c.is_large_at.ensures ∙ flip (is_large_at c.args.segments.now c.args.first c.args.page)
+    ∙ ap (λ b. cond (b && is_large_at c.args.segments.now c.args.first c.args.page) 0 1) (sym yes)
+    ∙ sym (lacking_else (memory c.args.pool.now.words) c.args.level c.args.root (is_large_at c.args.segments.now c.args.first c.args.page)
+    c.args.wanted c.args.page (ap is_some (sym c.table_at.ensures) ∙ sym c.is_some.ensures ∙ c.if-is_some.false))

@@ -1,5 +1,6 @@
 use Rattle.std.proofs.Common.{◌≡◌, ℕ, ◌+◌, ◌-◌, ◌*◌, ◌/◌, ◌%◌, ◌<◌, ◌≤◌, inr, ⊎_elim, false, List, [], refl, sym, ap, subst, ◌∙◌, arith}
 use Rattle.std.proofs.lemmas.Bool.{cases_lt}
+use Rattle.dmatypes.specs.declared.page.TheConstants.{SPAN_PAGES}
 use Rattle.dmatypes.specs.Conditions.{total_pages}
 use Rattle.dmatypes.specs.Rights.{bits_of}
 use Rattle.dmatypes.specs.World.{placed}
@@ -9,8 +10,8 @@ use Rattle.tables.specs.Tree.{span}
 use Rattle.tables.specs.Pool.{memory}
 use Rattle.tables.specs.Changes.{Maps, MakesTables}
 use Rattle.tables.specs.Segments.{is_large_at}
-use Rattle.tables.specs.Lacks.{lacks}
-use Rattle.tables.specs.Pieces.{says, is_large}
+use Rattle.tables.specs.Lacks.{tables_lacking}
+use Rattle.tables.specs.Pieces.{piece_states, is_large}
 use Rattle.tables.proofs.Counting.{Placed, lacks_least, lacks_step, lacks_ended}
 use Rattle.tables.proofs.LargePieces.{small_piece, short_piece}
 use Rattle.tables.proofs.Making.{no_makes, makes_then}
@@ -29,17 +30,18 @@ in_span l from to p some one low high =
 
 -- where a large leaf begins, a piece can be one
 flag : (segments : List Segment) (first place : ℕ) (x : Piece) → x.from ≡ place → is_large x ≡ is_large_at segments first place
-    → (0 < place % 512 → is_large_at segments first (512 * (place / 512)) ≡ false) → is_large_at segments first (x.from / 512 * 512) ≡ is_large x
+    → (0 < place % SPAN_PAGES → is_large_at segments first (SPAN_PAGES * (place / SPAN_PAGES)) ≡ false)
+    → is_large_at segments first (x.from / SPAN_PAGES * SPAN_PAGES) ≡ is_large x
 flag segments first place x at large inner =
     ⊎_elim
-    (λ (inside : 0 < place % 512).
-    let start : x.from / 512 * 512 ≡ 512 * (place / 512) = omega arith in
+    (λ (inside : 0 < place % SPAN_PAGES).
+    let start : x.from / SPAN_PAGES * SPAN_PAGES ≡ SPAN_PAGES * (place / SPAN_PAGES) = omega arith in
     let small : is_large x ≡ false = small_piece x (omega arith) in
     ap (is_large_at segments first) start ∙ inner inside ∙ sym small)
-    (λ (edge : place % 512 ≤ 0).
-    let start : x.from / 512 * 512 ≡ place = omega arith in
+    (λ (edge : place % SPAN_PAGES ≤ 0).
+    let start : x.from / SPAN_PAGES * SPAN_PAGES ≡ place = omega arith in
     ap (is_large_at segments first) start ∙ sym large)
-    (cases_lt 0 (place % 512))
+    (cases_lt 0 (place % SPAN_PAGES))
 
 pub loop-piece-init : goal.loop-piece-init
 loop-piece-init c = record {
@@ -48,7 +50,10 @@ loop-piece-init c = record {
   moves = no_moves c.args.pool.now c.args.level c.args.root;
   maps = no_maps c.args.pool.now c.args.level c.args.root c.args.first (placed c.args.segments.now c.args.first (bits_of c.args.rights));
   count = refl;
-  inner = λ inside. not_large c.args.segments.now c.args.first (512 * (c.args.first / 512)) (rest_below c.args.segments.now c.args.first (512 * (c.args.first / 512)) (omega (arith, inside)));
+  inner =
+      λ inside.
+      not_large c.args.segments.now c.args.first (SPAN_PAGES * (c.args.first / SPAN_PAGES))
+      (rest_below c.args.segments.now c.args.first (SPAN_PAGES * (c.args.first / SPAN_PAGES)) (omega (arith, inside)));
   ended = λ e. absurd (omega (arith, e, c.requires.some));
   pool = λ some. absurd (omega (arith, some));
   makes = no_makes c.args.pool.now c.args.level c.args.root c.args.first (is_large_at c.args.segments.now c.args.first);
@@ -59,15 +64,23 @@ map_piece-requires-clause-absent c p low high =
     let from : c.loop-piece.place ≤ p = omega (arith, c.in-Some.ensures.page) in
     let to : p < c.args.first + total_pages c.args.segments.now = omega (arith, c.in-Some.ensures.within) in
     let start : c.args.first ≤ p = omega (arith, c.loop-piece.invariant.low) in
-    c.loop-piece.invariant.maps.elsewhere p (in_span c.args.level c.args.first (total_pages c.args.segments.now) p c.requires.some c.requires.one_span start to) (inr from)
+    c.loop-piece.invariant.maps.elsewhere p
+    (in_span c.args.level c.args.first (total_pages c.args.segments.now) p c.requires.some c.requires.one_span start to) (inr from)
     ∙ c.requires.absent p start to
 
 pub map_piece-requires-clause-room : goal.map_piece-requires-clause-room
 map_piece-requires-clause-room c =
     let end = c.args.first + total_pages c.args.segments.now in
-    let least = lacks_least (memory c.loop-piece.pool.words) c.args.level c.args.root (is_large_at c.args.segments.now c.args.first) (is_large c.in-Some.piece) c.in-Some.piece.from (c.args.first + total_pages c.args.segments.now)
-    (omega (arith, c.in-Some.piece.some, c.in-Some.ensures.within)) (flag c.args.segments.now c.args.first c.loop-piece.place c.in-Some.piece c.in-Some.ensures.page c.in-Some.ensures.large c.loop-piece.invariant.inner) in
-    let moved = ap (λ q. lacks (memory c.loop-piece.pool.words) c.args.level c.args.root (is_large_at c.args.segments.now c.args.first) q (c.args.first + total_pages c.args.segments.now)) c.in-Some.ensures.page in
+    let least =
+    lacks_least (memory c.loop-piece.pool.words) c.args.level c.args.root (is_large_at c.args.segments.now c.args.first)
+    (is_large c.in-Some.piece) c.in-Some.piece.from (c.args.first + total_pages c.args.segments.now)
+    (omega (arith, c.in-Some.piece.some, c.in-Some.ensures.within))
+    (flag c.args.segments.now c.args.first c.loop-piece.place c.in-Some.piece c.in-Some.ensures.page c.in-Some.ensures.large
+    c.loop-piece.invariant.inner) in
+    let moved =
+    ap (λ q.
+    tables_lacking (memory c.loop-piece.pool.words) c.args.level c.args.root (is_large_at c.args.segments.now c.args.first) q
+    (c.args.first + total_pages c.args.segments.now)) c.in-Some.ensures.page in
     omega (arith, least, moved, c.loop-piece.invariant.count, c.requires.room)
 
 pub loop-piece-preserved : goal.loop-piece-preserved
@@ -79,35 +92,55 @@ loop-piece-preserved c =
     let large = is_large_at c.args.segments.now c.args.first in
     let at = c.in-Some.ensures.page in
     let says_it = placed c.args.segments.now c.args.first (bits_of c.args.rights) in
-    let wide : (p : ℕ) → c.args.first ≤ p → p < c.args.first + total_pages c.args.segments.now → p / span c.args.level ≡ c.args.first / span c.args.level =
+    let wide : (p : ℕ) → c.args.first ≤ p → p < c.args.first + total_pages c.args.segments.now
+    → p / span c.args.level ≡ c.args.first / span c.args.level =
     λ p low high. in_span c.args.level c.args.first (total_pages c.args.segments.now) p c.requires.some c.requires.one_span low high in
     let far : c.in-Some.piece.to ≤ c.args.first + total_pages c.args.segments.now = c.in-Some.ensures.within in
     let near : c.args.first ≤ c.in-Some.piece.from = omega (arith, at, c.loop-piece.invariant.low) in
     let some : c.in-Some.piece.from < c.in-Some.piece.to = c.in-Some.piece.some in
-    let before : Maps c.args.pool.now c.loop-piece.pool c.args.level c.args.root c.args.first c.in-Some.piece.from (placed c.args.segments.now c.args.first (bits_of c.args.rights)) =
-    subst (λ q. Maps c.args.pool.now c.loop-piece.pool c.args.level c.args.root c.args.first q (placed c.args.segments.now c.args.first (bits_of c.args.rights))) (sym at) c.loop-piece.invariant.maps in
-    let made : MakesTables c.args.pool.now c.loop-piece.pool c.args.level c.args.root c.args.first c.in-Some.piece.from (is_large_at c.args.segments.now c.args.first) =
-    subst (λ q. MakesTables c.args.pool.now c.loop-piece.pool c.args.level c.args.root c.args.first q (is_large_at c.args.segments.now c.args.first)) (sym at) c.loop-piece.invariant.makes in
-    let here : Placed c.loop-piece.pool c.map_piece.new.pool c.args.level c.args.root c.in-Some.piece.from c.in-Some.piece.to (says c.in-Some.piece) (is_large c.in-Some.piece) = record {
+    let before : Maps c.args.pool.now c.loop-piece.pool c.args.level c.args.root c.args.first c.in-Some.piece.from
+    (placed c.args.segments.now c.args.first (bits_of c.args.rights)) =
+    subst (λ q.
+    Maps c.args.pool.now c.loop-piece.pool c.args.level c.args.root c.args.first q
+    (placed c.args.segments.now c.args.first (bits_of c.args.rights)))
+    (sym at) c.loop-piece.invariant.maps in
+    let made : MakesTables c.args.pool.now c.loop-piece.pool c.args.level c.args.root c.args.first c.in-Some.piece.from
+    (is_large_at c.args.segments.now c.args.first) =
+    subst (λ q.
+    MakesTables c.args.pool.now c.loop-piece.pool c.args.level c.args.root c.args.first q
+    (is_large_at c.args.segments.now c.args.first))
+    (sym at) c.loop-piece.invariant.makes in
+    let here : Placed c.loop-piece.pool c.map_piece.new.pool c.args.level c.args.root c.in-Some.piece.from c.in-Some.piece.to
+    (piece_states c.in-Some.piece) (is_large c.in-Some.piece) =
+    record {
       maps = c.map_piece.ensures.maps;
       made = c.map_piece.ensures.made;
       some = c.in-Some.piece.some;
       one = c.in-Some.piece.one_span;
       short = λ inside. short_piece c.in-Some.piece inside;
     } in
-    let step = lacks_step cur new c.args.level c.args.root x.from x.to end (says x) large (is_large x) here far
-    (λ p low high. wide p (omega arith) high ∙ sym (wide x.from near (omega arith))) (flag c.args.segments.now c.args.first c.loop-piece.place c.in-Some.piece c.in-Some.ensures.page c.in-Some.ensures.large c.loop-piece.invariant.inner) in
-    let moved = ap (λ q. lacks (memory cur.words) c.args.level c.args.root large q end) at in
+    let step = lacks_step cur new c.args.level c.args.root x.from x.to end (piece_states x) large (is_large x) here far
+    (λ p low high. wide p (omega arith) high ∙ sym (wide x.from near (omega arith)))
+    (flag c.args.segments.now c.args.first c.loop-piece.place c.in-Some.piece c.in-Some.ensures.page c.in-Some.ensures.large
+    c.loop-piece.invariant.inner) in
+    let moved = ap (λ q. tables_lacking (memory cur.words) c.args.level c.args.root large q end) at in
     record {
       low = omega arith;
       high = far;
       moves = moves_then c.args.pool.now cur new c.args.level c.args.root [] [] c.loop-piece.invariant.moves c.map_piece.ensures.moves;
-      maps = maps_then c.args.pool.now cur new c.args.level c.args.root c.args.first x.from x.to says_it near some (λ p low high. wide p low (omega arith)) c.loop-piece.invariant.moves before
-          (maps_said cur new c.args.level c.args.root x.from x.to (says x) says_it (λ p low high. sym (c.in-Some.ensures.placed p (omega (arith, at, low)) high)) c.map_piece.ensures.maps);
+      maps =
+          maps_then c.args.pool.now cur new c.args.level c.args.root c.args.first x.from x.to says_it near some
+          (λ p low high. wide p low (omega arith)) c.loop-piece.invariant.moves before
+          (maps_said cur new c.args.level c.args.root x.from x.to (piece_states x) says_it
+          (λ p low high. sym (c.in-Some.ensures.placed p (omega (arith, at, low)) high)) c.map_piece.ensures.maps);
       count = omega (arith, step, moved, c.map_piece.ensures.count, c.loop-piece.invariant.count);
       inner = c.in-Some.ensures.inner;
-      ended = λ e. lacks_ended cur new c.args.level c.args.root x.from x.to (says x) large (is_large x) here;
+      ended = λ e. lacks_ended cur new c.args.level c.args.root x.from x.to (piece_states x) large (is_large x) here;
       pool = λ _. c.map_piece.ensures.pool;
-      makes = makes_then c.args.pool.now cur new c.args.level c.args.root c.args.first x.from x.to says_it (says x) large (is_large x) near (λ p low high. wide p low (omega arith)) made before here
-          (flag c.args.segments.now c.args.first c.loop-piece.place c.in-Some.piece c.in-Some.ensures.page c.in-Some.ensures.large c.loop-piece.invariant.inner) (λ inside. small_piece x inside) c.map_piece.ensures.spared;
+      makes =
+          makes_then c.args.pool.now cur new c.args.level c.args.root c.args.first x.from x.to says_it (piece_states x) large (is_large x)
+          near (λ p low high. wide p low (omega arith)) made before here
+          (flag c.args.segments.now c.args.first c.loop-piece.place c.in-Some.piece c.in-Some.ensures.page c.in-Some.ensures.large
+          c.loop-piece.invariant.inner)
+          (λ inside. small_piece x inside) c.map_piece.ensures.spared;
     }

@@ -1,11 +1,12 @@
 use Rattle.std.proofs.Common.{◌≡◌, ◌+◌, ◌-◌, ◌*◌, ◌/◌, ◌%◌, ◌<◌, ◌≤◌, false, [], length}
+use Rattle.dmatypes.specs.declared.page.TheConstants.{SPAN_PAGES}
 use Rattle.dmatypes.specs.Conditions.{total_pages}
 use Rattle.dmatypes.specs.Rights.{bits_of}
 use Rattle.dmatypes.specs.World.{placed}
 use Rattle.tables.specs.Pool.{memory, IsPool}
 use Rattle.tables.specs.Changes.{TakesAndGivesFrames, Maps, MakesTables}
 use Rattle.tables.specs.Segments.{is_large_at}
-use Rattle.tables.specs.Lacks.{lacks, map_lacks}
+use Rattle.tables.specs.Lacks.{tables_lacking, map_lacks}
 use Rattle.tables.proofs.mapping.map_pieces.Given as goal
 
 abbrev pub invariant-loop-piece : goal.invariant-loop-piece
@@ -15,9 +16,11 @@ invariant-loop-piece l = record {
   moves : TakesAndGivesFrames l.initial.pool l.pool l.level l.root [];
   maps : Maps l.initial.pool l.pool l.level l.root l.first l.place (placed l.segments l.first (bits_of l.rights));
   count : length l.pool.free + map_lacks l.initial.pool l.level l.root l.segments l.first
-      ≡ length l.initial.pool.free + lacks (memory l.pool.words) l.level l.root (is_large_at l.segments l.first) l.place (l.first + total_pages l.segments);
-  inner : 0 < l.place % 512 → is_large_at l.segments l.first (512 * (l.place / 512)) ≡ false;
-  ended : l.place ≡ l.first + total_pages l.segments → lacks (memory l.pool.words) l.level l.root (is_large_at l.segments l.first) l.place l.place ≡ 0;
+      ≡ length l.initial.pool.free
+      + tables_lacking (memory l.pool.words) l.level l.root (is_large_at l.segments l.first) l.place (l.first + total_pages l.segments);
+  inner : 0 < l.place % SPAN_PAGES → is_large_at l.segments l.first (SPAN_PAGES * (l.place / SPAN_PAGES)) ≡ false;
+  ended : l.place ≡ l.first + total_pages l.segments
+      → tables_lacking (memory l.pool.words) l.level l.root (is_large_at l.segments l.first) l.place l.place ≡ 0;
   pool : l.first < l.place → IsPool l.pool;
   makes : MakesTables l.initial.pool l.pool l.level l.root l.first l.place (is_large_at l.segments l.first);
 }

@@ -1,4 +1,5 @@
-use Rattle.std.proofs.Common.{ℕ, ◌-◌, ◌*◌, ◌^◌, ◌≤◌, Bool}
+use Rattle.std.proofs.Common.{ℕ, ◌-◌, ◌*◌, ◌≤◌, Bool}
+use Rattle.tables.specs.declared.entries.TheConstants.{WIDEST_PAGES_END}
 use Rattle.tables.specs.Tree.{Memory, total}
 use Rattle.tables.proofs.Sums.{level_lacks}
 use Rattle.tables.proofs.mapping.most_lacking.Given as goal
@@ -6,5 +7,5 @@ use Rattle.tables.proofs.mapping.most_lacking.Given as goal
 abbrev pub invariant-loop-wanted : goal.invariant-loop-wanted
 invariant-loop-wanted l = record {
   enough : (m : Memory) (root : ℕ) (large : ℕ → Bool) → total (level_lacks m l.level root large l.first l.end) (l.wanted - 1) ≤ l.most;
-  small : l.most ≤ (l.wanted - 1) * 2 ^ 36;
+  small : l.most ≤ (l.wanted - 1) * WIDEST_PAGES_END;
 }

@@ -1,10 +1,13 @@
-use Rattle.std.proofs.Common.{◌≡◌, ◌+◌, ◌<◌, ap, ◌∙◌, subst, arith, refl}
+use Rattle.std.proofs.Common.{[], ℕ, ◌≡◌, ◌+◌, ◌<◌, ap, ◌∙◌, subst, arith, refl}
+use Rattle.dmatypes.specs.declared.page.TheConstants.{SPAN_PAGES}
+use Rattle.tables.specs.declared.entries.TheConstants.{TABLE_ENTRIES}
 use Rattle.vtdbits.specs.Entry.{look}
 use Rattle.vtdbits.specs.Translation.{target}
 use Rattle.vtdbits.specs.declared.entry.SsEntry.TheVariants.{LargeLeaf}
 use Rattle.dmatypes.specs.Rights.{bits_of}
-use Rattle.tables.specs.Changes.{Maps}
-use Rattle.tables.specs.Pieces.{says}
+use Rattle.tables.specs.Changes.{TakesAndGivesFrames, Maps}
+use Rattle.tables.specs.Pieces.{piece_states}
+use Rattle.tables.specs.Tree.{table_from}
 use Rattle.tables.specs.Pool.{memory}
 use Rattle.tables.proofs.Large.{large_maps}
 use Rattle.tables.proofs.LargePieces.{large_from}
@@ -12,6 +15,7 @@ use Rattle.tables.proofs.Under.{root_in, root_taken}
 use Rattle.tables.proofs.Words.{memory_at}
 use Rattle.tables.proofs.Walks.{index_lt}
 use Rattle.tables.proofs.mapping.write_large.Goals as goal
+use Rattle.tables.proofs.mapping.write_large.Goals.{After-write}
 
 pub write-requires-clause-frame : goal.write-requires-clause-frame
 write-requires-clause-frame c = root_in c.args.pool.now 1 c.args.table c.requires.tree
@@ -19,39 +23,37 @@ write-requires-clause-frame c = root_in c.args.pool.now 1 c.args.table c.require
 pub write-requires-clause-taken : goal.write-requires-clause-taken
 write-requires-clause-taken c = root_taken c.args.pool.now 1 c.args.table c.requires.tree
 
-pub returns-clause-moves : goal.returns-clause-moves
-returns-clause-moves c =
+-- what the one word that was written changed
+written : (c : After-write)
+    → TakesAndGivesFrames c.args.pool.now c.write.new.self 2 c.args.table []
+    × Maps c.args.pool.now c.write.new.self 2 c.args.table c.args.piece.now.from c.args.piece.now.to (piece_states c.args.piece.now)
+    × ((p w : ℕ)
+    → table_from (memory c.write.new.self.words) 2 c.args.table p w ≡ table_from (memory c.args.pool.now.words) 2 c.args.table p w)
+written c =
     let whole = large_from c.args.piece.now c.requires.large in
     let named : c.unwrap-frame.result ≡ c.args.piece.now.frame = (rw c.unwrap-frame.ensures at c.new.ensures.value) in
-    let leaf : c.new-leaf.result ≡ target c.args.piece.now.frame (bits_of c.args.piece.now.rights) = c.new-leaf.ensures ∙ ap (λ f. target f (bits_of c.args.piece.now.rights)) named in
-    let names : memory c.write.new.self.words 2 c.args.table c.args.index ≡ LargeLeaf (target c.args.piece.now.frame (bits_of c.args.piece.now.rights)) =
-    memory_at c.write.new.self.words 2 c.args.table c.args.index ∙ ap (look 2) c.write.ensures.wrote.0 ∙ c.encode.ensures.looked 2 refl ∙ ap LargeLeaf leaf in
-    let inside : c.args.index < 512 = omega (arith, index_lt 1 c.args.piece.now.from, c.requires.index) in
-    let all = large_maps c.args.pool.now c.write.new.self c.args.table c.args.index c.args.piece.now.from c.args.piece.now.frame (bits_of c.args.piece.now.rights) c.encode.result
-    c.requires.tree inside c.requires.index whole.0 c.write.ensures.wrote c.write.ensures.free c.write.ensures.frames c.requires.absent names in
-    all.0
+    let leaf : c.new-leaf.result ≡ target c.args.piece.now.frame (bits_of c.args.piece.now.rights) =
+    c.new-leaf.ensures ∙ ap (λ f. target f (bits_of c.args.piece.now.rights)) named in
+    let names : memory c.write.new.self.words 2 c.args.table c.args.index
+    ≡ LargeLeaf (target c.args.piece.now.frame (bits_of c.args.piece.now.rights)) =
+    memory_at c.write.new.self.words 2 c.args.table c.args.index ∙ ap (look 2) c.write.ensures.wrote.0 ∙ c.encode.ensures.looked 2 refl
+    ∙ ap LargeLeaf leaf in
+    let inside : c.args.index < TABLE_ENTRIES = omega (arith, index_lt 1 c.args.piece.now.from, c.requires.index) in
+    let all =
+    large_maps c.args.pool.now c.write.new.self c.args.table c.args.index c.args.piece.now.from c.args.piece.now.frame
+    (bits_of c.args.piece.now.rights) c.encode.result c.requires.tree inside c.requires.index whole.0 c.write.ensures.wrote
+    c.write.ensures.free c.write.ensures.frames c.requires.absent names in
+    let end : c.args.piece.now.from + SPAN_PAGES ≡ c.args.piece.now.to = omega (arith, whole.1, c.args.piece.now.some) in (
+      all.0,
+      subst (λ to. Maps c.args.pool.now c.write.new.self 2 c.args.table c.args.piece.now.from to (piece_states c.args.piece.now)) end all.1,
+      all.2,
+    )
 
-pub returns-clause-tables : goal.returns-clause-tables
-returns-clause-tables c =
-    let whole = large_from c.args.piece.now c.requires.large in
-    let named : c.unwrap-frame.result ≡ c.args.piece.now.frame = (rw c.unwrap-frame.ensures at c.new.ensures.value) in
-    let leaf : c.new-leaf.result ≡ target c.args.piece.now.frame (bits_of c.args.piece.now.rights) = c.new-leaf.ensures ∙ ap (λ f. target f (bits_of c.args.piece.now.rights)) named in
-    let names : memory c.write.new.self.words 2 c.args.table c.args.index ≡ LargeLeaf (target c.args.piece.now.frame (bits_of c.args.piece.now.rights)) =
-    memory_at c.write.new.self.words 2 c.args.table c.args.index ∙ ap (look 2) c.write.ensures.wrote.0 ∙ c.encode.ensures.looked 2 refl ∙ ap LargeLeaf leaf in
-    let inside : c.args.index < 512 = omega (arith, index_lt 1 c.args.piece.now.from, c.requires.index) in
-    let all = large_maps c.args.pool.now c.write.new.self c.args.table c.args.index c.args.piece.now.from c.args.piece.now.frame (bits_of c.args.piece.now.rights) c.encode.result
-    c.requires.tree inside c.requires.index whole.0 c.write.ensures.wrote c.write.ensures.free c.write.ensures.frames c.requires.absent names in
-    all.2
+pub returns-clause-moves : goal.returns-clause-moves
+returns-clause-moves c = (written (goal.at.returns-clause-moves c).After-write).0
 
 pub returns-clause-maps : goal.returns-clause-maps
-returns-clause-maps c =
-    let whole = large_from c.args.piece.now c.requires.large in
-    let named : c.unwrap-frame.result ≡ c.args.piece.now.frame = (rw c.unwrap-frame.ensures at c.new.ensures.value) in
-    let leaf : c.new-leaf.result ≡ target c.args.piece.now.frame (bits_of c.args.piece.now.rights) = c.new-leaf.ensures ∙ ap (λ f. target f (bits_of c.args.piece.now.rights)) named in
-    let names : memory c.write.new.self.words 2 c.args.table c.args.index ≡ LargeLeaf (target c.args.piece.now.frame (bits_of c.args.piece.now.rights)) =
-    memory_at c.write.new.self.words 2 c.args.table c.args.index ∙ ap (look 2) c.write.ensures.wrote.0 ∙ c.encode.ensures.looked 2 refl ∙ ap LargeLeaf leaf in
-    let inside : c.args.index < 512 = omega (arith, index_lt 1 c.args.piece.now.from, c.requires.index) in
-    let all = large_maps c.args.pool.now c.write.new.self c.args.table c.args.index c.args.piece.now.from c.args.piece.now.frame (bits_of c.args.piece.now.rights) c.encode.result
-    c.requires.tree inside c.requires.index whole.0 c.write.ensures.wrote c.write.ensures.free c.write.ensures.frames c.requires.absent names in
-    let end : c.args.piece.now.from + 512 ≡ c.args.piece.now.to = omega (arith, whole.1, c.args.piece.now.some) in
-    subst (λ to. Maps c.args.pool.now c.write.new.self 2 c.args.table c.args.piece.now.from to (says c.args.piece.now)) end all.1
+returns-clause-maps c = (written (goal.at.returns-clause-maps c).After-write).1
+
+pub returns-clause-tables : goal.returns-clause-tables
+returns-clause-tables c = (written (goal.at.returns-clause-tables c).After-write).2

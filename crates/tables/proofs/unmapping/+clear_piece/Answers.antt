@@ -24,7 +24,8 @@ clear_piece-requires t c = (
     (
       omega arith,
       (
-        below_level c.args.pool.now (c.args.level - 1) c.args.table c.index_of.result c.in-Table.below c.args.level (omega arith) c.requires.tree c.index_of.ensures.inside c.in-Table.ensures.is,
+        below_level c.args.pool.now (c.args.level - 1) c.args.table c.index_of.result c.in-Table.below c.args.level (omega arith)
+            c.requires.tree c.index_of.ensures.inside c.in-Table.ensures.is,
         (
           c.requires.some,
           (
@@ -32,8 +33,21 @@ clear_piece-requires t c = (
             (
               c.requires.within,
               (
-                (λ p from to. subst (λ (o : Option Found). IsSome o) (absent_below (memory c.args.pool.now.words) c.args.level (c.args.level - 1) c.args.table c.index_of.result c.in-Table.below c.args.from c.args.to p (omega arith) (deep c.args.level c.if-level-eq2.false c.requires.low).0 c.requires.one_span c.index_of.ensures.exact c.in-Table.ensures.is from to) (c.requires.there p from to)),
-                omega (arith, c.requires.room, splits_below (memory c.args.pool.now.words) c.args.level (c.args.level - 1) c.args.table c.in-Table.below c.args.from c.args.to (absent_below (memory c.args.pool.now.words) c.args.level (c.args.level - 1) c.args.table c.index_of.result c.in-Table.below c.args.from c.args.to c.args.from (omega arith) (deep c.args.level c.if-level-eq2.false c.requires.low).0 c.requires.one_span c.index_of.ensures.exact c.in-Table.ensures.is (omega arith) c.requires.some)),
+                (λ p from to.
+                    subst (λ (o : Option Found). IsSome o) (absent_below (memory c.args.pool.now.words) c.args.level (c.args.level - 1)
+                    c.args.table c.index_of.result c.in-Table.below c.args.from c.args.to p (omega arith)
+                    (deep c.args.level c.if-level-eq2.false c.requires.low).0 c.requires.one_span c.index_of.ensures.exact
+                    c.in-Table.ensures.is from to)
+                    (c.requires.there p from to)),
+                omega (
+                  arith,
+                  c.requires.room,
+                  splits_below (memory c.args.pool.now.words) c.args.level (c.args.level - 1) c.args.table c.in-Table.below c.args.from
+                      c.args.to (absent_below (memory c.args.pool.now.words) c.args.level (c.args.level - 1) c.args.table c.index_of.result
+                      c.in-Table.below c.args.from c.args.to c.args.from (omega arith)
+                      (deep c.args.level c.if-level-eq2.false c.requires.low).0 c.requires.one_span c.index_of.ensures.exact
+                      c.in-Table.ensures.is (omega arith) c.requires.some),
+                ),
               ),
             ),
           ),
@@ -45,19 +59,36 @@ clear_piece-requires t c = (
 
 pub returns-clause-moves : goal.returns-clause-moves
 returns-clause-moves t c =
-    (unmap_through c.args.pool.now c.clear_piece.new.pool c.args.level (c.args.level - 1) c.args.table c.index_of.result c.in-Table.below c.args.from c.args.to (cut_of c.clear_piece.result) (omega arith) (deep c.args.level c.if-level-eq2.false c.requires.low).1 c.requires.some c.requires.one_span
-    c.requires.tree c.index_of.ensures.inside c.index_of.ensures.exact c.in-Table.ensures.is c.clear_piece.ensures.moves c.clear_piece.ensures.unmaps).0
+    (unmap_through c.args.pool.now c.clear_piece.new.pool c.args.level (c.args.level - 1) c.args.table c.index_of.result c.in-Table.below
+    c.args.from c.args.to (cut_of c.clear_piece.result) (omega arith) (deep c.args.level c.if-level-eq2.false c.requires.low).1
+    c.requires.some c.requires.one_span c.requires.tree c.index_of.ensures.inside c.index_of.ensures.exact c.in-Table.ensures.is
+    c.clear_piece.ensures.moves c.clear_piece.ensures.unmaps).0
 
 pub returns-clause-unmaps : goal.returns-clause-unmaps
 returns-clause-unmaps t c =
-    (unmap_through c.args.pool.now c.clear_piece.new.pool c.args.level (c.args.level - 1) c.args.table c.index_of.result c.in-Table.below c.args.from c.args.to (cut_of c.clear_piece.result) (omega arith) (deep c.args.level c.if-level-eq2.false c.requires.low).1 c.requires.some c.requires.one_span
-    c.requires.tree c.index_of.ensures.inside c.index_of.ensures.exact c.in-Table.ensures.is c.clear_piece.ensures.moves c.clear_piece.ensures.unmaps).1
+    (unmap_through c.args.pool.now c.clear_piece.new.pool c.args.level (c.args.level - 1) c.args.table c.index_of.result c.in-Table.below
+    c.args.from c.args.to (cut_of c.clear_piece.result) (omega arith) (deep c.args.level c.if-level-eq2.false c.requires.low).1
+    c.requires.some c.requires.one_span c.requires.tree c.index_of.ensures.inside c.index_of.ensures.exact c.in-Table.ensures.is
+    c.clear_piece.ensures.moves c.clear_piece.ensures.unmaps).1
 
 pub returns-clause-split : goal.returns-clause-split
-returns-clause-split t c = c.clear_piece.ensures.split ∙ sym (splits_below (memory c.args.pool.now.words) c.args.level (c.args.level - 1) c.args.table c.in-Table.below c.args.from c.args.to (absent_below (memory c.args.pool.now.words) c.args.level (c.args.level - 1) c.args.table c.index_of.result c.in-Table.below c.args.from c.args.to c.args.from (omega arith) (deep c.args.level c.if-level-eq2.false c.requires.low).0 c.requires.one_span c.index_of.ensures.exact c.in-Table.ensures.is (omega arith) c.requires.some))
+returns-clause-split t c =
+    c.clear_piece.ensures.split
+    ∙ sym (splits_below (memory c.args.pool.now.words) c.args.level (c.args.level - 1) c.args.table c.in-Table.below c.args.from c.args.to
+    (absent_below (memory c.args.pool.now.words) c.args.level (c.args.level - 1) c.args.table c.index_of.result c.in-Table.below
+    c.args.from c.args.to c.args.from (omega arith) (deep c.args.level c.if-level-eq2.false c.requires.low).0 c.requires.one_span
+    c.index_of.ensures.exact c.in-Table.ensures.is (omega arith) c.requires.some))
 
 pub returns-clause-count : goal.returns-clause-count
-returns-clause-count t c = omega (arith, c.clear_piece.ensures.count, splits_below (memory c.args.pool.now.words) c.args.level (c.args.level - 1) c.args.table c.in-Table.below c.args.from c.args.to (absent_below (memory c.args.pool.now.words) c.args.level (c.args.level - 1) c.args.table c.index_of.result c.in-Table.below c.args.from c.args.to c.args.from (omega arith) (deep c.args.level c.if-level-eq2.false c.requires.low).0 c.requires.one_span c.index_of.ensures.exact c.in-Table.ensures.is (omega arith) c.requires.some))
+returns-clause-count t c =
+    omega (
+      arith,
+      c.clear_piece.ensures.count,
+      splits_below (memory c.args.pool.now.words) c.args.level (c.args.level - 1) c.args.table c.in-Table.below c.args.from c.args.to
+          (absent_below (memory c.args.pool.now.words) c.args.level (c.args.level - 1) c.args.table c.index_of.result c.in-Table.below
+          c.args.from c.args.to c.args.from (omega arith) (deep c.args.level c.if-level-eq2.false c.requires.low).0 c.requires.one_span
+          c.index_of.ensures.exact c.in-Table.ensures.is (omega arith) c.requires.some),
+    )
 
 not_there : (o : Option Found) → o ≡ None → IsSome o → ⊥
 not_there None e h = cc
@@ -67,7 +98,8 @@ pub unreachable-requires : goal.unreachable-requires
 unreachable-requires t c =
     elim c.in-Absent.is [
       | inl e ↦ not_there (leaf_from (memory c.args.pool.now.words) c.args.level c.args.table c.args.from)
-          (leaf_level (memory c.args.pool.now.words) (c.args.level - 1) c.args.table c.args.from c.args.level Absent (omega arith) (ap (λ i. memory c.args.pool.now.words c.args.level c.args.table i) (sym c.index_of.ensures.exact) ∙ c.entry.ensures.is ∙ e))
+          (leaf_level (memory c.args.pool.now.words) (c.args.level - 1) c.args.table c.args.from c.args.level Absent (omega arith)
+          (ap (λ i. memory c.args.pool.now.words c.args.level c.args.table i) (sym c.index_of.ensures.exact) ∙ c.entry.ensures.is ∙ e))
           (c.requires.there c.args.from (omega arith) c.requires.some)
       | inr (inl (x, e)) ↦ let wrong = subst (λ y. MayStandAt c.args.level y) e c.entry.ensures.stands in omega (arith, c.requires.low)
       | inr (inr (x, e)) ↦ let wrong = subst (λ y. MayStandAt c.args.level y) e c.entry.ensures.stands in c.if-level-eq2.false wrong

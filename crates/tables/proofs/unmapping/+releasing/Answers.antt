@@ -1,4 +1,6 @@
 use Rattle.std.proofs.Common.{◌≡◌, ℕ, ◌-◌, refl, ap, ◌∙◌, arith, inl, inr}
+use Rattle.dmatypes.specs.declared.page.TheConstants.{SPAN_PAGES}
+use Rattle.tables.specs.declared.entries.TheConstants.{TABLE_ENTRIES}
 use Rattle.vtdbits.specs.declared.entry.SsEntry.TheVariants.{Absent, Leaf, LargeLeaf}
 use Rattle.tables.specs.Tree.{total, uses}
 use Rattle.tables.specs.Pool.{memory, word, occurs}
@@ -19,12 +21,19 @@ release-release_entry-requires t c = (
     (
       c.requires.high,
       (
-        omega (arith, root_in_level c.args.pool.now (c.args.level - 1) c.args.table c.args.level (omega arith) c.requires.tree, c.loop-index.invariant.frames),
+        omega (
+          arith,
+          root_in_level c.args.pool.now (c.args.level - 1) c.args.table c.args.level (omega arith) c.requires.tree,
+          c.loop-index.invariant.frames,
+        ),
         (
-          taken_left c.args.pool.now c.loop-index.pool c.args.level (c.args.level - 1) c.args.table c.loop-index.index (omega arith) c.loop-index-test.true c.requires.tree c.loop-index.invariant,
+          taken_left c.args.pool.now c.loop-index.pool c.args.level (c.args.level - 1) c.args.table c.loop-index.index (omega arith)
+              c.loop-index-test.true c.requires.tree c.loop-index.invariant,
           (
             c.loop-index-test.true,
-            λ below is. below_left c.args.pool.now c.loop-index.pool c.args.level (c.args.level - 1) c.args.table c.loop-index.index below (omega arith) c.loop-index-test.true c.requires.tree c.loop-index.invariant is,
+            λ below is.
+                below_left c.args.pool.now c.loop-index.pool c.args.level (c.args.level - 1) c.args.table c.loop-index.index below
+                (omega arith) c.loop-index-test.true c.requires.tree c.loop-index.invariant is,
           ),
         ),
       ),
@@ -34,58 +43,101 @@ release-release_entry-requires t c = (
 
 pub release-loop-index-preserved : goal.release-loop-index-preserved
 release-loop-index-preserved t c =
-    releasing_more c.args.pool.now c.loop-index.pool c.release_entry.new.pool c.args.level (c.args.level - 1) c.args.table c.loop-index.index (omega arith) c.loop-index-test.true c.requires.tree c.loop-index.invariant
-    c.release_entry.ensures.free c.release_entry.ensures.cleared c.release_entry.ensures.row c.release_entry.ensures.others c.release_entry.ensures.frames
+    releasing_more c.args.pool.now c.loop-index.pool c.release_entry.new.pool c.args.level (c.args.level - 1) c.args.table
+    c.loop-index.index (omega arith) c.loop-index-test.true c.requires.tree c.loop-index.invariant c.release_entry.ensures.free
+    c.release_entry.ensures.cleared c.release_entry.ensures.row c.release_entry.ensures.others c.release_entry.ensures.frames
 
 pub release-give-requires-clause-within : goal.release-give-requires-clause-within
-release-give-requires-clause-within t c = omega (arith, root_in_level c.args.pool.now (c.args.level - 1) c.args.table c.args.level (omega arith) c.requires.tree, c.loop-index.invariant.frames)
+release-give-requires-clause-within t c =
+    omega (
+      arith,
+      root_in_level c.args.pool.now (c.args.level - 1) c.args.table c.args.level (omega arith) c.requires.tree,
+      c.loop-index.invariant.frames,
+    )
 
 pub release-give-requires-clause-taken : goal.release-give-requires-clause-taken
 release-give-requires-clause-taken t c =
-    root_left c.args.pool.now c.loop-index.pool c.args.level (c.args.level - 1) c.args.table c.loop-index.index (omega arith) (omega (arith, c.loop-index.auto.index-end)) c.requires.tree c.loop-index.invariant
+    root_left c.args.pool.now c.loop-index.pool c.args.level (c.args.level - 1) c.args.table c.loop-index.index (omega arith)
+    (omega (arith, c.loop-index.auto.index-end)) c.requires.tree c.loop-index.invariant
 
 pub release-returns-clause-free : goal.release-returns-clause-free
 release-returns-clause-free t c f =
-    let done : c.loop-index.index ≡ 512 = omega (arith, c.loop-index.auto.index-end, c.loop-index-test.false) in
-    let all : total (used_at c.args.pool.now c.args.level c.args.table f) c.loop-index.index ≡ total (used_at c.args.pool.now c.args.level c.args.table f) 512 = ap (total (used_at c.args.pool.now c.args.level c.args.table f)) done in
-    omega (arith, c.give.ensures.free f, c.loop-index.invariant.free f, all, uses_level c.args.pool.now c.args.level (c.args.level - 1) c.args.table f (omega arith))
+    let done : c.loop-index.index ≡ SPAN_PAGES = omega (arith, c.loop-index.auto.index-end, c.loop-index-test.false) in
+    let all : total (used_at c.args.pool.now c.args.level c.args.table f) c.loop-index.index
+    ≡ total (used_at c.args.pool.now c.args.level c.args.table f) TABLE_ENTRIES =
+    ap (total (used_at c.args.pool.now c.args.level c.args.table f)) done in
+    omega (
+      arith,
+      c.give.ensures.free f,
+      c.loop-index.invariant.free f,
+      all,
+      uses_level c.args.pool.now c.args.level (c.args.level - 1) c.args.table f (omega arith),
+    )
 
 pub release-returns-clause-others : goal.release-returns-clause-others
 release-returns-clause-others t c f k k_in none =
-    let done : c.loop-index.index ≡ 512 = omega (arith, c.loop-index.auto.index-end, c.loop-index-test.false) in
-    let all : total (used_at c.args.pool.now c.args.level c.args.table f) c.loop-index.index ≡ total (used_at c.args.pool.now c.args.level c.args.table f) 512 = ap (total (used_at c.args.pool.now c.args.level c.args.table f)) done in
+    let done : c.loop-index.index ≡ SPAN_PAGES = omega (arith, c.loop-index.auto.index-end, c.loop-index-test.false) in
+    let all : total (used_at c.args.pool.now c.args.level c.args.table f) c.loop-index.index
+    ≡ total (used_at c.args.pool.now c.args.level c.args.table f) TABLE_ENTRIES =
+    ap (total (used_at c.args.pool.now c.args.level c.args.table f)) done in
     let whole = uses_level c.args.pool.now c.args.level (c.args.level - 1) c.args.table f (omega arith) in
     ap (λ ws. word ws f k) c.give.ensures.words
     ∙ c.loop-index.invariant.others f k k_in
-    (λ e. let own : uses (memory c.args.pool.now.words) c.args.level c.args.table f ≡ uses (memory c.args.pool.now.words) c.args.level c.args.table c.args.table = ap (λ x. uses (memory c.args.pool.now.words) c.args.level c.args.table x) e in
-    omega (arith, own, none, uses_level c.args.pool.now c.args.level (c.args.level - 1) c.args.table c.args.table (omega arith), here-same c.args.table))
+    (λ e.
+    let own : uses (memory c.args.pool.now.words) c.args.level c.args.table f
+    ≡ uses (memory c.args.pool.now.words) c.args.level c.args.table c.args.table =
+    ap (λ x. uses (memory c.args.pool.now.words) c.args.level c.args.table x) e in
+    omega (
+      arith,
+      own,
+      none,
+      uses_level c.args.pool.now c.args.level (c.args.level - 1) c.args.table c.args.table (omega arith),
+      here-same c.args.table,
+    ))
     (omega (arith, all, whole, none))
 
 pub release_entry-write-requires-clause-taken : goal.release_entry-write-requires-clause-taken
 release_entry-write-requires-clause-taken t c =
-    omega (arith, c.release.ensures.free c.args.table, used_table c.args.pool.now c.args.level c.args.table c.args.table c.args.index c.in-Table.below c.in-Table.ensures.is, c.requires.taken)
+    omega (
+      arith,
+      c.release.ensures.free c.args.table,
+      used_table c.args.pool.now c.args.level c.args.table c.args.table c.args.index c.in-Table.below c.in-Table.ensures.is,
+      c.requires.taken,
+    )
 
 pub release_entry-returns-in-Table-clause-free : goal.release_entry-returns-in-Table-clause-free
 release_entry-returns-in-Table-clause-free t c f =
-    omega (arith, ap (occurs f) c.write.ensures.free, c.release.ensures.free f, used_table c.args.pool.now c.args.level c.args.table f c.args.index c.in-Table.below c.in-Table.ensures.is)
+    omega (
+      arith,
+      ap (occurs f) c.write.ensures.free,
+      c.release.ensures.free f,
+      used_table c.args.pool.now c.args.level c.args.table f c.args.index c.in-Table.below c.in-Table.ensures.is,
+    )
 
 pub release_entry-returns-in-Table-clause-row : goal.release_entry-returns-in-Table-clause-row
 release_entry-returns-in-Table-clause-row t c k k_in ne =
     c.write.ensures.wrote.1 c.args.table k k_in (λ _ e. ne e)
-    ∙ c.release.ensures.others c.args.table k k_in (omega (arith, used_table c.args.pool.now c.args.level c.args.table c.args.table c.args.index c.in-Table.below c.in-Table.ensures.is, c.requires.taken))
+    ∙ c.release.ensures.others c.args.table k k_in (omega (
+      arith,
+      used_table c.args.pool.now c.args.level c.args.table c.args.table c.args.index c.in-Table.below c.in-Table.ensures.is,
+      c.requires.taken,
+    ))
 
 pub release_entry-returns-in-Table-clause-others : goal.release_entry-returns-in-Table-clause-others
 release_entry-returns-in-Table-clause-others t c f k k_in ne none =
     c.write.ensures.wrote.1 f k k_in (λ e _. ne e)
-    ∙ c.release.ensures.others f k k_in (omega (arith, used_table c.args.pool.now c.args.level c.args.table f c.args.index c.in-Table.below c.in-Table.ensures.is, none))
+    ∙ c.release.ensures.others f k k_in
+    (omega (arith, used_table c.args.pool.now c.args.level c.args.table f c.args.index c.in-Table.below c.in-Table.ensures.is, none))
 
 pub release_entry-returns-in-Absent : goal.release_entry-returns-in-Absent
 release_entry-returns-in-Absent t c =
     let unused : (f : ℕ) → used_at c.args.pool.now c.args.level c.args.table f c.args.index ≡ 0 = λ f.
     elim c.in-Absent.is [
       | inl e ↦ used_none c.args.pool.now c.args.level c.args.table f c.args.index Absent (c.entry.ensures.is ∙ e) (λ below. refl)
-      | inr (inl (x, e)) ↦ used_none c.args.pool.now c.args.level c.args.table f c.args.index (Leaf x) (c.entry.ensures.is ∙ e) (λ below. refl)
-      | inr (inr (x, e)) ↦ used_none c.args.pool.now c.args.level c.args.table f c.args.index (LargeLeaf x) (c.entry.ensures.is ∙ e) (λ below. refl)
+      | inr (inl (x, e)) ↦
+          used_none c.args.pool.now c.args.level c.args.table f c.args.index (Leaf x) (c.entry.ensures.is ∙ e) (λ below. refl)
+      | inr (inr (x, e)) ↦
+          used_none c.args.pool.now c.args.level c.args.table f c.args.index (LargeLeaf x) (c.entry.ensures.is ∙ e) (λ below. refl)
     ] in
     record {
       free = λ f. omega (arith, ap (occurs f) c.write-in-Absent.ensures.free, unused f);

@@ -1,4 +1,5 @@
 use Rattle.std.proofs.Common.{◌≡◌, ◌%◌, ◌+◌, ◌-◌, ap, ◌∙◌, arith}
+use Rattle.dmatypes.specs.declared.page.TheConstants.{SPAN_PAGES}
 use Rattle.vtdbits.specs.Entry.{look}
 use Rattle.vtdbits.specs.declared.entry.SsEntry.TheVariants.{Absent}
 use Rattle.vtdbits.proofs.Entries.{look-zero}
@@ -11,7 +12,7 @@ returns-then-to-from-eq1-clause-run c =
     run_of c.args.pool.now.words c.write.new.self.words c.args.table c.args.from c.args.to (λ p. Absent)
     c.requires.some c.requires.one_span
     (λ k k_in.
-    let first : c.args.from % 512 + k ≡ c.args.from % 512 = omega arith in
+    let first : c.args.from % SPAN_PAGES + k ≡ c.args.from % SPAN_PAGES = omega arith in
     ap (λ i. look 1 (word c.write.new.self.words c.args.table i)) first ∙ ap (look 1) c.write.ensures.wrote.0 ∙ look-zero 1)
     (λ f k k_in other. c.write.ensures.wrote.1 f k k_in (λ e at. other e (omega arith) (omega arith)))
 
@@ -22,5 +23,5 @@ returns-else-to-from-eq1-clause-run c =
 
 pub returns-else-to-from-eq1-clause-zeroed : goal.returns-else-to-from-eq1-clause-zeroed
 returns-else-to-from-eq1-clause-zeroed c p low high =
-    let place : p % 512 ≡ c.args.from % 512 + (p - c.args.from) = omega (arith, c.requires.one_span) in
+    let place : p % SPAN_PAGES ≡ c.args.from % SPAN_PAGES + (p - c.args.from) = omega (arith, c.requires.one_span) in
     ap (λ k. word c.clear.new.self.words c.args.table k) place ∙ c.clear.ensures.cleared (p - c.args.from) (omega arith)

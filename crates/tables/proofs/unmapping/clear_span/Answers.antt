@@ -1,10 +1,11 @@
 use Rattle.std.proofs.Common.{◌≡◌, ℕ, ◌+◌, ◌-◌, ◌/◌, ◌%◌, ◌<◌, [], ◌∷◌, length, refl, sym, ap, subst, ◌∙◌, arith}
+use Rattle.dmatypes.specs.declared.page.TheConstants.{SPAN_PAGES}
 use Rattle.vtdbits.specs.Entry.{look}
 use Rattle.vtdbits.proofs.Entries.{look-zero}
 use Rattle.vtdbits.specs.declared.entry.SsEntry.TheVariants.{Absent}
 use Rattle.tables.specs.Tree.{index_in}
 use Rattle.tables.specs.Pool.{occurs, memory, IsTree}
-use Rattle.tables.specs.Changes.{Unmaps}
+use Rattle.tables.specs.Changes.{TakesAndGivesFrames, Unmaps}
 use Rattle.tables.proofs.Under.{root_in, root_taken, below_in, moved_tree}
 use Rattle.tables.proofs.Words.{memory_at}
 use Rattle.tables.proofs.Walks.{index_lt}
@@ -12,75 +13,96 @@ use Rattle.tables.proofs.Steps.{leaf_under}
 use Rattle.vtdbits.specs.Entry.{MayStandAt}
 use Rattle.tables.specs.Tree.{leaf_from}
 use Rattle.std.proofs.Common.{Option, Some, None, IsSome, inl, inr}
-use Rattle.tables.specs.Pieces.{IsRun}
+use Rattle.tables.specs.Pieces.{WritesEntries}
 use Rattle.tables.specs.Tree.{Found}
 use Rattle.tables.proofs.Cleared.{run_through, large_gone}
 use Rattle.tables.proofs.CutTable.{table_cut}
 use Rattle.tables.proofs.SplitLeaf.{split_unmaps, splits_whole, splits_table, splits_large}
 use Rattle.tables.proofs.unmapping.clear_span.Goals as goal
+use Rattle.tables.proofs.unmapping.clear_span.Goals.{After-write, After-write-then-is_whole, After-clear_run-in-LargeLeaf}
 
 pub entry-requires-clause-table : goal.entry-requires-clause-table
 entry-requires-clause-table c = root_in c.args.pool.now 1 c.args.table c.requires.tree
 
 pub clear_run-requires-clause-table : goal.clear_run-requires-clause-table
 clear_run-requires-clause-table c =
-    root_in c.args.pool.now 0 c.in-Table.below (below_in c.args.pool.now 1 c.args.table c.index_of-index.result c.in-Table.below c.requires.tree c.index_of-index.ensures.inside c.in-Table.ensures.is)
+    root_in c.args.pool.now 0 c.in-Table.below (below_in c.args.pool.now 1 c.args.table c.index_of-index.result c.in-Table.below
+    c.requires.tree c.index_of-index.ensures.inside c.in-Table.ensures.is)
 
 pub clear_run-requires-clause-taken : goal.clear_run-requires-clause-taken
 clear_run-requires-clause-taken c =
-    root_taken c.args.pool.now 0 c.in-Table.below (below_in c.args.pool.now 1 c.args.table c.index_of-index.result c.in-Table.below c.requires.tree c.index_of-index.ensures.inside c.in-Table.ensures.is)
+    root_taken c.args.pool.now 0 c.in-Table.below (below_in c.args.pool.now 1 c.args.table c.index_of-index.result c.in-Table.below
+    c.requires.tree c.index_of-index.ensures.inside c.in-Table.ensures.is)
 
 -- less than a whole span
-part : (from to : ℕ) → from < to → from / 512 ≡ (to - 1) / 512 → (to - from ≡ 512 → ⊥) → to - from < 512
+part : (from to : ℕ) → from < to → from / SPAN_PAGES ≡ (to - 1) / SPAN_PAGES → (to - from ≡ SPAN_PAGES → ⊥) → to - from < SPAN_PAGES
 part from to some one ne = omega arith
 
 -- the first page of a whole one
-even : (from to : ℕ) → from < to → from / 512 ≡ (to - 1) / 512 → to - from ≡ 512 → (from % 512 ≡ 0) × (from + 512 ≡ to)
+even : (from to : ℕ) → from < to → from / SPAN_PAGES ≡ (to - 1) / SPAN_PAGES → to - from ≡ SPAN_PAGES
+    → (from % SPAN_PAGES ≡ 0) × (from + SPAN_PAGES ≡ to)
 even from to some one e = (omega arith, omega arith)
 
 -- through a table, in part
 pub returns-then-not-is_whole-clause-moves : goal.returns-then-not-is_whole-clause-moves
 returns-then-not-is_whole-clause-moves c =
-    (run_through c.args.pool.now c.clear_run.new.pool c.args.table c.index_of-index.result c.in-Table.below c.args.from c.args.to c.requires.tree c.index_of-index.ensures.inside c.index_of-index.ensures.exact c.in-Table.ensures.is
-    c.clear_run.ensures.run c.clear_run.ensures.free c.clear_run.ensures.frames c.requires.some c.requires.one_span (part c.args.from c.args.to c.requires.some c.requires.one_span c.if-not-is_whole.true)).0
+    (run_through c.args.pool.now c.clear_run.new.pool c.args.table c.index_of-index.result c.in-Table.below c.args.from c.args.to
+    c.requires.tree c.index_of-index.ensures.inside c.index_of-index.ensures.exact c.in-Table.ensures.is c.clear_run.ensures.run
+    c.clear_run.ensures.free c.clear_run.ensures.frames c.requires.some c.requires.one_span
+    (part c.args.from c.args.to c.requires.some c.requires.one_span c.if-not-is_whole.true)).0
 
 pub returns-then-not-is_whole-clause-unmaps : goal.returns-then-not-is_whole-clause-unmaps
 returns-then-not-is_whole-clause-unmaps c =
-    (run_through c.args.pool.now c.clear_run.new.pool c.args.table c.index_of-index.result c.in-Table.below c.args.from c.args.to c.requires.tree c.index_of-index.ensures.inside c.index_of-index.ensures.exact c.in-Table.ensures.is
-    c.clear_run.ensures.run c.clear_run.ensures.free c.clear_run.ensures.frames c.requires.some c.requires.one_span (part c.args.from c.args.to c.requires.some c.requires.one_span c.if-not-is_whole.true)).1
+    (run_through c.args.pool.now c.clear_run.new.pool c.args.table c.index_of-index.result c.in-Table.below c.args.from c.args.to
+    c.requires.tree c.index_of-index.ensures.inside c.index_of-index.ensures.exact c.in-Table.ensures.is c.clear_run.ensures.run
+    c.clear_run.ensures.free c.clear_run.ensures.frames c.requires.some c.requires.one_span
+    (part c.args.from c.args.to c.requires.some c.requires.one_span c.if-not-is_whole.true)).1
 
 pub returns-then-not-is_whole-clause-split : goal.returns-then-not-is_whole-clause-split
 returns-then-not-is_whole-clause-split c =
-    sym (splits_table (memory c.args.pool.now.words) c.args.table c.args.from c.args.to c.in-Table.below (part c.args.from c.args.to c.requires.some c.requires.one_span c.if-not-is_whole.true) (ap (λ i. memory c.args.pool.now.words 2 c.args.table i) (sym c.index_of-index.ensures.exact) ∙ c.in-Table.ensures.is))
+    sym (splits_table (memory c.args.pool.now.words) c.args.table c.args.from c.args.to c.in-Table.below
+    (part c.args.from c.args.to c.requires.some c.requires.one_span c.if-not-is_whole.true)
+    (ap (λ i. memory c.args.pool.now.words 2 c.args.table i) (sym c.index_of-index.ensures.exact) ∙ c.in-Table.ensures.is))
 
 pub returns-then-not-is_whole-clause-count : goal.returns-then-not-is_whole-clause-count
 returns-then-not-is_whole-clause-count c =
-    omega (arith, splits_table (memory c.args.pool.now.words) c.args.table c.args.from c.args.to c.in-Table.below (part c.args.from c.args.to c.requires.some c.requires.one_span c.if-not-is_whole.true) (ap (λ i. memory c.args.pool.now.words 2 c.args.table i) (sym c.index_of-index.ensures.exact) ∙ c.in-Table.ensures.is), ap length c.clear_run.ensures.free)
+    omega (
+      arith,
+      splits_table (memory c.args.pool.now.words) c.args.table c.args.from c.args.to c.in-Table.below
+          (part c.args.from c.args.to c.requires.some c.requires.one_span c.if-not-is_whole.true)
+          (ap (λ i. memory c.args.pool.now.words 2 c.args.table i) (sym c.index_of-index.ensures.exact) ∙ c.in-Table.ensures.is),
+      ap length c.clear_run.ensures.free,
+    )
 
 pub write-requires-clause-frame : goal.write-requires-clause-frame
 write-requires-clause-frame c = omega (arith, root_in c.args.pool.now 1 c.args.table c.requires.tree, c.clear_run.ensures.frames)
 
 pub write-requires-clause-taken : goal.write-requires-clause-taken
-write-requires-clause-taken c = ap (occurs c.args.table) c.clear_run.ensures.free ∙ root_taken c.args.pool.now 1 c.args.table c.requires.tree
+write-requires-clause-taken c =
+    ap (occurs c.args.table) c.clear_run.ensures.free ∙ root_taken c.args.pool.now 1 c.args.table c.requires.tree
 
 -- the table itself, with its whole span
-pub returns-else-not-is_whole-clause-moves : goal.returns-else-not-is_whole-clause-moves
-returns-else-not-is_whole-clause-moves c =
+was_cut : (c : After-write)
+    → TakesAndGivesFrames c.args.pool.now c.write.new.self 2 c.args.table (c.in-Table.below ∷ [])
+    × Unmaps c.args.pool.now c.write.new.self 2 c.args.table c.args.from c.args.to (c.in-Table.below ∷ [])
+was_cut c =
     let e = even c.args.from c.args.to c.requires.some c.requires.one_span c.if-not-is_whole.false in
-    let absent : memory c.write.new.self.words 2 c.args.table c.index_of-index.result ≡ Absent = memory_at c.write.new.self.words 2 c.args.table c.index_of-index.result ∙ ap (look 2) c.write.ensures.wrote.0 ∙ look-zero 2 in
-    let all = table_cut c.args.pool.now c.clear_run.new.pool c.write.new.self c.args.table c.index_of-index.result c.in-Table.below c.args.from 0 c.requires.tree c.index_of-index.ensures.inside c.index_of-index.ensures.exact e.0 c.in-Table.ensures.is
-    (subst (λ to. IsRun c.args.pool.now.words c.clear_run.new.pool.words c.in-Table.below c.args.from to (λ p. Absent)) (sym e.1) c.clear_run.ensures.run)
-    (λ p low high. c.clear_run.ensures.zeroed p low (omega (arith, high, e.1))) c.clear_run.ensures.free c.clear_run.ensures.frames c.write.ensures.wrote c.write.ensures.free c.write.ensures.frames absent in
-    all.0
+    let absent : memory c.write.new.self.words 2 c.args.table c.index_of-index.result ≡ Absent =
+    memory_at c.write.new.self.words 2 c.args.table c.index_of-index.result ∙ ap (look 2) c.write.ensures.wrote.0 ∙ look-zero 2 in
+    let all =
+    table_cut c.args.pool.now c.clear_run.new.pool c.write.new.self c.args.table c.index_of-index.result c.in-Table.below c.args.from 0
+    c.requires.tree c.index_of-index.ensures.inside c.index_of-index.ensures.exact e.0 c.in-Table.ensures.is
+    (subst (λ to. WritesEntries c.args.pool.now.words c.clear_run.new.pool.words c.in-Table.below c.args.from to (λ p. Absent)) (sym e.1)
+    c.clear_run.ensures.run)
+    (λ p low high. c.clear_run.ensures.zeroed p low (omega (arith, high, e.1))) c.clear_run.ensures.free c.clear_run.ensures.frames
+    c.write.ensures.wrote c.write.ensures.free c.write.ensures.frames absent in
+    (all.0, subst (λ to. Unmaps c.args.pool.now c.write.new.self 2 c.args.table c.args.from to (c.in-Table.below ∷ [])) e.1 all.1)
+
+pub returns-else-not-is_whole-clause-moves : goal.returns-else-not-is_whole-clause-moves
+returns-else-not-is_whole-clause-moves c = (was_cut (goal.at.returns-else-not-is_whole-clause-moves c).After-write).0
 
 pub returns-else-not-is_whole-clause-unmaps : goal.returns-else-not-is_whole-clause-unmaps
-returns-else-not-is_whole-clause-unmaps c =
-    let e = even c.args.from c.args.to c.requires.some c.requires.one_span c.if-not-is_whole.false in
-    let absent : memory c.write.new.self.words 2 c.args.table c.index_of-index.result ≡ Absent = memory_at c.write.new.self.words 2 c.args.table c.index_of-index.result ∙ ap (look 2) c.write.ensures.wrote.0 ∙ look-zero 2 in
-    let all = table_cut c.args.pool.now c.clear_run.new.pool c.write.new.self c.args.table c.index_of-index.result c.in-Table.below c.args.from 0 c.requires.tree c.index_of-index.ensures.inside c.index_of-index.ensures.exact e.0 c.in-Table.ensures.is
-    (subst (λ to. IsRun c.args.pool.now.words c.clear_run.new.pool.words c.in-Table.below c.args.from to (λ p. Absent)) (sym e.1) c.clear_run.ensures.run)
-    (λ p low high. c.clear_run.ensures.zeroed p low (omega (arith, high, e.1))) c.clear_run.ensures.free c.clear_run.ensures.frames c.write.ensures.wrote c.write.ensures.free c.write.ensures.frames absent in
-    subst (λ to. Unmaps c.args.pool.now c.write.new.self 2 c.args.table c.args.from to (c.in-Table.below ∷ [])) e.1 all.1
+returns-else-not-is_whole-clause-unmaps c = (was_cut (goal.at.returns-else-not-is_whole-clause-unmaps c).After-write).1
 
 pub returns-else-not-is_whole-clause-split : goal.returns-else-not-is_whole-clause-split
 returns-else-not-is_whole-clause-split c =
@@ -88,7 +110,12 @@ returns-else-not-is_whole-clause-split c =
 
 pub returns-else-not-is_whole-clause-count : goal.returns-else-not-is_whole-clause-count
 returns-else-not-is_whole-clause-count c =
-    omega (arith, splits_whole (memory c.args.pool.now.words) 2 c.args.table c.args.from c.args.to (omega (arith, c.if-not-is_whole.false)), ap length c.clear_run.ensures.free, ap length c.write.ensures.free)
+    omega (
+      arith,
+      splits_whole (memory c.args.pool.now.words) 2 c.args.table c.args.from c.args.to (omega (arith, c.if-not-is_whole.false)),
+      ap length c.clear_run.ensures.free,
+      ap length c.write.ensures.free,
+    )
 
 -- a large leaf, with its whole span
 pub write-requires-then-is_whole-clause-frame : goal.write-requires-then-is_whole-clause-frame
@@ -97,23 +124,25 @@ write-requires-then-is_whole-clause-frame c = root_in c.args.pool.now 1 c.args.t
 pub write-requires-then-is_whole-clause-taken : goal.write-requires-then-is_whole-clause-taken
 write-requires-then-is_whole-clause-taken c = root_taken c.args.pool.now 1 c.args.table c.requires.tree
 
-pub returns-then-is_whole-clause-moves : goal.returns-then-is_whole-clause-moves
-returns-then-is_whole-clause-moves c =
+leaf_gone : (c : After-write-then-is_whole)
+    → TakesAndGivesFrames c.args.pool.now c.write-then-is_whole.new.self 2 c.args.table []
+    × Unmaps c.args.pool.now c.write-then-is_whole.new.self 2 c.args.table c.args.from c.args.to []
+leaf_gone c =
     let e = even c.args.from c.args.to c.requires.some c.requires.one_span c.if-is_whole.true in
     let new = c.write-then-is_whole.new.self in
-    let absent : memory c.write-then-is_whole.new.self.words 2 c.args.table c.index_of-index.result ≡ Absent = memory_at new.words 2 c.args.table c.index_of-index.result ∙ ap (look 2) c.write-then-is_whole.ensures.wrote.0 ∙ look-zero 2 in
-    let all = large_gone c.args.pool.now new c.args.table c.index_of-index.result c.args.from 0 c.in-LargeLeaf.leaf c.requires.tree c.index_of-index.ensures.inside c.index_of-index.ensures.exact e.0
-    c.write-then-is_whole.ensures.wrote c.write-then-is_whole.ensures.free c.write-then-is_whole.ensures.frames c.in-LargeLeaf.ensures.is absent in
-    all.0
+    let absent : memory c.write-then-is_whole.new.self.words 2 c.args.table c.index_of-index.result ≡ Absent =
+    memory_at new.words 2 c.args.table c.index_of-index.result ∙ ap (look 2) c.write-then-is_whole.ensures.wrote.0 ∙ look-zero 2 in
+    let all =
+    large_gone c.args.pool.now new c.args.table c.index_of-index.result c.args.from 0 c.in-LargeLeaf.leaf c.requires.tree
+    c.index_of-index.ensures.inside c.index_of-index.ensures.exact e.0 c.write-then-is_whole.ensures.wrote
+    c.write-then-is_whole.ensures.free c.write-then-is_whole.ensures.frames c.in-LargeLeaf.ensures.is absent in
+    (all.0, subst (λ to. Unmaps c.args.pool.now new 2 c.args.table c.args.from to []) e.1 all.1)
+
+pub returns-then-is_whole-clause-moves : goal.returns-then-is_whole-clause-moves
+returns-then-is_whole-clause-moves c = (leaf_gone (goal.at.returns-then-is_whole-clause-moves c).After-write-then-is_whole).0
 
 pub returns-then-is_whole-clause-unmaps : goal.returns-then-is_whole-clause-unmaps
-returns-then-is_whole-clause-unmaps c =
-    let e = even c.args.from c.args.to c.requires.some c.requires.one_span c.if-is_whole.true in
-    let new = c.write-then-is_whole.new.self in
-    let absent : memory c.write-then-is_whole.new.self.words 2 c.args.table c.index_of-index.result ≡ Absent = memory_at new.words 2 c.args.table c.index_of-index.result ∙ ap (look 2) c.write-then-is_whole.ensures.wrote.0 ∙ look-zero 2 in
-    let all = large_gone c.args.pool.now new c.args.table c.index_of-index.result c.args.from 0 c.in-LargeLeaf.leaf c.requires.tree c.index_of-index.ensures.inside c.index_of-index.ensures.exact e.0
-    c.write-then-is_whole.ensures.wrote c.write-then-is_whole.ensures.free c.write-then-is_whole.ensures.frames c.in-LargeLeaf.ensures.is absent in
-    subst (λ to. Unmaps c.args.pool.now new 2 c.args.table c.args.from to []) e.1 all.1
+returns-then-is_whole-clause-unmaps c = (leaf_gone (goal.at.returns-then-is_whole-clause-unmaps c).After-write-then-is_whole).1
 
 pub returns-then-is_whole-clause-split : goal.returns-then-is_whole-clause-split
 returns-then-is_whole-clause-split c =
@@ -121,57 +150,82 @@ returns-then-is_whole-clause-split c =
 
 pub returns-then-is_whole-clause-count : goal.returns-then-is_whole-clause-count
 returns-then-is_whole-clause-count c =
-    omega (arith, splits_whole (memory c.args.pool.now.words) 2 c.args.table c.args.from c.args.to (omega (arith, c.if-is_whole.true)), ap length c.write-then-is_whole.ensures.free)
+    omega (
+      arith,
+      splits_whole (memory c.args.pool.now.words) 2 c.args.table c.args.from c.args.to (omega (arith, c.if-is_whole.true)),
+      ap length c.write-then-is_whole.ensures.free,
+    )
 
 -- a large leaf, in part
 pub split-below-requires-clause-room : goal.split-below-requires-clause-room
-split-below-requires-clause-room c = omega (arith, c.requires.room, splits_large (memory c.args.pool.now.words) c.args.table c.args.from c.args.to c.in-LargeLeaf.leaf (part c.args.from c.args.to c.requires.some c.requires.one_span c.if-is_whole.false) (ap (λ i. memory c.args.pool.now.words 2 c.args.table i) (sym c.index_of-index.ensures.exact) ∙ c.in-LargeLeaf.ensures.is))
+split-below-requires-clause-room c =
+    omega (
+      arith,
+      c.requires.room,
+      splits_large (memory c.args.pool.now.words) c.args.table c.args.from c.args.to c.in-LargeLeaf.leaf
+          (part c.args.from c.args.to c.requires.some c.requires.one_span c.if-is_whole.false)
+          (ap (λ i. memory c.args.pool.now.words 2 c.args.table i) (sym c.index_of-index.ensures.exact) ∙ c.in-LargeLeaf.ensures.is),
+    )
 
 pub clear_run-requires-in-LargeLeaf-clause-table : goal.clear_run-requires-in-LargeLeaf-clause-table
 clear_run-requires-in-LargeLeaf-clause-table c =
     let mid = c.split-below.new.pool in
     let s = c.split-below.ensures.split in
-    let tree : IsTree c.split-below.new.pool 2 c.args.table = moved_tree c.args.pool.now mid 2 c.args.table [] c.requires.tree c.split-below.ensures.moves in
-    root_in mid 0 c.split-below.result (below_in mid 1 c.args.table (index_in 1 c.args.from) c.split-below.result tree (index_lt 1 c.args.from) s.is)
+    let tree : IsTree c.split-below.new.pool 2 c.args.table =
+    moved_tree c.args.pool.now mid 2 c.args.table [] c.requires.tree c.split-below.ensures.moves in
+    root_in mid 0 c.split-below.result
+    (below_in mid 1 c.args.table (index_in 1 c.args.from) c.split-below.result tree (index_lt 1 c.args.from) s.is)
 
 pub clear_run-requires-in-LargeLeaf-clause-taken : goal.clear_run-requires-in-LargeLeaf-clause-taken
 clear_run-requires-in-LargeLeaf-clause-taken c =
     let mid = c.split-below.new.pool in
     let s = c.split-below.ensures.split in
-    let tree : IsTree c.split-below.new.pool 2 c.args.table = moved_tree c.args.pool.now mid 2 c.args.table [] c.requires.tree c.split-below.ensures.moves in
-    root_taken mid 0 c.split-below.result (below_in mid 1 c.args.table (index_in 1 c.args.from) c.split-below.result tree (index_lt 1 c.args.from) s.is)
+    let tree : IsTree c.split-below.new.pool 2 c.args.table =
+    moved_tree c.args.pool.now mid 2 c.args.table [] c.requires.tree c.split-below.ensures.moves in
+    root_taken mid 0 c.split-below.result
+    (below_in mid 1 c.args.table (index_in 1 c.args.from) c.split-below.result tree (index_lt 1 c.args.from) s.is)
+
+part_gone : (c : After-clear_run-in-LargeLeaf)
+    → TakesAndGivesFrames c.args.pool.now c.clear_run-in-LargeLeaf.new.pool 2 c.args.table []
+    × Unmaps c.args.pool.now c.clear_run-in-LargeLeaf.new.pool 2 c.args.table c.args.from c.args.to []
+part_gone c =
+    let mid = c.split-below.new.pool in
+    let s = c.split-below.ensures.split in
+    let tree : IsTree c.split-below.new.pool 2 c.args.table =
+    moved_tree c.args.pool.now mid 2 c.args.table [] c.requires.tree c.split-below.ensures.moves in
+    let new = c.clear_run-in-LargeLeaf.new.pool in
+    let short = part c.args.from c.args.to c.requires.some c.requires.one_span c.if-is_whole.false in
+    let run =
+    run_through mid new c.args.table (index_in 1 c.args.from) c.split-below.result c.args.from c.args.to tree (index_lt 1 c.args.from)
+    refl s.is c.clear_run-in-LargeLeaf.ensures.run c.clear_run-in-LargeLeaf.ensures.free c.clear_run-in-LargeLeaf.ensures.frames
+    c.requires.some c.requires.one_span short in
+    let all =
+    split_unmaps c.args.pool.now mid new c.args.table (index_in 1 c.args.from) c.args.from c.args.to c.split-below.result
+    c.in-LargeLeaf.leaf c.requires.tree (index_lt 1 c.args.from) refl s c.requires.some short run.0 run.1 in
+    all
 
 pub returns-else-is_whole-clause-moves : goal.returns-else-is_whole-clause-moves
-returns-else-is_whole-clause-moves c =
-    let mid = c.split-below.new.pool in
-    let s = c.split-below.ensures.split in
-    let tree : IsTree c.split-below.new.pool 2 c.args.table = moved_tree c.args.pool.now mid 2 c.args.table [] c.requires.tree c.split-below.ensures.moves in
-    let new = c.clear_run-in-LargeLeaf.new.pool in
-    let short = part c.args.from c.args.to c.requires.some c.requires.one_span c.if-is_whole.false in
-    let run = run_through mid new c.args.table (index_in 1 c.args.from) c.split-below.result c.args.from c.args.to tree (index_lt 1 c.args.from) refl s.is
-    c.clear_run-in-LargeLeaf.ensures.run c.clear_run-in-LargeLeaf.ensures.free c.clear_run-in-LargeLeaf.ensures.frames c.requires.some c.requires.one_span short in
-    let all = split_unmaps c.args.pool.now mid new c.args.table (index_in 1 c.args.from) c.args.from c.args.to c.split-below.result c.in-LargeLeaf.leaf c.requires.tree (index_lt 1 c.args.from) refl s c.requires.some short run.0 run.1 in
-    all.0
+returns-else-is_whole-clause-moves c = (part_gone (goal.at.returns-else-is_whole-clause-moves c).After-clear_run-in-LargeLeaf).0
 
 pub returns-else-is_whole-clause-unmaps : goal.returns-else-is_whole-clause-unmaps
-returns-else-is_whole-clause-unmaps c =
-    let mid = c.split-below.new.pool in
-    let s = c.split-below.ensures.split in
-    let tree : IsTree c.split-below.new.pool 2 c.args.table = moved_tree c.args.pool.now mid 2 c.args.table [] c.requires.tree c.split-below.ensures.moves in
-    let new = c.clear_run-in-LargeLeaf.new.pool in
-    let short = part c.args.from c.args.to c.requires.some c.requires.one_span c.if-is_whole.false in
-    let run = run_through mid new c.args.table (index_in 1 c.args.from) c.split-below.result c.args.from c.args.to tree (index_lt 1 c.args.from) refl s.is
-    c.clear_run-in-LargeLeaf.ensures.run c.clear_run-in-LargeLeaf.ensures.free c.clear_run-in-LargeLeaf.ensures.frames c.requires.some c.requires.one_span short in
-    let all = split_unmaps c.args.pool.now mid new c.args.table (index_in 1 c.args.from) c.args.from c.args.to c.split-below.result c.in-LargeLeaf.leaf c.requires.tree (index_lt 1 c.args.from) refl s c.requires.some short run.0 run.1 in
-    all.1
+returns-else-is_whole-clause-unmaps c = (part_gone (goal.at.returns-else-is_whole-clause-unmaps c).After-clear_run-in-LargeLeaf).1
 
 pub returns-else-is_whole-clause-split : goal.returns-else-is_whole-clause-split
 returns-else-is_whole-clause-split c =
-    sym (splits_large (memory c.args.pool.now.words) c.args.table c.args.from c.args.to c.in-LargeLeaf.leaf (part c.args.from c.args.to c.requires.some c.requires.one_span c.if-is_whole.false) (ap (λ i. memory c.args.pool.now.words 2 c.args.table i) (sym c.index_of-index.ensures.exact) ∙ c.in-LargeLeaf.ensures.is))
+    sym (splits_large (memory c.args.pool.now.words) c.args.table c.args.from c.args.to c.in-LargeLeaf.leaf
+    (part c.args.from c.args.to c.requires.some c.requires.one_span c.if-is_whole.false)
+    (ap (λ i. memory c.args.pool.now.words 2 c.args.table i) (sym c.index_of-index.ensures.exact) ∙ c.in-LargeLeaf.ensures.is))
 
 pub returns-else-is_whole-clause-count : goal.returns-else-is_whole-clause-count
 returns-else-is_whole-clause-count c =
-    omega (arith, splits_large (memory c.args.pool.now.words) c.args.table c.args.from c.args.to c.in-LargeLeaf.leaf (part c.args.from c.args.to c.requires.some c.requires.one_span c.if-is_whole.false) (ap (λ i. memory c.args.pool.now.words 2 c.args.table i) (sym c.index_of-index.ensures.exact) ∙ c.in-LargeLeaf.ensures.is), c.split-below.ensures.count, ap length c.clear_run-in-LargeLeaf.ensures.free)
+    omega (
+      arith,
+      splits_large (memory c.args.pool.now.words) c.args.table c.args.from c.args.to c.in-LargeLeaf.leaf
+          (part c.args.from c.args.to c.requires.some c.requires.one_span c.if-is_whole.false)
+          (ap (λ i. memory c.args.pool.now.words 2 c.args.table i) (sym c.index_of-index.ensures.exact) ∙ c.in-LargeLeaf.ensures.is),
+      c.split-below.ensures.count,
+      ap length c.clear_run-in-LargeLeaf.ensures.free,
+    )
 
 -- the pages are there
 not_there : (o : Option Found) → o ≡ None → IsSome o → ⊥
@@ -182,7 +236,8 @@ pub unreachable-requires : goal.unreachable-requires
 unreachable-requires c =
     elim c.in-Absent.is [
       | inl e ↦ not_there (leaf_from (memory c.args.pool.now.words) 2 c.args.table c.args.from)
-          (leaf_under (memory c.args.pool.now.words) 1 c.args.table c.args.from Absent (ap (λ i. memory c.args.pool.now.words 2 c.args.table i) (sym c.index_of-index.ensures.exact) ∙ c.entry.ensures.is ∙ e))
+          (leaf_under (memory c.args.pool.now.words) 1 c.args.table c.args.from Absent
+          (ap (λ i. memory c.args.pool.now.words 2 c.args.table i) (sym c.index_of-index.ensures.exact) ∙ c.entry.ensures.is ∙ e))
           (c.requires.there c.args.from (omega arith) c.requires.some)
       | inr (x, e) ↦ let wrong = subst (λ y. MayStandAt 2 y) e c.entry.ensures.stands in omega arith
     ]

@@ -1,4 +1,5 @@
 use Rattle.std.proofs.Common.{◌≡◌, ℕ, ◌+◌, ◌-◌, ◌*◌, ◌/◌, ◌%◌, ◌<◌, ◌≤◌, [], ap, ap₂, arith}
+use Rattle.dmatypes.specs.declared.page.TheConstants.{SPAN_PAGES}
 use Rattle.dmatypes.specs.World.{Target}
 use Rattle.vtdbits.specs.Translation.{target}
 use Rattle.vtdbits.specs.declared.entry.SsEntry.TheVariants.{Leaf}
@@ -11,31 +12,52 @@ use Rattle.tables.proofs.Walks.{index_lt}
 use Rattle.tables.proofs.unmapping.split.Goals as goal
 
 pub write_run-requires-clause-taken : goal.write_run-requires-clause-taken
-write_run-requires-clause-taken c = omega (arith, c.take-below.ensures.free c.take-below.result, c.take-below.ensures.old_pool.once c.take-below.result, here-same c.take-below.result)
+write_run-requires-clause-taken c =
+    omega (
+      arith,
+      c.take-below.ensures.free c.take-below.result,
+      c.take-below.ensures.old_pool.once c.take-below.result,
+      here-same c.take-below.result,
+    )
 
 -- the leaves of the run, page by page
-leaves : (page number rights : ℕ) (x : Target) → number ≡ x.frame → rights ≡ x.rights → (p : ℕ) → page / 512 * 512 ≤ p → p < page / 512 * 512 + 512
-    → Leaf (target (number + (p - page / 512 * 512)) rights) ≡ Leaf (target (x.frame + p % 512) x.rights)
+leaves : (page number rights : ℕ) (x : Target) → number ≡ x.frame → rights ≡ x.rights → (p : ℕ) → page / SPAN_PAGES * SPAN_PAGES ≤ p
+    → p < page / SPAN_PAGES * SPAN_PAGES + SPAN_PAGES
+    → Leaf (target (number + (p - page / SPAN_PAGES * SPAN_PAGES)) rights) ≡ Leaf (target (x.frame + p % SPAN_PAGES) x.rights)
 leaves page number rights x frame same p low high =
-    let offset : number + (p - page / 512 * 512) ≡ x.frame + p % 512 = omega arith in
+    let offset : number + (p - page / SPAN_PAGES * SPAN_PAGES) ≡ x.frame + p % SPAN_PAGES = omega arith in
     ap₂ (λ f r. Leaf (target f r)) offset same
 
 pub link-requires : goal.link-requires
 link-requires c = record {
   table = omega (arith, root_in c.args.pool.now 1 c.args.table c.requires.tree, c.take-below.ensures.frames, c.write_run.ensures.frames);
-  taken = omega (arith, root_taken c.args.pool.now 1 c.args.table c.requires.tree, c.take-below.ensures.free c.args.table, ap (occurs c.args.table) c.write_run.ensures.free);
+  taken =
+      omega (
+        arith,
+        root_taken c.args.pool.now 1 c.args.table c.requires.tree,
+        c.take-below.ensures.free c.args.table,
+        ap (occurs c.args.table) c.write_run.ensures.free,
+      );
   leaf =
-      leaf_stays c.args.pool.now c.take-below.new.self c.write_run.new.pool c.args.table (index_in 1 c.args.page) c.args.page c.take-below.result _ c.args.leaf
-      c.requires.tree (index_lt 1 c.args.page) c.requires.leaf c.take-below.ensures.free c.take-below.ensures.words c.write_run.ensures.run;
-  filled = spells_leaf c.take-below.new.self c.write_run.new.pool c.args.page c.take-below.result _ c.args.leaf c.write_run.ensures.run (leaves c.args.page c.number.result c.rights.result.0 c.args.leaf (omega (arith, c.number.ensures.value, c.frame.ensures.value)) c.rights.ensures.value);
+      leaf_stays c.args.pool.now c.take-below.new.self c.write_run.new.pool c.args.table (index_in 1 c.args.page) c.args.page
+      c.take-below.result _ c.args.leaf c.requires.tree (index_lt 1 c.args.page) c.requires.leaf c.take-below.ensures.free
+      c.take-below.ensures.words c.write_run.ensures.run;
+  filled =
+      spells_leaf c.take-below.new.self c.write_run.new.pool c.args.page c.take-below.result _ c.args.leaf c.write_run.ensures.run
+      (leaves c.args.page c.number.result c.rights.result.0 c.args.leaf (omega (arith, c.number.ensures.value, c.frame.ensures.value))
+      c.rights.ensures.value);
 }
 
 pub returns-clause-split : goal.returns-clause-split
 returns-clause-split c =
-    splits c.args.pool.now c.take-below.new.self c.write_run.new.pool c.link.new.pool c.args.table (index_in 1 c.args.page) c.args.page c.take-below.result c.link.ensures.wrote.0 _ c.args.leaf
-    c.requires.tree (index_lt 1 c.args.page) c.requires.leaf c.take-below.ensures.free c.take-below.ensures.words c.take-below.ensures.frames
-    c.write_run.ensures.run c.write_run.ensures.free c.write_run.ensures.frames
-    c.link.ensures.wrote.1 c.link.ensures.free c.link.ensures.frames c.link.ensures.wrote.2 (leaves c.args.page c.number.result c.rights.result.0 c.args.leaf (omega (arith, c.number.ensures.value, c.frame.ensures.value)) c.rights.ensures.value)
+    splits c.args.pool.now c.take-below.new.self c.write_run.new.pool c.link.new.pool c.args.table (index_in 1 c.args.page) c.args.page
+    c.take-below.result c.link.ensures.wrote.0 _ c.args.leaf c.requires.tree (index_lt 1 c.args.page) c.requires.leaf
+    c.take-below.ensures.free c.take-below.ensures.words c.take-below.ensures.frames c.write_run.ensures.run c.write_run.ensures.free
+    c.write_run.ensures.frames c.link.ensures.wrote.1 c.link.ensures.free c.link.ensures.frames c.link.ensures.wrote.2
+    (leaves c.args.page c.number.result c.rights.result.0 c.args.leaf (omega (arith, c.number.ensures.value, c.frame.ensures.value))
+    c.rights.ensures.value)
 
 pub returns-clause-moves : goal.returns-clause-moves
-returns-clause-moves c = under_moves c.args.pool.now c.link.new.pool 1 c.args.table (index_in 1 c.args.page) [] c.requires.tree (index_lt 1 c.args.page) (returns-clause-split c).under
+returns-clause-moves c =
+    under_moves c.args.pool.now c.link.new.pool 1 c.args.table (index_in 1 c.args.page) [] c.requires.tree (index_lt 1 c.args.page)
+    (returns-clause-split c).under

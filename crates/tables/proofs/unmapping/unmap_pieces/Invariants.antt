@@ -1,4 +1,5 @@
 use Rattle.std.proofs.Common.{◌≡◌, ◌+◌, ◌-◌, ◌*◌, ◌%◌, ◌<◌, ◌≤◌, ◌⊎◌, length, true, false}
+use Rattle.dmatypes.specs.declared.page.TheConstants.{SPAN_PAGES}
 use Rattle.tables.specs.Pool.{IsPool}
 use Rattle.tables.specs.Changes.{TakesAndGivesFrames, Unmaps}
 use Rattle.tables.proofs.Sums.{split_so_far}
@@ -8,10 +9,10 @@ abbrev pub invariant-loop-place : goal.invariant-loop-place
 invariant-loop-place l = record {
   low : l.from ≤ l.place;
   high : l.place ≤ l.to;
-  edge : (l.place % 512 ≡ 0) ⊎ ((l.place ≡ l.from) ⊎ (l.place ≡ l.to));
+  edge : (l.place % SPAN_PAGES ≡ 0) ⊎ ((l.place ≡ l.from) ⊎ (l.place ≡ l.to));
   moves : TakesAndGivesFrames l.initial.pool l.pool l.level l.root l.cut.frames;
   unmaps : Unmaps l.initial.pool l.pool l.level l.root l.from l.place l.cut.frames;
-  room : 512 * length l.cut.frames ≤ l.place - l.from;
+  room : SPAN_PAGES * length l.cut.frames ≤ l.place - l.from;
   count : length l.pool.free + split_so_far l.initial.pool l.level l.root l.from l.to l.place ≡ length l.initial.pool.free;
   split : l.cut.split ≡ true → 0 < split_so_far l.initial.pool l.level l.root l.from l.to l.place;
   none : l.cut.split ≡ false → split_so_far l.initial.pool l.level l.root l.from l.to l.place ≡ 0;

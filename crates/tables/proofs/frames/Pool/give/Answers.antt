@@ -10,7 +10,11 @@ index_mut-requires c =
     let n = c.self.inside.free in
     let frames : length c.self.inside.slots.items ≡ c.args.self.now.frames = ap (λ (p : Pool). p.frames) c.self.view_is in
     let taken : occurs c.args.frame (take n slots) ≡ 0 = ap (λ (p : Pool). occurs c.args.frame p.free) c.self.view_is ∙ c.requires.taken in
-    omega (arith, shorter (take n slots) (length slots) c.args.frame c.self.invariant.0.once c.self.invariant.0.within (omega arith) taken, length-take n slots)
+    omega (
+      arith,
+      shorter (take n slots) (length slots) c.args.frame c.self.invariant.0.once c.self.invariant.0.within (omega arith) taken,
+      length-take n slots,
+    )
 
 pub invariant_of-self : goal.invariant_of-self
 invariant_of-self c =
@@ -19,8 +23,16 @@ invariant_of-self c =
     let frames : length c.self.inside.slots.items ≡ c.args.self.now.frames = ap (λ (p : Pool). p.frames) c.self.view_is in
     let taken : occurs c.args.frame (take n slots) ≡ 0 = ap (λ (p : Pool). occurs c.args.frame p.free) c.self.view_is ∙ c.requires.taken in
     let words : c.args.self.now.words ≡ c.self.inside.words.items = sym (ap (λ (p : Pool). p.words) c.self.view_is) in
-    let room : n < length slots = omega (arith, shorter (take n slots) (length slots) c.args.frame c.self.invariant.0.once c.self.invariant.0.within (omega arith) taken, length-take n slots) in
-    (rw length-set (more_keeps _ c.args.frame (take (n + 1) (set slots n c.args.frame)) c.self.invariant.0 (omega arith) taken (subst (λ w. IsZeroed w c.args.frame) words c.requires.zeroed) (λ f. occurs_given slots n c.args.frame f room)), rw length-set (omega arith))
+    let room : n < length slots =
+    omega (
+      arith,
+      shorter (take n slots) (length slots) c.args.frame c.self.invariant.0.once c.self.invariant.0.within (omega arith) taken,
+      length-take n slots,
+    ) in (
+      rw length-set (more_keeps _ c.args.frame (take (n + 1) (set slots n c.args.frame)) c.self.invariant.0 (omega arith) taken
+          (subst (λ w. IsZeroed w c.args.frame) words c.requires.zeroed) (λ f. occurs_given slots n c.args.frame f room)),
+      rw length-set (omega arith),
+    )
 
 pub returns-clause-free : goal.returns-clause-free
 returns-clause-free c f =
@@ -28,7 +40,12 @@ returns-clause-free c f =
     let n = c.self.inside.free in
     let frames : length c.self.inside.slots.items ≡ c.args.self.now.frames = ap (λ (p : Pool). p.frames) c.self.view_is in
     let taken : occurs c.args.frame (take n slots) ≡ 0 = ap (λ (p : Pool). occurs c.args.frame p.free) c.self.view_is ∙ c.requires.taken in
-    let room : n < length slots = omega (arith, shorter (take n slots) (length slots) c.args.frame c.self.invariant.0.once c.self.invariant.0.within (omega arith) taken, length-take n slots) in
+    let room : n < length slots =
+    omega (
+      arith,
+      shorter (take n slots) (length slots) c.args.frame c.self.invariant.0.once c.self.invariant.0.within (omega arith) taken,
+      length-take n slots,
+    ) in
     occurs_given slots n c.args.frame f room ∙ ap (λ (p : Pool). occurs f p.free + here c.args.frame f) c.self.view_is
 
 pub returns-clause-count : goal.returns-clause-count
@@ -37,8 +54,19 @@ returns-clause-count c =
     let n = c.self.inside.free in
     let frames : length c.self.inside.slots.items ≡ c.args.self.now.frames = ap (λ (p : Pool). p.frames) c.self.view_is in
     let taken : occurs c.args.frame (take n slots) ≡ 0 = ap (λ (p : Pool). occurs c.args.frame p.free) c.self.view_is ∙ c.requires.taken in
-    let room : n < length slots = omega (arith, shorter (take n slots) (length slots) c.args.frame c.self.invariant.0.once c.self.invariant.0.within (omega arith) taken, length-take n slots) in
-    omega (arith, ap (λ (p : Pool). length p.free) c.self.view_is, length-take n slots, length-take (n + 1) (set slots n c.args.frame), length-set slots n c.args.frame)
+    let room : n < length slots =
+    omega (
+      arith,
+      shorter (take n slots) (length slots) c.args.frame c.self.invariant.0.once c.self.invariant.0.within (omega arith) taken,
+      length-take n slots,
+    ) in
+    omega (
+      arith,
+      ap (λ (p : Pool). length p.free) c.self.view_is,
+      length-take n slots,
+      length-take (n + 1) (set slots n c.args.frame),
+      length-set slots n c.args.frame,
+    )
 
 pub returns-clause-pool : goal.returns-clause-pool
 returns-clause-pool c = (invariant_of-self c).0

@@ -1,4 +1,5 @@
 use Rattle.std.proofs.Common.{◌+◌, ◌-◌, [], sym, subst, arith}
+use Rattle.dmatypes.specs.declared.width.TheConstants.{LEVELS}
 use Rattle.dmatypes.specs.Conditions.{total_pages}
 use Rattle.dmatypes.proofs.Ranges.{HasEnds, to_ends}
 use Rattle.dmatypes.specs.Rights.{bits_of}
@@ -10,17 +11,26 @@ use Rattle.tables.proofs.trees.Tree.map_list.Goals as goal
 
 pub map_segments-requires-clause-one_span : goal.map_segments-requires-clause-one_span
 map_segments-requires-clause-one_span c =
-    let e : HasEnds (record { first = c.args.start; pages = total_pages c.args.segments.now }) = to_ends (record { first = c.args.start; pages = total_pages c.args.segments.now }) c.requires.range in
-    same_root 3 c.number.result (c.number.result + total_pages c.args.segments.now - 1) (omega (arith, span-three, e.last, e.some, c.number.ensures.value)) (omega (arith, span-three, e.last, e.some, c.number.ensures.value))
+    let e : HasEnds (record { first = c.args.start; pages = total_pages c.args.segments.now }) =
+    to_ends (record { first = c.args.start; pages = total_pages c.args.segments.now }) c.requires.range in
+    same_root LEVELS c.number.result (c.number.result + total_pages c.args.segments.now - 1)
+    (omega (arith, span-three, e.last, e.some, c.number.ensures.value))
+    (omega (arith, span-three, e.last, e.some, c.number.ensures.value))
 
 pub returns-clause-leaves : goal.returns-clause-leaves
 returns-clause-leaves c =
-    let e : HasEnds (record { first = c.args.start; pages = total_pages c.args.segments.now }) = to_ends (record { first = c.args.start; pages = total_pages c.args.segments.now }) c.requires.range in
+    let e : HasEnds (record { first = c.args.start; pages = total_pages c.args.segments.now }) =
+    to_ends (record { first = c.args.start; pages = total_pages c.args.segments.now }) c.requires.range in
     either_way c.map_segments.result c.map_segments.ensures.maps c.map_segments.ensures.unchanged
-    (λ maps. map_leaves c.args.pool.now c.map_segments.new.pool 3 c.args.self.now.root c.number.result (c.number.result + total_pages c.args.segments.now) (placed c.args.segments.now c.number.result (bits_of c.args.rights))
+    (λ maps.
+    map_leaves c.args.pool.now c.map_segments.new.pool LEVELS c.args.self.now.root c.number.result
+    (c.number.result + total_pages c.args.segments.now) (placed c.args.segments.now c.number.result (bits_of c.args.rights))
     (omega arith) (omega (arith, span-three, e.last, e.some, c.number.ensures.value))
     (λ p low high. c.requires.absent p (omega (arith, low, c.number.ensures.value)) (omega (arith, high, c.number.ensures.value))) maps)
-    (λ same first pages frame rights h. subst (λ (p : Pool). IsLeafAt (memory p.words) 3 c.args.self.now.root first pages frame rights) (sym same) h)
+    (λ same first pages frame rights h.
+    subst (λ (p : Pool). IsLeafAt (memory p.words) LEVELS c.args.self.now.root first pages frame rights) (sym same) h)
 
 pub returns-clause-others : goal.returns-clause-others
-returns-clause-others c level table tree apart = apart_stays c.args.pool.now c.map_segments.new.pool 3 c.args.self.now.root level table [] c.requires.tree c.map_segments.ensures.moves tree apart
+returns-clause-others c level table tree apart =
+    apart_stays c.args.pool.now c.map_segments.new.pool LEVELS c.args.self.now.root level table [] c.requires.tree
+    c.map_segments.ensures.moves tree apart
