@@ -44,10 +44,10 @@ pub of_empty_world : (m : State) (frames : ℕ) → IsNew frames m → Quarantin
 of_empty_world m frames new = record {
   table_frames = sym new.frames_are;
   domains = λ d. rw (no_home m.homes d new.homes_are) tt;
-  caches = nothing_cached m (empty frames) m.unit.caches (ap (λ (u : UnitState). u.caches) new.unit_is);
+  caches = nothing_cached m (empty frames) m.iommu.unit.caches (ap (λ (u : UnitState). u.caches) new.unit_is);
   contexts = record {
-    devices = λ v. sym (ap (λ row. attached (slice_get row v)) new.row_is ∙ no_device_in 16 v);
-    roots = λ v root domain at. absurd (no_entry_in 16 v root domain (ap (λ row. slice_get row v) (sym new.row_is) ∙ at));
+    devices = λ v. sym (ap (λ row. attached (slice_get row v)) new.contexts_are ∙ no_device_in 16 v);
+    roots = λ v root domain at. absurd (no_entry_in 16 v root domain (ap (λ row. slice_get row v) (sym new.contexts_are) ∙ at));
     cached = λ x inside. let none = subst (λ (u : UnitState). IsIn x u.caches.contexts) new.unit_is inside in absurd none;
   };
   frames = record {
@@ -65,12 +65,12 @@ pub whole_new : (m : State) (frames : ℕ) → IsNew frames m → IsWhole frames
 whole_new m frames new = record {
   of_world = (empty frames, of_empty_world m frames new);
   places = ap length new.homes_are;
-  devices = ap length new.row_is;
+  devices = ap length new.contexts_are;
   frames_are = sym new.frames_are;
   idle = ap (λ (r : Ring). r.waiting) new.ring_is;
-  status = (let zero_status : m.ring.status ≡ 0 = ap (λ (r : Ring). r.status) new.ring_is in omega (arith, zero_status));
+  status = (let zero_status : m.iommu.ring.status ≡ 0 = ap (λ (r : Ring). r.status) new.ring_is in omega (arith, zero_status));
   sent = omega (arith, new.sent_is);
-  steps = (let zero_steps : m.unit.steps ≡ 0 = ap (λ (u : UnitState). u.steps) new.unit_is in omega (arith, zero_steps));
+  steps = (let zero_steps : m.iommu.unit.steps ≡ 0 = ap (λ (u : UnitState). u.steps) new.unit_is in omega (arith, zero_steps));
 }
 
 -- ---- there is a new state of each size
@@ -96,7 +96,7 @@ many zero = refl
 many (suc n) = omega (arith, length-append (frames_up n) (n ∷ []), many n)
 
 pub new_state : ℕ → State
-new_state frames = record { pool = record { words = replicate (frames * 512) 0; free = frames_up frames; frames = frames }; homes = replicate 15 vacant; row = replicate 16 Absent; ring = ring_of [] 0 []; unit = unit_state nothing 0 0; sent = 0; calls = 0 }
+new_state frames = record { pool = record { words = replicate (frames * 512) 0; free = frames_up frames; frames = frames }; homes = replicate 15 vacant; iommu = record { contexts = replicate 16 Absent; ring = ring_of [] 0 []; unit = unit_state nothing 0 0; sent = 0 }; calls = 0 }
 
 pub new_is_new : (frames : ℕ) → IsNew frames (new_state frames)
 unfolding new_state
@@ -107,7 +107,7 @@ new_is_new frames = record {
   count = many frames;
   zeroed = λ f low k small. zero_words (replicate (frames * 512) 0) frames refl f k low small;
   homes_are = refl;
-  row_is = refl;
+  contexts_are = refl;
   ring_is = refl;
   unit_is = refl;
   sent_is = refl;

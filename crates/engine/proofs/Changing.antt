@@ -31,7 +31,7 @@ tree_stays old new words root stays same =
 -- the domain's home is another one, and no other home; each entry that is left is lawful of what it became
 pub record ChangesDomain (m t : State) (d : ℕ) (h h' : Home) (v v' : Domain) : Type 0 where
   pub homes : (e : ℕ) → home_of t.homes e ≡ put d (Some h') (home_of m.homes) e
-  pub row : t.row ≡ m.row
+  pub row : t.iommu.contexts ≡ m.iommu.contexts
   pub root : h'.root ≡ h.root
   pub frames : t.pool.frames ≡ m.pool.frames
   pub mirrors : Mirrors t.pool.words h' v'
@@ -41,9 +41,9 @@ pub record ChangesDomain (m t : State) (d : ℕ) (h h' : Home) (v v' : Domain) :
   pub zeroed : (f : ℕ) → 0 < occurs f t.pool.free → IsZeroed t.pool.words f
   pub held : (e : ℕ) (k : Home) → home_of m.homes e ≡ Some k → (f : ℕ) → 0 < held_in k.records f → IsZeroed t.pool.words f
   pub held_here : (f : ℕ) → 0 < held_in h'.records f → IsZeroed t.pool.words f
-  pub leaves : (l : Leaf) → IsIn l t.unit.caches.leaves → IsIn l m.unit.caches.leaves × (l.domain ≡ d → IsLawfulLeaf m.pool.words l h v → IsLawfulLeaf t.pool.words l h' v')
-  pub tables : (i : NonLeaf) → IsIn i t.unit.caches.non_leaves → IsIn i m.unit.caches.non_leaves × (i.domain ≡ d → IsLawfulTable m.pool.words i h v → IsLawfulTable t.pool.words i h' v')
-  pub contexts : (x : Context) → IsIn x t.unit.caches.contexts → IsIn x m.unit.caches.contexts
+  pub leaves : (l : Leaf) → IsIn l t.iommu.unit.caches.leaves → IsIn l m.iommu.unit.caches.leaves × (l.domain ≡ d → IsLawfulLeaf m.pool.words l h v → IsLawfulLeaf t.pool.words l h' v')
+  pub tables : (i : NonLeaf) → IsIn i t.iommu.unit.caches.non_leaves → IsIn i m.iommu.unit.caches.non_leaves × (i.domain ≡ d → IsLawfulTable m.pool.words i h v → IsLawfulTable t.pool.words i h' v')
+  pub contexts : (x : Context) → IsIn x t.iommu.unit.caches.contexts → IsIn x m.iommu.unit.caches.contexts
 
 module _ (m t : State) (w : World) (d : ℕ) (h h' : Home) (v v' : Domain) (q : Quarantine m w) (many : length m.homes ≡ 15) (there : home_of m.homes d ≡ Some h) (here : w.domains d ≡ Some v) (c : ChangesDomain m t d h h' v v') where
   low : d < 16

@@ -19,8 +19,8 @@ use Rattle.engine.proofs.Places.{domain_out, home_low}
 
 -- its records went, and nothing is remembered of it; then its tree goes
 module _ (m t : State) (w : World) (d : ℕ) (h : Home) (q : Quarantine m w) (many : length m.homes ≡ 15) (there : home_of m.homes d ≡ Some h) (no_records : h.records ≡ [])
-    (nobody : (x : ℕ) → w.devices x ≡ Some d → ⊥) (no_leaf : (l : Leaf) → IsIn l m.unit.caches.leaves → l.domain ≡ d → ⊥) (no_table : (i : NonLeaf) → IsIn i m.unit.caches.non_leaves → i.domain ≡ d → ⊥)
-    (homes : (e : ℕ) → home_of t.homes e ≡ put d None (home_of m.homes) e) (row : t.row ≡ m.row) (unit : t.unit ≡ m.unit) (destroys : Destroys m.pool h.root t.pool) where
+    (nobody : (x : ℕ) → w.devices x ≡ Some d → ⊥) (no_leaf : (l : Leaf) → IsIn l m.iommu.unit.caches.leaves → l.domain ≡ d → ⊥) (no_table : (i : NonLeaf) → IsIn i m.iommu.unit.caches.non_leaves → i.domain ≡ d → ⊥)
+    (homes : (e : ℕ) → home_of t.homes e ≡ put d None (home_of m.homes) e) (row : t.iommu.contexts ≡ m.iommu.contexts) (unit : t.iommu.unit ≡ m.iommu.unit) (destroys : Destroys m.pool h.root t.pool) where
   low : d < 16
   low = home_low m.homes d h many there
 
@@ -50,7 +50,7 @@ module _ (m t : State) (w : World) (d : ℕ) (h : Home) (q : Quarantine m w) (ma
   table_lawful i ne (k, u, at, in_world, was) = (k, u, at_other i.domain ne ∙ at, put_other d None w.domains i.domain ne ∙ in_world, (keeps i.domain k u ne at).table i was)
 
   -- a device is attached to another domain
-  still : (x root e : ℕ) → slice_get m.row x ≡ Some (Present root W39 e) → e ≢ d
+  still : (x root e : ℕ) → slice_get m.iommu.contexts x ≡ Some (Present root W39 e) → e ≢ d
   still x root e at same = nobody x (q.contexts.devices x ∙ ap attached at ∙ ap Some same)
 
   still_attached : Attaches t after

@@ -5,7 +5,7 @@ use Rattle.dmatypes.specs.World.{Domain, World, flushed, put}
 use Rattle.vtdbits.specs.declared.descriptor.Descriptor.TheVariants.{IotlbDomain}
 use Rattle.engine.specs.Ending.{Closes}
 use Rattle.engine.specs.Homes.{Home, Place, home_in, home_of, home_with}
-use Rattle.engine.specs.State.{State, iommu_of}
+use Rattle.engine.specs.State.{State}
 use Rattle.engine.specs.Quarantine.{Quarantine}
 use Rattle.engine.proofs.Closing.{domain_gone}
 use Rattle.engine.proofs.Emptying.{put_twice, same_domains}
@@ -16,19 +16,19 @@ use Rattle.engine.proofs.Releasing.{domain_flushed, dropped_leaf, dropped_table}
 use Rattle.engine.proofs.Unmapping.{home_after}
 
 module _ (m t : State) (w : World) (i : ℕ) (h : Home) (old new : Place) (v : Domain) (q : Quarantine m w) (many : length m.homes ≡ 15) (less : i < length m.homes) (there : home_of m.homes (i + 1) ≡ Some h) (in_old : home_in (Some old) ≡ Some h)
-    (here : w.domains (i + 1) ≡ Some v) (nobody : (x : ℕ) → w.devices x ≡ Some (i + 1) → ⊥) (vacant : new.tenant ≡ None) (closes : Closes m.pool h (iommu_of m) (i + 1) t.pool new.space new.records (iommu_of t)) (homes : t.homes ≡ slice_set m.homes i new) (row : t.row ≡ m.row) where
+    (here : w.domains (i + 1) ≡ Some v) (nobody : (x : ℕ) → w.devices x ≡ Some (i + 1) → ⊥) (vacant : new.tenant ≡ None) (closes : Closes m.pool h m.iommu (i + 1) t.pool new.space new.records t.iommu) (homes : t.homes ≡ slice_set m.homes i new) where
   -- the state once the records went
   abbrev between : State
-  between = record { pool = closes.pool_between; homes = slice_set m.homes i (record old { space = new.space; records = [] }); row = m.row; ring = t.ring; unit = t.unit; sent = t.sent; calls = m.calls }
+  between = record { pool = closes.pool_between; homes = slice_set m.homes i (record old { space = new.space; records = [] }); iommu = t.iommu; calls = m.calls }
 
   abbrev emptied : World
   emptied = record w { domains = put (i + 1) (Some (flushed v)) w.domains }
 
-  purges : Purges (IotlbDomain (i + 1)) m.unit.caches t.unit.caches
-  purges = purges_sent m.ring.waiting (IotlbDomain (i + 1)) t.sent m.unit.caches t.unit.caches closes.flushes.invalidates.caches
+  purges : Purges (IotlbDomain (i + 1)) m.iommu.unit.caches t.iommu.unit.caches
+  purges = purges_sent m.iommu.ring.waiting (IotlbDomain (i + 1)) t.iommu.sent m.iommu.unit.caches t.iommu.unit.caches closes.flushes.invalidates.caches
 
   quarantined : Quarantine between emptied
-  quarantined = domain_flushed m between w i t.sent h old v new.space q many less there in_old here closes.flushes.invalidates.caches closes.flushes.releases refl refl
+  quarantined = domain_flushed m between w i t.iommu.sent h old v new.space q many less there in_old here closes.flushes.invalidates.caches closes.flushes.releases refl closes.flushes.invalidates.contexts
 
   homes_between : (e : ℕ) → home_of between.homes e ≡ put (i + 1) (Some (home_after h new.space [])) (home_of m.homes) e
   homes_between e = home_set m.homes i (record old { space = new.space; records = [] }) less e ∙ ap (λ (o : Option Home). put (i + 1) o (home_of m.homes) e) (settled old h new.space [] in_old)
@@ -44,4 +44,4 @@ module _ (m t : State) (w : World) (i : ℕ) (h : Home) (old new : Place) (v : D
       same_domains t (record w { domains = put (i + 1) None (put (i + 1) (Some (flushed v)) w.domains) }) (put (i + 1) None w.domains) (λ d. put_twice (i + 1) (Some (flushed v)) None w.domains d)
       (domain_gone between t emptied (i + 1) (home_after h new.space []) quarantined (length-set m.homes i (record old { space = new.space; records = [] }) ∙ many)
       (homes_between (i + 1) ∙ put_same (i + 1) (Some (home_after h new.space [])) (home_of m.homes)) refl nobody
-      (λ l inside same. dropped_leaf (i + 1) l same (purges.leaves l inside).1) (λ k inside same. dropped_table (i + 1) k same (purges.tables k inside).1) homes_then row refl closes.destroys)
+      (λ l inside same. dropped_leaf (i + 1) l same (purges.leaves l inside).1) (λ k inside same. dropped_table (i + 1) k same (purges.tables k inside).1) homes_then refl refl closes.destroys)

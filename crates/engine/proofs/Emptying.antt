@@ -51,14 +51,14 @@ same_domains m w domains same q = record {
 -- ---- the call
 
 module _ (m t : State) (w : World) (i n : ℕ) (h : Home) (old : Place) (v : Domain) (pool1 : Pool) (space1 : Space) (q : Quarantine m w) (many : length m.homes ≡ 15) (less : i < length m.homes)
-    (there : home_of m.homes (i + 1) ≡ Some h) (in_old : home_in (Some old) ≡ Some h) (here : w.domains (i + 1) ≡ Some v) (caches : t.unit.caches ≡ left_by_all (m.ring.waiting ++ IotlbDomain (i + 1) ∷ Wait n ∷ []) m.unit.caches)
+    (there : home_of m.homes (i + 1) ≡ Some h) (in_old : home_in (Some old) ≡ Some h) (here : w.domains (i + 1) ≡ Some v) (caches : t.iommu.unit.caches ≡ left_by_all (m.iommu.ring.waiting ++ IotlbDomain (i + 1) ∷ Wait n ∷ []) m.iommu.unit.caches)
     (all : ReleasesAll m.pool h.space h.records pool1 space1) where
   -- the place, the state and the world once all records went
   abbrev emptied : Place
   emptied = record old { space = space1; records = [] }
 
   abbrev between : State
-  between = record m { pool = pool1; homes = slice_set m.homes i emptied; unit = t.unit }
+  between = record m { pool = pool1; homes = slice_set m.homes i emptied; iommu = record m.iommu { unit = t.iommu.unit } }
 
   abbrev flushed_world : World
   flushed_world = record w { domains = put (i + 1) (Some (flushed v)) w.domains }
@@ -70,7 +70,7 @@ module _ (m t : State) (w : World) (i n : ℕ) (h : Home) (old : Place) (v : Dom
   there_between = home_set m.homes i emptied less (i + 1) ∙ put_same (i + 1) (home_in (Some emptied)) (home_of m.homes) ∙ settled old h space1 [] in_old
 
   emptied_then : (range : Range) (cut : Cut) (space2 : Space) → v.mode ≡ Lazy → IsPageRange range → RetiresAndUnmaps pool1 space1 h.root range cut t.pool space2
-      → t.homes ≡ slice_set m.homes i (record old { space = space2; records = record_for range h.begun cut ∷ [] }) → t.row ≡ m.row
+      → t.homes ≡ slice_set m.homes i (record old { space = space2; records = record_for range h.begun cut ∷ [] }) → t.iommu.contexts ≡ m.iommu.contexts
       → Quarantine t (record w { domains = put (i + 1) (Some (put_off range (flushed v))) (put (i + 1) (Some (flushed v)) w.domains) })
   emptied_then range cut space2 lazy fits cuts homes row =
       lazy_put_off between t flushed_world i (home_after h space1 []) emptied (flushed v) range cut space2 flushed_first (set_length m.homes i emptied ∙ many) (rw (set_length m.homes i emptied) less)
@@ -80,8 +80,8 @@ module _ (m t : State) (w : World) (i n : ℕ) (h : Home) (old : Place) (v : Dom
 -- all records of the domain went, and then the pages of the range were put off
 pub full_put_off : (m t : State) (w : World) (i n : ℕ) (h : Home) (old : Place) (v : Domain) (range : Range) (cut : Cut) (pool1 : Pool) (space1 space2 : Space)
     → Quarantine m w → length m.homes ≡ 15 → i < length m.homes → home_of m.homes (i + 1) ≡ Some h → home_in (Some old) ≡ Some h → w.domains (i + 1) ≡ Some v → v.mode ≡ Lazy → IsPageRange range
-    → t.unit.caches ≡ left_by_all (m.ring.waiting ++ IotlbDomain (i + 1) ∷ Wait n ∷ []) m.unit.caches → ReleasesAll m.pool h.space h.records pool1 space1 → RetiresAndUnmaps pool1 space1 h.root range cut t.pool space2
-    → t.homes ≡ slice_set m.homes i (record old { space = space2; records = record_for range h.begun cut ∷ [] }) → t.row ≡ m.row
+    → t.iommu.unit.caches ≡ left_by_all (m.iommu.ring.waiting ++ IotlbDomain (i + 1) ∷ Wait n ∷ []) m.iommu.unit.caches → ReleasesAll m.pool h.space h.records pool1 space1 → RetiresAndUnmaps pool1 space1 h.root range cut t.pool space2
+    → t.homes ≡ slice_set m.homes i (record old { space = space2; records = record_for range h.begun cut ∷ [] }) → t.iommu.contexts ≡ m.iommu.contexts
     → Quarantine t (record w { domains = put (i + 1) (Some (put_off range (flushed v))) w.domains })
 full_put_off m t w i n h old v range cut pool1 space1 space2 q many less there in_old here lazy fits caches all cuts homes row =
     same_domains t (record w { domains = put (i + 1) (Some (put_off range (flushed v))) (put (i + 1) (Some (flushed v)) w.domains) }) (put (i + 1) (Some (put_off range (flushed v))) w.domains)

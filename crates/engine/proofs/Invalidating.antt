@@ -9,6 +9,7 @@ use Rattle.unit.specs.Caches.{UnitState, unit_state}
 use Rattle.unit.specs.Filters.{after_first, done_after, left_by, left_by_first, status_after}
 use Rattle.vtdbits.specs.declared.descriptor.Descriptor.{Descriptor}
 use Rattle.vtdbits.specs.declared.descriptor.Descriptor.TheVariants.{Wait}
+use Rattle.engine.specs.declared.iommu.Iommu.{Iommu}
 use Rattle.engine.specs.Ending.{Invalidates, IsSent, left_by_all}
 use Rattle.engine.specs.Ready.{Covers, IsDone}
 
@@ -89,13 +90,14 @@ first_stage d n old ring ring' unit idle later one two =
 -- ---- what is asked of whoever releases
 
 -- what was invalidated is done
-pub done_then : (ring : Ring) (unit : UnitState) (sent : ℕ) (d : Descriptor) (ring' : Ring) (unit' : UnitState) (sent' : ℕ) → Invalidates ring unit sent d ring' unit' sent' → IsDone ring' d sent'
-done_then ring unit sent d ring' unit' sent' sends = record {
+pub done_then : (old : Iommu) (d : Descriptor) (new : Iommu) → Invalidates old d new → IsDone new.ring d new.sent
+done_then old d new sends = record {
   later = [];
-  earlier = reverse ring.waiting ++ take (256 - length (ring.waiting ++ d ∷ Wait sent' ∷ [])) ring.taken;
+  earlier = reverse old.ring.waiting ++ take (256 - length (old.ring.waiting ++ d ∷ Wait new.sent ∷ [])) old.ring.taken;
   taken =
       ap (λ (q : Ring). q.taken) sends.done
-      ∙ ap (λ ds. ds ++ take (256 - length (ring.waiting ++ d ∷ Wait sent' ∷ [])) ring.taken) (reverse-append ring.waiting (d ∷ Wait sent' ∷ []));
+      ∙ ap (λ ds. ds ++ take (256 - length (old.ring.waiting ++ d ∷ Wait new.sent ∷ [])) old.ring.taken)
+      (reverse-append old.ring.waiting (d ∷ Wait new.sent ∷ []));
   reached = (let status = ap (λ (q : Ring). q.status) sends.done in omega (arith, status));
 }
 

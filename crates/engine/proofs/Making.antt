@@ -62,7 +62,7 @@ home_new mode tree = record { mode = mode; space = new_space (2 ^ 27 - 1); root 
 
 -- the state with the domain is the state of the world with it
 with_new : (m t : State) (w : World) (mode : Mode) (i : ℕ) (tree : Tree) → Quarantine m w → length m.homes ≡ 15 → i < length m.homes → home_of m.homes (i + 1) ≡ None → IsEmptyTree m.pool t.pool tree.root
-    → IsSpace (new_space (2 ^ 27 - 1)) → AllFree (new_space (2 ^ 27 - 1)) → t.homes ≡ slice_set m.homes i (place_new mode tree) → t.row ≡ m.row → t.unit ≡ m.unit
+    → IsSpace (new_space (2 ^ 27 - 1)) → AllFree (new_space (2 ^ 27 - 1)) → t.homes ≡ slice_set m.homes i (place_new mode tree) → t.iommu.contexts ≡ m.iommu.contexts → t.iommu.unit ≡ m.iommu.unit
     → Quarantine t (record w { domains = put (i + 1) (Some (empty_domain mode)) w.domains })
 with_new m t w mode i tree q many less free grown is_space all homes row unit = record {
   table_frames = q.table_frames ∙ sym grown.roots.frames;
@@ -73,7 +73,7 @@ with_new m t w mode i tree q many less free grown is_space all homes row unit = 
         pieces = pieces_new (new_space (2 ^ 27 - 1)) mode is_space all refl;
       })
       (λ e k ne there p. ap (λ ws. leaf_from (memory ws) 3 k.root p) grown.roots.words);
-  caches = subst (λ u. AreLawful t (record w { domains = put (i + 1) (Some (empty_domain mode)) w.domains }) u.caches) (sym unit) (stay_lawful m t w (record w { domains = put (i + 1) (Some (empty_domain mode)) w.domains }) m.unit.caches q.caches (λ d h v there here. (
+  caches = subst (λ u. AreLawful t (record w { domains = put (i + 1) (Some (empty_domain mode)) w.domains }) u.caches) (sym unit) (stay_lawful m t w (record w { domains = put (i + 1) (Some (empty_domain mode)) w.domains }) m.iommu.unit.caches q.caches (λ d h v there here. (
     h,
     v,
     kept d h there,
@@ -124,7 +124,7 @@ makes m t mode i tree many less free grown is_space all is =
               ((λ all. unused m w i q many less free all), tt),
               (i + 1, (omega arith, omega (arith, less, many), is_none (w.domains (i + 1)) absent), refl),
             ),
-            with_new m t w mode i tree q many less free grown is_space all (ap (λ (x : State). x.homes) is) (ap (λ (x : State). x.row) is) (ap (λ (x : State). x.unit) is),
+            with_new m t w mode i tree q many less free grown is_space all (ap (λ (x : State). x.homes) is) (ap (λ (x : State). x.iommu.contexts) is) (ap (λ (x : State). x.iommu.unit) is),
           );
       exact = omega (arith, grown.roots.count);
       becomes = let place : i + 1 - 1 ≡ i = omega arith in (tree, grown.roots, rw place is);

@@ -176,12 +176,12 @@ others_stay m t w d h space segments first order rights q many there places e k 
 with_map : (m t : State) (w : World) (i : ℕ) (h : Home) (old : Place) (v : Domain) (space : Space) (segments : List Segment) (first order rights : ℕ) → Quarantine m w → length m.homes ≡ 15 → i < length m.homes
     → home_of m.homes (i + 1) ≡ Some h → w.domains (i + 1) ≡ Some v → home_in (Some old) ≡ Some h → home_in (Some (record old { space = space })) ≡ Some (home_mapped h space)
     → Mirrors m.pool.words h v → Places m.pool h.space h.root segments order rights first t.pool space → 1 ≤ total_pages segments
-    → t.homes ≡ slice_set m.homes i (record old { space = space }) → t.row ≡ m.row → t.unit ≡ m.unit
+    → t.homes ≡ slice_set m.homes i (record old { space = space }) → t.iommu.contexts ≡ m.iommu.contexts → t.iommu.unit ≡ m.iommu.unit
     → Quarantine t (record w { domains = put (i + 1) (Some (mapped segments first rights v)) w.domains })
 with_map m t w i h old v space segments first order rights q many less there here in_old in_new mirrors places some homes row unit = record {
   table_frames = q.table_frames ∙ sym places.moves.frames;
   domains = domains_put m t w (i + 1) (home_mapped h space) (mapped segments first rights v) q homes_are (maps_mirror m.pool t.pool h space v segments first order rights mirrors places some) (λ e k ne at p. (stays e k ne at).same_leaves p);
-  caches = subst (λ u. AreLawful t (record w { domains = put (i + 1) (Some (mapped segments first rights v)) w.domains }) u.caches) (sym unit) (stay_lawful m t w (record w { domains = put (i + 1) (Some (mapped segments first rights v)) w.domains }) m.unit.caches q.caches (λ d k u at in_world. by_domain d k u at in_world (same_or_not d (i + 1))));
+  caches = subst (λ u. AreLawful t (record w { domains = put (i + 1) (Some (mapped segments first rights v)) w.domains }) u.caches) (sym unit) (stay_lawful m t w (record w { domains = put (i + 1) (Some (mapped segments first rights v)) w.domains }) m.iommu.unit.caches q.caches (λ d k u at in_world. by_domain d k u at in_world (same_or_not d (i + 1))));
   contexts = record {
     devices = λ x. rw row (q.contexts.devices x);
     roots = λ x root domain at. let was = q.contexts.roots x root domain (rw row at at) in let now = kept_root domain was.0 was.1 in (now.0, now.1, now.2 ∙ was.2);
@@ -271,7 +271,7 @@ maps m t order rights i first segments h old space many less there at in_old in_
               (not_none (w.domains (i + 1)) v.0 v.1, (good, (owned_not w.table_frames m.pool.frames segments.items q.table_frames high, (some, tt)))),
               (first, fit.aligned, rw v.1 free, ap (λ (a : ℕ). Mapped a) at_start),
             ),
-            rw (v.1, page) (with_map m t w i h old v.0 space segments.items first order rights q many less there v.1 in_old in_new v.2 places (some_page segments.items are) (ap (λ (x : State). x.homes) is) (ap (λ (x : State). x.row) is) (ap (λ (x : State). x.unit) is)),
+            rw (v.1, page) (with_map m t w i h old v.0 space segments.items first order rights q many less there v.1 in_old in_new v.2 places (some_page segments.items are) (ap (λ (x : State). x.homes) is) (ap (λ (x : State). x.iommu.contexts) is) (ap (λ (x : State). x.iommu.unit) is)),
           );
       exact = rw (there, page) (places.taken, omega (arith, places.count));
       becomes = let place : i + 1 - 1 ≡ i = omega arith in (h, old, space, there, rw place at, rw page places, rw place is);

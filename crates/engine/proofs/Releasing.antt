@@ -133,8 +133,8 @@ pub dropped_table : (d : ℕ) (i : NonLeaf) → i.domain ≡ d → drops_non_lea
 dropped_table d i same left = grind (arith, nat_tests)
 
 flush_changes : (m t : State) (w : World) (i : ℕ) (h : Home) (old : Place) (v : Domain) (space : Space) → Quarantine m w → length m.homes ≡ 15 → i < length m.homes → home_of m.homes (i + 1) ≡ Some h → home_in (Some old) ≡ Some h
-    → Mirrors m.pool.words h v → Purges (IotlbDomain (i + 1)) m.unit.caches t.unit.caches → ReleasesAll m.pool h.space h.records t.pool space
-    → t.homes ≡ slice_set m.homes i (record old { space = space; records = [] }) → t.row ≡ m.row → ChangesDomain m t (i + 1) h (home_after h space []) v (flushed v)
+    → Mirrors m.pool.words h v → Purges (IotlbDomain (i + 1)) m.iommu.unit.caches t.iommu.unit.caches → ReleasesAll m.pool h.space h.records t.pool space
+    → t.homes ≡ slice_set m.homes i (record old { space = space; records = [] }) → t.iommu.contexts ≡ m.iommu.contexts → ChangesDomain m t (i + 1) h (home_after h space []) v (flushed v)
 flush_changes m t w i h old v space q many less there in_old mirrors purges all homes row = record {
   homes = λ e. ap (λ hs. home_of hs e) homes ∙ home_set m.homes i (record old { space = space; records = [] }) less e ∙ ap (λ o. put (i + 1) o (home_of m.homes) e) (settled old h space [] in_old);
   row = row;
@@ -153,9 +153,9 @@ flush_changes m t w i h old v space q many less there in_old mirrors purges all 
 
 -- a flush: the descriptor was sent and done before the records came free
 pub domain_flushed : (m t : State) (w : World) (i n : ℕ) (h : Home) (old : Place) (v : Domain) (space : Space) → Quarantine m w → length m.homes ≡ 15 → i < length m.homes
-    → home_of m.homes (i + 1) ≡ Some h → home_in (Some old) ≡ Some h → w.domains (i + 1) ≡ Some v → t.unit.caches ≡ left_by_all (m.ring.waiting ++ IotlbDomain (i + 1) ∷ Wait n ∷ []) m.unit.caches
-    → ReleasesAll m.pool h.space h.records t.pool space → t.homes ≡ slice_set m.homes i (record old { space = space; records = [] }) → t.row ≡ m.row
+    → home_of m.homes (i + 1) ≡ Some h → home_in (Some old) ≡ Some h → w.domains (i + 1) ≡ Some v → t.iommu.unit.caches ≡ left_by_all (m.iommu.ring.waiting ++ IotlbDomain (i + 1) ∷ Wait n ∷ []) m.iommu.unit.caches
+    → ReleasesAll m.pool h.space h.records t.pool space → t.homes ≡ slice_set m.homes i (record old { space = space; records = [] }) → t.iommu.contexts ≡ m.iommu.contexts
     → Quarantine t (record w { domains = put (i + 1) (Some (flushed v)) w.domains })
 domain_flushed m t w i n h old v space q many less there in_old here caches all homes row =
     changes_domain m t w (i + 1) h (home_after h space []) v (flushed v) q many there here
-    (flush_changes m t w i h old v space q many less there in_old (mirrors_of m w (i + 1) h v q there here) (purges_sent m.ring.waiting (IotlbDomain (i + 1)) n m.unit.caches t.unit.caches caches) all homes row)
+    (flush_changes m t w i h old v space q many less there in_old (mirrors_of m w (i + 1) h v q there here) (purges_sent m.iommu.ring.waiting (IotlbDomain (i + 1)) n m.iommu.unit.caches t.iommu.unit.caches caches) all homes row)

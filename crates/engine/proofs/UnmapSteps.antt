@@ -76,8 +76,8 @@ answered w d address pages released v here none answer = (none, rw here answer)
 
 pub strict_steps : (m t : State) (i n address pages : ℕ) (h : Home) (old : Place) (cut : Cut) (x : Descriptor) (pool1 : Pool) (space1 space2 : Space)
     → length m.homes ≡ 15 → i < length m.homes → home_of m.homes (i + 1) ≡ Some h → home_in (Some old) ≡ Some h → h.mode ≡ Strict → address % 4096 ≡ 0 → IsPageRange (range_at address pages)
-    → RetiresAndUnmaps m.pool h.space h.root (range_at address pages) cut pool1 space1 → IsSent (i + 1) (range_at address pages) cut x → t.unit.caches ≡ left_by_all (m.ring.waiting ++ x ∷ Wait n ∷ []) m.unit.caches
-    → Releases pool1 space1 (range_at address pages) cut t.pool space2 → t.homes ≡ slice_set m.homes i (record old { space = space2 }) → t.row ≡ m.row
+    → RetiresAndUnmaps m.pool h.space h.root (range_at address pages) cut pool1 space1 → IsSent (i + 1) (range_at address pages) cut x → t.iommu.unit.caches ≡ left_by_all (m.iommu.ring.waiting ++ x ∷ Wait n ∷ []) m.iommu.unit.caches
+    → Releases pool1 space1 (range_at address pages) cut t.pool space2 → t.homes ≡ slice_set m.homes i (record old { space = space2 }) → t.iommu.contexts ≡ m.iommu.contexts
     → Steps m (calls.Unmap (i + 1) address pages) (Unmapped 0) t
 strict_steps m t i n address pages h old cut x pool1 space1 space2 many less there in_old mode whole fits cuts sent caches releases homes row w q =
     let both = both_there m.pool.words (home_of m.homes (i + 1)) (w.domains (i + 1)) h (q.domains (i + 1)) there in
@@ -89,8 +89,8 @@ strict_steps m t i n address pages h old cut x pool1 space1 space2 many less the
 
 pub room_steps : (m t : State) (i address pages : ℕ) (h : Home) (old : Place) (cut : Cut) (space1 : Space)
     → length m.homes ≡ 15 → i < length m.homes → home_of m.homes (i + 1) ≡ Some h → home_in (Some old) ≡ Some h → h.mode ≡ Lazy → length h.records ≢ 256 → address % 4096 ≡ 0 → IsPageRange (range_at address pages)
-    → RetiresAndUnmaps m.pool h.space h.root (range_at address pages) cut t.pool space1 → t.unit ≡ m.unit
-    → t.homes ≡ slice_set m.homes i (record old { space = space1; records = old.records ++ record_for (range_at address pages) h.begun cut ∷ [] }) → t.row ≡ m.row
+    → RetiresAndUnmaps m.pool h.space h.root (range_at address pages) cut t.pool space1 → t.iommu.unit ≡ m.iommu.unit
+    → t.homes ≡ slice_set m.homes i (record old { space = space1; records = old.records ++ record_for (range_at address pages) h.begun cut ∷ [] }) → t.iommu.contexts ≡ m.iommu.contexts
     → Steps m (calls.Unmap (i + 1) address pages) (Unmapped 0) t
 room_steps m t i address pages h old cut space1 many less there in_old mode room whole fits cuts unit homes row w q =
     let both = both_there m.pool.words (home_of m.homes (i + 1)) (w.domains (i + 1)) h (q.domains (i + 1)) there in
@@ -104,8 +104,8 @@ room_steps m t i address pages h old cut space1 many less there in_old mode room
 -- the pages may be retired before the flush, and so after it
 pub full_steps : (m t : State) (i n address pages : ℕ) (h : Home) (old : Place) (cut : Cut) (pool1 : Pool) (space1 space2 : Space)
     → length m.homes ≡ 15 → i < length m.homes → home_of m.homes (i + 1) ≡ Some h → home_in (Some old) ≡ Some h → h.mode ≡ Lazy → length h.records ≡ 256 → address % 4096 ≡ 0 → IsPageRange (range_at address pages)
-    → AllIn Live (range_at address pages) h.space.pieces → t.unit.caches ≡ left_by_all (m.ring.waiting ++ IotlbDomain (i + 1) ∷ Wait n ∷ []) m.unit.caches → ReleasesAll m.pool h.space h.records pool1 space1
-    → RetiresAndUnmaps pool1 space1 h.root (range_at address pages) cut t.pool space2 → t.homes ≡ slice_set m.homes i (record old { space = space2; records = record_for (range_at address pages) h.begun cut ∷ [] }) → t.row ≡ m.row
+    → AllIn Live (range_at address pages) h.space.pieces → t.iommu.unit.caches ≡ left_by_all (m.iommu.ring.waiting ++ IotlbDomain (i + 1) ∷ Wait n ∷ []) m.iommu.unit.caches → ReleasesAll m.pool h.space h.records pool1 space1
+    → RetiresAndUnmaps pool1 space1 h.root (range_at address pages) cut t.pool space2 → t.homes ≡ slice_set m.homes i (record old { space = space2; records = record_for (range_at address pages) h.begun cut ∷ [] }) → t.iommu.contexts ≡ m.iommu.contexts
     → Steps m (calls.Unmap (i + 1) address pages) (Unmapped 256) t
 full_steps m t i n address pages h old cut pool1 space1 space2 many less there in_old mode full whole fits live caches all cuts homes row w q =
     let both = both_there m.pool.words (home_of m.homes (i + 1)) (w.domains (i + 1)) h (q.domains (i + 1)) there in

@@ -144,7 +144,7 @@ mirrors_of m w d h v q there here =
 
 module _ (m t : State) (w : World) (i : ℕ) (h : Home) (old : Place) (v : Domain) (range : Range) (cut : Cut) (pool1 : Pool) (space1 : Space)
     (q : Quarantine m w) (many : length m.homes ≡ 15) (less : i < length m.homes) (there : home_of m.homes (i + 1) ≡ Some h) (here : w.domains (i + 1) ≡ Some v) (in_old : home_in (Some old) ≡ Some h)
-    (mirrors : Mirrors m.pool.words h v) (fits : IsPageRange range) (cuts : RetiresAndUnmaps m.pool h.space h.root range cut pool1 space1) (row : t.row ≡ m.row) (words : t.pool.words ≡ pool1.words) where
+    (mirrors : Mirrors m.pool.words h v) (fits : IsPageRange range) (cuts : RetiresAndUnmaps m.pool h.space h.root range cut pool1 space1) (row : t.iommu.contexts ≡ m.iommu.contexts) (words : t.pool.words ≡ pool1.words) where
   low : i + 1 < 16
   low = home_low m.homes (i + 1) h many there
 
@@ -173,10 +173,10 @@ module _ (m t : State) (w : World) (i : ℕ) (h : Home) (old : Place) (v : Domai
 
   -- ---- a strict unmap
 
-  module _ (n : ℕ) (x : Descriptor) (space2 : Space) (strict : v.mode ≡ Strict) (sent : IsSent (i + 1) range cut x) (caches : t.unit.caches ≡ left_by_all (m.ring.waiting ++ x ∷ Wait n ∷ []) m.unit.caches)
+  module _ (n : ℕ) (x : Descriptor) (space2 : Space) (strict : v.mode ≡ Strict) (sent : IsSent (i + 1) range cut x) (caches : t.iommu.unit.caches ≡ left_by_all (m.iommu.ring.waiting ++ x ∷ Wait n ∷ []) m.iommu.unit.caches)
       (releases : Releases pool1 space1 range cut t.pool space2) (homes : t.homes ≡ slice_set m.homes i (record old { space = space2 })) where
-    purges : Purges x m.unit.caches t.unit.caches
-    purges = purges_sent m.ring.waiting x n m.unit.caches t.unit.caches caches
+    purges : Purges x m.iommu.unit.caches t.iommu.unit.caches
+    purges = purges_sent m.iommu.ring.waiting x n m.iommu.unit.caches t.iommu.unit.caches caches
 
     strict_changes : ChangesDomain m t (i + 1) h (home_after h space2 h.records) v (unmapped range v)
     strict_changes = record {
@@ -208,7 +208,7 @@ module _ (m t : State) (w : World) (i : ℕ) (h : Home) (old : Place) (v : Domai
 
   -- ---- a lazy unmap, with room for its record
 
-  module _ (lazy : v.mode ≡ Lazy) (same_pool : t.pool ≡ pool1) (unit : t.unit ≡ m.unit) (homes : t.homes ≡ slice_set m.homes i (record old { space = space1; records = old.records ++ record_for range h.begun cut ∷ [] })) where
+  module _ (lazy : v.mode ≡ Lazy) (same_pool : t.pool ≡ pool1) (unit : t.iommu.unit ≡ m.iommu.unit) (homes : t.homes ≡ slice_set m.homes i (record old { space = space1; records = old.records ++ record_for range h.begun cut ∷ [] })) where
     abbrev records1 : List Record
     records1 = h.records ++ record_for range h.begun cut ∷ []
 
@@ -254,15 +254,15 @@ module _ (m t : State) (w : World) (i : ℕ) (h : Home) (old : Place) (v : Domai
 -- an unmap of a strict domain: the descriptor was sent and done before its pages and the cut tables came free
 pub strict_unmapped : (m t : State) (w : World) (i n : ℕ) (h : Home) (old : Place) (v : Domain) (range : Range) (cut : Cut) (x : Descriptor) (pool1 : Pool) (space1 space2 : Space)
     → Quarantine m w → length m.homes ≡ 15 → i < length m.homes → home_of m.homes (i + 1) ≡ Some h → home_in (Some old) ≡ Some h → w.domains (i + 1) ≡ Some v → v.mode ≡ Strict → IsPageRange range
-    → RetiresAndUnmaps m.pool h.space h.root range cut pool1 space1 → IsSent (i + 1) range cut x → t.unit.caches ≡ left_by_all (m.ring.waiting ++ x ∷ Wait n ∷ []) m.unit.caches → Releases pool1 space1 range cut t.pool space2
-    → t.homes ≡ slice_set m.homes i (record old { space = space2 }) → t.row ≡ m.row → Quarantine t (record w { domains = put (i + 1) (Some (unmapped range v)) w.domains })
+    → RetiresAndUnmaps m.pool h.space h.root range cut pool1 space1 → IsSent (i + 1) range cut x → t.iommu.unit.caches ≡ left_by_all (m.iommu.ring.waiting ++ x ∷ Wait n ∷ []) m.iommu.unit.caches → Releases pool1 space1 range cut t.pool space2
+    → t.homes ≡ slice_set m.homes i (record old { space = space2 }) → t.iommu.contexts ≡ m.iommu.contexts → Quarantine t (record w { domains = put (i + 1) (Some (unmapped range v)) w.domains })
 strict_unmapped m t w i n h old v range cut x pool1 space1 space2 q many less there in_old here strict fits cuts sent caches releases homes row =
     strict_keeps m t w i h old v range cut pool1 space1 q many less there here in_old (mirrors_of m w (i + 1) h v q there here) fits cuts row releases.words n x space2 strict sent caches releases homes
 
 -- an unmap of a lazy domain that has room for one more record
 pub lazy_put_off : (m t : State) (w : World) (i : ℕ) (h : Home) (old : Place) (v : Domain) (range : Range) (cut : Cut) (space1 : Space)
     → Quarantine m w → length m.homes ≡ 15 → i < length m.homes → home_of m.homes (i + 1) ≡ Some h → home_in (Some old) ≡ Some h → w.domains (i + 1) ≡ Some v → v.mode ≡ Lazy → IsPageRange range
-    → RetiresAndUnmaps m.pool h.space h.root range cut t.pool space1 → t.unit ≡ m.unit → t.homes ≡ slice_set m.homes i (record old { space = space1; records = old.records ++ record_for range h.begun cut ∷ [] }) → t.row ≡ m.row
+    → RetiresAndUnmaps m.pool h.space h.root range cut t.pool space1 → t.iommu.unit ≡ m.iommu.unit → t.homes ≡ slice_set m.homes i (record old { space = space1; records = old.records ++ record_for range h.begun cut ∷ [] }) → t.iommu.contexts ≡ m.iommu.contexts
     → Quarantine t (record w { domains = put (i + 1) (Some (put_off range v)) w.domains })
 lazy_put_off m t w i h old v range cut space1 q many less there in_old here lazy fits cuts unit homes row =
     lazy_keeps m t w i h old v range cut t.pool space1 q many less there here in_old (mirrors_of m w (i + 1) h v q there here) fits cuts row refl lazy refl unit homes

@@ -13,13 +13,13 @@ use Rattle.iova.specs.declared.piece.PageState.TheVariants.{Free, Live, Retired}
 use Rattle.iova.specs.declared.piece.Piece.{Piece}
 use Rattle.iova.specs.Pieces.{AllIn, piece_of, state_at}
 use Rattle.iova.specs.Space.{Space, IsSpace, IsTooMany, MayRetire}
-use Rattle.queue.specs.Ring.{Ring, ring_of}
+use Rattle.queue.specs.Ring.{ring_of}
 use Rattle.tables.specs.Changes.{IsApart, TakesAndGivesFrames, Stays, Unmaps}
 use Rattle.tables.specs.Lacks.{splits}
 use Rattle.tables.specs.Pool.{Pool, memory, occurs, word, IsPool, IsTree, IsZeroed}
 use Rattle.tables.specs.Tree.{uses}
 use Rattle.tables.specs.Cut.{Cut}
-use Rattle.unit.specs.Caches.{Caches, UnitState}
+use Rattle.unit.specs.Caches.{Caches}
 use Rattle.unit.specs.Filters.{left_by}
 use Rattle.vtdbits.specs.declared.descriptor.Descriptor.{Descriptor}
 use Rattle.vtdbits.specs.declared.descriptor.Descriptor.TheVariants.{IotlbDomain, IotlbPages, Wait}
@@ -89,14 +89,15 @@ abbrev pub taken_after : List Descriptor → List Descriptor → List Descriptor
 taken_after ds taken = reverse ds ++ take (256 - length ds) taken
 
 -- what waited, then the descriptor, then a wait were taken, in this order, and nothing else was; the unit has done as many
--- as were taken, each in a step of its own, with no other step, in at most 130
-pub record Invalidates (ring : Ring) (unit : UnitState) (sent : ℕ) (d : Descriptor) (ring' : Ring) (unit' : UnitState) (sent' : ℕ) : Type 0 where
-  pub number : sent' ≡ sent + 1
-  pub done : ring' ≡ ring_of [] sent' (taken_after (ring.waiting ++ d ∷ Wait sent' ∷ []) ring.taken)
-  pub caches : unit'.caches ≡ left_by_all (ring.waiting ++ d ∷ Wait sent' ∷ []) unit.caches
-  pub steps : unit'.steps ≡ unit.steps + (length ring.waiting + 2)
-  pub each : unit'.done ≡ unit.done + (length ring.waiting + 2)
-  pub few : length ring.waiting + 2 ≤ 130
+-- as were taken, each in a step of its own, with no other step, in at most 130; the row of context entries stays
+pub record Invalidates (old : Iommu) (d : Descriptor) (new : Iommu) : Type 0 where
+  pub number : new.sent ≡ old.sent + 1
+  pub done : new.ring ≡ ring_of [] new.sent (taken_after (old.ring.waiting ++ d ∷ Wait new.sent ∷ []) old.ring.taken)
+  pub caches : new.unit.caches ≡ left_by_all (old.ring.waiting ++ d ∷ Wait new.sent ∷ []) old.unit.caches
+  pub steps : new.unit.steps ≡ old.unit.steps + (length old.ring.waiting + 2)
+  pub each : new.unit.done ≡ old.unit.done + (length old.ring.waiting + 2)
+  pub few : length old.ring.waiting + 2 ≤ 130
+  pub contexts : new.contexts ≡ old.contexts
 
 -- ---- what comes free
 
@@ -135,12 +136,12 @@ pub record UnmapsStrictly (pool : Pool) (h : Home) (x : Iommu) (domain : ℕ) (r
   pub space_between : Space
   pub cuts : RetiresAndUnmaps pool h.space h.root range cut pool_between space_between
   pub sent : IsSent domain range cut descriptor
-  pub invalidates : Invalidates x.ring x.unit x.sent descriptor x'.ring x'.unit x'.sent
+  pub invalidates : Invalidates x descriptor x'
   pub releases : Releases pool_between space_between range cut pool' space'
 
 -- all that is remembered of the domain is invalidated, all records are released, and none is left
 pub record Flushes (pool : Pool) (space : Space) (records : List Record) (x : Iommu) (domain : ℕ) (pool' : Pool) (space' : Space) (records' : List Record) (x' : Iommu) : Type 0 where
-  pub invalidates : Invalidates x.ring x.unit x.sent (IotlbDomain domain) x'.ring x'.unit x'.sent
+  pub invalidates : Invalidates x (IotlbDomain domain) x'
   pub releases : ReleasesAll pool space records pool' space'
   pub none : records' ≡ []
 

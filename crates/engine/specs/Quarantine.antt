@@ -123,9 +123,9 @@ attached (Some (Present root width domain)) = Some domain
 
 -- context: the row is the devices' attachments with their domains' roots, and each cached context is one of these
 pub record Attaches (m : State) (w : World) : Type 0 where
-  pub devices : (v : ℕ) → w.devices v ≡ attached (slice_get m.row v)
-  pub roots : (v root domain : ℕ) → slice_get m.row v ≡ Some (Present root W39 domain) → (h : Home) × (home_of m.homes domain ≡ Some h) × (h.root ≡ root)
-  pub cached : (x : Context) → IsIn x m.unit.caches.contexts → slice_get m.row x.device ≡ Some (Present x.root W39 x.domain)
+  pub devices : (v : ℕ) → w.devices v ≡ attached (slice_get m.iommu.contexts v)
+  pub roots : (v root domain : ℕ) → slice_get m.iommu.contexts v ≡ Some (Present root W39 domain) → (h : Home) × (home_of m.homes domain ≡ Some h) × (h.root ≡ root)
+  pub cached : (x : Context) → IsIn x m.iommu.unit.caches.contexts → slice_get m.iommu.contexts x.device ≡ Some (Present x.root W39 x.domain)
 
 -- ---- frames
 
@@ -147,7 +147,7 @@ pub record PartsFrames (pool : Pool) (homes : ℕ → Option Home) : Type 0 wher
 pub record Quarantine (m : State) (w : World) : Type 0 where
   pub table_frames : w.table_frames ≡ m.pool.frames
   pub domains : (d : ℕ) → MirrorsIfAny m.pool.words (home_of m.homes d) (w.domains d)
-  pub caches : AreLawful m w m.unit.caches
+  pub caches : AreLawful m w m.iommu.unit.caches
   pub contexts : Attaches m w
   pub frames : PartsFrames m.pool (home_of m.homes)
   pub tickets : w.tickets ≡ []

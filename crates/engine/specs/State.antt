@@ -9,14 +9,13 @@ use Rattle.dmatypes.specs.declared.reply.Reply.{Reply}
 use Rattle.dmatypes.specs.declared.reply.Reply.TheVariants.{Made, Done, Mapped, Unmapped, Flushed, Host, Faulted, Refused}
 use Rattle.dmatypes.specs.declared.width.Width.TheVariants.{W39}
 use Rattle.iova.specs.Space.{Space, new_space}
-use Rattle.queue.specs.Ring.{Ring, ring_of}
+use Rattle.queue.specs.Ring.{ring_of}
 use Rattle.tables.specs.declared.trees.Tree.{Tree}
 use Rattle.tables.specs.Pool.{Pool, memory, occurs, IsZeroed}
 use Rattle.tables.specs.Tree.{here}
 use Rattle.unit.specs.Answers.{Answers}
-use Rattle.unit.specs.Caches.{UnitState, nothing, unit_state, without}
+use Rattle.unit.specs.Caches.{nothing, unit_state, without}
 use Rattle.unit.specs.declared.hit.Hit.{Hit}
-use Rattle.vtdbits.specs.declared.context.ContextEntry.{ContextEntry}
 use Rattle.vtdbits.specs.declared.context.ContextEntry.TheVariants.{Absent, Present}
 use Rattle.dmatypes.specs.Conditions.{total_pages}
 use Rattle.dmatypes.specs.Page.{range_at}
@@ -28,15 +27,12 @@ use Rattle.engine.specs.Ending.{Closes, EndsBy, Flushes, Invalidates, IsJudgedEn
 use Rattle.engine.specs.Homes.{Home, Place, home_of, vacant}
 use Rattle.engine.specs.Placing.{IsCrowded, IsShort, IsTaken, Places, frames_taken}
 
--- the table frames, the places of domains 1 to 15, the row of context entries, the ring, the unit, the number of
--- the last wait that was sent, and how many calls were made
+-- the table frames, the places of domains 1 to 15, the row of context entries with the ring and the unit, and how many
+-- calls were made
 pub record State : Type 0 where
   pub pool : Pool
   pub homes : List Place
-  pub row : List ContextEntry
-  pub ring : Ring
-  pub unit : UnitState
-  pub sent : ℕ
+  pub iommu : Iommu
   pub calls : ℕ
 
 -- all table frames are free and zeroed; there is no domain and no device, nothing waits and nothing is remembered
@@ -47,10 +43,10 @@ pub record IsNew (frames : ℕ) (m : State) : Type 0 where
   pub count : length m.pool.free ≡ frames
   pub zeroed : (f : ℕ) → f < frames → IsZeroed m.pool.words f
   pub homes_are : m.homes ≡ replicate 15 vacant
-  pub row_is : m.row ≡ replicate 16 Absent
-  pub ring_is : m.ring ≡ ring_of [] 0 []
-  pub unit_is : m.unit ≡ unit_state nothing 0 0
-  pub sent_is : m.sent ≡ 0
+  pub contexts_are : m.iommu.contexts ≡ replicate 16 Absent
+  pub ring_is : m.iommu.ring ≡ ring_of [] 0 []
+  pub unit_is : m.iommu.unit ≡ unit_state nothing 0 0
+  pub sent_is : m.iommu.sent ≡ 0
   pub calls_are : m.calls ≡ 0
 
 -- a map takes the lowest start
@@ -96,18 +92,12 @@ abbrev pub host_in : Result Hit Fault → Result ℕ Fault
 host_in (Ok hit) = Ok hit.host
 host_in (Err f) = Err f
 
--- the ring, the unit and the number of the last wait
-abbrev pub iommu_of : State → Iommu
-iommu_of m = record { ring = m.ring; unit = m.unit; sent = m.sent }
-
 -- the state with another place of a domain, and the table frames, ring and unit of a later one
 abbrev pub with_place : State → ℕ → Place → State → State
 with_place m domain new t = record m {
   pool = t.pool;
   homes = slice_set m.homes (domain - 1) new;
-  ring = t.ring;
-  unit = t.unit;
-  sent = t.sent;
+  iommu = t.iommu;
   calls = m.calls + 1;
 }
 
@@ -132,28 +122,29 @@ Becomes m (calls.Domain mode) (Made d) t =
     })
 Becomes m (calls.Attach device domain) Done t =
     (h : Home) × (home_of m.homes domain ≡ Some h)
-    × (t ≡ record m { row = slice_set m.row device (Present h.root W39 domain); calls = m.calls + 1 })
+    × (t ≡ record m { iommu = record m.iommu { contexts = slice_set m.iommu.contexts device (Present h.root W39 domain) }; calls = m.calls + 1 })
 Becomes m (calls.Drop domain) Done t =
     (h : Home) × (old : Place) × (new : Place) × (home_of m.homes domain ≡ Some h) × (slice_get m.homes (domain - 1) ≡ Some old) × (new.tenant ≡ None)
-    × Closes m.pool h (iommu_of m) domain t.pool new.space new.records (iommu_of t) × (t ≡ with_place m domain new t)
+    × Closes m.pool h m.iommu domain t.pool new.space new.records t.iommu × (t ≡ with_place m domain new t)
 Becomes m (calls.Detach device) Done t =
-    (domain : ℕ) × (root : ℕ) × (slice_get m.row device ≡ Some (Present root W39 domain)) × Invalidates m.ring m.unit m.sent (ContextDevice domain device) t.ring t.unit t.sent
-    × (t ≡ record m { row = slice_set m.row device Absent; ring = t.ring; unit = t.unit; sent = t.sent; calls = m.calls + 1 })
+    (domain : ℕ) × (root : ℕ) × (slice_get m.iommu.contexts device ≡ Some (Present root W39 domain))
+    × Invalidates (record m.iommu { contexts = slice_set m.iommu.contexts device Absent }) (ContextDevice domain device) t.iommu
+    × (t ≡ record m { iommu = t.iommu; calls = m.calls + 1 })
 Becomes m (calls.Map domain frame pages order rights) (Mapped address) t = BecomesMapped m domain (one_segment frame pages) order rights address t
 Becomes m (calls.MapList domain order rights segments) (Mapped address) t = BecomesMapped m domain segments.items order rights address t
 Becomes m (calls.Flush domain) (Flushed released) t =
     (h : Home) × (old : Place) × (new : Place) × (home_of m.homes domain ≡ Some h) × (slice_get m.homes (domain - 1) ≡ Some old) × (new.tenant ≡ old.tenant)
-    × Flushes m.pool h.space h.records (iommu_of m) domain t.pool new.space new.records (iommu_of t) × (t ≡ with_place m domain new t)
+    × Flushes m.pool h.space h.records m.iommu domain t.pool new.space new.records t.iommu × (t ≡ with_place m domain new t)
 Becomes m (calls.Unmap domain address pages) (Unmapped released) t =
     (h : Home) × (old : Place) × (new : Place) × (home_of m.homes domain ≡ Some h) × (slice_get m.homes (domain - 1) ≡ Some old) × (new.tenant ≡ old.tenant)
-    × EndsBy h.mode m.pool h (iommu_of m) domain (range_at address pages) released t.pool new.space new.records (iommu_of t)
+    × EndsBy h.mode m.pool h m.iommu domain (range_at address pages) released t.pool new.space new.records t.iommu
     × (t ≡ with_place m domain new t)
 Becomes m (calls.Dma device address access whim) (Refused refusal) t = t ≡ record m { calls = m.calls + 1 }
 Becomes m (calls.Dma device address access whim) reply t =
     (answer : Result Hit Fault) × (reply ≡ reached_reply (host_in answer))
-    × Answers (memory m.pool.words) m.row whim.look whim.fill device address access m.unit.caches t.unit.caches answer
-    × (t ≡ record m { unit = unit_state t.unit.caches m.unit.steps m.unit.done; calls = m.calls + 1 })
-Becomes m (calls.Evict kind place) Done t = t ≡ record m { unit = unit_state (without kind place m.unit.caches) m.unit.steps m.unit.done; calls = m.calls + 1 }
+    × Answers (memory m.pool.words) m.iommu.contexts whim.look whim.fill device address access m.iommu.unit.caches t.iommu.unit.caches answer
+    × (t ≡ record m { iommu = record m.iommu { unit = unit_state t.iommu.unit.caches m.iommu.unit.steps m.iommu.unit.done }; calls = m.calls + 1 })
+Becomes m (calls.Evict kind place) Done t = t ≡ record m { iommu = record m.iommu { unit = unit_state (without kind place m.iommu.unit.caches) m.iommu.unit.steps m.iommu.unit.done }; calls = m.calls + 1 }
 Becomes m call reply t = t ≡ record m { calls = m.calls + 1 }
 
 -- ---- the methods' answers, as replies

@@ -37,7 +37,7 @@ totals_of m = record {
   used = m.pool.frames - length m.pool.free - held_by_all m.homes;
   held = held_by_all m.homes;
   tickets = 0;
-  pending = length m.ring.waiting;
+  pending = length m.iommu.ring.waiting;
 }
 
 abbrev pub domain_totals_of : Option Home → Option DomainTotals

@@ -8,9 +8,9 @@ use Rattle.engine.specs.Quarantine.{IsOfSomeWorld}
 pub record IsWhole (frames : ℕ) (m : State) : Type 0 where
   pub of_world : IsOfSomeWorld m
   pub places : length m.homes ≡ 15
-  pub devices : length m.row ≡ 16
+  pub devices : length m.iommu.contexts ≡ 16
   pub frames_are : frames ≡ m.pool.frames
-  pub idle : m.ring.waiting ≡ []
-  pub status : m.ring.status ≤ m.sent
-  pub sent : m.sent ≤ m.calls
-  pub steps : m.unit.steps ≤ 130 * m.calls
+  pub idle : m.iommu.ring.waiting ≡ []
+  pub status : m.iommu.ring.status ≤ m.iommu.sent
+  pub sent : m.iommu.sent ≤ m.calls
+  pub steps : m.iommu.unit.steps ≤ 130 * m.calls

@@ -1,6 +1,6 @@
-//! The unit and the ring before it, as the manager uses them.
+//! The row of context entries, the ring and the unit that reads both, as the manager uses them.
 
-ghost use Rattle.std.specs.Prelude.{◌≡◌, ℕ, ◌+◌, ◌<◌, ◌≤◌, ◌^◌, ◌∷◌, [], Some, slice_get, take};
+ghost use Rattle.std.specs.Prelude.{◌≡◌, ℕ, ◌+◌, ◌<◌, ◌≤◌, ◌^◌, ◌∷◌, [], Some, replicate, slice_get, take};
 ghost use Rattle.engine.specs.Ending.{Invalidates, left_by_all};
 ghost use Rattle.engine.specs.Ready.{IsOfIotlb, IsReady};
 ghost use Rattle.queue.specs.Ring.{ring_of};
@@ -12,20 +12,23 @@ use queue::Ring;
 use unit::{Contexts, Unit};
 use vtdbits::{ContextEntry, Descriptor, DeviceNumber, DomainId};
 
-/// The ring of descriptors, the unit that takes from it, and the number of the last wait that was sent.
+/// The row of context entries, the ring of descriptors, the unit that reads both, and the number of the last wait that
+/// was sent.
 #[derive(Drop)]
 pub(crate) struct Iommu {
+    pub(crate) contexts: Contexts,
     pub(crate) ring: Ring,
     pub(crate) unit: Unit,
     pub(crate) sent: u32,
 }
 
 impl Iommu {
-    /// Nothing waits, and the unit remembers nothing.
+    /// No device is attached, nothing waits, and the unit remembers nothing.
     pub(crate) fn new() -> Iommu
-        ensures { result ≡ record { ring = ring_of [] 0 []; unit = unit_state nothing 0 0; sent = 0 } }
+        ensures { result ≡ record { contexts = replicate 16 ContextEntry.Absent; ring = ring_of [] 0 []; unit = unit_state nothing 0 0; sent = 0 } }
     {
         Iommu {
+            contexts: Contexts::new(),
             ring: Ring::new(),
             unit: Unit::new(),
             sent: 0,
@@ -37,22 +40,17 @@ impl Iommu {
     pub(crate) fn invalidate(&mut self, descriptor: Descriptor)
         requires ready { IsReady self.old }
         requires iotlb { IsOfIotlb descriptor }
-        ensures { Invalidates self.old.ring self.old.unit self.old.sent descriptor self.new.ring self.new.unit self.new.sent }
+        ensures { Invalidates self.old descriptor self.new }
     {
         self.send(descriptor);
     }
 
     /// Has the unit forget the context of a device of a domain in the same way, once the row's entry of the device is
     /// absent: a request could bring the context back before.
-    pub(crate) fn forget_context(
-        &mut self,
-        contexts: &Contexts,
-        domain: DomainId,
-        device: DeviceNumber,
-    )
+    pub(crate) fn forget_context(&mut self, domain: DomainId, device: DeviceNumber)
         requires ready { IsReady self.old }
-        requires absent { slice_get contexts.now device ≡ Some ContextEntry.Absent }
-        ensures { Invalidates self.old.ring self.old.unit self.old.sent (ContextDevice domain device) self.new.ring self.new.unit self.new.sent }
+        requires absent { slice_get self.old.contexts device ≡ Some ContextEntry.Absent }
+        ensures { Invalidates self.old (ContextDevice domain device) self.new }
     {
         self.send(Descriptor::ContextDevice { domain, device });
     }
@@ -62,7 +60,7 @@ impl Iommu {
     fn send(&mut self, descriptor: Descriptor)
         requires ready { IsReady self.old }
         requires no_wait { (status : ℕ) → status_after descriptor status ≡ status }
-        ensures { Invalidates self.old.ring self.old.unit self.old.sent descriptor self.new.ring self.new.unit self.new.sent }
+        ensures { Invalidates self.old descriptor self.new }
     {
         self.sent += 1;
         work_off(&mut self.ring, &mut self.unit, self.sent, descriptor);

@@ -27,14 +27,13 @@ mod totals;
 
 pub use totals::{DomainTotals, Totals};
 
-/// Table frames, domains, the row of context entries, the ring and the unit, and the number of calls made. Its type
+/// Table frames, domains, the row of context entries with the ring and the unit, and the number of calls made. Its type
 /// keeps that it is a state of some world.
 #[derive(Drop)]
 pub struct State {
     frames: u64,
     pool: Pool,
     homes: Vec<Home>,
-    contexts: Contexts,
     iommu: Iommu,
     calls: u64,
 }
@@ -45,9 +44,9 @@ impl Model for State {
 
     ghost Value = { State };
 
-    ghost view = { λ s. record { pool = s.pool; homes = s.homes.items; row = s.contexts; ring = s.iommu.ring; unit = s.iommu.unit; sent = s.iommu.sent; calls = s.calls } };
+    ghost view = { λ s. record { pool = s.pool; homes = s.homes.items; iommu = s.iommu; calls = s.calls } };
 
-    ghost invariant = { λ s. IsWhole s.frames (record { pool = s.pool; homes = s.homes.items; row = s.contexts; ring = s.iommu.ring; unit = s.iommu.unit; sent = s.iommu.sent; calls = s.calls }) };
+    ghost invariant = { λ s. IsWhole s.frames (record { pool = s.pool; homes = s.homes.items; iommu = s.iommu; calls = s.calls }) };
 }
 
 impl State {
@@ -62,7 +61,6 @@ impl State {
             frames,
             pool: Pool::new(alloc, frames)?,
             homes: vacant_homes(alloc)?,
-            contexts: Contexts::new(),
             iommu: Iommu::new(),
             calls: 0,
         })
@@ -99,7 +97,7 @@ impl State {
         let Some(index) = index_of(self.homes.as_slice(), domain) else {
             return Err(Refusal::NoDomain);
         };
-        let ContextEntry::Absent = self.contexts.get(device) else {
+        let ContextEntry::Absent = self.iommu.contexts.get(device) else {
             return Err(Refusal::Busy);
         };
         let entry = ContextEntry::Present {
@@ -107,7 +105,7 @@ impl State {
             width: Width::W39,
             domain: DomainId::new(domain).unwrap(),
         };
-        self.contexts.set(device, entry);
+        self.iommu.contexts.set(device, entry);
         Ok(())
     }
 
@@ -121,11 +119,11 @@ impl State {
         let Some(number) = DeviceNumber::new(device) else {
             return Err(Refusal::NoDevice);
         };
-        let ContextEntry::Present { domain, .. } = self.contexts.get(device) else {
+        let ContextEntry::Present { domain, .. } = self.iommu.contexts.get(device) else {
             return Err(Refusal::NotAttached);
         };
-        self.contexts.clear(device);
-        self.iommu.forget_context(&self.contexts, domain, number);
+        self.iommu.contexts.clear(device);
+        self.iommu.forget_context(domain, number);
         Ok(())
     }
 
@@ -140,7 +138,7 @@ impl State {
             return Err(Refusal::NoDomain);
         };
         let id = DomainId::new(domain).unwrap();
-        if is_attached(&self.contexts, id) {
+        if is_attached(&self.iommu.contexts, id) {
             return Err(Refusal::Busy);
         }
         self.homes[index].close(&mut self.pool, &mut self.iommu, id);
@@ -226,10 +224,14 @@ impl State {
         if is_in_window(address) {
             return Err(Refusal::Window);
         }
-        let answer = self
-            .iommu
-            .unit
-            .dma(&self.pool, &self.contexts, device, address, access, whim);
+        let answer = self.iommu.unit.dma(
+            &self.pool,
+            &self.iommu.contexts,
+            device,
+            address,
+            access,
+            whim,
+        );
         Ok(host_in(answer))
     }
 

@@ -34,7 +34,7 @@ domain_missing m n old now so_far is =
 
 -- ---- devices
 
-devices_more : (m : State) (n : ℕ) → device_lines m (n + 1) ≡ device_lines m n ++ line_of_device n (attached (slice_get m.row n))
+devices_more : (m : State) (n : ℕ) → device_lines m (n + 1) ≡ device_lines m n ++ line_of_device n (attached (slice_get m.iommu.contexts n))
 unfolding device_lines
 devices_more m n = rw add-one refl
 
@@ -42,11 +42,11 @@ pub no_devices : (m : State) (old : List ℕ) → old ≡ old ++ device_lines m 
 unfolding device_lines
 no_devices m old = sym (append-nil old)
 
-pub device_attached : (m : State) (n domain : ℕ) (old now new : List ℕ) → now ≡ old ++ device_lines m n → attached (slice_get m.row n) ≡ Some domain → new ≡ now ++ device_line n domain
+pub device_attached : (m : State) (n domain : ℕ) (old now new : List ℕ) → now ≡ old ++ device_lines m n → attached (slice_get m.iommu.contexts n) ≡ Some domain → new ≡ now ++ device_line n domain
     → new ≡ old ++ device_lines m (n + 1)
 device_attached m n domain old now new so_far is put =
     one_more old now new (device_lines m n) (device_lines m (n + 1)) (device_line n domain) so_far (devices_more m n ∙ ap (λ (o : Option ℕ). device_lines m n ++ line_of_device n o) is) put
 
-pub device_alone : (m : State) (n : ℕ) (old now : List ℕ) → now ≡ old ++ device_lines m n → attached (slice_get m.row n) ≡ None → now ≡ old ++ device_lines m (n + 1)
+pub device_alone : (m : State) (n : ℕ) (old now : List ℕ) → now ≡ old ++ device_lines m n → attached (slice_get m.iommu.contexts n) ≡ None → now ≡ old ++ device_lines m (n + 1)
 device_alone m n old now so_far is =
     one_more old now now (device_lines m n) (device_lines m (n + 1)) [] so_far (devices_more m n ∙ ap (λ (o : Option ℕ). device_lines m n ++ line_of_device n o) is) (sym (append-nil now))

@@ -51,7 +51,7 @@ domain_lines m (suc n) = domain_lines m n ++ line_of_domain (suc n) (domain_tota
 -- the lines of the first n devices
 unfoldable pub device_lines : State → ℕ → List ℕ
 device_lines m zero = []
-device_lines m (suc n) = device_lines m n ++ line_of_device n (attached (slice_get m.row n))
+device_lines m (suc n) = device_lines m n ++ line_of_device n (attached (slice_get m.iommu.contexts n))
 
 -- the lines that there are for every state
 abbrev pub head_lines : ℕ → Totals → List ℕ

@@ -58,9 +58,9 @@ impl State {
     /// The id of the domain that a device is attached to; `None` exactly where it is attached to nothing, or there is
     /// no such device. It changes nothing, and isn't counted as a call.
     pub fn domain_of(&self, device: u64) -> Option<u64>
-        ensures { result ≡ attached (slice_get self.now.row device) }
+        ensures { result ≡ attached (slice_get self.now.iommu.contexts device) }
     {
-        let contexts = &self.contexts;
+        let contexts = &self.iommu.contexts;
         if device > 15 {
             return None;
         }

@@ -14,6 +14,6 @@ release-requires c = record {
   invalidated = record {
     descriptor = c.descriptor_of.result;
     covers = sent_covers c.args.id c.args.range c.end-cut.result c.descriptor_of.result c.descriptor_of.ensures;
-    done = done_then _ _ _ _ _ _ _ c.invalidate.ensures;
+    done = done_then _ _ _ c.invalidate.ensures;
   };
 }

@@ -34,10 +34,10 @@ root-requires c =
     tenant_there c.index.result.now h.0 h.1
 
 abbrev before : goal.After-set → State
-before c = record { pool = c.self.inside.pool; homes = c.self.inside.homes.items; row = c.self.inside.contexts; ring = c.self.inside.iommu.ring; unit = c.self.inside.iommu.unit; sent = c.self.inside.iommu.sent; calls = c.self.inside.calls }
+before c = record { pool = c.self.inside.pool; homes = c.self.inside.homes.items; iommu = c.self.inside.iommu; calls = c.self.inside.calls }
 
 abbrev after : goal.After-set → State
-after c = record { pool = c.self.inside.pool; homes = c.self.inside.homes.items; row = c.set.new.self; ring = c.self.inside.iommu.ring; unit = c.self.inside.iommu.unit; sent = c.self.inside.iommu.sent; calls = c.self.inside.calls + 1 }
+after c = record { pool = c.self.inside.pool; homes = c.self.inside.homes.items; iommu = record c.self.inside.iommu { contexts = c.set.new.self }; calls = c.self.inside.calls + 1 }
 
 does : (c : goal.After-set) → Does (before c) (calls.Attach c.args.device c.args.domain) Done (after c)
 does c =
@@ -47,9 +47,9 @@ does c =
     let h = found c.self.inside.homes.items c.args.domain c.in-Some.index c.index.result.now some.2 some.3 at in
     let root : h.0.root ≡ c.root.result = root_is c.index.result.now h.0 c.root.result h.1 c.root.ensures in
     let id : c.unwrap.result ≡ c.args.domain = search rules in
-    let row : c.set.new.self ≡ slice_set c.self.inside.contexts c.args.device (Present h.0.root W39 c.args.domain) = rw (root, ← id) c.set.ensures in
+    let row : c.set.new.self ≡ slice_set c.self.inside.iommu.contexts c.args.device (Present h.0.root W39 c.args.domain) = rw (root, ← id) c.set.ensures in
     attaches (before c) (after c) c.args.device c.args.domain h.0 c.if-device-gt15.false c.self.invariant.devices h.2 (c.get.ensures ∙ ap Some c.in-Absent.is)
-    (ap (λ r. record (before c) { row = r; calls = c.self.inside.calls + 1 }) row)
+    (ap (λ r. record (before c) { iommu = record c.self.inside.iommu { contexts = r }; calls = c.self.inside.calls + 1 }) row)
 
 pub returns : goal.returns
 returns c = rw (← c.self.view_is) (does c)
@@ -57,4 +57,4 @@ returns c = rw (← c.self.view_is) (does c)
 pub invariant_of-self-2 : goal.invariant_of-self-2
 invariant_of-self-2 c =
     whole_quiet c.self.inside.frames (before c) (after c) (calls.Attach c.args.device c.args.domain) Done c.self.invariant (does c) refl
-    (ap length c.set.ensures ∙ length-set c.self.inside.contexts c.args.device (Present c.root.result W39 c.unwrap.result)) refl refl refl
+    (ap length c.set.ensures ∙ length-set c.self.inside.iommu.contexts c.args.device (Present c.root.result W39 c.unwrap.result)) refl refl refl

@@ -16,16 +16,16 @@ returns-then-is_in_window c =
     rw (← c.self.view_is) (request_window _ _ c.args.device c.args.address c.args.access c.args.whim refl c.if-device-gt15.false (c.is_in_window.ensures.0 c.if-is_in_window.true))
 
 abbrev before : goal.After-host_in → State
-before c = record { pool = c.self.inside.pool; homes = c.self.inside.homes.items; row = c.self.inside.contexts; ring = c.self.inside.iommu.ring; unit = c.self.inside.iommu.unit; sent = c.self.inside.iommu.sent; calls = c.self.inside.calls }
+before c = record { pool = c.self.inside.pool; homes = c.self.inside.homes.items; iommu = c.self.inside.iommu; calls = c.self.inside.calls }
 
 abbrev after : goal.After-host_in → State
-after c = record { pool = c.self.inside.pool; homes = c.self.inside.homes.items; row = c.self.inside.contexts; ring = c.self.inside.iommu.ring; unit = c.dma-answer.new.self; sent = c.self.inside.iommu.sent; calls = c.self.inside.calls + 1 }
+after c = record { pool = c.self.inside.pool; homes = c.self.inside.homes.items; iommu = record c.self.inside.iommu { unit = c.dma-answer.new.self }; calls = c.self.inside.calls + 1 }
 
 does : (c : goal.After-host_in) → Does (before c) (calls.Dma c.args.device c.args.address c.args.access c.args.whim) (reached_reply (host_in c.dma-answer.result)) (after c)
 does c =
     let outside : IsInWindow c.args.address → ⊥ = λ inside. let both : true ≡ false = sym (c.is_in_window.ensures.1 inside) ∙ c.if-is_in_window.false in cc in
     request_does (before c) (after c) c.args.device c.args.address c.args.access c.args.whim c.dma-answer.result c.if-device-gt15.false outside c.dma-answer.ensures.answers
-    (ap₂ (λ steps done. record (before c) { unit = unit_state c.dma-answer.new.self.caches steps done; calls = c.self.inside.calls + 1 }) c.dma-answer.ensures.steps c.dma-answer.ensures.done)
+    (ap₂ (λ steps done. record (before c) { iommu = record c.self.inside.iommu { unit = unit_state c.dma-answer.new.self.caches steps done }; calls = c.self.inside.calls + 1 }) c.dma-answer.ensures.steps c.dma-answer.ensures.done)
 
 pub returns : goal.returns
 returns c = rw (← c.self.view_is, c.host_in.ensures) (does c)

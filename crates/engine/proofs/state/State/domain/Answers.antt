@@ -15,10 +15,10 @@ returns-in_default c =
 -- ---- no frame is free
 
 abbrev before_refused : goal.In-Err → State
-before_refused c = record { pool = c.self.inside.pool; homes = c.self.inside.homes.items; row = c.self.inside.contexts; ring = c.self.inside.iommu.ring; unit = c.self.inside.iommu.unit; sent = c.self.inside.iommu.sent; calls = c.self.inside.calls }
+before_refused c = record { pool = c.self.inside.pool; homes = c.self.inside.homes.items; iommu = c.self.inside.iommu; calls = c.self.inside.calls }
 
 abbrev refused : goal.In-Err → State
-refused c = record { pool = c.new.new.pool; homes = c.self.inside.homes.items; row = c.self.inside.contexts; ring = c.self.inside.iommu.ring; unit = c.self.inside.iommu.unit; sent = c.self.inside.iommu.sent; calls = c.self.inside.calls + 1 }
+refused c = record { pool = c.new.new.pool; homes = c.self.inside.homes.items; iommu = c.self.inside.iommu; calls = c.self.inside.calls + 1 }
 
 refuses : (c : goal.In-Err) → Does (before_refused c) (calls.Domain c.args.mode) (Refused refusals.NoFrames) (refused c)
 refuses c =
@@ -35,10 +35,10 @@ invariant_of-self-in-Err c = whole_quiet c.self.inside.frames (before_refused c)
 -- ---- a domain
 
 abbrev before : goal.After-self-2-1 → State
-before c = record { pool = c.self.inside.pool; homes = c.self.inside.homes.items; row = c.self.inside.contexts; ring = c.self.inside.iommu.ring; unit = c.self.inside.iommu.unit; sent = c.self.inside.iommu.sent; calls = c.self.inside.calls }
+before c = record { pool = c.self.inside.pool; homes = c.self.inside.homes.items; iommu = c.self.inside.iommu; calls = c.self.inside.calls }
 
 abbrev after : goal.After-self-2-1 → State
-after c = record { pool = c.new.new.pool; homes = slice_set c.self.inside.homes.items c.in-Some.index c.open.new.self; row = c.self.inside.contexts; ring = c.self.inside.iommu.ring; unit = c.self.inside.iommu.unit; sent = c.self.inside.iommu.sent; calls = c.self.inside.calls + 1 }
+after c = record { pool = c.new.new.pool; homes = slice_set c.self.inside.homes.items c.in-Some.index c.open.new.self; iommu = c.self.inside.iommu; calls = c.self.inside.calls + 1 }
 
 does : (c : goal.After-self-2-1) → Does (before c) (calls.Domain c.args.mode) (Made (c.in-Some.index + 1)) (after c)
 does c =

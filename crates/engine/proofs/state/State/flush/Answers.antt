@@ -17,7 +17,7 @@ returns-in_default c = rw (← c.self.view_is) (flush_no_domain _ _ c.args.domai
 
 pub flush-requires-clause-can : goal.flush-requires-clause-can
 flush-requires-clause-can c =
-    let m : State = record { pool = c.self.inside.pool; homes = c.self.inside.homes.items; row = c.self.inside.contexts; ring = c.self.inside.iommu.ring; unit = c.self.inside.iommu.unit; sent = c.self.inside.iommu.sent; calls = c.self.inside.calls } in
+    let m : State = record { pool = c.self.inside.pool; homes = c.self.inside.homes.items; iommu = c.self.inside.iommu; calls = c.self.inside.calls } in
     let some = rw c.as_slice.ensures.value at c.in-Some.ensures.some in
     let at : slice_get c.self.inside.homes.items c.in-Some.index ≡ Some c.index_mut.result.now =
     slice_get_read c.self.inside.homes.items (length c.self.inside.homes.items) c.in-Some.index c.index_mut.result.now refl some.1 c.index_mut.ensures.value in
@@ -27,7 +27,7 @@ flush-requires-clause-can c =
     (subst (λ (rs : List Record). AreReleasable c.self.inside.pool h.0.space rs) is.1 (records_releasable m c.args.domain h.0 c.self.invariant.of_world c.self.invariant.places h.2))
 
 abbrev before : goal.After-self-2-1 → State
-before c = record { pool = c.self.inside.pool; homes = c.self.inside.homes.items; row = c.self.inside.contexts; ring = c.self.inside.iommu.ring; unit = c.self.inside.iommu.unit; sent = c.self.inside.iommu.sent; calls = c.self.inside.calls }
+before c = record { pool = c.self.inside.pool; homes = c.self.inside.homes.items; iommu = c.self.inside.iommu; calls = c.self.inside.calls }
 
 did : (c : goal.After-self-2-1) → Did c.self.inside.frames (before c) (calls.Flush c.args.domain) (Flushed c.flush.result) (changed (before c) c.in-Some.index c.flush.new.pool c.flush.new.self c.flush.new.iommu)
 did c =

@@ -24,7 +24,7 @@ returns-in-Err c =
 
 pub map-requires : goal.map-requires
 map-requires c =
-    let m : State = record { pool = c.self.inside.pool; homes = c.self.inside.homes.items; row = c.self.inside.contexts; ring = c.self.inside.iommu.ring; unit = c.self.inside.iommu.unit; sent = c.self.inside.iommu.sent; calls = c.self.inside.calls } in
+    let m : State = record { pool = c.self.inside.pool; homes = c.self.inside.homes.items; iommu = c.self.inside.iommu; calls = c.self.inside.calls } in
     let some = rw c.as_slice.ensures.value at c.in-Some.ensures.some in
     let at : slice_get c.self.inside.homes.items c.in-Some.index ≡ Some c.index_mut.result.now =
     slice_get_read c.self.inside.homes.items (length c.self.inside.homes.items) c.in-Some.index c.index_mut.result.now refl some.1 c.index_mut.ensures.value in
@@ -39,10 +39,10 @@ map-requires c =
 -- ---- a map that is refused for its place
 
 abbrev before_refused : goal.In-Err-map → State
-before_refused c = record { pool = c.self.inside.pool; homes = c.self.inside.homes.items; row = c.self.inside.contexts; ring = c.self.inside.iommu.ring; unit = c.self.inside.iommu.unit; sent = c.self.inside.iommu.sent; calls = c.self.inside.calls }
+before_refused c = record { pool = c.self.inside.pool; homes = c.self.inside.homes.items; iommu = c.self.inside.iommu; calls = c.self.inside.calls }
 
 abbrev refused : goal.In-Err-map → State
-refused c = record { pool = c.map.new.pool; homes = slice_set c.self.inside.homes.items c.in-Some.index c.map.new.self; row = c.self.inside.contexts; ring = c.self.inside.iommu.ring; unit = c.self.inside.iommu.unit; sent = c.self.inside.iommu.sent; calls = c.self.inside.calls + 1 }
+refused c = record { pool = c.map.new.pool; homes = slice_set c.self.inside.homes.items c.in-Some.index c.map.new.self; iommu = c.self.inside.iommu; calls = c.self.inside.calls + 1 }
 
 refuses : (c : goal.In-Err-map) → Does (before_refused c) (calls.MapList c.args.domain c.args.order c.args.rights (record { items = c.args.segments.now })) (Refused c.in-Err-map.refusal) (refused c)
 refuses c =
@@ -64,10 +64,10 @@ invariant_of-self-in-Err-map c =
 -- ---- a map
 
 abbrev before : goal.In-Ok-map → State
-before c = record { pool = c.self.inside.pool; homes = c.self.inside.homes.items; row = c.self.inside.contexts; ring = c.self.inside.iommu.ring; unit = c.self.inside.iommu.unit; sent = c.self.inside.iommu.sent; calls = c.self.inside.calls }
+before c = record { pool = c.self.inside.pool; homes = c.self.inside.homes.items; iommu = c.self.inside.iommu; calls = c.self.inside.calls }
 
 abbrev after : goal.In-Ok-map → State
-after c = record { pool = c.map.new.pool; homes = slice_set c.self.inside.homes.items c.in-Some.index c.map.new.self; row = c.self.inside.contexts; ring = c.self.inside.iommu.ring; unit = c.self.inside.iommu.unit; sent = c.self.inside.iommu.sent; calls = c.self.inside.calls + 1 }
+after c = record { pool = c.map.new.pool; homes = slice_set c.self.inside.homes.items c.in-Some.index c.map.new.self; iommu = c.self.inside.iommu; calls = c.self.inside.calls + 1 }
 
 does : (c : goal.In-Ok-map) → Does (before c) (calls.MapList c.args.domain c.args.order c.args.rights (record { items = c.args.segments.now })) (Mapped (4096 * c.in-Ok-map.first)) (after c)
 does c =

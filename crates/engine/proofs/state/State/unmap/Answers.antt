@@ -18,7 +18,7 @@ returns-in_default-range_at c =
 
 pub unmap-requires-clause-can : goal.unmap-requires-clause-can
 unmap-requires-clause-can c =
-    let m : State = record { pool = c.self.inside.pool; homes = c.self.inside.homes.items; row = c.self.inside.contexts; ring = c.self.inside.iommu.ring; unit = c.self.inside.iommu.unit; sent = c.self.inside.iommu.sent; calls = c.self.inside.calls } in
+    let m : State = record { pool = c.self.inside.pool; homes = c.self.inside.homes.items; iommu = c.self.inside.iommu; calls = c.self.inside.calls } in
     let some = rw c.as_slice.ensures.value at c.in-Some.ensures.some in
     let at : slice_get c.self.inside.homes.items c.in-Some.index ≡ Some c.index_mut.result.now =
     slice_get_read c.self.inside.homes.items (length c.self.inside.homes.items) c.in-Some.index c.index_mut.result.now refl some.1 c.index_mut.ensures.value in
@@ -28,7 +28,7 @@ unmap-requires-clause-can c =
 -- ---- the place of the domain answers
 
 abbrev before : goal.After-self-2-1 → State
-before c = record { pool = c.self.inside.pool; homes = c.self.inside.homes.items; row = c.self.inside.contexts; ring = c.self.inside.iommu.ring; unit = c.self.inside.iommu.unit; sent = c.self.inside.iommu.sent; calls = c.self.inside.calls }
+before c = record { pool = c.self.inside.pool; homes = c.self.inside.homes.items; iommu = c.self.inside.iommu; calls = c.self.inside.calls }
 
 abbrev after : goal.After-self-2-1 → State
 after c = changed (before c) c.in-Some.index c.unmap.new.pool c.unmap.new.self c.unmap.new.iommu
