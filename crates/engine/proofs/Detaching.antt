@@ -28,7 +28,7 @@ dropped_context : (domain device : ℕ) (x : Context) → x.device ≡ device �
 dropped_context domain device x same left = grind (arith, nat_tests)
 
 module _ (m t : State) (w : World) (device domain : ℕ) (q : Quarantine m w) (small : device < length m.iommu.contexts) (row : t.iommu.contexts ≡ slice_set m.iommu.contexts device Absent) (purges : Purges (ContextDevice domain device) m.iommu.unit.caches t.iommu.unit.caches)
-    (homes : t.homes ≡ m.homes) (pool : t.pool ≡ m.pool) where
+    (domains : t.domains ≡ m.domains) (pool : t.pool ≡ m.pool) where
   entry_then : (x : ℕ) → x ≢ device → slice_get t.iommu.contexts x ≡ slice_get m.iommu.contexts x
   entry_then x ne = ap (λ r. slice_get r x) row ∙ get_set_other m.iommu.contexts device x Absent ne
 
@@ -53,17 +53,17 @@ module _ (m t : State) (w : World) (device domain : ℕ) (q : Quarantine m w) (s
   pub device_gone : Quarantine t (record w { devices = put device None w.devices })
   device_gone = record {
     table_frames = q.table_frames ∙ sym (ap (λ (p : Pool). p.frames) pool);
-    domains = rw (homes, pool) q.domains;
+    domains = rw (domains, pool) q.domains;
     caches = record {
-      leaves = λ l inside. rw (homes, pool) (q.caches.leaves l (purges.leaves l inside).0);
-      tables = λ i inside. rw (homes, pool) (q.caches.tables i (purges.tables i inside).0);
+      leaves = λ l inside. rw (domains, pool) (q.caches.leaves l (purges.leaves l inside).0);
+      tables = λ i inside. rw (domains, pool) (q.caches.tables i (purges.tables i inside).0);
     };
     contexts = record {
       devices = devices;
-      roots = λ x root e at. rw homes (q.contexts.roots x root e (was_there x root e at));
+      roots = λ x root e at. rw domains (q.contexts.roots x root e (was_there x root e at));
       cached = λ x inside. let left = purges.contexts x inside in entry_then x.device (λ same. dropped_context domain device x same left.1) ∙ q.contexts.cached x left.0;
     };
-    frames = rw (homes, pool) q.frames;
+    frames = rw (domains, pool) q.frames;
     tickets = q.tickets;
   }
 

@@ -2,9 +2,8 @@
 use Rattle.std.proofs.Common.{◌≡◌, ℕ, ◌+◌, ◌-◌, ◌<◌, ◌≤◌, ◌⊎◌, inl, inr, List, [], ◌∷◌, ◌++◌, length, reverse, take, refl, sym, ap, ap₂, lit≤, ◌∙◌, arith}
 use Rattle.std.proofs.lemmas.List.{reverse-append, take-take}
 use Rattle.std.specs.Prelude.{Result, Ok, Err, IsErr, OnOk}
-use Rattle.dmatypes.specs.Page.{Range}
 use Rattle.queue.specs.Ring.{Ring, ring_of, with_last}
-use Rattle.tables.specs.Cut.{Cut}
+use Rattle.engine.specs.declared.record.Record.{Record}
 use Rattle.unit.specs.Caches.{UnitState, unit_state}
 use Rattle.unit.specs.Filters.{after_first, done_after, left_by, left_by_first, status_after}
 use Rattle.vtdbits.specs.declared.descriptor.Descriptor.{Descriptor}
@@ -102,6 +101,6 @@ done_then old d new sends = record {
 }
 
 -- the descriptor of an unmap covers what the unmap ends
-pub sent_covers : (domain : ℕ) (range : Range) (cut : Cut) (d : Descriptor) → IsSent domain range cut d → Covers domain range cut d
-sent_covers domain range cut d (b, is, inl (small, same)) = rw same (refl, is.aligned, is.holds, is.wide, λ hint. hint)
-sent_covers domain range cut d (b, is, inr (large, same)) = rw same refl
+pub sent_covers : (domain : ℕ) (r : Record) (d : Descriptor) → IsSent domain r.range r.cut d → Covers domain r d
+sent_covers domain r d (b, is, inl (small, same)) = rw same (refl, is.aligned, is.holds, is.wide, λ hint. hint)
+sent_covers domain r d (b, is, inr (large, same)) = rw same refl

@@ -5,7 +5,8 @@ use Rattle.std.specs.Option.{option_and_then}
 use Rattle.std.specs.Prelude.{Result, Ok, Err}
 use Rattle.dmatypes.specs.Allows.{AllowsTo, AllowsWithin, domain_of_device}
 use Rattle.dmatypes.specs.Page.{IsBeyond, page_of}
-use Rattle.dmatypes.specs.World.{Domain, Target, World, IsIn, IsRetired}
+use Rattle.dmatypes.specs.World.{Target, World, IsIn, IsRetired}
+use Rattle.dmatypes.specs.World as world
 use Rattle.dmatypes.specs.declared.call.Access.{Access}
 use Rattle.dmatypes.specs.declared.refusal.Fault.{Fault}
 use Rattle.dmatypes.specs.declared.reply.Reply.TheVariants.{Faulted, Host}
@@ -18,7 +19,7 @@ use Rattle.unit.specs.Caches.{Caches, Context, Leaf, NonLeaf}
 use Rattle.unit.specs.Walking.{met, IsPassed}
 use Rattle.unit.specs.declared.hit.Hit.{Hit}
 use Rattle.vtdbits.specs.declared.context.ContextEntry.TheVariants.{Present}
-use Rattle.engine.specs.Homes.{Home, home_of}
+use Rattle.engine.specs.Domains.{Domain, domain_at}
 use Rattle.engine.specs.State.{State, host_in, reached_reply}
 use Rattle.engine.specs.Quarantine.{AreLawful, MirrorsIfAny, InDomain, IsLawfulLeaf, IsLawfulTable, Mirrors, Quarantine, attached}
 use Rattle.engine.proofs.Reading.{IsOnWay, MeetsNothing, IsReadOf, from_start, leaf_of_way, off_leaf, off_walk, table_of_way}
@@ -26,7 +27,7 @@ use Rattle.engine.proofs.Reading.{IsOnWay, MeetsNothing, IsReadOf, from_start, l
 -- ---- the answer
 
 -- what is told of a reading is allowed
-told : (v : Domain) (address : ℕ) (access : Access) (t : Option Target) (answer : Result Hit Fault) → IsReadOf v (page_of address) t → Tells t address access answer
+told : (v : world.Domain) (address : ℕ) (access : Access) (t : Option Target) (answer : Result Hit Fault) → IsReadOf v (page_of address) t → Tells t address access answer
     → AllowsWithin v address access (reached_reply (host_in answer))
 told v address access t (Ok hit) (inl live) tells = inl (tells.0, (sym live ∙ tells.1, tells.2), ap Host tells.3)
 told v address access t (Ok hit) (inr (none, inl nothing)) tells = absurd (none-some tells.0 (sym nothing ∙ tells.1))
@@ -39,16 +40,16 @@ told v address access t (Err fault) (inr (none, old)) tells = inr (λ u live. ab
 -- ---- the domain
 
 -- a domain of the state is one of the world
-mirrored : (words : List ℕ) (here : Option Home) (there : Option Domain) (h : Home) → here ≡ Some h → MirrorsIfAny words here there → (v : Domain) × (there ≡ Some v) × Mirrors words h v
+mirrored : (words : List ℕ) (here : Option Domain) (there : Option world.Domain) (h : Domain) → here ≡ Some h → MirrorsIfAny words here there → (v : world.Domain) × (there ≡ Some v) × Mirrors words h v
 mirrored words None None h is both = absurd (none-some h is)
 mirrored words None (Some v) h is both = absurd both
 mirrored words (Some g) None h is both = absurd both
 mirrored words (Some g) (Some v) h is both = (v, refl, subst (λ k. Mirrors words k v) (same_Some g h is) both)
 
 -- what a domain of some id has, the one of this id has
-as_domain : (m : State) (w : World) (P : Home → Domain → Type 0) (d e : ℕ) (h : Home) (v : Domain) → home_of m.homes d ≡ Some h → w.domains d ≡ Some v → e ≡ d → InDomain m w e P → P h v
+as_domain : (m : State) (w : World) (P : Domain → world.Domain → Type 0) (d e : ℕ) (h : Domain) (v : world.Domain) → domain_at m.domains d ≡ Some h → w.domains d ≡ Some v → e ≡ d → InDomain m w e P → P h v
 as_domain m w P d e h v here there same has =
-    let h_is : has.0 ≡ h = same_Some has.0 h (sym has.2 ∙ ap (home_of m.homes) same ∙ here) in
+    let h_is : has.0 ≡ h = same_Some has.0 h (sym has.2 ∙ ap (domain_at m.domains) same ∙ here) in
     let v_is : has.1 ≡ v = same_Some has.1 v (sym has.3 ∙ ap w.domains same ∙ there) in
     subst (P h) v_is (subst (λ k. P k has.1) h_is has.4)
 
@@ -59,7 +60,7 @@ within address near = omega arith
 of_none : (w : World) (device : ℕ) → w.devices device ≡ None → domain_of_device w device ≡ None
 of_none w device is = ap (option_and_then w.domains) is
 
-of_some : (w : World) (device d : ℕ) (v : Domain) → w.devices device ≡ Some d → w.domains d ≡ Some v → domain_of_device w device ≡ Some v
+of_some : (w : World) (device d : ℕ) (v : world.Domain) → w.devices device ≡ Some d → w.domains d ≡ Some v → domain_of_device w device ≡ Some v
 of_some w device d v is there = ap (option_and_then w.domains) is ∙ there
 
 module _ (m : State) (w : World) (quarantine : Quarantine m w) where
@@ -72,15 +73,15 @@ module _ (m : State) (w : World) (quarantine : Quarantine m w) where
 
   -- it names the domain that its device is attached to, and that domain's root
   of_context : (x : Context) → slice_get m.iommu.contexts x.device ≡ Some (Present x.root W39 x.domain)
-      → (h : Home) × (v : Domain) × (home_of m.homes x.domain ≡ Some h) × (w.domains x.domain ≡ Some v) × (h.root ≡ x.root) × Mirrors m.pool.words h v × (domain_of_device w x.device ≡ Some v)
+      → (h : Domain) × (v : world.Domain) × (domain_at m.domains x.domain ≡ Some h) × (w.domains x.domain ≡ Some v) × (h.root ≡ x.root) × Mirrors m.pool.words h v × (domain_of_device w x.device ≡ Some v)
   of_context x row =
       let home = quarantine.contexts.roots x.device x.root x.domain row in
-      let known = mirrored m.pool.words (home_of m.homes x.domain) (w.domains x.domain) home.0 home.1 (quarantine.domains x.domain) in
+      let known = mirrored m.pool.words (domain_at m.domains x.domain) (w.domains x.domain) home.0 home.1 (quarantine.domains x.domain) in
       (home.0, known.0, home.1, known.1, home.2, known.2, of_some w x.device x.domain known.0 (quarantine.contexts.devices x.device ∙ ap attached row) known.1)
 
 -- ---- one reading
 
-module _ (m : State) (w : World) (lawful : AreLawful m w m.iommu.unit.caches) (x : Context) (h : Home) (v : Domain) (here : home_of m.homes x.domain ≡ Some h) (there : w.domains x.domain ≡ Some v) (root : h.root ≡ x.root) (mirrors : Mirrors m.pool.words h v)
+module _ (m : State) (w : World) (lawful : AreLawful m w m.iommu.unit.caches) (x : Context) (h : Domain) (v : world.Domain) (here : domain_at m.domains x.domain ≡ Some h) (there : w.domains x.domain ≡ Some v) (root : h.root ≡ x.root) (mirrors : Mirrors m.pool.words h v)
     (look fill : Bool) (p : ℕ) (low : p < 2 ^ 27) (leaves' : List Leaf) (tables' : List NonLeaf) (t : Option Target) where
   begun : (level table : ℕ) → IsStart m.iommu.unit.caches.non_leaves look x p level table → IsOnWay m.pool.words h.root p level table ⊎ MeetsNothing m.pool.words v p level table
   begun level table start =
@@ -95,7 +96,7 @@ module _ (m : State) (w : World) (lawful : AreLawful m w m.iommu.unit.caches) (x
   read_is (inr (level, table, walked)) = off_walk m.pool.words h v mirrors p level table t low walked.meaning (begun level table walked.start)
 
   -- and what it adds to the caches too
-  in_domain : (P : Home → Domain → Type 0) (d : ℕ) → d ≡ x.domain → P h v → InDomain m w d P
+  in_domain : (P : Domain → world.Domain → Type 0) (d : ℕ) → d ≡ x.domain → P h v → InDomain m w d P
   in_domain P d same has = subst (λ e. InDomain m w e P) (sym same) (h, v, here, there, has)
 
   new_leaf : (level table : ℕ) (l : Leaf) → IsStart m.iommu.unit.caches.non_leaves look x p level table → met x.domain p (leaf_from (memory m.pool.words) level table p) ≡ Some l → InDomain m w l.domain (IsLawfulLeaf m.pool.words l)

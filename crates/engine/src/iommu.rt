@@ -1,14 +1,18 @@
 //! The row of context entries, the ring and the unit that reads both, as the manager uses them.
 
 ghost use Rattle.std.specs.Prelude.{◌≡◌, ℕ, ◌+◌, ◌<◌, ◌≤◌, ◌^◌, ◌∷◌, [], Some, replicate, slice_get, take};
-ghost use Rattle.engine.specs.Ending.{Invalidates, left_by_all};
-ghost use Rattle.engine.specs.Ready.{IsOfIotlb, IsReady};
+ghost use Rattle.engine.specs.Ending.{Invalidates, IsSent, left_by_all};
+ghost use Rattle.engine.specs.Ready.{IsCleared, IsReady};
 ghost use Rattle.queue.specs.Ring.{ring_of};
 ghost use Rattle.unit.specs.Caches.{nothing, unit_state};
 ghost use Rattle.unit.specs.Filters.{status_after};
-ghost use Rattle.vtdbits.specs.declared.descriptor.Descriptor.TheVariants.{ContextDevice, Wait};
+ghost use Rattle.vtdbits.specs.declared.descriptor.Descriptor.{Descriptor};
+ghost use Rattle.vtdbits.specs.declared.descriptor.Descriptor.TheVariants.{ContextDevice, IotlbDomain, Wait};
 
+use crate::record::Record;
+use crate::sending::descriptor_of;
 use queue::Ring;
+use tables::{Pool, Tree};
 use unit::{Contexts, Unit};
 use vtdbits::{ContextEntry, Descriptor, DeviceNumber, DomainId};
 
@@ -35,14 +39,30 @@ impl Iommu {
         }
     }
 
-    /// Has the unit forget what an IOTLB descriptor names: sends it and then a wait, and runs the unit until the wait is
-    /// done. Nothing waits before, and nothing waits then.
-    pub(crate) fn invalidate(&mut self, descriptor: Descriptor)
+    /// Has the unit forget the pages of a retired record, and what it remembers of the tables that were cut with them: sends
+    /// the descriptor that covers them and then a wait, and runs the unit until the wait is done. Nothing waits before, and
+    /// nothing waits then. The domain's tree states none of the pages any more: a request could bring them back before.
+    pub(crate) fn invalidate_pages(
+        &mut self,
+        domain: DomainId,
+        retired: &Record,
+        pool: &Pool,
+        tree: &Tree,
+    )
         requires ready { IsReady self.old }
-        requires iotlb { IsOfIotlb descriptor }
-        ensures { Invalidates self.old descriptor self.new }
+        requires cleared { IsCleared pool.now tree.now.root retired.now.range }
+        ensures { (descriptor : Descriptor) × IsSent domain retired.now.range retired.now.cut descriptor
+            × Invalidates self.old descriptor self.new }
     {
-        self.send(descriptor);
+        self.send(descriptor_of(domain, retired.range, &retired.cut));
+    }
+
+    /// Has the unit forget all that it remembers of a domain's pages and tables in the same way.
+    pub(crate) fn invalidate_domain(&mut self, domain: DomainId)
+        requires ready { IsReady self.old }
+        ensures { Invalidates self.old (IotlbDomain domain) self.new }
+    {
+        self.send(Descriptor::IotlbDomain(domain));
     }
 
     /// Has the unit forget the context of a device of a domain in the same way, once the row's entry of the device is

@@ -24,7 +24,7 @@ pub returns-in_default-get : goal.returns-in_default-get
 returns-in_default-get c = rw (← c.self.view_is) (detach_not_attached _ _ c.args.device Absent refl (c.in-Some.ensures.some.0 refl) c.in_default-get.ensures refl)
 
 abbrev before : goal.After-forget_context → State
-before c = record { pool = c.self.inside.pool; homes = c.self.inside.homes.items; iommu = c.self.inside.iommu; calls = c.self.inside.calls }
+before c = record { pool = c.self.inside.pool; domains = c.self.inside.domains.items; iommu = c.self.inside.iommu; calls = c.self.inside.calls }
 
 -- the row with no entry of the device
 abbrev cleared : goal.After-forget_context → Iommu
@@ -40,13 +40,13 @@ does c =
     let at : slice_get c.self.inside.iommu.contexts c.args.device ≡ Some (Present c.in-Present.root W39 c.in-Present.domain) =
     c.in-Present.ensures ∙ ap (λ w. Some (Present c.in-Present.root w c.in-Present.domain)) (only_width c.in-Present.width) in
     detach_does (before c) c.args.device c.in-Present.root c.in-Present.domain c.forget_context.new.self (c.in-Some.ensures.some.0 refl)
-    c.self.invariant.devices at (sent c)
+    c.self.invariant.0.devices at (sent c)
 
 pub invariant_of-self-2 : goal.invariant_of-self-2
 invariant_of-self-2 c =
-    whole_sends c.self.inside.frames (before c) (detached (before c) c.forget_context.new.self) (calls.Detach c.args.device) Done
-    (ContextDevice c.in-Present.domain c.args.device) (slice_set c.self.inside.iommu.contexts c.args.device Absent) c.self.invariant (does c) refl
-    (length-set c.self.inside.iommu.contexts c.args.device Absent) (sent c)
+    (whole_sends c.self.inside.frames (before c) (detached (before c) c.forget_context.new.self) (calls.Detach c.args.device) Done
+    (ContextDevice c.in-Present.domain c.args.device) (slice_set c.self.inside.iommu.contexts c.args.device Absent) c.self.invariant.0 (does c) refl
+    (length-set c.self.inside.iommu.contexts c.args.device Absent) (sent c), c.self.invariant.1)
 
 pub returns : goal.returns
 returns c = rw (← c.self.view_is) (does c)

@@ -16,10 +16,10 @@ returns-then-is_in_window c =
     rw (← c.self.view_is) (request_window _ _ c.args.device c.args.address c.args.access c.args.whim refl c.if-device-gt15.false (c.is_in_window.ensures.0 c.if-is_in_window.true))
 
 abbrev before : goal.After-host_in → State
-before c = record { pool = c.self.inside.pool; homes = c.self.inside.homes.items; iommu = c.self.inside.iommu; calls = c.self.inside.calls }
+before c = record { pool = c.self.inside.pool; domains = c.self.inside.domains.items; iommu = c.self.inside.iommu; calls = c.self.inside.calls }
 
 abbrev after : goal.After-host_in → State
-after c = record { pool = c.self.inside.pool; homes = c.self.inside.homes.items; iommu = record c.self.inside.iommu { unit = c.dma-answer.new.self }; calls = c.self.inside.calls + 1 }
+after c = record { pool = c.self.inside.pool; domains = c.self.inside.domains.items; iommu = record c.self.inside.iommu { unit = c.dma-answer.new.self }; calls = c.self.inside.calls + 1 }
 
 does : (c : goal.After-host_in) → Does (before c) (calls.Dma c.args.device c.args.address c.args.access c.args.whim) (reached_reply (host_in c.dma-answer.result)) (after c)
 does c =
@@ -32,4 +32,4 @@ returns c = rw (← c.self.view_is, c.host_in.ensures) (does c)
 
 pub invariant_of-self-2 : goal.invariant_of-self-2
 invariant_of-self-2 c =
-    whole_quiet c.self.inside.frames (before c) (after c) (calls.Dma c.args.device c.args.address c.args.access c.args.whim) (reached_reply (host_in c.dma-answer.result)) c.self.invariant (does c) refl refl refl refl c.dma-answer.ensures.steps
+    (whole_quiet c.self.inside.frames (before c) (after c) (calls.Dma c.args.device c.args.address c.args.access c.args.whim) (reached_reply (host_in c.dma-answer.result)) c.self.invariant.0 (does c) refl refl refl refl c.dma-answer.ensures.steps, c.self.invariant.1)
