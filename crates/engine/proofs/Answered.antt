@@ -35,11 +35,11 @@ use Rattle.engine.proofs.Requests.{request_allowed, request_contexts, request_hi
 
 -- the state with these caches and so many calls, so many steps of the unit, and so many descriptors that it did
 abbrev pub remembering : State → Caches → ℕ → ℕ → ℕ → State
-remembering m c steps done calls = record m { unit = unit_state c steps done; calls = calls }
+remembering m c steps done calls = record m { iommu = record m.iommu { unit = unit_state c steps done }; calls = calls }
 
 -- it keeps the quarantine where the caches are lawful
 pub quarantine_remembering : (m : State) (w : World) (c : Caches) (steps done calls : ℕ) → Quarantine m w → AreLawful m w c
-    → ((y : Context) → IsIn y c.contexts → slice_get m.row y.device ≡ Some (Present y.root W39 y.domain)) → Quarantine (remembering m c steps done calls) w
+    → ((y : Context) → IsIn y c.contexts → slice_get m.iommu.contexts y.device ≡ Some (Present y.root W39 y.domain)) → Quarantine (remembering m c steps done calls) w
 quarantine_remembering m w c steps done calls q lawful contexts = record {
   table_frames = q.table_frames;
   domains = q.domains;
@@ -66,7 +66,7 @@ exact_request m device address access whim (Ok hit) = tt
 exact_request m device address access whim (Err fault) = tt
 
 becomes_request : (m t : State) (device address : ℕ) (access : Access) (whim : Whim) (answer : Result Hit Fault)
-    → Answers (memory m.pool.words) m.row whim.look whim.fill device address access m.unit.caches t.unit.caches answer → t ≡ remembering m t.unit.caches m.unit.steps m.unit.done (m.calls + 1)
+    → Answers (memory m.pool.words) m.iommu.contexts whim.look whim.fill device address access m.iommu.unit.caches t.iommu.unit.caches answer → t ≡ remembering m t.iommu.unit.caches m.iommu.unit.steps m.iommu.unit.done (m.calls + 1)
     → Becomes m (calls.Dma device address access whim) (reached_reply (host_in answer)) t
 unfolding Becomes
 becomes_request m t device address access whim (Ok hit) answers is = (Ok hit, refl, answers, is)
@@ -74,16 +74,16 @@ becomes_request m t device address access whim (Err fault) answers is = (Err fau
 
 -- a request to the unit does what a request does
 pub request_does : (m t : State) (device address : ℕ) (access : Access) (whim : Whim) (answer : Result Hit Fault) → device ≤ 15 → (IsInWindow address → ⊥)
-    → Answers (memory m.pool.words) m.row whim.look whim.fill device address access m.unit.caches t.unit.caches answer → t ≡ remembering m t.unit.caches m.unit.steps m.unit.done (m.calls + 1)
+    → Answers (memory m.pool.words) m.iommu.contexts whim.look whim.fill device address access m.iommu.unit.caches t.iommu.unit.caches answer → t ≡ remembering m t.iommu.unit.caches m.iommu.unit.steps m.iommu.unit.done (m.calls + 1)
     → Does m (calls.Dma device address access whim) (reached_reply (host_in answer)) t
 request_does m t device address access whim answer small outside answers is = record {
   steps = λ w q. (
-    step_of w device address access whim answer small outside (request_allowed m w q whim.look whim.fill device address access t.unit.caches answer answers),
+    step_of w device address access whim answer small outside (request_allowed m w q whim.look whim.fill device address access t.iommu.unit.caches answer answers),
     subst (Quarantine t) (sym (next_same w device address access whim answer))
         (subst (λ s. Quarantine s w) (sym is)
-        (quarantine_remembering m w t.unit.caches m.unit.steps m.unit.done (m.calls + 1) q
-        (request_keeps m w q whim.look whim.fill device address access t.unit.caches answer answers)
-        (request_contexts m w q whim.look whim.fill device address access t.unit.caches answer answers))),
+        (quarantine_remembering m w t.iommu.unit.caches m.iommu.unit.steps m.iommu.unit.done (m.calls + 1) q
+        (request_keeps m w q whim.look whim.fill device address access t.iommu.unit.caches answer answers)
+        (request_contexts m w q whim.look whim.fill device address access t.iommu.unit.caches answer answers))),
   );
   exact = exact_request m device address access whim answer;
   becomes = becomes_request m t device address access whim answer answers is;
@@ -92,7 +92,7 @@ request_does m t device address access whim answer small outside answers is = re
 
 -- where it is answered a host address, the device's domain has the page so
 pub request_hits : (m : State) (device address : ℕ) (access : Access) (whim : Whim) (new : Caches) (answer : Result Hit Fault) → device ≤ 15
-    → Answers (memory m.pool.words) m.row whim.look whim.fill device address access m.unit.caches new answer
+    → Answers (memory m.pool.words) m.iommu.contexts whim.look whim.fill device address access m.iommu.unit.caches new answer
     → IfOk answer (IsHitOf m device address access)
 request_hits m device address access whim new (Ok hit) small answers =
     record { low = small; had = λ w q. request_hit m w q whim.look whim.fill device address access new (Ok hit) hit refl answers }
@@ -150,16 +150,16 @@ evict_step : (w : World) (kind : Cache) (place : ℕ) → IsStep w (calls.Evict 
 unfolding IsStep model.Answers
 evict_step w kind place = (tt, refl)
 
-pub evict_does : (m t : State) (kind : Cache) (place : ℕ) → t ≡ remembering m (without kind place m.unit.caches) m.unit.steps m.unit.done (m.calls + 1) → Does m (calls.Evict kind place) Done t
+pub evict_does : (m t : State) (kind : Cache) (place : ℕ) → t ≡ remembering m (without kind place m.iommu.unit.caches) m.iommu.unit.steps m.iommu.unit.done (m.calls + 1) → Does m (calls.Evict kind place) Done t
 unfolding Becomes Exact
 evict_does m t kind place is = record {
   steps = λ w q. (
     evict_step w kind place,
     subst (Quarantine t) (sym (next_evicted w kind place))
         (subst (λ s. Quarantine s w) (sym is)
-        (quarantine_remembering m w (without kind place m.unit.caches) m.unit.steps m.unit.done (m.calls + 1) q
-        (fewer_lawful m w m.unit.caches (without kind place m.unit.caches) q.caches (without_leaf kind place m.unit.caches) (without_non_leaf kind place m.unit.caches))
-        (λ x inside. q.contexts.cached x (without_context kind place m.unit.caches x inside)))),
+        (quarantine_remembering m w (without kind place m.iommu.unit.caches) m.iommu.unit.steps m.iommu.unit.done (m.calls + 1) q
+        (fewer_lawful m w m.iommu.unit.caches (without kind place m.iommu.unit.caches) q.caches (without_leaf kind place m.iommu.unit.caches) (without_non_leaf kind place m.iommu.unit.caches))
+        (λ x inside. q.contexts.cached x (without_context kind place m.iommu.unit.caches x inside)))),
   );
   exact = tt;
   becomes = is;

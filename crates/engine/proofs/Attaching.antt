@@ -10,36 +10,36 @@ use Rattle.vtdbits.specs.declared.context.ContextEntry.{ContextEntry}
 use Rattle.vtdbits.specs.declared.context.ContextEntry.TheVariants.{Absent, Present}
 use Rattle.dmatypes.specs.Conditions.{Stands}
 use Rattle.dmatypes.specs.Step.{IsStep, Answers, next}
-use Rattle.engine.specs.Homes.{Home, home_of}
+use Rattle.engine.specs.Domains.{Domain, domain_at}
 use Rattle.engine.specs.State.{State, Exact, Becomes}
 use Rattle.engine.specs.Quarantine.{Attaches, attached}
 use Rattle.engine.specs.Steps.{Does}
 use Rattle.engine.proofs.Lists.{get_set, get_set_other, put_same, put_other, same_or_not, is_none, is_some, not_none, not_some}
-use Rattle.engine.proofs.Places.{both_absent, both_there}
+use Rattle.engine.proofs.Domains.{both_absent, both_there}
 use Rattle.engine.proofs.Refusing.{counted, refuses}
 
 pub attach_no_device : (m t : State) (device domain : ℕ) → t ≡ counted m → 15 < device → Does m (calls.Attach device domain) (Refused refusals.NoDevice) t
 unfolding Exact IsStep Stands
 attach_no_device m t device domain is big = refuses m t (calls.Attach device domain) refusals.NoDevice is tt (λ w q. inl (inl (big, refl)))
 
-pub attach_no_domain : (m t : State) (device domain : ℕ) → t ≡ counted m → device ≤ 15 → home_of m.homes domain ≡ None
+pub attach_no_domain : (m t : State) (device domain : ℕ) → t ≡ counted m → device ≤ 15 → domain_at m.domains domain ≡ None
     → Does m (calls.Attach device domain) (Refused refusals.NoDomain) t
 unfolding Exact IsStep Stands
 attach_no_domain m t device domain is small none = refuses m t (calls.Attach device domain) refusals.NoDomain is tt
     (λ w q. inl (inr (
       λ big. absurd (omega (arith, big, small)),
-      inl (is_none (w.domains domain) (both_absent m.pool.words (home_of m.homes domain) (w.domains domain) (q.domains domain) none), refl),
+      inl (is_none (w.domains domain) (both_absent m.pool.words (domain_at m.domains domain) (w.domains domain) (q.domains domain) none), refl),
     )))
 
-pub attach_busy : (m t : State) (device domain : ℕ) (h : Home) (entry : ContextEntry) → t ≡ counted m → device ≤ 15 → home_of m.homes domain ≡ Some h → slice_get m.row device ≡ Some entry → entry ≢ Absent
+pub attach_busy : (m t : State) (device domain : ℕ) (h : Domain) (entry : ContextEntry) → t ≡ counted m → device ≤ 15 → domain_at m.domains domain ≡ Some h → slice_get m.iommu.contexts device ≡ Some entry → entry ≢ Absent
     → Does m (calls.Attach device domain) (Refused refusals.Busy) t
 unfolding Exact IsStep Stands
 attach_busy m t device domain h entry is small there at busy = refuses m t (calls.Attach device domain) refusals.Busy is tt
     (λ w q.
-    let v = both_there m.pool.words (home_of m.homes domain) (w.domains domain) h (q.domains domain) there in
+    let v = both_there m.pool.words (domain_at m.domains domain) (w.domains domain) h (q.domains domain) there in
     inl (inr (
       λ big. absurd (omega (arith, big, small)),
-      inr (not_none (w.domains domain) v.0 v.1, inl (some_device w.devices device (slice_get m.row device) entry (q.contexts.devices device) at busy, refl)),
+      inr (not_none (w.domains domain) v.0 v.1, inl (some_device w.devices device (slice_get m.iommu.contexts device) entry (q.contexts.devices device) at busy, refl)),
     )))
   where
     some_device : (devices : ℕ → Option ℕ) (device : ℕ) (o : Option ContextEntry) (entry : ContextEntry) → devices device ≡ attached o → o ≡ Some entry → entry ≢ Absent → IsSome (devices device)
@@ -61,19 +61,19 @@ put_along device domain f g same v = elim (same_or_not v device) [
 ]
 
 -- the row with the entry is that of the world with the attachment
-attaches_row : (m t : State) (w : World) (device domain : ℕ) (h : Home) → Attaches m w → device < length m.row → home_of m.homes domain ≡ Some h → slice_get m.row device ≡ Some Absent
-    → t.row ≡ slice_set m.row device (Present h.root W39 domain) → t.homes ≡ m.homes → t.unit ≡ m.unit → Attaches t (record w { devices = put device (Some domain) w.devices })
-attaches_row m t w device domain h old less there absent row homes unit = record {
-  devices = λ v. put_along device domain w.devices (λ x. attached (slice_get m.row x)) old.devices v ∙ attached_set m.row device domain (Present h.root W39 domain) less refl v ∙ ap (λ r. attached (slice_get r v)) (sym row);
+attaches_row : (m t : State) (w : World) (device domain : ℕ) (h : Domain) → Attaches m w → device < length m.iommu.contexts → domain_at m.domains domain ≡ Some h → slice_get m.iommu.contexts device ≡ Some Absent
+    → t.iommu.contexts ≡ slice_set m.iommu.contexts device (Present h.root W39 domain) → t.domains ≡ m.domains → t.iommu.unit ≡ m.iommu.unit → Attaches t (record w { devices = put device (Some domain) w.devices })
+attaches_row m t w device domain h old less there absent row domains unit = record {
+  devices = λ v. put_along device domain w.devices (λ x. attached (slice_get m.iommu.contexts x)) old.devices v ∙ attached_set m.iommu.contexts device domain (Present h.root W39 domain) less refl v ∙ ap (λ r. attached (slice_get r v)) (sym row);
   roots = λ v root d at. elim (same_or_not v device) [
     | inl same ↦
-        let is : Present h.root W39 domain ≡ Present root W39 d = same_Some (Present h.root W39 domain) (Present root W39 d) (sym (get_set m.row device (Present h.root W39 domain) less) ∙ ap (slice_get (slice_set m.row device (Present h.root W39 domain))) (sym same) ∙ ap (λ r. slice_get r v) (sym row) ∙ at) in
-        (h, ap (λ hs. home_of hs d) homes ∙ ap (home_of m.homes) (sym (domain_in is)) ∙ there, root_in is)
-    | inr ne ↦ let was = old.roots v root d (sym (get_set_other m.row device v (Present h.root W39 domain) ne) ∙ ap (λ r. slice_get r v) (sym row) ∙ at) in (was.0, ap (λ hs. home_of hs d) homes ∙ was.1, was.2)
+        let is : Present h.root W39 domain ≡ Present root W39 d = same_Some (Present h.root W39 domain) (Present root W39 d) (sym (get_set m.iommu.contexts device (Present h.root W39 domain) less) ∙ ap (slice_get (slice_set m.iommu.contexts device (Present h.root W39 domain))) (sym same) ∙ ap (λ r. slice_get r v) (sym row) ∙ at) in
+        (h, ap (λ hs. domain_at hs d) domains ∙ ap (domain_at m.domains) (sym (domain_in is)) ∙ there, root_in is)
+    | inr ne ↦ let was = old.roots v root d (sym (get_set_other m.iommu.contexts device v (Present h.root W39 domain) ne) ∙ ap (λ r. slice_get r v) (sym row) ∙ at) in (was.0, ap (λ hs. domain_at hs d) domains ∙ was.1, was.2)
   ];
   cached = λ x inside.
       let at = old.cached x (subst (λ u. IsIn x u.caches.contexts) unit inside) in
-      ap (λ r. slice_get r x.device) row ∙ get_set_other m.row device x.device (Present h.root W39 domain) (λ same. clash x.root x.domain (sym absent ∙ ap (slice_get m.row) (sym same) ∙ at)) ∙ at;
+      ap (λ r. slice_get r x.device) row ∙ get_set_other m.iommu.contexts device x.device (Present h.root W39 domain) (λ same. clash x.root x.domain (sym absent ∙ ap (slice_get m.iommu.contexts) (sym same) ∙ at)) ∙ at;
 } where
   clash : (root d : ℕ) → Some Absent ≡ Some (Present root W39 d) → ⊥
   clash root d e = cc
@@ -84,20 +84,20 @@ attaches_row m t w device domain h old less there absent row homes unit = record
   root_in : {root root' d d' : ℕ} → Present root W39 d ≡ Present root' W39 d' → root ≡ root'
   root_in e = cc
 
-pub attaches : (m t : State) (device domain : ℕ) (h : Home) → device ≤ 15 → length m.row ≡ 16 → home_of m.homes domain ≡ Some h → slice_get m.row device ≡ Some Absent
-    → t ≡ record m { row = slice_set m.row device (Present h.root W39 domain); calls = m.calls + 1 }
+pub attaches : (m t : State) (device domain : ℕ) (h : Domain) → device ≤ 15 → length m.iommu.contexts ≡ 16 → domain_at m.domains domain ≡ Some h → slice_get m.iommu.contexts device ≡ Some Absent
+    → t ≡ record m { iommu = record m.iommu { contexts = slice_set m.iommu.contexts device (Present h.root W39 domain) }; calls = m.calls + 1 }
     → Does m (calls.Attach device domain) Done t
 unfolding Exact Becomes IsStep Stands Answers next
 attaches m t device domain h small many there free is = record {
   steps = λ w q.
-      let v = both_there m.pool.words (home_of m.homes domain) (w.domains domain) h (q.domains domain) there in
+      let v = both_there m.pool.words (domain_at m.domains domain) (w.domains domain) h (q.domains domain) there in
       let none : w.devices device ≡ None = q.contexts.devices device ∙ ap attached free in (
         ((λ big. absurd (omega (arith, big, small)), (not_none (w.domains domain) v.0 v.1, (not_some (w.devices device) none, tt))), refl),
         rw is (record {
           table_frames = q.table_frames;
           domains = q.domains;
           caches = record { leaves = q.caches.leaves; tables = q.caches.tables };
-          contexts = attaches_row m (record m { row = slice_set m.row device (Present h.root W39 domain); calls = m.calls + 1 }) w device domain h q.contexts (omega (arith, small, many)) there free refl refl refl;
+          contexts = attaches_row m (record m { iommu = record m.iommu { contexts = slice_set m.iommu.contexts device (Present h.root W39 domain) }; calls = m.calls + 1 }) w device domain h q.contexts (omega (arith, small, many)) there free refl refl refl;
           frames = q.frames;
           tickets = q.tickets;
         }),

@@ -11,20 +11,25 @@ use Rattle.tables.specs.Pool.{memory, occurs}
 use Rattle.tables.specs.Tree.{total}
 use Rattle.tables.proofs.Store.{counted_up, counted_past, zero_words}
 use Rattle.tables.proofs.Total.{total-none}
-use Rattle.engine.specs.Homes.{Home, Place, home_in, home_of, vacant}
+use Rattle.std.specs.Option.{option_flatten}
+use Rattle.engine.specs.Domains.{Domain, domain_at}
 use Rattle.engine.specs.State.{IsNew, State}
 use Rattle.engine.specs.Whole.{IsWhole}
 use Rattle.engine.specs.Quarantine.{AreLawful, Quarantine, attached, owned}
-use Rattle.engine.proofs.Places.{home_at}
+use Rattle.engine.proofs.Domains.{domain_of_place}
 
-none_in : (n i : ℕ) → home_in (slice_get (replicate n vacant) i) ≡ None
+-- a list of no domains
+abbrev none_there : ℕ → List (Option Domain)
+none_there n = replicate n None
+
+none_in : (n i : ℕ) → option_flatten (slice_get (none_there n) i) ≡ None
 none_in zero i = refl
 none_in (suc n) zero = refl
 none_in (suc n) (suc i) = none_in n i
 
-no_home : (homes : List Place) (d : ℕ) → homes ≡ replicate 15 vacant → home_of homes d ≡ None
-no_home homes zero is = refl
-no_home homes (suc i) is = let next : suc i ≡ i + 1 = omega arith in rw (next, home_at homes i, is) (none_in 15 i)
+no_domain : (domains : List (Option Domain)) (d : ℕ) → domains ≡ replicate 15 None → domain_at domains d ≡ None
+no_domain domains zero is = refl
+no_domain domains (suc i) is = let next : suc i ≡ i + 1 = omega arith in rw (next, domain_of_place domains i, is) (none_in 15 i)
 
 no_device_in : (n v : ℕ) → attached (slice_get (replicate n Absent) v) ≡ None
 no_device_in zero v = refl
@@ -43,34 +48,34 @@ nothing_cached m w c is = rw is (record { leaves = λ l inside. absurd inside; t
 pub of_empty_world : (m : State) (frames : ℕ) → IsNew frames m → Quarantine m (empty frames)
 of_empty_world m frames new = record {
   table_frames = sym new.frames_are;
-  domains = λ d. rw (no_home m.homes d new.homes_are) tt;
-  caches = nothing_cached m (empty frames) m.unit.caches (ap (λ (u : UnitState). u.caches) new.unit_is);
+  domains = λ d. rw (no_domain m.domains d new.domains_are) tt;
+  caches = nothing_cached m (empty frames) m.iommu.unit.caches (ap (λ (u : UnitState). u.caches) new.unit_is);
   contexts = record {
-    devices = λ v. sym (ap (λ row. attached (slice_get row v)) new.row_is ∙ no_device_in 16 v);
-    roots = λ v root domain at. absurd (no_entry_in 16 v root domain (ap (λ row. slice_get row v) (sym new.row_is) ∙ at));
+    devices = λ v. sym (ap (λ row. attached (slice_get row v)) new.contexts_are ∙ no_device_in 16 v);
+    roots = λ v root domain at. absurd (no_entry_in 16 v root domain (ap (λ row. slice_get row v) (sym new.contexts_are) ∙ at));
     cached = λ x inside. let none = subst (λ (u : UnitState). IsIn x u.caches.contexts) new.unit_is inside in absurd none;
   };
   frames = record {
     once = λ f less. omega (arith, none f, new.free f (omega (arith, less, new.frames_are)));
     past = λ f past. omega (arith, none f, new.past f (omega (arith, past, new.frames_are)));
     zeroed = λ f some. ⊎_elim (λ (low : f < frames). new.zeroed f low) (λ (high : frames ≤ f). absurd (omega (arith, some, new.past f high))) (cases_lt f frames);
-    held = λ d f h there some. absurd (none-some h (sym (no_home m.homes d new.homes_are) ∙ there));
+    held = λ d f h there some. absurd (none-some h (sym (no_domain m.domains d new.domains_are) ∙ there));
   };
   tickets = refl;
 } where
-  none : (f : ℕ) → total (λ d. owned (memory m.pool.words) (home_of m.homes d) f) 16 ≡ 0
-  none f = total-none (λ d. owned (memory m.pool.words) (home_of m.homes d) f) 16 (λ d less. ap (λ (o : Option Home). owned (memory m.pool.words) o f) (no_home m.homes d new.homes_are))
+  none : (f : ℕ) → total (λ d. owned (memory m.pool.words) (domain_at m.domains d) f) 16 ≡ 0
+  none f = total-none (λ d. owned (memory m.pool.words) (domain_at m.domains d) f) 16 (λ d less. ap (λ (o : Option Domain). owned (memory m.pool.words) o f) (no_domain m.domains d new.domains_are))
 
 pub whole_new : (m : State) (frames : ℕ) → IsNew frames m → IsWhole frames m
 whole_new m frames new = record {
   of_world = (empty frames, of_empty_world m frames new);
-  places = ap length new.homes_are;
-  devices = ap length new.row_is;
+  places = ap length new.domains_are;
+  devices = ap length new.contexts_are;
   frames_are = sym new.frames_are;
   idle = ap (λ (r : Ring). r.waiting) new.ring_is;
-  status = (let zero_status : m.ring.status ≡ 0 = ap (λ (r : Ring). r.status) new.ring_is in omega (arith, zero_status));
+  status = (let zero_status : m.iommu.ring.status ≡ 0 = ap (λ (r : Ring). r.status) new.ring_is in omega (arith, zero_status));
   sent = omega (arith, new.sent_is);
-  steps = (let zero_steps : m.unit.steps ≡ 0 = ap (λ (u : UnitState). u.steps) new.unit_is in omega (arith, zero_steps));
+  steps = (let zero_steps : m.iommu.unit.steps ≡ 0 = ap (λ (u : UnitState). u.steps) new.unit_is in omega (arith, zero_steps));
 }
 
 -- ---- there is a new state of each size
@@ -96,7 +101,7 @@ many zero = refl
 many (suc n) = omega (arith, length-append (frames_up n) (n ∷ []), many n)
 
 pub new_state : ℕ → State
-new_state frames = record { pool = record { words = replicate (frames * 512) 0; free = frames_up frames; frames = frames }; homes = replicate 15 vacant; row = replicate 16 Absent; ring = ring_of [] 0 []; unit = unit_state nothing 0 0; sent = 0; calls = 0 }
+new_state frames = record { pool = record { words = replicate (frames * 512) 0; free = frames_up frames; frames = frames }; domains = replicate 15 None; iommu = record { contexts = replicate 16 Absent; ring = ring_of [] 0 []; unit = unit_state nothing 0 0; sent = 0 }; calls = 0 }
 
 pub new_is_new : (frames : ℕ) → IsNew frames (new_state frames)
 unfolding new_state
@@ -106,8 +111,8 @@ new_is_new frames = record {
   past = past frames;
   count = many frames;
   zeroed = λ f low k small. zero_words (replicate (frames * 512) 0) frames refl f k low small;
-  homes_are = refl;
-  row_is = refl;
+  domains_are = refl;
+  contexts_are = refl;
   ring_is = refl;
   unit_is = refl;
   sent_is = refl;

@@ -1,5 +1,5 @@
 -- A device is detached, and its context is forgotten.
-use Rattle.std.proofs.Common.{◌≡◌, ◌≢◌, ℕ, ◌+◌, ◌<◌, ◌≤◌, inl, inr, false, arith, List, length, Some, None, refl, sym, ap, ◌∙◌, slice_get, slice_set}
+use Rattle.std.proofs.Common.{◌≡◌, ◌≢◌, ℕ, ◌+◌, ◌<◌, ◌≤◌, inl, inr, false, arith, length, Some, None, refl, sym, ap, ◌∙◌, slice_get, slice_set}
 use Rattle.std.proofs.lemmas.Bool.Decides.{nat_tests}
 use Rattle.dmatypes.specs.declared.call.Call.TheVariants as calls
 use Rattle.dmatypes.specs.declared.refusal.Refusal.TheVariants as refusals
@@ -27,21 +27,21 @@ use Rattle.engine.proofs.Refusing.{counted, refuses}
 dropped_context : (domain device : ℕ) (x : Context) → x.device ≡ device → drops_context (ContextDevice domain device) x ≡ false → ⊥
 dropped_context domain device x same left = grind (arith, nat_tests)
 
-module _ (m t : State) (w : World) (device domain : ℕ) (q : Quarantine m w) (small : device < length m.row) (row : t.row ≡ slice_set m.row device Absent) (purges : Purges (ContextDevice domain device) m.unit.caches t.unit.caches)
-    (homes : t.homes ≡ m.homes) (pool : t.pool ≡ m.pool) where
-  entry_then : (x : ℕ) → x ≢ device → slice_get t.row x ≡ slice_get m.row x
-  entry_then x ne = ap (λ r. slice_get r x) row ∙ get_set_other m.row device x Absent ne
+module _ (m t : State) (w : World) (device domain : ℕ) (q : Quarantine m w) (small : device < length m.iommu.contexts) (row : t.iommu.contexts ≡ slice_set m.iommu.contexts device Absent) (purges : Purges (ContextDevice domain device) m.iommu.unit.caches t.iommu.unit.caches)
+    (domains : t.domains ≡ m.domains) (pool : t.pool ≡ m.pool) where
+  entry_then : (x : ℕ) → x ≢ device → slice_get t.iommu.contexts x ≡ slice_get m.iommu.contexts x
+  entry_then x ne = ap (λ r. slice_get r x) row ∙ get_set_other m.iommu.contexts device x Absent ne
 
-  gone : (x : ℕ) → x ≡ device → slice_get t.row x ≡ Some Absent
-  gone x same = ap (λ r. slice_get r x) row ∙ ap (slice_get (slice_set m.row device Absent)) same ∙ get_set m.row device Absent small
+  gone : (x : ℕ) → x ≡ device → slice_get t.iommu.contexts x ≡ Some Absent
+  gone x same = ap (λ r. slice_get r x) row ∙ ap (slice_get (slice_set m.iommu.contexts device Absent)) same ∙ get_set m.iommu.contexts device Absent small
 
-  devices : (x : ℕ) → put device None w.devices x ≡ attached (slice_get t.row x)
+  devices : (x : ℕ) → put device None w.devices x ≡ attached (slice_get t.iommu.contexts x)
   devices x = elim (same_or_not x device) [
     | inl same ↦ rw (gone x same, same, put_same device None w.devices) refl
     | inr ne ↦ rw (put_other device None w.devices x ne, entry_then x ne) (q.contexts.devices x)
   ]
 
-  was_there : (x root e : ℕ) → slice_get t.row x ≡ Some (Present root W39 e) → slice_get m.row x ≡ Some (Present root W39 e)
+  was_there : (x root e : ℕ) → slice_get t.iommu.contexts x ≡ Some (Present root W39 e) → slice_get m.iommu.contexts x ≡ Some (Present root W39 e)
   was_there x root e at = elim (same_or_not x device) [
     | inl same ↦ absurd (clash root e (sym (gone x same) ∙ at))
     | inr ne ↦ sym (entry_then x ne) ∙ at
@@ -53,17 +53,17 @@ module _ (m t : State) (w : World) (device domain : ℕ) (q : Quarantine m w) (s
   pub device_gone : Quarantine t (record w { devices = put device None w.devices })
   device_gone = record {
     table_frames = q.table_frames ∙ sym (ap (λ (p : Pool). p.frames) pool);
-    domains = rw (homes, pool) q.domains;
+    domains = rw (domains, pool) q.domains;
     caches = record {
-      leaves = λ l inside. rw (homes, pool) (q.caches.leaves l (purges.leaves l inside).0);
-      tables = λ i inside. rw (homes, pool) (q.caches.tables i (purges.tables i inside).0);
+      leaves = λ l inside. rw (domains, pool) (q.caches.leaves l (purges.leaves l inside).0);
+      tables = λ i inside. rw (domains, pool) (q.caches.tables i (purges.tables i inside).0);
     };
     contexts = record {
       devices = devices;
-      roots = λ x root e at. rw homes (q.contexts.roots x root e (was_there x root e at));
+      roots = λ x root e at. rw domains (q.contexts.roots x root e (was_there x root e at));
       cached = λ x inside. let left = purges.contexts x inside in entry_then x.device (λ same. dropped_context domain device x same left.1) ∙ q.contexts.cached x left.0;
     };
-    frames = rw (homes, pool) q.frames;
+    frames = rw (domains, pool) q.frames;
     tickets = q.tickets;
   }
 
@@ -77,24 +77,27 @@ pub detach_no_device : (m t : State) (device : ℕ) → t ≡ counted m → 15 <
 unfolding Exact IsStep Stands
 detach_no_device m t device is big = refuses m t (calls.Detach device) refusals.NoDevice is tt (λ w q. inl (inl (big, refl)))
 
-pub detach_not_attached : (m t : State) (device : ℕ) (entry : ContextEntry) → t ≡ counted m → device ≤ 15 → slice_get m.row device ≡ Some entry → attached (Some entry) ≡ None → Does m (calls.Detach device) (Refused refusals.NotAttached) t
+pub detach_not_attached : (m t : State) (device : ℕ) (entry : ContextEntry) → t ≡ counted m → device ≤ 15 → slice_get m.iommu.contexts device ≡ Some entry → attached (Some entry) ≡ None → Does m (calls.Detach device) (Refused refusals.NotAttached) t
 unfolding Exact IsStep Stands
 detach_not_attached m t device entry is small at free = refuses m t (calls.Detach device) refusals.NotAttached is tt
     (λ w q. inl (inr (λ big. absurd (omega (arith, big, small)), inl (is_none (w.devices device) (q.contexts.devices device ∙ ap attached at ∙ free), refl))))
 
--- the state without the entry, and with another unit
-abbrev pub detached : State → ℕ → List ContextEntry → Iommu → State
-detached m device row x = record m { row = row; ring = x.ring; unit = x.unit; sent = x.sent; calls = m.calls + 1 }
+-- the state with another ring and unit, and their row
+abbrev pub detached : State → Iommu → State
+detached m x = record m { iommu = x; calls = m.calls + 1 }
 
-pub detach_does : (m : State) (device root domain : ℕ) (row : List ContextEntry) (x : Iommu) → device ≤ 15 → length m.row ≡ 16 → slice_get m.row device ≡ Some (Present root W39 domain) → row ≡ slice_set m.row device Absent
-    → Invalidates m.ring m.unit m.sent (ContextDevice domain device) x.ring x.unit x.sent → Does m (calls.Detach device) Done (detached m device row x)
+pub detach_does : (m : State) (device root domain : ℕ) (x : Iommu) → device ≤ 15 → length m.iommu.contexts ≡ 16
+    → slice_get m.iommu.contexts device ≡ Some (Present root W39 domain)
+    → Invalidates (record m.iommu { contexts = slice_set m.iommu.contexts device Absent }) (ContextDevice domain device) x
+    → Does m (calls.Detach device) Done (detached m x)
 unfolding Exact Becomes IsStep Stands Answers next
-detach_does m device root domain row x small many at is invalidates = record {
+detach_does m device root domain x small many at invalidates = record {
   steps = λ w q. (
     ((λ big. absurd (omega (arith, big, small)), (not_none (w.devices device) domain (q.contexts.devices device ∙ ap attached at), tt)), refl),
-    device_gone m (detached m device row x) w device domain q (omega (arith, small, many)) is (purges_sent m.ring.waiting (ContextDevice domain device) x.sent m.unit.caches x.unit.caches invalidates.caches) refl refl,
+    device_gone m (detached m x) w device domain q (omega (arith, small, many)) invalidates.contexts (
+        purges_sent m.iommu.ring.waiting (ContextDevice domain device) x.sent m.iommu.unit.caches x.unit.caches invalidates.caches) refl refl,
   );
   exact = tt;
-  becomes = (domain, root, at, invalidates, ap (λ r. detached m device r x) is);
+  becomes = (domain, root, at, invalidates, refl);
   calls = refl;
 }

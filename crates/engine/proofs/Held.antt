@@ -4,7 +4,7 @@ use Rattle.std.proofs.lemmas.List.Sums.{sum_by-cons}
 use Rattle.dmatypes.specs.World.{IsIn}
 use Rattle.tables.specs.Pool.{occurs, IsZeroed}
 use Rattle.engine.specs.declared.record.Record.{Record}
-use Rattle.engine.specs.Homes.{held_in}
+use Rattle.engine.specs.Domains.{held_in}
 use Rattle.engine.specs.Quarantine.{IsHeld}
 
 held-cons : (r : Record) (rs : List Record) (f : ℕ) → held_in (r ∷ rs) f ≡ occurs f r.cut.frames + held_in rs f

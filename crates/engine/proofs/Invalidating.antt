@@ -2,13 +2,13 @@
 use Rattle.std.proofs.Common.{◌≡◌, ℕ, ◌+◌, ◌-◌, ◌<◌, ◌≤◌, ◌⊎◌, inl, inr, List, [], ◌∷◌, ◌++◌, length, reverse, take, refl, sym, ap, ap₂, lit≤, ◌∙◌, arith}
 use Rattle.std.proofs.lemmas.List.{reverse-append, take-take}
 use Rattle.std.specs.Prelude.{Result, Ok, Err, IsErr, OnOk}
-use Rattle.dmatypes.specs.Page.{Range}
 use Rattle.queue.specs.Ring.{Ring, ring_of, with_last}
-use Rattle.tables.specs.Cut.{Cut}
+use Rattle.engine.specs.declared.record.Record.{Record}
 use Rattle.unit.specs.Caches.{UnitState, unit_state}
 use Rattle.unit.specs.Filters.{after_first, done_after, left_by, left_by_first, status_after}
 use Rattle.vtdbits.specs.declared.descriptor.Descriptor.{Descriptor}
 use Rattle.vtdbits.specs.declared.descriptor.Descriptor.TheVariants.{Wait}
+use Rattle.engine.specs.declared.iommu.Iommu.{Iommu}
 use Rattle.engine.specs.Ending.{Invalidates, IsSent, left_by_all}
 use Rattle.engine.specs.Ready.{Covers, IsDone}
 
@@ -89,17 +89,18 @@ first_stage d n old ring ring' unit idle later one two =
 -- ---- what is asked of whoever releases
 
 -- what was invalidated is done
-pub done_then : (ring : Ring) (unit : UnitState) (sent : ℕ) (d : Descriptor) (ring' : Ring) (unit' : UnitState) (sent' : ℕ) → Invalidates ring unit sent d ring' unit' sent' → IsDone ring' d sent'
-done_then ring unit sent d ring' unit' sent' sends = record {
+pub done_then : (old : Iommu) (d : Descriptor) (new : Iommu) → Invalidates old d new → IsDone new.ring d new.sent
+done_then old d new sends = record {
   later = [];
-  earlier = reverse ring.waiting ++ take (256 - length (ring.waiting ++ d ∷ Wait sent' ∷ [])) ring.taken;
+  earlier = reverse old.ring.waiting ++ take (256 - length (old.ring.waiting ++ d ∷ Wait new.sent ∷ [])) old.ring.taken;
   taken =
       ap (λ (q : Ring). q.taken) sends.done
-      ∙ ap (λ ds. ds ++ take (256 - length (ring.waiting ++ d ∷ Wait sent' ∷ [])) ring.taken) (reverse-append ring.waiting (d ∷ Wait sent' ∷ []));
+      ∙ ap (λ ds. ds ++ take (256 - length (old.ring.waiting ++ d ∷ Wait new.sent ∷ [])) old.ring.taken)
+      (reverse-append old.ring.waiting (d ∷ Wait new.sent ∷ []));
   reached = (let status = ap (λ (q : Ring). q.status) sends.done in omega (arith, status));
 }
 
 -- the descriptor of an unmap covers what the unmap ends
-pub sent_covers : (domain : ℕ) (range : Range) (cut : Cut) (d : Descriptor) → IsSent domain range cut d → Covers domain range cut d
-sent_covers domain range cut d (b, is, inl (small, same)) = rw same (refl, is.aligned, is.holds, is.wide, λ hint. hint)
-sent_covers domain range cut d (b, is, inr (large, same)) = rw same refl
+pub sent_covers : (domain : ℕ) (r : Record) (d : Descriptor) → IsSent domain r.range r.cut d → Covers domain r d
+sent_covers domain r d (b, is, inl (small, same)) = rw same (refl, is.aligned, is.holds, is.wide, λ hint. hint)
+sent_covers domain r d (b, is, inr (large, same)) = rw same refl

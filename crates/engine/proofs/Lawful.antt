@@ -1,10 +1,11 @@
 -- Cached entries stay lawful while what they state stays.
 use Rattle.std.proofs.Common.{◌≡◌, ℕ, inl, inr, List, Some, ◌∙◌}
-use Rattle.dmatypes.specs.World.{World, Domain, IsIn}
+use Rattle.dmatypes.specs.World.{World, IsIn}
+use Rattle.dmatypes.specs.World as world
 use Rattle.tables.specs.Pool.{memory}
 use Rattle.tables.specs.Tree.{IsLeafAt, IsTableAt, leaf_from, table_from}
 use Rattle.unit.specs.Caches.{Caches, Leaf, NonLeaf}
-use Rattle.engine.specs.Homes.{Home, home_of}
+use Rattle.engine.specs.Domains.{Domain, domain_at}
 use Rattle.engine.specs.State.{State}
 use Rattle.engine.specs.Quarantine.{AreLawful, IsHeld, IsLawfulLeaf, IsLawfulTable}
 
@@ -22,12 +23,12 @@ table_at_stays words words' root same first level frame at = (at.0, at.1, at.2, 
 -- ---- one domain
 
 -- what a domain keeps for its cached entries: what its leaves state, their entries, its tables and what it holds
-pub record KeepsLawful (words words' : List ℕ) (h h' : Home) (v v' : Domain) : Type 0 where
+pub record KeepsLawful (words words' : List ℕ) (h h' : Domain) (v v' : world.Domain) : Type 0 where
   pub leaf : (l : Leaf) → IsLawfulLeaf words l h v → IsLawfulLeaf words' l h' v'
   pub table : (i : NonLeaf) → IsLawfulTable words i h v → IsLawfulTable words' i h' v'
 
 -- a domain that stays, while the memory of its tree and what it holds do
-pub keeps_same : (words words' : List ℕ) (h : Home) (v : Domain) → ((p : ℕ) → leaf_from (memory words') 3 h.root p ≡ leaf_from (memory words) 3 h.root p)
+pub keeps_same : (words words' : List ℕ) (h : Domain) (v : world.Domain) → ((p : ℕ) → leaf_from (memory words') 3 h.root p ≡ leaf_from (memory words) 3 h.root p)
     → ((p w : ℕ) → table_from (memory words') 3 h.root p w ≡ table_from (memory words) 3 h.root p w)
     → ((first pages f : ℕ) → IsHeld words h.records first pages f → IsHeld words' h.records first pages f) → KeepsLawful words words' h h v v
 keeps_same words words' h v leaves tables held = record {
@@ -48,8 +49,8 @@ keeps_same words words' h v leaves tables held = record {
 
 -- what is cached stays lawful where each domain of the state keeps that
 pub stay_lawful : (m t : State) (w w' : World) (c : Caches) → AreLawful m w c
-    → ((d : ℕ) (h : Home) (v : Domain) → home_of m.homes d ≡ Some h → w.domains d ≡ Some v
-    → (h' : Home) × (v' : Domain) × (home_of t.homes d ≡ Some h') × (w'.domains d ≡ Some v') × KeepsLawful m.pool.words t.pool.words h h' v v')
+    → ((d : ℕ) (h : Domain) (v : world.Domain) → domain_at m.domains d ≡ Some h → w.domains d ≡ Some v
+    → (h' : Domain) × (v' : world.Domain) × (domain_at t.domains d ≡ Some h') × (w'.domains d ≡ Some v') × KeepsLawful m.pool.words t.pool.words h h' v v')
     → AreLawful t w' c
 stay_lawful m t w w' c lawful keeps = record {
   leaves = λ l inside.

@@ -3,10 +3,11 @@ pub mod Held
 pub mod Lawful
 pub mod Strict
 pub mod Frames
-pub mod Places
+pub mod Domains
 pub mod Segments
 pub mod Pieces
 pub mod Refusing
+pub mod Finding
 pub mod Making
 pub mod Mapping
 pub mod Attaching
@@ -27,7 +28,7 @@ pub mod UnmapSteps
 pub mod Releasable
 pub mod Sent
 pub mod Unmapped
-pub mod Room
+pub mod PuttingOff
 pub mod Closing
 pub mod Dropped
 pub mod Detaching

@@ -5,7 +5,8 @@ use Rattle.dmatypes.specs.declared.call.Mode.{Mode}
 use Rattle.dmatypes.specs.Page.{Range, IsWithin}
 use Rattle.std.specs.Option.{option_or}
 use Rattle.dmatypes.specs.Conditions.{total_pages}
-use Rattle.dmatypes.specs.World.{Domain, Target, AreFreePages, empty_domain, mapped, placed}
+use Rattle.dmatypes.specs.World.{Target, AreFreePages, empty_domain, mapped, placed}
+use Rattle.dmatypes.specs.World as world
 use Rattle.dmatypes.specs.declared.call.Segment.{Segment}
 use Rattle.dmatypes.proofs.Ranges.{within_or_not}
 use Rattle.iova.specs.declared.piece.PageState.{PageState}
@@ -19,10 +20,10 @@ use Rattle.engine.proofs.Segments.{placed_inside, placed_outside}
 -- ---- free pages
 
 -- the starts of the space are those where each page is free
-pub free_pages : (space : Space) (v : Domain) (pages unit s : ℕ) → PartsPages space v → IsFit space.pieces pages unit s → AreFreePages v (record { first = s; pages = pages })
+pub free_pages : (space : Space) (v : world.Domain) (pages unit s : ℕ) → PartsPages space v → IsFit space.pieces pages unit s → AreFreePages v (record { first = s; pages = pages })
 free_pages space v pages unit s parts fit p inside = (parts.free p).0 (fit.free p inside)
 
-pub fit_of : (space : Space) (v : Domain) (pages unit s : ℕ) → PartsPages space v → s % unit ≡ 0 → AreFreePages v (record { first = s; pages = pages }) → IsFit space.pieces pages unit s
+pub fit_of : (space : Space) (v : world.Domain) (pages unit s : ℕ) → PartsPages space v → s % unit ≡ 0 → AreFreePages v (record { first = s; pages = pages }) → IsFit space.pieces pages unit s
 fit_of space v pages unit s parts aligned free = record { aligned = aligned; free = λ p inside. (parts.free p).1 (free p inside) }
 
 -- a page of no free piece is not free, and so on: a page has one state
@@ -52,21 +53,21 @@ pieces_new space mode is all whole = record {
 -- ---- pages that were taken
 
 -- what a map makes of a page of its range, and of any other
-pub mapped_inside : (v : Domain) (segments : List Segment) (first rights p : ℕ) → IsWithin (record { first = first; pages = total_pages segments }) p → (mapped segments first rights v).live p ≡ placed segments first rights p
+pub mapped_inside : (v : world.Domain) (segments : List Segment) (first rights p : ℕ) → IsWithin (record { first = first; pages = total_pages segments }) p → (mapped segments first rights v).live p ≡ placed segments first rights p
 mapped_inside v segments first rights p inside = let at = placed_inside segments first rights p inside in ap (λ (o : Option Target). option_or o (v.live p)) at.1 ∙ sym at.1
 
-pub mapped_outside : (v : Domain) (segments : List Segment) (first rights p : ℕ) → ((p < first) ⊎ (first + total_pages segments ≤ p)) → (mapped segments first rights v).live p ≡ v.live p
+pub mapped_outside : (v : world.Domain) (segments : List Segment) (first rights p : ℕ) → ((p < first) ⊎ (first + total_pages segments ≤ p)) → (mapped segments first rights v).live p ≡ v.live p
 mapped_outside v segments first rights p past = ap (λ (o : Option Target). option_or o (v.live p)) (placed_outside segments first rights p past)
 
 -- a page of the range is live then
-live_inside : (v : Domain) (segments : List Segment) (first rights p : ℕ) → IsWithin (record { first = first; pages = total_pages segments }) p → (t : Target) × ((mapped segments first rights v).live p ≡ Some t)
+live_inside : (v : world.Domain) (segments : List Segment) (first rights p : ℕ) → IsWithin (record { first = first; pages = total_pages segments }) p → (t : Target) × ((mapped segments first rights v).live p ≡ Some t)
 live_inside v segments first rights p inside = let at = placed_inside segments first rights p inside in (at.0, mapped_inside v segments first rights p inside ∙ at.1)
 
 not_within : (r : Range) (p : ℕ) → ((p < r.first) ⊎ (r.first + r.pages ≤ p)) → IsWithin r p → ⊥
 not_within r p (inl h) inside = omega (arith, h, inside.0)
 not_within r p (inr h) inside = omega (arith, h, inside.1)
 
-pub pieces_mapped : (space new : Space) (v : Domain) (segments : List Segment) (first rights : ℕ) → PartsPages space v → Takes space new (record { first = first; pages = total_pages segments }) → IsSpace new
+pub pieces_mapped : (space new : Space) (v : world.Domain) (segments : List Segment) (first rights : ℕ) → PartsPages space v → Takes space new (record { first = first; pages = total_pages segments }) → IsSpace new
     → PartsPages new (mapped segments first rights v)
 pieces_mapped space new v segments first rights parts takes is = record {
   is_space = is;

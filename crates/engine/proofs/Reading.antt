@@ -3,7 +3,8 @@ use Rattle.std.proofs.Common.{◌≡◌, ℕ, ◌+◌, ◌-◌, ◌%◌, ◌^◌
 use Rattle.std.proofs.lemmas.Bool.Decides.{nat_tests}
 use Rattle.std.proofs.lemmas.Option.{none-some}
 use Rattle.dmatypes.specs.Page.{Range}
-use Rattle.dmatypes.specs.World.{Domain, Target, IsIn, IsRetired}
+use Rattle.dmatypes.specs.World.{Target, IsIn, IsRetired}
+use Rattle.dmatypes.specs.World as world
 use Rattle.iova.specs.declared.piece.PageState.TheVariants.{Live}
 use Rattle.iova.specs.declared.piece.PageState.TheVariants as pages
 use Rattle.iova.specs.Pieces.{state_at}
@@ -21,7 +22,7 @@ use Rattle.unit.specs.Caches.{Context, Leaf, NonLeaf}
 use Rattle.unit.specs.Walking.{hold, met, met_leaf, met_non_leaf, stated_by, IsPassed}
 use Rattle.vtdbits.specs.Translation.{target}
 use Rattle.engine.specs.declared.record.Record.{Record}
-use Rattle.engine.specs.Homes.{Home}
+use Rattle.engine.specs.Domains.{Domain}
 use Rattle.engine.specs.Quarantine.{IsInRecord, IsLawfulLeaf, IsLawfulTable, IsOfDomain, Marked, Mirrors, PartsPages, marked_here, marked_there}
 use Rattle.engine.proofs.Lists.{is_some}
 use Rattle.engine.proofs.Spans.{base_even, base_low, below_end, one_span, rest_is}
@@ -39,7 +40,7 @@ of_map f y (x ∷ xs) (inl same) = (x, inl refl, same)
 of_map f y (x ∷ xs) (inr h) = let k = of_map f y xs h in (k.0, inr k.1, k.2)
 
 -- a page in a record of the state is in one of the world
-of_record : (h : Home) (v : Domain) (r : Record) (p : ℕ) → IsOfDomain h v → IsIn r h.records → r.range.first ≤ p → p < r.range.first + r.range.pages → IsInRecord v p
+of_record : (h : Domain) (v : world.Domain) (r : Record) (p : ℕ) → IsOfDomain h v → IsIn r h.records → r.range.first ≤ p → p < r.range.first + r.range.pages → IsInRecord v p
 of_record h v r p ids inside low high =
     let there : IsIn (marked_here r) (map marked_there v.retired) = subst (IsIn (marked_here r)) ids.records (in_map marked_here r h.records inside) in
     let found = of_map marked_there (marked_here r) v.retired there in
@@ -49,7 +50,7 @@ of_record h v r p ids inside low high =
     (found.0, found.1, (omega arith, omega arith))
 
 -- and it isn't live
-retired_none : (space : Space) (v : Domain) (p : ℕ) → PartsPages space v → IsInRecord v p → v.live p ≡ None
+retired_none : (space : Space) (v : world.Domain) (p : ℕ) → PartsPages space v → IsInRecord v p → v.live p ≡ None
 retired_none space v p parts inside = by_live (v.live p) refl
   where
     by_live : (o : Option Target) → v.live p ≡ o → v.live p ≡ None
@@ -61,7 +62,7 @@ retired_none space v p parts inside = by_live (v.live p) refl
         absurd cc
 
 -- what is read of a page: what is live there; or where it is in a record, nothing or what the record says
-abbrev pub IsReadOf : Domain → ℕ → Option Target → Type 0
+abbrev pub IsReadOf : world.Domain → ℕ → Option Target → Type 0
 IsReadOf v p t = (t ≡ v.live p) ⊎ ((v.live p ≡ None) × ((t ≡ None) ⊎ ((y : Target) × (t ≡ Some y) × IsRetired v p y)))
 
 -- ---- where a walk begins
@@ -73,7 +74,7 @@ IsOnWay words root p level table =
     × ((l : ℕ) → l < level → table_from (memory words) level table p l ≡ table_from (memory words) 3 root p l)
 
 -- it meets nothing, at a page in a record
-abbrev pub MeetsNothing : List ℕ → Domain → ℕ → ℕ → ℕ → Type 0
+abbrev pub MeetsNothing : List ℕ → world.Domain → ℕ → ℕ → ℕ → Type 0
 MeetsNothing words v p level table =
     (leaf_from (memory words) level table p ≡ None) × IsInRecord v p
     × ((l : ℕ) → l < level → table_from (memory words) level table p l ≡ None)
@@ -91,7 +92,7 @@ hold_low first pages p h = grind (arith, nat_tests)
 pub hold_high : (first pages p : ℕ) → IsTrue (hold first pages p) → p < first + pages
 hold_high first pages p h = grind (arith, nat_tests)
 
-module _ (words : List ℕ) (h : Home) (v : Domain) (mirrors : Mirrors words h v) where
+module _ (words : List ℕ) (h : Domain) (v : world.Domain) (mirrors : Mirrors words h v) where
   at_cached : (i : NonLeaf) (p level table : ℕ) → IsLawfulTable words i h v → IsTrue (hold i.first i.pages p) → level ≡ i.level → table ≡ i.frame → IsOnWay words h.root p level table ⊎ MeetsNothing words v p level table
   at_cached i p level table lawful holds high same = elim lawful.named [
     | inl at ↦

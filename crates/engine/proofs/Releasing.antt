@@ -3,7 +3,8 @@ use Rattle.std.proofs.Common.{◌≡◌, ◌≢◌, ℕ, ◌+◌, ◌<◌, ◌�
 use Rattle.std.proofs.lemmas.Bool.Decides.{nat_tests}
 use Rattle.std.proofs.lemmas.List.Sums.{sum_by-cons}
 use Rattle.dmatypes.specs.Page.{Range, IsWithin}
-use Rattle.dmatypes.specs.World.{Domain, Retired, World, IsIn, flushed, put}
+use Rattle.dmatypes.specs.World.{Retired, World, IsIn, flushed, put}
+use Rattle.dmatypes.specs.World as world
 use Rattle.dmatypes.proofs.Ranges.{within_or_not}
 use Rattle.iova.specs.declared.piece.PageState.TheVariants.{Free}
 use Rattle.iova.specs.declared.piece.PageState.TheVariants as pages
@@ -18,15 +19,15 @@ use Rattle.vtdbits.specs.declared.descriptor.Descriptor.TheVariants.{IotlbDomain
 use Rattle.engine.specs.declared.record.Record.{Record}
 use Rattle.engine.specs.Ending.{Releases, ReleasesAll, left_by_all}
 use Rattle.engine.specs.Ready.{AreReleasable}
-use Rattle.engine.specs.Homes.{Home, Place, held_in, home_in, home_of}
+use Rattle.engine.specs.Domains.{Domain, domain_at, held_in}
 use Rattle.engine.specs.State.{State}
 use Rattle.engine.specs.Quarantine.{IsOfDomain, Marked, Mirrors, Quarantine, marked_here, marked_there}
 use Rattle.engine.proofs.Changing.{ChangesDomain, changes_domain, same_tree}
 use Rattle.engine.proofs.Held.{held-nil}
-use Rattle.engine.proofs.Places.{home_set, settled}
+use Rattle.engine.proofs.Domains.{domain_set}
 use Rattle.engine.proofs.Purging.{Purges, purges_sent}
 use Rattle.engine.proofs.Sets.{in_either, in_last, in_left, in_mapped, of_mapped}
-use Rattle.engine.proofs.Unmapping.{home_after, held-last, mirrors_of}
+use Rattle.engine.proofs.Unmapping.{domain_after, held-last, mirrors_of}
 use Rattle.engine.proofs.Vacating.{not_within, pieces_flushed}
 
 -- ---- one record more
@@ -49,7 +50,7 @@ releases_none pool space all are = record {
 }
 
 -- one record more, wherever it stands among those that are done
-module _ (pool pool1 pool2 : Pool) (space space1 space2 : Space) (done all : List Record) (r : Record) (so_far : ReleasesAll pool space done pool1 space1) (next : Releases pool1 space1 r.range r.cut pool2 space2)
+module _ (pool pool1 pool2 : Pool) (space space1 space2 : Space) (done all : List Record) (r : Record) (so_far : ReleasesAll pool space done pool1 space1) (next : Releases pool1 space1 r pool2 space2)
     (splits : (x : Record) → IsIn x all → IsIn x done ⊎ (x ≡ r)) (old : (x : Record) → IsIn x done → IsIn x all) (new : IsIn r all) (held : (f : ℕ) → held_in all f ≡ held_in done f + occurs f r.cut.frames)
     (retirable : (other : Range) → MayRetire space1.pieces other → MayRetire space2.pieces other) (more : length pool1.free ≤ length pool2.free) where
   free_then : (p : ℕ) → state_at space1.pieces p ≡ Some Free → state_at space2.pieces p ≡ Some Free
@@ -87,12 +88,12 @@ module _ (pool pool1 pool2 : Pool) (space space1 space2 : Space) (done all : Lis
     other q x (inr last) earlier now = subst (λ (y : Record). q ≢ piece_of y.range pages.Retired) (sym last) now
 
 -- the record after those that are done, and the one before them
-pub releases_last : (pool pool1 pool2 : Pool) (space space1 space2 : Space) (done : List Record) (r : Record) → ReleasesAll pool space done pool1 space1 → Releases pool1 space1 r.range r.cut pool2 space2
+pub releases_last : (pool pool1 pool2 : Pool) (space space1 space2 : Space) (done : List Record) (r : Record) → ReleasesAll pool space done pool1 space1 → Releases pool1 space1 r pool2 space2
     → ((other : Range) → MayRetire space1.pieces other → MayRetire space2.pieces other) → length pool1.free ≤ length pool2.free → ReleasesAll pool space (done ++ r ∷ []) pool2 space2
 releases_last pool pool1 pool2 space space1 space2 done r so_far next retirable more =
     releases_more pool pool1 pool2 space space1 space2 done (done ++ r ∷ []) r so_far next (λ x i. in_either x r done i) (λ x i. in_left x done (r ∷ []) i) (in_last r done) (λ f. held-last done r f) retirable more
 
-pub releases_first : (pool pool1 pool2 : Pool) (space space1 space2 : Space) (done : List Record) (r : Record) → ReleasesAll pool space done pool1 space1 → Releases pool1 space1 r.range r.cut pool2 space2
+pub releases_first : (pool pool1 pool2 : Pool) (space space1 space2 : Space) (done : List Record) (r : Record) → ReleasesAll pool space done pool1 space1 → Releases pool1 space1 r pool2 space2
     → ((other : Range) → MayRetire space1.pieces other → MayRetire space2.pieces other) → length pool1.free ≤ length pool2.free → ReleasesAll pool space (r ∷ done) pool2 space2
 releases_first pool pool1 pool2 space space1 space2 done r so_far next retirable more =
     releases_more pool pool1 pool2 space space1 space2 done (r ∷ done) r so_far next first_or (λ x i. inr i) (inl refl) (λ f. sum_by-cons (λ (y : Record). occurs f y.cut.frames) r done ∙ omega arith) retirable more
@@ -104,7 +105,7 @@ releases_first pool pool1 pool2 space space1 space2 done r so_far next retirable
 -- ---- a flush
 
 -- the state's records are the world's
-in_home : (h : Home) (v : Domain) → IsOfDomain h v → (r : Retired) → IsIn r v.retired → (k : Record) × IsIn k h.records × (r.range ≡ k.range)
+in_home : (h : Domain) (v : world.Domain) → IsOfDomain h v → (r : Retired) → IsIn r v.retired → (k : Record) × IsIn k h.records × (r.range ≡ k.range)
 in_home h v ids r inside =
     let there : IsIn (marked_there r) (map marked_here h.records) = subst (λ (xs : List Marked). IsIn (marked_there r) xs) (sym ids.records) (in_mapped marked_there r v.retired inside) in
     let k = of_mapped marked_here (marked_there r) h.records there in
@@ -116,7 +117,7 @@ matching ks rs same k inside =
     let r = of_mapped marked_there (marked_here k) rs there in
     (r.0, r.1, ap (λ (x : Marked). x.range) r.2)
 
-pub mirrors_flushed : (pool pool' : Pool) (space' : Space) (h : Home) (v : Domain) → Mirrors pool.words h v → ReleasesAll pool h.space h.records pool' space' → Mirrors pool'.words (home_after h space' []) (flushed v)
+pub mirrors_flushed : (pool pool' : Pool) (space' : Space) (h : Domain) (v : world.Domain) → Mirrors pool.words h v → ReleasesAll pool h.space h.records pool' space' → Mirrors pool'.words (domain_after h space' []) (flushed v)
 mirrors_flushed pool pool' space' h v mirrors all = record {
   ids = record { mode = mirrors.ids.mode; begun = mirrors.ids.begun; records = refl };
   tree = λ p low. ap (λ ws. states (memory ws) 3 h.root p) all.words ∙ mirrors.tree p low;
@@ -132,11 +133,11 @@ dropped_leaf d l same left = grind (arith, nat_tests)
 pub dropped_table : (d : ℕ) (i : NonLeaf) → i.domain ≡ d → drops_non_leaf (IotlbDomain d) i ≡ false → ⊥
 dropped_table d i same left = grind (arith, nat_tests)
 
-flush_changes : (m t : State) (w : World) (i : ℕ) (h : Home) (old : Place) (v : Domain) (space : Space) → Quarantine m w → length m.homes ≡ 15 → i < length m.homes → home_of m.homes (i + 1) ≡ Some h → home_in (Some old) ≡ Some h
-    → Mirrors m.pool.words h v → Purges (IotlbDomain (i + 1)) m.unit.caches t.unit.caches → ReleasesAll m.pool h.space h.records t.pool space
-    → t.homes ≡ slice_set m.homes i (record old { space = space; records = [] }) → t.row ≡ m.row → ChangesDomain m t (i + 1) h (home_after h space []) v (flushed v)
-flush_changes m t w i h old v space q many less there in_old mirrors purges all homes row = record {
-  homes = λ e. ap (λ hs. home_of hs e) homes ∙ home_set m.homes i (record old { space = space; records = [] }) less e ∙ ap (λ o. put (i + 1) o (home_of m.homes) e) (settled old h space [] in_old);
+flush_changes : (m t : State) (w : World) (i : ℕ) (h : Domain) (v : world.Domain) (space : Space) → Quarantine m w → length m.domains ≡ 15 → i < length m.domains → domain_at m.domains (i + 1) ≡ Some h
+    → Mirrors m.pool.words h v → Purges (IotlbDomain (i + 1)) m.iommu.unit.caches t.iommu.unit.caches → ReleasesAll m.pool h.space h.records t.pool space
+    → t.domains ≡ slice_set m.domains i (Some (domain_after h space [])) → t.iommu.contexts ≡ m.iommu.contexts → ChangesDomain m t (i + 1) h (domain_after h space []) v (flushed v)
+flush_changes m t w i h v space q many less there mirrors purges all domains row = record {
+  domains = λ e. ap (λ hs. domain_at hs e) domains ∙ domain_set m.domains i (Some (domain_after h space [])) less e;
   row = row;
   root = refl;
   frames = all.frames;
@@ -152,10 +153,10 @@ flush_changes m t w i h old v space q many less there in_old mirrors purges all 
 }
 
 -- a flush: the descriptor was sent and done before the records came free
-pub domain_flushed : (m t : State) (w : World) (i n : ℕ) (h : Home) (old : Place) (v : Domain) (space : Space) → Quarantine m w → length m.homes ≡ 15 → i < length m.homes
-    → home_of m.homes (i + 1) ≡ Some h → home_in (Some old) ≡ Some h → w.domains (i + 1) ≡ Some v → t.unit.caches ≡ left_by_all (m.ring.waiting ++ IotlbDomain (i + 1) ∷ Wait n ∷ []) m.unit.caches
-    → ReleasesAll m.pool h.space h.records t.pool space → t.homes ≡ slice_set m.homes i (record old { space = space; records = [] }) → t.row ≡ m.row
+pub domain_flushed : (m t : State) (w : World) (i n : ℕ) (h : Domain) (v : world.Domain) (space : Space) → Quarantine m w → length m.domains ≡ 15 → i < length m.domains
+    → domain_at m.domains (i + 1) ≡ Some h → w.domains (i + 1) ≡ Some v → t.iommu.unit.caches ≡ left_by_all (m.iommu.ring.waiting ++ IotlbDomain (i + 1) ∷ Wait n ∷ []) m.iommu.unit.caches
+    → ReleasesAll m.pool h.space h.records t.pool space → t.domains ≡ slice_set m.domains i (Some (domain_after h space [])) → t.iommu.contexts ≡ m.iommu.contexts
     → Quarantine t (record w { domains = put (i + 1) (Some (flushed v)) w.domains })
-domain_flushed m t w i n h old v space q many less there in_old here caches all homes row =
-    changes_domain m t w (i + 1) h (home_after h space []) v (flushed v) q many there here
-    (flush_changes m t w i h old v space q many less there in_old (mirrors_of m w (i + 1) h v q there here) (purges_sent m.ring.waiting (IotlbDomain (i + 1)) n m.unit.caches t.unit.caches caches) all homes row)
+domain_flushed m t w i n h v space q many less there here caches all domains row =
+    changes_domain m t w (i + 1) h (domain_after h space []) v (flushed v) q many there here
+    (flush_changes m t w i h v space q many less there (mirrors_of m w (i + 1) h v q there here) (purges_sent m.iommu.ring.waiting (IotlbDomain (i + 1)) n m.iommu.unit.caches t.iommu.unit.caches caches) all domains row)

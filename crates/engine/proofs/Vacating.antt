@@ -1,7 +1,8 @@
 -- Pages of a domain that are unmapped, for good or put off, and retired ones that come free.
 use Rattle.std.proofs.Common.{◌≡◌, ℕ, ◌+◌, ◌-◌, ◌<◌, ◌≤◌, ◌⊎◌, inl, inr, List, [], ◌∷◌, ◌++◌, Option, Some, None, IsSome, refl, sym, ap, subst, ◌∙◌, arith}
 use Rattle.dmatypes.specs.Page.{Range, IsPage, IsPageRange, IsWithin}
-use Rattle.dmatypes.specs.World.{Domain, Target, Retired, IsIn, flushed, put_off, record_of, restricted, unmapped, without}
+use Rattle.dmatypes.specs.World.{Target, Retired, IsIn, flushed, put_off, record_of, restricted, unmapped, without}
+use Rattle.dmatypes.specs.World as world
 use Rattle.dmatypes.proofs.Ranges.{HasEnds, to_ends, within_is, within_not, within_or_not}
 use Rattle.iova.specs.declared.piece.PageState.{PageState}
 use Rattle.iova.specs.declared.piece.PageState.TheVariants.{Free, Live}
@@ -62,7 +63,7 @@ apart_last (x ∷ rs) r new old = (
 
 -- ---- live pages
 
-module _ (space : Space) (v : Domain) (range : Range) (parts : PartsPages space v) (live : AllIn Live range space.pieces) where
+module _ (space : Space) (v : world.Domain) (range : Range) (parts : PartsPages space v) (live : AllIn Live range space.pieces) where
   -- no record has a live page
   record_apart : (r : Retired) → IsIn r v.retired → AreApart r.range range
   record_apart r inside p in_record in_range = live_not_retired (state_at space.pieces p) (live p in_range) ((parts.retired p).1 (r, inside, in_record))
@@ -206,7 +207,7 @@ not_some None never = refl
 not_some (Some x) never = absurd (never refl)
 
 -- retired pages become free, and no other page changes
-pub pieces_flushed : (space space' : Space) (v : Domain) → PartsPages space v → IsSpace space' → space'.last ≡ space.last
+pub pieces_flushed : (space space' : Space) (v : world.Domain) → PartsPages space v → IsSpace space' → space'.last ≡ space.last
     → ((p : ℕ) → IsInRecord v p → state_at space'.pieces p ≡ Some Free) → ((p : ℕ) → (IsInRecord v p → ⊥) → state_at space'.pieces p ≡ state_at space.pieces p) → PartsPages space' (flushed v)
 pieces_flushed space space' v parts is last inside outside = record {
   is_space = is;

@@ -1,9 +1,11 @@
 -- How an unmap ends a range: in the tree and the address space, by what it sends to the unit, and what then comes
 -- free.
-use Rattle.std.specs.Prelude.{◌≡◌, ◌≢◌, ◌↔◌, ℕ, ◌+◌, ◌-◌, ◌<◌, ◌≤◌, ◌⊎◌, ◌++◌, Bool, true, false, IsTrue, not, ◌&&◌, List, [], ◌∷◌, length, reverse, take, Option, None, Some, Result, Ok, Err}
+use Rattle.std.specs.Prelude.{◌≡◌, ◌≢◌, ◌↔◌, ℕ, ◌+◌, ◌-◌, ◌<◌, ◌≤◌, ◌⊎◌, ◌++◌, Bool, true, false, IsTrue, not, ◌&&◌, List, [], ◌∷◌, length, reverse, take, Some, Result, Ok, Err}
 use Rattle.dmatypes.specs.Block.{Block, Holds, IsAligned}
 use Rattle.dmatypes.specs.Page.{Range, IsWithin}
 use Rattle.dmatypes.specs.World.{IsIn}
+use Rattle.dmatypes.specs.declared.page.TheConstants.{SPAN_PAGES}
+use Rattle.dmatypes.specs.declared.width.TheConstants.{LEVELS}
 use Rattle.dmatypes.specs.declared.call.Mode.{Mode}
 use Rattle.dmatypes.specs.declared.call.Mode.TheVariants.{Strict, Lazy}
 use Rattle.dmatypes.specs.declared.refusal.Refusal.{Refusal}
@@ -13,46 +15,50 @@ use Rattle.iova.specs.declared.piece.PageState.TheVariants.{Free, Live, Retired}
 use Rattle.iova.specs.declared.piece.Piece.{Piece}
 use Rattle.iova.specs.Pieces.{AllIn, piece_of, state_at}
 use Rattle.iova.specs.Space.{Space, IsSpace, IsTooMany, MayRetire}
-use Rattle.queue.specs.Ring.{Ring, ring_of}
+use Rattle.queue.specs.Ring.{ring_of}
 use Rattle.tables.specs.Changes.{IsApart, TakesAndGivesFrames, Stays, Unmaps}
 use Rattle.tables.specs.Lacks.{splits}
 use Rattle.tables.specs.Pool.{Pool, memory, occurs, word, IsPool, IsTree, IsZeroed}
 use Rattle.tables.specs.Tree.{uses}
 use Rattle.tables.specs.Cut.{Cut}
-use Rattle.unit.specs.Caches.{Caches, UnitState}
+use Rattle.unit.specs.Caches.{Caches}
 use Rattle.unit.specs.Filters.{left_by}
 use Rattle.vtdbits.specs.declared.descriptor.Descriptor.{Descriptor}
 use Rattle.vtdbits.specs.declared.descriptor.Descriptor.TheVariants.{IotlbDomain, IotlbPages, Wait}
 use Rattle.engine.specs.declared.record.Record.{Record}
 use Rattle.engine.specs.declared.iommu.Iommu.{Iommu}
-use Rattle.engine.specs.Homes.{Home, Place, held_in, record_for}
+use Rattle.engine.specs.Domains.{Domain, Parts, held_in}
 
 -- ---- in the tree and the address space
 
 -- how many leaves of 2 MiB an unmap splits
 abbrev pub leaves_split : Pool → ℕ → Range → ℕ
-leaves_split pool root range = splits (memory pool.words) 3 root range.first (range.first + range.pages)
+leaves_split pool root range = splits (memory pool.words) LEVELS root range.first (range.first + range.pages)
 
--- the pages of the range are retired in the space, and gone from the tree of the root; what was cut from it is
--- zeroed and neither free nor used
-pub record RetiresAndUnmaps (pool : Pool) (space : Space) (root : ℕ) (range : Range) (cut : Cut) (pool' : Pool) (space' : Space) : Type 0 where
-  pub may : MayRetire space.pieces range
-  pub retires : Retires space space' range
-  pub is_space : IsSpace space'
-  pub count : length pool'.free + leaves_split pool root range ≡ length pool.free
-  pub moves : TakesAndGivesFrames pool pool' 3 root cut.frames
-  pub unmaps : Unmaps pool pool' 3 root range.first (range.first + range.pages) cut.frames
-  pub split : IsTrue cut.split ↔ (0 < leaves_split pool root range)
+-- the pages of the record are retired in the domain's address space, and gone from its tree; what was cut from the
+-- tree is zeroed and neither free nor used. Nothing else of the domain changes
+pub record RetiresAndUnmaps (pool : Pool) (old : Domain) (r : Record) (pool' : Pool) (new : Domain) : Type 0 where
+  pub may : MayRetire old.space.pieces r.range
+  pub mark : r.mark ≡ old.begun
+  pub retires : Retires old.space new.space r.range
+  pub is_space : IsSpace new.space
+  pub count : length pool'.free + leaves_split pool old.root r.range ≡ length pool.free
+  pub moves : TakesAndGivesFrames pool pool' LEVELS old.root r.cut.frames
+  pub unmaps : Unmaps pool pool' LEVELS old.root r.range.first (r.range.first + r.range.pages) r.cut.frames
+  pub split : IsTrue r.cut.split ↔ (0 < leaves_split pool old.root r.range)
   pub is_pool : IsPool pool'
+  pub same : new ≡ record old { space = new.space }
 
 -- what an end is refused for: a page that isn't live, else a range that cuts a piece where there are more than 1,022,
 -- else more leaves to split than frames are free
-abbrev pub IsJudgedEnd : Pool → Space → ℕ → Range → Result (Unit {0}) Refusal → Type 0
-IsJudgedEnd pool space root range (Ok u) = MayRetire space.pieces range × (leaves_split pool root range ≤ length pool.free)
-IsJudgedEnd pool space root range (Err refusals.NotLive) = (p : ℕ) × IsWithin range p × (state_at space.pieces p ≢ Some Live)
-IsJudgedEnd pool space root range (Err refusals.TooManyPieces) = AllIn Live range space.pieces × IsTooMany space.pieces range
-IsJudgedEnd pool space root range (Err refusals.NoFrames) = MayRetire space.pieces range × (length pool.free < leaves_split pool root range)
-IsJudgedEnd pool space root range (Err _) = ⊥
+abbrev pub IsJudgedEnd : Pool → Domain → Range → Result (Unit {0}) Refusal → Type 0
+IsJudgedEnd pool domain range (Ok u) = MayRetire domain.space.pieces range × (leaves_split pool domain.root range ≤ length pool.free)
+IsJudgedEnd pool domain range (Err refusals.NotLive) =
+    (p : ℕ) × IsWithin range p × (state_at domain.space.pieces p ≢ Some Live)
+IsJudgedEnd pool domain range (Err refusals.TooManyPieces) = AllIn Live range domain.space.pieces × IsTooMany domain.space.pieces range
+IsJudgedEnd pool domain range (Err refusals.NoFrames) =
+    MayRetire domain.space.pieces range × (length pool.free < leaves_split pool domain.root range)
+IsJudgedEnd pool domain range (Err _) = ⊥
 
 -- ---- what is sent
 
@@ -89,22 +95,23 @@ abbrev pub taken_after : List Descriptor → List Descriptor → List Descriptor
 taken_after ds taken = reverse ds ++ take (256 - length ds) taken
 
 -- what waited, then the descriptor, then a wait were taken, in this order, and nothing else was; the unit has done as many
--- as were taken, each in a step of its own, with no other step, in at most 130
-pub record Invalidates (ring : Ring) (unit : UnitState) (sent : ℕ) (d : Descriptor) (ring' : Ring) (unit' : UnitState) (sent' : ℕ) : Type 0 where
-  pub number : sent' ≡ sent + 1
-  pub done : ring' ≡ ring_of [] sent' (taken_after (ring.waiting ++ d ∷ Wait sent' ∷ []) ring.taken)
-  pub caches : unit'.caches ≡ left_by_all (ring.waiting ++ d ∷ Wait sent' ∷ []) unit.caches
-  pub steps : unit'.steps ≡ unit.steps + (length ring.waiting + 2)
-  pub each : unit'.done ≡ unit.done + (length ring.waiting + 2)
-  pub few : length ring.waiting + 2 ≤ 130
+-- as were taken, each in a step of its own, with no other step, in at most 130; the row of context entries stays
+pub record Invalidates (old : Iommu) (d : Descriptor) (new : Iommu) : Type 0 where
+  pub number : new.sent ≡ old.sent + 1
+  pub done : new.ring ≡ ring_of [] new.sent (taken_after (old.ring.waiting ++ d ∷ Wait new.sent ∷ []) old.ring.taken)
+  pub caches : new.unit.caches ≡ left_by_all (old.ring.waiting ++ d ∷ Wait new.sent ∷ []) old.unit.caches
+  pub steps : new.unit.steps ≡ old.unit.steps + (length old.ring.waiting + 2)
+  pub each : new.unit.done ≡ old.unit.done + (length old.ring.waiting + 2)
+  pub few : length old.ring.waiting + 2 ≤ 130
+  pub contexts : new.contexts ≡ old.contexts
 
 -- ---- what comes free
 
--- the pages of the range, and the table frames that were cut
-pub record Releases (pool : Pool) (space : Space) (range : Range) (cut : Cut) (pool' : Pool) (space' : Space) : Type 0 where
-  pub frees : Frees space space' range Retired
+-- the pages of a record, and the table frames that were cut with them
+pub record Releases (pool : Pool) (space : Space) (r : Record) (pool' : Pool) (space' : Space) : Type 0 where
+  pub frees : Frees space space' r.range Retired
   pub is_space : IsSpace space'
-  pub free : (f : ℕ) → occurs f pool'.free ≡ occurs f pool.free + occurs f cut.frames
+  pub free : (f : ℕ) → occurs f pool'.free ≡ occurs f pool.free + occurs f r.cut.frames
   pub words : pool'.words ≡ pool.words
   pub frames : pool'.frames ≡ pool.frames
   pub is_pool : IsPool pool'
@@ -114,8 +121,10 @@ pub record ReleasesAll (pool : Pool) (space : Space) (records : List Record) (po
   pub is_space : IsSpace space'
   pub last : space'.last ≡ space.last
   pub inside : (r : Record) → IsIn r records → AllIn Free r.range space'.pieces
-  pub outside : (p : ℕ) → ((r : Record) → IsIn r records → IsWithin r.range p → ⊥) → state_at space'.pieces p ≡ state_at space.pieces p
-  pub in_use : (q : Piece) → q.state ≢ Free → (IsIn q space'.pieces ↔ (IsIn q space.pieces × ((r : Record) → IsIn r records → q ≢ piece_of r.range Retired)))
+  pub outside : (p : ℕ) → ((r : Record) → IsIn r records → IsWithin r.range p → ⊥)
+      → state_at space'.pieces p ≡ state_at space.pieces p
+  pub in_use : (q : Piece) → q.state ≢ Free
+      → (IsIn q space'.pieces ↔ (IsIn q space.pieces × ((r : Record) → IsIn r records → q ≢ piece_of r.range Retired)))
   pub fewer : length space'.pieces ≤ length space.pieces
   -- what could be retired still can be
   pub retirable : (other : Range) → MayRetire space.pieces other → MayRetire space'.pieces other
@@ -127,79 +136,76 @@ pub record ReleasesAll (pool : Pool) (space : Space) (records : List Record) (po
 
 -- ---- an unmap, whole
 
--- strict: the range is cut, the descriptor for it is sent and done, and what was cut is released
-pub record UnmapsStrictly (pool : Pool) (h : Home) (x : Iommu) (domain : ℕ) (range : Range) (pool' : Pool) (space' : Space) (x' : Iommu) : Type 0 where
-  pub cut : Cut
+-- strict: the range is retired and unmapped, the descriptor for it is sent and done, and what was cut is released
+pub record UnmapsStrictly (old : Parts) (id : ℕ) (range : Range) (new : Parts) : Type 0 where
+  pub retired : Record
+  pub of_range : retired.range ≡ range
   pub descriptor : Descriptor
   pub pool_between : Pool
-  pub space_between : Space
-  pub cuts : RetiresAndUnmaps pool h.space h.root range cut pool_between space_between
-  pub sent : IsSent domain range cut descriptor
-  pub invalidates : Invalidates x.ring x.unit x.sent descriptor x'.ring x'.unit x'.sent
-  pub releases : Releases pool_between space_between range cut pool' space'
+  pub between : Domain
+  pub retires : RetiresAndUnmaps old.pool old.domain retired pool_between between
+  pub sent : IsSent id retired.range retired.cut descriptor
+  pub invalidates : Invalidates old.iommu descriptor new.iommu
+  pub releases : Releases pool_between between.space retired new.pool new.domain.space
+  pub same : new.domain ≡ record between { space = new.domain.space }
 
 -- all that is remembered of the domain is invalidated, all records are released, and none is left
-pub record Flushes (pool : Pool) (space : Space) (records : List Record) (x : Iommu) (domain : ℕ) (pool' : Pool) (space' : Space) (records' : List Record) (x' : Iommu) : Type 0 where
-  pub invalidates : Invalidates x.ring x.unit x.sent (IotlbDomain domain) x'.ring x'.unit x'.sent
-  pub releases : ReleasesAll pool space records pool' space'
-  pub none : records' ≡ []
+pub record Flushes (old : Parts) (id : ℕ) (new : Parts) : Type 0 where
+  pub invalidates : Invalidates old.iommu (IotlbDomain id) new.iommu
+  pub releases : ReleasesAll old.pool old.domain.space old.domain.records new.pool new.domain.space
+  pub same : new.domain ≡ record old.domain { space = new.domain.space; records = [] }
 
 -- the tree of a root is gone: its frames are free and zeroed, and no other tree changed
 pub record Destroys (pool : Pool) (root : ℕ) (pool' : Pool) : Type 0 where
-  pub free : (f : ℕ) → occurs f pool'.free ≡ occurs f pool.free + uses (memory pool.words) 3 root f
-  pub words : (f k : ℕ) → k < 512 → uses (memory pool.words) 3 root f ≡ 0 → word pool'.words f k ≡ word pool.words f k
-  pub others : (level table : ℕ) → IsTree pool level table → IsApart pool 3 root level table → Stays pool pool' level table
+  pub free : (f : ℕ) → occurs f pool'.free ≡ occurs f pool.free + uses (memory pool.words) LEVELS root f
+  pub words : (f k : ℕ) → k < SPAN_PAGES → uses (memory pool.words) LEVELS root f ≡ 0
+      → word pool'.words f k ≡ word pool.words f k
+  pub others : (level table : ℕ) → IsTree pool level table → IsApart pool LEVELS root level table
+      → Stays pool pool' level table
   pub frames : pool'.frames ≡ pool.frames
   pub is_pool : IsPool pool'
 
 -- a domain ends: all records are flushed, and then its tree goes
-pub record Closes (pool : Pool) (h : Home) (x : Iommu) (domain : ℕ) (pool' : Pool) (space' : Space) (records' : List Record) (x' : Iommu) : Type 0 where
-  pub pool_between : Pool
-  pub flushes : Flushes pool h.space h.records x domain pool_between space' records' x'
-  pub destroys : Destroys pool_between h.root pool'
+pub record Closes (old : Parts) (id : ℕ) (pool' : Pool) (iommu' : Iommu) : Type 0 where
+  pub flushed : Parts
+  pub flushes : Flushes old id flushed
+  pub destroys : Destroys flushed.pool flushed.domain.root pool'
+  pub quiet : iommu' ≡ flushed.iommu
 
 -- there is room for one more record: with fewer than 256 nothing changes, else all are flushed
-pub record HasRoom (pool : Pool) (space : Space) (records : List Record) (x : Iommu) (released : ℕ) (pool' : Pool) (space' : Space) (records' : List Record) (x' : Iommu) : Type 0 where
-  pub some : length records ≢ 256
+pub record HasRoom (old : Parts) (released : ℕ) (new : Parts) : Type 0 where
+  pub some : length old.domain.records ≢ 256
   pub none : released ≡ 0
-  pub table_frames : pool' ≡ pool
-  pub pages : space' ≡ space
-  pub same : records' ≡ records
-  pub quiet : x' ≡ x
+  pub same : new ≡ old
 
-pub record Empties (pool : Pool) (space : Space) (records : List Record) (x : Iommu) (domain released : ℕ) (pool' : Pool) (space' : Space) (records' : List Record) (x' : Iommu) : Type 0 where
-  pub full : length records ≡ 256
+pub record Empties (old : Parts) (id released : ℕ) (new : Parts) : Type 0 where
+  pub full : length old.domain.records ≡ 256
   pub all : released ≡ 256
-  pub flushes : Flushes pool space records x domain pool' space' records' x'
+  pub flushes : Flushes old id new
 
-abbrev pub MakesRoom : Pool → Space → List Record → Iommu → ℕ → ℕ → Pool → Space → List Record → Iommu → Type 0
-MakesRoom pool space records x domain released pool' space' records' x' =
-    HasRoom pool space records x released pool' space' records' x' ⊎ Empties pool space records x domain released pool' space' records' x'
+abbrev pub MakesRoom : Parts → ℕ → ℕ → Parts → Type 0
+MakesRoom old id released new = HasRoom old released new ⊎ Empties old id released new
 
--- lazy: where there is room for a record, the range is cut, and what was cut is the last record
-pub record PutsOff (pool : Pool) (h : Home) (x : Iommu) (domain : ℕ) (range : Range) (released : ℕ) (pool' : Pool) (space' : Space) (records' : List Record) (x' : Iommu) : Type 0 where
-  pub pool_between : Pool
-  pub space_between : Space
-  pub records_between : List Record
-  pub room : MakesRoom pool h.space h.records x domain released pool_between space_between records_between x'
-  pub cut : Cut
-  pub cuts : RetiresAndUnmaps pool_between space_between h.root range cut pool' space'
-  pub records : records' ≡ records_between ++ record_for range h.begun cut ∷ []
+-- lazy: where there is room for a record, the range is retired and unmapped, and its record is the last
+pub record PutsOff (old : Parts) (id : ℕ) (range : Range) (released : ℕ) (new : Parts) : Type 0 where
+  pub roomy : Parts
+  pub room : MakesRoom old id released roomy
+  pub retired : Record
+  pub of_range : retired.range ≡ range
+  pub between : Domain
+  pub retires : RetiresAndUnmaps roomy.pool roomy.domain retired new.pool between
+  pub last : new.domain ≡ record between { records = between.records ++ retired ∷ [] }
+  pub quiet : new.iommu ≡ roomy.iommu
+
+abbrev pub ByMode : Mode → Type 0 → Type 0 → Type 0
+ByMode Strict P Q = P
+ByMode Lazy P Q = Q
 
 -- by the mode of the domain
-abbrev pub EndsBy : Mode → Pool → Home → Iommu → ℕ → Range → ℕ → Pool → Space → List Record → Iommu → Type 0
-EndsBy Strict pool h x domain range released pool' space' records' x' =
-    (released ≡ 0) × (records' ≡ h.records) × UnmapsStrictly pool h x domain range pool' space' x'
-EndsBy Lazy pool h x domain range released pool' space' records' x' = PutsOff pool h x domain range released pool' space' records' x'
+abbrev pub EndsBy : Parts → ℕ → Range → ℕ → Parts → Type 0
+EndsBy old id range released new = ByMode old.domain.mode ((released ≡ 0) × UnmapsStrictly old id range new) (PutsOff old id range released new)
 
--- what is answered, and what the table frames, the place of the domain and the unit are then
-abbrev pub IsUnmapped : Pool → Place → Home → Iommu → ℕ → Range → Result ℕ Refusal → Pool → Place → Iommu → Type 0
-IsUnmapped pool old h x domain range (Ok released) pool' new x' =
-    (new.tenant ≡ old.tenant) × IsJudgedEnd pool h.space h.root range (Ok tt)
-    × EndsBy h.mode pool h x domain range released pool' new.space new.records x'
-IsUnmapped pool old h x domain range (Err refusal) pool' new x' =
-    (pool' ≡ pool) × (new ≡ old) × (x' ≡ x) × IsJudgedEnd pool h.space h.root range (Err refusal)
-
-abbrev pub IsUnmappedIn : Pool → Place → Option Home → Iommu → ℕ → Range → Result ℕ Refusal → Pool → Place → Iommu → Type 0
-IsUnmappedIn pool old None x domain range answer pool' new x' = ⊥
-IsUnmappedIn pool old (Some h) x domain range answer pool' new x' = IsUnmapped pool old h x domain range answer pool' new x'
+-- what is answered, and what the table frames, the domain and the IOMMU are then
+abbrev pub IsUnmapped : Parts → ℕ → Range → Result ℕ Refusal → Parts → Type 0
+IsUnmapped old id range (Ok released) new = IsJudgedEnd old.pool old.domain range (Ok tt) × EndsBy old id range released new
+IsUnmapped old id range (Err refusal) new = (new ≡ old) × IsJudgedEnd old.pool old.domain range (Err refusal)

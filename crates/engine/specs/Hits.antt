@@ -3,7 +3,8 @@ use Rattle.std.specs.Prelude.{◌≡◌, ◌≤◌, ◌⊎◌, ℕ, Option, None
 use Rattle.dmatypes.specs.Allows.{domain_of_device, host_of}
 use Rattle.dmatypes.specs.Page.{page_of}
 use Rattle.dmatypes.specs.Rights.{Permits, bits_of}
-use Rattle.dmatypes.specs.World.{Domain, World, IsLive, IsRetired}
+use Rattle.dmatypes.specs.World.{World, IsLive, IsRetired}
+use Rattle.dmatypes.specs.World as world
 use Rattle.dmatypes.specs.declared.call.Access.{Access}
 use Rattle.dmatypes.specs.declared.call.Call.{Call}
 use Rattle.dmatypes.specs.declared.call.Call.TheVariants as calls
@@ -15,13 +16,13 @@ use Rattle.dmatypes.specs.declared.reply.Reply.{Reply}
 use Rattle.dmatypes.specs.declared.reply.Reply.TheVariants.{Host}
 use Rattle.unit.specs.declared.hit.Hit.{Hit}
 use Rattle.vtdbits.specs.Translation.{target}
-use Rattle.engine.specs.Homes.{Home}
+use Rattle.engine.specs.Domains.{Domain}
 use Rattle.engine.specs.State.{State}
 use Rattle.engine.specs.Quarantine.{Quarantine}
 
 -- the page of the address is live or in a record of the domain, with the frame and the rights of the hit, which has the
 -- right; the host address is in that frame
-pub record Has (v : Domain) (address : ℕ) (access : Access) (hit : Hit) : Type 0 where
+pub record Has (v : world.Domain) (address : ℕ) (access : Access) (hit : Hit) : Type 0 where
   pub page : IsLive v (page_of address) (target hit.frame (bits_of hit.rights)) ⊎ IsRetired v (page_of address) (target hit.frame (bits_of hit.rights))
   pub right : Permits (bits_of hit.rights) access
   pub host : hit.host ≡ host_of (target hit.frame (bits_of hit.rights)) address
@@ -48,6 +49,6 @@ hit_in (Ok (Ok hit)) = Some hit
 hit_in (Ok (Err fault)) = None
 hit_in (Err refusal) = None
 
-abbrev pub mode_of : Option Home → Option Mode
+abbrev pub mode_of : Option Domain → Option Mode
 mode_of None = None
-mode_of (Some h) = Some h.mode
+mode_of (Some domain) = Some domain.mode

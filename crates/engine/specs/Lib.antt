@@ -1,4 +1,4 @@
-pub mod Homes
+pub mod Domains
 pub mod Judged
 pub mod Placing
 pub mod Ending

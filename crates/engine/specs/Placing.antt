@@ -1,21 +1,22 @@
 -- How a map finds its place in a domain, and what it makes of the domain and of the table frames.
-use Rattle.std.specs.Prelude.{◌≡◌, ℕ, ◌+◌, ◌^◌, ◌<◌, List, [], Option, Some, None, Result, Ok, Err, length}
+use Rattle.std.specs.Prelude.{◌≡◌, ℕ, ◌+◌, ◌^◌, ◌<◌, List, [], Some, None, length}
 use Rattle.dmatypes.specs.declared.call.Segment.{Segment}
 use Rattle.dmatypes.specs.declared.refusal.Refusal.{Refusal}
 use Rattle.dmatypes.specs.declared.refusal.Refusal.TheVariants as refusals
 use Rattle.dmatypes.specs.Conditions.{total_pages}
 use Rattle.dmatypes.specs.World.{placed}
+use Rattle.dmatypes.specs.declared.width.TheConstants.{LEVELS}
 use Rattle.iova.specs.Changes.{Takes}
 use Rattle.iova.specs.declared.piece.PageState.TheVariants.{Free}
 use Rattle.iova.specs.declared.piece.Piece.{Piece}
 use Rattle.iova.specs.Pieces.{state_at}
-use Rattle.iova.specs.Space.{Space, IsFit, IsLowestFit, IsSpace, IsTooMany}
+use Rattle.iova.specs.Space.{IsFit, IsLowestFit, IsSpace, IsTooMany}
 use Rattle.tables.specs.Changes.{MakesTables, Maps, TakesAndGivesFrames}
 use Rattle.tables.specs.Lacks.{map_lacks}
 use Rattle.tables.specs.Pool.{Pool, memory, IsPool, IsTree}
 use Rattle.tables.specs.Segments.{is_large_at}
 use Rattle.tables.specs.Tree.{states}
-use Rattle.engine.specs.Homes.{Home, Place}
+use Rattle.engine.specs.Domains.{Domain}
 
 -- ---- the start
 
@@ -33,43 +34,46 @@ IsCrowded pieces pages order =
 
 -- how many a map of the segments at a start takes
 abbrev pub frames_taken : Pool → ℕ → List Segment → ℕ → ℕ
-frames_taken pool root segments start = map_lacks pool 3 root segments start
+frames_taken pool root segments start = map_lacks pool LEVELS root segments start
 
--- at the start of the space the tables that are lacking are more than the free frames
-abbrev pub IsShort : Pool → Space → ℕ → List Segment → ℕ → Type 0
-IsShort pool space root segments order =
-    (start : ℕ) × IsTaken space.pieces (total_pages segments) order start × (length pool.free < frames_taken pool root segments start)
+-- at the start of the domain's space the tables that are lacking are more than the free frames
+abbrev pub IsShort : Pool → Domain → List Segment → ℕ → Type 0
+IsShort pool domain segments order =
+    (start : ℕ) × IsTaken domain.space.pieces (total_pages segments) order start
+    × (length pool.free < frames_taken pool domain.root segments start)
 
 -- ---- the domain
 
 -- its tree is one of the pool, and maps no page that is free
-pub record CanPlace (pool : Pool) (space : Space) (root : ℕ) : Type 0 where
-  pub tree : IsTree pool 3 root
-  pub absent : (p : ℕ) → state_at space.pieces p ≡ Some Free → states (memory pool.words) 3 root p ≡ None
+pub record CanPlace (pool : Pool) (domain : Domain) : Type 0 where
+  pub tree : IsTree pool LEVELS domain.root
+  pub absent : (p : ℕ) → state_at domain.space.pieces p ≡ Some Free → states (memory pool.words) LEVELS domain.root p ≡ None
 
--- the pages of the segments are live at the lowest aligned start where they were free, and the tree of the root maps
--- them, one segment after the other; the table frames that it took were free
-pub record Places (pool : Pool) (space : Space) (root : ℕ) (segments : List Segment) (order rights first : ℕ) (pool' : Pool) (space' : Space) : Type 0 where
-  pub taken : IsTaken space.pieces (total_pages segments) order first
-  pub takes : Takes space space' (record { first = first; pages = total_pages segments })
-  pub is_space : IsSpace space'
-  pub count : length pool'.free + frames_taken pool root segments first ≡ length pool.free
-  pub moves : TakesAndGivesFrames pool pool' 3 root []
-  pub maps : Maps pool pool' 3 root first (first + total_pages segments) (placed segments first rights)
-  pub makes : MakesTables pool pool' 3 root first (first + total_pages segments) (is_large_at segments first)
+-- segments from a first page on, at a multiple of 2^`order` pages, with these rights
+pub record Placement : Type 0 where
+  pub segments : List Segment
+  pub order : ℕ
+  pub rights : ℕ
+  pub first : ℕ
+
+-- the pages of the segments are live at the lowest aligned start where they were free, and the domain's tree maps them,
+-- one segment after the other; the table frames that it took were free. Nothing else of the domain changes
+pub record Places (pool : Pool) (old : Domain) (at : Placement) (pool' : Pool) (new : Domain) : Type 0 where
+  pub taken : IsTaken old.space.pieces (total_pages at.segments) at.order at.first
+  pub takes : Takes old.space new.space (record { first = at.first; pages = total_pages at.segments })
+  pub is_space : IsSpace new.space
+  pub count : length pool'.free + frames_taken pool old.root at.segments at.first ≡ length pool.free
+  pub moves : TakesAndGivesFrames pool pool' LEVELS old.root []
+  pub maps : Maps pool pool' LEVELS old.root at.first (at.first + total_pages at.segments) (placed at.segments at.first at.rights)
+  pub makes : MakesTables pool pool' LEVELS old.root at.first (at.first + total_pages at.segments) (is_large_at at.segments at.first)
   pub is_pool : IsPool pool'
+  pub same : new ≡ record old { space = new.space }
 
--- what is answered, and what the table frames and the space are then
-abbrev pub IsPlaced : Pool → Space → ℕ → List Segment → ℕ → ℕ → Result ℕ Refusal → Pool → Space → Type 0
-IsPlaced pool space root segments order rights (Ok first) pool' space' = Places pool space root segments order rights first pool' space'
-IsPlaced pool space root segments order rights (Err refusals.NoRange) pool' space' =
-    (pool' ≡ pool) × (space' ≡ space) × ((start : ℕ) → IsFit space.pieces (total_pages segments) (2 ^ order) start → ⊥)
-IsPlaced pool space root segments order rights (Err refusals.TooManyPieces) pool' space' = (pool' ≡ pool) × (space' ≡ space) × IsCrowded space.pieces (total_pages segments) order
-IsPlaced pool space root segments order rights (Err refusals.NoFrames) pool' space' = (pool' ≡ pool) × (space' ≡ space) × IsShort pool space root segments order
-IsPlaced pool space root segments order rights (Err _) pool' space' = ⊥
-
--- the same of the place of a domain
-abbrev pub IsPlacedIn : Pool → Place → Option Home → List Segment → ℕ → ℕ → Result ℕ Refusal → Pool → Place → Type 0
-IsPlacedIn pool old None segments order rights answer pool' new = ⊥
-IsPlacedIn pool old (Some h) segments order rights answer pool' new =
-    (new.tenant ≡ old.tenant) × (new.records ≡ old.records) × IsPlaced pool h.space h.root segments order rights answer pool' new.space
+-- what a map of segments is refused for: no start, else a start where the range cuts a piece and there are more than
+-- 1,022, else more tables to make than frames are free
+abbrev pub IsUnplaced : Pool → Domain → List Segment → ℕ → Refusal → Type 0
+IsUnplaced pool domain segments order refusals.NoRange =
+    (start : ℕ) → IsFit domain.space.pieces (total_pages segments) (2 ^ order) start → ⊥
+IsUnplaced pool domain segments order refusals.TooManyPieces = IsCrowded domain.space.pieces (total_pages segments) order
+IsUnplaced pool domain segments order refusals.NoFrames = IsShort pool domain segments order
+IsUnplaced pool domain segments order _ = ⊥

@@ -4,7 +4,8 @@ use Rattle.std.specs.Prelude.{◌≡◌, ◌↔◌, ℕ, ◌+◌, ◌-◌, ◌^�
 use Rattle.dmatypes.specs.declared.call.Mode.TheVariants.{Strict}
 use Rattle.dmatypes.specs.declared.width.Width.TheVariants.{W39}
 use Rattle.dmatypes.specs.Page.{Range, IsPage, IsWithin}
-use Rattle.dmatypes.specs.World.{World, Domain, Retired, IsFree, IsIn, IsLive, IsRetired}
+use Rattle.dmatypes.specs.World.{World, Retired, IsFree, IsIn, IsLive, IsRetired}
+use Rattle.dmatypes.specs.World as world
 use Rattle.iova.specs.declared.piece.PageState.TheVariants.{Free, Live}
 use Rattle.iova.specs.declared.piece.PageState.TheVariants as pages
 use Rattle.iova.specs.Pieces.{piece_of, state_at}
@@ -16,7 +17,7 @@ use Rattle.vtdbits.specs.declared.context.ContextEntry.TheVariants.{Absent, Pres
 use Rattle.unit.specs.Caches.{Caches, Context, Leaf, NonLeaf}
 use Rattle.unit.specs.Walking.{stated_by}
 use Rattle.engine.specs.declared.record.Record.{Record}
-use Rattle.engine.specs.Homes.{Home, held_in, home_of}
+use Rattle.engine.specs.Domains.{Domain, held_in, domain_at}
 use Rattle.engine.specs.State.{State}
 
 -- ---- ids
@@ -33,7 +34,7 @@ abbrev pub marked_there : Retired → Marked
 marked_there r = record { range = r.range; mark = r.mark }
 
 -- the mode, the number of flushes begun, and the records' ranges and marks are the world's
-pub record IsOfDomain (h : Home) (v : Domain) : Type 0 where
+pub record IsOfDomain (h : Domain) (v : world.Domain) : Type 0 where
   pub mode : h.mode ≡ v.mode
   pub begun : h.begun ≡ v.begun
   pub records : map marked_here h.records ≡ map marked_there v.retired
@@ -41,13 +42,13 @@ pub record IsOfDomain (h : Home) (v : Domain) : Type 0 where
 -- ---- tree
 
 -- the meaning of the root is what is live
-abbrev pub MeansLive : List ℕ → ℕ → Domain → Type 0
+abbrev pub MeansLive : List ℕ → ℕ → world.Domain → Type 0
 MeansLive words root v = (p : ℕ) → p < 2 ^ 27 → states (memory words) 3 root p ≡ v.live p
 
 -- ---- pieces
 
 -- the page is in a record
-abbrev pub IsInRecord : Domain → ℕ → Type 0
+abbrev pub IsInRecord : world.Domain → ℕ → Type 0
 IsInRecord v p = (r : Retired) × IsIn r v.retired × IsWithin r.range p
 
 -- the ranges have no page in common
@@ -62,7 +63,7 @@ AllApart (r ∷ rs) = ((q : Retired) → IsIn q rs → AreApart r.range q.range)
 -- a page of the whole space lies in a free, live or retired piece exactly where it is free, live or in a record;
 -- the retired pieces are the records' ranges, no two of which have a page in common, and each record says what
 -- was mapped at its pages
-pub record PartsPages (space : Space) (v : Domain) : Type 0 where
+pub record PartsPages (space : Space) (v : world.Domain) : Type 0 where
   pub is_space : IsSpace space
   pub whole : space.last ≡ 2 ^ 27 - 1
   pub free : (p : ℕ) → (state_at space.pieces p ≡ Some Free) ↔ (IsPage p × IsFree v p)
@@ -73,13 +74,13 @@ pub record PartsPages (space : Space) (v : Domain) : Type 0 where
   pub told : (r : Retired) (p : ℕ) → IsIn r v.retired → IsWithin r.range p → IsSome (r.targets p)
 
 -- the domain of the state is the one of the world
-pub record Mirrors (words : List ℕ) (h : Home) (v : Domain) : Type 0 where
+pub record Mirrors (words : List ℕ) (h : Domain) (v : world.Domain) : Type 0 where
   pub ids : IsOfDomain h v
   pub tree : MeansLive words h.root v
   pub pieces : PartsPages h.space v
 
 -- a domain is there exactly where the world has one of this id
-abbrev pub MirrorsIfAny : List ℕ → Option Home → Option Domain → Type 0
+abbrev pub MirrorsIfAny : List ℕ → Option Domain → Option world.Domain → Type 0
 MirrorsIfAny words None None = Unit {0}
 MirrorsIfAny words None (Some v) = ⊥
 MirrorsIfAny words (Some h) None = ⊥
@@ -88,12 +89,12 @@ MirrorsIfAny words (Some h) (Some v) = Mirrors words h v
 -- ---- caches
 
 -- a domain of the state and of the world has the property
-abbrev pub InDomain : State → World → ℕ → (Home → Domain → Type 0) → Type 0
-InDomain m w d P = (h : Home) × (v : Domain) × (home_of m.homes d ≡ Some h) × (w.domains d ≡ Some v) × P h v
+abbrev pub InDomain : State → World → ℕ → (Domain → world.Domain → Type 0) → Type 0
+InDomain m w d P = (h : Domain) × (v : world.Domain) × (domain_at m.domains d ≡ Some h) × (w.domains d ≡ Some v) × P h v
 
 -- leaf: every page of a cached leaf is live or retired in its domain, with the frame and the rights that the leaf
 -- states; in a strict domain the leaf is one entry of its tree
-pub record IsLawfulLeaf (words : List ℕ) (l : Leaf) (h : Home) (v : Domain) : Type 0 where
+pub record IsLawfulLeaf (words : List ℕ) (l : Leaf) (h : Domain) (v : world.Domain) : Type 0 where
   pub stated : (p : ℕ) → l.first ≤ p → p < l.first + l.pages → IsLive v p (stated_by p l) ⊎ IsRetired v p (stated_by p l)
   pub entry : v.mode ≡ Strict → IsLeafAt (memory words) 3 h.root l.first l.pages l.frame l.rights
 
@@ -105,7 +106,7 @@ IsHeld words records first pages frame =
 
 -- non-leaf: a cached table is in use for its domain and span, or held, zeroed, by a record of that domain whose range
 -- covers the span
-pub record IsLawfulTable (words : List ℕ) (i : NonLeaf) (h : Home) (v : Domain) : Type 0 where
+pub record IsLawfulTable (words : List ℕ) (i : NonLeaf) (h : Domain) (v : world.Domain) : Type 0 where
   pub span : i.pages ≡ span i.level
   pub named : IsTableAt (memory words) 3 h.root i.first i.level i.frame ⊎ IsHeld words h.records i.first i.pages i.frame
 
@@ -123,33 +124,33 @@ attached (Some (Present root width domain)) = Some domain
 
 -- context: the row is the devices' attachments with their domains' roots, and each cached context is one of these
 pub record Attaches (m : State) (w : World) : Type 0 where
-  pub devices : (v : ℕ) → w.devices v ≡ attached (slice_get m.row v)
-  pub roots : (v root domain : ℕ) → slice_get m.row v ≡ Some (Present root W39 domain) → (h : Home) × (home_of m.homes domain ≡ Some h) × (h.root ≡ root)
-  pub cached : (x : Context) → IsIn x m.unit.caches.contexts → slice_get m.row x.device ≡ Some (Present x.root W39 x.domain)
+  pub devices : (v : ℕ) → w.devices v ≡ attached (slice_get m.iommu.contexts v)
+  pub roots : (v root domain : ℕ) → slice_get m.iommu.contexts v ≡ Some (Present root W39 domain) → (h : Domain) × (domain_at m.domains domain ≡ Some h) × (h.root ≡ root)
+  pub cached : (x : Context) → IsIn x m.iommu.unit.caches.contexts → slice_get m.iommu.contexts x.device ≡ Some (Present x.root W39 x.domain)
 
 -- ---- frames
 
 -- how often a domain has a frame: in its tree and in its records
-abbrev pub owned : Memory → Option Home → ℕ → ℕ
+abbrev pub owned : Memory → Option Domain → ℕ → ℕ
 owned m None f = 0
 owned m (Some h) f = uses m 3 h.root f + held_in h.records f
 
 -- frames: each is free, used by one tree in one place, or held by one record; they are those below the number of
 -- table frames, and the free and the held ones are zeroed
-pub record PartsFrames (pool : Pool) (homes : ℕ → Option Home) : Type 0 where
-  pub once : (f : ℕ) → f < pool.frames → total (λ d. owned (memory pool.words) (homes d) f) 16 + occurs f pool.free ≡ 1
-  pub past : (f : ℕ) → pool.frames ≤ f → total (λ d. owned (memory pool.words) (homes d) f) 16 + occurs f pool.free ≡ 0
+pub record PartsFrames (pool : Pool) (domains : ℕ → Option Domain) : Type 0 where
+  pub once : (f : ℕ) → f < pool.frames → total (λ d. owned (memory pool.words) (domains d) f) 16 + occurs f pool.free ≡ 1
+  pub past : (f : ℕ) → pool.frames ≤ f → total (λ d. owned (memory pool.words) (domains d) f) 16 + occurs f pool.free ≡ 0
   pub zeroed : (f : ℕ) → 0 < occurs f pool.free → IsZeroed pool.words f
-  pub held : (d f : ℕ) (h : Home) → homes d ≡ Some h → 0 < held_in h.records f → IsZeroed pool.words f
+  pub held : (d f : ℕ) (h : Domain) → domains d ≡ Some h → 0 < held_in h.records f → IsZeroed pool.words f
 
 -- ---- all parts
 
 pub record Quarantine (m : State) (w : World) : Type 0 where
   pub table_frames : w.table_frames ≡ m.pool.frames
-  pub domains : (d : ℕ) → MirrorsIfAny m.pool.words (home_of m.homes d) (w.domains d)
-  pub caches : AreLawful m w m.unit.caches
+  pub domains : (d : ℕ) → MirrorsIfAny m.pool.words (domain_at m.domains d) (w.domains d)
+  pub caches : AreLawful m w m.iommu.unit.caches
   pub contexts : Attaches m w
-  pub frames : PartsFrames m.pool (home_of m.homes)
+  pub frames : PartsFrames m.pool (domain_at m.domains)
   pub tickets : w.tickets ≡ []
 
 -- it is the state of some world

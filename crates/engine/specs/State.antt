@@ -1,5 +1,5 @@
 -- What contracts see of the state.
-use Rattle.std.specs.Prelude.{◌≡◌, ℕ, ◌+◌, ◌-◌, ◌^◌, ◌/◌, ◌<◌, ◌≤◌, List, [], replicate, IsSomeAnd, None, Some, length, slice_get, slice_set, Result, Ok, Err}
+use Rattle.std.specs.Prelude.{◌≡◌, ℕ, ◌+◌, ◌-◌, ◌/◌, ◌<◌, ◌≤◌, List, [], replicate, IsSomeAnd, Option, None, Some, length, slice_get, slice_set, Result, Ok, Err}
 use Rattle.dmatypes.specs.declared.call.Call.{Call}
 use Rattle.dmatypes.specs.declared.call.Call.TheVariants as calls
 use Rattle.dmatypes.specs.declared.refusal.Fault.{Fault}
@@ -7,16 +7,14 @@ use Rattle.dmatypes.specs.declared.refusal.Refusal.{Refusal}
 use Rattle.dmatypes.specs.declared.refusal.Refusal.TheVariants as refusals
 use Rattle.dmatypes.specs.declared.reply.Reply.{Reply}
 use Rattle.dmatypes.specs.declared.reply.Reply.TheVariants.{Made, Done, Mapped, Unmapped, Flushed, Host, Faulted, Refused}
+use Rattle.dmatypes.specs.declared.page.TheConstants.{PAGE_BYTES}
 use Rattle.dmatypes.specs.declared.width.Width.TheVariants.{W39}
-use Rattle.iova.specs.Space.{Space, new_space}
-use Rattle.queue.specs.Ring.{Ring, ring_of}
-use Rattle.tables.specs.declared.trees.Tree.{Tree}
+use Rattle.queue.specs.Ring.{ring_of}
 use Rattle.tables.specs.Pool.{Pool, memory, occurs, IsZeroed}
 use Rattle.tables.specs.Tree.{here}
 use Rattle.unit.specs.Answers.{Answers}
-use Rattle.unit.specs.Caches.{UnitState, nothing, unit_state, without}
+use Rattle.unit.specs.Caches.{nothing, unit_state, without}
 use Rattle.unit.specs.declared.hit.Hit.{Hit}
-use Rattle.vtdbits.specs.declared.context.ContextEntry.{ContextEntry}
 use Rattle.vtdbits.specs.declared.context.ContextEntry.TheVariants.{Absent, Present}
 use Rattle.dmatypes.specs.Conditions.{total_pages}
 use Rattle.dmatypes.specs.Page.{range_at}
@@ -25,18 +23,14 @@ use Rattle.tables.specs.Segments.{one_segment}
 use Rattle.vtdbits.specs.declared.descriptor.Descriptor.TheVariants.{ContextDevice}
 use Rattle.engine.specs.declared.iommu.Iommu.{Iommu}
 use Rattle.engine.specs.Ending.{Closes, EndsBy, Flushes, Invalidates, IsJudgedEnd}
-use Rattle.engine.specs.Homes.{Home, Place, home_of, vacant}
-use Rattle.engine.specs.Placing.{IsCrowded, IsShort, IsTaken, Places, frames_taken}
+use Rattle.engine.specs.Domains.{Domain, Parts, domain_at, new_domain, parts_of}
+use Rattle.engine.specs.Placing.{IsCrowded, IsShort, IsTaken, Placement, Places, frames_taken}
 
--- the table frames, the places of domains 1 to 15, the row of context entries, the ring, the unit, the number of
--- the last wait that was sent, and how many calls were made
+-- the table frames, domains 1 to 15, the row of context entries with the ring and the unit, and how many calls were made
 pub record State : Type 0 where
   pub pool : Pool
-  pub homes : List Place
-  pub row : List ContextEntry
-  pub ring : Ring
-  pub unit : UnitState
-  pub sent : ℕ
+  pub domains : List (Option Domain)
+  pub iommu : Iommu
   pub calls : ℕ
 
 -- all table frames are free and zeroed; there is no domain and no device, nothing waits and nothing is remembered
@@ -46,20 +40,22 @@ pub record IsNew (frames : ℕ) (m : State) : Type 0 where
   pub past : (f : ℕ) → frames ≤ f → occurs f m.pool.free ≡ 0
   pub count : length m.pool.free ≡ frames
   pub zeroed : (f : ℕ) → f < frames → IsZeroed m.pool.words f
-  pub homes_are : m.homes ≡ replicate 15 vacant
-  pub row_is : m.row ≡ replicate 16 Absent
-  pub ring_is : m.ring ≡ ring_of [] 0 []
-  pub unit_is : m.unit ≡ unit_state nothing 0 0
-  pub sent_is : m.sent ≡ 0
+  pub domains_are : m.domains ≡ replicate 15 None
+  pub contexts_are : m.iommu.contexts ≡ replicate 16 Absent
+  pub ring_is : m.iommu.ring ≡ ring_of [] 0 []
+  pub unit_is : m.iommu.unit ≡ unit_state nothing 0 0
+  pub sent_is : m.iommu.sent ≡ 0
   pub calls_are : m.calls ≡ 0
 
 -- a map takes the lowest start
 abbrev pub IsExactMap : State → ℕ → List Segment → ℕ → Reply → Type 0
 IsExactMap m domain segments order (Mapped address) =
-    IsSomeAnd (home_of m.homes domain) (λ h. IsTaken h.space.pieces (total_pages segments) order (address / 4096)
-    × (frames_taken m.pool h.root segments (address / 4096) ≤ length m.pool.free))
-IsExactMap m domain segments order (Refused refusals.TooManyPieces) = IsSomeAnd (home_of m.homes domain) (λ h. IsCrowded h.space.pieces (total_pages segments) order)
-IsExactMap m domain segments order (Refused refusals.NoFrames) = IsSomeAnd (home_of m.homes domain) (λ h. IsShort m.pool h.space h.root segments order)
+    IsSomeAnd (domain_at m.domains domain) (λ h. IsTaken h.space.pieces (total_pages segments) order (address / PAGE_BYTES)
+    × (frames_taken m.pool h.root segments (address / PAGE_BYTES) ≤ length m.pool.free))
+IsExactMap m domain segments order (Refused refusals.TooManyPieces) =
+    IsSomeAnd (domain_at m.domains domain) (λ h. IsCrowded h.space.pieces (total_pages segments) order)
+IsExactMap m domain segments order (Refused refusals.NoFrames) =
+    IsSomeAnd (domain_at m.domains domain) (λ h. IsShort m.pool h segments order)
 IsExactMap m domain segments order reply = Unit {0}
 
 -- what the model leaves open: a domain is refused for its root exactly where no frame is free; a map, which takes
@@ -72,11 +68,11 @@ Exact m (calls.Domain mode) (Refused refusals.NoFrames) = length m.pool.free ≡
 Exact m (calls.Map domain frame pages order rights) reply = IsExactMap m domain (one_segment frame pages) order reply
 Exact m (calls.MapList domain order rights segments) reply = IsExactMap m domain segments.items order reply
 Exact m (calls.Unmap domain address pages) (Unmapped released) =
-    IsSomeAnd (home_of m.homes domain) (λ h. IsJudgedEnd m.pool h.space h.root (range_at address pages) (Ok tt))
+    IsSomeAnd (domain_at m.domains domain) (λ h. IsJudgedEnd m.pool h (range_at address pages) (Ok tt))
 Exact m (calls.Unmap domain address pages) (Refused refusals.TooManyPieces) =
-    IsSomeAnd (home_of m.homes domain) (λ h. IsJudgedEnd m.pool h.space h.root (range_at address pages) (Err refusals.TooManyPieces))
+    IsSomeAnd (domain_at m.domains domain) (λ h. IsJudgedEnd m.pool h (range_at address pages) (Err refusals.TooManyPieces))
 Exact m (calls.Unmap domain address pages) (Refused refusals.NoFrames) =
-    IsSomeAnd (home_of m.homes domain) (λ h. IsJudgedEnd m.pool h.space h.root (range_at address pages) (Err refusals.NoFrames))
+    IsSomeAnd (domain_at m.domains domain) (λ h. IsJudgedEnd m.pool h (range_at address pages) (Err refusals.NoFrames))
 Exact m call (Refused refusals.NoFrames) = ⊥
 Exact m call reply = Unit {0}
 
@@ -96,64 +92,72 @@ abbrev pub host_in : Result Hit Fault → Result ℕ Fault
 host_in (Ok hit) = Ok hit.host
 host_in (Err f) = Err f
 
--- the ring, the unit and the number of the last wait
-abbrev pub iommu_of : State → Iommu
-iommu_of m = record { ring = m.ring; unit = m.unit; sent = m.sent }
-
--- the state with another place of a domain, and the table frames, ring and unit of a later one
-abbrev pub with_place : State → ℕ → Place → State → State
-with_place m domain new t = record m {
+-- the state with another domain of an id, or none, and the table frames and the IOMMU of a later one
+abbrev pub with_domain : State → ℕ → Option Domain → State → State
+with_domain m id new t = record m {
   pool = t.pool;
-  homes = slice_set m.homes (domain - 1) new;
-  ring = t.ring;
-  unit = t.unit;
-  sent = t.sent;
+  domains = slice_set m.domains (id - 1) new;
+  iommu = t.iommu;
   calls = m.calls + 1;
 }
 
 -- a map changes its domain and the table frames alone, as it takes its range and maps it
-abbrev pub BecomesMapped : State → ℕ → List Segment → ℕ → ℕ → ℕ → State → Type 0
-BecomesMapped m domain segments order rights address t =
-    (h : Home) × (old : Place) × (space : Space) × (home_of m.homes domain ≡ Some h) × (slice_get m.homes (domain - 1) ≡ Some old)
-    × Places m.pool h.space h.root segments order rights (address / 4096) t.pool space
-    × (t ≡ record m { pool = t.pool; homes = slice_set m.homes (domain - 1) (record old { space = space }); calls = m.calls + 1 })
+abbrev pub BecomesMapped : State → ℕ → Placement → State → Type 0
+BecomesMapped m domain at t =
+    (old : Domain) × (new : Domain) × (domain_at m.domains domain ≡ Some old) × Places m.pool old at t.pool new
+    × (t ≡ record m { pool = t.pool; domains = slice_set m.domains (domain - 1) (Some new); calls = m.calls + 1 })
 
--- what becomes of the state: a new domain has a whole space and an empty tree at its place, an attached device its
--- entry, and a detached one none; a drop and a flush change the place of their domain, the table frames and the unit,
--- and so does an unmap, as it ends its range by the domain's mode; a request and an eviction what the unit remembers;
--- nothing else changes, but for the count of calls
+-- the parts of the state that a call of this domain works on
+abbrev pub parts_in : State → Domain → Parts
+parts_in m domain = parts_of m.pool domain m.iommu
+
+-- what becomes of the state: a new domain has a whole space and an empty tree, an attached device its entry, and a
+-- detached one none; a drop, a flush and an unmap change their domain, the table frames and the IOMMU, an unmap as it ends
+-- its range by the domain's mode; a request and an eviction what the unit remembers; nothing else changes, but for the
+-- count of calls
 unfoldable pub Becomes : State → Call → Reply → State → Type 0
 Becomes m (calls.Domain mode) (Made d) t =
-    (tree : Tree) × TakesRoot m.pool t.pool tree.root
+    (root : ℕ) × TakesRoot m.pool t.pool root
+    × (t ≡ record m { pool = t.pool; domains = slice_set m.domains (d - 1) (Some (new_domain mode root)); calls = m.calls + 1 })
+Becomes m (calls.Attach device domain) Done t =
+    (h : Domain) × (domain_at m.domains domain ≡ Some h)
     × (t ≡ record m {
-      pool = t.pool;
-      homes = slice_set m.homes (d - 1) (record { space = new_space (2 ^ 27 - 1); tenant = Some (record { mode = mode; begun = 0; tree = tree }); records = [] });
+      iommu = record m.iommu { contexts = slice_set m.iommu.contexts device (Present h.root W39 domain) };
       calls = m.calls + 1;
     })
-Becomes m (calls.Attach device domain) Done t =
-    (h : Home) × (home_of m.homes domain ≡ Some h)
-    × (t ≡ record m { row = slice_set m.row device (Present h.root W39 domain); calls = m.calls + 1 })
 Becomes m (calls.Drop domain) Done t =
-    (h : Home) × (old : Place) × (new : Place) × (home_of m.homes domain ≡ Some h) × (slice_get m.homes (domain - 1) ≡ Some old) × (new.tenant ≡ None)
-    × Closes m.pool h (iommu_of m) domain t.pool new.space new.records (iommu_of t) × (t ≡ with_place m domain new t)
+    (old : Domain) × (domain_at m.domains domain ≡ Some old)
+    × Closes (parts_in m old) domain t.pool t.iommu × (t ≡ with_domain m domain None t)
 Becomes m (calls.Detach device) Done t =
-    (domain : ℕ) × (root : ℕ) × (slice_get m.row device ≡ Some (Present root W39 domain)) × Invalidates m.ring m.unit m.sent (ContextDevice domain device) t.ring t.unit t.sent
-    × (t ≡ record m { row = slice_set m.row device Absent; ring = t.ring; unit = t.unit; sent = t.sent; calls = m.calls + 1 })
-Becomes m (calls.Map domain frame pages order rights) (Mapped address) t = BecomesMapped m domain (one_segment frame pages) order rights address t
-Becomes m (calls.MapList domain order rights segments) (Mapped address) t = BecomesMapped m domain segments.items order rights address t
+    (domain : ℕ) × (root : ℕ) × (slice_get m.iommu.contexts device ≡ Some (Present root W39 domain))
+    × Invalidates (record m.iommu { contexts = slice_set m.iommu.contexts device Absent }) (ContextDevice domain device) t.iommu
+    × (t ≡ record m { iommu = t.iommu; calls = m.calls + 1 })
+Becomes m (calls.Map domain frame pages order rights) (Mapped address) t =
+    BecomesMapped m domain
+    (record { segments = one_segment frame pages; order = order; rights = rights; first = address / PAGE_BYTES }) t
+Becomes m (calls.MapList domain order rights segments) (Mapped address) t =
+    BecomesMapped m domain (record { segments = segments.items; order = order; rights = rights; first = address / PAGE_BYTES }) t
 Becomes m (calls.Flush domain) (Flushed released) t =
-    (h : Home) × (old : Place) × (new : Place) × (home_of m.homes domain ≡ Some h) × (slice_get m.homes (domain - 1) ≡ Some old) × (new.tenant ≡ old.tenant)
-    × Flushes m.pool h.space h.records (iommu_of m) domain t.pool new.space new.records (iommu_of t) × (t ≡ with_place m domain new t)
+    (old : Domain) × (new : Domain) × (domain_at m.domains domain ≡ Some old)
+    × Flushes (parts_in m old) domain (parts_in t new) × (t ≡ with_domain m domain (Some new) t)
 Becomes m (calls.Unmap domain address pages) (Unmapped released) t =
-    (h : Home) × (old : Place) × (new : Place) × (home_of m.homes domain ≡ Some h) × (slice_get m.homes (domain - 1) ≡ Some old) × (new.tenant ≡ old.tenant)
-    × EndsBy h.mode m.pool h (iommu_of m) domain (range_at address pages) released t.pool new.space new.records (iommu_of t)
-    × (t ≡ with_place m domain new t)
+    (old : Domain) × (new : Domain) × (domain_at m.domains domain ≡ Some old)
+    × EndsBy (parts_in m old) domain (range_at address pages) released (parts_in t new)
+    × (t ≡ with_domain m domain (Some new) t)
 Becomes m (calls.Dma device address access whim) (Refused refusal) t = t ≡ record m { calls = m.calls + 1 }
 Becomes m (calls.Dma device address access whim) reply t =
     (answer : Result Hit Fault) × (reply ≡ reached_reply (host_in answer))
-    × Answers (memory m.pool.words) m.row whim.look whim.fill device address access m.unit.caches t.unit.caches answer
-    × (t ≡ record m { unit = unit_state t.unit.caches m.unit.steps m.unit.done; calls = m.calls + 1 })
-Becomes m (calls.Evict kind place) Done t = t ≡ record m { unit = unit_state (without kind place m.unit.caches) m.unit.steps m.unit.done; calls = m.calls + 1 }
+    × Answers (memory m.pool.words) m.iommu.contexts whim.look whim.fill device address access
+      m.iommu.unit.caches t.iommu.unit.caches answer
+    × (t ≡ record m {
+      iommu = record m.iommu { unit = unit_state t.iommu.unit.caches m.iommu.unit.steps m.iommu.unit.done };
+      calls = m.calls + 1;
+    })
+Becomes m (calls.Evict kind place) Done t =
+    t ≡ record m {
+      iommu = record m.iommu { unit = unit_state (without kind place m.iommu.unit.caches) m.iommu.unit.steps m.iommu.unit.done };
+      calls = m.calls + 1;
+    }
 Becomes m call reply t = t ≡ record m { calls = m.calls + 1 }
 
 -- ---- the methods' answers, as replies

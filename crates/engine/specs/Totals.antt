@@ -6,7 +6,7 @@ use Rattle.iova.specs.declared.piece.Piece.{Piece}
 use Rattle.engine.specs.declared.record.Record.{Record}
 use Rattle.engine.specs.declared.state.totals.DomainTotals.{DomainTotals}
 use Rattle.engine.specs.declared.state.totals.Totals.{Totals}
-use Rattle.engine.specs.Homes.{Home, Place}
+use Rattle.engine.specs.Domains.{Domain}
 use Rattle.engine.specs.State.{State}
 
 -- so many pages, where they are live
@@ -26,25 +26,32 @@ live_pages pieces = sum_by live_in pieces
 abbrev pub held_by : List Record → ℕ
 held_by records = sum_by (λ (r : Record). length r.cut.frames) records
 
--- how many table frames the records of all domains hold
-abbrev pub held_by_all : List Place → ℕ
-held_by_all homes = sum_by (λ (p : Place). held_by p.records) homes
+-- how many table frames the records of a domain that may be there hold, and those of all domains
+abbrev pub held_by_any : Option Domain → ℕ
+held_by_any None = 0
+held_by_any (Some domain) = held_by domain.records
+
+abbrev pub held_by_all : List (Option Domain) → ℕ
+held_by_all domains = sum_by held_by_any domains
 
 -- the table frames that are free, and that records hold; the others are used. No call opens a ticket yet
 abbrev pub totals_of : State → Totals
 totals_of m = record {
   free = length m.pool.free;
-  used = m.pool.frames - length m.pool.free - held_by_all m.homes;
-  held = held_by_all m.homes;
+  used = m.pool.frames - length m.pool.free - held_by_all m.domains;
+  held = held_by_all m.domains;
   tickets = 0;
-  pending = length m.ring.waiting;
+  pending = length m.iommu.ring.waiting;
 }
 
-abbrev pub domain_totals_of : Option Home → Option DomainTotals
+abbrev pub totals_of_domain : Domain → DomainTotals
+totals_of_domain domain = record {
+  mode = domain.mode;
+  live = live_pages domain.space.pieces;
+  retired = length domain.records;
+  pieces = length domain.space.pieces;
+}
+
+abbrev pub domain_totals_of : Option Domain → Option DomainTotals
 domain_totals_of None = None
-domain_totals_of (Some h) = Some (record {
-  mode = h.mode;
-  live = live_pages h.space.pieces;
-  retired = length h.records;
-  pieces = length h.space.pieces;
-})
+domain_totals_of (Some domain) = Some (totals_of_domain domain)

@@ -1,16 +1,30 @@
 -- What the type of a state keeps.
-use Rattle.std.specs.Prelude.{◌≡◌, ℕ, ◌*◌, ◌≤◌, [], length}
+use Rattle.std.specs.Prelude.{◌≡◌, ℕ, ◌+◌, ◌*◌, ◌≤◌, [], List, Option, None, Some, length, sum_by}
+use Rattle.engine.specs.Domains.{Domain}
 use Rattle.engine.specs.State.{State}
 use Rattle.engine.specs.Quarantine.{IsOfSomeWorld}
 
--- it is a state of some world, with the places of domains 1 to 15, the entries of devices 0 to 15 and so many table
--- frames; nothing waits between calls; no more waits were sent than calls made, and 130 steps of the unit for each
+-- how many domains there are
+abbrev pub one_if_there : Option Domain → ℕ
+one_if_there None = 0
+one_if_there (Some domain) = 1
+
+abbrev pub domain_count : List (Option Domain) → ℕ
+domain_count domains = sum_by one_if_there domains
+
+-- so many rooms, one for each place with no domain; their stack has room for all
+pub record HasRooms (rooms capacity : ℕ) (domains : List (Option Domain)) : Type 0 where
+  pub count : rooms + domain_count domains ≡ 15
+  pub roomy : 15 ≤ capacity
+
+-- it is a state of some world, with places for domains 1 to 15, the entries of devices 0 to 15 and so many table frames;
+-- nothing waits between calls; no more waits were sent than calls made, and 130 steps of the unit for each
 pub record IsWhole (frames : ℕ) (m : State) : Type 0 where
   pub of_world : IsOfSomeWorld m
-  pub places : length m.homes ≡ 15
-  pub devices : length m.row ≡ 16
+  pub places : length m.domains ≡ 15
+  pub devices : length m.iommu.contexts ≡ 16
   pub frames_are : frames ≡ m.pool.frames
-  pub idle : m.ring.waiting ≡ []
-  pub status : m.ring.status ≤ m.sent
-  pub sent : m.sent ≤ m.calls
-  pub steps : m.unit.steps ≤ 130 * m.calls
+  pub idle : m.iommu.ring.waiting ≡ []
+  pub status : m.iommu.ring.status ≤ m.iommu.sent
+  pub sent : m.iommu.sent ≤ m.calls
+  pub steps : m.iommu.unit.steps ≤ 130 * m.calls

@@ -1,58 +1,76 @@
-//! The unit and the ring before it, as the manager uses them.
+//! The row of context entries, the ring and the unit that reads both, as the manager uses them.
 
-ghost use Rattle.std.specs.Prelude.{◌≡◌, ℕ, ◌+◌, ◌<◌, ◌≤◌, ◌^◌, ◌∷◌, [], Some, slice_get, take};
-ghost use Rattle.engine.specs.Ending.{Invalidates, left_by_all};
-ghost use Rattle.engine.specs.Ready.{IsOfIotlb, IsReady};
+ghost use Rattle.std.specs.Prelude.{◌≡◌, ℕ, ◌+◌, ◌<◌, ◌≤◌, ◌^◌, ◌∷◌, [], Some, replicate, slice_get, take};
+ghost use Rattle.engine.specs.Ending.{Invalidates, IsSent, left_by_all};
+ghost use Rattle.engine.specs.Ready.{IsCleared, IsReady};
 ghost use Rattle.queue.specs.Ring.{ring_of};
 ghost use Rattle.unit.specs.Caches.{nothing, unit_state};
 ghost use Rattle.unit.specs.Filters.{status_after};
-ghost use Rattle.vtdbits.specs.declared.descriptor.Descriptor.TheVariants.{ContextDevice, Wait};
+ghost use Rattle.vtdbits.specs.declared.descriptor.Descriptor.{Descriptor};
+ghost use Rattle.vtdbits.specs.declared.descriptor.Descriptor.TheVariants.{ContextDevice, IotlbDomain, Wait};
 
+use crate::record::Record;
+use crate::sending::descriptor_of;
 use queue::Ring;
+use tables::{Pool, Tree};
 use unit::{Contexts, Unit};
 use vtdbits::{ContextEntry, Descriptor, DeviceNumber, DomainId};
 
-/// The ring of descriptors, the unit that takes from it, and the number of the last wait that was sent.
+/// The row of context entries, the ring of descriptors, the unit that reads both, and the number of the last wait that
+/// was sent.
 #[derive(Drop)]
 pub(crate) struct Iommu {
+    pub(crate) contexts: Contexts,
     pub(crate) ring: Ring,
     pub(crate) unit: Unit,
     pub(crate) sent: u32,
 }
 
 impl Iommu {
-    /// Nothing waits, and the unit remembers nothing.
+    /// No device is attached, nothing waits, and the unit remembers nothing.
     pub(crate) fn new() -> Iommu
-        ensures { result ≡ record { ring = ring_of [] 0 []; unit = unit_state nothing 0 0; sent = 0 } }
+        ensures { result ≡ record { contexts = replicate 16 ContextEntry.Absent; ring = ring_of [] 0 []; unit = unit_state nothing 0 0; sent = 0 } }
     {
         Iommu {
+            contexts: Contexts::new(),
             ring: Ring::new(),
             unit: Unit::new(),
             sent: 0,
         }
     }
 
-    /// Has the unit forget what an IOTLB descriptor names: sends it and then a wait, and runs the unit until the wait is
-    /// done. Nothing waits before, and nothing waits then.
-    pub(crate) fn invalidate(&mut self, descriptor: Descriptor)
+    /// Has the unit forget the pages of a retired record, and what it remembers of the tables that were cut with them: sends
+    /// the descriptor that covers them and then a wait, and runs the unit until the wait is done. Nothing waits before, and
+    /// nothing waits then. The domain's tree states none of the pages any more: a request could bring them back before.
+    pub(crate) fn invalidate_pages(
+        &mut self,
+        domain: DomainId,
+        retired: &Record,
+        pool: &Pool,
+        tree: &Tree,
+    )
         requires ready { IsReady self.old }
-        requires iotlb { IsOfIotlb descriptor }
-        ensures { Invalidates self.old.ring self.old.unit self.old.sent descriptor self.new.ring self.new.unit self.new.sent }
+        requires cleared { IsCleared pool.now tree.now.root retired.now.range }
+        ensures { (descriptor : Descriptor) × IsSent domain retired.now.range retired.now.cut descriptor
+            × Invalidates self.old descriptor self.new }
     {
-        self.send(descriptor);
+        self.send(descriptor_of(domain, retired.range, &retired.cut));
+    }
+
+    /// Has the unit forget all that it remembers of a domain's pages and tables in the same way.
+    pub(crate) fn invalidate_domain(&mut self, domain: DomainId)
+        requires ready { IsReady self.old }
+        ensures { Invalidates self.old (IotlbDomain domain) self.new }
+    {
+        self.send(Descriptor::IotlbDomain(domain));
     }
 
     /// Has the unit forget the context of a device of a domain in the same way, once the row's entry of the device is
     /// absent: a request could bring the context back before.
-    pub(crate) fn forget_context(
-        &mut self,
-        contexts: &Contexts,
-        domain: DomainId,
-        device: DeviceNumber,
-    )
+    pub(crate) fn forget_context(&mut self, domain: DomainId, device: DeviceNumber)
         requires ready { IsReady self.old }
-        requires absent { slice_get contexts.now device ≡ Some ContextEntry.Absent }
-        ensures { Invalidates self.old.ring self.old.unit self.old.sent (ContextDevice domain device) self.new.ring self.new.unit self.new.sent }
+        requires absent { slice_get self.old.contexts device ≡ Some ContextEntry.Absent }
+        ensures { Invalidates self.old (ContextDevice domain device) self.new }
     {
         self.send(Descriptor::ContextDevice { domain, device });
     }
@@ -62,7 +80,7 @@ impl Iommu {
     fn send(&mut self, descriptor: Descriptor)
         requires ready { IsReady self.old }
         requires no_wait { (status : ℕ) → status_after descriptor status ≡ status }
-        ensures { Invalidates self.old.ring self.old.unit self.old.sent descriptor self.new.ring self.new.unit self.new.sent }
+        ensures { Invalidates self.old descriptor self.new }
     {
         self.sent += 1;
         work_off(&mut self.ring, &mut self.unit, self.sent, descriptor);

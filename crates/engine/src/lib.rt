@@ -2,10 +2,11 @@
 //! attached to them. Each method of the state is a step of the model.
 #![tactic(auto)]
 
-mod home;
+mod domain;
 mod iommu;
 mod record;
 mod request;
+mod room;
 mod sending;
 mod state;
 mod wanted;

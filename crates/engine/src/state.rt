@@ -1,23 +1,28 @@
 //! The sequential manager, one method a call.
 
-ghost use Rattle.std.specs.Prelude.{◌≡◌, ◌+◌, ◌%◌, ◌<◌, ◌≤◌, ◌^◌, ◌==◌, ℕ, IfOk, IfSome, IfNone, IsSomeAnd, length, slice_get, replicate, Some, None, IsSome, IsFalse, IsTrue, ◌↔◌};
+ghost use Rattle.std.specs.Prelude.{◌≡◌, ◌+◌, ◌%◌, ◌<◌, ◌≤◌, ◌^◌, ◌==◌, ℕ, IfOk, IfSome, IfNone, IsSomeAnd, length, slice_get, replicate, vec_capacity, vec_len, Some, None, IsSome, IsFalse, IsTrue, ◌↔◌};
 ghost use Rattle.dmatypes.specs.Conditions.{IsBadUnmap};
 ghost use Rattle.dmatypes.specs.Page.{IsInWindow, IsPageRange, range_at};
 ghost use Rattle.dmatypes.specs.World.{World, empty};
+ghost use Rattle.dmatypes.specs.declared.page.TheConstants.{PAGE_BYTES};
 ghost use Rattle.dmatypes.specs.declared.call.Call.TheVariants as calls;
 ghost use Rattle.dmatypes.specs.declared.reply.Reply.TheVariants.{Done};
-ghost use Rattle.engine.specs.Homes.{home_of, home_in, vacant};
+ghost use Rattle.engine.specs.Domains.{domain_at};
 ghost use Rattle.engine.specs.Hits.{IsHitIn, IsHitOf, IsNoRequest, hit_in};
 ghost use Rattle.engine.specs.State.{IsNew, done_reply, flushed_reply, unmapped_reply, made_reply, mapped_reply, request_reply};
 ghost use Rattle.engine.specs.Quarantine.{Quarantine, attached};
 ghost use Rattle.engine.specs.Steps.{Does};
 ghost use Rattle.engine.specs.Whole.{IsWhole};
 
-use crate::home::Home;
+use crate::domain::Domain;
 use crate::iommu::Iommu;
 use crate::request::judge;
+use crate::room::Room;
 use arrayvec::ArrayVec;
-use dmatypes::{Access, Cache, Call, Fault, Mode, PageRange, Refusal, Reply, Segment, Whim, Width};
+use dmatypes::{
+    Access, Cache, Call, Fault, Mode, PAGE_BYTES, PageRange, Refusal, Reply, Segment, WINDOW_FIRST,
+    WINDOW_LAST, Whim, Width,
+};
 use std::alloc::{AllocError, Global};
 use std::marker::Model;
 use tables::{NoFrames, Pool, Tree};
@@ -36,27 +41,29 @@ pub struct Answer {
     pub hit: Option<Hit>,
 }
 
-/// Table frames, domains, the row of context entries, the ring and the unit, and the number of calls made. Its type
-/// keeps that it is a state of some world.
+/// Table frames, domains and the rooms of those that aren't there, the row of context entries with the ring and the unit,
+/// and the number of calls made. Its type keeps that it is a state of some world.
 #[derive(Drop)]
 pub struct State {
     frames: u64,
     pool: Pool,
-    homes: Vec<Home>,
-    contexts: Contexts,
+    domains: Vec<Option<Domain>>,
+    rooms: Vec<Room>,
     iommu: Iommu,
     calls: u64,
 }
 
 impl Model for State {
+    ghost use Rattle.std.specs.Prelude.{vec_capacity, vec_len};
     ghost use Rattle.engine.specs.State.{State};
-    ghost use Rattle.engine.specs.Whole.{IsWhole};
+    ghost use Rattle.engine.specs.Whole.{HasRooms, IsWhole};
 
     ghost Value = { State };
 
-    ghost view = { λ s. record { pool = s.pool; homes = s.homes.items; row = s.contexts; ring = s.iommu.ring; unit = s.iommu.unit; sent = s.iommu.sent; calls = s.calls } };
+    ghost view = { λ s. record { pool = s.pool; domains = s.domains.items; iommu = s.iommu; calls = s.calls } };
 
-    ghost invariant = { λ s. IsWhole s.frames (record { pool = s.pool; homes = s.homes.items; row = s.contexts; ring = s.iommu.ring; unit = s.iommu.unit; sent = s.iommu.sent; calls = s.calls }) };
+    ghost invariant = { λ s. IsWhole s.frames (record { pool = s.pool; domains = s.domains.items; iommu = s.iommu; calls = s.calls })
+        × HasRooms (vec_len s.rooms) (vec_capacity s.rooms) s.domains.items };
 }
 
 impl State {
@@ -70,8 +77,8 @@ impl State {
         Ok(State {
             frames,
             pool: Pool::new(alloc, frames)?,
-            homes: vacant_homes(alloc)?,
-            contexts: Contexts::new(),
+            domains: no_domains(alloc)?,
+            rooms: all_rooms(alloc)?,
             iommu: Iommu::new(),
             calls: 0,
         })
@@ -84,14 +91,15 @@ impl State {
         ensures { Does self.old (calls.Domain mode) (made_reply result) self.new }
     {
         self.calls += 1;
-        let Some(index) = first_vacant(self.homes.as_slice()) else {
+        let Some(index) = first_vacant(self.domains.as_slice()) else {
             return Err(Refusal::TooManyDomains);
         };
         let tree = match Tree::new(&mut self.pool) {
             Ok(tree) => tree,
             Err(NoFrames) => return Err(Refusal::NoFrames),
         };
-        self.homes[index].open(mode, tree);
+        let room = self.rooms.pop().unwrap();
+        self.domains[index] = Some(Domain::new(mode, tree, room));
         Ok(index as u64 + 1)
     }
 
@@ -105,18 +113,21 @@ impl State {
         if device > 15 {
             return Err(Refusal::NoDevice);
         }
-        let Some(index) = index_of(self.homes.as_slice(), domain) else {
+        let Some(id) = DomainId::new(domain) else {
             return Err(Refusal::NoDomain);
         };
-        let ContextEntry::Absent = self.contexts.get(device) else {
+        let Some(domain) = &self.domains[place_of(id)] else {
+            return Err(Refusal::NoDomain);
+        };
+        let ContextEntry::Absent = self.iommu.contexts.get(device) else {
             return Err(Refusal::Busy);
         };
         let entry = ContextEntry::Present {
-            root: self.homes[index].root(),
+            root: domain.root(),
             width: Width::W39,
-            domain: DomainId::new(domain).unwrap(),
+            domain: id,
         };
-        self.contexts.set(device, entry);
+        self.iommu.contexts.set(device, entry);
         Ok(())
     }
 
@@ -130,11 +141,11 @@ impl State {
         let Some(number) = DeviceNumber::new(device) else {
             return Err(Refusal::NoDevice);
         };
-        let ContextEntry::Present { domain, .. } = self.contexts.get(device) else {
+        let ContextEntry::Present { domain, .. } = self.iommu.contexts.get(device) else {
             return Err(Refusal::NotAttached);
         };
-        self.contexts.clear(device);
-        self.iommu.forget_context(&self.contexts, domain, number);
+        self.iommu.contexts.clear(device);
+        self.iommu.forget_context(domain, number);
         Ok(())
     }
 
@@ -145,14 +156,18 @@ impl State {
         ensures { Does self.old (calls.Drop domain) (done_reply result) self.new }
     {
         self.calls += 1;
-        let Some(index) = index_of(self.homes.as_slice(), domain) else {
+        let Some(id) = DomainId::new(domain) else {
             return Err(Refusal::NoDomain);
         };
-        let id = DomainId::new(domain).unwrap();
-        if is_attached(&self.contexts, id) {
+        // A device is attached to a domain that is there.
+        if is_attached(&self.iommu.contexts, id) {
             return Err(Refusal::Busy);
         }
-        self.homes[index].close(&mut self.pool, &mut self.iommu, id);
+        let Some(domain) = self.domains[place_of(id)].take() else {
+            return Err(Refusal::NoDomain);
+        };
+        let room = domain.close(&mut self.pool, &mut self.iommu, id);
+        let _ = self.rooms.push(room);
         Ok(())
     }
 
@@ -202,18 +217,21 @@ impl State {
         ensures { Does self.old (calls.MapList domain order rights (record { items = segments.now })) (mapped_reply result) self.new }
     {
         self.calls += 1;
-        let Some(index) = index_of(self.homes.as_slice(), domain) else {
+        let Some(id) = DomainId::new(domain) else {
+            return Err(Refusal::NoDomain);
+        };
+        let Some(domain) = &mut self.domains[place_of(id)] else {
             return Err(Refusal::NoDomain);
         };
         let wanted = match judge(self.frames, segments, order, rights) {
             Ok(wanted) => wanted,
             Err(refusal) => return Err(refusal),
         };
-        let first = match self.homes[index].map(&mut self.pool, segments, wanted) {
+        let first = match domain.map(&mut self.pool, segments, wanted) {
             Ok(first) => first,
             Err(refusal) => return Err(refusal),
         };
-        Ok(4096 * first)
+        Ok(PAGE_BYTES * first)
     }
 
     /// A device's request at a byte address: the host byte address with the frame and the rights of its page, or the fault.
@@ -236,10 +254,14 @@ impl State {
         if is_in_window(address) {
             return Err(Refusal::Window);
         }
-        let answer = self
-            .iommu
-            .unit
-            .dma(&self.pool, &self.contexts, device, address, access, whim);
+        let answer = self.iommu.unit.dma(
+            &self.pool,
+            &self.iommu.contexts,
+            device,
+            address,
+            access,
+            whim,
+        );
         Ok(answer)
     }
 
@@ -253,14 +275,16 @@ impl State {
         ensures { Does self.old (calls.Unmap domain address pages) (unmapped_reply result) self.new }
     {
         self.calls += 1;
-        let Some(index) = index_of(self.homes.as_slice(), domain) else {
+        let Some(id) = DomainId::new(domain) else {
+            return Err(Refusal::NoDomain);
+        };
+        let Some(domain) = &mut self.domains[place_of(id)] else {
             return Err(Refusal::NoDomain);
         };
         let Some(range) = range_at(address, pages) else {
             return Err(Refusal::BadRange);
         };
-        let id = DomainId::new(domain).unwrap();
-        self.homes[index].unmap(&mut self.pool, &mut self.iommu, id, range)
+        domain.unmap(&mut self.pool, &mut self.iommu, id, range)
     }
 
     /// Releases all retired records of a domain, once the unit has forgotten what it remembers of the domain, and
@@ -270,11 +294,13 @@ impl State {
         ensures { Does self.old (calls.Flush domain) (flushed_reply result) self.new }
     {
         self.calls += 1;
-        let Some(index) = index_of(self.homes.as_slice(), domain) else {
+        let Some(id) = DomainId::new(domain) else {
             return Err(Refusal::NoDomain);
         };
-        let id = DomainId::new(domain).unwrap();
-        Ok(self.homes[index].flush(&mut self.pool, &mut self.iommu, id))
+        let Some(domain) = &mut self.domains[place_of(id)] else {
+            return Err(Refusal::NoDomain);
+        };
+        Ok(domain.flush(&mut self.pool, &mut self.iommu, id))
     }
 
     /// The entry at a place of one of the unit's caches is forgotten, if there is one.
@@ -411,38 +437,42 @@ fn requested(answer: Result<Result<Hit, Fault>, Refusal>) -> Answer
 }
 
 // 15 places with no domain.
-fn vacant_homes(alloc: Global) -> Result<Vec<Home>, AllocError>
-    ensures { IfOk result (λ v. v.items ≡ replicate 15 vacant) }
+fn no_domains(alloc: Global) -> Result<Vec<Option<Domain>>, AllocError>
+    ensures { IfOk result (λ v. v.items ≡ replicate 15 None) }
 {
-    let mut homes = Vec::with_capacity(alloc, 15)?;
-    for _index in 0..15u64 {
-        homes.push(Home::new(alloc)?)?;
+    let mut domains = Vec::with_capacity(alloc, 15)?;
+    for _place in 0..15u64 {
+        domains.push(None)?;
     }
-    Ok(homes)
+    Ok(domains)
 }
 
-// The index of the first place with no domain.
-fn first_vacant(homes: &[Home]) -> Option<usize>
-    ensures vacant { IfSome result (λ i. (i < length homes.now) × (home_of homes.now (i + 1) ≡ None)) }
-    ensures none { IfNone result ((d : ℕ) → 1 ≤ d → d ≤ length homes.now → IsSome (home_of homes.now d)) }
+// The rooms of all domains.
+fn all_rooms(alloc: Global) -> Result<Vec<Room>, AllocError>
+    ensures count { IfOk result (λ v. vec_len v ≡ 15) }
+    ensures room { IfOk result (λ v. 15 ≤ vec_capacity v) }
 {
-    homes.iter().position(|home| !home.is_used())
+    let mut rooms = Vec::with_capacity(alloc, 15)?;
+    for _room in 0..15u64 {
+        rooms.push(Room::new(alloc)?)?;
+    }
+    Ok(rooms)
 }
 
-// The index of the place of a domain, where there is one.
-fn index_of(homes: &[Home], domain: u64) -> Option<usize>
-    ensures some { IfSome result (λ i. (domain ≡ i + 1) × (i < length homes.now) × (home_of homes.now domain ≡ home_in (slice_get homes.now i)) × IsSome (home_of homes.now domain)) }
-    ensures none { IfNone result (home_of homes.now domain ≡ None) }
+// The first place with no domain.
+fn first_vacant(domains: &[Option<Domain>]) -> Option<usize>
+    ensures vacant { IfSome result (λ i. (i < length domains.now) × (slice_get domains.now i ≡ Some None)) }
+    ensures none { IfNone result ((d : ℕ) → 1 ≤ d → d ≤ length domains.now → IsSome (domain_at domains.now d)) }
 {
-    if domain == 0 || domain > homes.len() as u64 {
-        return None;
-    }
-    let index = (domain - 1) as usize;
-    if homes[index].is_used() {
-        Some(index)
-    } else {
-        None
-    }
+    domains.iter().position(|domain| domain.is_none())
+}
+
+// The place of a domain: domains 1 to 15 stand at places 0 to 14.
+fn place_of(id: DomainId) -> usize
+    ensures place { id ≡ result + 1 }
+    ensures low { result < 15 }
+{
+    (id.number() - 1) as usize
 }
 
 // Whether a device is attached to the domain.
@@ -471,18 +501,19 @@ fn attaches(entry: ContextEntry, id: DomainId) -> bool
 
 // The pages of an unmap, where it names some.
 fn range_at(address: u64, pages: u64) -> Option<PageRange>
-    ensures some { IfSome result (λ range. (address % 4096 ≡ 0) × (range ≡ range_at address pages) × IsPageRange (range_at address pages)) }
+    ensures some { IfSome result (λ range. (address % PAGE_BYTES ≡ 0) × (range ≡ range_at address pages) × IsPageRange (range_at address pages)) }
     ensures none { IfNone result (IsBadUnmap address pages) }
 {
-    if address % 4096 != 0 {
+    if address % PAGE_BYTES != 0 {
         return None;
     }
-    PageRange::new(address / 4096, pages)
+    PageRange::new(address / PAGE_BYTES, pages)
 }
 
 // Whether the address lies in the interrupt address range.
 fn is_in_window(address: u64) -> bool
     ensures { IsTrue result ↔ IsInWindow address }
 {
-    0xFEE0_0000 <= address && address <= 0xFEEF_FFFF
+    let page = address / PAGE_BYTES;
+    WINDOW_FIRST <= page && page <= WINDOW_LAST
 }

@@ -11,9 +11,10 @@ use Rattle.dmatypes.specs.declared.reply.Reply.{Reply}
 use Rattle.dmatypes.specs.declared.reply.Reply.TheVariants.{Done, Flushed, Unmapped}
 use Rattle.dmatypes.specs.Page.{Range, range_at}
 use Rattle.dmatypes.specs.Step.{next}
-use Rattle.dmatypes.specs.World.{Domain, World, change_of, flushed, is_full, unmapped_by}
+use Rattle.dmatypes.specs.World.{World, change_of, flushed, is_full, unmapped_by}
+use Rattle.dmatypes.specs.World as world
+use Rattle.engine.specs.Domains.{Domain, domain_at}
 use Rattle.engine.specs.Hits.{mode_of}
-use Rattle.engine.specs.Homes.{Home, home_of}
 use Rattle.engine.specs.Quarantine.{MirrorsIfAny, Quarantine, attached}
 use Rattle.engine.specs.State.{State}
 use Rattle.engine.proofs.Lists.{put_same, same_or_not}
@@ -58,11 +59,11 @@ detach_cleared w v _ other is = absurd is
 -- ---- at a flush
 
 pub told_flush : (m : State) (w : World) (domain n bits : ℕ) → Quarantine m (next w (calls.Flush domain) (Flushed n))
-    → ((v : ℕ) → v < 16 → (bit_at bits v ≡ 1) ↔ (attached (slice_get m.row v) ≡ Some domain))
+    → ((v : ℕ) → v < 16 → (bit_at bits v ≡ 1) ↔ (attached (slice_get m.iommu.contexts v) ≡ Some domain))
     → TellCleared w (calls.Flush domain) (Flushed n) bits
 unfolding IsCleared next
 told_flush m w domain n bits q is device low =
-    let same : w.devices device ≡ attached (slice_get m.row device) = q.contexts.devices device in
+    let same : w.devices device ≡ attached (slice_get m.iommu.contexts device) = q.contexts.devices device in
     (λ one. same ∙ (is device low).0 one, λ there. (is device low).1 (sym same ∙ there))
 
 pub flush_cleared : (w : World) (domain : ℕ) (reply : Reply) (other : ℕ) → IsCleared w (calls.Flush domain) reply other
@@ -73,55 +74,55 @@ flush_cleared w domain _ other is = absurd is
 
 -- ---- at an unmap
 
-abbrev world_mode : Option Domain → Option Mode
+abbrev world_mode : Option world.Domain → Option Mode
 world_mode None = None
 world_mode (Some v) = Some v.mode
 
-mirrored_mode : (words : List ℕ) (h : Option Home) (o : Option Domain) → MirrorsIfAny words h o → mode_of h ≡ world_mode o
+mirrored_mode : (words : List ℕ) (h : Option Domain) (o : Option world.Domain) → MirrorsIfAny words h o → mode_of h ≡ world_mode o
 mirrored_mode words None None both = refl
 mirrored_mode words None (Some v) both = absurd both
 mirrored_mode words (Some h) None both = absurd both
 mirrored_mode words (Some h) (Some v) both = ap Some both.ids.mode
 
-room_mode : (full : Bool) (v : Domain) → (if full then flushed v else v).mode ≡ v.mode
+room_mode : (full : Bool) (v : world.Domain) → (if full then flushed v else v).mode ≡ v.mode
 room_mode true v = refl
 room_mode false v = refl
 
-unmapped_mode : (mode : Mode) (range : Range) (v : Domain) → (unmapped_by mode range v).mode ≡ v.mode
+unmapped_mode : (mode : Mode) (range : Range) (v : world.Domain) → (unmapped_by mode range v).mode ≡ v.mode
 unmapped_mode modes.Strict range v = refl
 unmapped_mode modes.Lazy range v = room_mode (is_full v) v
 
-changed_mode : (range : Range) (o : Option Domain) → world_mode (change_of (λ v. unmapped_by v.mode range v) o) ≡ world_mode o
+changed_mode : (range : Range) (o : Option world.Domain) → world_mode (change_of (λ v. unmapped_by v.mode range v) o) ≡ world_mode o
 changed_mode range None = refl
 changed_mode range (Some v) = ap Some (unmapped_mode v.mode range v)
 
-takes_by_mode : (o : Option Domain) (n : ℕ) → IsSomeAnd (world_mode o) (λ mode. TakesAway mode n) ↔ IsSomeAnd o (λ v. TakesAway v.mode n)
+takes_by_mode : (o : Option world.Domain) (n : ℕ) → IsSomeAnd (world_mode o) (λ mode. TakesAway mode n) ↔ IsSomeAnd o (λ v. TakesAway v.mode n)
 takes_by_mode None n = (λ is. is, λ is. is)
 takes_by_mode (Some v) n = (λ is. is, λ is. is)
 
 -- the mode that the state tells is the one of the world at the call
 mode_at : (m : State) (w : World) (domain address pages n : ℕ) → Quarantine m (next w (calls.Unmap domain address pages) (Unmapped n))
-    → mode_of (home_of m.homes domain) ≡ world_mode (w.domains domain)
+    → mode_of (domain_at m.domains domain) ≡ world_mode (w.domains domain)
 unfolding next
 mode_at m w domain address pages n q =
     let change = change_of (λ v. unmapped_by v.mode (range_at address pages) v) (w.domains domain) in
-    mirrored_mode m.pool.words (home_of m.homes domain) _ (q.domains domain) ∙ ap world_mode (put_same domain change w.domains)
+    mirrored_mode m.pool.words (domain_at m.domains domain) _ (q.domains domain) ∙ ap world_mode (put_same domain change w.domains)
     ∙ changed_mode (range_at address pages) (w.domains domain)
 
 takes_at : (m : State) (w : World) (domain address pages n : ℕ) → Quarantine m (next w (calls.Unmap domain address pages) (Unmapped n))
-    → IsSomeAnd (mode_of (home_of m.homes domain)) (λ mode. TakesAway mode n) ↔ IsSomeAnd (w.domains domain) (λ v. TakesAway v.mode n)
+    → IsSomeAnd (mode_of (domain_at m.domains domain)) (λ mode. TakesAway mode n) ↔ IsSomeAnd (w.domains domain) (λ v. TakesAway v.mode n)
 takes_at m w domain address pages n q =
     subst (λ (o : Option Mode). IsSomeAnd o (λ mode. TakesAway mode n) ↔ IsSomeAnd (w.domains domain) (λ v. TakesAway v.mode n))
       (sym (mode_at m w domain address pages n q)) (takes_by_mode (w.domains domain) n)
 
 pub told_unmap : (m : State) (w : World) (domain address pages n bits : ℕ)
     → Quarantine m (next w (calls.Unmap domain address pages) (Unmapped n))
-    → IsSomeAnd (mode_of (home_of m.homes domain)) (λ mode. TakesAway mode n)
-    → ((v : ℕ) → v < 16 → (bit_at bits v ≡ 1) ↔ (attached (slice_get m.row v) ≡ Some domain))
+    → IsSomeAnd (mode_of (domain_at m.domains domain)) (λ mode. TakesAway mode n)
+    → ((v : ℕ) → v < 16 → (bit_at bits v ≡ 1) ↔ (attached (slice_get m.iommu.contexts v) ≡ Some domain))
     → TellCleared w (calls.Unmap domain address pages) (Unmapped n) bits
 unfolding IsCleared next
 told_unmap m w domain address pages n bits q takes is device low =
-    let same : w.devices device ≡ attached (slice_get m.row device) = q.contexts.devices device in (
+    let same : w.devices device ≡ attached (slice_get m.iommu.contexts device) = q.contexts.devices device in (
       λ one. (same ∙ (is device low).0 one, (takes_at m w domain address pages n q).0 takes),
       λ there. (is device low).1 (sym same ∙ there.0),
     )
@@ -129,7 +130,7 @@ told_unmap m w domain address pages n bits q takes is device low =
 -- an unmap that takes nothing away
 pub unmap_keeps : (m : State) (w : World) (domain address pages n : ℕ)
     → Quarantine m (next w (calls.Unmap domain address pages) (Unmapped n))
-    → (IsSomeAnd (mode_of (home_of m.homes domain)) (λ mode. TakesAway mode n) → ⊥)
+    → (IsSomeAnd (mode_of (domain_at m.domains domain)) (λ mode. TakesAway mode n) → ⊥)
     → (device : ℕ) → IsCleared w (calls.Unmap domain address pages) (Unmapped n) device → ⊥
 unfolding IsCleared
 unmap_keeps m w domain address pages n q keeps device is = keeps ((takes_at m w domain address pages n q).1 is.1)

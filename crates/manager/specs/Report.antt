@@ -4,7 +4,7 @@ use Rattle.dmatypes.specs.declared.call.Mode.{Mode}
 use Rattle.dmatypes.specs.declared.call.Mode.TheVariants.{Strict, Lazy}
 use Rattle.engine.specs.declared.state.totals.DomainTotals.{DomainTotals}
 use Rattle.engine.specs.declared.state.totals.Totals.{Totals}
-use Rattle.engine.specs.Homes.{home_of}
+use Rattle.engine.specs.Domains.{domain_at}
 use Rattle.engine.specs.State.{State}
 use Rattle.engine.specs.Quarantine.{attached}
 use Rattle.dmatypes.specs.declared.limits.TheConstants.{DEVICES, MOST_DOMAINS}
@@ -49,12 +49,12 @@ line_of_device device (Some domain) = device_line device domain
 -- the lines of the domains of ids 1 to n
 unfoldable pub domain_lines : State → ℕ → List ℕ
 domain_lines m zero = []
-domain_lines m (suc n) = domain_lines m n ++ line_of_domain (suc n) (domain_totals_of (home_of m.homes (suc n)))
+domain_lines m (suc n) = domain_lines m n ++ line_of_domain (suc n) (domain_totals_of (domain_at m.domains (suc n)))
 
 -- the lines of the first n devices
 unfoldable pub device_lines : State → ℕ → List ℕ
 device_lines m zero = []
-device_lines m (suc n) = device_lines m n ++ line_of_device n (attached (slice_get m.row n))
+device_lines m (suc n) = device_lines m n ++ line_of_device n (attached (slice_get m.iommu.contexts n))
 
 -- the lines that there are for every state
 abbrev pub head_lines : ℕ → Totals → List ℕ

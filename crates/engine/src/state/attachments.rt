@@ -2,18 +2,20 @@
 
 ghost use Rattle.std.specs.Prelude.{◌≡◌, ◌<◌, ◌↔◌, ℕ, IsTrue, Some, slice_get};
 ghost use Rattle.std.specs.Int.{bit_at};
-ghost use Rattle.engine.specs.Homes.{home_of};
+ghost use Rattle.engine.specs.Domains.{domain_at};
 ghost use Rattle.engine.specs.Hits.{mode_of};
 ghost use Rattle.engine.specs.Quarantine.{attached};
 
-use super::{State, index_of};
+use super::{State, place_of};
 use dmatypes::Mode;
+use vtdbits::DomainId;
 
 impl State {
     /// The devices that are attached to a domain: bit j is device j. None are where there is no such domain. It changes
     /// nothing, and isn't counted as a call.
     pub fn devices_of(&self, id: u64) -> u16
-        ensures { (device : ℕ) → device < 16 → (bit_at result device ≡ 1) ↔ (attached (slice_get self.now.row device) ≡ Some id) }
+        ensures { (device : ℕ) → device < 16
+            → (bit_at result device ≡ 1) ↔ (attached (slice_get self.now.iommu.contexts device) ≡ Some id) }
     {
         let mut devices = 0;
         for device in 0..16u64 {
@@ -26,16 +28,18 @@ impl State {
 
     // Whether a device is attached to a domain.
     fn is_attached_to(&self, device: u64, id: u64) -> bool
-        ensures { IsTrue result ↔ attached (slice_get self.now.row device) ≡ Some id }
+        ensures { IsTrue result ↔ attached (slice_get self.now.iommu.contexts device) ≡ Some id }
     {
         self.domain_of(device) == Some(id)
     }
 
     /// The mode of a domain; `None` exactly where there is no such domain. It changes nothing, and isn't counted as a call.
     pub fn mode_of(&self, id: u64) -> Option<Mode>
-        ensures { result ≡ mode_of (home_of self.now.homes id) }
+        ensures { result ≡ mode_of (domain_at self.now.domains id) }
     {
-        let index = index_of(self.homes.as_slice(), id)?;
-        Some(self.homes[index].mode())
+        let domains = &self.domains;
+        let id = DomainId::new(id)?;
+        let domain = domains[place_of(id)].as_ref()?;
+        Some(domain.mode())
     }
 }

@@ -1,14 +1,14 @@
 //! What a report tells of the state.
 
 ghost use Rattle.std.specs.Prelude.{◌≡◌, ◌≤◌, length, slice_get};
-ghost use Rattle.engine.specs.Homes.{home_of};
+ghost use Rattle.engine.specs.Domains.{domain_at};
 ghost use Rattle.engine.specs.Quarantine.{attached};
 ghost use Rattle.engine.specs.Totals.{domain_totals_of, held_by_all, totals_of};
 
-use super::{State, index_of};
-use crate::home::Home;
+use super::{State, place_of};
+use crate::domain::Domain;
 use dmatypes::Mode;
-use vtdbits::ContextEntry;
+use vtdbits::{ContextEntry, DomainId};
 
 /// How many table frames are free, used by trees, and held by retired records; how many tickets are open, and how
 /// many descriptors wait.
@@ -36,7 +36,7 @@ impl State {
         ensures { result ≡ totals_of self.now }
     {
         let free = self.pool.free_count();
-        let held = held_by_all(self.homes.as_slice());
+        let held = held_by_all(self.domains.as_slice());
         Totals {
             free,
             used: self.frames.saturating_sub(free).saturating_sub(held),
@@ -49,18 +49,20 @@ impl State {
 
     /// What a domain has; `None` exactly where there is none of this id. It changes nothing, and isn't counted as a call.
     pub fn domain_totals(&self, id: u64) -> Option<DomainTotals>
-        ensures { result ≡ domain_totals_of (home_of self.now.homes id) }
+        ensures { result ≡ domain_totals_of (domain_at self.now.domains id) }
     {
-        let index = index_of(self.homes.as_slice(), id)?;
-        self.homes[index].totals()
+        let domains = &self.domains;
+        let id = DomainId::new(id)?;
+        let domain = domains[place_of(id)].as_ref()?;
+        Some(domain.totals())
     }
 
     /// The id of the domain that a device is attached to; `None` exactly where it is attached to nothing, or there is
     /// no such device. It changes nothing, and isn't counted as a call.
     pub fn domain_of(&self, device: u64) -> Option<u64>
-        ensures { result ≡ attached (slice_get self.now.row device) }
+        ensures { result ≡ attached (slice_get self.now.iommu.contexts device) }
     {
-        let contexts = &self.contexts;
+        let contexts = &self.iommu.contexts;
         if device > 15 {
             return None;
         }
@@ -72,13 +74,15 @@ impl State {
 }
 
 // How many table frames the records of all domains hold.
-fn held_by_all(homes: &[Home]) -> u64
-    requires { length homes.now ≤ 15 }
-    ensures { result ≡ held_by_all homes.now }
+fn held_by_all(domains: &[Option<Domain>]) -> u64
+    requires { length domains.now ≤ 15 }
+    ensures { result ≡ held_by_all domains.now }
 {
     let mut held = 0;
-    for home in homes {
-        held += home.held();
+    for place in domains {
+        if let Some(domain) = place {
+            held += domain.held();
+        }
     }
     held
 }

@@ -1,14 +1,15 @@
-use Rattle.std.proofs.Common.{◌≡◌, ◌+◌, ◌∙◌, Some, ap, length, refl, rules, slice_get, slice_set}
-use Rattle.std.proofs.lemmas.List.{length-set}
-use Rattle.std.proofs.lemmas.Option.{slice_get_read}
+use Rattle.std.proofs.Common.{◌≡◌, ◌+◌, ◌∙◌, None, Some, ap, length, refl, slice_get, slice_set, sym}
 use Rattle.dmatypes.specs.declared.call.Call.TheVariants as calls
 use Rattle.dmatypes.specs.declared.reply.Reply.TheVariants.{Done}
 use Rattle.dmatypes.specs.declared.width.Width.TheVariants.{W39}
+use Rattle.std.proofs.lemmas.List.{length-set}
 use Rattle.vtdbits.specs.declared.context.ContextEntry.TheVariants.{Present}
+use Rattle.engine.specs.Domains.{domain_at}
 use Rattle.engine.specs.State.{State}
 use Rattle.engine.specs.Steps.{Does}
 use Rattle.engine.proofs.Attaching.{attach_no_device, attach_no_domain, attach_busy, attaches}
-use Rattle.engine.proofs.Places.{found, root_is, some_home, tenant_there}
+use Rattle.engine.proofs.Domains.{at_place, no_id_no_domain}
+use Rattle.engine.proofs.Finding.{stands}
 use Rattle.engine.proofs.Refusing.{whole_quiet}
 use Rattle.engine.proofs.state.State.attach.Goals as goal
 
@@ -17,44 +18,53 @@ returns-then-device-gt15 c = rw (← c.self.view_is) (attach_no_device _ _ c.arg
 
 pub returns-in_default : goal.returns-in_default
 returns-in_default c =
-    rw (← c.self.view_is) (attach_no_domain _ _ c.args.device c.args.domain refl c.if-device-gt15.false (rw c.as_slice.ensures.value at c.in_default.ensures.none))
+    rw (← c.self.view_is) (attach_no_domain _ _ c.args.device c.args.domain refl c.if-device-gt15.false
+    (no_id_no_domain c.self.inside.domains.items c.args.domain c.self.invariant.0.places (λ id. let some = c.in_default.ensures.some.1 id in absurd cc)))
+
+pub returns-in_default-index : goal.returns-in_default-index
+returns-in_default-index c =
+    let m : State = record { pool = c.self.inside.pool; domains = c.self.inside.domains.items; iommu = c.self.inside.iommu; calls = c.self.inside.calls } in
+    let read = stands m.domains c.place_of.result c.index.result.now c.self.invariant.0.places c.place_of.ensures.low c.index.ensures in
+    let id : c.args.domain ≡ c.place_of.result + 1 = sym c.in-Some.ensures.value ∙ c.place_of.ensures.place in
+    let at : slice_get m.domains c.place_of.result ≡ Some None = read ∙ ap Some c.in_default-index.is in
+    let none : domain_at m.domains c.args.domain ≡ None = at_place m.domains c.args.domain c.place_of.result None id at in
+    rw (← c.self.view_is) (attach_no_domain m _ c.args.device c.args.domain refl c.if-device-gt15.false none)
 
 pub returns-in_default-get : goal.returns-in_default-get
 returns-in_default-get c =
-    let some = rw c.as_slice.ensures.value at c.in-Some.ensures.some in
-    let h = some_home _ some.3 in
-    rw (← c.self.view_is) (attach_busy _ _ c.args.device c.args.domain h.0 c.get.result refl c.if-device-gt15.false h.1 c.get.ensures c.in_default-get.not-Absent)
-
-pub root-requires : goal.root-requires
-root-requires c =
-    let some = rw c.as_slice.ensures.value at c.in-Some.ensures.some in
-    let at : slice_get c.self.inside.homes.items c.in-Some.index ≡ Some c.index.result.now =
-    slice_get_read c.self.inside.homes.items (length c.self.inside.homes.items) c.in-Some.index c.index.result.now refl some.1 c.index.ensures in
-    let h = found c.self.inside.homes.items c.args.domain c.in-Some.index c.index.result.now some.2 some.3 at in
-    tenant_there c.index.result.now h.0 h.1
+    let m : State = record { pool = c.self.inside.pool; domains = c.self.inside.domains.items; iommu = c.self.inside.iommu; calls = c.self.inside.calls } in
+    let read = stands m.domains c.place_of.result c.index.result.now c.self.invariant.0.places c.place_of.ensures.low c.index.ensures in
+    let id : c.args.domain ≡ c.place_of.result + 1 = sym c.in-Some.ensures.value ∙ c.place_of.ensures.place in
+    let at : slice_get m.domains c.place_of.result ≡ Some (Some c.in-Some-index.domain) = read ∙ ap Some c.in-Some-index.is in
+    let there : domain_at m.domains c.args.domain ≡ Some c.in-Some-index.domain = at_place m.domains c.args.domain c.place_of.result (Some c.in-Some-index.domain) id at in
+    rw (← c.self.view_is)
+    (attach_busy m _ c.args.device c.args.domain c.in-Some-index.domain c.get.result refl c.if-device-gt15.false there c.get.ensures c.in_default-get.not-Absent)
 
 abbrev before : goal.After-set → State
-before c = record { pool = c.self.inside.pool; homes = c.self.inside.homes.items; row = c.self.inside.contexts; ring = c.self.inside.iommu.ring; unit = c.self.inside.iommu.unit; sent = c.self.inside.iommu.sent; calls = c.self.inside.calls }
+before c = record { pool = c.self.inside.pool; domains = c.self.inside.domains.items; iommu = c.self.inside.iommu; calls = c.self.inside.calls }
 
 abbrev after : goal.After-set → State
-after c = record { pool = c.self.inside.pool; homes = c.self.inside.homes.items; row = c.set.new.self; ring = c.self.inside.iommu.ring; unit = c.self.inside.iommu.unit; sent = c.self.inside.iommu.sent; calls = c.self.inside.calls + 1 }
+after c = record { pool = c.self.inside.pool; domains = c.self.inside.domains.items; iommu = record c.self.inside.iommu { contexts = c.set.new.self }; calls = c.self.inside.calls + 1 }
 
 does : (c : goal.After-set) → Does (before c) (calls.Attach c.args.device c.args.domain) Done (after c)
 does c =
-    let some = rw c.as_slice.ensures.value at c.in-Some.ensures.some in
-    let at : slice_get c.self.inside.homes.items c.in-Some.index ≡ Some c.index.result.now =
-    slice_get_read c.self.inside.homes.items (length c.self.inside.homes.items) c.in-Some.index c.index.result.now refl some.1 c.index.ensures in
-    let h = found c.self.inside.homes.items c.args.domain c.in-Some.index c.index.result.now some.2 some.3 at in
-    let root : h.0.root ≡ c.root.result = root_is c.index.result.now h.0 c.root.result h.1 c.root.ensures in
-    let id : c.unwrap.result ≡ c.args.domain = search rules in
-    let row : c.set.new.self ≡ slice_set c.self.inside.contexts c.args.device (Present h.0.root W39 c.args.domain) = rw (root, ← id) c.set.ensures in
-    attaches (before c) (after c) c.args.device c.args.domain h.0 c.if-device-gt15.false c.self.invariant.devices h.2 (c.get.ensures ∙ ap Some c.in-Absent.is)
-    (ap (λ r. record (before c) { row = r; calls = c.self.inside.calls + 1 }) row)
+    let m : State = record { pool = c.self.inside.pool; domains = c.self.inside.domains.items; iommu = c.self.inside.iommu; calls = c.self.inside.calls } in
+    let read = stands m.domains c.place_of.result c.index.result.now c.self.invariant.0.places c.place_of.ensures.low c.index.ensures in
+    let id : c.args.domain ≡ c.place_of.result + 1 = sym c.in-Some.ensures.value ∙ c.place_of.ensures.place in
+    let at : slice_get m.domains c.place_of.result ≡ Some (Some c.in-Some-index.domain) = read ∙ ap Some c.in-Some-index.is in
+    let there : domain_at m.domains c.args.domain ≡ Some c.in-Some-index.domain = at_place m.domains c.args.domain c.place_of.result (Some c.in-Some-index.domain) id at in
+    let row : c.set.new.self ≡ slice_set c.self.inside.iommu.contexts c.args.device (Present c.in-Some-index.domain.root W39 c.args.domain) =
+    rw (← c.root.ensures, ← c.in-Some.ensures.value) c.set.ensures in
+    attaches (before c) (after c) c.args.device c.args.domain c.in-Some-index.domain c.if-device-gt15.false c.self.invariant.0.devices there
+    (c.get.ensures ∙ ap Some c.in-Absent.is)
+    (ap (λ r. record (before c) { iommu = record c.self.inside.iommu { contexts = r }; calls = c.self.inside.calls + 1 }) row)
 
 pub returns : goal.returns
 returns c = rw (← c.self.view_is) (does c)
 
 pub invariant_of-self-2 : goal.invariant_of-self-2
-invariant_of-self-2 c =
-    whole_quiet c.self.inside.frames (before c) (after c) (calls.Attach c.args.device c.args.domain) Done c.self.invariant (does c) refl
-    (ap length c.set.ensures ∙ length-set c.self.inside.contexts c.args.device (Present c.root.result W39 c.unwrap.result)) refl refl refl
+invariant_of-self-2 c = (
+  whole_quiet c.self.inside.frames (before c) (after c) (calls.Attach c.args.device c.args.domain) Done c.self.invariant.0 (does c) refl
+      (ap length c.set.ensures ∙ length-set c.self.inside.iommu.contexts c.args.device (Present c.root.result W39 c.in-Some.id)) refl refl refl,
+  c.self.invariant.1,
+)

@@ -1,4 +1,4 @@
-use Rattle.std.proofs.Common.{◌≡◌, ◌≤◌, ◌<◌, ◌∙◌, ⊎_elim, Some, ap, length, refl, slice_get}
+use Rattle.std.proofs.Common.{◌≡◌, ◌≤◌, ◌<◌, ◌∙◌, ⊎_elim, List, Some, ap, refl, slice_get, slice_set, subst}
 use Rattle.std.proofs.lemmas.Bool.{cases_lt}
 use Rattle.std.proofs.lemmas.List.{length-set}
 use Rattle.dmatypes.specs.declared.call.Call.TheVariants as calls
@@ -6,6 +6,8 @@ use Rattle.dmatypes.specs.declared.reply.Reply.TheVariants.{Done}
 use Rattle.dmatypes.specs.declared.width.Width.TheVariants.{W39}
 use Rattle.vtdbits.specs.declared.context.ContextEntry.TheVariants.{Absent, Present}
 use Rattle.vtdbits.specs.declared.descriptor.Descriptor.TheVariants.{ContextDevice}
+use Rattle.vtdbits.specs.declared.context.ContextEntry.{ContextEntry}
+use Rattle.engine.specs.declared.iommu.Iommu.{Iommu}
 use Rattle.engine.specs.Ending.{Invalidates}
 use Rattle.engine.specs.State.{State}
 use Rattle.engine.specs.Steps.{Does}
@@ -22,21 +24,29 @@ pub returns-in_default-get : goal.returns-in_default-get
 returns-in_default-get c = rw (← c.self.view_is) (detach_not_attached _ _ c.args.device Absent refl (c.in-Some.ensures.some.0 refl) c.in_default-get.ensures refl)
 
 abbrev before : goal.After-forget_context → State
-before c = record { pool = c.self.inside.pool; homes = c.self.inside.homes.items; row = c.self.inside.contexts; ring = c.self.inside.iommu.ring; unit = c.self.inside.iommu.unit; sent = c.self.inside.iommu.sent; calls = c.self.inside.calls }
+before c = record { pool = c.self.inside.pool; domains = c.self.inside.domains.items; iommu = c.self.inside.iommu; calls = c.self.inside.calls }
 
-sent : (c : goal.After-forget_context) → Invalidates c.self.inside.iommu.ring c.self.inside.iommu.unit c.self.inside.iommu.sent (ContextDevice c.in-Present.domain c.args.device) c.forget_context.new.self.ring c.forget_context.new.self.unit c.forget_context.new.self.sent
-sent c = rw (← c.in-Some.ensures.value) c.forget_context.ensures
+-- the row with no entry of the device
+abbrev cleared : goal.After-forget_context → Iommu
+cleared c = record c.self.inside.iommu { contexts = slice_set c.self.inside.iommu.contexts c.args.device Absent }
 
-does : (c : goal.After-forget_context) → Does (before c) (calls.Detach c.args.device) Done (detached (before c) c.args.device c.clear.new.self c.forget_context.new.self)
+sent : (c : goal.After-forget_context) → Invalidates (cleared c) (ContextDevice c.in-Present.domain c.args.device) c.forget_context.new.self
+sent c =
+    subst (λ (row : List ContextEntry). Invalidates (record c.self.inside.iommu { contexts = row }) (ContextDevice c.in-Present.domain c.args.device) c.forget_context.new.self)
+    c.clear.ensures (rw (← c.in-Some.ensures.value) c.forget_context.ensures)
+
+does : (c : goal.After-forget_context) → Does (before c) (calls.Detach c.args.device) Done (detached (before c) c.forget_context.new.self)
 does c =
-    let at : slice_get c.self.inside.contexts c.args.device ≡ Some (Present c.in-Present.root W39 c.in-Present.domain) =
+    let at : slice_get c.self.inside.iommu.contexts c.args.device ≡ Some (Present c.in-Present.root W39 c.in-Present.domain) =
     c.in-Present.ensures ∙ ap (λ w. Some (Present c.in-Present.root w c.in-Present.domain)) (only_width c.in-Present.width) in
-    detach_does (before c) c.args.device c.in-Present.root c.in-Present.domain c.clear.new.self c.forget_context.new.self (c.in-Some.ensures.some.0 refl) c.self.invariant.devices at c.clear.ensures (sent c)
+    detach_does (before c) c.args.device c.in-Present.root c.in-Present.domain c.forget_context.new.self (c.in-Some.ensures.some.0 refl)
+    c.self.invariant.0.devices at (sent c)
 
 pub invariant_of-self-2 : goal.invariant_of-self-2
 invariant_of-self-2 c =
-    whole_sends c.self.inside.frames (before c) (detached (before c) c.args.device c.clear.new.self c.forget_context.new.self) (calls.Detach c.args.device) Done (ContextDevice c.in-Present.domain c.args.device) c.self.invariant (does c) refl
-    (ap length c.clear.ensures ∙ length-set c.self.inside.contexts c.args.device Absent) (sent c)
+    (whole_sends c.self.inside.frames (before c) (detached (before c) c.forget_context.new.self) (calls.Detach c.args.device) Done
+    (ContextDevice c.in-Present.domain c.args.device) (slice_set c.self.inside.iommu.contexts c.args.device Absent) c.self.invariant.0 (does c) refl
+    (length-set c.self.inside.iommu.contexts c.args.device Absent) (sent c), c.self.invariant.1)
 
 pub returns : goal.returns
 returns c = rw (← c.self.view_is) (does c)

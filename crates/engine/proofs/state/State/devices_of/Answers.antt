@@ -6,7 +6,7 @@ use Rattle.engine.proofs.state.State.devices_of.Goals.{then-is_attached_to, else
 
 pub loop-device-preserved : goal.loop-device-preserved
 loop-device-preserved c =
-    let In : ℕ → Type 0 = λ v. attached (slice_get c.args.self.now.row v) ≡ Some c.args.id in
+    let In : ℕ → Type 0 = λ v. attached (slice_get c.args.self.now.iommu.contexts v) ≡ Some c.args.id in
     elim c.if-is_attached_to.branch [
       | then-is_attached_to w ↦
           rw (w.devices-is)

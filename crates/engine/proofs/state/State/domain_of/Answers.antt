@@ -5,5 +5,5 @@ use Rattle.engine.proofs.state.State.domain_of.Goals as goal
 
 pub returns-then-device-gt15 : goal.returns-then-device-gt15
 returns-then-device-gt15 c =
-    let past : length c.self.inside.contexts ≤ c.args.device = omega (arith, c.self.invariant.devices, c.if-device-gt15.true) in
-    rw (← c.self.view_is) (ap attached (sym (slice_get_past c.self.inside.contexts c.args.device past)))
+    let past : length c.self.inside.iommu.contexts ≤ c.args.device = omega (arith, c.self.invariant.0.devices, c.if-device-gt15.true) in
+    rw (← c.self.view_is) (ap attached (sym (slice_get_past c.self.inside.iommu.contexts c.args.device past)))

@@ -1,47 +1,75 @@
-use Rattle.std.proofs.Common.{◌≡◌, ◌∙◌, List, Some, ap, sym, subst, length, refl, rules, slice_get}
-use Rattle.std.proofs.lemmas.Option.{slice_get_read}
+use Rattle.std.proofs.Common.{◌≡◌, ◌+◌, ◌<◌, ◌∙◌, None, Some, ap, arith, length, refl, slice_get, sym}
 use Rattle.dmatypes.specs.declared.call.Call.TheVariants as calls
-use Rattle.dmatypes.specs.declared.reply.Reply.TheVariants.{Flushed}
-use Rattle.iova.specs.Space.{Space}
-use Rattle.engine.specs.declared.record.Record.{Record}
-use Rattle.engine.specs.Ready.{AreReleasable}
-use Rattle.engine.specs.State.{State}
+use Rattle.dmatypes.specs.declared.refusal.Refusal.TheVariants as refusals
+use Rattle.dmatypes.specs.declared.reply.Reply.TheVariants.{Flushed, Refused}
+use Rattle.engine.specs.Domains.{domain_at, parts_of}
+use Rattle.engine.specs.Ending.{Flushes}
+use Rattle.engine.specs.State.{State, parts_in}
+use Rattle.engine.proofs.Domains.{at_place, no_id_no_domain, rooms_stay}
+use Rattle.engine.proofs.Finding.{keeps_found, put_back, stands}
 use Rattle.engine.proofs.FlushSteps.{Did, flush_did, flush_no_domain}
-use Rattle.engine.proofs.Places.{found, home_is}
 use Rattle.engine.proofs.Releasable.{records_releasable}
 use Rattle.engine.proofs.Sent.{changed}
 use Rattle.engine.proofs.state.State.flush.Goals as goal
 
 pub returns-in_default : goal.returns-in_default
-returns-in_default c = rw (← c.self.view_is) (flush_no_domain _ _ c.args.domain refl (rw c.as_slice.ensures.value at c.in_default.ensures.none))
+returns-in_default c =
+    rw (← c.self.view_is) (flush_no_domain _ _ c.args.domain refl
+    (no_id_no_domain c.self.inside.domains.items c.args.domain c.self.invariant.0.places (λ id. let some = c.in_default.ensures.some.1 id in absurd cc)))
+
+pub returns-in_default-index_mut : goal.returns-in_default-index_mut
+returns-in_default-index_mut c =
+    let m : State = record { pool = c.self.inside.pool; domains = c.self.inside.domains.items; iommu = c.self.inside.iommu; calls = c.self.inside.calls } in
+    let read = stands m.domains c.place_of.result c.index_mut.result.now c.self.invariant.0.places c.place_of.ensures.low c.index_mut.ensures.value in
+    let id : c.args.domain ≡ c.place_of.result + 1 = sym c.in-Some.ensures.value ∙ c.place_of.ensures.place in
+    let at : slice_get m.domains c.place_of.result ≡ Some None = read ∙ ap Some c.in_default-index_mut.is in
+    let none : domain_at m.domains c.args.domain ≡ None = at_place m.domains c.args.domain c.place_of.result None id at in
+    rw (← c.self.view_is, c.in_default-index_mut.is) (flush_no_domain m _ c.args.domain (put_back m c.place_of.result None at) none)
+
+pub invariant_of-self-in_default-index_mut : goal.invariant_of-self-in_default-index_mut
+invariant_of-self-in_default-index_mut c =
+    let m : State = record { pool = c.self.inside.pool; domains = c.self.inside.domains.items; iommu = c.self.inside.iommu; calls = c.self.inside.calls } in
+    let read = stands m.domains c.place_of.result c.index_mut.result.now c.self.invariant.0.places c.place_of.ensures.low c.index_mut.ensures.value in
+    let id : c.args.domain ≡ c.place_of.result + 1 = sym c.in-Some.ensures.value ∙ c.place_of.ensures.place in
+    let at : slice_get m.domains c.place_of.result ≡ Some None = read ∙ ap Some c.in_default-index_mut.is in
+    let none : domain_at m.domains c.args.domain ≡ None = at_place m.domains c.args.domain c.place_of.result None id at in
+    rw c.in_default-index_mut.is (keeps_found c.self.inside.frames _ _ m c.place_of.result None (calls.Flush c.args.domain) (Refused refusals.NoDomain) c.self.invariant.0 c.self.invariant.1 at
+    (flush_no_domain m _ c.args.domain (put_back m c.place_of.result None at) none))
 
 pub flush-requires-clause-can : goal.flush-requires-clause-can
 flush-requires-clause-can c =
-    let m : State = record { pool = c.self.inside.pool; homes = c.self.inside.homes.items; row = c.self.inside.contexts; ring = c.self.inside.iommu.ring; unit = c.self.inside.iommu.unit; sent = c.self.inside.iommu.sent; calls = c.self.inside.calls } in
-    let some = rw c.as_slice.ensures.value at c.in-Some.ensures.some in
-    let at : slice_get c.self.inside.homes.items c.in-Some.index ≡ Some c.index_mut.result.now =
-    slice_get_read c.self.inside.homes.items (length c.self.inside.homes.items) c.in-Some.index c.index_mut.result.now refl some.1 c.index_mut.ensures.value in
-    let h = found c.self.inside.homes.items c.args.domain c.in-Some.index c.index_mut.result.now some.2 some.3 at in
-    let is = home_is c.index_mut.result.now h.0 h.1 in
-    subst (λ (s : Space). AreReleasable c.self.inside.pool s c.index_mut.result.now.records) is.0
-    (subst (λ (rs : List Record). AreReleasable c.self.inside.pool h.0.space rs) is.1 (records_releasable m c.args.domain h.0 c.self.invariant.of_world c.self.invariant.places h.2))
+    let m : State = record { pool = c.self.inside.pool; domains = c.self.inside.domains.items; iommu = c.self.inside.iommu; calls = c.self.inside.calls } in
+    let read = stands m.domains c.place_of.result c.index_mut.result.now c.self.invariant.0.places c.place_of.ensures.low c.index_mut.ensures.value in
+    let id : c.args.domain ≡ c.place_of.result + 1 = sym c.in-Some.ensures.value ∙ c.place_of.ensures.place in
+    let at : slice_get m.domains c.place_of.result ≡ Some (Some c.in-Some-index_mut.domain) = read ∙ ap Some c.in-Some-index_mut.is in
+    let there : domain_at m.domains c.args.domain ≡ Some c.in-Some-index_mut.domain = at_place m.domains c.args.domain c.place_of.result (Some c.in-Some-index_mut.domain) id at in
+    records_releasable m c.args.domain c.in-Some-index_mut.domain c.self.invariant.0.of_world c.self.invariant.0.places there
 
 abbrev before : goal.After-self-2-1 → State
-before c = record { pool = c.self.inside.pool; homes = c.self.inside.homes.items; row = c.self.inside.contexts; ring = c.self.inside.iommu.ring; unit = c.self.inside.iommu.unit; sent = c.self.inside.iommu.sent; calls = c.self.inside.calls }
+before c = record { pool = c.self.inside.pool; domains = c.self.inside.domains.items; iommu = c.self.inside.iommu; calls = c.self.inside.calls }
 
-did : (c : goal.After-self-2-1) → Did c.self.inside.frames (before c) (calls.Flush c.args.domain) (Flushed c.flush.result) (changed (before c) c.in-Some.index c.flush.new.pool c.flush.new.self c.flush.new.iommu)
+did : (c : goal.After-self-2-1) → Did c.self.inside.frames (before c) (calls.Flush c.args.domain) (Flushed c.flush.result)
+    (changed (before c) c.place_of.result c.flush.new.pool (Some c.flush.new.self) c.flush.new.iommu)
 did c =
-    let some = rw c.as_slice.ensures.value at c.in-Some.ensures.some in
-    let at : slice_get c.self.inside.homes.items c.in-Some.index ≡ Some c.index_mut.result.now =
-    slice_get_read c.self.inside.homes.items (length c.self.inside.homes.items) c.in-Some.index c.index_mut.result.now refl some.1 c.index_mut.ensures.value in
-    let id : c.unwrap-id.result ≡ c.args.domain = search rules in
-    let h = found c.self.inside.homes.items c.args.domain c.in-Some.index c.index_mut.result.now some.2 some.3 at in
-    let is = home_is c.index_mut.result.now h.0 h.1 in
-    flush_did c.self.inside.frames (before c) c.args.domain c.in-Some.index c.flush.result c.index_mut.result.now c.flush.new.self h.0 c.flush.new.pool c.flush.new.iommu c.self.invariant some.1 some.0 at h.1 h.2 c.flush.ensures.tenant
-    (c.flush.ensures.count ∙ sym (ap length is.1)) (rw (is.0, is.1, ← id) c.flush.ensures.flushes)
+    let m : State = record { pool = c.self.inside.pool; domains = c.self.inside.domains.items; iommu = c.self.inside.iommu; calls = c.self.inside.calls } in
+    let read = stands m.domains c.place_of.result c.index_mut.result.now c.self.invariant.0.places c.place_of.ensures.low c.index_mut.ensures.value in
+    let id : c.args.domain ≡ c.place_of.result + 1 = sym c.in-Some.ensures.value ∙ c.place_of.ensures.place in
+    let at : slice_get m.domains c.place_of.result ≡ Some (Some c.in-Some-index_mut.domain) = read ∙ ap Some c.in-Some-index_mut.is in
+    let there : domain_at m.domains c.args.domain ≡ Some c.in-Some-index_mut.domain = at_place m.domains c.args.domain c.place_of.result (Some c.in-Some-index_mut.domain) id at in
+    let less : c.place_of.result < length m.domains = omega (arith, c.self.invariant.0.places, c.place_of.ensures.low) in
+    let flushes : Flushes (parts_in m c.in-Some-index_mut.domain) c.args.domain (parts_of c.flush.new.pool c.flush.new.self c.flush.new.iommu) =
+    rw (← c.in-Some.ensures.value) c.flush.ensures.flushes in
+    flush_did c.self.inside.frames m c.args.domain c.place_of.result c.in-Some-index_mut.domain c.flush.new.pool c.flush.new.iommu
+    c.self.invariant.0 less id there c.flush.new.self c.flush.result c.flush.ensures.count flushes
 
 pub invariant_of-self-2 : goal.invariant_of-self-2
-invariant_of-self-2 c = (did c).whole
+invariant_of-self-2 c =
+    let m : State = record { pool = c.self.inside.pool; domains = c.self.inside.domains.items; iommu = c.self.inside.iommu; calls = c.self.inside.calls } in
+    let read = stands m.domains c.place_of.result c.index_mut.result.now c.self.invariant.0.places c.place_of.ensures.low c.index_mut.ensures.value in
+    let id : c.args.domain ≡ c.place_of.result + 1 = sym c.in-Some.ensures.value ∙ c.place_of.ensures.place in
+    let at : slice_get m.domains c.place_of.result ≡ Some (Some c.in-Some-index_mut.domain) = read ∙ ap Some c.in-Some-index_mut.is in
+    let there : domain_at m.domains c.args.domain ≡ Some c.in-Some-index_mut.domain = at_place m.domains c.args.domain c.place_of.result (Some c.in-Some-index_mut.domain) id at in
+    ((did c).whole, rooms_stay _ _ c.place_of.result m.domains c.in-Some-index_mut.domain c.flush.new.self at c.self.invariant.1)
 
 pub returns : goal.returns
 returns c = rw (← c.self.view_is) (did c).does

@@ -1,51 +1,102 @@
-use Rattle.std.proofs.Common.{◌≡◌, Some, length, refl, rules, slice_get}
-use Rattle.std.proofs.lemmas.Option.{slice_get_read}
-use Rattle.engine.specs.State.{State}
-use Rattle.engine.proofs.Places.{found, some_home}
+use Rattle.std.proofs.Common.{◌≡◌, ◌+◌, ◌<◌, ◌∙◌, None, Some, ap, arith, length, refl, slice_get, sym}
+use Rattle.dmatypes.specs.declared.call.Call.TheVariants as calls
+use Rattle.dmatypes.specs.declared.refusal.Refusal.TheVariants as refusals
+use Rattle.dmatypes.specs.declared.reply.Reply.TheVariants.{Refused}
+use Rattle.dmatypes.specs.Page.{range_at}
+use Rattle.engine.specs.Domains.{domain_at, parts_of}
+use Rattle.engine.specs.Ending.{IsUnmapped}
+use Rattle.engine.specs.State.{State, parts_in}
+use Rattle.engine.proofs.Domains.{at_place, no_id_no_domain, rooms_stay}
+use Rattle.engine.proofs.Finding.{keeps_found, put_back, stands}
 use Rattle.engine.proofs.Releasable.{can_unmap}
 use Rattle.engine.proofs.Sent.{changed}
 use Rattle.engine.proofs.Unmapped.{AnswersUnmap, unmap_answered, unmap_bad_range, unmap_no_domain}
 use Rattle.engine.proofs.state.State.unmap.Goals as goal
 
 pub returns-in_default : goal.returns-in_default
-returns-in_default c = rw (← c.self.view_is) (unmap_no_domain _ _ c.args.domain c.args.address c.args.pages refl (rw c.as_slice.ensures.value at c.in_default.ensures.none))
+returns-in_default c =
+    rw (← c.self.view_is) (unmap_no_domain _ _ c.args.domain c.args.address c.args.pages refl
+    (no_id_no_domain c.self.inside.domains.items c.args.domain c.self.invariant.0.places (λ id. let some = c.in_default.ensures.some.1 id in absurd cc)))
+
+pub returns-in_default-index_mut : goal.returns-in_default-index_mut
+returns-in_default-index_mut c =
+    let m : State = record { pool = c.self.inside.pool; domains = c.self.inside.domains.items; iommu = c.self.inside.iommu; calls = c.self.inside.calls } in
+    let read = stands m.domains c.place_of.result c.index_mut.result.now c.self.invariant.0.places c.place_of.ensures.low c.index_mut.ensures.value in
+    let id : c.args.domain ≡ c.place_of.result + 1 = sym c.in-Some.ensures.value ∙ c.place_of.ensures.place in
+    let at : slice_get m.domains c.place_of.result ≡ Some None = read ∙ ap Some c.in_default-index_mut.is in
+    let none : domain_at m.domains c.args.domain ≡ None = at_place m.domains c.args.domain c.place_of.result None id at in
+    rw (← c.self.view_is, c.in_default-index_mut.is) (unmap_no_domain m _ c.args.domain c.args.address c.args.pages (put_back m c.place_of.result None at) none)
+
+pub invariant_of-self-in_default-index_mut : goal.invariant_of-self-in_default-index_mut
+invariant_of-self-in_default-index_mut c =
+    let m : State = record { pool = c.self.inside.pool; domains = c.self.inside.domains.items; iommu = c.self.inside.iommu; calls = c.self.inside.calls } in
+    let read = stands m.domains c.place_of.result c.index_mut.result.now c.self.invariant.0.places c.place_of.ensures.low c.index_mut.ensures.value in
+    let id : c.args.domain ≡ c.place_of.result + 1 = sym c.in-Some.ensures.value ∙ c.place_of.ensures.place in
+    let at : slice_get m.domains c.place_of.result ≡ Some None = read ∙ ap Some c.in_default-index_mut.is in
+    let none : domain_at m.domains c.args.domain ≡ None = at_place m.domains c.args.domain c.place_of.result None id at in
+    rw c.in_default-index_mut.is (keeps_found c.self.inside.frames _ _ m c.place_of.result None (calls.Unmap c.args.domain c.args.address c.args.pages) (Refused refusals.NoDomain) c.self.invariant.0 c.self.invariant.1 at
+    (unmap_no_domain m _ c.args.domain c.args.address c.args.pages (put_back m c.place_of.result None at) none))
 
 pub returns-in_default-range_at : goal.returns-in_default-range_at
 returns-in_default-range_at c =
-    let some = rw c.as_slice.ensures.value at c.in-Some.ensures.some in
-    let h = some_home _ some.3 in
-    rw (← c.self.view_is) (unmap_bad_range _ _ c.args.domain c.args.address c.args.pages h.0 refl h.1 c.in_default-range_at.ensures.none)
+    let m : State = record { pool = c.self.inside.pool; domains = c.self.inside.domains.items; iommu = c.self.inside.iommu; calls = c.self.inside.calls } in
+    let read = stands m.domains c.place_of.result c.index_mut.result.now c.self.invariant.0.places c.place_of.ensures.low c.index_mut.ensures.value in
+    let id : c.args.domain ≡ c.place_of.result + 1 = sym c.in-Some.ensures.value ∙ c.place_of.ensures.place in
+    let at : slice_get m.domains c.place_of.result ≡ Some (Some c.in-Some-index_mut.domain) = read ∙ ap Some c.in-Some-index_mut.is in
+    let there : domain_at m.domains c.args.domain ≡ Some c.in-Some-index_mut.domain = at_place m.domains c.args.domain c.place_of.result (Some c.in-Some-index_mut.domain) id at in
+    rw (← c.self.view_is) (unmap_bad_range m _ c.args.domain c.args.address c.args.pages c.in-Some-index_mut.domain (put_back m c.place_of.result (Some c.in-Some-index_mut.domain) at) there c.in_default-range_at.ensures.none)
+
+pub invariant_of-self-in_default-range_at : goal.invariant_of-self-in_default-range_at
+invariant_of-self-in_default-range_at c =
+    let m : State = record { pool = c.self.inside.pool; domains = c.self.inside.domains.items; iommu = c.self.inside.iommu; calls = c.self.inside.calls } in
+    let read = stands m.domains c.place_of.result c.index_mut.result.now c.self.invariant.0.places c.place_of.ensures.low c.index_mut.ensures.value in
+    let id : c.args.domain ≡ c.place_of.result + 1 = sym c.in-Some.ensures.value ∙ c.place_of.ensures.place in
+    let at : slice_get m.domains c.place_of.result ≡ Some (Some c.in-Some-index_mut.domain) = read ∙ ap Some c.in-Some-index_mut.is in
+    let there : domain_at m.domains c.args.domain ≡ Some c.in-Some-index_mut.domain = at_place m.domains c.args.domain c.place_of.result (Some c.in-Some-index_mut.domain) id at in
+    keeps_found c.self.inside.frames _ _ m c.place_of.result (Some c.in-Some-index_mut.domain) (calls.Unmap c.args.domain c.args.address c.args.pages) (Refused refusals.BadRange)
+    c.self.invariant.0 c.self.invariant.1 at (unmap_bad_range m _ c.args.domain c.args.address c.args.pages c.in-Some-index_mut.domain (put_back m c.place_of.result (Some c.in-Some-index_mut.domain) at) there c.in_default-range_at.ensures.none)
 
 pub unmap-requires-clause-can : goal.unmap-requires-clause-can
 unmap-requires-clause-can c =
-    let m : State = record { pool = c.self.inside.pool; homes = c.self.inside.homes.items; row = c.self.inside.contexts; ring = c.self.inside.iommu.ring; unit = c.self.inside.iommu.unit; sent = c.self.inside.iommu.sent; calls = c.self.inside.calls } in
-    let some = rw c.as_slice.ensures.value at c.in-Some.ensures.some in
-    let at : slice_get c.self.inside.homes.items c.in-Some.index ≡ Some c.index_mut.result.now =
-    slice_get_read c.self.inside.homes.items (length c.self.inside.homes.items) c.in-Some.index c.index_mut.result.now refl some.1 c.index_mut.ensures.value in
-    let h = found c.self.inside.homes.items c.args.domain c.in-Some.index c.index_mut.result.now some.2 some.3 at in
-    rw h.1 (can_unmap m c.args.domain h.0 c.self.invariant.of_world c.self.invariant.places h.2)
+    let m : State = record { pool = c.self.inside.pool; domains = c.self.inside.domains.items; iommu = c.self.inside.iommu; calls = c.self.inside.calls } in
+    let read = stands m.domains c.place_of.result c.index_mut.result.now c.self.invariant.0.places c.place_of.ensures.low c.index_mut.ensures.value in
+    let id : c.args.domain ≡ c.place_of.result + 1 = sym c.in-Some.ensures.value ∙ c.place_of.ensures.place in
+    let at : slice_get m.domains c.place_of.result ≡ Some (Some c.in-Some-index_mut.domain) = read ∙ ap Some c.in-Some-index_mut.is in
+    let there : domain_at m.domains c.args.domain ≡ Some c.in-Some-index_mut.domain = at_place m.domains c.args.domain c.place_of.result (Some c.in-Some-index_mut.domain) id at in
+    can_unmap m c.args.domain c.in-Some-index_mut.domain c.self.invariant.0.of_world c.self.invariant.0.places there
 
--- ---- the place of the domain answers
+-- ---- the domain answers
 
 abbrev before : goal.After-self-2-1 → State
-before c = record { pool = c.self.inside.pool; homes = c.self.inside.homes.items; row = c.self.inside.contexts; ring = c.self.inside.iommu.ring; unit = c.self.inside.iommu.unit; sent = c.self.inside.iommu.sent; calls = c.self.inside.calls }
+before c = record { pool = c.self.inside.pool; domains = c.self.inside.domains.items; iommu = c.self.inside.iommu; calls = c.self.inside.calls }
 
 abbrev after : goal.After-self-2-1 → State
-after c = changed (before c) c.in-Some.index c.unmap.new.pool c.unmap.new.self c.unmap.new.iommu
+after c = changed (before c) c.place_of.result c.unmap.new.pool (Some c.unmap.new.self) c.unmap.new.iommu
 
-answered : (c : goal.After-self-2-1) → AnswersUnmap c.self.inside.frames (before c) c.args.domain c.args.address c.args.pages c.unmap.result (after c)
+answered : (c : goal.After-self-2-1)
+    → AnswersUnmap c.self.inside.frames (before c) c.args.domain c.args.address c.args.pages c.unmap.result (after c)
 answered c =
-    let some = rw c.as_slice.ensures.value at c.in-Some.ensures.some in
-    let at : slice_get c.self.inside.homes.items c.in-Some.index ≡ Some c.index_mut.result.now =
-    slice_get_read c.self.inside.homes.items (length c.self.inside.homes.items) c.in-Some.index c.index_mut.result.now refl some.1 c.index_mut.ensures.value in
-    let h = found c.self.inside.homes.items c.args.domain c.in-Some.index c.index_mut.result.now some.2 some.3 at in
-    let id : c.unwrap-id.result ≡ c.args.domain = search rules in
+    let m : State = record { pool = c.self.inside.pool; domains = c.self.inside.domains.items; iommu = c.self.inside.iommu; calls = c.self.inside.calls } in
+    let read = stands m.domains c.place_of.result c.index_mut.result.now c.self.invariant.0.places c.place_of.ensures.low c.index_mut.ensures.value in
+    let id : c.args.domain ≡ c.place_of.result + 1 = sym c.in-Some.ensures.value ∙ c.place_of.ensures.place in
+    let at : slice_get m.domains c.place_of.result ≡ Some (Some c.in-Some-index_mut.domain) = read ∙ ap Some c.in-Some-index_mut.is in
+    let there : domain_at m.domains c.args.domain ≡ Some c.in-Some-index_mut.domain = at_place m.domains c.args.domain c.place_of.result (Some c.in-Some-index_mut.domain) id at in
+    let less : c.place_of.result < length m.domains = omega (arith, c.self.invariant.0.places, c.place_of.ensures.low) in
     let range = c.in-Some-range_at.ensures.some in
-    unmap_answered c.self.inside.frames (before c) c.args.domain c.args.address c.args.pages c.in-Some.index c.index_mut.result.now c.unmap.new.self h.0 c.unmap.new.pool c.unmap.new.iommu c.unmap.result c.self.invariant some.1 some.0 at h.1 h.2 range.0 range.2
-    (rw (h.1, id, range.1) at c.unmap.ensures)
+    let ended : IsUnmapped (parts_in m c.in-Some-index_mut.domain) c.args.domain (range_at c.args.address c.args.pages) c.unmap.result
+        (parts_of c.unmap.new.pool c.unmap.new.self c.unmap.new.iommu) =
+    rw (← c.in-Some.ensures.value, ← range.1) c.unmap.ensures in
+    unmap_answered c.self.inside.frames m c.args.domain c.args.address c.args.pages c.place_of.result c.in-Some-index_mut.domain c.unmap.new.self
+    c.unmap.new.pool c.unmap.new.iommu c.unmap.result c.self.invariant.0 less id at there range.0 range.2 ended
 
 pub invariant_of-self-2 : goal.invariant_of-self-2
-invariant_of-self-2 c = (answered c).whole
+invariant_of-self-2 c =
+    let m : State = record { pool = c.self.inside.pool; domains = c.self.inside.domains.items; iommu = c.self.inside.iommu; calls = c.self.inside.calls } in
+    let read = stands m.domains c.place_of.result c.index_mut.result.now c.self.invariant.0.places c.place_of.ensures.low c.index_mut.ensures.value in
+    let id : c.args.domain ≡ c.place_of.result + 1 = sym c.in-Some.ensures.value ∙ c.place_of.ensures.place in
+    let at : slice_get m.domains c.place_of.result ≡ Some (Some c.in-Some-index_mut.domain) = read ∙ ap Some c.in-Some-index_mut.is in
+    let there : domain_at m.domains c.args.domain ≡ Some c.in-Some-index_mut.domain = at_place m.domains c.args.domain c.place_of.result (Some c.in-Some-index_mut.domain) id at in
+    ((answered c).whole, rooms_stay _ _ c.place_of.result m.domains c.in-Some-index_mut.domain c.unmap.new.self at c.self.invariant.1)
 
 pub returns : goal.returns
 returns c = rw (← c.self.view_is) (answered c).does

@@ -1,5 +1,0 @@
-use Rattle.engine.proofs.Invalidating.{done_then}
-use Rattle.engine.proofs.home.Home.close.Goals as goal
-
-pub destroy-requires-clause-invalidated : goal.destroy-requires-clause-invalidated
-destroy-requires-clause-invalidated c = done_then _ _ _ _ _ _ _ c.flush.ensures.flushes.invalidates

@@ -1,5 +1,0 @@
-use Rattle.engine.proofs.Invalidating.{done_then}
-use Rattle.engine.proofs.home.Home.flush.Goals as goal
-
-pub release_all-requires-clause-invalidated : goal.release_all-requires-clause-invalidated
-release_all-requires-clause-invalidated c = done_then _ _ _ _ _ _ _ c.invalidate.ensures

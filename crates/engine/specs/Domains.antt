@@ -1,0 +1,40 @@
+-- Domains, how one is found by its id, and what a call of a domain works on.
+use Rattle.std.specs.Prelude.{ℕ, ◌-◌, ◌==◌, List, [], Option, None, slice_get, if◌then◌else◌, sum_by}
+use Rattle.std.specs.Option.{option_flatten}
+use Rattle.dmatypes.specs.declared.call.Mode.{Mode}
+use Rattle.dmatypes.specs.declared.width.TheConstants.{PAGES_END}
+use Rattle.iova.specs.Space.{Space, new_space}
+use Rattle.tables.specs.Pool.{Pool, occurs}
+use Rattle.engine.specs.declared.iommu.Iommu.{Iommu}
+use Rattle.engine.specs.declared.record.Record.{Record}
+
+-- a domain of the state: its mode, the number of flushes begun, the root of its tree, its address space, and its retired
+-- records. The world has a `Domain` too, the pages that are live and retired as a caller sees them: where a file speaks
+-- of both, that one is `world.Domain`
+pub record Domain : Type 0 where
+  pub mode : Mode
+  pub begun : ℕ
+  pub root : ℕ
+  pub space : Space
+  pub records : List Record
+
+-- a domain with no page, of an empty tree
+abbrev pub new_domain : Mode → ℕ → Domain
+new_domain mode root = record { mode = mode; begun = 0; root = root; space = new_space (PAGES_END - 1); records = [] }
+
+-- the domain of an id: domains 1 to 15 stand at places 0 to 14
+abbrev pub domain_at : List (Option Domain) → ℕ → Option Domain
+domain_at domains d = if d == 0 then None else option_flatten (slice_get domains (d - 1))
+
+-- how often records hold a frame
+abbrev pub held_in : List Record → ℕ → ℕ
+held_in records f = sum_by (λ (r : Record). occurs f r.cut.frames) records
+
+-- what a call of a domain works on: the table frames, the domain, and the IOMMU
+pub record Parts : Type 0 where
+  pub pool : Pool
+  pub domain : Domain
+  pub iommu : Iommu
+
+abbrev pub parts_of : Pool → Domain → Iommu → Parts
+parts_of pool domain iommu = record { pool = pool; domain = domain; iommu = iommu }

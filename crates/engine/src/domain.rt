@@ -1,0 +1,305 @@
+//! A domain: its tree, its address space and its retired records.
+
+ghost use Rattle.std.specs.Prelude.{◌≡◌, ◌<◌, ◌≤◌, ◌++◌, ◌∷◌, length, IfOk, IfErr, OnErr, Ok, [], vec_capacity};
+ghost use Rattle.dmatypes.specs.Conditions.{total_pages};
+ghost use Rattle.dmatypes.specs.Page.{Range};
+ghost use Rattle.dmatypes.specs.Rights.{bits_of};
+ghost use Rattle.dmatypes.specs.declared.width.TheConstants.{LEVELS, PAGES_END};
+ghost use Rattle.iova.specs.Space.{AllFree, IsSpace, MayRetire};
+ghost use Rattle.tables.specs.Pool.{IsTree};
+ghost use Rattle.vtdbits.specs.declared.descriptor.Descriptor.TheVariants.{IotlbDomain};
+ghost use Rattle.engine.specs.Domains.{new_domain, parts_of};
+ghost use Rattle.engine.specs.Ending.{Closes, Destroys, Flushes, IsJudgedEnd, IsUnmapped, MakesRoom, PutsOff, Releases, ReleasesAll, RetiresAndUnmaps, UnmapsStrictly};
+ghost use Rattle.engine.specs.Judged.{AreMappable};
+ghost use Rattle.engine.specs.Placing.{CanPlace, IsUnplaced, Places};
+ghost use Rattle.engine.specs.Ready.{AreReleasable, CanCut, CanUnmap, IsDone, IsInvalidated, IsReady, IsReleasable};
+
+use crate::iommu::Iommu;
+use crate::record::Record;
+use crate::room::{MOST_RECORDS, Room};
+use crate::wanted::Wanted;
+use dmatypes::{Frame, Mode, PageRange, Refusal, Segment};
+use iova::{RetireError, Space, TakeError};
+use std::marker::Model;
+use tables::{NoFrames, Pool, Tree};
+use vtdbits::DomainId;
+
+mod readers;
+
+/// A domain: its mode, the number of flushes begun, its tree, its address space, and its retired records.
+#[derive(Drop)]
+pub(crate) struct Domain {
+    mode: Mode,
+    begun: u64,
+    tree: Tree,
+    space: Space,
+    records: Vec<Record>,
+}
+
+impl Model for Domain {
+    ghost use Rattle.std.specs.Prelude.{◌≡◌, ◌≤◌, ◌-◌, vec_capacity, vec_len};
+    ghost use Rattle.dmatypes.specs.declared.width.TheConstants.{PAGES_END};
+    ghost use Rattle.engine.specs.Domains.{Domain};
+
+    ghost Value = { Domain };
+
+    ghost view = { λ d. record { mode = d.mode; begun = d.begun; root = d.tree.root; space = d.space; records = d.records.items } };
+
+    ghost invariant = { λ d. (d.space.last ≡ PAGES_END - 1) × (256 ≤ vec_capacity d.records) × (vec_len d.records ≤ 256) };
+}
+
+impl Domain {
+    /// A domain with no page, of an empty tree.
+    pub(crate) fn new(mode: Mode, tree: Tree, room: Room) -> Domain
+        ensures new { result ≡ new_domain mode tree.root }
+        ensures free { AllFree result.space }
+        ensures space { IsSpace result.space }
+    {
+        let mut space = room.space;
+        let mut records = room.records;
+        space.reset();
+        records.clear();
+        Domain {
+            mode,
+            begun: 0,
+            tree,
+            space,
+            records,
+        }
+    }
+
+    /// The root of its tree.
+    pub(crate) fn root(&self) -> Frame
+        ensures { result ≡ self.now.root }
+    {
+        self.tree.root()
+    }
+
+    /// Makes the pages of the segments live at the lowest aligned start where they are free, maps them, and answers the
+    /// first of them. Changes nothing where it refuses: `NoRange` where there is no start, else `TooManyPieces` where the
+    /// address space would be cut into too many pieces, else `NoFrames` where the tables that the pages lack are more
+    /// than the free frames.
+    pub(crate) fn map(
+        &mut self,
+        pool: &mut Pool,
+        segments: &[Segment],
+        wanted: Wanted,
+    ) -> Result<u64, Refusal>
+        requires can { CanPlace pool.old self.old }
+        requires mappable { AreMappable segments.now }
+        requires few { length segments.now ≤ 16 }
+        requires pages { wanted.pages ≡ total_pages segments.now }
+        ensures placed { IfOk result (λ first. Places pool.old self.old
+            (record { segments = segments.now; order = wanted.order; rights = bits_of wanted.rights; first = first }) pool.new self.new) }
+        ensures near { IfOk result (λ first. first < PAGES_END) }
+        ensures refused { IfErr result (IsUnplaced pool.old self.old segments.now wanted.order) }
+        ensures pool { OnErr result (pool.new ≡ pool.old) }
+        ensures domain { OnErr result (self.new ≡ self.old) }
+    {
+        let start = match self.space.take(wanted.pages, wanted.order) {
+            Ok(start) => start,
+            Err(TakeError::NoRange) => return Err(Refusal::NoRange),
+            Err(TakeError::TooManyPieces) => return Err(Refusal::TooManyPieces),
+        };
+        match self.tree.map_list(pool, start, segments, wanted.rights) {
+            Ok(()) => Ok(start.number()),
+            Err(NoFrames) => {
+                let Some(range) = PageRange::new(start.number(), wanted.pages) else {
+                    unreachable!()
+                };
+                self.space.undo_take(range);
+                Err(Refusal::NoFrames)
+            }
+        }
+    }
+
+    /// Ends a range of live pages, and answers how many retired records went for it. Refuses, and changes nothing, where
+    /// `may_end` does. In a strict domain the pages are invalidated and free then; in a lazy one they are its last
+    /// record.
+    pub(crate) fn unmap(
+        &mut self,
+        pool: &mut Pool,
+        iommu: &mut Iommu,
+        id: DomainId,
+        range: PageRange,
+    ) -> Result<u64, Refusal>
+        requires can { CanUnmap pool.old self.old }
+        requires ready { IsReady iommu.old }
+        ensures { IsUnmapped (parts_of pool.old self.old iommu.old) id range result (parts_of pool.new self.new iommu.new) }
+    {
+        self.may_end(pool, range)?;
+        match self.mode {
+            Mode::Strict => {
+                self.unmap_strictly(pool, iommu, id, range);
+                Ok(0)
+            }
+            Mode::Lazy => Ok(self.unmap_lazily(pool, iommu, id, range)),
+        }
+    }
+
+    // Only when the wait is done are the pages free and the table frames given back.
+    fn unmap_strictly(&mut self, pool: &mut Pool, iommu: &mut Iommu, id: DomainId, range: PageRange)
+        requires can { CanCut pool.old self.old }
+        requires may { IsJudgedEnd pool.old self.old range (Ok tt) }
+        requires ready { IsReady iommu.old }
+        ensures { UnmapsStrictly (parts_of pool.old self.old iommu.old) id range (parts_of pool.new self.new iommu.new) }
+    {
+        let retired = self.end(pool, range);
+        iommu.invalidate_pages(id, &retired, pool, &self.tree);
+        release(&mut self.space, pool, iommu, id, &retired);
+    }
+
+    // The pages become the last record; where there is no room for one, all others go first.
+    fn unmap_lazily(
+        &mut self,
+        pool: &mut Pool,
+        iommu: &mut Iommu,
+        id: DomainId,
+        range: PageRange,
+    ) -> u64
+        requires can { CanUnmap pool.old self.old }
+        requires may { IsJudgedEnd pool.old self.old range (Ok tt) }
+        requires ready { IsReady iommu.old }
+        ensures { PutsOff (parts_of pool.old self.old iommu.old) id range result (parts_of pool.new self.new iommu.new) }
+    {
+        let released = self.make_room(pool, iommu, id);
+        let retired = self.end(pool, range);
+        self.put_aside(retired);
+        released
+    }
+
+    // Room for one more record: where there is none, all go. Answers how many went.
+    fn make_room(&mut self, pool: &mut Pool, iommu: &mut Iommu, id: DomainId) -> u64
+        requires can { AreReleasable pool.old self.old.space self.old.records }
+        requires ready { IsReady iommu.old }
+        ensures room { MakesRoom (parts_of pool.old self.old iommu.old) id result (parts_of pool.new self.new iommu.new) }
+        ensures fewer { length self.new.records < 256 }
+    {
+        if self.records.len() < MOST_RECORDS {
+            0
+        } else {
+            self.flush(pool, iommu, id)
+        }
+    }
+
+    /// Has the unit forget all that it remembers of the domain, releases all its records, and answers how many.
+    pub(crate) fn flush(&mut self, pool: &mut Pool, iommu: &mut Iommu, id: DomainId) -> u64
+        requires can { AreReleasable pool.old self.old.space self.old.records }
+        requires ready { IsReady iommu.old }
+        ensures flushes { Flushes (parts_of pool.old self.old iommu.old) id (parts_of pool.new self.new iommu.new) }
+        ensures count { result ≡ length self.old.records }
+    {
+        let released = self.records.len() as u64;
+        iommu.invalidate_domain(id);
+        release_all(&mut self.space, pool, iommu, id, &mut self.records);
+        released
+    }
+
+    /// Ends the domain with all its pages, gives all its table frames back, and leaves its room.
+    pub(crate) fn close(mut self, pool: &mut Pool, iommu: &mut Iommu, id: DomainId) -> Room
+        requires can { CanUnmap pool.old self }
+        requires ready { IsReady iommu.old }
+        ensures { Closes (parts_of pool.old self iommu.old) id pool.new iommu.new }
+    {
+        self.flush(pool, iommu, id);
+        destroy(self.tree, pool, iommu, id);
+        Room {
+            space: self.space,
+            records: self.records,
+        }
+    }
+
+    // A record is the last.
+    fn put_aside(&mut self, retired: Record)
+        requires { length self.old.records < 256 }
+        ensures { self.new ≡ record self.old { records = self.old.records ++ retired ∷ [] } }
+    {
+        let _ = self.records.push(retired);
+    }
+
+    // Whether a range may end: `NotLive` where a page of it isn't live, else `TooManyPieces` where the address space would
+    // be cut into too many pieces, else `NoFrames` where the leaves of 2 MiB that are to be split are more than the free
+    // frames.
+    fn may_end(&self, pool: &Pool, range: PageRange) -> Result<(), Refusal>
+        requires { IsTree pool.now LEVELS self.now.root }
+        ensures { IsJudgedEnd pool.now self.now range result }
+    {
+        match self.space.may_retire(range) {
+            Ok(()) => {}
+            Err(RetireError::NotLive) => return Err(Refusal::NotLive),
+            Err(RetireError::TooManyPieces) => return Err(Refusal::TooManyPieces),
+        }
+        match self.tree.may_unmap(pool, range) {
+            Ok(()) => Ok(()),
+            Err(NoFrames) => Err(Refusal::NoFrames),
+        }
+    }
+
+    // Retires a range of live pages in the address space, unmaps it in the tree, and answers its record.
+    #[inline(always)]
+    fn end(&mut self, pool: &mut Pool, range: PageRange) -> Record
+        requires can { CanCut pool.old self.old }
+        requires may { IsJudgedEnd pool.old self.old range (Ok tt) }
+        ensures range { result.range ≡ range }
+        ensures ends { RetiresAndUnmaps pool.old self.old result pool.new self.new }
+    {
+        self.space.retire(range);
+        let cut = self.tree.unmap(pool, range);
+        Record {
+            range,
+            mark: self.begun,
+            cut,
+        }
+    }
+}
+
+/// Releases the pages of a retired record of a domain, and the table frames that were cut with them. The unit has
+/// forgotten them: it has done the last wait, and before it a descriptor that covers them.
+#[inline(always)]
+pub(crate) fn release(
+    space: &mut Space,
+    pool: &mut Pool,
+    iommu: &Iommu,
+    id: DomainId,
+    retired: &Record,
+)
+    requires can { IsReleasable pool.old space.old retired.now }
+    requires invalidated { IsInvalidated iommu.now id retired.now }
+    ensures released { Releases pool.old space.old retired.now pool.new space.new }
+    ensures retirable { (other : Range) → MayRetire space.old.pieces other → MayRetire space.new.pieces other }
+    ensures more { length pool.old.free ≤ length pool.new.free }
+{
+    space.release(retired.range);
+    pool.give_back(retired.cut.frames());
+}
+
+/// Destroys the tree of a domain: its table frames are given back. The unit has done the last wait, and before it the
+/// descriptor that names all of the domain.
+#[inline(always)]
+fn destroy(tree: Tree, pool: &mut Pool, iommu: &Iommu, id: DomainId)
+    requires tree { IsTree pool.old LEVELS tree.root }
+    requires invalidated { IsDone iommu.now.ring (IotlbDomain id) iommu.now.sent }
+    ensures { Destroys pool.old tree.root pool.new }
+{
+    tree.destroy(pool);
+}
+
+/// Releases all records of a domain, the last one first. The unit has done the last wait, and before it the descriptor
+/// that names all of the domain.
+pub(crate) fn release_all(
+    space: &mut Space,
+    pool: &mut Pool,
+    iommu: &Iommu,
+    id: DomainId,
+    records: &mut Vec<Record>,
+)
+    requires can { AreReleasable pool.old space.old records.old.items }
+    requires invalidated { IsDone iommu.now.ring (IotlbDomain id) iommu.now.sent }
+    ensures released { ReleasesAll pool.old space.old records.old.items pool.new space.new }
+    ensures none { records.new.items ≡ [] }
+    ensures room { vec_capacity records.new ≡ vec_capacity records.old }
+{
+    while let Some(retired) = records.pop() {
+        release(space, pool, iommu, id, &retired);
+    }
+}

@@ -1,0 +1,62 @@
+//! What a report tells of one domain.
+
+ghost use Rattle.std.specs.Prelude.{◌≡◌, ◌<◌, ◌≤◌, ◌^◌, All, length};
+ghost use Rattle.iova.specs.Pieces.{IsOrdered};
+ghost use Rattle.engine.specs.Totals.{held_by, live_in, live_pages, totals_of_domain};
+
+use super::Domain;
+use crate::record::Record;
+use crate::state::DomainTotals;
+use iova::{PageState, Piece};
+
+impl Domain {
+    /// What the domain has.
+    pub(crate) fn totals(&self) -> DomainTotals
+        ensures { result ≡ totals_of_domain self.now }
+    {
+        let pieces = self.space.pieces();
+        DomainTotals {
+            mode: self.mode,
+            live: live_pages(pieces),
+            retired: self.records.len() as u64,
+            pieces: pieces.len() as u64,
+        }
+    }
+
+    /// How many table frames the retired records hold: at most 8 each.
+    pub(crate) fn held(&self) -> u64
+        ensures held { result ≡ held_by self.now.records }
+        ensures few { result ≤ 2048 }
+    {
+        held_by(self.records.as_slice())
+    }
+}
+
+// How many table frames the records hold.
+fn held_by(records: &[Record]) -> u64
+    requires { length records.now ≤ 256 }
+    ensures held { result ≡ held_by records.now }
+    ensures few { result ≤ 2048 }
+{
+    let mut held = 0;
+    for record in records {
+        held += record.cut.frames().len() as u64;
+    }
+    held
+}
+
+// How many pages of the pieces are live.
+fn live_pages(pieces: &[Piece]) -> u64
+    requires ordered { IsOrdered 1 pieces.now }
+    requires narrow { All (λ p. p.last < 2 ^ 40) pieces.now }
+    requires few { length pieces.now ≤ 1024 }
+    ensures { result ≡ live_pages pieces.now }
+{
+    let mut live = 0;
+    for piece in pieces {
+        if let PageState::Live = piece.state {
+            live += piece.last + 1 - piece.first;
+        }
+    }
+    live
+}
