@@ -17,7 +17,7 @@ use Rattle.dmatypes.specs.declared.reply.Reply.{Reply}
 use Rattle.dmatypes.specs.declared.width.Width.TheVariants.{W39}
 use Rattle.tables.specs.Pool.{memory}
 use Rattle.unit.specs.Answers.{Answers}
-use Rattle.unit.specs.Caches.{Caches, Context, unit_state}
+use Rattle.unit.specs.Caches.{Caches, CachedContext, unit_state}
 use Rattle.unit.specs.declared.hit.Hit.{Hit}
 use Rattle.vtdbits.specs.declared.context.ContextEntry.TheVariants.{Present}
 use Rattle.engine.specs.Hits.{IsHitIn, IsHitOf, IsNoRequest, hit_in}
@@ -39,7 +39,7 @@ remembering m c steps done calls = record m { iommu = record m.iommu { unit = un
 
 -- it keeps the quarantine where the caches are lawful
 pub quarantine_remembering : (m : State) (w : World) (c : Caches) (steps done calls : ℕ) → Quarantine m w → AreLawful m w c
-    → ((y : Context) → IsIn y c.contexts → slice_get m.iommu.contexts y.device ≡ Some (Present y.root W39 y.domain)) → Quarantine (remembering m c steps done calls) w
+    → ((y : CachedContext) → IsIn y c.contexts → slice_get m.iommu.contexts y.device ≡ Some (Present y.root W39 y.domain)) → Quarantine (remembering m c steps done calls) w
 quarantine_remembering m w c steps done calls q lawful contexts = record {
   table_frames = q.table_frames;
   domains = q.domains;

@@ -6,7 +6,7 @@ use Rattle.dmatypes.specs.World as world
 use Rattle.tables.specs.Changes.{Stays}
 use Rattle.tables.specs.Pool.{Pool, memory, occurs, IsZeroed}
 use Rattle.tables.specs.Tree.{leaf_from, table_from, uses}
-use Rattle.unit.specs.Caches.{Context, Leaf, NonLeaf}
+use Rattle.unit.specs.Caches.{CachedContext, CachedLeaf, CachedNonLeaf}
 use Rattle.engine.specs.Domains.{Domain, held_in, domain_at}
 use Rattle.engine.specs.State.{State}
 use Rattle.engine.specs.Quarantine.{Attaches, InDomain, IsLawfulLeaf, IsLawfulTable, Mirrors, Quarantine, owned}
@@ -42,9 +42,9 @@ pub record ChangesDomain (m t : State) (d : ℕ) (h h' : Domain) (v v' : world.D
   pub zeroed : (f : ℕ) → 0 < occurs f t.pool.free → IsZeroed t.pool.words f
   pub held : (e : ℕ) (k : Domain) → domain_at m.domains e ≡ Some k → (f : ℕ) → 0 < held_in k.records f → IsZeroed t.pool.words f
   pub held_here : (f : ℕ) → 0 < held_in h'.records f → IsZeroed t.pool.words f
-  pub leaves : (l : Leaf) → IsIn l t.iommu.unit.caches.leaves → IsIn l m.iommu.unit.caches.leaves × (l.domain ≡ d → IsLawfulLeaf m.pool.words l h v → IsLawfulLeaf t.pool.words l h' v')
-  pub tables : (i : NonLeaf) → IsIn i t.iommu.unit.caches.non_leaves → IsIn i m.iommu.unit.caches.non_leaves × (i.domain ≡ d → IsLawfulTable m.pool.words i h v → IsLawfulTable t.pool.words i h' v')
-  pub contexts : (x : Context) → IsIn x t.iommu.unit.caches.contexts → IsIn x m.iommu.unit.caches.contexts
+  pub leaves : (l : CachedLeaf) → IsIn l t.iommu.unit.caches.leaves → IsIn l m.iommu.unit.caches.leaves × (l.domain ≡ d → IsLawfulLeaf m.pool.words l h v → IsLawfulLeaf t.pool.words l h' v')
+  pub tables : (i : CachedNonLeaf) → IsIn i t.iommu.unit.caches.non_leaves → IsIn i m.iommu.unit.caches.non_leaves × (i.domain ≡ d → IsLawfulTable m.pool.words i h v → IsLawfulTable t.pool.words i h' v')
+  pub contexts : (x : CachedContext) → IsIn x t.iommu.unit.caches.contexts → IsIn x m.iommu.unit.caches.contexts
 
 module _ (m t : State) (w : World) (d : ℕ) (h h' : Domain) (v v' : world.Domain) (q : Quarantine m w) (many : length m.domains ≡ 15) (there : domain_at m.domains d ≡ Some h) (here : w.domains d ≡ Some v) (c : ChangesDomain m t d h h' v v') where
   low : d < 16
@@ -71,7 +71,7 @@ module _ (m t : State) (w : World) (d : ℕ) (h h' : Domain) (v v' : world.Domai
   abbrev after : World
   after = record w { domains = put d (Some v') w.domains }
 
-  leaf_lawful : (l : Leaf) → (l.domain ≡ d → IsLawfulLeaf m.pool.words l h v → IsLawfulLeaf t.pool.words l h' v') → InDomain m w l.domain (IsLawfulLeaf m.pool.words l) → (l.domain ≡ d) ⊎ (l.domain ≢ d)
+  leaf_lawful : (l : CachedLeaf) → (l.domain ≡ d → IsLawfulLeaf m.pool.words l h v → IsLawfulLeaf t.pool.words l h' v') → InDomain m w l.domain (IsLawfulLeaf m.pool.words l) → (l.domain ≡ d) ⊎ (l.domain ≢ d)
       → InDomain t after l.domain (IsLawfulLeaf t.pool.words l)
   leaf_lawful l keeps (k, u, at, in_world, was) (inl same) = (
     h',
@@ -83,7 +83,7 @@ module _ (m t : State) (w : World) (d : ℕ) (h h' : Domain) (v v' : world.Domai
   leaf_lawful l keeps (k, u, at, in_world, was) (inr ne) =
       (k, u, at_other l.domain ne ∙ at, put_other d (Some v') w.domains l.domain ne ∙ in_world, (other_keeps l.domain k u ne at).leaf l was)
 
-  table_lawful : (i : NonLeaf) → (i.domain ≡ d → IsLawfulTable m.pool.words i h v → IsLawfulTable t.pool.words i h' v') → InDomain m w i.domain (IsLawfulTable m.pool.words i) → (i.domain ≡ d) ⊎ (i.domain ≢ d)
+  table_lawful : (i : CachedNonLeaf) → (i.domain ≡ d → IsLawfulTable m.pool.words i h v → IsLawfulTable t.pool.words i h' v') → InDomain m w i.domain (IsLawfulTable m.pool.words i) → (i.domain ≡ d) ⊎ (i.domain ≢ d)
       → InDomain t after i.domain (IsLawfulTable t.pool.words i)
   table_lawful i keeps (k, u, at, in_world, was) (inl same) = (
     h',

@@ -6,7 +6,7 @@ use Rattle.dmatypes.specs.World.{World, IsIn, put}
 use Rattle.dmatypes.specs.World as world
 use Rattle.tables.specs.Changes.{Stays}
 use Rattle.tables.specs.Pool.{memory, occurs, IsZeroed}
-use Rattle.unit.specs.Caches.{Leaf, NonLeaf}
+use Rattle.unit.specs.Caches.{CachedLeaf, CachedNonLeaf}
 use Rattle.vtdbits.specs.declared.context.ContextEntry.TheVariants.{Present}
 use Rattle.engine.specs.Ending.{Destroys}
 use Rattle.engine.specs.Domains.{Domain, held_in, domain_at}
@@ -20,7 +20,7 @@ use Rattle.engine.proofs.Domains.{domain_out, domain_low}
 
 -- its records went, and nothing is remembered of it; then its tree goes
 module _ (m t : State) (w : World) (d : ℕ) (h : Domain) (q : Quarantine m w) (many : length m.domains ≡ 15) (there : domain_at m.domains d ≡ Some h) (no_records : h.records ≡ [])
-    (nobody : (x : ℕ) → w.devices x ≡ Some d → ⊥) (no_leaf : (l : Leaf) → IsIn l m.iommu.unit.caches.leaves → l.domain ≡ d → ⊥) (no_table : (i : NonLeaf) → IsIn i m.iommu.unit.caches.non_leaves → i.domain ≡ d → ⊥)
+    (nobody : (x : ℕ) → w.devices x ≡ Some d → ⊥) (no_leaf : (l : CachedLeaf) → IsIn l m.iommu.unit.caches.leaves → l.domain ≡ d → ⊥) (no_table : (i : CachedNonLeaf) → IsIn i m.iommu.unit.caches.non_leaves → i.domain ≡ d → ⊥)
     (domains : (e : ℕ) → domain_at t.domains e ≡ put d None (domain_at m.domains) e) (row : t.iommu.contexts ≡ m.iommu.contexts) (unit : t.iommu.unit ≡ m.iommu.unit) (destroys : Destroys m.pool h.root t.pool) where
   low : d < 16
   low = domain_low m.domains d h many there
@@ -44,10 +44,10 @@ module _ (m t : State) (w : World) (d : ℕ) (h : Domain) (q : Quarantine m w) (
   abbrev after : World
   after = record w { domains = put d None w.domains }
 
-  leaf_lawful : (l : Leaf) → l.domain ≢ d → InDomain m w l.domain (IsLawfulLeaf m.pool.words l) → InDomain t after l.domain (IsLawfulLeaf t.pool.words l)
+  leaf_lawful : (l : CachedLeaf) → l.domain ≢ d → InDomain m w l.domain (IsLawfulLeaf m.pool.words l) → InDomain t after l.domain (IsLawfulLeaf t.pool.words l)
   leaf_lawful l ne (k, u, at, in_world, was) = (k, u, at_other l.domain ne ∙ at, put_other d None w.domains l.domain ne ∙ in_world, (keeps l.domain k u ne at).leaf l was)
 
-  table_lawful : (i : NonLeaf) → i.domain ≢ d → InDomain m w i.domain (IsLawfulTable m.pool.words i) → InDomain t after i.domain (IsLawfulTable t.pool.words i)
+  table_lawful : (i : CachedNonLeaf) → i.domain ≢ d → InDomain m w i.domain (IsLawfulTable m.pool.words i) → InDomain t after i.domain (IsLawfulTable t.pool.words i)
   table_lawful i ne (k, u, at, in_world, was) = (k, u, at_other i.domain ne ∙ at, put_other d None w.domains i.domain ne ∙ in_world, (keeps i.domain k u ne at).table i was)
 
   -- a device is attached to another domain

@@ -10,7 +10,7 @@ use Rattle.dmatypes.specs.World.{World, put}
 use Rattle.dmatypes.specs.declared.width.Width.{Width}
 use Rattle.dmatypes.specs.declared.width.Width.TheVariants.{W39}
 use Rattle.tables.specs.Pool.{Pool}
-use Rattle.unit.specs.Caches.{Context}
+use Rattle.unit.specs.Caches.{CachedContext}
 use Rattle.unit.specs.Filters.{drops_context}
 use Rattle.vtdbits.specs.declared.context.ContextEntry.{ContextEntry}
 use Rattle.vtdbits.specs.declared.context.ContextEntry.TheVariants.{Absent, Present}
@@ -24,7 +24,7 @@ use Rattle.engine.proofs.Lists.{get_set, get_set_other, is_none, not_none, put_o
 use Rattle.engine.proofs.Purging.{Purges, purges_sent}
 use Rattle.engine.proofs.Refusing.{counted, refuses}
 
-dropped_context : (domain device : ℕ) (x : Context) → x.device ≡ device → drops_context (ContextDevice domain device) x ≡ false → ⊥
+dropped_context : (domain device : ℕ) (x : CachedContext) → x.device ≡ device → drops_context (ContextDevice domain device) x ≡ false → ⊥
 dropped_context domain device x same left = grind (arith, nat_tests)
 
 module _ (m t : State) (w : World) (device domain : ℕ) (q : Quarantine m w) (small : device < length m.iommu.contexts) (row : t.iommu.contexts ≡ slice_set m.iommu.contexts device Absent) (purges : Purges (ContextDevice domain device) m.iommu.unit.caches t.iommu.unit.caches)

@@ -4,7 +4,7 @@ use Rattle.dmatypes.specs.World.{World, IsIn}
 use Rattle.dmatypes.specs.World as world
 use Rattle.tables.specs.Pool.{memory}
 use Rattle.tables.specs.Tree.{IsLeafAt, IsTableAt, leaf_from, table_from}
-use Rattle.unit.specs.Caches.{Caches, Leaf, NonLeaf}
+use Rattle.unit.specs.Caches.{Caches, CachedLeaf, CachedNonLeaf}
 use Rattle.engine.specs.Domains.{Domain, domain_at}
 use Rattle.engine.specs.State.{State}
 use Rattle.engine.specs.Quarantine.{AreLawful, IsHeld, IsLawfulLeaf, IsLawfulTable}
@@ -24,8 +24,8 @@ table_at_stays words words' root same first level frame at = (at.0, at.1, at.2, 
 
 -- what a domain keeps for its cached entries: what its leaves state, their entries, its tables and what it holds
 pub record KeepsLawful (words words' : List ℕ) (h h' : Domain) (v v' : world.Domain) : Type 0 where
-  pub leaf : (l : Leaf) → IsLawfulLeaf words l h v → IsLawfulLeaf words' l h' v'
-  pub table : (i : NonLeaf) → IsLawfulTable words i h v → IsLawfulTable words' i h' v'
+  pub leaf : (l : CachedLeaf) → IsLawfulLeaf words l h v → IsLawfulLeaf words' l h' v'
+  pub table : (i : CachedNonLeaf) → IsLawfulTable words i h v → IsLawfulTable words' i h' v'
 
 -- a domain that stays, while the memory of its tree and what it holds do
 pub keeps_same : (words words' : List ℕ) (h : Domain) (v : world.Domain) → ((p : ℕ) → leaf_from (memory words') 3 h.root p ≡ leaf_from (memory words) 3 h.root p)
@@ -64,7 +64,7 @@ stay_lawful m t w w' c lawful keeps = record {
 }
 
 -- fewer entries are lawful too
-pub fewer_lawful : (m : State) (w : World) (c c' : Caches) → AreLawful m w c → ((l : Leaf) → IsIn l c'.leaves → IsIn l c.leaves) → ((i : NonLeaf) → IsIn i c'.non_leaves → IsIn i c.non_leaves) → AreLawful m w c'
+pub fewer_lawful : (m : State) (w : World) (c c' : Caches) → AreLawful m w c → ((l : CachedLeaf) → IsIn l c'.leaves → IsIn l c.leaves) → ((i : CachedNonLeaf) → IsIn i c'.non_leaves → IsIn i c.non_leaves) → AreLawful m w c'
 fewer_lawful m w c c' lawful leaves tables = record {
   leaves = λ l inside. lawful.leaves l (leaves l inside);
   tables = λ i inside. lawful.tables i (tables i inside);

@@ -1,7 +1,7 @@
 -- What descriptors, one after the other, leave of the caches.
 use Rattle.std.proofs.Common.{◌≡◌, ℕ, inl, inr, false, List, [], ◌∷◌, ◌++◌, refl, subst, sym}
 use Rattle.dmatypes.specs.World.{IsIn}
-use Rattle.unit.specs.Caches.{Caches, Context, Leaf, NonLeaf}
+use Rattle.unit.specs.Caches.{Caches, CachedContext, CachedLeaf, CachedNonLeaf}
 use Rattle.unit.specs.Filters.{drops_context, drops_leaf, drops_non_leaf, left_by}
 use Rattle.unit.proofs.Members.{left_context, left_leaf, left_non_leaf}
 use Rattle.vtdbits.specs.declared.descriptor.Descriptor.{Descriptor}
@@ -11,15 +11,15 @@ use Rattle.engine.proofs.Sets.{in_right}
 
 -- what is left was there, and the descriptor doesn't drop it
 pub record Purges (x : Descriptor) (c c' : Caches) : Type 0 where
-  pub leaves : (l : Leaf) → IsIn l c'.leaves → IsIn l c.leaves × (drops_leaf x l ≡ false)
-  pub tables : (i : NonLeaf) → IsIn i c'.non_leaves → IsIn i c.non_leaves × (drops_non_leaf x i ≡ false)
-  pub contexts : (k : Context) → IsIn k c'.contexts → IsIn k c.contexts × (drops_context x k ≡ false)
+  pub leaves : (l : CachedLeaf) → IsIn l c'.leaves → IsIn l c.leaves × (drops_leaf x l ≡ false)
+  pub tables : (i : CachedNonLeaf) → IsIn i c'.non_leaves → IsIn i c.non_leaves × (drops_non_leaf x i ≡ false)
+  pub contexts : (k : CachedContext) → IsIn k c'.contexts → IsIn k c.contexts × (drops_context x k ≡ false)
 
 -- what is left was there
 pub record IsFewer (c c' : Caches) : Type 0 where
-  pub leaves : (l : Leaf) → IsIn l c'.leaves → IsIn l c.leaves
-  pub tables : (i : NonLeaf) → IsIn i c'.non_leaves → IsIn i c.non_leaves
-  pub contexts : (k : Context) → IsIn k c'.contexts → IsIn k c.contexts
+  pub leaves : (l : CachedLeaf) → IsIn l c'.leaves → IsIn l c.leaves
+  pub tables : (i : CachedNonLeaf) → IsIn i c'.non_leaves → IsIn i c.non_leaves
+  pub contexts : (k : CachedContext) → IsIn k c'.contexts → IsIn k c.contexts
 
 purges_one : (x : Descriptor) (c : Caches) → Purges x c (left_by x c)
 purges_one x c = record {

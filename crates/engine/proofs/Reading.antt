@@ -18,7 +18,7 @@ use Rattle.tables.specs.Pool.{memory, IsZeroed}
 use Rattle.tables.specs.Tree.{Found, IsLeafAt, leaf_from, span, stated, states, table_from}
 use Rattle.unit.proofs.Members.{met_is}
 use Rattle.unit.specs.Answers.{IsStart}
-use Rattle.unit.specs.Caches.{Context, Leaf, NonLeaf}
+use Rattle.unit.specs.Caches.{CachedContext, CachedLeaf, CachedNonLeaf}
 use Rattle.unit.specs.Walking.{hold, met, met_leaf, met_non_leaf, stated_by, IsPassed}
 use Rattle.vtdbits.specs.Translation.{target}
 use Rattle.engine.specs.declared.record.Record.{Record}
@@ -93,7 +93,7 @@ pub hold_high : (first pages p : ℕ) → IsTrue (hold first pages p) → p < fi
 hold_high first pages p h = grind (arith, nat_tests)
 
 module _ (words : List ℕ) (h : Domain) (v : world.Domain) (mirrors : Mirrors words h v) where
-  at_cached : (i : NonLeaf) (p level table : ℕ) → IsLawfulTable words i h v → IsTrue (hold i.first i.pages p) → level ≡ i.level → table ≡ i.frame → IsOnWay words h.root p level table ⊎ MeetsNothing words v p level table
+  at_cached : (i : CachedNonLeaf) (p level table : ℕ) → IsLawfulTable words i h v → IsTrue (hold i.first i.pages p) → level ≡ i.level → table ≡ i.frame → IsOnWay words h.root p level table ⊎ MeetsNothing words v p level table
   at_cached i p level table lawful holds high same = elim lawful.named [
     | inl at ↦
         let there : table_from (memory words) 3 h.root p i.level ≡ Some i.frame = at.4 p (hold_low i.first i.pages p holds) (omega (arith, hold_high i.first i.pages p holds, lawful.span)) in
@@ -107,7 +107,7 @@ module _ (words : List ℕ) (h : Domain) (v : world.Domain) (mirrors : Mirrors w
         )
   ]
 
-  pub from_start : (tables : List NonLeaf) (look : Bool) (x : Context) (p level table : ℕ) → h.root ≡ x.root → ((i : NonLeaf) → IsIn i tables → i.domain ≡ x.domain → IsLawfulTable words i h v)
+  pub from_start : (tables : List CachedNonLeaf) (look : Bool) (x : CachedContext) (p level table : ℕ) → h.root ≡ x.root → ((i : CachedNonLeaf) → IsIn i tables → i.domain ≡ x.domain → IsLawfulTable words i h v)
       → IsStart tables look x p level table → IsOnWay words h.root p level table ⊎ MeetsNothing words v p level table
   from_start tables look x p level table root lawful start = elim start [
     | inl top ↦ inl (at_root words h.root p level table top.0 (top.1 ∙ sym root))
@@ -161,7 +161,7 @@ module _ (words : List ℕ) (h : Domain) (v : world.Domain) (mirrors : Mirrors w
 
   -- ---- one reading
 
-  pub off_leaf : (l : Leaf) (p : ℕ) (t : Option Target) → IsLawfulLeaf words l h v → IsTrue (hold l.first l.pages p) → t ≡ Some (stated_by p l) → IsReadOf v p t
+  pub off_leaf : (l : CachedLeaf) (p : ℕ) (t : Option Target) → IsLawfulLeaf words l h v → IsTrue (hold l.first l.pages p) → t ≡ Some (stated_by p l) → IsReadOf v p t
   off_leaf l p t lawful holds is = elim (lawful.stated p (hold_low l.first l.pages p holds) (hold_high l.first l.pages p holds)) [
     | inl live ↦ inl (is ∙ sym live)
     | inr old ↦ inr (retired_none h.space v p mirrors.pieces (old.0, old.1, old.2), inr (stated_by p l, is, old))
@@ -171,7 +171,7 @@ module _ (words : List ℕ) (h : Domain) (v : world.Domain) (mirrors : Mirrors w
   off_walk p level table t low is (inl way) = inl (is ∙ ap (stated p) way.0 ∙ mirrors.tree p low)
   off_walk p level table t low is (inr none) = inr (retired_none h.space v p mirrors.pieces none.1, inl (is ∙ ap (stated p) none.0))
 
-  pub leaf_of_way : (domain p level table : ℕ) (l : Leaf) → p < 2 ^ 27 → met domain p (leaf_from (memory words) level table p) ≡ Some l → IsOnWay words h.root p level table ⊎ MeetsNothing words v p level table → IsLawfulLeaf words l h v
+  pub leaf_of_way : (domain p level table : ℕ) (l : CachedLeaf) → p < 2 ^ 27 → met domain p (leaf_from (memory words) level table p) ≡ Some l → IsOnWay words h.root p level table ⊎ MeetsNothing words v p level table → IsLawfulLeaf words l h v
   leaf_of_way domain p level table l low is (inl way) =
       let found = met_is domain p (leaf_from (memory words) level table p) l is in
       subst (λ k. IsLawfulLeaf words k h v) (sym found.2) (met_lawful domain p found.0 low (sym way.0 ∙ found.1))
@@ -179,7 +179,7 @@ module _ (words : List ℕ) (h : Domain) (v : world.Domain) (mirrors : Mirrors w
       let found = met_is domain p (leaf_from (memory words) level table p) l is in
       absurd (none-some found.0 (sym none.0 ∙ found.1))
 
-  pub table_of_way : (domain p level table : ℕ) (i : NonLeaf) → p < 2 ^ 27 → IsPassed (memory words) level table domain p i → IsOnWay words h.root p level table ⊎ MeetsNothing words v p level table → IsLawfulTable words i h v
+  pub table_of_way : (domain p level table : ℕ) (i : CachedNonLeaf) → p < 2 ^ 27 → IsPassed (memory words) level table domain p i → IsOnWay words h.root p level table ⊎ MeetsNothing words v p level table → IsLawfulTable words i h v
   table_of_way domain p level table i low passed (inl way) =
       subst (λ k. IsLawfulTable words k h v) (sym passed.5) (passed_lawful domain p passed.0 passed.1 low passed.2 (omega (arith, passed.3, way.1)) (sym (way.2 passed.0 passed.3) ∙ passed.4))
   table_of_way domain p level table i low passed (inr none) = absurd (none-some passed.1 (sym (none.2 passed.0 passed.3) ∙ passed.4))

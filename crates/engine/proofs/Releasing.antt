@@ -13,7 +13,7 @@ use Rattle.iova.specs.Pieces.{piece_of, state_at}
 use Rattle.iova.specs.Space.{Space, MayRetire}
 use Rattle.tables.specs.Pool.{Pool, memory, occurs, IsZeroed}
 use Rattle.tables.specs.Tree.{states, uses}
-use Rattle.unit.specs.Caches.{Leaf, NonLeaf}
+use Rattle.unit.specs.Caches.{CachedLeaf, CachedNonLeaf}
 use Rattle.unit.specs.Filters.{drops_leaf, drops_non_leaf}
 use Rattle.vtdbits.specs.declared.descriptor.Descriptor.TheVariants.{IotlbDomain, Wait}
 use Rattle.engine.specs.declared.record.Record.{Record}
@@ -127,10 +127,10 @@ mirrors_flushed pool pool' space' h v mirrors all = record {
 }
 
 -- the descriptor drops each entry of the domain
-pub dropped_leaf : (d : ℕ) (l : Leaf) → l.domain ≡ d → drops_leaf (IotlbDomain d) l ≡ false → ⊥
+pub dropped_leaf : (d : ℕ) (l : CachedLeaf) → l.domain ≡ d → drops_leaf (IotlbDomain d) l ≡ false → ⊥
 dropped_leaf d l same left = grind (arith, nat_tests)
 
-pub dropped_table : (d : ℕ) (i : NonLeaf) → i.domain ≡ d → drops_non_leaf (IotlbDomain d) i ≡ false → ⊥
+pub dropped_table : (d : ℕ) (i : CachedNonLeaf) → i.domain ≡ d → drops_non_leaf (IotlbDomain d) i ≡ false → ⊥
 dropped_table d i same left = grind (arith, nat_tests)
 
 flush_changes : (m t : State) (w : World) (i : ℕ) (h : Domain) (v : world.Domain) (space : Space) → Quarantine m w → length m.domains ≡ 15 → i < length m.domains → domain_at m.domains (i + 1) ≡ Some h

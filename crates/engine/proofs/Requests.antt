@@ -17,7 +17,7 @@ use Rattle.tables.specs.Pool.{memory}
 use Rattle.tables.specs.Tree.{leaf_from}
 use Rattle.unit.proofs.Members.{met_is}
 use Rattle.unit.specs.Answers.{Answers, AnswersWith, IsContextOf, IsRead, IsStart, Tells}
-use Rattle.unit.specs.Caches.{Caches, Context, Leaf, NonLeaf}
+use Rattle.unit.specs.Caches.{Caches, CachedContext, CachedLeaf, CachedNonLeaf}
 use Rattle.unit.specs.Walking.{met, IsPassed}
 use Rattle.unit.specs.declared.hit.Hit.{Hit}
 use Rattle.vtdbits.specs.Translation.{target}
@@ -86,14 +86,14 @@ of_some w device d v is there = ap (option_and_then w.domains) is ∙ there
 
 module _ (m : State) (w : World) (quarantine : Quarantine m w) where
   -- a context of the row or the cache is the row's
-  of_row : (look : Bool) (device : ℕ) (x : Context) → IsContextOf m.iommu.contexts m.iommu.unit.caches.contexts look device x → slice_get m.iommu.contexts x.device ≡ Some (Present x.root W39 x.domain)
+  of_row : (look : Bool) (device : ℕ) (x : CachedContext) → IsContextOf m.iommu.contexts m.iommu.unit.caches.contexts look device x → slice_get m.iommu.contexts x.device ≡ Some (Present x.root W39 x.domain)
   of_row look device x is = elim is.1 [
     | inl row ↦ ap (slice_get m.iommu.contexts) is.0 ∙ row
     | inr cached ↦ quarantine.contexts.cached x cached.1
   ]
 
   -- it names the domain that its device is attached to, and that domain's root
-  of_context : (x : Context) → slice_get m.iommu.contexts x.device ≡ Some (Present x.root W39 x.domain)
+  of_context : (x : CachedContext) → slice_get m.iommu.contexts x.device ≡ Some (Present x.root W39 x.domain)
       → (h : Domain) × (v : world.Domain) × (domain_at m.domains x.domain ≡ Some h) × (w.domains x.domain ≡ Some v) × (h.root ≡ x.root) × Mirrors m.pool.words h v × (domain_of_device w x.device ≡ Some v)
   of_context x row =
       let home = quarantine.contexts.roots x.device x.root x.domain row in
@@ -102,8 +102,8 @@ module _ (m : State) (w : World) (quarantine : Quarantine m w) where
 
 -- ---- one reading
 
-module _ (m : State) (w : World) (lawful : AreLawful m w m.iommu.unit.caches) (x : Context) (h : Domain) (v : world.Domain) (here : domain_at m.domains x.domain ≡ Some h) (there : w.domains x.domain ≡ Some v) (root : h.root ≡ x.root) (mirrors : Mirrors m.pool.words h v)
-    (look fill : Bool) (p : ℕ) (low : p < 2 ^ 27) (leaves' : List Leaf) (tables' : List NonLeaf) (t : Option Target) where
+module _ (m : State) (w : World) (lawful : AreLawful m w m.iommu.unit.caches) (x : CachedContext) (h : Domain) (v : world.Domain) (here : domain_at m.domains x.domain ≡ Some h) (there : w.domains x.domain ≡ Some v) (root : h.root ≡ x.root) (mirrors : Mirrors m.pool.words h v)
+    (look fill : Bool) (p : ℕ) (low : p < 2 ^ 27) (leaves' : List CachedLeaf) (tables' : List CachedNonLeaf) (t : Option Target) where
   begun : (level table : ℕ) → IsStart m.iommu.unit.caches.non_leaves look x p level table → IsOnWay m.pool.words h.root p level table ⊎ MeetsNothing m.pool.words v p level table
   begun level table start =
       from_start m.pool.words h v mirrors m.iommu.unit.caches.non_leaves look x p level table root
@@ -120,23 +120,23 @@ module _ (m : State) (w : World) (lawful : AreLawful m w m.iommu.unit.caches) (x
   in_domain : (P : Domain → world.Domain → Type 0) (d : ℕ) → d ≡ x.domain → P h v → InDomain m w d P
   in_domain P d same has = subst (λ e. InDomain m w e P) (sym same) (h, v, here, there, has)
 
-  new_leaf : (level table : ℕ) (l : Leaf) → IsStart m.iommu.unit.caches.non_leaves look x p level table → met x.domain p (leaf_from (memory m.pool.words) level table p) ≡ Some l → InDomain m w l.domain (IsLawfulLeaf m.pool.words l)
+  new_leaf : (level table : ℕ) (l : CachedLeaf) → IsStart m.iommu.unit.caches.non_leaves look x p level table → met x.domain p (leaf_from (memory m.pool.words) level table p) ≡ Some l → InDomain m w l.domain (IsLawfulLeaf m.pool.words l)
   new_leaf level table l start is =
       let found = met_is x.domain p (leaf_from (memory m.pool.words) level table p) l is in
-      in_domain (IsLawfulLeaf m.pool.words l) l.domain (ap (λ (k : Leaf). k.domain) found.2) (leaf_of_way m.pool.words h v mirrors x.domain p level table l low is (begun level table start))
+      in_domain (IsLawfulLeaf m.pool.words l) l.domain (ap (λ (k : CachedLeaf). k.domain) found.2) (leaf_of_way m.pool.words h v mirrors x.domain p level table l low is (begun level table start))
 
-  new_table : (level table : ℕ) (i : NonLeaf) → IsStart m.iommu.unit.caches.non_leaves look x p level table → IsPassed (memory m.pool.words) level table x.domain p i → InDomain m w i.domain (IsLawfulTable m.pool.words i)
+  new_table : (level table : ℕ) (i : CachedNonLeaf) → IsStart m.iommu.unit.caches.non_leaves look x p level table → IsPassed (memory m.pool.words) level table x.domain p i → InDomain m w i.domain (IsLawfulTable m.pool.words i)
   new_table level table i start passed =
-      in_domain (IsLawfulTable m.pool.words i) i.domain (ap (λ (k : NonLeaf). k.domain) passed.5) (table_of_way m.pool.words h v mirrors x.domain p level table i low passed (begun level table start))
+      in_domain (IsLawfulTable m.pool.words i) i.domain (ap (λ (k : CachedNonLeaf). k.domain) passed.5) (table_of_way m.pool.words h v mirrors x.domain p level table i low passed (begun level table start))
 
-  read_leaves : IsRead (memory m.pool.words) x look fill p m.iommu.unit.caches.leaves leaves' m.iommu.unit.caches.non_leaves tables' t → (l : Leaf) → IsIn l leaves' → InDomain m w l.domain (IsLawfulLeaf m.pool.words l)
+  read_leaves : IsRead (memory m.pool.words) x look fill p m.iommu.unit.caches.leaves leaves' m.iommu.unit.caches.non_leaves tables' t → (l : CachedLeaf) → IsIn l leaves' → InDomain m w l.domain (IsLawfulLeaf m.pool.words l)
   read_leaves (inl (_, same, _)) l inside = lawful.leaves l (subst (IsIn l) same inside)
   read_leaves (inr (level, table, walked)) l inside = elim (walked.leaves_gain l inside) [
     | inl old ↦ lawful.leaves l old
     | inr new ↦ new_leaf level table l walked.start new.1
   ]
 
-  read_tables : IsRead (memory m.pool.words) x look fill p m.iommu.unit.caches.leaves leaves' m.iommu.unit.caches.non_leaves tables' t → (i : NonLeaf) → IsIn i tables' → InDomain m w i.domain (IsLawfulTable m.pool.words i)
+  read_tables : IsRead (memory m.pool.words) x look fill p m.iommu.unit.caches.leaves leaves' m.iommu.unit.caches.non_leaves tables' t → (i : CachedNonLeaf) → IsIn i tables' → InDomain m w i.domain (IsLawfulTable m.pool.words i)
   read_tables (inl (_, _, same)) i inside = lawful.tables i (subst (IsIn i) same inside)
   read_tables (inr (level, table, walked)) i inside = elim (walked.tables_gain i inside) [
     | inl old ↦ lawful.tables i old
@@ -146,7 +146,7 @@ module _ (m : State) (w : World) (lawful : AreLawful m w m.iommu.unit.caches) (x
 -- ---- the request
 
 module _ (m : State) (w : World) (quarantine : Quarantine m w) (look fill : Bool) (device address : ℕ) (access : Access) (new : Caches) (answer : Result Hit Fault) where
-  with_context : (x : Context) → IsContextOf m.iommu.contexts m.iommu.unit.caches.contexts look device x → AnswersWith (memory m.pool.words) x look fill address access m.iommu.unit.caches new answer
+  with_context : (x : CachedContext) → IsContextOf m.iommu.contexts m.iommu.unit.caches.contexts look device x → AnswersWith (memory m.pool.words) x look fill address access m.iommu.unit.caches new answer
       → AllowsTo (domain_of_device w x.device) address access (reached_reply (host_in answer)) × AreLawful m w new
   with_context x is answers =
       let of = of_context m w quarantine x (of_row m w quarantine look device x is) in
@@ -209,9 +209,9 @@ module _ (m : State) (w : World) (quarantine : Quarantine m w) (look fill : Bool
 
   -- and each context is the row's
   pub request_contexts : Answers (memory m.pool.words) m.iommu.contexts look fill device address access m.iommu.unit.caches new answer
-      → (y : Context) → IsIn y new.contexts → slice_get m.iommu.contexts y.device ≡ Some (Present y.root W39 y.domain)
+      → (y : CachedContext) → IsIn y new.contexts → slice_get m.iommu.contexts y.device ≡ Some (Present y.root W39 y.domain)
   request_contexts (inl (none, is, same)) y inside = quarantine.contexts.cached y (subst (λ (c : Caches). IsIn y c.contexts) same inside)
   request_contexts (inr (x, is, gains, answers)) y inside = elim (gains y inside) [
     | inl old ↦ quarantine.contexts.cached y old
-    | inr used ↦ subst (λ (z : Context). slice_get m.iommu.contexts z.device ≡ Some (Present z.root W39 z.domain)) (sym used.1) (of_row m w quarantine look device x is)
+    | inr used ↦ subst (λ (z : CachedContext). slice_get m.iommu.contexts z.device ≡ Some (Present z.root W39 z.domain)) (sym used.1) (of_row m w quarantine look device x is)
   ]

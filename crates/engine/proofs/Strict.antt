@@ -12,7 +12,7 @@ use Rattle.tables.specs.Tree.{IsLeafAt, IsTableAt, span}
 use Rattle.tables.proofs.Ended.{unmap_tables, unmap_whole}
 use Rattle.tables.proofs.Near.{div_within, span_pos}
 use Rattle.tables.proofs.Steps.{span-one, span-zero}
-use Rattle.unit.specs.Caches.{Leaf, NonLeaf}
+use Rattle.unit.specs.Caches.{CachedLeaf, CachedNonLeaf}
 use Rattle.unit.specs.Filters.{drops_leaf, drops_non_leaf}
 use Rattle.vtdbits.specs.declared.descriptor.Descriptor.{Descriptor}
 use Rattle.vtdbits.specs.declared.descriptor.Descriptor.TheVariants.{IotlbDomain, IotlbPages}
@@ -21,17 +21,17 @@ use Rattle.engine.specs.Ending.{IsBlockOf, IsSent, hint_of, leaves_split}
 -- ---- one descriptor
 
 -- a leaf in the block is dropped
-dropped_within : (d : ℕ) (b : Block) (hint : Bool) (l : Leaf) → l.domain ≡ d → b.first ≤ l.first → l.first + l.pages ≤ b.first + 2 ^ b.order → drops_leaf (IotlbPages d b hint) l ≡ false → ⊥
+dropped_within : (d : ℕ) (b : Block) (hint : Bool) (l : CachedLeaf) → l.domain ≡ d → b.first ≤ l.first → l.first + l.pages ≤ b.first + 2 ^ b.order → drops_leaf (IotlbPages d b hint) l ≡ false → ⊥
 dropped_within d b hint l e low high left = grind (arith, nat_tests)
 
 -- a table that meets the block is dropped where the hint is clear
-dropped_meeting : (d : ℕ) (b : Block) (i : NonLeaf) → i.domain ≡ d → i.first < b.first + 2 ^ b.order → b.first < i.first + i.pages → drops_non_leaf (IotlbPages d b false) i ≡ false → ⊥
+dropped_meeting : (d : ℕ) (b : Block) (i : CachedNonLeaf) → i.domain ≡ d → i.first < b.first + 2 ^ b.order → b.first < i.first + i.pages → drops_non_leaf (IotlbPages d b false) i ≡ false → ⊥
 dropped_meeting d b i e low high left = grind (arith, nat_tests)
 
-dropped_leaf : (d : ℕ) (l : Leaf) → l.domain ≡ d → drops_leaf (IotlbDomain d) l ≡ false → ⊥
+dropped_leaf : (d : ℕ) (l : CachedLeaf) → l.domain ≡ d → drops_leaf (IotlbDomain d) l ≡ false → ⊥
 dropped_leaf d l e left = grind (arith, nat_tests)
 
-dropped_table : (d : ℕ) (i : NonLeaf) → i.domain ≡ d → drops_non_leaf (IotlbDomain d) i ≡ false → ⊥
+dropped_table : (d : ℕ) (i : CachedNonLeaf) → i.domain ≡ d → drops_non_leaf (IotlbDomain d) i ≡ false → ⊥
 dropped_table d i e left = grind (arith, nat_tests)
 
 -- ---- what is sent
@@ -63,7 +63,7 @@ sent_covers d range cut x some sent = elim sent.2 [
 -- ---- leaves
 
 -- where a leaf entry meets the range, the block holds all of it
-in_block : (range : Range) (split : Bool) (b : Block) (l : Leaf) (j : ℕ) (whole : Bool) → split ≡ whole → Covers range split b → j < 2 → l.pages ≡ span j → l.first % span j ≡ 0
+in_block : (range : Range) (split : Bool) (b : Block) (l : CachedLeaf) (j : ℕ) (whole : Bool) → split ≡ whole → Covers range split b → j < 2 → l.pages ≡ span j → l.first % span j ≡ 0
     → (split ≡ false → (range.first ≤ l.first) × (l.first + l.pages ≤ range.first + range.pages)) → l.first < range.first + range.pages → range.first < l.first + l.pages
     → (b.first ≤ l.first) × (l.first + l.pages ≤ b.first + 2 ^ b.order)
 in_block range split b l j false e c small pages even covered lt gt = let k = covered e in (omega (arith, k.0, c.low), omega (arith, k.1, c.high))
@@ -83,7 +83,7 @@ in_block range split b l (suc zero) true e c small pages even covered lt gt =
 in_block range split b l (suc (suc j)) true e c small pages even covered lt gt = absurd (omega (arith, small))
 
 -- a leaf entry is covered where none was split and they meet
-leaf_covered : (old : Pool) (root : ℕ) (range : Range) (l : Leaf) → 1 ≤ range.pages → leaves_split old root range ≡ 0 → IsLeafAt (memory old.words) 3 root l.first l.pages l.frame l.rights
+leaf_covered : (old : Pool) (root : ℕ) (range : Range) (l : CachedLeaf) → 1 ≤ range.pages → leaves_split old root range ≡ 0 → IsLeafAt (memory old.words) 3 root l.first l.pages l.frame l.rights
     → l.first < range.first + range.pages → range.first < l.first + l.pages → (range.first ≤ l.first) × (l.first + l.pages ≤ range.first + range.pages)
 leaf_covered old root range l some none (j, at) lt gt = by_page (cases_lt l.first range.first)
   where
@@ -116,7 +116,7 @@ none_of (suc n) b to from e = let yes : b ≡ true = from (omega arith) in absur
     both low high = let clash : true ≡ false = sym high ∙ low in cc
 
 module _ (old new : Pool) (root d : ℕ) (range : Range) (cut : Cut) (x : Descriptor) (some : 1 ≤ range.pages) (sent : IsSent d range cut x) (split : IsTrue cut.split ↔ (0 < leaves_split old root range)) where
-  meets : (l : Leaf) → l.domain ≡ d → drops_leaf x l ≡ false → IsLeafAt (memory old.words) 3 root l.first l.pages l.frame l.rights → l.first < range.first + range.pages → range.first < l.first + l.pages → ⊥
+  meets : (l : CachedLeaf) → l.domain ≡ d → drops_leaf x l ≡ false → IsLeafAt (memory old.words) 3 root l.first l.pages l.frame l.rights → l.first < range.first + range.pages → range.first < l.first + l.pages → ⊥
   meets l here left at lt gt = elim (sent_covers d range cut x some sent) [
     | inl all ↦ dropped_leaf d l here (ap (λ y. drops_leaf y l) (sym all) ∙ left)
     | inr block ↦
@@ -126,7 +126,7 @@ module _ (old new : Pool) (root d : ℕ) (range : Range) (cut : Cut) (x : Descri
   ]
 
   -- a leaf entry of a cached leaf that the descriptor leaves is apart from the range
-  pub strict_apart : (l : Leaf) → l.domain ≡ d → drops_leaf x l ≡ false → IsLeafAt (memory old.words) 3 root l.first l.pages l.frame l.rights → (l.first + l.pages ≤ range.first) ⊎ (range.first + range.pages ≤ l.first)
+  pub strict_apart : (l : CachedLeaf) → l.domain ≡ d → drops_leaf x l ≡ false → IsLeafAt (memory old.words) 3 root l.first l.pages l.frame l.rights → (l.first + l.pages ≤ range.first) ⊎ (range.first + range.pages ≤ l.first)
   strict_apart l here left at =
       ⊎_elim
       (λ (lt : l.first < range.first + range.pages). ⊎_elim (λ (gt : range.first < l.first + l.pages). absurd (meets l here left at lt gt)) (λ (over : l.first + l.pages ≤ range.first). inl over) (cases_lt range.first (l.first + l.pages)))
@@ -139,14 +139,14 @@ module _ (old new : Pool) (root d : ℕ) (range : Range) (cut : Cut) (x : Descri
   hint_clear c [] b held = absurd (omega (arith, held))
   hint_clear c (f ∷ fs) b held = refl
 
-  table_left : (b : Block) (i : NonLeaf) → i.domain ≡ d → Covers range cut.split b → 0 < occurs i.frame cut.frames → 0 < i.pages → range.first ≤ i.first → i.first + i.pages ≤ range.first + range.pages
+  table_left : (b : Block) (i : CachedNonLeaf) → i.domain ≡ d → Covers range cut.split b → 0 < occurs i.frame cut.frames → 0 < i.pages → range.first ≤ i.first → i.first + i.pages ≤ range.first + range.pages
       → drops_non_leaf (IotlbPages d b (hint_of cut)) i ≡ false → ⊥
   table_left b i here c held pages low high left =
       dropped_meeting d b i here (omega (arith, c.high, high, pages)) (omega (arith, c.low, low, pages))
       (ap (λ h. drops_non_leaf (IotlbPages d b h) i) (sym (hint_clear i.frame cut.frames cut.split held)) ∙ left)
 
   -- a cached table that the descriptor leaves wasn't cut
-  pub strict_table : range.first < span 3 → Unmaps old new 3 root range.first (range.first + range.pages) cut.frames → (i : NonLeaf) → i.domain ≡ d → i.pages ≡ span i.level → drops_non_leaf x i ≡ false
+  pub strict_table : range.first < span 3 → Unmaps old new 3 root range.first (range.first + range.pages) cut.frames → (i : CachedNonLeaf) → i.domain ≡ d → i.pages ≡ span i.level → drops_non_leaf x i ≡ false
       → IsTableAt (memory old.words) 3 root i.first i.level i.frame → IsTableAt (memory new.words) 3 root i.first i.level i.frame
   strict_table within un i here pages left at = elim (unmap_tables old new 3 root range.first (range.first + range.pages) cut.frames within un i.first i.level i.frame at) [
     | inl stays ↦ stays

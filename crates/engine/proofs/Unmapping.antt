@@ -15,7 +15,7 @@ use Rattle.tables.specs.Tree.{span, stated, states, uses}
 use Rattle.tables.proofs.Ended.{unmap_leaves, unmap_tables}
 use Rattle.tables.proofs.Kept.{apart_stays, same_root, span-three}
 use Rattle.tables.proofs.Steps.{span-one}
-use Rattle.unit.specs.Caches.{Leaf, NonLeaf}
+use Rattle.unit.specs.Caches.{CachedLeaf, CachedNonLeaf}
 use Rattle.unit.specs.Filters.{drops_leaf, drops_non_leaf}
 use Rattle.unit.specs.Walking.{stated_by}
 use Rattle.vtdbits.specs.declared.descriptor.Descriptor.{Descriptor}
@@ -78,11 +78,11 @@ module _ (pool pool1 : Pool) (h h1 : Domain) (v : world.Domain) (r : Record) (fi
     -- ---- a strict unmap
 
     module _ (d : ℕ) (x : Descriptor) (sent : IsSent d r.range r.cut x) (space2 : Space) where
-      outside_of : (l : Leaf) (p : ℕ) → ((l.first + l.pages ≤ r.range.first) ⊎ (r.range.first + r.range.pages ≤ l.first)) → l.first ≤ p → p < l.first + l.pages → (p < r.range.first) ⊎ (r.range.first + r.range.pages ≤ p)
+      outside_of : (l : CachedLeaf) (p : ℕ) → ((l.first + l.pages ≤ r.range.first) ⊎ (r.range.first + r.range.pages ≤ l.first)) → l.first ≤ p → p < l.first + l.pages → (p < r.range.first) ⊎ (r.range.first + r.range.pages ≤ p)
       outside_of l p (inl before) low high = inl (omega (arith, before, high))
       outside_of l p (inr behind) low high = inr (omega (arith, behind, low))
 
-      pub strict_leaf : v.mode ≡ Strict → (l : Leaf) → l.domain ≡ d → drops_leaf x l ≡ false → IsLawfulLeaf pool.words l h v → IsLawfulLeaf pool1.words l (domain_after h space2 h.records) (unmapped r.range v)
+      pub strict_leaf : v.mode ≡ Strict → (l : CachedLeaf) → l.domain ≡ d → drops_leaf x l ≡ false → IsLawfulLeaf pool.words l h v → IsLawfulLeaf pool1.words l (domain_after h space2 h.records) (unmapped r.range v)
       strict_leaf strict l here left lawful =
           let at = lawful.entry strict in
           let away = strict_apart pool pool1 h.root d r.range r.cut x fits.some sent cuts.split l here left at in
@@ -94,7 +94,7 @@ module _ (pool pool1 : Pool) (h h1 : Domain) (v : world.Domain) (r : Record) (fi
             entry = λ e. unmap_leaves pool pool1 3 h.root r.range.first (r.range.first + r.range.pages) r.cut.frames (omega arith) start cuts.unmaps l.first l.pages l.frame l.rights at away;
           }
 
-      pub strict_non_leaf : (i : NonLeaf) → i.domain ≡ d → drops_non_leaf x i ≡ false → IsLawfulTable pool.words i h v → IsLawfulTable pool1.words i (domain_after h space2 h.records) (unmapped r.range v)
+      pub strict_non_leaf : (i : CachedNonLeaf) → i.domain ≡ d → drops_non_leaf x i ≡ false → IsLawfulTable pool.words i h v → IsLawfulTable pool1.words i (domain_after h space2 h.records) (unmapped r.range v)
       strict_non_leaf i here left lawful = record {
         span = lawful.span;
         named = elim lawful.named [
@@ -112,13 +112,13 @@ module _ (pool pool1 : Pool) (h h1 : Domain) (v : world.Domain) (r : Record) (fi
       | inr past ↦ inl (without_outside r.range v.live p past ∙ live)
     ]
 
-    pub lazy_leaf : v.mode ≡ Lazy → (l : Leaf) → IsLawfulLeaf pool.words l h v → IsLawfulLeaf pool1.words l (domain_after h h1.space (h.records ++ r ∷ [])) (put_off r.range v)
+    pub lazy_leaf : v.mode ≡ Lazy → (l : CachedLeaf) → IsLawfulLeaf pool.words l h v → IsLawfulLeaf pool1.words l (domain_after h h1.space (h.records ++ r ∷ [])) (put_off r.range v)
     lazy_leaf lazy l lawful = record {
       stated = λ p low high. still_stated p (stated_by p l) (lawful.stated p low high);
       entry = λ e. absurd (let clash : Lazy ≡ Strict = sym lazy ∙ e in cc);
     }
 
-    pub lazy_non_leaf : (i : NonLeaf) → IsLawfulTable pool.words i h v → IsLawfulTable pool1.words i (domain_after h h1.space (h.records ++ r ∷ [])) (put_off r.range v)
+    pub lazy_non_leaf : (i : CachedNonLeaf) → IsLawfulTable pool.words i h v → IsLawfulTable pool1.words i (domain_after h h1.space (h.records ++ r ∷ [])) (put_off r.range v)
     lazy_non_leaf i lawful = record {
       span = lawful.span;
       named = elim lawful.named [

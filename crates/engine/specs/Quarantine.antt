@@ -14,7 +14,7 @@ use Rattle.tables.specs.Pool.{Pool, memory, occurs, IsZeroed}
 use Rattle.tables.specs.Tree.{IsLeafAt, IsTableAt, Memory, span, states, total, uses}
 use Rattle.vtdbits.specs.declared.context.ContextEntry.{ContextEntry}
 use Rattle.vtdbits.specs.declared.context.ContextEntry.TheVariants.{Absent, Present}
-use Rattle.unit.specs.Caches.{Caches, Context, Leaf, NonLeaf}
+use Rattle.unit.specs.Caches.{Caches, CachedContext, CachedLeaf, CachedNonLeaf}
 use Rattle.unit.specs.Walking.{stated_by}
 use Rattle.engine.specs.declared.record.Record.{Record}
 use Rattle.engine.specs.Domains.{Domain, held_in, domain_at}
@@ -94,7 +94,7 @@ InDomain m w d P = (h : Domain) × (v : world.Domain) × (domain_at m.domains d 
 
 -- leaf: every page of a cached leaf is live or retired in its domain, with the frame and the rights that the leaf
 -- states; in a strict domain the leaf is one entry of its tree
-pub record IsLawfulLeaf (words : List ℕ) (l : Leaf) (h : Domain) (v : world.Domain) : Type 0 where
+pub record IsLawfulLeaf (words : List ℕ) (l : CachedLeaf) (h : Domain) (v : world.Domain) : Type 0 where
   pub stated : (p : ℕ) → l.first ≤ p → p < l.first + l.pages → IsLive v p (stated_by p l) ⊎ IsRetired v p (stated_by p l)
   pub entry : v.mode ≡ Strict → IsLeafAt (memory words) 3 h.root l.first l.pages l.frame l.rights
 
@@ -106,13 +106,13 @@ IsHeld words records first pages frame =
 
 -- non-leaf: a cached table is in use for its domain and span, or held, zeroed, by a record of that domain whose range
 -- covers the span
-pub record IsLawfulTable (words : List ℕ) (i : NonLeaf) (h : Domain) (v : world.Domain) : Type 0 where
+pub record IsLawfulTable (words : List ℕ) (i : CachedNonLeaf) (h : Domain) (v : world.Domain) : Type 0 where
   pub span : i.pages ≡ span i.level
   pub named : IsTableAt (memory words) 3 h.root i.first i.level i.frame ⊎ IsHeld words h.records i.first i.pages i.frame
 
 pub record AreLawful (m : State) (w : World) (c : Caches) : Type 0 where
-  pub leaves : (l : Leaf) → IsIn l c.leaves → InDomain m w l.domain (IsLawfulLeaf m.pool.words l)
-  pub tables : (i : NonLeaf) → IsIn i c.non_leaves → InDomain m w i.domain (IsLawfulTable m.pool.words i)
+  pub leaves : (l : CachedLeaf) → IsIn l c.leaves → InDomain m w l.domain (IsLawfulLeaf m.pool.words l)
+  pub tables : (i : CachedNonLeaf) → IsIn i c.non_leaves → InDomain m w i.domain (IsLawfulTable m.pool.words i)
 
 -- ---- contexts
 
@@ -126,7 +126,7 @@ attached (Some (Present root width domain)) = Some domain
 pub record Attaches (m : State) (w : World) : Type 0 where
   pub devices : (v : ℕ) → w.devices v ≡ attached (slice_get m.iommu.contexts v)
   pub roots : (v root domain : ℕ) → slice_get m.iommu.contexts v ≡ Some (Present root W39 domain) → (h : Domain) × (domain_at m.domains domain ≡ Some h) × (h.root ≡ root)
-  pub cached : (x : Context) → IsIn x m.iommu.unit.caches.contexts → slice_get m.iommu.contexts x.device ≡ Some (Present x.root W39 x.domain)
+  pub cached : (x : CachedContext) → IsIn x m.iommu.unit.caches.contexts → slice_get m.iommu.contexts x.device ≡ Some (Present x.root W39 x.domain)
 
 -- ---- frames
 

@@ -68,6 +68,13 @@ impl Domain {
         }
     }
 
+    /// Its mode.
+    pub(crate) fn mode(&self) -> Mode
+        ensures { result ≡ self.now.mode }
+    {
+        self.mode
+    }
+
     /// The root of its tree.
     pub(crate) fn root(&self) -> Frame
         ensures { result ≡ self.now.root }
