@@ -12,6 +12,8 @@ use std::sync::Wait;
 use std::test::Fail;
 use std::thread::{Threads, join};
 
+mod hits;
+
 // One page at the lowest start.
 fn one_page(domain: u64) -> Call {
     Call::Map {
