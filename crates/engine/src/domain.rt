@@ -47,7 +47,8 @@ impl Model for Domain {
 
     ghost view = { λ d. record { mode = d.mode; begun = d.begun; root = d.tree.root; space = d.space; records = d.records.items } };
 
-    ghost invariant = { λ d. (d.space.last ≡ PAGES_END - 1) × (MOST_RECORDS ≤ vec_capacity d.records) × (vec_len d.records ≤ MOST_RECORDS) };
+    ghost invariant = { λ d. (d.space.last ≡ PAGES_END - 1)
+        × (MOST_RECORDS ≤ vec_capacity d.records) × (vec_len d.records ≤ MOST_RECORDS) };
 }
 
 impl Domain {
