@@ -29,7 +29,7 @@ pub tree_stays : (old new : Pool) (words : List ℕ) (root : ℕ) → Stays old 
 tree_stays old new words root stays same =
     subst (λ ws. SameTree old.words ws root) (sym same) (record { leaves = stays.same_leaves; tables = stays.same_tables; frames = stays.same_frames })
 
--- the domain's home is another one, and no other home; each entry that is left is lawful of what it became
+-- the domain is another one, and no other domain changes; each entry that is left is lawful of what it became
 pub record ChangesDomain (m t : State) (d : ℕ) (h h' : Domain) (v v' : world.Domain) : Type 0 where
   pub domains : (e : ℕ) → domain_at t.domains e ≡ put d (Some h') (domain_at m.domains) e
   pub row : t.iommu.contexts ≡ m.iommu.contexts
@@ -59,8 +59,8 @@ module _ (m t : State) (w : World) (d : ℕ) (h h' : Domain) (v v' : world.Domai
   domain_new : (e : ℕ) → e ≡ d → put d (Some v') w.domains e ≡ Some v'
   domain_new e same = ap (put d (Some v') w.domains) same ∙ put_same d (Some v') w.domains
 
-  same_home : (e : ℕ) (k : Domain) → e ≡ d → domain_at m.domains e ≡ Some k → k ≡ h
-  same_home e k same at = same_Some k h (sym at ∙ ap (domain_at m.domains) same ∙ there)
+  same_old : (e : ℕ) (k : Domain) → e ≡ d → domain_at m.domains e ≡ Some k → k ≡ h
+  same_old e k same at = same_Some k h (sym at ∙ ap (domain_at m.domains) same ∙ there)
 
   same_domain : (e : ℕ) (u : world.Domain) → e ≡ d → w.domains e ≡ Some u → u ≡ v
   same_domain e u same at = same_Some u v (sym at ∙ ap w.domains same ∙ here)
@@ -78,7 +78,7 @@ module _ (m t : State) (w : World) (d : ℕ) (h h' : Domain) (v v' : world.Domai
     v',
     at_new l.domain same,
     domain_new l.domain same,
-    keeps same (subst (λ (x : Domain). IsLawfulLeaf m.pool.words l x v) (same_home l.domain k same at) (subst (λ (y : world.Domain). IsLawfulLeaf m.pool.words l k y) (same_domain l.domain u same in_world) was)),
+    keeps same (subst (λ (x : Domain). IsLawfulLeaf m.pool.words l x v) (same_old l.domain k same at) (subst (λ (y : world.Domain). IsLawfulLeaf m.pool.words l k y) (same_domain l.domain u same in_world) was)),
   )
   leaf_lawful l keeps (k, u, at, in_world, was) (inr ne) =
       (k, u, at_other l.domain ne ∙ at, put_other d (Some v') w.domains l.domain ne ∙ in_world, (other_keeps l.domain k u ne at).leaf l was)
@@ -90,14 +90,14 @@ module _ (m t : State) (w : World) (d : ℕ) (h h' : Domain) (v v' : world.Domai
     v',
     at_new i.domain same,
     domain_new i.domain same,
-    keeps same (subst (λ (x : Domain). IsLawfulTable m.pool.words i x v) (same_home i.domain k same at) (subst (λ (y : world.Domain). IsLawfulTable m.pool.words i k y) (same_domain i.domain u same in_world) was)),
+    keeps same (subst (λ (x : Domain). IsLawfulTable m.pool.words i x v) (same_old i.domain k same at) (subst (λ (y : world.Domain). IsLawfulTable m.pool.words i k y) (same_domain i.domain u same in_world) was)),
   )
   table_lawful i keeps (k, u, at, in_world, was) (inr ne) =
       (k, u, at_other i.domain ne ∙ at, put_other d (Some v') w.domains i.domain ne ∙ in_world, (other_keeps i.domain k u ne at).table i was)
 
   kept_root : (e : ℕ) (k : Domain) → domain_at m.domains e ≡ Some k → (k' : Domain) × (domain_at t.domains e ≡ Some k') × (k'.root ≡ k.root)
   kept_root e k at = elim (same_or_not e d) [
-    | inl same ↦ (h', at_new e same, c.root ∙ ap (λ (x : Domain). x.root) (sym (same_home e k same at)))
+    | inl same ↦ (h', at_new e same, c.root ∙ ap (λ (x : Domain). x.root) (sym (same_old e k same at)))
     | inr ne ↦ (k, at_other e ne ∙ at, refl)
   ]
 
@@ -112,11 +112,11 @@ module _ (m t : State) (w : World) (d : ℕ) (h h' : Domain) (v v' : world.Domai
   moves f = let was = ap (λ (o : Option Domain). owned (memory m.pool.words) o f) there in omega (arith, was, c.account f)
 
   stay : (e f : ℕ) → e ≢ d → owned (memory t.pool.words) (domain_at m.domains e) f ≡ owned (memory m.pool.words) (domain_at m.domains e) f
-  stay e f ne = by_home (domain_at m.domains e) refl
+  stay e f ne = by_entry (domain_at m.domains e) refl
     where
-      by_home : (o : Option Domain) → domain_at m.domains e ≡ o → owned (memory t.pool.words) o f ≡ owned (memory m.pool.words) o f
-      by_home None at = refl
-      by_home (Some k) at = ap (λ n. n + held_in k.records f) ((c.others e k ne at).frames f)
+      by_entry : (o : Option Domain) → domain_at m.domains e ≡ o → owned (memory t.pool.words) o f ≡ owned (memory m.pool.words) o f
+      by_entry None at = refl
+      by_entry (Some k) at = ap (λ n. n + held_in k.records f) ((c.others e k ne at).frames f)
 
   held : (e f : ℕ) (k : Domain) → domain_at t.domains e ≡ Some k → 0 < held_in k.records f → IsZeroed t.pool.words f
   held e f k at more = elim (same_or_not e d) [

@@ -68,11 +68,11 @@ module _ (m t : State) (w : World) (d : ℕ) (h : Domain) (q : Quarantine m w) (
       omega (arith, was, none, destroys.free f)
 
   stay : (e f : ℕ) → e ≢ d → owned (memory t.pool.words) (domain_at m.domains e) f ≡ owned (memory m.pool.words) (domain_at m.domains e) f
-  stay e f ne = by_home (domain_at m.domains e) refl
+  stay e f ne = by_entry (domain_at m.domains e) refl
     where
-      by_home : (o : Option Domain) → domain_at m.domains e ≡ o → owned (memory t.pool.words) o f ≡ owned (memory m.pool.words) o f
-      by_home None at = refl
-      by_home (Some k) at = ap (λ n. n + held_in k.records f) ((stays e k ne at).same_frames f)
+      by_entry : (o : Option Domain) → domain_at m.domains e ≡ o → owned (memory t.pool.words) o f ≡ owned (memory m.pool.words) o f
+      by_entry None at = refl
+      by_entry (Some k) at = ap (λ n. n + held_in k.records f) ((stays e k ne at).same_frames f)
 
   held : (e f : ℕ) (k : Domain) → domain_at t.domains e ≡ Some k → 0 < held_in k.records f → IsZeroed t.pool.words f
   held e f k at more = elim (same_or_not e d) [

@@ -103,7 +103,7 @@ module _ (frames : ℕ) (m : State) (domain i : ℕ) (h : Domain) (pool : Pool) 
           rw id at flushes.invalidates.caches in (
             ((not_none (w.domains domain) v.0 v.1, tt), rw v.1 (ap (λ (n : ℕ). Flushed n) (count ∙ records_count h v.0 v.2.ids))),
             rw v.1 (at_id after_flush w (Some (flushed v.0)) (domain_flushed m after_flush w i x.sent h v.0 new.space q whole.places less at_next there'
-            caches flushes.releases (ap (λ (d : Domain). slice_set m.domains i (Some d)) flushes.same) flushes.invalidates.contexts)),
+                caches flushes.releases (ap (λ (d : Domain). slice_set m.domains i (Some d)) flushes.same) flushes.invalidates.contexts)),
           );
       exact = tt;
       becomes = (h, new, there, flushes, rw place refl);

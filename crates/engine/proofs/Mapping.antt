@@ -220,13 +220,13 @@ with_map m t w i h h1 v segments first order rights q many less there here mirro
   by_domain : (d : ℕ) (k : Domain) (u : world.Domain) → domain_at m.domains d ≡ Some k → w.domains d ≡ Some u → (d ≡ i + 1) ⊎ (d ≢ i + 1)
       → (k' : Domain) × (u' : world.Domain) × (domain_at t.domains d ≡ Some k') × (put (i + 1) (Some (mapped segments first rights v)) w.domains d ≡ Some u') × KeepsLawful m.pool.words t.pool.words k k' u u'
   by_domain d k u at in_world (inl same) =
-      let is_home : h ≡ k = same_Some h k (sym there ∙ ap (domain_at m.domains) (sym same) ∙ at) in
+      let is_old : h ≡ k = same_Some h k (sym there ∙ ap (domain_at m.domains) (sym same) ∙ at) in
       let is_domain : v ≡ u = same_Some v u (sym here ∙ ap w.domains (sym same) ∙ in_world) in (
         (domain_mapped h h1.space),
         (mapped segments first rights v),
         at_new d same,
         ap (put (i + 1) (Some (mapped segments first rights v)) w.domains) same ∙ put_same (i + 1) (Some (mapped segments first rights v)) w.domains,
-        subst (λ x. KeepsLawful m.pool.words t.pool.words x (domain_mapped h h1.space) u (mapped segments first rights v)) is_home (subst (λ y. KeepsLawful m.pool.words t.pool.words h (domain_mapped h h1.space) y (mapped segments first rights v)) is_domain
+        subst (λ x. KeepsLawful m.pool.words t.pool.words x (domain_mapped h h1.space) u (mapped segments first rights v)) is_old (subst (λ y. KeepsLawful m.pool.words t.pool.words h (domain_mapped h h1.space) y (mapped segments first rights v)) is_domain
             (maps_lawful m.pool t.pool h h1 v segments first order rights mirrors places some (zeroed (i + 1) h there))),
       )
   by_domain d k u at in_world (inr ne) = (
@@ -241,11 +241,11 @@ with_map m t w i h h1 v segments first order rights q many less there here mirro
   moves f = let was = ap (λ (o : Option Domain). owned (memory m.pool.words) o f) there in omega (arith, was, places.moves.account f, occurs-nil f)
 
   stay : (e f : ℕ) → e ≢ i + 1 → owned (memory t.pool.words) (domain_at m.domains e) f ≡ owned (memory m.pool.words) (domain_at m.domains e) f
-  stay e f ne = by_home (domain_at m.domains e) refl
+  stay e f ne = by_entry (domain_at m.domains e) refl
     where
-      by_home : (o : Option Domain) → domain_at m.domains e ≡ o → owned (memory t.pool.words) o f ≡ owned (memory m.pool.words) o f
-      by_home None at = refl
-      by_home (Some k) at = ap (λ n. n + held_in k.records f) ((stays e k ne at).same_frames f)
+      by_entry : (o : Option Domain) → domain_at m.domains e ≡ o → owned (memory t.pool.words) o f ≡ owned (memory m.pool.words) o f
+      by_entry None at = refl
+      by_entry (Some k) at = ap (λ n. n + held_in k.records f) ((stays e k ne at).same_frames f)
 
   held : (e f : ℕ) (k : Domain) → domain_at t.domains e ≡ Some k → 0 < held_in k.records f → IsZeroed t.pool.words f
   held e f k at more = elim (same_or_not e (i + 1)) [

@@ -45,7 +45,7 @@ pieces_new space mode is all whole = record {
   retired = λ p. (λ e. let no : Some Retired ≡ Some Free = only p Retired e in absurd cc, λ some. absurd some.1);
   ranges = λ r i. absurd i;
   apart = none_apart;
-  told = λ r p i inside. absurd i;
+  targets_known = λ r p i inside. absurd i;
 } where
   only : (p : ℕ) (s : PageState) → state_at space.pieces p ≡ Some s → Some s ≡ Some Free
   only p s e = two_states space p s Free e (all p (is.others p (rw e refl)))
@@ -99,7 +99,7 @@ pieces_mapped space new v segments first rights parts takes is = record {
   ];
   ranges = λ r i. (takes.in_use (piece_of r.range Retired) (λ e. cc)).1 (inr (parts.ranges r i));
   apart = parts.apart;
-  told = parts.told;
+  targets_known = parts.targets_known;
 } where
   range : Range
   range = record { first = first; pages = total_pages segments }

@@ -105,8 +105,8 @@ releases_first pool pool1 pool2 space space1 space2 done r so_far next retirable
 -- ---- a flush
 
 -- the state's records are the world's
-in_home : (h : Domain) (v : world.Domain) → IsOfDomain h v → (r : Retired) → IsIn r v.retired → (k : Record) × IsIn k h.records × (r.range ≡ k.range)
-in_home h v ids r inside =
+in_records : (h : Domain) (v : world.Domain) → IsOfDomain h v → (r : Retired) → IsIn r v.retired → (k : Record) × IsIn k h.records × (r.range ≡ k.range)
+in_records h v ids r inside =
     let there : IsIn (marked_there r) (map marked_here h.records) = subst (λ (xs : List Marked). IsIn (marked_there r) xs) (sym ids.records) (in_mapped marked_there r v.retired inside) in
     let k = of_mapped marked_here (marked_there r) h.records there in
     (k.0, k.1, ap (λ (x : Marked). x.range) k.2)
@@ -122,7 +122,7 @@ mirrors_flushed pool pool' space' h v mirrors all = record {
   ids = record { mode = mirrors.ids.mode; begun = mirrors.ids.begun; records = refl };
   tree = λ p low. ap (λ ws. states (memory ws) 3 h.root p) all.words ∙ mirrors.tree p low;
   pieces = pieces_flushed h.space space' v mirrors.pieces all.is_space all.last
-      (λ p some. let k = in_home h v mirrors.ids some.0 some.1 in all.inside k.0 k.1 p (subst (λ (x : Range). IsWithin x p) k.2 some.2))
+      (λ p some. let k = in_records h v mirrors.ids some.0 some.1 in all.inside k.0 k.1 p (subst (λ (x : Range). IsWithin x p) k.2 some.2))
       (λ p none. all.outside p (λ k i within. let r = matching h.records v.retired mirrors.ids.records k i in none (r.0, r.1, subst (λ (x : Range). IsWithin x p) r.2 within)));
 }
 

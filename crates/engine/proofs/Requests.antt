@@ -96,9 +96,9 @@ module _ (m : State) (w : World) (quarantine : Quarantine m w) where
   of_context : (x : CachedContext) → slice_get m.iommu.contexts x.device ≡ Some (Present x.root W39 x.domain)
       → (h : Domain) × (v : world.Domain) × (domain_at m.domains x.domain ≡ Some h) × (w.domains x.domain ≡ Some v) × (h.root ≡ x.root) × Mirrors m.pool.words h v × (domain_of_device w x.device ≡ Some v)
   of_context x row =
-      let home = quarantine.contexts.roots x.device x.root x.domain row in
-      let known = mirrored m.pool.words (domain_at m.domains x.domain) (w.domains x.domain) home.0 home.1 (quarantine.domains x.domain) in
-      (home.0, known.0, home.1, known.1, home.2, known.2, of_some w x.device x.domain known.0 (quarantine.contexts.devices x.device ∙ ap attached row) known.1)
+      let rooted = quarantine.contexts.roots x.device x.root x.domain row in
+      let known = mirrored m.pool.words (domain_at m.domains x.domain) (w.domains x.domain) rooted.0 rooted.1 (quarantine.domains x.domain) in
+      (rooted.0, known.0, rooted.1, known.1, rooted.2, known.2, of_some w x.device x.domain known.0 (quarantine.contexts.devices x.device ∙ ap attached row) known.1)
 
 -- ---- one reading
 

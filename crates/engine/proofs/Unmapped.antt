@@ -101,7 +101,7 @@ module _ (m : State) (address pages i released : ℕ) (h new : Domain) (pool : P
 
   by_mode : (mode : Mode) → h.mode ≡ mode → IsJudgedEnd m.pool h (range_at address pages) (Ok tt)
       → ByMode mode ((released ≡ 0) × UnmapsStrictly old_parts (i + 1) (range_at address pages) new_parts)
-          (PutsOff old_parts (i + 1) (range_at address pages) released new_parts)
+      (PutsOff old_parts (i + 1) (range_at address pages) released new_parts)
       → Steps m (calls.Unmap (i + 1) address pages) (Unmapped released) after
   by_mode Strict strict may does = strictly strict does.0 does.1
   by_mode Lazy lazy may does = lazily lazy may does does.room
@@ -118,7 +118,7 @@ module _ (m : State) (address pages i released : ℕ) (h new : Domain) (pool : P
 
   -- what the type of a state keeps
   quiet_or_sent : (mode : Mode) → ByMode mode ((released ≡ 0) × UnmapsStrictly old_parts (i + 1) (range_at address pages) new_parts)
-          (PutsOff old_parts (i + 1) (range_at address pages) released new_parts)
+      (PutsOff old_parts (i + 1) (range_at address pages) released new_parts)
       → (x ≡ m.iommu) ⊎ ((d : Descriptor) × Invalidates m.iommu d x)
   quiet_or_sent Strict does = inr (does.1.descriptor, does.1.invalidates)
   quiet_or_sent Lazy does = elim does.room [

@@ -113,7 +113,7 @@ module _ (space : Space) (v : world.Domain) (range : Range) (parts : PartsPages 
     ];
     ranges = λ r i. (frees.in_use (piece_of r.range pages.Retired) (λ e. cc)).1 ((retires.retired (piece_of r.range pages.Retired) refl).1 (inr (parts.ranges r i)), piece_other (to_ends range fits) r i);
     apart = parts.apart;
-    told = parts.told;
+    targets_known = parts.targets_known;
   } where
     stays : (p : ℕ) → ((p < range.first) ⊎ (range.first + range.pages ≤ p)) → state_at space2.pieces p ≡ state_at space.pieces p
     stays p past = frees.states.outside p (not_within range p past) ∙ retires.states.outside p (not_within range p past)
@@ -180,16 +180,16 @@ module _ (space : Space) (v : world.Domain) (range : Range) (parts : PartsPages 
       | inr last ↦ subst (λ (x : Range). IsIn (piece_of x pages.Retired) space1.pieces) (sym (last_is r last)) retires.piece
     ];
     apart = apart_last v.retired (record_of range v) (λ r i. record_apart r i) parts.apart;
-    told = λ r p i inside. elim (in_either r (record_of range v) v.retired i) [
-      | inl before ↦ parts.told r p before inside
-      | inr last ↦ told_last r p last (subst (λ (x : Range). IsWithin x p) (last_is r last) inside)
+    targets_known = λ r p i inside. elim (in_either r (record_of range v) v.retired i) [
+      | inl before ↦ parts.targets_known r p before inside
+      | inr last ↦ known_last r p last (subst (λ (x : Range). IsWithin x p) (last_is r last) inside)
     ];
   } where
     none_is : {o : Option Target} → o ≡ None → IsSome o → ⊥
     none_is e some = let no = rw e at some in cc
 
-    told_last : (r : Retired) (p : ℕ) → r ≡ record_of range v → IsWithin range p → IsSome (r.targets p)
-    told_last r p last inside =
+    known_last : (r : Retired) (p : ℕ) → r ≡ record_of range v → IsWithin range p → IsSome (r.targets p)
+    known_last r p last inside =
         let is : r.targets p ≡ v.live p = ap (λ (x : Retired). x.targets p) last ∙ restricted_inside range v.live p inside in
         rw is ((parts.live p).0 (live p inside))
 
@@ -235,7 +235,7 @@ pieces_flushed space space' v parts is last inside outside = record {
   ];
   ranges = λ r none. absurd none;
   apart = none_apart;
-  told = λ r p none in_record. absurd none;
+  targets_known = λ r p none in_record. absurd none;
 } where
   same : (p : ℕ) → (state_at space.pieces p ≡ Some pages.Retired → ⊥) → state_at space'.pieces p ≡ state_at space.pieces p
   same p stays = outside p (λ some. stays ((parts.retired p).1 some))

@@ -1,6 +1,7 @@
 -- How an unmap ends a range: in the tree and the address space, by what it sends to the unit, and what then comes
 -- free.
 use Rattle.std.specs.Prelude.{◌≡◌, ◌≢◌, ◌↔◌, ℕ, ◌+◌, ◌-◌, ◌<◌, ◌≤◌, ◌⊎◌, ◌++◌, Bool, true, false, IsTrue, not, ◌&&◌, List, [], ◌∷◌, length, reverse, take, Some, Result, Ok, Err}
+use Rattle.engine.specs.declared.room.TheConstants.{MOST_RECORDS}
 use Rattle.dmatypes.specs.Block.{Block, Holds, IsAligned}
 use Rattle.dmatypes.specs.Page.{Range, IsWithin}
 use Rattle.dmatypes.specs.World.{IsIn}
@@ -172,15 +173,15 @@ pub record Closes (old : Parts) (id : ℕ) (pool' : Pool) (iommu' : Iommu) : Typ
   pub destroys : Destroys flushed.pool flushed.domain.root pool'
   pub quiet : iommu' ≡ flushed.iommu
 
--- there is room for one more record: with fewer than 256 nothing changes, else all are flushed
+-- there is room for one more record: with fewer than `MOST_RECORDS` nothing changes, else all are flushed
 pub record HasRoom (old : Parts) (released : ℕ) (new : Parts) : Type 0 where
-  pub some : length old.domain.records ≢ 256
+  pub some : length old.domain.records ≢ MOST_RECORDS
   pub none : released ≡ 0
   pub same : new ≡ old
 
 pub record Empties (old : Parts) (id released : ℕ) (new : Parts) : Type 0 where
-  pub full : length old.domain.records ≡ 256
-  pub all : released ≡ 256
+  pub full : length old.domain.records ≡ MOST_RECORDS
+  pub all : released ≡ MOST_RECORDS
   pub flushes : Flushes old id new
 
 abbrev pub MakesRoom : Parts → ℕ → ℕ → Parts → Type 0
@@ -203,7 +204,8 @@ ByMode Lazy P Q = Q
 
 -- by the mode of the domain
 abbrev pub EndsBy : Parts → ℕ → Range → ℕ → Parts → Type 0
-EndsBy old id range released new = ByMode old.domain.mode ((released ≡ 0) × UnmapsStrictly old id range new) (PutsOff old id range released new)
+EndsBy old id range released new =
+    ByMode old.domain.mode ((released ≡ 0) × UnmapsStrictly old id range new) (PutsOff old id range released new)
 
 -- what is answered, and what the table frames, the domain and the IOMMU are then
 abbrev pub IsUnmapped : Parts → ℕ → Range → Result ℕ Refusal → Parts → Type 0

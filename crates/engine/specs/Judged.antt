@@ -1,5 +1,6 @@
 -- How a map is judged before its domain is looked at.
 use Rattle.std.specs.Prelude.{◌≡◌, ◌≢◌, ℕ, ◌<◌, ◌≤◌, List, [], Result, Ok, Err}
+use Rattle.dmatypes.specs.declared.page.TheConstants.{MOST_PAGES}
 use Rattle.dmatypes.specs.declared.call.Segment.{Segment}
 use Rattle.dmatypes.specs.declared.refusal.Refusal.{Refusal}
 use Rattle.dmatypes.specs.declared.refusal.Refusal.TheVariants as refusals
@@ -16,7 +17,7 @@ AreOwned frames segments = SomeHas (λ s. s.frame < frames) segments
 pub record AreMappable (segments : List Segment) : Type 0 where
   pub some : segments ≢ []
   pub each : AreSegments segments
-  pub few : total_pages segments ≤ 4096
+  pub few : total_pages segments ≤ MOST_PAGES
 
 -- this is wanted
 pub record Wants (w : Wanted) (segments : List Segment) (order rights : ℕ) : Type 0 where
@@ -29,4 +30,5 @@ abbrev pub IsJudged : ℕ → List Segment → ℕ → ℕ → Result Wanted Ref
 IsJudged frames segments order rights (Err refusals.BadRange) = IsBadMap segments order rights
 IsJudged frames segments order rights (Err refusals.FrameOwned) = (IsBadMap segments order rights → ⊥) × AreOwned frames segments
 IsJudged frames segments order rights (Err _) = ⊥
-IsJudged frames segments order rights (Ok w) = (IsBadMap segments order rights → ⊥) × (AreOwned frames segments → ⊥) × Wants w segments order rights
+IsJudged frames segments order rights (Ok w) =
+    (IsBadMap segments order rights → ⊥) × (AreOwned frames segments → ⊥) × Wants w segments order rights

@@ -1,6 +1,7 @@
 -- When the state is one of a world, part by part: no page that may still be used is free, and no table that may
 -- still be walked.
-use Rattle.std.specs.Prelude.{◌≡◌, ◌↔◌, ℕ, ◌+◌, ◌-◌, ◌^◌, ◌<◌, ◌≤◌, ◌⊎◌, List, [], ◌∷◌, map, Option, Some, None, IsSome, slice_get}
+use Rattle.std.specs.Prelude.{◌≡◌, ◌↔◌, ℕ, ◌+◌, ◌-◌, ◌<◌, ◌≤◌, ◌⊎◌, List, [], ◌∷◌, map, Option, Some, None, IsSome, slice_get}
+use Rattle.dmatypes.specs.declared.width.TheConstants.{LEVELS, PAGES_END}
 use Rattle.dmatypes.specs.declared.call.Mode.TheVariants.{Strict}
 use Rattle.dmatypes.specs.declared.width.Width.TheVariants.{W39}
 use Rattle.dmatypes.specs.Page.{Range, IsPage, IsWithin}
@@ -43,7 +44,7 @@ pub record IsOfDomain (h : Domain) (v : world.Domain) : Type 0 where
 
 -- the meaning of the root is what is live
 abbrev pub MeansLive : List ℕ → ℕ → world.Domain → Type 0
-MeansLive words root v = (p : ℕ) → p < 2 ^ 27 → states (memory words) 3 root p ≡ v.live p
+MeansLive words root v = (p : ℕ) → p < PAGES_END → states (memory words) LEVELS root p ≡ v.live p
 
 -- ---- pieces
 
@@ -65,13 +66,13 @@ AllApart (r ∷ rs) = ((q : Retired) → IsIn q rs → AreApart r.range q.range)
 -- was mapped at its pages
 pub record PartsPages (space : Space) (v : world.Domain) : Type 0 where
   pub is_space : IsSpace space
-  pub whole : space.last ≡ 2 ^ 27 - 1
+  pub whole : space.last ≡ PAGES_END - 1
   pub free : (p : ℕ) → (state_at space.pieces p ≡ Some Free) ↔ (IsPage p × IsFree v p)
   pub live : (p : ℕ) → (state_at space.pieces p ≡ Some Live) ↔ IsSome (v.live p)
   pub retired : (p : ℕ) → (state_at space.pieces p ≡ Some pages.Retired) ↔ IsInRecord v p
   pub ranges : (r : Retired) → IsIn r v.retired → IsIn (piece_of r.range pages.Retired) space.pieces
   pub apart : AllApart v.retired
-  pub told : (r : Retired) (p : ℕ) → IsIn r v.retired → IsWithin r.range p → IsSome (r.targets p)
+  pub targets_known : (r : Retired) (p : ℕ) → IsIn r v.retired → IsWithin r.range p → IsSome (r.targets p)
 
 -- the domain of the state is the one of the world
 pub record Mirrors (words : List ℕ) (h : Domain) (v : world.Domain) : Type 0 where
@@ -96,7 +97,7 @@ InDomain m w d P = (h : Domain) × (v : world.Domain) × (domain_at m.domains d 
 -- states; in a strict domain the leaf is one entry of its tree
 pub record IsLawfulLeaf (words : List ℕ) (l : CachedLeaf) (h : Domain) (v : world.Domain) : Type 0 where
   pub stated : (p : ℕ) → l.first ≤ p → p < l.first + l.pages → IsLive v p (stated_by p l) ⊎ IsRetired v p (stated_by p l)
-  pub entry : v.mode ≡ Strict → IsLeafAt (memory words) 3 h.root l.first l.pages l.frame l.rights
+  pub entry : v.mode ≡ Strict → IsLeafAt (memory words) LEVELS h.root l.first l.pages l.frame l.rights
 
 -- the frame is held, zeroed, by a record whose range covers these pages
 abbrev pub IsHeld : List ℕ → List Record → ℕ → ℕ → ℕ → Type 0
@@ -108,7 +109,7 @@ IsHeld words records first pages frame =
 -- covers the span
 pub record IsLawfulTable (words : List ℕ) (i : CachedNonLeaf) (h : Domain) (v : world.Domain) : Type 0 where
   pub span : i.pages ≡ span i.level
-  pub named : IsTableAt (memory words) 3 h.root i.first i.level i.frame ⊎ IsHeld words h.records i.first i.pages i.frame
+  pub named : IsTableAt (memory words) LEVELS h.root i.first i.level i.frame ⊎ IsHeld words h.records i.first i.pages i.frame
 
 pub record AreLawful (m : State) (w : World) (c : Caches) : Type 0 where
   pub leaves : (l : CachedLeaf) → IsIn l c.leaves → InDomain m w l.domain (IsLawfulLeaf m.pool.words l)
@@ -125,15 +126,17 @@ attached (Some (Present root width domain)) = Some domain
 -- context: the row is the devices' attachments with their domains' roots, and each cached context is one of these
 pub record Attaches (m : State) (w : World) : Type 0 where
   pub devices : (v : ℕ) → w.devices v ≡ attached (slice_get m.iommu.contexts v)
-  pub roots : (v root domain : ℕ) → slice_get m.iommu.contexts v ≡ Some (Present root W39 domain) → (h : Domain) × (domain_at m.domains domain ≡ Some h) × (h.root ≡ root)
-  pub cached : (x : CachedContext) → IsIn x m.iommu.unit.caches.contexts → slice_get m.iommu.contexts x.device ≡ Some (Present x.root W39 x.domain)
+  pub roots : (v root domain : ℕ) → slice_get m.iommu.contexts v ≡ Some (Present root W39 domain)
+      → (h : Domain) × (domain_at m.domains domain ≡ Some h) × (h.root ≡ root)
+  pub cached : (x : CachedContext) → IsIn x m.iommu.unit.caches.contexts
+      → slice_get m.iommu.contexts x.device ≡ Some (Present x.root W39 x.domain)
 
 -- ---- frames
 
 -- how often a domain has a frame: in its tree and in its records
 abbrev pub owned : Memory → Option Domain → ℕ → ℕ
 owned m None f = 0
-owned m (Some h) f = uses m 3 h.root f + held_in h.records f
+owned m (Some h) f = uses m LEVELS h.root f + held_in h.records f
 
 -- frames: each is free, used by one tree in one place, or held by one record; they are those below the number of
 -- table frames, and the free and the held ones are zeroed

@@ -148,7 +148,7 @@ Becomes m (calls.Dma device address access whim) (Refused refusal) t = t ≡ rec
 Becomes m (calls.Dma device address access whim) reply t =
     (answer : Result Hit Fault) × (reply ≡ reached_reply (host_in answer))
     × Answers (memory m.pool.words) m.iommu.contexts whim.look whim.fill device address access
-      m.iommu.unit.caches t.iommu.unit.caches answer
+    m.iommu.unit.caches t.iommu.unit.caches answer
     × (t ≡ record m {
       iommu = record m.iommu { unit = unit_state t.iommu.unit.caches m.iommu.unit.steps m.iommu.unit.done };
       calls = m.calls + 1;

@@ -9,6 +9,7 @@ ghost use Rattle.iova.specs.Space.{AllFree, IsSpace, MayRetire};
 ghost use Rattle.tables.specs.Pool.{IsTree};
 ghost use Rattle.vtdbits.specs.declared.descriptor.Descriptor.TheVariants.{IotlbDomain};
 ghost use Rattle.engine.specs.Domains.{new_domain, parts_of};
+ghost use Rattle.engine.specs.declared.room.TheConstants.{MOST_RECORDS};
 ghost use Rattle.engine.specs.Ending.{Closes, Destroys, Flushes, IsJudgedEnd, IsUnmapped, MakesRoom, PutsOff, Releases, ReleasesAll, RetiresAndUnmaps, UnmapsStrictly};
 ghost use Rattle.engine.specs.Judged.{AreMappable};
 ghost use Rattle.engine.specs.Placing.{CanPlace, IsUnplaced, Places};
@@ -40,12 +41,14 @@ impl Model for Domain {
     ghost use Rattle.std.specs.Prelude.{◌≡◌, ◌≤◌, ◌-◌, vec_capacity, vec_len};
     ghost use Rattle.dmatypes.specs.declared.width.TheConstants.{PAGES_END};
     ghost use Rattle.engine.specs.Domains.{Domain};
+    ghost use Rattle.engine.specs.declared.room.TheConstants.{MOST_RECORDS};
 
     ghost Value = { Domain };
 
     ghost view = { λ d. record { mode = d.mode; begun = d.begun; root = d.tree.root; space = d.space; records = d.records.items } };
 
-    ghost invariant = { λ d. (d.space.last ≡ PAGES_END - 1) × (256 ≤ vec_capacity d.records) × (vec_len d.records ≤ 256) };
+    ghost invariant = { λ d. (d.space.last ≡ PAGES_END - 1)
+        × (MOST_RECORDS ≤ vec_capacity d.records) × (vec_len d.records ≤ MOST_RECORDS) };
 }
 
 impl Domain {
@@ -180,7 +183,7 @@ impl Domain {
         requires can { AreReleasable pool.old self.old.space self.old.records }
         requires ready { IsReady iommu.old }
         ensures room { MakesRoom (parts_of pool.old self.old iommu.old) id result (parts_of pool.new self.new iommu.new) }
-        ensures fewer { length self.new.records < 256 }
+        ensures fewer { length self.new.records < MOST_RECORDS }
     {
         if self.records.len() < MOST_RECORDS {
             0
@@ -218,7 +221,7 @@ impl Domain {
 
     // A record is the last.
     fn put_aside(&mut self, retired: Record)
-        requires { length self.old.records < 256 }
+        requires { length self.old.records < MOST_RECORDS }
         ensures { self.new ≡ record self.old { records = self.old.records ++ retired ∷ [] } }
     {
         let _ = self.records.push(retired);

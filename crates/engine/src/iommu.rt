@@ -29,7 +29,12 @@ pub(crate) struct Iommu {
 impl Iommu {
     /// No device is attached, nothing waits, and the unit remembers nothing.
     pub(crate) fn new() -> Iommu
-        ensures { result ≡ record { contexts = replicate 16 ContextEntry.Absent; ring = ring_of [] 0 []; unit = unit_state nothing 0 0; sent = 0 } }
+        ensures { result ≡ record {
+          contexts = replicate 16 ContextEntry.Absent;
+          ring = ring_of [] 0 [];
+          unit = unit_state nothing 0 0;
+          sent = 0;
+        } }
     {
         Iommu {
             contexts: Contexts::new(),

@@ -5,13 +5,7 @@ ghost use Rattle.dmatypes.specs.Conditions.{total_pages};
 ghost use Rattle.engine.specs.Judged.{AreMappable, AreOwned, IsJudged};
 
 use crate::wanted::Wanted;
-use dmatypes::{Refusal, Rights, Segment};
-
-// The most pages of a map (own).
-const MOST_PAGES: u64 = 4096;
-
-// Host frames are below it (own).
-const FRAMES_END: u64 = 1 << 24;
+use dmatypes::{FRAMES_END, MOST_PAGES, Refusal, Rights, Segment};
 
 /// What is wanted of these segments; `BadRange` where no map asks for that, else `FrameOwned` where a segment begins
 /// at one of the table frames, which are those below `frames`.

@@ -501,7 +501,8 @@ fn attaches(entry: ContextEntry, id: DomainId) -> bool
 
 // The pages of an unmap, where it names some.
 fn range_at(address: u64, pages: u64) -> Option<PageRange>
-    ensures some { IfSome result (λ range. (address % PAGE_BYTES ≡ 0) × (range ≡ range_at address pages) × IsPageRange (range_at address pages)) }
+    ensures some { IfSome result (λ range. (address % PAGE_BYTES ≡ 0)
+        × (range ≡ range_at address pages) × IsPageRange (range_at address pages)) }
     ensures none { IfNone result (IsBadUnmap address pages) }
 {
     if address % PAGE_BYTES != 0 {

@@ -1,6 +1,7 @@
 //! What a map can ask for.
 
 ghost use Rattle.std.specs.Prelude.{◌≤◌};
+ghost use Rattle.dmatypes.specs.declared.page.TheConstants.{MOST_PAGES};
 ghost use Rattle.dmatypes.specs.Rights.{AreRights, bits_of};
 
 use dmatypes::Rights;
@@ -12,7 +13,7 @@ pub(crate) struct Wanted {
     pub(crate) order: u64,
     pub(crate) rights: Rights,
     ghost some_pages: { 1 ≤ pages },
-    ghost few_pages: { pages ≤ 4096 },
+    ghost few_pages: { pages ≤ MOST_PAGES },
     ghost small_order: { order ≤ 9 },
     ghost some_right: { AreRights (bits_of rights) },
 }

@@ -43,10 +43,12 @@ does c =
     c.self.invariant.0.devices at (sent c)
 
 pub invariant_of-self-2 : goal.invariant_of-self-2
-invariant_of-self-2 c =
-    (whole_sends c.self.inside.frames (before c) (detached (before c) c.forget_context.new.self) (calls.Detach c.args.device) Done
-    (ContextDevice c.in-Present.domain c.args.device) (slice_set c.self.inside.iommu.contexts c.args.device Absent) c.self.invariant.0 (does c) refl
-    (length-set c.self.inside.iommu.contexts c.args.device Absent) (sent c), c.self.invariant.1)
+invariant_of-self-2 c = (
+  whole_sends c.self.inside.frames (before c) (detached (before c) c.forget_context.new.self) (calls.Detach c.args.device) Done
+      (ContextDevice c.in-Present.domain c.args.device) (slice_set c.self.inside.iommu.contexts c.args.device Absent) c.self.invariant.0 (does c) refl
+      (length-set c.self.inside.iommu.contexts c.args.device Absent) (sent c),
+  c.self.invariant.1,
+)
 
 pub returns : goal.returns
 returns c = rw (← c.self.view_is) (does c)

@@ -80,10 +80,13 @@ invariant_of-self-2 c =
     let fewer = count_set m.domains c.place_of.result (Some c.in-Some-take.domain) None at in
     let pushed : IsOk c.push.result = c.push.ensures.succeeds (omega (arith, fewer, c.self.invariant.1.count, c.self.invariant.1.roomy)) in
     let more = rw pushed at c.push.ensures.len in
-    rw c.take.ensures.after ((did c).whole, record {
-      count = omega (arith, fewer, c.self.invariant.1.count, more);
-      roomy = omega (arith, c.self.invariant.1.roomy, c.push.ensures.capacity);
-    })
+    rw c.take.ensures.after (
+      (did c).whole,
+      record {
+        count = omega (arith, fewer, c.self.invariant.1.count, more);
+        roomy = omega (arith, c.self.invariant.1.roomy, c.push.ensures.capacity);
+      },
+    )
 
 pub returns : goal.returns
 returns c = rw (← c.self.view_is, c.take.ensures.after) (did c).does

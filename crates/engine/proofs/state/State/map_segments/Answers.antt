@@ -101,10 +101,11 @@ invariant_of-self-in-Err-map c =
     let read = stands m.domains c.place_of.result c.index_mut.result.now c.self.invariant.0.places c.place_of.ensures.low c.index_mut.ensures.value in
     let id : c.args.domain ≡ c.place_of.result + 1 = sym c.in-Some.ensures.value ∙ c.place_of.ensures.place in
     let at : slice_get m.domains c.place_of.result ≡ Some (Some c.in-Some-index_mut.domain) = read ∙ ap Some c.in-Some-index_mut.is in
-    let there : domain_at m.domains c.args.domain ≡ Some c.in-Some-index_mut.domain = at_place m.domains c.args.domain c.place_of.result (Some c.in-Some-index_mut.domain) id at in
-    (whole_quiet c.self.inside.frames (before_refused c) (refused c) (calls.MapList c.args.domain c.args.order c.args.rights (record { items = c.args.segments.now })) (Refused c.in-Err-map.refusal) c.self.invariant.0 (refuses c)
-    (length-set m.domains c.place_of.result (Some c.map.new.self)) refl refl refl refl,
-    rooms_stay _ _ c.place_of.result m.domains c.in-Some-index_mut.domain c.map.new.self at c.self.invariant.1)
+    let there : domain_at m.domains c.args.domain ≡ Some c.in-Some-index_mut.domain = at_place m.domains c.args.domain c.place_of.result (Some c.in-Some-index_mut.domain) id at in (
+      whole_quiet c.self.inside.frames (before_refused c) (refused c) (calls.MapList c.args.domain c.args.order c.args.rights (record { items = c.args.segments.now })) (Refused c.in-Err-map.refusal) c.self.invariant.0 (refuses c)
+          (length-set m.domains c.place_of.result (Some c.map.new.self)) refl refl refl refl,
+      rooms_stay _ _ c.place_of.result m.domains c.in-Some-index_mut.domain c.map.new.self at c.self.invariant.1,
+    )
 
 -- ---- a map
 
@@ -136,7 +137,8 @@ invariant_of-self-2 c =
     let read = stands m.domains c.place_of.result c.index_mut.result.now c.self.invariant.0.places c.place_of.ensures.low c.index_mut.ensures.value in
     let id : c.args.domain ≡ c.place_of.result + 1 = sym c.in-Some.ensures.value ∙ c.place_of.ensures.place in
     let at : slice_get m.domains c.place_of.result ≡ Some (Some c.in-Some-index_mut.domain) = read ∙ ap Some c.in-Some-index_mut.is in
-    let there : domain_at m.domains c.args.domain ≡ Some c.in-Some-index_mut.domain = at_place m.domains c.args.domain c.place_of.result (Some c.in-Some-index_mut.domain) id at in
-    (whole_quiet c.self.inside.frames (before c) (after c) (calls.MapList c.args.domain c.args.order c.args.rights (record { items = c.args.segments.now })) (Mapped (4096 * c.in-Ok-map.first)) c.self.invariant.0 (does c)
-    (length-set m.domains c.place_of.result (Some c.map.new.self)) refl refl refl refl,
-    rooms_stay _ _ c.place_of.result m.domains c.in-Some-index_mut.domain c.map.new.self at c.self.invariant.1)
+    let there : domain_at m.domains c.args.domain ≡ Some c.in-Some-index_mut.domain = at_place m.domains c.args.domain c.place_of.result (Some c.in-Some-index_mut.domain) id at in (
+      whole_quiet c.self.inside.frames (before c) (after c) (calls.MapList c.args.domain c.args.order c.args.rights (record { items = c.args.segments.now })) (Mapped (4096 * c.in-Ok-map.first)) c.self.invariant.0 (does c)
+          (length-set m.domains c.place_of.result (Some c.map.new.self)) refl refl refl refl,
+      rooms_stay _ _ c.place_of.result m.domains c.in-Some-index_mut.domain c.map.new.self at c.self.invariant.1,
+    )

@@ -84,7 +84,7 @@ answered c =
     let less : c.place_of.result < length m.domains = omega (arith, c.self.invariant.0.places, c.place_of.ensures.low) in
     let range = c.in-Some-range_at.ensures.some in
     let ended : IsUnmapped (parts_in m c.in-Some-index_mut.domain) c.args.domain (range_at c.args.address c.args.pages) c.unmap.result
-        (parts_of c.unmap.new.pool c.unmap.new.self c.unmap.new.iommu) =
+    (parts_of c.unmap.new.pool c.unmap.new.self c.unmap.new.iommu) =
     rw (← c.in-Some.ensures.value, ← range.1) c.unmap.ensures in
     unmap_answered c.self.inside.frames m c.args.domain c.args.address c.args.pages c.place_of.result c.in-Some-index_mut.domain c.unmap.new.self
     c.unmap.new.pool c.unmap.new.iommu c.unmap.result c.self.invariant.0 less id at there range.0 range.2 ended
