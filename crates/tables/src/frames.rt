@@ -13,10 +13,11 @@ use std::alloc::{AllocError, Global};
 use std::marker::Model;
 use vtdbits::SsEntry;
 
-/// How few and how many frames a pool can have (own).
-const FEWEST_FRAMES: u64 = 16;
+/// The fewest frames that a pool can have (own).
+pub const FEWEST_FRAMES: u64 = 16;
 
-const MOST_FRAMES: u64 = 4096;
+/// The most frames that a pool can have (own).
+pub const MOST_FRAMES: u64 = 4096;
 
 /// Frames for tables, of a word for each entry. Some of them are free, and these are zeroed; the others are of trees, or
 /// were cut from one and not given back.
@@ -42,7 +43,7 @@ impl Model for Pool {
 }
 
 impl Pool {
-    /// A pool of so many frames, all of them free.
+    /// A pool of so many frames, 16 to 4,096 (own), all of them free.
     pub fn new(alloc: Global, frames: u64) -> Result<Pool, AllocError>
         requires some { FEWEST_FRAMES ≤ frames }
         requires few { frames ≤ MOST_FRAMES }
