@@ -1,11 +1,11 @@
 //! A map and its unmap by a manager, with its history.
 
-ghost use Rattle.std.specs.Prelude.{◌≡◌};
+ghost use Rattle.manager.specs.Kept.{IsNamedBy};
 
-use crate::driver::{BOTH_RIGHTS, TABLE_FRAMES};
+use crate::driver::{BOTH_RIGHTS, TABLE_FRAMES, UNALIGNED_FRAME};
 use crate::timing::{Tenths, Work, time};
 use crate::trouble::{Trouble, check};
-use dmatypes::{Call, Mode, Reply};
+use dmatypes::{Call, Mode, PAGE_BYTES, Reply};
 use manager::{Book, Config, HistoryFull, Made, Manager, Owner, Seed, Share};
 use std::alloc::Global;
 use std::marker::Brand;
@@ -43,11 +43,7 @@ fn time_owned<B: Owner, C: Clock + Wait>(
     way: Way,
     seed: Seed,
 ) -> Result<Tenths, Trouble>
-    requires name { seed.name ≡ B.name }
-    requires parts { seed.shares ≡ B.parts }
-    requires shares { seed.shares ≡ B.shares }
-    requires room { seed.room ≡ B.room }
-    requires frames { seed.frames ≡ B.frames }
+    requires { IsNamedBy seed B.name B.parts B.shares B.room B.frames }
 {
     let Made {
         manager,
@@ -77,11 +73,11 @@ fn time_owned<B: Owner, C: Clock + Wait>(
 }
 
 // Where the one page is mapped.
-const ADDRESS: u64 = 0x1000;
+const ADDRESS: u64 = PAGE_BYTES;
 
 const MAP: Call = Call::Map {
     domain: 1,
-    frame: 0x1001,
+    frame: UNALIGNED_FRAME,
     pages: 1,
     order: 0,
     rights: BOTH_RIGHTS,
