@@ -1,19 +1,19 @@
 //! A map and its unmap while the unit's caches are full.
 
-ghost use Rattle.std.specs.Prelude.{◌≡◌, ◌+◌, ◌<◌};
+ghost use Rattle.std.specs.Prelude.{◌≡◌, ◌+◌, ◌≤◌};
 
-use crate::driver::{BOTH_RIGHTS, count};
+use crate::driver::{BOTH_RIGHTS, UNALIGNED_FRAME, count};
 use crate::timing::Work;
 use crate::trouble::{Trouble, check};
-use dmatypes::{Access, Mode, Whim};
+use dmatypes::{Access, DEVICES, MOST_ORDER, MOST_PAGES, Mode, PAGE_BYTES, SPAN_PAGES, Whim};
 use engine::State;
 use std::alloc::Global;
 
 // Enough for two domains with 16 tables of the lowest level each, and one more.
 const TABLE_FRAMES: u64 = 64;
 
-// The devices of each domain: 16 contexts together.
-const DEVICES: u64 = 8;
+// The devices of each domain: with those of the other domain all.
+const HALF_DEVICES: u64 = DEVICES / 2;
 
 // Each domain has this many tables of the lowest level in the cache, and one above them: 32 tables together.
 const SPANS: u64 = 15;
@@ -21,16 +21,8 @@ const SPANS: u64 = 15;
 // Each domain has this many leaves in the cache: 64 leaves together.
 const LEAVES: u64 = 32;
 
-// The bytes of a page, and of a span of 512 pages.
-const PAGE: u64 = 0x1000;
-
-const SPAN: u64 = 0x20_0000;
-
-// Two maps of so many pages, so that few pieces of the address space stand beside the one that is measured.
-const MOST_PAGES: u64 = 4096;
-
-// The host frame of the first of them, no multiple of 512: their leaves are of 4 KiB.
-const FRAME: u64 = 0x1001;
+// The bytes of a span.
+const SPAN_BYTES: u64 = SPAN_PAGES * PAGE_BYTES;
 
 /// Maps one page into a strict domain, and unmaps it again, while the caches hold 64 leaves, 32 tables and 16
 /// contexts, half of them of this domain, half of another. The unmap drops none of them.
@@ -50,14 +42,14 @@ impl Crowded {
             made: 0,
         };
         crowded.fill_half(0)?;
-        crowded.fill_half(DEVICES)?;
+        crowded.fill_half(HALF_DEVICES)?;
         Ok(crowded)
     }
 
     // Makes a domain with devices from a first one on, maps pages in each span, and has the devices read until half of
     // the caches is filled.
     fn fill_half(&mut self, first: u64) -> Result<(), Trouble>
-        requires { first < 9 }
+        requires { first ≤ HALF_DEVICES }
     {
         count(&mut self.made)?;
         self.domain = self.state.domain(Mode::Strict)?;
@@ -67,44 +59,45 @@ impl Crowded {
     }
 
     fn attach_from(&mut self, first: u64) -> Result<(), Trouble>
-        requires { first < 9 }
+        requires { first ≤ HALF_DEVICES }
     {
-        for device in first..first + DEVICES {
+        for device in first..first + HALF_DEVICES {
             count(&mut self.made)?;
             self.state.attach(device, self.domain)?;
         }
         Ok(())
     }
 
+    // Two maps, so that few pieces of the address space stand beside the one that is measured.
     fn map_spans(&mut self) -> Result<(), Trouble> {
         for part in 0..2 {
-            let frame = FRAME + MOST_PAGES * part;
+            let frame = UNALIGNED_FRAME + MOST_PAGES * part;
             count(&mut self.made)?;
             let mapped = self
                 .state
-                .map(self.domain, frame, MOST_PAGES, 9, BOTH_RIGHTS)?;
-            check(mapped == SPAN + PAGE * MOST_PAGES * part)?;
+                .map(self.domain, frame, MOST_PAGES, MOST_ORDER, BOTH_RIGHTS)?;
+            check(mapped == SPAN_BYTES + PAGE_BYTES * MOST_PAGES * part)?;
         }
         Ok(())
     }
 
     fn read_pages(&mut self, first: u64) -> Result<(), Trouble>
-        requires { first < 9 }
+        requires { first ≤ HALF_DEVICES }
     {
         for leaf in 0..LEAVES {
-            let offset = SPAN * (leaf % SPANS) + PAGE * (leaf / SPANS);
+            let offset = SPAN_BYTES * (leaf % SPANS) + PAGE_BYTES * (leaf / SPANS);
             let filling = Whim {
                 look: false,
                 fill: true,
             };
             count(&mut self.made)?;
             let answer = self.state.dma(
-                first + leaf % DEVICES,
-                SPAN + offset,
+                first + leaf % HALF_DEVICES,
+                SPAN_BYTES + offset,
                 Access::Read,
                 filling,
             )?;
-            check(answer.map(|hit| hit.host) == Ok(PAGE * FRAME + offset))?;
+            check(answer.map(|hit| hit.host) == Ok(PAGE_BYTES * UNALIGNED_FRAME + offset))?;
         }
         Ok(())
     }
@@ -113,8 +106,10 @@ impl Crowded {
 impl Work for Crowded {
     fn once(&mut self) -> Result<(), Trouble> {
         count(&mut self.made)?;
-        let mapped = self.state.map(self.domain, FRAME, 1, 0, BOTH_RIGHTS)?;
-        check(mapped == PAGE)?;
+        let mapped = self
+            .state
+            .map(self.domain, UNALIGNED_FRAME, 1, 0, BOTH_RIGHTS)?;
+        check(mapped == PAGE_BYTES)?;
         count(&mut self.made)?;
         let released = self.state.unmap(self.domain, mapped, 1)?;
         check(released == 0)

@@ -4,17 +4,17 @@ ghost use Rattle.std.specs.Prelude.{◌≡◌, ◌+◌, ◌<◌, OnOk, OnErr};
 
 use crate::trouble::Trouble;
 use arrayvec::ArrayVec;
-use dmatypes::{Access, Fault, Mode, Segment, Whim};
+use dmatypes::{Access, Fault, LEAST_TABLE_FRAMES, MOST_CALLS, MOST_SEGMENTS, Mode, Segment, Whim};
 use engine::State;
 use std::alloc::Global;
 
 /// So few table frames that one which isn't given back is soon missed.
-pub(crate) const TABLE_FRAMES: u64 = 16;
-
-// How many calls a state takes.
-const MOST_CALLS: u64 = 1 << 20;
+pub(crate) const TABLE_FRAMES: u64 = LEAST_TABLE_FRAMES;
 
 const DEVICE: u64 = 3;
+
+/// A host frame behind the table frames that is no multiple of a span's pages: what is mapped from it on has leaves of 4 KiB.
+pub(crate) const UNALIGNED_FRAME: u64 = 0x1001;
 
 /// The rights to read and to write.
 pub(crate) const BOTH_RIGHTS: u64 = 3;
@@ -55,7 +55,7 @@ impl Driver {
     /// byte address of the first.
     pub(crate) fn map_list(
         &mut self,
-        segments: &ArrayVec<Segment, 16>,
+        segments: &ArrayVec<Segment, MOST_SEGMENTS>,
         order: u64,
     ) -> Result<u64, Trouble> {
         count(&mut self.made)?;
@@ -87,7 +87,7 @@ impl Driver {
 
 /// Counts a call that is about to be made, where the state takes it.
 pub(crate) fn count(made: &mut u64) -> Result<(), Trouble>
-    ensures few { OnOk result (made.old < 1048576) }
+    ensures few { OnOk result (made.old < MOST_CALLS) }
     ensures counted { OnOk result (made.new ≡ made.old + 1) }
     ensures unchanged { OnErr result (made.new ≡ made.old) }
 {

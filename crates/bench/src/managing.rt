@@ -2,10 +2,10 @@
 
 ghost use Rattle.manager.specs.Kept.{IsNamedBy};
 
-use crate::driver::{BOTH_RIGHTS, TABLE_FRAMES};
+use crate::driver::{BOTH_RIGHTS, TABLE_FRAMES, UNALIGNED_FRAME};
 use crate::timing::{Tenths, Work, time};
 use crate::trouble::{Trouble, check};
-use dmatypes::{Call, Mode, Reply};
+use dmatypes::{Call, Mode, PAGE_BYTES, Reply};
 use manager::{Book, Config, HistoryFull, Made, Manager, Owner, Rows, Seed, Share};
 use std::alloc::Global;
 use std::marker::Brand;
@@ -77,11 +77,11 @@ fn time_owned<B: Owner, C: Clock + Wait>(
 }
 
 // Where the one page is mapped.
-const ADDRESS: u64 = 0x1000;
+const ADDRESS: u64 = PAGE_BYTES;
 
 const MAP: Call = Call::Map {
     domain: 1,
-    frame: 0x1001,
+    frame: UNALIGNED_FRAME,
     pages: 1,
     order: 0,
     rights: BOTH_RIGHTS,

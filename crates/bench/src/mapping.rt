@@ -1,12 +1,13 @@
 //! A map and its unmap.
 
 ghost use Rattle.std.specs.Prelude.{◌<◌};
+ghost use Rattle.dmatypes.specs.declared.limits.TheConstants.{MOST_RECORDS};
 
-use crate::driver::Driver;
+use crate::driver::{Driver, UNALIGNED_FRAME};
 use crate::timing::Work;
 use crate::trouble::{Trouble, check};
 use arrayvec::ArrayVec;
-use dmatypes::{Mode, Segment};
+use dmatypes::{MOST_ORDER, MOST_RECORDS, MOST_SEGMENTS, Mode, PAGE_BYTES, SPAN_PAGES, Segment};
 use std::alloc::Global;
 
 /// What is mapped: so many pages from a host frame on, at a multiple of 2^`order` pages, and so at this byte
@@ -52,7 +53,7 @@ impl Work for Mapping {
 }
 
 // So many segments of one page each, as many as a map takes.
-const SEGMENTS: u64 = 16;
+const SEGMENTS: u64 = MOST_SEGMENTS as u64;
 
 // The frames of two segments that follow one another are so far apart.
 const STRIDE: u64 = 3;
@@ -61,14 +62,14 @@ const STRIDE: u64 = 3;
 #[derive(Drop)]
 pub(crate) struct Listing {
     driver: Driver,
-    segments: ArrayVec<Segment, 16>,
+    segments: ArrayVec<Segment, MOST_SEGMENTS>,
 }
 
 impl Listing {
     pub(crate) fn new(alloc: Global) -> Result<Listing, Trouble> {
         let mut segments = ArrayVec::new();
         for index in 0..SEGMENTS {
-            let frame = 0x1001 + STRIDE * index;
+            let frame = UNALIGNED_FRAME + STRIDE * index;
             check(segments.try_push(Segment { frame, pages: 1 }).is_ok())?;
         }
         Ok(Listing {
@@ -81,16 +82,14 @@ impl Listing {
 impl Work for Listing {
     fn once(&mut self) -> Result<(), Trouble> {
         let mapped = self.driver.map_list(&self.segments, 0)?;
-        check(mapped == 0x1000)?;
+        check(mapped == PAGE_BYTES)?;
         let released = self.driver.unmap(mapped, SEGMENTS)?;
         check(released == 0)
     }
 }
 
-// The pages of a leaf of 2 MiB, and where the first such leaf of an empty domain is mapped.
-const LARGE_LEAF_PAGES: u64 = 512;
-
-const FIRST_LARGE_LEAF: u64 = 0x20_0000;
+// Where the first leaf of 2 MiB of an empty domain is mapped.
+const FIRST_LARGE_LEAF: u64 = SPAN_PAGES * PAGE_BYTES;
 
 /// Maps a leaf of 2 MiB, unmaps its first page, which splits it, maps that page again, into the table that the split
 /// made, and unmaps them all.
@@ -109,12 +108,12 @@ impl Splitting {
 
 impl Work for Splitting {
     fn once(&mut self) -> Result<(), Trouble> {
-        let leaf = self.driver.map(0x1000, LARGE_LEAF_PAGES, 9)?;
+        let leaf = self.driver.map(0x1000, SPAN_PAGES, MOST_ORDER)?;
         check(leaf == FIRST_LARGE_LEAF)?;
         self.driver.unmap(leaf, 1)?;
-        let page = self.driver.map(0x1001, 1, 9)?;
+        let page = self.driver.map(UNALIGNED_FRAME, 1, MOST_ORDER)?;
         check(page == leaf)?;
-        let released = self.driver.unmap(leaf, LARGE_LEAF_PAGES)?;
+        let released = self.driver.unmap(leaf, SPAN_PAGES)?;
         check(released == 0)
     }
 }
@@ -126,11 +125,11 @@ pub(crate) struct Deferred {
     driver: Driver,
     put_off: u64,
     most: u64,
-    ghost few: { put_off < 256 },
+    ghost few: { put_off < MOST_RECORDS },
 }
 
 impl Deferred {
-    /// So many pages are put off before a flush, 1 to 256.
+    /// So many pages are put off before a flush: at least one, and at most as many as a domain keeps.
     pub(crate) fn new(alloc: Global, most: u64) -> Result<Deferred, Trouble> {
         Ok(Deferred {
             driver: Driver::new(alloc, Mode::Lazy)?,
@@ -142,8 +141,8 @@ impl Deferred {
 
 impl Work for Deferred {
     fn once(&mut self) -> Result<(), Trouble> {
-        let mapped = self.driver.map(0x1001, 1, 0)?;
-        check(mapped == 0x1000 * (self.put_off + 1))?;
+        let mapped = self.driver.map(UNALIGNED_FRAME, 1, 0)?;
+        check(mapped == PAGE_BYTES * (self.put_off + 1))?;
         let released = self.driver.unmap(mapped, 1)?;
         check(released == 0)?;
         if self.put_off + 1 < self.most.min(MOST_RECORDS) {
@@ -155,6 +154,3 @@ impl Work for Deferred {
         check(self.driver.flush()? == put_off)
     }
 }
-
-// How many records a lazy domain keeps at most.
-const MOST_RECORDS: u64 = 256;

@@ -1,21 +1,15 @@
 //! A device's request.
 
-use crate::driver::Driver;
+use crate::driver::{Driver, UNALIGNED_FRAME};
 use crate::timing::Work;
 use crate::trouble::{Trouble, check};
-use dmatypes::{Mode, Whim};
+use dmatypes::{Mode, PAGE_BYTES, Whim};
 use std::alloc::Global;
-
-// Where the one page is mapped to.
-const FRAME: u64 = 0x1001;
 
 const OFFSET: u64 = 0x234;
 
-// The bytes of a page, and the byte address of page 1.
-const PAGE: u64 = 4096;
-
 // The byte address in host memory.
-const HOST: u64 = PAGE * FRAME + OFFSET;
+const HOST: u64 = PAGE_BYTES * UNALIGNED_FRAME + OFFSET;
 
 /// Reads at an address of the one live page. The unit remembers the page's leaf, with its tables and the context.
 #[derive(Drop)]
@@ -28,9 +22,9 @@ pub(crate) struct Request {
 impl Request {
     pub(crate) fn new(alloc: Global, look: bool) -> Result<Request, Trouble> {
         let mut driver = Driver::new(alloc, Mode::Strict)?;
-        let address = driver.map(FRAME, 1, 0)?;
-        check(address == PAGE)?;
-        let address = PAGE + OFFSET;
+        let address = driver.map(UNALIGNED_FRAME, 1, 0)?;
+        check(address == PAGE_BYTES)?;
+        let address = PAGE_BYTES + OFFSET;
         let filling = Whim {
             look: false,
             fill: true,

@@ -1,6 +1,7 @@
 //! What is measured.
 
 use crate::crowding::Crowded;
+use crate::driver::UNALIGNED_FRAME;
 use crate::managing::{Way, time_manager};
 use crate::mapping::{Deferred, Listing, Mapping, Shape, Splitting};
 use crate::request::Request;
@@ -39,12 +40,12 @@ enum Kind {
 }
 
 /// All that is measured, in the table's order. The maps begin at frames behind the table frames; leaves of 2 MiB
-/// come where the frame is a multiple of 512.
+/// come where the frame is a multiple of a span's pages.
 pub(crate) const SUBJECTS: [Subject; 21] = [
     Subject {
         name: "map and unmap 1 page",
         kind: Kind::Map(Shape {
-            frame: 0x1001,
+            frame: UNALIGNED_FRAME,
             pages: 1,
             order: 0,
             address: 0x1000,
@@ -53,7 +54,7 @@ pub(crate) const SUBJECTS: [Subject; 21] = [
     Subject {
         name: "map and unmap 16 pages",
         kind: Kind::Map(Shape {
-            frame: 0x1001,
+            frame: UNALIGNED_FRAME,
             pages: 16,
             order: 4,
             address: 0x1_0000,
@@ -62,7 +63,7 @@ pub(crate) const SUBJECTS: [Subject; 21] = [
     Subject {
         name: "map and unmap 512 pages, leaves of 4 KiB",
         kind: Kind::Map(Shape {
-            frame: 0x1001,
+            frame: UNALIGNED_FRAME,
             pages: 512,
             order: 9,
             address: 0x20_0000,
@@ -80,7 +81,7 @@ pub(crate) const SUBJECTS: [Subject; 21] = [
     Subject {
         name: "map and unmap 4096 pages, leaves of 4 KiB",
         kind: Kind::Map(Shape {
-            frame: 0x1001,
+            frame: UNALIGNED_FRAME,
             pages: 4096,
             order: 9,
             address: 0x20_0000,

@@ -4,12 +4,12 @@ ghost use Rattle.std.specs.Prelude.{◌≡◌};
 
 use crate::timing::Work;
 use crate::trouble::{Trouble, check};
-use dmatypes::PageRange;
+use dmatypes::{PAGES_END, PageRange};
 use iova::Space;
 use std::alloc::Global;
 
-// The last page of 39-bit addresses.
-const LAST_PAGE: u64 = (1 << 27) - 1;
+// The last page of a domain.
+const LAST_PAGE: u64 = PAGES_END - 1;
 
 /// Takes the first page behind so many live pieces of one page each, and releases it. That is the longest search
 /// for a page: it goes by all the live pieces.

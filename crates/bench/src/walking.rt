@@ -1,20 +1,19 @@
 //! Walks through a tree.
 
 ghost use Rattle.std.specs.Prelude.{◌<◌};
+ghost use Rattle.dmatypes.specs.declared.page.TheConstants.{SPAN_PAGES};
+ghost use Rattle.dmatypes.specs.declared.width.TheConstants.{LEVELS};
 ghost use Rattle.tables.specs.Pool.{IsTree};
 
+use crate::driver::{BOTH_RIGHTS, TABLE_FRAMES, UNALIGNED_FRAME};
 use crate::timing::Work;
 use crate::trouble::{Trouble, check};
-use dmatypes::{Frame, Page, PageRange, Rights};
+use dmatypes::{Frame, LEVELS, Page, PageRange, Rights, SPAN_PAGES};
 use std::alloc::Global;
 use tables::{Pool, Tree};
 
-// 512 pages of 4 KiB each, in one table of the lowest level.
-const FIRST_PAGE: u64 = 512;
-
-const FIRST_FRAME: u64 = 0x1001;
-
-const PAGES: u64 = 512;
+// The pages of one table of the lowest level.
+const FIRST_PAGE: u64 = SPAN_PAGES;
 
 /// Walks to the pages of a full table of the lowest level in turn, through all three levels.
 #[derive(Drop)]
@@ -23,17 +22,17 @@ pub(crate) struct Walking {
     tree: Tree,
     // The next page, counted from the first.
     index: u64,
-    ghost is_tree: { IsTree pool 3 tree.root },
-    ghost within: { index < 512 },
+    ghost is_tree: { IsTree pool LEVELS tree.root },
+    ghost within: { index < SPAN_PAGES },
 }
 
 impl Walking {
     pub(crate) fn new(alloc: Global) -> Result<Walking, Trouble> {
-        let mut pool = Pool::new(alloc, 16)?;
+        let mut pool = Pool::new(alloc, TABLE_FRAMES)?;
         let mut tree = Tree::new(&mut pool)?;
-        let range = PageRange::new(FIRST_PAGE, PAGES).ok_or(Trouble::Wrong)?;
-        let frame = Frame::new(FIRST_FRAME).ok_or(Trouble::Wrong)?;
-        let rights = Rights::from_number(3).ok_or(Trouble::Wrong)?;
+        let range = PageRange::new(FIRST_PAGE, SPAN_PAGES).ok_or(Trouble::Wrong)?;
+        let frame = Frame::new(UNALIGNED_FRAME).ok_or(Trouble::Wrong)?;
+        let rights = Rights::from_number(BOTH_RIGHTS).ok_or(Trouble::Wrong)?;
         tree.map(&mut pool, range, frame, rights)?;
         Ok(Walking {
             pool,
@@ -47,8 +46,8 @@ impl Work for Walking {
     fn once(&mut self) -> Result<(), Trouble> {
         let page = Page::new(FIRST_PAGE + self.index).ok_or(Trouble::Wrong)?;
         let (frame, _) = self.tree.walk(&self.pool, page).ok_or(Trouble::Wrong)?;
-        check(frame.number() == FIRST_FRAME + self.index)?;
-        self.index = (self.index + 1) % PAGES;
+        check(frame.number() == UNALIGNED_FRAME + self.index)?;
+        self.index = (self.index + 1) % SPAN_PAGES;
         Ok(())
     }
 }

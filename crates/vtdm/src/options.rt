@@ -4,6 +4,7 @@ ghost use Rattle.std.specs.Prelude.{◌≡◌, ◌↔◌, IsSome, IfSome};
 ghost use Rattle.manager.specs.Kept.{IsWithinLimits};
 
 use clap::{Arg, ArgMatches, Command, value_parser};
+use dmatypes::{LEAST_TABLE_FRAMES, MOST_CALLS, MOST_TABLE_FRAMES};
 use manager::Config;
 use std::alloc::{AllocError, Global};
 
@@ -93,7 +94,7 @@ pub(crate) fn command<'a>(alloc: Global) -> Result<Command<'a>, AllocError> {
         .arg(frames(alloc))?
         .arg(calls(alloc))?;
     let report = Command::new(alloc, "report")
-        .about("MakesTables the calls of a script, and tells what is there at its end")
+        .about("Makes the calls of a script, and tells what is there at its end")
         .after_help(REPORT)
         .bin_name("vtdm report")?
         .arg(frames(alloc))?
@@ -112,7 +113,9 @@ fn frames<'a>(alloc: Global) -> Arg<'a> {
         .long("frames")
         .value_name("T")
         .help("Table frames, 16 to 4096: host frames 0 to T - 1, which can't be mapped")
-        .value_parser(value_parser!(u64).range(16..=4096))
+        .value_parser(value_parser!(u64).range(
+            LEAST_TABLE_FRAMES as i64..=MOST_TABLE_FRAMES as i64,
+        ))
         .default_value("64")
 }
 
@@ -121,7 +124,7 @@ fn calls<'a>(alloc: Global) -> Arg<'a> {
         .long("calls")
         .value_name("N")
         .help("Room of the history in calls, 1 to 1048576; further calls are refused")
-        .value_parser(value_parser!(u64).range(1..=1_048_576))
+        .value_parser(value_parser!(u64).range(1..=MOST_CALLS as i64))
         .default_value("65536")
 }
 
