@@ -39,7 +39,8 @@ remembering m c steps done calls = record m { iommu = record m.iommu { unit = un
 
 -- it keeps the quarantine where the caches are lawful
 pub quarantine_remembering : (m : State) (w : World) (c : Caches) (steps done calls : ℕ) → Quarantine m w → AreLawful m w c
-    → ((y : CachedContext) → IsIn y c.contexts → slice_get m.iommu.contexts y.device ≡ Some (Present y.root W39 y.domain)) → Quarantine (remembering m c steps done calls) w
+    → ((y : CachedContext) → IsIn y c.contexts → slice_get m.iommu.contexts y.device ≡ Some (Present y.root W39 y.domain))
+    → Quarantine (remembering m c steps done calls) w
 quarantine_remembering m w c steps done calls q lawful contexts = record {
   table_frames = q.table_frames;
   domains = q.domains;
@@ -49,40 +50,47 @@ quarantine_remembering m w c steps done calls q lawful contexts = record {
   tickets = q.tickets;
 }
 
-step_of : (w : World) (device address : ℕ) (access : Access) (whim : Whim) (answer : Result Hit Fault) → device ≤ 15 → (IsInWindow address → ⊥)
-    → AllowsTo (domain_of_device w device) address access (reached_reply (host_in answer)) → IsStep w (calls.Dma device address access whim) (reached_reply (host_in answer))
+step_of : (w : World) (device address : ℕ) (access : Access) (whim : Whim) (answer : Result Hit Fault) → device ≤ 15
+    → (IsInWindow address → ⊥) → AllowsTo (domain_of_device w device) address access (reached_reply (host_in answer))
+    → IsStep w (calls.Dma device address access whim) (reached_reply (host_in answer))
 unfolding IsStep model.Answers Stands Allows
 step_of w device address access whim (Ok hit) small outside allowed = ((λ over. omega arith, (outside, tt)), allowed)
 step_of w device address access whim (Err fault) small outside allowed = ((λ over. omega arith, (outside, tt)), allowed)
 
-next_same : (w : World) (device address : ℕ) (access : Access) (whim : Whim) (answer : Result Hit Fault) → next w (calls.Dma device address access whim) (reached_reply (host_in answer)) ≡ w
+next_same : (w : World) (device address : ℕ) (access : Access) (whim : Whim) (answer : Result Hit Fault)
+    → next w (calls.Dma device address access whim) (reached_reply (host_in answer)) ≡ w
 unfolding next
 next_same w device address access whim (Ok hit) = refl
 next_same w device address access whim (Err fault) = refl
 
-exact_request : (m : State) (device address : ℕ) (access : Access) (whim : Whim) (answer : Result Hit Fault) → Exact m (calls.Dma device address access whim) (reached_reply (host_in answer))
+exact_request : (m : State) (device address : ℕ) (access : Access) (whim : Whim) (answer : Result Hit Fault)
+    → Exact m (calls.Dma device address access whim) (reached_reply (host_in answer))
 unfolding Exact
 exact_request m device address access whim (Ok hit) = tt
 exact_request m device address access whim (Err fault) = tt
 
 becomes_request : (m t : State) (device address : ℕ) (access : Access) (whim : Whim) (answer : Result Hit Fault)
-    → Answers (memory m.pool.words) m.iommu.contexts whim.look whim.fill device address access m.iommu.unit.caches t.iommu.unit.caches answer → t ≡ remembering m t.iommu.unit.caches m.iommu.unit.steps m.iommu.unit.done (m.calls + 1)
+    → Answers (memory m.pool.words) m.iommu.contexts whim.look whim.fill device address access m.iommu.unit.caches t.iommu.unit.caches
+    answer → t ≡ remembering m t.iommu.unit.caches m.iommu.unit.steps m.iommu.unit.done (m.calls + 1)
     → Becomes m (calls.Dma device address access whim) (reached_reply (host_in answer)) t
 unfolding Becomes
 becomes_request m t device address access whim (Ok hit) answers is = (Ok hit, refl, answers, is)
 becomes_request m t device address access whim (Err fault) answers is = (Err fault, refl, answers, is)
 
 -- a request to the unit does what a request does
-pub request_does : (m t : State) (device address : ℕ) (access : Access) (whim : Whim) (answer : Result Hit Fault) → device ≤ 15 → (IsInWindow address → ⊥)
-    → Answers (memory m.pool.words) m.iommu.contexts whim.look whim.fill device address access m.iommu.unit.caches t.iommu.unit.caches answer → t ≡ remembering m t.iommu.unit.caches m.iommu.unit.steps m.iommu.unit.done (m.calls + 1)
+pub request_does : (m t : State) (device address : ℕ) (access : Access) (whim : Whim) (answer : Result Hit Fault) → device ≤ 15
+    → (IsInWindow address → ⊥)
+    → Answers (memory m.pool.words) m.iommu.contexts whim.look whim.fill device address access m.iommu.unit.caches t.iommu.unit.caches
+    answer → t ≡ remembering m t.iommu.unit.caches m.iommu.unit.steps m.iommu.unit.done (m.calls + 1)
     → Does m (calls.Dma device address access whim) (reached_reply (host_in answer)) t
 request_does m t device address access whim answer small outside answers is = record {
   steps = λ w q. (
-    step_of w device address access whim answer small outside (request_allowed m w q whim.look whim.fill device address access t.iommu.unit.caches answer answers),
-    subst (Quarantine t) (sym (next_same w device address access whim answer))
-        (subst (λ s. Quarantine s w) (sym is)
-        (quarantine_remembering m w t.iommu.unit.caches m.iommu.unit.steps m.iommu.unit.done (m.calls + 1) q
-        (request_keeps m w q whim.look whim.fill device address access t.iommu.unit.caches answer answers)
+    step_of w device address access whim answer small outside
+        (request_allowed m w q whim.look whim.fill device address access t.iommu.unit.caches answer answers),
+    subst (Quarantine t)
+        (sym (next_same w device address access whim answer))
+        (subst (λ s. Quarantine s w) (sym is) (quarantine_remembering m w t.iommu.unit.caches m.iommu.unit.steps m.iommu.unit.done
+        (m.calls + 1) q (request_keeps m w q whim.look whim.fill device address access t.iommu.unit.caches answer answers)
         (request_contexts m w q whim.look whim.fill device address access t.iommu.unit.caches answer answers))),
   );
   exact = exact_request m device address access whim answer;
@@ -131,11 +139,14 @@ no_hit w (calls.Evict kind place) reply other = refl
 
 -- ---- the refusals
 
-pub request_no_device : (m t : State) (device address : ℕ) (access : Access) (whim : Whim) → t ≡ counted m → 15 < device → Does m (calls.Dma device address access whim) (Refused refusals.NoDevice) t
+pub request_no_device : (m t : State) (device address : ℕ) (access : Access) (whim : Whim) → t ≡ counted m → 15 < device
+    → Does m (calls.Dma device address access whim) (Refused refusals.NoDevice) t
 unfolding Exact IsStep Stands
-request_no_device m t device address access whim is big = refuses m t (calls.Dma device address access whim) refusals.NoDevice is tt (λ w q. inl (inl (big, refl)))
+request_no_device m t device address access whim is big =
+    refuses m t (calls.Dma device address access whim) refusals.NoDevice is tt (λ w q. inl (inl (big, refl)))
 
-pub request_window : (m t : State) (device address : ℕ) (access : Access) (whim : Whim) → t ≡ counted m → device ≤ 15 → IsInWindow address → Does m (calls.Dma device address access whim) (Refused refusals.Window) t
+pub request_window : (m t : State) (device address : ℕ) (access : Access) (whim : Whim) → t ≡ counted m → device ≤ 15 → IsInWindow address
+    → Does m (calls.Dma device address access whim) (Refused refusals.Window) t
 unfolding Exact IsStep Stands
 request_window m t device address access whim is small inside = refuses m t (calls.Dma device address access whim) refusals.Window is tt
     (λ w q. inl (inr ((λ big. absurd (omega (arith, big, small))), inl (inside, refl))))
@@ -150,7 +161,9 @@ evict_step : (w : World) (kind : Cache) (place : ℕ) → IsStep w (calls.Evict 
 unfolding IsStep model.Answers
 evict_step w kind place = (tt, refl)
 
-pub evict_does : (m t : State) (kind : Cache) (place : ℕ) → t ≡ remembering m (without kind place m.iommu.unit.caches) m.iommu.unit.steps m.iommu.unit.done (m.calls + 1) → Does m (calls.Evict kind place) Done t
+pub evict_does : (m t : State) (kind : Cache) (place : ℕ)
+    → t ≡ remembering m (without kind place m.iommu.unit.caches) m.iommu.unit.steps m.iommu.unit.done (m.calls + 1)
+    → Does m (calls.Evict kind place) Done t
 unfolding Becomes Exact
 evict_does m t kind place is = record {
   steps = λ w q. (
@@ -158,7 +171,8 @@ evict_does m t kind place is = record {
     subst (Quarantine t) (sym (next_evicted w kind place))
         (subst (λ s. Quarantine s w) (sym is)
         (quarantine_remembering m w (without kind place m.iommu.unit.caches) m.iommu.unit.steps m.iommu.unit.done (m.calls + 1) q
-        (fewer_lawful m w m.iommu.unit.caches (without kind place m.iommu.unit.caches) q.caches (without_leaf kind place m.iommu.unit.caches) (without_non_leaf kind place m.iommu.unit.caches))
+        (fewer_lawful m w m.iommu.unit.caches (without kind place m.iommu.unit.caches) q.caches
+        (without_leaf kind place m.iommu.unit.caches) (without_non_leaf kind place m.iommu.unit.caches))
         (λ x inside. q.contexts.cached x (without_context kind place m.iommu.unit.caches x inside)))),
   );
   exact = tt;

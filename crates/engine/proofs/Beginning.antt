@@ -1,5 +1,6 @@
 -- A new state is one of the empty world.
-use Rattle.std.proofs.Common.{◌≡◌, ℕ, zero, suc, ◌+◌, ◌*◌, ◌<◌, ◌≤◌, ⊎_elim, List, [], ◌∷◌, ◌++◌, length, length-append, Option, Some, None, refl, sym, ap, subst, ◌∙◌, arith, replicate, slice_get}
+use Rattle.std.proofs.Common.{◌≡◌, ℕ, zero, suc, ◌+◌, ◌*◌, ◌<◌, ◌≤◌, ⊎_elim, List, [], ◌∷◌, ◌++◌, length, length-append, Option, Some, None}
+use Rattle.std.proofs.Common.{refl, sym, ap, subst, ◌∙◌, arith, replicate, slice_get}
 use Rattle.std.proofs.lemmas.Bool.{cases_lt}
 use Rattle.dmatypes.specs.World.{World, IsIn, empty}
 use Rattle.dmatypes.specs.declared.width.Width.TheVariants.{W39}
@@ -58,13 +59,18 @@ of_empty_world m frames new = record {
   frames = record {
     once = λ f less. omega (arith, none f, new.free f (omega (arith, less, new.frames_are)));
     past = λ f past. omega (arith, none f, new.past f (omega (arith, past, new.frames_are)));
-    zeroed = λ f some. ⊎_elim (λ (low : f < frames). new.zeroed f low) (λ (high : frames ≤ f). absurd (omega (arith, some, new.past f high))) (cases_lt f frames);
+    zeroed =
+        λ f some.
+        ⊎_elim (λ (low : f < frames). new.zeroed f low) (λ (high : frames ≤ f). absurd (omega (arith, some, new.past f high)))
+        (cases_lt f frames);
     held = λ d f h there some. absurd (none-some h (sym (no_domain m.domains d new.domains_are) ∙ there));
   };
   tickets = refl;
 } where
   none : (f : ℕ) → total (λ d. owned (memory m.pool.words) (domain_at m.domains d) f) 16 ≡ 0
-  none f = total-none (λ d. owned (memory m.pool.words) (domain_at m.domains d) f) 16 (λ d less. ap (λ (o : Option Domain). owned (memory m.pool.words) o f) (no_domain m.domains d new.domains_are))
+  none f =
+      total-none (λ d. owned (memory m.pool.words) (domain_at m.domains d) f) 16
+      (λ d less. ap (λ (o : Option Domain). owned (memory m.pool.words) o f) (no_domain m.domains d new.domains_are))
 
 pub whole_new : (m : State) (frames : ℕ) → IsNew frames m → IsWhole frames m
 whole_new m frames new = record {
@@ -101,7 +107,12 @@ many zero = refl
 many (suc n) = omega (arith, length-append (frames_up n) (n ∷ []), many n)
 
 pub new_state : ℕ → State
-new_state frames = record { pool = record { words = replicate (frames * 512) 0; free = frames_up frames; frames = frames }; domains = replicate 15 None; iommu = record { contexts = replicate 16 Absent; ring = ring_of [] 0 []; unit = unit_state nothing 0 0; sent = 0 }; calls = 0 }
+new_state frames = record {
+  pool = record { words = replicate (frames * 512) 0; free = frames_up frames; frames = frames };
+  domains = replicate 15 None;
+  iommu = record { contexts = replicate 16 Absent; ring = ring_of [] 0 []; unit = unit_state nothing 0 0; sent = 0 };
+  calls = 0;
+}
 
 pub new_is_new : (frames : ℕ) → IsNew frames (new_state frames)
 unfolding new_state

@@ -23,11 +23,13 @@ pub record SameTree (words words' : List ℕ) (root : ℕ) : Type 0 where
   pub frames : (f : ℕ) → uses (memory words') 3 root f ≡ uses (memory words) 3 root f
 
 pub same_tree : (words words' : List ℕ) (root : ℕ) → words' ≡ words → SameTree words words' root
-same_tree words words' root same = subst (λ ws. SameTree words ws root) (sym same) (record { leaves = λ p. refl; tables = λ p w. refl; frames = λ f. refl })
+same_tree words words' root same =
+    subst (λ ws. SameTree words ws root) (sym same) (record { leaves = λ p. refl; tables = λ p w. refl; frames = λ f. refl })
 
 pub tree_stays : (old new : Pool) (words : List ℕ) (root : ℕ) → Stays old new 3 root → words ≡ new.words → SameTree old.words words root
 tree_stays old new words root stays same =
-    subst (λ ws. SameTree old.words ws root) (sym same) (record { leaves = stays.same_leaves; tables = stays.same_tables; frames = stays.same_frames })
+    subst (λ ws. SameTree old.words ws root) (sym same)
+    (record { leaves = stays.same_leaves; tables = stays.same_tables; frames = stays.same_frames })
 
 -- the domain is another one, and no other domain changes; each entry that is left is lawful of what it became
 pub record ChangesDomain (m t : State) (d : ℕ) (h h' : Domain) (v v' : world.Domain) : Type 0 where
@@ -42,11 +44,14 @@ pub record ChangesDomain (m t : State) (d : ℕ) (h h' : Domain) (v v' : world.D
   pub zeroed : (f : ℕ) → 0 < occurs f t.pool.free → IsZeroed t.pool.words f
   pub held : (e : ℕ) (k : Domain) → domain_at m.domains e ≡ Some k → (f : ℕ) → 0 < held_in k.records f → IsZeroed t.pool.words f
   pub held_here : (f : ℕ) → 0 < held_in h'.records f → IsZeroed t.pool.words f
-  pub leaves : (l : CachedLeaf) → IsIn l t.iommu.unit.caches.leaves → IsIn l m.iommu.unit.caches.leaves × (l.domain ≡ d → IsLawfulLeaf m.pool.words l h v → IsLawfulLeaf t.pool.words l h' v')
-  pub tables : (i : CachedNonLeaf) → IsIn i t.iommu.unit.caches.non_leaves → IsIn i m.iommu.unit.caches.non_leaves × (i.domain ≡ d → IsLawfulTable m.pool.words i h v → IsLawfulTable t.pool.words i h' v')
+  pub leaves : (l : CachedLeaf) → IsIn l t.iommu.unit.caches.leaves
+      → IsIn l m.iommu.unit.caches.leaves × (l.domain ≡ d → IsLawfulLeaf m.pool.words l h v → IsLawfulLeaf t.pool.words l h' v')
+  pub tables : (i : CachedNonLeaf) → IsIn i t.iommu.unit.caches.non_leaves
+      → IsIn i m.iommu.unit.caches.non_leaves × (i.domain ≡ d → IsLawfulTable m.pool.words i h v → IsLawfulTable t.pool.words i h' v')
   pub contexts : (x : CachedContext) → IsIn x t.iommu.unit.caches.contexts → IsIn x m.iommu.unit.caches.contexts
 
-module _ (m t : State) (w : World) (d : ℕ) (h h' : Domain) (v v' : world.Domain) (q : Quarantine m w) (many : length m.domains ≡ 15) (there : domain_at m.domains d ≡ Some h) (here : w.domains d ≡ Some v) (c : ChangesDomain m t d h h' v v') where
+module _ (m t : State) (w : World) (d : ℕ) (h h' : Domain) (v v' : world.Domain) (q : Quarantine m w) (many : length m.domains ≡ 15)
+    (there : domain_at m.domains d ≡ Some h) (here : w.domains d ≡ Some v) (c : ChangesDomain m t d h h' v v') where
   low : d < 16
   low = domain_low m.domains d h many there
 
@@ -65,35 +70,49 @@ module _ (m t : State) (w : World) (d : ℕ) (h h' : Domain) (v v' : world.Domai
   same_domain : (e : ℕ) (u : world.Domain) → e ≡ d → w.domains e ≡ Some u → u ≡ v
   same_domain e u same at = same_Some u v (sym at ∙ ap w.domains same ∙ here)
 
-  other_keeps : (e : ℕ) (k : Domain) (u : world.Domain) → e ≢ d → domain_at m.domains e ≡ Some k → KeepsLawful m.pool.words t.pool.words k k u u
-  other_keeps e k u ne at = keeps_same m.pool.words t.pool.words k u (c.others e k ne at).leaves (c.others e k ne at).tables (held_stays m.pool.words t.pool.words k.records (c.held e k at))
+  other_keeps : (e : ℕ) (k : Domain) (u : world.Domain) → e ≢ d → domain_at m.domains e ≡ Some k
+      → KeepsLawful m.pool.words t.pool.words k k u u
+  other_keeps e k u ne at =
+      keeps_same m.pool.words t.pool.words k u (c.others e k ne at).leaves (c.others e k ne at).tables
+      (held_stays m.pool.words t.pool.words k.records (c.held e k at))
 
   abbrev after : World
   after = record w { domains = put d (Some v') w.domains }
 
-  leaf_lawful : (l : CachedLeaf) → (l.domain ≡ d → IsLawfulLeaf m.pool.words l h v → IsLawfulLeaf t.pool.words l h' v') → InDomain m w l.domain (IsLawfulLeaf m.pool.words l) → (l.domain ≡ d) ⊎ (l.domain ≢ d)
+  leaf_lawful : (l : CachedLeaf) → (l.domain ≡ d → IsLawfulLeaf m.pool.words l h v → IsLawfulLeaf t.pool.words l h' v')
+      → InDomain m w l.domain (IsLawfulLeaf m.pool.words l) → (l.domain ≡ d) ⊎ (l.domain ≢ d)
       → InDomain t after l.domain (IsLawfulLeaf t.pool.words l)
   leaf_lawful l keeps (k, u, at, in_world, was) (inl same) = (
     h',
     v',
     at_new l.domain same,
     domain_new l.domain same,
-    keeps same (subst (λ (x : Domain). IsLawfulLeaf m.pool.words l x v) (same_old l.domain k same at) (subst (λ (y : world.Domain). IsLawfulLeaf m.pool.words l k y) (same_domain l.domain u same in_world) was)),
+    keeps same
+        (subst (λ (x : Domain). IsLawfulLeaf m.pool.words l x v) (same_old l.domain k same at)
+        (subst (λ (y : world.Domain). IsLawfulLeaf m.pool.words l k y) (same_domain l.domain u same in_world) was)),
   )
   leaf_lawful l keeps (k, u, at, in_world, was) (inr ne) =
       (k, u, at_other l.domain ne ∙ at, put_other d (Some v') w.domains l.domain ne ∙ in_world, (other_keeps l.domain k u ne at).leaf l was)
 
-  table_lawful : (i : CachedNonLeaf) → (i.domain ≡ d → IsLawfulTable m.pool.words i h v → IsLawfulTable t.pool.words i h' v') → InDomain m w i.domain (IsLawfulTable m.pool.words i) → (i.domain ≡ d) ⊎ (i.domain ≢ d)
+  table_lawful : (i : CachedNonLeaf) → (i.domain ≡ d → IsLawfulTable m.pool.words i h v → IsLawfulTable t.pool.words i h' v')
+      → InDomain m w i.domain (IsLawfulTable m.pool.words i) → (i.domain ≡ d) ⊎ (i.domain ≢ d)
       → InDomain t after i.domain (IsLawfulTable t.pool.words i)
   table_lawful i keeps (k, u, at, in_world, was) (inl same) = (
     h',
     v',
     at_new i.domain same,
     domain_new i.domain same,
-    keeps same (subst (λ (x : Domain). IsLawfulTable m.pool.words i x v) (same_old i.domain k same at) (subst (λ (y : world.Domain). IsLawfulTable m.pool.words i k y) (same_domain i.domain u same in_world) was)),
+    keeps same
+        (subst (λ (x : Domain). IsLawfulTable m.pool.words i x v) (same_old i.domain k same at)
+        (subst (λ (y : world.Domain). IsLawfulTable m.pool.words i k y) (same_domain i.domain u same in_world) was)),
   )
-  table_lawful i keeps (k, u, at, in_world, was) (inr ne) =
-      (k, u, at_other i.domain ne ∙ at, put_other d (Some v') w.domains i.domain ne ∙ in_world, (other_keeps i.domain k u ne at).table i was)
+  table_lawful i keeps (k, u, at, in_world, was) (inr ne) = (
+    k,
+    u,
+    at_other i.domain ne ∙ at,
+    put_other d (Some v') w.domains i.domain ne ∙ in_world,
+    (other_keeps i.domain k u ne at).table i was,
+  )
 
   kept_root : (e : ℕ) (k : Domain) → domain_at m.domains e ≡ Some k → (k' : Domain) × (domain_at t.domains e ≡ Some k') × (k'.root ≡ k.root)
   kept_root e k at = elim (same_or_not e d) [
@@ -104,11 +123,17 @@ module _ (m t : State) (w : World) (d : ℕ) (h h' : Domain) (v v' : world.Domai
   still_attached : Attaches t after
   still_attached = record {
     devices = λ x. rw c.row (q.contexts.devices x);
-    roots = λ x root domain at. let was = q.contexts.roots x root domain (rw c.row at at) in let now = kept_root domain was.0 was.1 in (now.0, now.1, now.2 ∙ was.2);
+    roots =
+        λ x root domain at.
+        let was =
+        q.contexts.roots x root domain (rw c.row at at) in
+        let now = kept_root domain was.0 was.1 in (now.0, now.1, now.2 ∙ was.2);
     cached = λ x inside. rw c.row (q.contexts.cached x (c.contexts x inside));
   }
 
-  moves : (f : ℕ) → owned (memory t.pool.words) (Some h') f + occurs f t.pool.free ≡ owned (memory m.pool.words) (domain_at m.domains d) f + occurs f m.pool.free
+  moves : (f : ℕ)
+      → owned (memory t.pool.words) (Some h') f + occurs f t.pool.free
+      ≡ owned (memory m.pool.words) (domain_at m.domains d) f + occurs f m.pool.free
   moves f = let was = ap (λ (o : Option Domain). owned (memory m.pool.words) o f) there in omega (arith, was, c.account f)
 
   stay : (e f : ℕ) → e ≢ d → owned (memory t.pool.words) (domain_at m.domains e) f ≡ owned (memory m.pool.words) (domain_at m.domains e) f
@@ -121,7 +146,8 @@ module _ (m t : State) (w : World) (d : ℕ) (h h' : Domain) (v v' : world.Domai
   held : (e f : ℕ) (k : Domain) → domain_at t.domains e ≡ Some k → 0 < held_in k.records f → IsZeroed t.pool.words f
   held e f k at more = elim (same_or_not e d) [
     | inl same ↦
-        let is : held_in k.records f ≡ held_in h'.records f = ap (λ (x : Domain). held_in x.records f) (same_Some k h' (sym at ∙ at_new e same)) in
+        let is : held_in k.records f ≡ held_in h'.records f =
+        ap (λ (x : Domain). held_in x.records f) (same_Some k h' (sym at ∙ at_new e same)) in
         c.held_here f (omega (arith, more, is))
     | inr ne ↦ c.held e k (sym (at_other e ne) ∙ at) f more
   ]
@@ -136,6 +162,8 @@ module _ (m t : State) (w : World) (d : ℕ) (h h' : Domain) (v v' : world.Domai
       tables = λ i inside. let k = c.tables i inside in table_lawful i k.1 (q.caches.tables i k.0) (same_or_not i.domain d);
     };
     contexts = still_attached;
-    frames = frames_move m.pool t.pool (domain_at m.domains) (domain_at t.domains) d (Some h') q.frames low c.domains c.frames moves stay c.zeroed held;
+    frames =
+        frames_move m.pool t.pool (domain_at m.domains) (domain_at t.domains) d (Some h') q.frames low c.domains c.frames moves stay
+        c.zeroed held;
     tickets = q.tickets;
   }

@@ -1,5 +1,6 @@
 -- A device is detached, and its context is forgotten.
-use Rattle.std.proofs.Common.{◌≡◌, ◌≢◌, ℕ, ◌+◌, ◌<◌, ◌≤◌, inl, inr, false, arith, length, Some, None, refl, sym, ap, ◌∙◌, slice_get, slice_set}
+use Rattle.std.proofs.Common.{◌≡◌, ◌≢◌, ℕ, ◌+◌, ◌<◌, ◌≤◌, inl, inr, false, arith, length, Some, None, refl, sym, ap, ◌∙◌, slice_get}
+use Rattle.std.proofs.Common.{slice_set}
 use Rattle.std.proofs.lemmas.Bool.Decides.{nat_tests}
 use Rattle.dmatypes.specs.declared.call.Call.TheVariants as calls
 use Rattle.dmatypes.specs.declared.refusal.Refusal.TheVariants as refusals
@@ -27,13 +28,17 @@ use Rattle.engine.proofs.Refusing.{counted, refuses}
 dropped_context : (domain device : ℕ) (x : CachedContext) → x.device ≡ device → drops_context (ContextDevice domain device) x ≡ false → ⊥
 dropped_context domain device x same left = grind (arith, nat_tests)
 
-module _ (m t : State) (w : World) (device domain : ℕ) (q : Quarantine m w) (small : device < length m.iommu.contexts) (row : t.iommu.contexts ≡ slice_set m.iommu.contexts device Absent) (purges : Purges (ContextDevice domain device) m.iommu.unit.caches t.iommu.unit.caches)
+module _ (m t : State) (w : World) (device domain : ℕ) (q : Quarantine m w) (small : device < length m.iommu.contexts)
+    (row : t.iommu.contexts ≡ slice_set m.iommu.contexts device Absent)
+    (purges : Purges (ContextDevice domain device) m.iommu.unit.caches t.iommu.unit.caches)
     (domains : t.domains ≡ m.domains) (pool : t.pool ≡ m.pool) where
   entry_then : (x : ℕ) → x ≢ device → slice_get t.iommu.contexts x ≡ slice_get m.iommu.contexts x
   entry_then x ne = ap (λ r. slice_get r x) row ∙ get_set_other m.iommu.contexts device x Absent ne
 
   gone : (x : ℕ) → x ≡ device → slice_get t.iommu.contexts x ≡ Some Absent
-  gone x same = ap (λ r. slice_get r x) row ∙ ap (slice_get (slice_set m.iommu.contexts device Absent)) same ∙ get_set m.iommu.contexts device Absent small
+  gone x same =
+      ap (λ r. slice_get r x) row ∙ ap (slice_get (slice_set m.iommu.contexts device Absent)) same
+      ∙ get_set m.iommu.contexts device Absent small
 
   devices : (x : ℕ) → put device None w.devices x ≡ attached (slice_get t.iommu.contexts x)
   devices x = elim (same_or_not x device) [
@@ -41,7 +46,8 @@ module _ (m t : State) (w : World) (device domain : ℕ) (q : Quarantine m w) (s
     | inr ne ↦ rw (put_other device None w.devices x ne, entry_then x ne) (q.contexts.devices x)
   ]
 
-  was_there : (x root e : ℕ) → slice_get t.iommu.contexts x ≡ Some (Present root W39 e) → slice_get m.iommu.contexts x ≡ Some (Present root W39 e)
+  was_there : (x root e : ℕ) → slice_get t.iommu.contexts x ≡ Some (Present root W39 e)
+      → slice_get m.iommu.contexts x ≡ Some (Present root W39 e)
   was_there x root e at = elim (same_or_not x device) [
     | inl same ↦ absurd (clash root e (sym (gone x same) ∙ at))
     | inr ne ↦ sym (entry_then x ne) ∙ at
@@ -61,7 +67,11 @@ module _ (m t : State) (w : World) (device domain : ℕ) (q : Quarantine m w) (s
     contexts = record {
       devices = devices;
       roots = λ x root e at. rw domains (q.contexts.roots x root e (was_there x root e at));
-      cached = λ x inside. let left = purges.contexts x inside in entry_then x.device (λ same. dropped_context domain device x same left.1) ∙ q.contexts.cached x left.0;
+      cached =
+          λ x inside.
+          let left =
+          purges.contexts x inside in
+          entry_then x.device (λ same. dropped_context domain device x same left.1) ∙ q.contexts.cached x left.0;
     };
     frames = rw (domains, pool) q.frames;
     tickets = q.tickets;
@@ -77,10 +87,16 @@ pub detach_no_device : (m t : State) (device : ℕ) → t ≡ counted m → 15 <
 unfolding Exact IsStep Stands
 detach_no_device m t device is big = refuses m t (calls.Detach device) refusals.NoDevice is tt (λ w q. inl (inl (big, refl)))
 
-pub detach_not_attached : (m t : State) (device : ℕ) (entry : ContextEntry) → t ≡ counted m → device ≤ 15 → slice_get m.iommu.contexts device ≡ Some entry → attached (Some entry) ≡ None → Does m (calls.Detach device) (Refused refusals.NotAttached) t
+pub detach_not_attached : (m t : State) (device : ℕ) (entry : ContextEntry) → t ≡ counted m → device ≤ 15
+    → slice_get m.iommu.contexts device ≡ Some entry → attached (Some entry) ≡ None
+    → Does m (calls.Detach device) (Refused refusals.NotAttached) t
 unfolding Exact IsStep Stands
 detach_not_attached m t device entry is small at free = refuses m t (calls.Detach device) refusals.NotAttached is tt
-    (λ w q. inl (inr (λ big. absurd (omega (arith, big, small)), inl (is_none (w.devices device) (q.contexts.devices device ∙ ap attached at ∙ free), refl))))
+    (λ w q.
+    inl (inr (
+      λ big. absurd (omega (arith, big, small)),
+      inl (is_none (w.devices device) (q.contexts.devices device ∙ ap attached at ∙ free), refl),
+    )))
 
 -- the state with another ring and unit, and their row
 abbrev pub detached : State → Iommu → State
@@ -93,9 +109,13 @@ pub detach_does : (m : State) (device root domain : ℕ) (x : Iommu) → device 
 unfolding Exact Becomes IsStep Stands Answers next
 detach_does m device root domain x small many at invalidates = record {
   steps = λ w q. (
-    ((λ big. absurd (omega (arith, big, small)), (not_none (w.devices device) domain (q.contexts.devices device ∙ ap attached at), tt)), refl),
+    (
+      (λ big. absurd (omega (arith, big, small)), (not_none (w.devices device) domain (q.contexts.devices device ∙ ap attached at), tt)),
+      refl,
+    ),
     device_gone m (detached m x) w device domain q (omega (arith, small, many)) invalidates.contexts (
-        purges_sent m.iommu.ring.waiting (ContextDevice domain device) x.sent m.iommu.unit.caches x.unit.caches invalidates.caches) refl refl,
+        purges_sent m.iommu.ring.waiting (ContextDevice domain device) x.sent m.iommu.unit.caches x.unit.caches invalidates.caches) refl
+        refl,
   );
   exact = tt;
   becomes = (domain, root, at, invalidates, refl);

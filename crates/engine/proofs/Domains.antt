@@ -1,5 +1,6 @@
 -- The domains of the state and of a world, once one of them changes.
-use Rattle.std.proofs.Common.{◌≡◌, ◌≢◌, ℕ, zero, suc, ◌+◌, ◌-◌, ◌<◌, ◌≤◌, inl, inr, List, [], ◌∷◌, length, Option, Some, None, refl, sym, ap, subst, ◌∙◌, arith, slice_get, slice_set}
+use Rattle.std.proofs.Common.{◌≡◌, ◌≢◌, ℕ, zero, suc, ◌+◌, ◌-◌, ◌<◌, ◌≤◌, inl, inr, List, [], ◌∷◌, length, Option, Some, None, refl, sym}
+use Rattle.std.proofs.Common.{ap, subst, ◌∙◌, arith, slice_get, slice_set}
 use Rattle.std.proofs.lemmas.Bool.{ne_eqb}
 use Rattle.std.proofs.lemmas.List.Sums.{sum_by-cons}
 use Rattle.std.proofs.lemmas.Option.{none-some, same_Some, slice_get_cases}
@@ -47,7 +48,8 @@ domain_low domains (suc e) h many there =
     elim (slice_get_cases domains e).1 [
       | inl x ↦ omega (arith, x.1, many)
       | inr x ↦
-          let gone : domain_at domains (e + 1) ≡ None = domain_of_place domains e ∙ ap (λ (o : Option (Option Domain)). option_flatten o) x.1 in
+          let gone : domain_at domains (e + 1) ≡ None =
+          domain_of_place domains e ∙ ap (λ (o : Option (Option Domain)). option_flatten o) x.1 in
           absurd (none-some h (sym gone ∙ (rw next at there)))
     ]
 
@@ -64,13 +66,15 @@ no_id_no_domain domains d many no_id = by_domain (domain_at domains d) refl
         positive (suc e) there = omega arith
 
 -- the domain of an id is what stands at its place
-pub at_place : (domains : List (Option Domain)) (d i : ℕ) (o : Option Domain) → d ≡ i + 1 → slice_get domains i ≡ Some o → domain_at domains d ≡ o
+pub at_place : (domains : List (Option Domain)) (d i : ℕ) (o : Option Domain) → d ≡ i + 1 → slice_get domains i ≡ Some o
+    → domain_at domains d ≡ o
 at_place domains d i o id at =
     ap (domain_at domains) id ∙ domain_of_place domains i ∙ ap (λ (x : Option (Option Domain)). option_flatten x) at
 
 -- ---- a domain of the state and one of the world
 
-pub both_there : (words : List ℕ) (o : Option Domain) (p : Option world.Domain) (h : Domain) → MirrorsIfAny words o p → o ≡ Some h → (v : world.Domain) × (p ≡ Some v) × Mirrors words h v
+pub both_there : (words : List ℕ) (o : Option Domain) (p : Option world.Domain) (h : Domain) → MirrorsIfAny words o p → o ≡ Some h
+    → (v : world.Domain) × (p ≡ Some v) × Mirrors words h v
 both_there words None p h both e = absurd cc
 both_there words (Some g) None h both e = absurd both
 both_there words (Some g) (Some v) h both e = (v, refl, subst (λ (x : Domain). Mirrors words x v) (same_Some g h e) both)
@@ -82,7 +86,8 @@ both_absent words (Some h) p both e = absurd cc
 
 -- it stays where all leaves of its tree do
 both_stays : (words words' : List ℕ) (o : Option Domain) (p : Option world.Domain) → MirrorsIfAny words o p
-    → ((h : Domain) → o ≡ Some h → (page : ℕ) → leaf_from (memory words') 3 h.root page ≡ leaf_from (memory words) 3 h.root page) → MirrorsIfAny words' o p
+    → ((h : Domain) → o ≡ Some h → (page : ℕ) → leaf_from (memory words') 3 h.root page ≡ leaf_from (memory words) 3 h.root page)
+    → MirrorsIfAny words' o p
 both_stays words words' None None both same = tt
 both_stays words words' None (Some v) both same = both
 both_stays words words' (Some h) None both same = both
@@ -93,9 +98,11 @@ both_stays words words' (Some h) (Some v) both same = record {
 }
 
 -- one domain of the state and of the world changes alike, and the trees of the others stay
-pub domains_put : (m t : State) (w : World) (d : ℕ) (h : Domain) (v : world.Domain) → Quarantine m w → ((e : ℕ) → domain_at t.domains e ≡ put d (Some h) (domain_at m.domains) e) → Mirrors t.pool.words h v
-    → ((e : ℕ) (k : Domain) → e ≢ d → domain_at m.domains e ≡ Some k → (page : ℕ) → leaf_from (memory t.pool.words) 3 k.root page ≡ leaf_from (memory m.pool.words) 3 k.root page)
-    → (e : ℕ) → MirrorsIfAny t.pool.words (domain_at t.domains e) (put d (Some v) w.domains e)
+pub domains_put : (m t : State) (w : World) (d : ℕ) (h : Domain) (v : world.Domain) → Quarantine m w
+    → ((e : ℕ) → domain_at t.domains e ≡ put d (Some h) (domain_at m.domains) e) → Mirrors t.pool.words h v
+    → ((e : ℕ) (k : Domain) → e ≢ d → domain_at m.domains e ≡ Some k → (page : ℕ)
+    → leaf_from (memory t.pool.words) 3 k.root page ≡ leaf_from (memory m.pool.words) 3 k.root page) → (e : ℕ)
+    → MirrorsIfAny t.pool.words (domain_at t.domains e) (put d (Some v) w.domains e)
 domains_put m t w d h v q is mirrors stay e = elim (same_or_not e d) [
   | inl same ↦ rw (is e, same, put_same d (Some h) (domain_at m.domains), put_same d (Some v) w.domains) mirrors
   | inr ne ↦ rw (is e, put_other d (Some h) (domain_at m.domains) e ne, put_other d (Some v) w.domains e ne)
@@ -104,8 +111,9 @@ domains_put m t w d h v q is mirrors stay e = elim (same_or_not e d) [
 
 -- one domain of the state and of the world goes
 pub domain_out : (m t : State) (w : World) (d : ℕ) → Quarantine m w → ((e : ℕ) → domain_at t.domains e ≡ put d None (domain_at m.domains) e)
-    → ((e : ℕ) (k : Domain) → e ≢ d → domain_at m.domains e ≡ Some k → (page : ℕ) → leaf_from (memory t.pool.words) 3 k.root page ≡ leaf_from (memory m.pool.words) 3 k.root page)
-    → (e : ℕ) → MirrorsIfAny t.pool.words (domain_at t.domains e) (put d None w.domains e)
+    → ((e : ℕ) (k : Domain) → e ≢ d → domain_at m.domains e ≡ Some k → (page : ℕ)
+    → leaf_from (memory t.pool.words) 3 k.root page ≡ leaf_from (memory m.pool.words) 3 k.root page) → (e : ℕ)
+    → MirrorsIfAny t.pool.words (domain_at t.domains e) (put d None w.domains e)
 domain_out m t w d q is stay e = elim (same_or_not e d) [
   | inl same ↦ rw (is e, same, put_same d None (domain_at m.domains), put_same d None w.domains) tt
   | inr ne ↦ rw (is e, put_other d None (domain_at m.domains) e ne, put_other d None w.domains e ne)

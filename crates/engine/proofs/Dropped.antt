@@ -17,7 +17,8 @@ use Rattle.engine.proofs.Purging.{Purges, purges_sent}
 use Rattle.engine.proofs.Releasing.{domain_flushed, dropped_leaf, dropped_table}
 use Rattle.engine.proofs.Unmapping.{domain_after}
 
-module _ (m t : State) (w : World) (i : ℕ) (h : Domain) (v : world.Domain) (q : Quarantine m w) (many : length m.domains ≡ 15) (less : i < length m.domains)
+module _ (m t : State) (w : World) (i : ℕ) (h : Domain) (v : world.Domain) (q : Quarantine m w) (many : length m.domains ≡ 15)
+    (less : i < length m.domains)
     (there : domain_at m.domains (i + 1) ≡ Some h) (here : w.domains (i + 1) ≡ Some v) (nobody : (x : ℕ) → w.devices x ≡ Some (i + 1) → ⊥)
     (closes : Closes (parts_in m h) (i + 1) t.pool t.iommu) (domains : t.domains ≡ slice_set m.domains i None) where
   -- the domain and the state once the records went
@@ -38,8 +39,8 @@ module _ (m t : State) (w : World) (i : ℕ) (h : Domain) (v : world.Domain) (q 
 
   quarantined : Quarantine between flushed_world
   quarantined =
-      domain_flushed m between w i t.iommu.sent h v closes.flushed.domain.space q many less there here invalidates.caches closes.flushes.releases
-      refl invalidates.contexts
+      domain_flushed m between w i t.iommu.sent h v closes.flushed.domain.space q many less there here invalidates.caches
+      closes.flushes.releases refl invalidates.contexts
 
   destroys : Destroys closes.flushed.pool h.root t.pool
   destroys =
@@ -49,12 +50,13 @@ module _ (m t : State) (w : World) (i : ℕ) (h : Domain) (v : world.Domain) (q 
   domains_between e = domain_set m.domains i (Some emptied) less e
 
   domains_then : (e : ℕ) → domain_at t.domains e ≡ put (i + 1) None (domain_at between.domains) e
-  domains_then e = ap (λ (ds : List (Option Domain)). domain_at ds e) domains ∙ domain_set m.domains i None less e ∙ elim (same_or_not e (i + 1)) [
-    | inl same ↦ rw (same, put_same (i + 1) None (domain_at m.domains), put_same (i + 1) None (domain_at between.domains)) refl
-    | inr ne ↦
-        put_other (i + 1) None (domain_at m.domains) e ne ∙ sym (put_other (i + 1) (Some emptied) (domain_at m.domains) e ne)
-        ∙ sym (domains_between e) ∙ sym (put_other (i + 1) None (domain_at between.domains) e ne)
-  ]
+  domains_then e =
+      ap (λ (ds : List (Option Domain)). domain_at ds e) domains ∙ domain_set m.domains i None less e ∙ elim (same_or_not e (i + 1)) [
+        | inl same ↦ rw (same, put_same (i + 1) None (domain_at m.domains), put_same (i + 1) None (domain_at between.domains)) refl
+        | inr ne ↦
+            put_other (i + 1) None (domain_at m.domains) e ne ∙ sym (put_other (i + 1) (Some emptied) (domain_at m.domains) e ne)
+            ∙ sym (domains_between e) ∙ sym (put_other (i + 1) None (domain_at between.domains) e ne)
+      ]
 
   pub domain_dropped : Quarantine t (record w { domains = put (i + 1) None w.domains })
   domain_dropped =
@@ -62,5 +64,6 @@ module _ (m t : State) (w : World) (i : ℕ) (h : Domain) (v : world.Domain) (q 
       (λ d. put_twice (i + 1) (Some (flushed v)) None w.domains d)
       (domain_gone between t flushed_world (i + 1) emptied quarantined (length-set m.domains i (Some emptied) ∙ many)
       (domains_between (i + 1) ∙ put_same (i + 1) (Some emptied) (domain_at m.domains)) refl nobody
-      (λ l inside same. dropped_leaf (i + 1) l same (purges.leaves l inside).1) (λ k inside same. dropped_table (i + 1) k same (purges.tables k inside).1)
+      (λ l inside same. dropped_leaf (i + 1) l same (purges.leaves l inside).1)
+      (λ k inside same. dropped_table (i + 1) k same (purges.tables k inside).1)
       domains_then refl refl destroys)

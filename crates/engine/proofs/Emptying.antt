@@ -1,5 +1,6 @@
 -- An unmap of a lazy domain that keeps as many records as it may: they all go first.
-use Rattle.std.proofs.Common.{◌≡◌, ℕ, zero, suc, ◌+◌, ◌<◌, inl, inr, List, [], ◌∷◌, ◌++◌, length, Option, Some, refl, sym, ap, subst, ◌∙◌, slice_set}
+use Rattle.std.proofs.Common.{◌≡◌, ℕ, zero, suc, ◌+◌, ◌<◌, inl, inr, List, [], ◌∷◌, ◌++◌, length, Option, Some, refl, sym, ap, subst, ◌∙◌}
+use Rattle.std.proofs.Common.{slice_set}
 use Rattle.dmatypes.specs.declared.call.Mode.TheVariants.{Lazy}
 use Rattle.dmatypes.specs.Page.{IsPageRange}
 use Rattle.dmatypes.specs.World.{World, flushed, put, put_off}
@@ -36,7 +37,8 @@ put_twice key a b map k = elim (same_or_not k key) [
 ]
 
 -- a state of a world is one of each world that has the same domains
-pub same_domains : (m : State) (w : World) (domains : ℕ → Option world.Domain) → ((d : ℕ) → domains d ≡ w.domains d) → Quarantine m w → Quarantine m (record w { domains = domains })
+pub same_domains : (m : State) (w : World) (domains : ℕ → Option world.Domain) → ((d : ℕ) → domains d ≡ w.domains d) → Quarantine m w
+    → Quarantine m (record w { domains = domains })
 same_domains m w domains same q = record {
   table_frames = q.table_frames;
   domains = λ d. subst (λ (o : Option world.Domain). MirrorsIfAny m.pool.words (domain_at m.domains d) o) (sym (same d)) (q.domains d);
@@ -51,8 +53,10 @@ same_domains m w domains same q = record {
 
 -- ---- the call
 
-module _ (m t : State) (w : World) (i n : ℕ) (h : Domain) (v : world.Domain) (pool1 : Pool) (space1 : Space) (q : Quarantine m w) (many : length m.domains ≡ 15) (less : i < length m.domains)
-    (there : domain_at m.domains (i + 1) ≡ Some h) (here : w.domains (i + 1) ≡ Some v) (caches : t.iommu.unit.caches ≡ left_by_all (m.iommu.ring.waiting ++ IotlbDomain (i + 1) ∷ Wait n ∷ []) m.iommu.unit.caches)
+module _ (m t : State) (w : World) (i n : ℕ) (h : Domain) (v : world.Domain) (pool1 : Pool) (space1 : Space) (q : Quarantine m w)
+    (many : length m.domains ≡ 15) (less : i < length m.domains)
+    (there : domain_at m.domains (i + 1) ≡ Some h) (here : w.domains (i + 1) ≡ Some v)
+    (caches : t.iommu.unit.caches ≡ left_by_all (m.iommu.ring.waiting ++ IotlbDomain (i + 1) ∷ Wait n ∷ []) m.iommu.unit.caches)
     (all : ReleasesAll m.pool h.space h.records pool1 space1) where
   -- the domain, the state and the world once all records went
   abbrev emptied : Domain

@@ -24,7 +24,8 @@ put_back m i o at = ap (λ (ds : List (Option Domain)). record m { domains = ds;
 pub keeps_found : (frames rooms capacity : ℕ) (m : State) (i : ℕ) (o : Option Domain) (call : Call) (reply : Reply) → IsWhole frames m
     → HasRooms rooms capacity m.domains → slice_get m.domains i ≡ Some o
     → Does m call reply (record m { domains = slice_set m.domains i o; calls = m.calls + 1 })
-    → IsWhole frames (record m { domains = slice_set m.domains i o; calls = m.calls + 1 }) × HasRooms rooms capacity (slice_set m.domains i o)
+    → IsWhole frames (record m { domains = slice_set m.domains i o; calls = m.calls + 1 })
+    × HasRooms rooms capacity (slice_set m.domains i o)
 keeps_found frames rooms capacity m i o call reply whole has at does = (
   whole_quiet frames m (record m { domains = slice_set m.domains i o; calls = m.calls + 1 }) call reply whole does
       (ap length (set_again m.domains i o at)) refl refl refl refl,

@@ -13,11 +13,14 @@ use Rattle.engine.specs.Quarantine.{AreLawful, IsHeld, IsLawfulLeaf, IsLawfulTab
 
 -- the leaf entries and the tables of a tree that has the same ones
 pub leaf_at_stays : (words words' : List ℕ) (root : ℕ) → ((p : ℕ) → leaf_from (memory words') 3 root p ≡ leaf_from (memory words) 3 root p)
-    → (first pages frame rights : ℕ) → IsLeafAt (memory words) 3 root first pages frame rights → IsLeafAt (memory words') 3 root first pages frame rights
-leaf_at_stays words words' root same first pages frame rights at = (at.0, (at.1.0, at.1.1, at.1.2, at.1.3, λ p low high. same p ∙ at.1.4 p low high))
+    → (first pages frame rights : ℕ) → IsLeafAt (memory words) 3 root first pages frame rights
+    → IsLeafAt (memory words') 3 root first pages frame rights
+leaf_at_stays words words' root same first pages frame rights at =
+    (at.0, (at.1.0, at.1.1, at.1.2, at.1.3, λ p low high. same p ∙ at.1.4 p low high))
 
-pub table_at_stays : (words words' : List ℕ) (root : ℕ) → ((p w : ℕ) → table_from (memory words') 3 root p w ≡ table_from (memory words) 3 root p w)
-    → (first level frame : ℕ) → IsTableAt (memory words) 3 root first level frame → IsTableAt (memory words') 3 root first level frame
+pub table_at_stays : (words words' : List ℕ) (root : ℕ)
+    → ((p w : ℕ) → table_from (memory words') 3 root p w ≡ table_from (memory words) 3 root p w) → (first level frame : ℕ)
+    → IsTableAt (memory words) 3 root first level frame → IsTableAt (memory words') 3 root first level frame
 table_at_stays words words' root same first level frame at = (at.0, at.1, at.2, at.3, λ p low high. same p level ∙ at.4 p low high)
 
 -- ---- one domain
@@ -28,9 +31,11 @@ pub record KeepsLawful (words words' : List ℕ) (h h' : Domain) (v v' : world.D
   pub table : (i : CachedNonLeaf) → IsLawfulTable words i h v → IsLawfulTable words' i h' v'
 
 -- a domain that stays, while the memory of its tree and what it holds do
-pub keeps_same : (words words' : List ℕ) (h : Domain) (v : world.Domain) → ((p : ℕ) → leaf_from (memory words') 3 h.root p ≡ leaf_from (memory words) 3 h.root p)
+pub keeps_same : (words words' : List ℕ) (h : Domain) (v : world.Domain)
+    → ((p : ℕ) → leaf_from (memory words') 3 h.root p ≡ leaf_from (memory words) 3 h.root p)
     → ((p w : ℕ) → table_from (memory words') 3 h.root p w ≡ table_from (memory words) 3 h.root p w)
-    → ((first pages f : ℕ) → IsHeld words h.records first pages f → IsHeld words' h.records first pages f) → KeepsLawful words words' h h v v
+    → ((first pages f : ℕ) → IsHeld words h.records first pages f → IsHeld words' h.records first pages f)
+    → KeepsLawful words words' h h v v
 keeps_same words words' h v leaves tables held = record {
   leaf = λ l lawful. record {
     stated = lawful.stated;
@@ -50,8 +55,8 @@ keeps_same words words' h v leaves tables held = record {
 -- what is cached stays lawful where each domain of the state keeps that
 pub stay_lawful : (m t : State) (w w' : World) (c : Caches) → AreLawful m w c
     → ((d : ℕ) (h : Domain) (v : world.Domain) → domain_at m.domains d ≡ Some h → w.domains d ≡ Some v
-    → (h' : Domain) × (v' : world.Domain) × (domain_at t.domains d ≡ Some h') × (w'.domains d ≡ Some v') × KeepsLawful m.pool.words t.pool.words h h' v v')
-    → AreLawful t w' c
+    → (h' : Domain) × (v' : world.Domain) × (domain_at t.domains d ≡ Some h') × (w'.domains d ≡ Some v')
+    × KeepsLawful m.pool.words t.pool.words h h' v v') → AreLawful t w' c
 stay_lawful m t w w' c lawful keeps = record {
   leaves = λ l inside.
       let at = lawful.leaves l inside in
@@ -64,7 +69,8 @@ stay_lawful m t w w' c lawful keeps = record {
 }
 
 -- fewer entries are lawful too
-pub fewer_lawful : (m : State) (w : World) (c c' : Caches) → AreLawful m w c → ((l : CachedLeaf) → IsIn l c'.leaves → IsIn l c.leaves) → ((i : CachedNonLeaf) → IsIn i c'.non_leaves → IsIn i c.non_leaves) → AreLawful m w c'
+pub fewer_lawful : (m : State) (w : World) (c c' : Caches) → AreLawful m w c → ((l : CachedLeaf) → IsIn l c'.leaves → IsIn l c.leaves)
+    → ((i : CachedNonLeaf) → IsIn i c'.non_leaves → IsIn i c.non_leaves) → AreLawful m w c'
 fewer_lawful m w c c' lawful leaves tables = record {
   leaves = λ l inside. lawful.leaves l (leaves l inside);
   tables = λ i inside. lawful.tables i (tables i inside);

@@ -58,9 +58,14 @@ fewer_by_all (d ∷ ds) c =
 pub purges_by_all : (x : Descriptor) (ds : List Descriptor) (c : Caches) → IsIn x ds → Purges x c (left_by_all ds c)
 unfolding left_by_all
 purges_by_all x [] c inside = absurd inside
-purges_by_all x (d ∷ ds) c (inl same) = purges_before x c (left_by d c) (left_by_all ds (left_by d c)) (subst (λ y. Purges x c (left_by y c)) same (purges_one x c)) (fewer_by_all ds (left_by d c))
-purges_by_all x (d ∷ ds) c (inr rest) = purges_behind x d c (left_by d c) (left_by_all ds (left_by d c)) (purges_one d c) (purges_by_all x ds (left_by d c) rest)
+purges_by_all x (d ∷ ds) c (inl same) =
+    purges_before x c (left_by d c) (left_by_all ds (left_by d c)) (subst (λ y. Purges x c (left_by y c)) same (purges_one x c))
+    (fewer_by_all ds (left_by d c))
+purges_by_all x (d ∷ ds) c (inr rest) =
+    purges_behind x d c (left_by d c) (left_by_all ds (left_by d c)) (purges_one d c) (purges_by_all x ds (left_by d c) rest)
 
 -- a descriptor that is sent with a wait drops none of what is left
-pub purges_sent : (waiting : List Descriptor) (x : Descriptor) (n : ℕ) (c c' : Caches) → c' ≡ left_by_all (waiting ++ x ∷ Wait n ∷ []) c → Purges x c c'
-purges_sent waiting x n c c' is = subst (λ y. Purges x c y) (sym is) (purges_by_all x (waiting ++ x ∷ Wait n ∷ []) c (in_right x waiting (x ∷ Wait n ∷ []) (inl refl)))
+pub purges_sent : (waiting : List Descriptor) (x : Descriptor) (n : ℕ) (c c' : Caches) → c' ≡ left_by_all (waiting ++ x ∷ Wait n ∷ []) c
+    → Purges x c c'
+purges_sent waiting x n c c' is =
+    subst (λ y. Purges x c y) (sym is) (purges_by_all x (waiting ++ x ∷ Wait n ∷ []) c (in_right x waiting (x ∷ Wait n ∷ []) (inl refl)))

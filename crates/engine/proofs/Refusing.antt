@@ -88,8 +88,9 @@ pub frames_kept : (m t : State) (call : Call) (reply : Reply) → IsOfSomeWorld 
 frames_kept m t call reply (w, q) does = sym q.table_frames ∙ sym (next_frames w call reply) ∙ (does.steps w q).1.table_frames
 
 -- what the type of a state keeps, after a call that sends nothing
-pub whole_quiet : (frames : ℕ) (m t : State) (call : Call) (reply : Reply) → IsWhole frames m → Does m call reply t → length t.domains ≡ length m.domains → length t.iommu.contexts ≡ length m.iommu.contexts → t.iommu.ring ≡ m.iommu.ring → t.iommu.sent ≡ m.iommu.sent → t.iommu.unit.steps ≡ m.iommu.unit.steps
-    → IsWhole frames t
+pub whole_quiet : (frames : ℕ) (m t : State) (call : Call) (reply : Reply) → IsWhole frames m → Does m call reply t
+    → length t.domains ≡ length m.domains → length t.iommu.contexts ≡ length m.iommu.contexts → t.iommu.ring ≡ m.iommu.ring
+    → t.iommu.sent ≡ m.iommu.sent → t.iommu.unit.steps ≡ m.iommu.unit.steps → IsWhole frames t
 whole_quiet frames m t call reply whole does domains row ring sent steps =
     record {
       of_world = (next whole.of_world.0 call reply, (does.steps whole.of_world.0 whole.of_world.1).1);

@@ -1,5 +1,6 @@
 -- Where segments map pages: their pages one after the other, and no other page.
-use Rattle.std.proofs.Common.{◌≡◌, ◌≢◌, ℕ, zero, suc, ◌+◌, ◌-◌, ◌^◌, ◌<◌, ◌≤◌, ◌⊎◌, inl, inr, ⊎_elim, List, [], ◌∷◌, drop, get_or, length, Some, None, refl, sym, ap, subst, ◌∙◌, arith}
+use Rattle.std.proofs.Common.{◌≡◌, ◌≢◌, ℕ, zero, suc, ◌+◌, ◌-◌, ◌^◌, ◌<◌, ◌≤◌, ◌⊎◌, inl, inr, ⊎_elim, List, [], ◌∷◌, drop, get_or, length}
+use Rattle.std.proofs.Common.{Some, None, refl, sym, ap, subst, ◌∙◌, arith}
 use Rattle.std.proofs.lemmas.Bool.{cases_lt}
 use Rattle.dmatypes.specs.Conditions.{IsBadMap, SomeHas, total_pages}
 use Rattle.dmatypes.specs.Page.{IsWithin}
@@ -11,10 +12,12 @@ use Rattle.tables.specs.Segments.{AreSegments}
 use Rattle.tables.proofs.Placing.{drop_at, drop_ended, total-cons}
 use Rattle.engine.specs.Judged.{AreMappable, AreOwned}
 
-pub placed_inside : (ss : List Segment) (first rights p : ℕ) → IsWithin (record { first = first; pages = total_pages ss }) p → (t : Target) × (placed ss first rights p ≡ Some t)
+pub placed_inside : (ss : List Segment) (first rights p : ℕ) → IsWithin (record { first = first; pages = total_pages ss }) p
+    → (t : Target) × (placed ss first rights p ≡ Some t)
 placed_inside [] first rights p inside = absurd (omega (arith, inside.0, inside.1))
 placed_inside (s ∷ ss) first rights p inside = elim (within_or_not (record { first = first; pages = s.pages }) p) [
-  | inl here ↦ (record { frame = s.frame + (p - first); rights = rights }, rw (within_is (record { first = first; pages = s.pages }) p here) refl)
+  | inl here ↦
+      (record { frame = s.frame + (p - first); rights = rights }, rw (within_is (record { first = first; pages = s.pages }) p here) refl)
   | inr past ↦
       let later = placed_inside ss (first + s.pages) rights p (behind past, omega (arith, inside.1, total-cons s ss)) in
       (later.0, (rw (within_not (record { first = first; pages = s.pages }) p past) refl) ∙ later.1)
@@ -24,10 +27,12 @@ placed_inside (s ∷ ss) first rights p inside = elim (within_or_not (record { f
     behind (inl low) = absurd (omega (arith, low, inside.0))
     behind (inr high) = high
 
-pub placed_outside : (ss : List Segment) (first rights p : ℕ) → ((p < first) ⊎ (first + total_pages ss ≤ p)) → placed ss first rights p ≡ None
+pub placed_outside : (ss : List Segment) (first rights p : ℕ) → ((p < first) ⊎ (first + total_pages ss ≤ p))
+    → placed ss first rights p ≡ None
 placed_outside [] first rights p past = refl
 placed_outside (s ∷ ss) first rights p past =
-    (rw (within_not (record { first = first; pages = s.pages }) p (here past)) refl) ∙ placed_outside ss (first + s.pages) rights p (later past)
+    (rw (within_not (record { first = first; pages = s.pages }) p (here past)) refl)
+    ∙ placed_outside ss (first + s.pages) rights p (later past)
   where
     here : ((p < first) ⊎ (first + total_pages (s ∷ ss) ≤ p)) → (p < first) ⊎ (first + s.pages ≤ p)
     here (inl low) = inl low
@@ -86,13 +91,19 @@ segment_at ss i = get_or ss i (record { frame = 0; pages = 0 })
 abbrev pub IsUnfit : Segment → ℕ → Type 0
 IsUnfit s pages = (s.pages ≡ 0) ⊎ (4096 < pages + s.pages) ⊎ (2 ^ 24 < s.frame + s.pages)
 
-pub one_counted : (ss : List Segment) (i pages : ℕ) → i < length ss → IsCounted ss i pages → (IsUnfit (segment_at ss i) pages → ⊥) → IsCounted ss (i + 1) (pages + (segment_at ss i).pages)
+pub one_counted : (ss : List Segment) (i pages : ℕ) → i < length ss → IsCounted ss i pages → (IsUnfit (segment_at ss i) pages → ⊥)
+    → IsCounted ss (i + 1) (pages + (segment_at ss i).pages)
 one_counted ss i pages less so_far fit =
     let s = segment_at ss i in
     let cut = drop_at ss i (record { frame = 0; pages = 0 }) less in
-    let some : 1 ≤ s.pages = ⊎_elim (λ (zero : s.pages < 1). absurd (fit (inl (omega (arith, zero))))) (λ (some : 1 ≤ s.pages). some) (cases_lt s.pages 1) in
-    let few : pages + s.pages ≤ 4096 = ⊎_elim (λ (many : 4096 < pages + s.pages). absurd (fit (inr (inl many)))) (λ (few : pages + s.pages ≤ 4096). few) (cases_lt 4096 (pages + s.pages)) in
-    let low : s.frame + s.pages ≤ 2 ^ 24 = ⊎_elim (λ (high : 2 ^ 24 < s.frame + s.pages). absurd (fit (inr (inr high)))) (λ (low : s.frame + s.pages ≤ 2 ^ 24). low) (cases_lt (2 ^ 24) (s.frame + s.pages)) in
+    let some : 1 ≤ s.pages =
+    ⊎_elim (λ (zero : s.pages < 1). absurd (fit (inl (omega (arith, zero))))) (λ (some : 1 ≤ s.pages). some) (cases_lt s.pages 1) in
+    let few : pages + s.pages ≤ 4096 =
+    ⊎_elim (λ (many : 4096 < pages + s.pages). absurd (fit (inr (inl many)))) (λ (few : pages + s.pages ≤ 4096). few)
+    (cases_lt 4096 (pages + s.pages)) in
+    let low : s.frame + s.pages ≤ 2 ^ 24 =
+    ⊎_elim (λ (high : 2 ^ 24 < s.frame + s.pages). absurd (fit (inr (inr high)))) (λ (low : s.frame + s.pages ≤ 2 ^ 24). low)
+    (cases_lt (2 ^ 24) (s.frame + s.pages)) in
     record {
       counted = omega (arith, so_far.counted, ap (λ xs. total_pages xs) cut, total-cons s (drop (i + 1) ss));
       few = few;
@@ -100,7 +111,8 @@ one_counted ss i pages less so_far fit =
       before = λ each. so_far.before (subst (λ xs. AreSegments xs) (sym cut) (some, low, each));
     }
 
-pub unfit_stops : (ss : List Segment) (i pages : ℕ) → i < length ss → IsCounted ss i pages → IsUnfit (segment_at ss i) pages → AreMappable ss → ⊥
+pub unfit_stops : (ss : List Segment) (i pages : ℕ) → i < length ss → IsCounted ss i pages → IsUnfit (segment_at ss i) pages
+    → AreMappable ss → ⊥
 unfit_stops ss i pages less so_far unfit are = by_reason unfit
   where
     cut : drop i ss ≡ segment_at ss i ∷ drop (i + 1) ss
@@ -111,10 +123,12 @@ unfit_stops ss i pages less so_far unfit are = by_reason unfit
 
     by_reason : IsUnfit (segment_at ss i) pages → ⊥
     by_reason (inl none) = omega (arith, none, here.0)
-    by_reason (inr (inl many)) = omega (arith, many, are.few, so_far.counted, ap (λ xs. total_pages xs) cut, total-cons (segment_at ss i) (drop (i + 1) ss))
+    by_reason (inr (inl many)) =
+        omega (arith, many, are.few, so_far.counted, ap (λ xs. total_pages xs) cut, total-cons (segment_at ss i) (drop (i + 1) ss))
     by_reason (inr (inr high)) = omega (arith, high, here.1)
 
-pub all_counted : (ss : List Segment) (i pages : ℕ) → length ss ≤ i → IsCounted ss i pages → (pages ≡ total_pages ss) × AreSegments ss × (pages ≤ 4096)
+pub all_counted : (ss : List Segment) (i pages : ℕ) → length ss ≤ i → IsCounted ss i pages
+    → (pages ≡ total_pages ss) × AreSegments ss × (pages ≤ 4096)
 all_counted ss i pages past so_far =
     let none = drop_ended ss i past in
     (omega (arith, so_far.counted, ap (λ xs. total_pages xs) none), so_far.before (subst (λ xs. AreSegments xs) (sym none) tt), so_far.few)
@@ -129,7 +143,8 @@ all_or_one : (ss : List Segment) → AreSegments ss ⊎ SomeHas (λ s. s.pages �
 all_or_one [] = inl tt
 all_or_one (s ∷ ss) = by_first (cases_lt s.pages 1) (cases_lt (2 ^ 24) (s.frame + s.pages)) (all_or_one ss)
   where
-    by_first : (s.pages < 1) ⊎ (1 ≤ s.pages) → (2 ^ 24 < s.frame + s.pages) ⊎ (s.frame + s.pages ≤ 2 ^ 24) → AreSegments ss ⊎ SomeHas (λ s. s.pages ≡ 0) ss ⊎ SomeHas (λ s. 2 ^ 24 < s.frame + s.pages) ss
+    by_first : (s.pages < 1) ⊎ (1 ≤ s.pages) → (2 ^ 24 < s.frame + s.pages) ⊎ (s.frame + s.pages ≤ 2 ^ 24)
+        → AreSegments ss ⊎ SomeHas (λ s. s.pages ≡ 0) ss ⊎ SomeHas (λ s. 2 ^ 24 < s.frame + s.pages) ss
         → AreSegments (s ∷ ss) ⊎ SomeHas (λ s. s.pages ≡ 0) (s ∷ ss) ⊎ SomeHas (λ s. 2 ^ 24 < s.frame + s.pages) (s ∷ ss)
     by_first (inl none) high later = inr (inl (inl (omega (arith, none))))
     by_first (inr some) (inl high) later = inr (inr (inl high))
@@ -144,7 +159,8 @@ bad_else (s ∷ ss) order rights not = by_segments (all_or_one (s ∷ ss)) (case
     some : s ∷ ss ≢ []
     some e = cc
 
-    by_segments : AreSegments (s ∷ ss) ⊎ SomeHas (λ s. s.pages ≡ 0) (s ∷ ss) ⊎ SomeHas (λ s. 2 ^ 24 < s.frame + s.pages) (s ∷ ss) → (4096 < total_pages (s ∷ ss)) ⊎ (total_pages (s ∷ ss) ≤ 4096) → IsBadMap (s ∷ ss) order rights
+    by_segments : AreSegments (s ∷ ss) ⊎ SomeHas (λ s. s.pages ≡ 0) (s ∷ ss) ⊎ SomeHas (λ s. 2 ^ 24 < s.frame + s.pages) (s ∷ ss)
+        → (4096 < total_pages (s ∷ ss)) ⊎ (total_pages (s ∷ ss) ≤ 4096) → IsBadMap (s ∷ ss) order rights
     by_segments (inr (inl none)) total = inr (inl none)
     by_segments (inr (inr high)) total = inr (inr (inr (inl high)))
     by_segments (inl each) (inl many) = inr (inr (inl many))
@@ -152,8 +168,10 @@ bad_else (s ∷ ss) order rights not = by_segments (all_or_one (s ∷ ss)) (case
 
 -- ---- table frames
 
-pub owned_later : (frames : ℕ) (ss : List Segment) (i : ℕ) → i < length ss → (AreOwned frames ss → AreOwned frames (drop i ss)) → ((segment_at ss i).frame < frames → ⊥) → AreOwned frames ss → AreOwned frames (drop (i + 1) ss)
-owned_later frames ss i less so_far free owned = by_first (subst (λ xs. AreOwned frames xs) (drop_at ss i (record { frame = 0; pages = 0 }) less) (so_far owned))
+pub owned_later : (frames : ℕ) (ss : List Segment) (i : ℕ) → i < length ss → (AreOwned frames ss → AreOwned frames (drop i ss))
+    → ((segment_at ss i).frame < frames → ⊥) → AreOwned frames ss → AreOwned frames (drop (i + 1) ss)
+owned_later frames ss i less so_far free owned =
+    by_first (subst (λ xs. AreOwned frames xs) (drop_at ss i (record { frame = 0; pages = 0 }) less) (so_far owned))
   where
     by_first : AreOwned frames (segment_at ss i ∷ drop (i + 1) ss) → AreOwned frames (drop (i + 1) ss)
     by_first (inl low) = absurd (free low)
@@ -164,5 +182,6 @@ owned_at frames [] i less low = absurd (omega (arith, less))
 owned_at frames (s ∷ ss) zero less low = inl low
 owned_at frames (s ∷ ss) (suc i) less low = inr (owned_at frames ss i (omega (arith, less)) low)
 
-pub owned_none : (frames : ℕ) (ss : List Segment) (i : ℕ) → length ss ≤ i → (AreOwned frames ss → AreOwned frames (drop i ss)) → AreOwned frames ss → ⊥
+pub owned_none : (frames : ℕ) (ss : List Segment) (i : ℕ) → length ss ≤ i → (AreOwned frames ss → AreOwned frames (drop i ss))
+    → AreOwned frames ss → ⊥
 owned_none frames ss i past so_far owned = subst (λ xs. AreOwned frames xs) (drop_ended ss i past) (so_far owned)

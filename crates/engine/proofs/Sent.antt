@@ -19,7 +19,8 @@ use Rattle.engine.proofs.Refusing.{frames_kept}
 abbrev pub changed : State → ℕ → Pool → Option Domain → Iommu → State
 changed m i pool new x = record { pool = pool; domains = slice_set m.domains i new; iommu = x; calls = m.calls + 1 }
 
-pub whole_sends : (frames : ℕ) (m t : State) (call : Call) (reply : Reply) (d : Descriptor) (row : List ContextEntry) → IsWhole frames m → Does m call reply t → length t.domains ≡ length m.domains → length row ≡ length m.iommu.contexts
+pub whole_sends : (frames : ℕ) (m t : State) (call : Call) (reply : Reply) (d : Descriptor) (row : List ContextEntry) → IsWhole frames m
+    → Does m call reply t → length t.domains ≡ length m.domains → length row ≡ length m.iommu.contexts
     → Invalidates (record m.iommu { contexts = row }) d t.iommu → IsWhole frames t
 whole_sends frames m t call reply d row whole does domains rows sends = record {
   of_world = (next whole.of_world.0 call reply, (does.steps whole.of_world.0 whole.of_world.1).1);

@@ -26,7 +26,8 @@ rest_is b q n pos even low high =
 -- the page is in one span with each page of its span
 pub one_span : (p q n : ℕ) → 0 < n → p - p % n ≤ q → q < p - p % n + n → p / n ≡ q / n
 one_span p q n pos low high =
-    div_within (p - p % n) p n pos (base_even p n pos) (base_low p n) (base_high p n pos) ∙ sym (div_within (p - p % n) q n pos (base_even p n pos) low high)
+    div_within (p - p % n) p n pos (base_even p n pos) (base_low p n) (base_high p n pos)
+    ∙ sym (div_within (p - p % n) q n pos (base_even p n pos) low high)
 
 -- the span of a page of the space is in the space
 pub below_end : (p j q : ℕ) → p < 2 ^ 27 → j < 2 → q < p - p % span j + span j → q < 2 ^ 27

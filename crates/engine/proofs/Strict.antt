@@ -1,5 +1,6 @@
 -- A strict unmap: what its descriptor leaves in the caches doesn't meet the range.
-use Rattle.std.proofs.Common.{◌≡◌, ℕ, zero, suc, ◌+◌, ◌-◌, ◌%◌, ◌/◌, ◌^◌, ◌<◌, ◌≤◌, ◌⊎◌, inl, inr, ⊎_elim, Bool, true, false, List, [], ◌∷◌, refl, sym, ap, subst, ◌∙◌, arith}
+use Rattle.std.proofs.Common.{◌≡◌, ℕ, zero, suc, ◌+◌, ◌-◌, ◌%◌, ◌/◌, ◌^◌, ◌<◌, ◌≤◌, ◌⊎◌, inl, inr, ⊎_elim, Bool, true, false, List, [], ◌∷◌}
+use Rattle.std.proofs.Common.{refl, sym, ap, subst, ◌∙◌, arith}
 use Rattle.std.proofs.lemmas.Bool.Decides.{nat_tests}
 use Rattle.std.proofs.lemmas.Bool.{cases_lt}
 use Rattle.std.specs.Prelude.{◌↔◌, IsTrue}
@@ -21,11 +22,13 @@ use Rattle.engine.specs.Ending.{IsBlockOf, IsSent, hint_of, leaves_split}
 -- ---- one descriptor
 
 -- a leaf in the block is dropped
-dropped_within : (d : ℕ) (b : Block) (hint : Bool) (l : CachedLeaf) → l.domain ≡ d → b.first ≤ l.first → l.first + l.pages ≤ b.first + 2 ^ b.order → drops_leaf (IotlbPages d b hint) l ≡ false → ⊥
+dropped_within : (d : ℕ) (b : Block) (hint : Bool) (l : CachedLeaf) → l.domain ≡ d → b.first ≤ l.first
+    → l.first + l.pages ≤ b.first + 2 ^ b.order → drops_leaf (IotlbPages d b hint) l ≡ false → ⊥
 dropped_within d b hint l e low high left = grind (arith, nat_tests)
 
 -- a table that meets the block is dropped where the hint is clear
-dropped_meeting : (d : ℕ) (b : Block) (i : CachedNonLeaf) → i.domain ≡ d → i.first < b.first + 2 ^ b.order → b.first < i.first + i.pages → drops_non_leaf (IotlbPages d b false) i ≡ false → ⊥
+dropped_meeting : (d : ℕ) (b : Block) (i : CachedNonLeaf) → i.domain ≡ d → i.first < b.first + 2 ^ b.order → b.first < i.first + i.pages
+    → drops_non_leaf (IotlbPages d b false) i ≡ false → ⊥
 dropped_meeting d b i e low high left = grind (arith, nat_tests)
 
 dropped_leaf : (d : ℕ) (l : CachedLeaf) → l.domain ≡ d → drops_leaf (IotlbDomain d) l ≡ false → ⊥
@@ -63,17 +66,22 @@ sent_covers d range cut x some sent = elim sent.2 [
 -- ---- leaves
 
 -- where a leaf entry meets the range, the block holds all of it
-in_block : (range : Range) (split : Bool) (b : Block) (l : CachedLeaf) (j : ℕ) (whole : Bool) → split ≡ whole → Covers range split b → j < 2 → l.pages ≡ span j → l.first % span j ≡ 0
-    → (split ≡ false → (range.first ≤ l.first) × (l.first + l.pages ≤ range.first + range.pages)) → l.first < range.first + range.pages → range.first < l.first + l.pages
+in_block : (range : Range) (split : Bool) (b : Block) (l : CachedLeaf) (j : ℕ) (whole : Bool) → split ≡ whole → Covers range split b → j < 2
+    → l.pages ≡ span j → l.first % span j ≡ 0 → (split ≡ false → (range.first ≤ l.first) × (l.first + l.pages ≤ range.first + range.pages))
+    → l.first < range.first + range.pages → range.first < l.first + l.pages
     → (b.first ≤ l.first) × (l.first + l.pages ≤ b.first + 2 ^ b.order)
-in_block range split b l j false e c small pages even covered lt gt = let k = covered e in (omega (arith, k.0, c.low), omega (arith, k.1, c.high))
-in_block range split b l zero true e c small pages even covered lt gt = let one : l.pages ≡ 1 = pages ∙ span-zero in (omega (arith, c.low, one), omega (arith, c.high, one))
+in_block range split b l j false e c small pages even covered lt gt =
+    let k = covered e in (omega (arith, k.0, c.low), omega (arith, k.1, c.high))
+in_block range split b l zero true e c small pages even covered lt gt =
+    let one : l.pages ≡ 1 = pages ∙ span-zero in (omega (arith, c.low, one), omega (arith, c.high, one))
 in_block range split b l (suc zero) true e c small pages even covered lt gt =
     let size = (c.large e).0 in
     let base = (c.large e).1 in
     let many : l.pages ≡ 512 = pages ∙ span-one in
-    let aligned : l.first % 512 ≡ 0 = subst (λ (n : ℕ). l.first % n ≡ 0) span-one even in
-    (inside_low b.first l.first range.first range.pages (omega (arith, c.high, size)) base aligned c.low (omega (arith, gt, many)), inside_high b.first l.first (2 ^ b.order) range.first range.pages size base aligned c.high lt many)
+    let aligned : l.first % 512 ≡ 0 = subst (λ (n : ℕ). l.first % n ≡ 0) span-one even in (
+      inside_low b.first l.first range.first range.pages (omega (arith, c.high, size)) base aligned c.low (omega (arith, gt, many)),
+      inside_high b.first l.first (2 ^ b.order) range.first range.pages size base aligned c.high lt many,
+    )
   where
     inside_low : (b f s n : ℕ) → s + n ≤ b + 512 → b % 512 ≡ 0 → f % 512 ≡ 0 → b ≤ s → s < f + 512 → b ≤ f
     inside_low b f s n high base aligned low gt = omega arith
@@ -83,22 +91,26 @@ in_block range split b l (suc zero) true e c small pages even covered lt gt =
 in_block range split b l (suc (suc j)) true e c small pages even covered lt gt = absurd (omega (arith, small))
 
 -- a leaf entry is covered where none was split and they meet
-leaf_covered : (old : Pool) (root : ℕ) (range : Range) (l : CachedLeaf) → 1 ≤ range.pages → leaves_split old root range ≡ 0 → IsLeafAt (memory old.words) 3 root l.first l.pages l.frame l.rights
-    → l.first < range.first + range.pages → range.first < l.first + l.pages → (range.first ≤ l.first) × (l.first + l.pages ≤ range.first + range.pages)
+leaf_covered : (old : Pool) (root : ℕ) (range : Range) (l : CachedLeaf) → 1 ≤ range.pages → leaves_split old root range ≡ 0
+    → IsLeafAt (memory old.words) 3 root l.first l.pages l.frame l.rights → l.first < range.first + range.pages
+    → range.first < l.first + l.pages → (range.first ≤ l.first) × (l.first + l.pages ≤ range.first + range.pages)
 leaf_covered old root range l some none (j, at) lt gt = by_page (cases_lt l.first range.first)
   where
     pos : 0 < span j
     pos = span_pos j
 
-    whole : (p : ℕ) → range.first ≤ p → p < range.first + range.pages → l.first ≤ p → p < l.first + l.pages → (q : ℕ) → l.first ≤ q → q < l.first + l.pages → (range.first ≤ q) × (q < range.first + range.pages)
+    whole : (p : ℕ) → range.first ≤ p → p < range.first + range.pages → l.first ≤ p → p < l.first + l.pages → (q : ℕ) → l.first ≤ q
+        → q < l.first + l.pages → (range.first ≤ q) × (q < range.first + range.pages)
     whole p low high above below q q_above q_below =
-        unmap_whole old 3 root range.first (range.first + range.pages) none p (record { size = j; frame = l.frame; rights = l.rights }) low high (at.4 p above below) q
+        unmap_whole old 3 root range.first (range.first + range.pages) none p (record { size = j; frame = l.frame; rights = l.rights }) low
+        high (at.4 p above below) q
         (same_part l.first q p (span j) pos at.2 q_above (omega (arith, q_below, at.1)) above (omega (arith, below, at.1)))
       where
         same_part : (f a b n : ℕ) → 0 < n → f % n ≡ 0 → f ≤ a → a < f + n → f ≤ b → b < f + n → a / n ≡ b / n
         same_part f a b n some even low high low' high' = div_within f a n some even low high ∙ sym (div_within f b n some even low' high')
 
-    around : (p : ℕ) → range.first ≤ p → p < range.first + range.pages → l.first ≤ p → p < l.first + l.pages → (range.first ≤ l.first) × (l.first + l.pages ≤ range.first + range.pages)
+    around : (p : ℕ) → range.first ≤ p → p < range.first + range.pages → l.first ≤ p → p < l.first + l.pages
+        → (range.first ≤ l.first) × (l.first + l.pages ≤ range.first + range.pages)
     around p low high above below =
         let first = whole p low high above below l.first (omega arith) (omega (arith, at.1, pos)) in
         let last = whole p low high above below (l.first + l.pages - 1) (omega (arith, at.1, pos)) (omega (arith, at.1, pos)) in
@@ -115,8 +127,10 @@ none_of (suc n) b to from e = let yes : b ≡ true = from (omega arith) in absur
     both : b ≡ false → b ≡ true → ⊥
     both low high = let clash : true ≡ false = sym high ∙ low in cc
 
-module _ (old new : Pool) (root d : ℕ) (range : Range) (cut : Cut) (x : Descriptor) (some : 1 ≤ range.pages) (sent : IsSent d range cut x) (split : IsTrue cut.split ↔ (0 < leaves_split old root range)) where
-  meets : (l : CachedLeaf) → l.domain ≡ d → drops_leaf x l ≡ false → IsLeafAt (memory old.words) 3 root l.first l.pages l.frame l.rights → l.first < range.first + range.pages → range.first < l.first + l.pages → ⊥
+module _ (old new : Pool) (root d : ℕ) (range : Range) (cut : Cut) (x : Descriptor) (some : 1 ≤ range.pages)
+    (sent : IsSent d range cut x) (split : IsTrue cut.split ↔ (0 < leaves_split old root range)) where
+  meets : (l : CachedLeaf) → l.domain ≡ d → drops_leaf x l ≡ false → IsLeafAt (memory old.words) 3 root l.first l.pages l.frame l.rights
+      → l.first < range.first + range.pages → range.first < l.first + l.pages → ⊥
   meets l here left at lt gt = elim (sent_covers d range cut x some sent) [
     | inl all ↦ dropped_leaf d l here (ap (λ y. drops_leaf y l) (sym all) ∙ left)
     | inr block ↦
@@ -126,12 +140,15 @@ module _ (old new : Pool) (root d : ℕ) (range : Range) (cut : Cut) (x : Descri
   ]
 
   -- a leaf entry of a cached leaf that the descriptor leaves is apart from the range
-  pub strict_apart : (l : CachedLeaf) → l.domain ≡ d → drops_leaf x l ≡ false → IsLeafAt (memory old.words) 3 root l.first l.pages l.frame l.rights → (l.first + l.pages ≤ range.first) ⊎ (range.first + range.pages ≤ l.first)
+  pub strict_apart : (l : CachedLeaf) → l.domain ≡ d → drops_leaf x l ≡ false
+      → IsLeafAt (memory old.words) 3 root l.first l.pages l.frame l.rights
+      → (l.first + l.pages ≤ range.first) ⊎ (range.first + range.pages ≤ l.first)
   strict_apart l here left at =
       ⊎_elim
-      (λ (lt : l.first < range.first + range.pages). ⊎_elim (λ (gt : range.first < l.first + l.pages). absurd (meets l here left at lt gt)) (λ (over : l.first + l.pages ≤ range.first). inl over) (cases_lt range.first (l.first + l.pages)))
-      (λ (over : range.first + range.pages ≤ l.first). inr over)
-      (cases_lt l.first (range.first + range.pages))
+      (λ (lt : l.first < range.first + range.pages).
+      ⊎_elim (λ (gt : range.first < l.first + l.pages). absurd (meets l here left at lt gt))
+      (λ (over : l.first + l.pages ≤ range.first). inl over) (cases_lt range.first (l.first + l.pages)))
+      (λ (over : range.first + range.pages ≤ l.first). inr over) (cases_lt l.first (range.first + range.pages))
 
   -- ---- tables
 
@@ -139,21 +156,25 @@ module _ (old new : Pool) (root d : ℕ) (range : Range) (cut : Cut) (x : Descri
   hint_clear c [] b held = absurd (omega (arith, held))
   hint_clear c (f ∷ fs) b held = refl
 
-  table_left : (b : Block) (i : CachedNonLeaf) → i.domain ≡ d → Covers range cut.split b → 0 < occurs i.frame cut.frames → 0 < i.pages → range.first ≤ i.first → i.first + i.pages ≤ range.first + range.pages
-      → drops_non_leaf (IotlbPages d b (hint_of cut)) i ≡ false → ⊥
+  table_left : (b : Block) (i : CachedNonLeaf) → i.domain ≡ d → Covers range cut.split b → 0 < occurs i.frame cut.frames → 0 < i.pages
+      → range.first ≤ i.first → i.first + i.pages ≤ range.first + range.pages → drops_non_leaf (IotlbPages d b (hint_of cut)) i ≡ false → ⊥
   table_left b i here c held pages low high left =
       dropped_meeting d b i here (omega (arith, c.high, high, pages)) (omega (arith, c.low, low, pages))
       (ap (λ h. drops_non_leaf (IotlbPages d b h) i) (sym (hint_clear i.frame cut.frames cut.split held)) ∙ left)
 
   -- a cached table that the descriptor leaves wasn't cut
-  pub strict_table : range.first < span 3 → Unmaps old new 3 root range.first (range.first + range.pages) cut.frames → (i : CachedNonLeaf) → i.domain ≡ d → i.pages ≡ span i.level → drops_non_leaf x i ≡ false
-      → IsTableAt (memory old.words) 3 root i.first i.level i.frame → IsTableAt (memory new.words) 3 root i.first i.level i.frame
-  strict_table within un i here pages left at = elim (unmap_tables old new 3 root range.first (range.first + range.pages) cut.frames within un i.first i.level i.frame at) [
-    | inl stays ↦ stays
-    | inr gone ↦
-        let one : i.pages ≡ 512 = pages ∙ ap span gone.0 ∙ span-one in
-        elim (sent_covers d range cut x some sent) [
-          | inl all ↦ absurd (dropped_table d i here (ap (λ y. drops_non_leaf y i) (sym all) ∙ left))
-          | inr block ↦ absurd (table_left block.0 i here block.2 gone.3 (omega (arith, one)) gone.1 (omega (arith, gone.2, one)) (ap (λ y. drops_non_leaf y i) (sym block.1) ∙ left))
-        ]
-  ]
+  pub strict_table : range.first < span 3 → Unmaps old new 3 root range.first (range.first + range.pages) cut.frames → (i : CachedNonLeaf)
+      → i.domain ≡ d → i.pages ≡ span i.level → drops_non_leaf x i ≡ false → IsTableAt (memory old.words) 3 root i.first i.level i.frame
+      → IsTableAt (memory new.words) 3 root i.first i.level i.frame
+  strict_table within un i here pages left at =
+      elim (unmap_tables old new 3 root range.first (range.first + range.pages) cut.frames within un i.first i.level i.frame at) [
+        | inl stays ↦ stays
+        | inr gone ↦
+            let one : i.pages ≡ 512 = pages ∙ ap span gone.0 ∙ span-one in
+            elim (sent_covers d range cut x some sent) [
+              | inl all ↦ absurd (dropped_table d i here (ap (λ y. drops_non_leaf y i) (sym all) ∙ left))
+              | inr block ↦
+                  absurd (table_left block.0 i here block.2 gone.3 (omega (arith, one)) gone.1 (omega (arith, gone.2, one))
+                  (ap (λ y. drops_non_leaf y i) (sym block.1) ∙ left))
+            ]
+      ]

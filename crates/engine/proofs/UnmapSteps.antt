@@ -1,5 +1,6 @@
 -- An unmap is a step of the model: refused, or done, and then it keeps the quarantine.
-use Rattle.std.proofs.Common.{◌≡◌, ◌≢◌, ℕ, ◌+◌, ◌%◌, ◌<◌, inl, inr, [], ◌∷◌, ◌++◌, length, Option, Some, None, IsNone, IsSome, refl, sym, ap, subst, ◌∙◌, slice_set}
+use Rattle.std.proofs.Common.{◌≡◌, ◌≢◌, ℕ, ◌+◌, ◌%◌, ◌<◌, inl, inr, [], ◌∷◌, ◌++◌, length, Option, Some, None, IsNone, IsSome, refl, sym}
+use Rattle.std.proofs.Common.{ap, subst, ◌∙◌, slice_set}
 use Rattle.std.proofs.lemmas.Bool.{eq-eqb, ne_eqb}
 use Rattle.std.proofs.lemmas.List.{length-map}
 use Rattle.dmatypes.specs.declared.call.Call.TheVariants as calls
@@ -36,7 +37,8 @@ pub records_count : (h : Domain) (v : world.Domain) → IsOfDomain h v → lengt
 records_count h v ids = sym (length-map h.records marked_here) ∙ ap length ids.records ∙ length-map v.retired marked_there
 
 -- the world after an unmap
-next_unmapped : (w : World) (d address pages released : ℕ) (v after : world.Domain) → w.domains d ≡ Some v → unmapped_by v.mode (range_at address pages) v ≡ after
+next_unmapped : (w : World) (d address pages released : ℕ) (v after : world.Domain) → w.domains d ≡ Some v
+    → unmapped_by v.mode (range_at address pages) v ≡ after
     → next w (calls.Unmap d address pages) (Unmapped released) ≡ record w { domains = put d (Some after) w.domains }
 unfolding next
 next_unmapped w d address pages released v after here is = rw (here, is) refl
@@ -47,7 +49,8 @@ strict_after range v strict = ap (λ (mode : Mode). unmapped_by mode range v) st
 room_after : (range : Range) (v : world.Domain) → v.mode ≡ Lazy → length v.retired ≢ 256 → unmapped_by v.mode range v ≡ put_off range v
 room_after range v lazy room = ap (λ (mode : Mode). unmapped_by mode range v) lazy ∙ (rw (ne_eqb (length v.retired) 256 room) refl)
 
-full_after : (range : Range) (v : world.Domain) → v.mode ≡ Lazy → length v.retired ≡ 256 → unmapped_by v.mode range v ≡ put_off range (flushed v)
+full_after : (range : Range) (v : world.Domain) → v.mode ≡ Lazy → length v.retired ≡ 256
+    → unmapped_by v.mode range v ≡ put_off range (flushed v)
 full_after range v lazy full = ap (λ (mode : Mode). unmapped_by mode range v) lazy ∙ (rw (eq-eqb (length v.retired) 256 full) refl)
 
 -- ---- no refusal stands
@@ -56,20 +59,26 @@ some_not_none : (o : Option Target) → IsSome o → IsNone o → ⊥
 some_not_none None some none = absurd cc
 some_not_none (Some x) some none = absurd cc
 
-all_live : (w : World) (d : ℕ) (space : Space) (v : world.Domain) (range : Range) → w.domains d ≡ Some v → PartsPages space v → AllIn Live range space.pieces → SomeIsNotLive w d range → ⊥
-all_live w d space v range here parts live some = let dead = rw here at some in some_not_none (v.live dead.0) ((parts.live dead.0).0 (live dead.0 dead.1)) dead.2
+all_live : (w : World) (d : ℕ) (space : Space) (v : world.Domain) (range : Range) → w.domains d ≡ Some v → PartsPages space v
+    → AllIn Live range space.pieces → SomeIsNotLive w d range → ⊥
+all_live w d space v range here parts live some =
+    let dead = rw here at some in some_not_none (v.live dead.0) ((parts.live dead.0).0 (live dead.0 dead.1)) dead.2
 
 not_bad : (address pages : ℕ) → address % 4096 ≡ 0 → IsPageRange (range_at address pages) → IsBadUnmap address pages → ⊥
 not_bad address pages whole fits (inl uneven) = uneven whole
 not_bad address pages whole fits (inr unfit) = unfit fits
 
-none_stands : (w : World) (d address pages : ℕ) (space : Space) (v : world.Domain) → w.domains d ≡ Some v → PartsPages space v → AllIn Live (range_at address pages) space.pieces → address % 4096 ≡ 0 → IsPageRange (range_at address pages)
+none_stands : (w : World) (d address pages : ℕ) (space : Space) (v : world.Domain) → w.domains d ≡ Some v → PartsPages space v
+    → AllIn Live (range_at address pages) space.pieces → address % 4096 ≡ 0 → IsPageRange (range_at address pages)
     → NoConditionStands w (calls.Unmap d address pages)
 unfolding Stands
-none_stands w d address pages space v here parts live whole fits = (not_none (w.domains d) v here, (not_bad address pages whole fits, (all_live w d space v (range_at address pages) here parts live, tt)))
+none_stands w d address pages space v here parts live whole fits =
+    (not_none (w.domains d) v here, (not_bad address pages whole fits, (all_live w d space v (range_at address pages) here parts live, tt)))
 
 -- so it is a step with its answer
-answered : (w : World) (d address pages released : ℕ) (v : world.Domain) → w.domains d ≡ Some v → NoConditionStands w (calls.Unmap d address pages) → IsUnmapAnswer v.mode v.retired (Unmapped released) → IsStep w (calls.Unmap d address pages) (Unmapped released)
+answered : (w : World) (d address pages released : ℕ) (v : world.Domain) → w.domains d ≡ Some v
+    → NoConditionStands w (calls.Unmap d address pages) → IsUnmapAnswer v.mode v.retired (Unmapped released)
+    → IsStep w (calls.Unmap d address pages) (Unmapped released)
 unfolding IsStep Answers
 answered w d address pages released v here none answer = (none, rw here answer)
 
@@ -97,11 +106,13 @@ module _ (m t : State) (i address pages : ℕ) (h h1 : Domain) (r : Record) (man
       let both = both_there m.pool.words (domain_at m.domains (i + 1)) (w.domains (i + 1)) h (q.domains (i + 1)) there in
       let strict : both.0.mode ≡ Strict = sym both.2.ids.mode ∙ mode in (
         answered w (i + 1) address pages 0 both.0 both.1
-            (none_stands w (i + 1) address pages h.space both.0 both.1 both.2.pieces (live_in h.space cuts.may.live) whole fits) (rw strict refl),
+            (none_stands w (i + 1) address pages h.space both.0 both.1 both.2.pieces (live_in h.space cuts.may.live) whole fits)
+            (rw strict refl),
         rw (next_unmapped w (i + 1) address pages 0 both.0 (unmapped (range_at address pages) both.0) both.1
             (strict_after (range_at address pages) both.0 strict))
             (of_call w (λ (x : Range). unmapped x both.0)
-            (strict_unmapped m t w i n h h1 both.0 r x pool1 space2 q many less there both.1 strict fits_record cuts sent caches releases domains row)),
+            (strict_unmapped m t w i n h h1 both.0 r x pool1 space2 q many less there both.1 strict fits_record cuts sent caches releases
+            domains row)),
       )
 
   pub room_steps : h.mode ≡ Lazy → length h.records ≢ 256 → RetiresAndUnmaps m.pool h r t.pool h1 → t.iommu.unit ≡ m.iommu.unit
@@ -141,11 +152,14 @@ module _ (m t : State) (i address pages : ℕ) (h h1 : Domain) (r : Record) (man
 
 -- ---- refusals
 
-pub no_domain_step : (m : State) (w : World) (d address pages : ℕ) → Quarantine m w → domain_at m.domains d ≡ None → IsStep w (calls.Unmap d address pages) (Refused refusals.NoDomain)
+pub no_domain_step : (m : State) (w : World) (d address pages : ℕ) → Quarantine m w → domain_at m.domains d ≡ None
+    → IsStep w (calls.Unmap d address pages) (Refused refusals.NoDomain)
 unfolding IsStep Stands
-no_domain_step m w d address pages q none = inl (inl (is_none (w.domains d) (both_absent m.pool.words (domain_at m.domains d) (w.domains d) (q.domains d) none), refl))
+no_domain_step m w d address pages q none =
+    inl (inl (is_none (w.domains d) (both_absent m.pool.words (domain_at m.domains d) (w.domains d) (q.domains d) none), refl))
 
-pub bad_range_step : (m : State) (w : World) (d address pages : ℕ) (h : Domain) → Quarantine m w → domain_at m.domains d ≡ Some h → IsBadUnmap address pages → IsStep w (calls.Unmap d address pages) (Refused refusals.BadRange)
+pub bad_range_step : (m : State) (w : World) (d address pages : ℕ) (h : Domain) → Quarantine m w → domain_at m.domains d ≡ Some h
+    → IsBadUnmap address pages → IsStep w (calls.Unmap d address pages) (Refused refusals.BadRange)
 unfolding IsStep Stands
 bad_range_step m w d address pages h q there bad =
     let both = both_there m.pool.words (domain_at m.domains d) (w.domains d) h (q.domains d) there in
@@ -159,31 +173,43 @@ not_live_page space v p parts dead = by_target (v.live p) (λ some. dead ((parts
     by_target None never = refl
     by_target (Some x) never = absurd (never refl)
 
-not_live_stands : (w : World) (d : ℕ) (v : world.Domain) (range : Range) (p : ℕ) → w.domains d ≡ Some v → IsWithin range p → IsNone (v.live p) → SomeIsNotLive w d range
+not_live_stands : (w : World) (d : ℕ) (v : world.Domain) (range : Range) (p : ℕ) → w.domains d ≡ Some v → IsWithin range p
+    → IsNone (v.live p) → SomeIsNotLive w d range
 not_live_stands w d v range p here inside dead = rw here (p, inside, dead)
 
-pub not_live_step : (m : State) (w : World) (d address pages : ℕ) (h : Domain) → Quarantine m w → domain_at m.domains d ≡ Some h → address % 4096 ≡ 0 → IsPageRange (range_at address pages)
-    → ((p : ℕ) × IsWithin (range_at address pages) p × (state_at h.space.pieces p ≢ Some Live)) → IsStep w (calls.Unmap d address pages) (Refused refusals.NotLive)
+pub not_live_step : (m : State) (w : World) (d address pages : ℕ) (h : Domain) → Quarantine m w → domain_at m.domains d ≡ Some h
+    → address % 4096 ≡ 0 → IsPageRange (range_at address pages)
+    → ((p : ℕ) × IsWithin (range_at address pages) p × (state_at h.space.pieces p ≢ Some Live))
+    → IsStep w (calls.Unmap d address pages) (Refused refusals.NotLive)
 unfolding IsStep Stands
 not_live_step m w d address pages h q there whole fits (p, inside, dead) =
     let both = both_there m.pool.words (domain_at m.domains d) (w.domains d) h (q.domains d) there in
     inl (inr (
       not_none (w.domains d) both.0 both.1,
-      inr (not_bad address pages whole fits, inl (not_live_stands w d both.0 (range_at address pages) p both.1 inside (not_live_page h.space both.0 p both.2.pieces dead), refl)),
+      inr (
+        not_bad address pages whole fits,
+        inl (
+          not_live_stands w d both.0 (range_at address pages) p both.1 inside (not_live_page h.space both.0 p both.2.pieces dead),
+          refl,
+        ),
+      ),
     ))
 
-live_stands : (m : State) (w : World) (d address pages : ℕ) (h : Domain) → Quarantine m w → domain_at m.domains d ≡ Some h → address % 4096 ≡ 0 → IsPageRange (range_at address pages) → AllIn Live (range_at address pages) h.space.pieces
+live_stands : (m : State) (w : World) (d address pages : ℕ) (h : Domain) → Quarantine m w → domain_at m.domains d ≡ Some h
+    → address % 4096 ≡ 0 → IsPageRange (range_at address pages) → AllIn Live (range_at address pages) h.space.pieces
     → NoConditionStands w (calls.Unmap d address pages)
 live_stands m w d address pages h q there whole fits live =
     let both = both_there m.pool.words (domain_at m.domains d) (w.domains d) h (q.domains d) there in
     none_stands w d address pages h.space both.0 both.1 both.2.pieces live whole fits
 
-pub too_many_step : (m : State) (w : World) (d address pages : ℕ) (h : Domain) → Quarantine m w → domain_at m.domains d ≡ Some h → address % 4096 ≡ 0 → IsPageRange (range_at address pages) → AllIn Live (range_at address pages) h.space.pieces
+pub too_many_step : (m : State) (w : World) (d address pages : ℕ) (h : Domain) → Quarantine m w → domain_at m.domains d ≡ Some h
+    → address % 4096 ≡ 0 → IsPageRange (range_at address pages) → AllIn Live (range_at address pages) h.space.pieces
     → IsStep w (calls.Unmap d address pages) (Refused refusals.TooManyPieces)
 unfolding IsStep
 too_many_step m w d address pages h q there whole fits live = inr (live_stands m w d address pages h q there whole fits live, tt)
 
-pub no_frames_step : (m : State) (w : World) (d address pages : ℕ) (h : Domain) → Quarantine m w → domain_at m.domains d ≡ Some h → address % 4096 ≡ 0 → IsPageRange (range_at address pages) → AllIn Live (range_at address pages) h.space.pieces
+pub no_frames_step : (m : State) (w : World) (d address pages : ℕ) (h : Domain) → Quarantine m w → domain_at m.domains d ≡ Some h
+    → address % 4096 ≡ 0 → IsPageRange (range_at address pages) → AllIn Live (range_at address pages) h.space.pieces
     → IsStep w (calls.Unmap d address pages) (Refused refusals.NoFrames)
 unfolding IsStep
 no_frames_step m w d address pages h q there whole fits live = inr (live_stands m w d address pages h q there whole fits live, tt)

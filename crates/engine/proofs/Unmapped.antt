@@ -1,5 +1,6 @@
 -- An unmap, by what the place of its domain answers.
-use Rattle.std.proofs.Common.{◌≡◌, ℕ, ◌+◌, ◌-◌, ◌%◌, ◌<◌, ◌⊎◌, inl, inr, List, [], ◌∷◌, ◌++◌, length, Option, None, Some, Result, Err, Ok, refl, sym, ap, subst, ◌∙◌, arith, slice_get, slice_set}
+use Rattle.std.proofs.Common.{◌≡◌, ℕ, ◌+◌, ◌-◌, ◌%◌, ◌<◌, ◌⊎◌, inl, inr, List, [], ◌∷◌, ◌++◌, length, Option, None, Some, Result, Err, Ok}
+use Rattle.std.proofs.Common.{refl, sym, ap, subst, ◌∙◌, arith, slice_get, slice_set}
 use Rattle.std.proofs.lemmas.List.{length-set}
 use Rattle.dmatypes.specs.declared.call.Call.TheVariants as calls
 use Rattle.dmatypes.specs.declared.call.Mode.{Mode}
@@ -22,32 +23,41 @@ use Rattle.engine.proofs.Lists.{set_again}
 use Rattle.engine.proofs.Refusing.{counted, refuses, whole_quiet}
 use Rattle.engine.proofs.Sent.{changed, whole_sends}
 use Rattle.engine.proofs.Unmapping.{domain_after}
-use Rattle.engine.proofs.UnmapSteps.{bad_range_step, full_steps, no_domain_step, no_frames_step, not_live_step, room_steps, strict_steps, too_many_step}
+use Rattle.engine.proofs.UnmapSteps.{bad_range_step, full_steps, no_domain_step, no_frames_step, not_live_step, room_steps, strict_steps}
+use Rattle.engine.proofs.UnmapSteps.{too_many_step}
 
 -- ---- refused
 
-pub unmap_no_domain : (m t : State) (domain address pages : ℕ) → t ≡ counted m → domain_at m.domains domain ≡ None → Does m (calls.Unmap domain address pages) (Refused refusals.NoDomain) t
+pub unmap_no_domain : (m t : State) (domain address pages : ℕ) → t ≡ counted m → domain_at m.domains domain ≡ None
+    → Does m (calls.Unmap domain address pages) (Refused refusals.NoDomain) t
 unfolding Exact
-unmap_no_domain m t domain address pages is none = refuses m t (calls.Unmap domain address pages) refusals.NoDomain is tt (λ w q. no_domain_step m w domain address pages q none)
+unmap_no_domain m t domain address pages is none =
+    refuses m t (calls.Unmap domain address pages) refusals.NoDomain is tt (λ w q. no_domain_step m w domain address pages q none)
 
-pub unmap_bad_range : (m t : State) (domain address pages : ℕ) (h : Domain) → t ≡ counted m → domain_at m.domains domain ≡ Some h → IsBadUnmap address pages → Does m (calls.Unmap domain address pages) (Refused refusals.BadRange) t
+pub unmap_bad_range : (m t : State) (domain address pages : ℕ) (h : Domain) → t ≡ counted m → domain_at m.domains domain ≡ Some h
+    → IsBadUnmap address pages → Does m (calls.Unmap domain address pages) (Refused refusals.BadRange) t
 unfolding Exact
-unmap_bad_range m t domain address pages h is there bad = refuses m t (calls.Unmap domain address pages) refusals.BadRange is tt (λ w q. bad_range_step m w domain address pages h q there bad)
+unmap_bad_range m t domain address pages h is there bad =
+    refuses m t (calls.Unmap domain address pages) refusals.BadRange is tt (λ w q. bad_range_step m w domain address pages h q there bad)
 
 judged : (m : State) (domain address pages : ℕ) (h : Domain) (refusal : Refusal) → domain_at m.domains domain ≡ Some h → address % 4096 ≡ 0
     → IsPageRange (range_at address pages) → IsJudgedEnd m.pool h (range_at address pages) (Err refusal)
     → Does m (calls.Unmap domain address pages) (Refused refusal) (counted m)
 unfolding Exact
-judged m domain address pages h refusals.NotLive there whole fits dead = refuses m (counted m) (calls.Unmap domain address pages) refusals.NotLive refl tt (λ w q. not_live_step m w domain address pages h q there whole fits dead)
+judged m domain address pages h refusals.NotLive there whole fits dead =
+    refuses m (counted m) (calls.Unmap domain address pages) refusals.NotLive refl tt
+    (λ w q. not_live_step m w domain address pages h q there whole fits dead)
 judged m domain address pages h refusals.TooManyPieces there whole fits many =
-    refuses m (counted m) (calls.Unmap domain address pages) refusals.TooManyPieces refl (rw there many) (λ w q. too_many_step m w domain address pages h q there whole fits many.0)
+    refuses m (counted m) (calls.Unmap domain address pages) refusals.TooManyPieces refl (rw there many)
+    (λ w q. too_many_step m w domain address pages h q there whole fits many.0)
 judged m domain address pages h refusals.NoFrames there whole fits short =
-    refuses m (counted m) (calls.Unmap domain address pages) refusals.NoFrames refl (rw there short) (λ w q. no_frames_step m w domain address pages h q there whole fits short.0.live)
+    refuses m (counted m) (calls.Unmap domain address pages) refusals.NoFrames refl (rw there short)
+    (λ w q. no_frames_step m w domain address pages h q there whole fits short.0.live)
 judged m domain address pages h _ there whole fits other = absurd other
 
 unmap_refused : (m : State) (domain address pages i : ℕ) (h new : Domain) (pool : Pool) (x : Iommu) (refusal : Refusal)
-    → slice_get m.domains i ≡ Some (Some h) → domain_at m.domains domain ≡ Some h → address % 4096 ≡ 0 → IsPageRange (range_at address pages)
-    → IsUnmapped (parts_in m h) domain (range_at address pages) (Err refusal) (parts_of pool new x)
+    → slice_get m.domains i ≡ Some (Some h) → domain_at m.domains domain ≡ Some h → address % 4096 ≡ 0
+    → IsPageRange (range_at address pages) → IsUnmapped (parts_in m h) domain (range_at address pages) (Err refusal) (parts_of pool new x)
     → Does m (calls.Unmap domain address pages) (Refused refusal) (changed m i pool (Some new) x)
 unmap_refused m domain address pages i h new pool x refusal at there whole fits ended =
     rw same (judged m domain address pages h refusal there whole fits ended.1)
@@ -58,7 +68,8 @@ unmap_refused m domain address pages i h new pool x refusal at there whole fits 
 
 -- ---- done
 
-module _ (m : State) (address pages i released : ℕ) (h new : Domain) (pool : Pool) (x : Iommu) (many : length m.domains ≡ 15) (less : i < length m.domains)
+module _ (m : State) (address pages i released : ℕ) (h new : Domain) (pool : Pool) (x : Iommu) (many : length m.domains ≡ 15)
+    (less : i < length m.domains)
     (there : domain_at m.domains (i + 1) ≡ Some h) (whole : address % 4096 ≡ 0) (fits : IsPageRange (range_at address pages)) where
   abbrev after : State
   after = changed m i pool (Some new) x
@@ -72,9 +83,9 @@ module _ (m : State) (address pages i released : ℕ) (h new : Domain) (pool : P
   strictly : h.mode ≡ Strict → released ≡ 0 → UnmapsStrictly old_parts (i + 1) (range_at address pages) new_parts
       → Steps m (calls.Unmap (i + 1) address pages) (Unmapped released) after
   strictly strict none does =
-      rw none (strict_steps m after i address pages h does.between does.retired many less there whole fits does.of_range does.invalidates.contexts
-      x.sent does.descriptor does.pool_between new.space strict does.retires does.sent does.invalidates.caches does.releases
-      (ap (λ (d : Domain). slice_set m.domains i (Some d))
+      rw none (strict_steps m after i address pages h does.between does.retired many less there whole fits does.of_range
+      does.invalidates.contexts x.sent does.descriptor does.pool_between new.space strict does.retires does.sent does.invalidates.caches
+      does.releases (ap (λ (d : Domain). slice_set m.domains i (Some d))
       (does.same ∙ ap (λ (d : Domain). record d { space = new.space }) does.retires.same)))
 
   lazily : h.mode ≡ Lazy → IsJudgedEnd m.pool h (range_at address pages) (Ok tt)
@@ -95,7 +106,8 @@ module _ (m : State) (address pages i released : ℕ) (h new : Domain) (pool : P
       let invalidates : Invalidates m.iommu (IotlbDomain (i + 1)) x =
       subst (λ (y : Iommu). Invalidates m.iommu (IotlbDomain (i + 1)) y) (sym does.quiet) flushes.invalidates in
       rw empties.all (full_steps m after i address pages h does.between does.retired many less there whole fits does.of_range
-      invalidates.contexts x.sent does.roomy.pool does.roomy.domain.space lazy empties.full may.0.live invalidates.caches flushes.releases retires
+      invalidates.contexts x.sent does.roomy.pool does.roomy.domain.space lazy empties.full may.0.live invalidates.caches flushes.releases
+      retires
       (ap (λ (d : Domain). slice_set m.domains i (Some d))
       (does.last ∙ ap (λ (d : Domain). record d { records = d.records ++ does.retired ∷ [] }) retires.same)))
 
@@ -124,7 +136,10 @@ module _ (m : State) (address pages i released : ℕ) (h new : Domain) (pool : P
   quiet_or_sent Lazy does = elim does.room [
     | inl has ↦ inl (does.quiet ∙ ap (λ (p : Parts). p.iommu) has.same)
     | inr empties ↦
-        inr (IotlbDomain (i + 1), subst (λ (y : Iommu). Invalidates m.iommu (IotlbDomain (i + 1)) y) (sym does.quiet) empties.flushes.invalidates)
+        inr (
+          IotlbDomain (i + 1),
+          subst (λ (y : Iommu). Invalidates m.iommu (IotlbDomain (i + 1)) y) (sym does.quiet) empties.flushes.invalidates,
+        )
   ]
 
   unmap_whole : (frames : ℕ) → IsWhole frames m → IsUnmapped old_parts (i + 1) (range_at address pages) (Ok released) new_parts
@@ -145,9 +160,9 @@ pub record AnswersUnmap (frames : ℕ) (m : State) (domain address pages : ℕ) 
   pub does : Does m (calls.Unmap domain address pages) (unmapped_reply answer) t
   pub whole : IsWhole frames t
 
-pub unmap_answered : (frames : ℕ) (m : State) (domain address pages i : ℕ) (h new : Domain) (pool : Pool) (x : Iommu) (answer : Result ℕ Refusal)
-    → IsWhole frames m → i < length m.domains → domain ≡ i + 1 → slice_get m.domains i ≡ Some (Some h) → domain_at m.domains domain ≡ Some h
-    → address % 4096 ≡ 0 → IsPageRange (range_at address pages)
+pub unmap_answered : (frames : ℕ) (m : State) (domain address pages i : ℕ) (h new : Domain) (pool : Pool) (x : Iommu)
+    (answer : Result ℕ Refusal) → IsWhole frames m → i < length m.domains → domain ≡ i + 1 → slice_get m.domains i ≡ Some (Some h)
+    → domain_at m.domains domain ≡ Some h → address % 4096 ≡ 0 → IsPageRange (range_at address pages)
     → IsUnmapped (parts_in m h) domain (range_at address pages) answer (parts_of pool new x)
     → AnswersUnmap frames m domain address pages answer (changed m i pool (Some new) x)
 unmap_answered frames m domain address pages i h new pool x (Ok released) is less id at there whole fits ended =

@@ -1,5 +1,6 @@
 -- An unmap: what it makes of one domain and of the caches, in a strict domain and in a lazy one with room.
-use Rattle.std.proofs.Common.{◌≡◌, ◌≢◌, ℕ, ◌+◌, ◌^◌, ◌<◌, ◌≤◌, ◌⊎◌, inl, inr, ⊎_elim, false, List, [], ◌∷◌, ◌++◌, length, map, Some, refl, sym, ap, subst, ◌∙◌, arith, slice_set}
+use Rattle.std.proofs.Common.{◌≡◌, ◌≢◌, ℕ, ◌+◌, ◌^◌, ◌<◌, ◌≤◌, ◌⊎◌, inl, inr, ⊎_elim, false, List, [], ◌∷◌, ◌++◌, length, map, Some, refl}
+use Rattle.std.proofs.Common.{sym, ap, subst, ◌∙◌, arith, slice_set}
 use Rattle.std.proofs.lemmas.Bool.{cases_lt}
 use Rattle.std.proofs.lemmas.List.Sums.{sum_by_push}
 use Rattle.std.proofs.lemmas.Option.{same_Some}
@@ -44,7 +45,8 @@ held-last rs r f = sum_by_push (λ (y : Record). occurs f y.cut.frames) rs r
 
 -- ---- one domain
 
-module _ (pool pool1 : Pool) (h h1 : Domain) (v : world.Domain) (r : Record) (fits : IsPageRange r.range) (mirrors : Mirrors pool.words h v) (cuts : RetiresAndUnmaps pool h r pool1 h1) where
+module _ (pool pool1 : Pool) (h h1 : Domain) (v : world.Domain) (r : Record) (fits : IsPageRange r.range)
+    (mirrors : Mirrors pool.words h v) (cuts : RetiresAndUnmaps pool h r pool1 h1) where
   start : r.range.first < span 3
   start = let ends = to_ends r.range fits in omega (arith, ends.some, ends.last, span-three)
 
@@ -52,14 +54,18 @@ module _ (pool pool1 : Pool) (h h1 : Domain) (v : world.Domain) (r : Record) (fi
   tree_without : (p : ℕ) → p < 2 ^ 27 → states (memory pool1.words) 3 h.root p ≡ (unmapped r.range v).live p
   tree_without p low = elim (within_or_not r.range p) [
     | inl inside ↦ ap (stated p) (cuts.unmaps.gone p inside.0 inside.1) ∙ sym (without_inside r.range v.live p inside)
-    | inr past ↦ cuts.unmaps.elsewhere p (same_root 3 p r.range.first (omega (arith, low, span-three)) start) past ∙ mirrors.tree p low ∙ sym (without_outside r.range v.live p past)
+    | inr past ↦
+        cuts.unmaps.elsewhere p (same_root 3 p r.range.first (omega (arith, low, span-three)) start) past ∙ mirrors.tree p low
+        ∙ sym (without_outside r.range v.live p past)
   ]
 
-  pub mirrors_unmapped : (pool2 : Pool) (space2 : Space) → Releases pool1 h1.space r pool2 space2 → Mirrors pool1.words (domain_after h space2 h.records) (unmapped r.range v)
+  pub mirrors_unmapped : (pool2 : Pool) (space2 : Space) → Releases pool1 h1.space r pool2 space2
+      → Mirrors pool1.words (domain_after h space2 h.records) (unmapped r.range v)
   mirrors_unmapped pool2 space2 releases = record {
     ids = record { mode = mirrors.ids.mode; begun = mirrors.ids.begun; records = mirrors.ids.records };
     tree = tree_without;
-    pieces = pieces_unmapped h.space v r.range mirrors.pieces cuts.may.live h1.space space2 fits cuts.retires releases.frees releases.is_space;
+    pieces =
+        pieces_unmapped h.space v r.range mirrors.pieces cuts.may.live h1.space space2 fits cuts.retires releases.frees releases.is_space;
   }
 
   pub mirrors_put_off : Mirrors pool1.words (domain_after h h1.space (h.records ++ r ∷ [])) (put_off r.range v)
@@ -68,7 +74,8 @@ module _ (pool pool1 : Pool) (h h1 : Domain) (v : world.Domain) (r : Record) (fi
       mode = mirrors.ids.mode;
       begun = mirrors.ids.begun;
       records = map_last marked_here h.records r ∙ ap (λ xs. xs ++ record { range = r.range; mark = r.mark } ∷ []) mirrors.ids.records
-          ∙ ap (λ (n : ℕ). map marked_there v.retired ++ record { range = r.range; mark = n } ∷ []) (cuts.mark ∙ mirrors.ids.begun) ∙ sym (map_last marked_there v.retired (record_of r.range v));
+          ∙ ap (λ (n : ℕ). map marked_there v.retired ++ record { range = r.range; mark = n } ∷ []) (cuts.mark ∙ mirrors.ids.begun)
+          ∙ sym (map_last marked_there v.retired (record_of r.range v));
     };
     tree = tree_without;
     pieces = pieces_put_off h.space v r.range mirrors.pieces cuts.may.live h1.space cuts.retires cuts.is_space;
@@ -78,11 +85,13 @@ module _ (pool pool1 : Pool) (h h1 : Domain) (v : world.Domain) (r : Record) (fi
     -- ---- a strict unmap
 
     module _ (d : ℕ) (x : Descriptor) (sent : IsSent d r.range r.cut x) (space2 : Space) where
-      outside_of : (l : CachedLeaf) (p : ℕ) → ((l.first + l.pages ≤ r.range.first) ⊎ (r.range.first + r.range.pages ≤ l.first)) → l.first ≤ p → p < l.first + l.pages → (p < r.range.first) ⊎ (r.range.first + r.range.pages ≤ p)
+      outside_of : (l : CachedLeaf) (p : ℕ) → ((l.first + l.pages ≤ r.range.first) ⊎ (r.range.first + r.range.pages ≤ l.first))
+          → l.first ≤ p → p < l.first + l.pages → (p < r.range.first) ⊎ (r.range.first + r.range.pages ≤ p)
       outside_of l p (inl before) low high = inl (omega (arith, before, high))
       outside_of l p (inr behind) low high = inr (omega (arith, behind, low))
 
-      pub strict_leaf : v.mode ≡ Strict → (l : CachedLeaf) → l.domain ≡ d → drops_leaf x l ≡ false → IsLawfulLeaf pool.words l h v → IsLawfulLeaf pool1.words l (domain_after h space2 h.records) (unmapped r.range v)
+      pub strict_leaf : v.mode ≡ Strict → (l : CachedLeaf) → l.domain ≡ d → drops_leaf x l ≡ false → IsLawfulLeaf pool.words l h v
+          → IsLawfulLeaf pool1.words l (domain_after h space2 h.records) (unmapped r.range v)
       strict_leaf strict l here left lawful =
           let at = lawful.entry strict in
           let away = strict_apart pool pool1 h.root d r.range r.cut x fits.some sent cuts.split l here left at in
@@ -91,43 +100,54 @@ module _ (pool pool1 : Pool) (h h1 : Domain) (v : world.Domain) (r : Record) (fi
               | inl live ↦ inl (without_outside r.range v.live p (outside_of l p away low high) ∙ live)
               | inr retired ↦ inr retired
             ];
-            entry = λ e. unmap_leaves pool pool1 3 h.root r.range.first (r.range.first + r.range.pages) r.cut.frames (omega arith) start cuts.unmaps l.first l.pages l.frame l.rights at away;
+            entry =
+                λ e.
+                unmap_leaves pool pool1 3 h.root r.range.first (r.range.first + r.range.pages) r.cut.frames (omega arith) start
+                cuts.unmaps l.first l.pages l.frame l.rights at away;
           }
 
-      pub strict_non_leaf : (i : CachedNonLeaf) → i.domain ≡ d → drops_non_leaf x i ≡ false → IsLawfulTable pool.words i h v → IsLawfulTable pool1.words i (domain_after h space2 h.records) (unmapped r.range v)
+      pub strict_non_leaf : (i : CachedNonLeaf) → i.domain ≡ d → drops_non_leaf x i ≡ false → IsLawfulTable pool.words i h v
+          → IsLawfulTable pool1.words i (domain_after h space2 h.records) (unmapped r.range v)
       strict_non_leaf i here left lawful = record {
         span = lawful.span;
         named = elim lawful.named [
-          | inl at ↦ inl (strict_table pool pool1 h.root d r.range r.cut x fits.some sent cuts.split start cuts.unmaps i here lawful.span left at)
+          | inl at ↦
+              inl (strict_table pool pool1 h.root d r.range r.cut x fits.some sent cuts.split start cuts.unmaps i here lawful.span left at)
           | inr has ↦ inr (held_stays pool.words pool1.words h.records zeroed i.first i.pages i.frame has)
         ];
       }
 
     -- ---- a lazy unmap
 
-    still_stated : (p : ℕ) (t : Target) → IsLive v p t ⊎ IsRetired v p t → IsLive (put_off r.range v) p t ⊎ IsRetired (put_off r.range v) p t
+    still_stated : (p : ℕ) (t : Target) → IsLive v p t ⊎ IsRetired v p t
+        → IsLive (put_off r.range v) p t ⊎ IsRetired (put_off r.range v) p t
     still_stated p t (inr old) = inr (old.0, in_left old.0 v.retired (record_of r.range v ∷ []) old.1, old.2, old.3)
     still_stated p t (inl live) = elim (within_or_not r.range p) [
-      | inl inside ↦ inr (record_of r.range v, in_last (record_of r.range v) v.retired, inside, restricted_inside r.range v.live p inside ∙ live)
+      | inl inside ↦
+          inr (record_of r.range v, in_last (record_of r.range v) v.retired, inside, restricted_inside r.range v.live p inside ∙ live)
       | inr past ↦ inl (without_outside r.range v.live p past ∙ live)
     ]
 
-    pub lazy_leaf : v.mode ≡ Lazy → (l : CachedLeaf) → IsLawfulLeaf pool.words l h v → IsLawfulLeaf pool1.words l (domain_after h h1.space (h.records ++ r ∷ [])) (put_off r.range v)
+    pub lazy_leaf : v.mode ≡ Lazy → (l : CachedLeaf) → IsLawfulLeaf pool.words l h v
+        → IsLawfulLeaf pool1.words l (domain_after h h1.space (h.records ++ r ∷ [])) (put_off r.range v)
     lazy_leaf lazy l lawful = record {
       stated = λ p low high. still_stated p (stated_by p l) (lawful.stated p low high);
       entry = λ e. absurd (let clash : Lazy ≡ Strict = sym lazy ∙ e in cc);
     }
 
-    pub lazy_non_leaf : (i : CachedNonLeaf) → IsLawfulTable pool.words i h v → IsLawfulTable pool1.words i (domain_after h h1.space (h.records ++ r ∷ [])) (put_off r.range v)
+    pub lazy_non_leaf : (i : CachedNonLeaf) → IsLawfulTable pool.words i h v
+        → IsLawfulTable pool1.words i (domain_after h h1.space (h.records ++ r ∷ [])) (put_off r.range v)
     lazy_non_leaf i lawful = record {
       span = lawful.span;
       named = elim lawful.named [
-        | inl at ↦ elim (unmap_tables pool pool1 3 h.root r.range.first (r.range.first + r.range.pages) r.cut.frames start cuts.unmaps i.first i.level i.frame at) [
-          | inl stays ↦ inl stays
-          | inr gone ↦
-              let pages : i.pages ≡ 512 = lawful.span ∙ ap span gone.0 ∙ span-one in
-              inr (r, in_last r h.records, gone.3, cuts.unmaps.zeroed i.frame gone.3, gone.1, omega (arith, gone.2, pages))
-        ]
+        | inl at ↦
+            elim (unmap_tables pool pool1 3 h.root r.range.first (r.range.first + r.range.pages) r.cut.frames start cuts.unmaps i.first
+            i.level i.frame at) [
+              | inl stays ↦ inl stays
+              | inr gone ↦
+                  let pages : i.pages ≡ 512 = lawful.span ∙ ap span gone.0 ∙ span-one in
+                  inr (r, in_last r h.records, gone.3, cuts.unmaps.zeroed i.frame gone.3, gone.1, omega (arith, gone.2, pages))
+            ]
         | inr has ↦
             let old = held_stays pool.words pool1.words h.records zeroed i.first i.pages i.frame has in
             inr (old.0, in_left old.0 h.records (r ∷ []) old.1, old.2, old.3, old.4, old.5)
@@ -137,14 +157,17 @@ module _ (pool pool1 : Pool) (h h1 : Domain) (v : world.Domain) (r : Record) (fi
 -- ---- the whole state
 
 -- a domain mirrors the world's
-pub mirrors_of : (m : State) (w : World) (d : ℕ) (h : Domain) (v : world.Domain) → Quarantine m w → domain_at m.domains d ≡ Some h → w.domains d ≡ Some v → Mirrors m.pool.words h v
+pub mirrors_of : (m : State) (w : World) (d : ℕ) (h : Domain) (v : world.Domain) → Quarantine m w → domain_at m.domains d ≡ Some h
+    → w.domains d ≡ Some v → Mirrors m.pool.words h v
 mirrors_of m w d h v q there here =
     let both = both_there m.pool.words (domain_at m.domains d) (w.domains d) h (q.domains d) there in
     subst (λ (u : world.Domain). Mirrors m.pool.words h u) (same_Some both.0 v (sym both.1 ∙ here)) both.2
 
 module _ (m t : State) (w : World) (i : ℕ) (h h1 : Domain) (v : world.Domain) (r : Record) (pool1 : Pool)
-    (q : Quarantine m w) (many : length m.domains ≡ 15) (less : i < length m.domains) (there : domain_at m.domains (i + 1) ≡ Some h) (here : w.domains (i + 1) ≡ Some v)
-    (mirrors : Mirrors m.pool.words h v) (fits : IsPageRange r.range) (cuts : RetiresAndUnmaps m.pool h r pool1 h1) (row : t.iommu.contexts ≡ m.iommu.contexts) (words : t.pool.words ≡ pool1.words) where
+    (q : Quarantine m w) (many : length m.domains ≡ 15) (less : i < length m.domains) (there : domain_at m.domains (i + 1) ≡ Some h)
+    (here : w.domains (i + 1) ≡ Some v)
+    (mirrors : Mirrors m.pool.words h v) (fits : IsPageRange r.range) (cuts : RetiresAndUnmaps m.pool h r pool1 h1)
+    (row : t.iommu.contexts ≡ m.iommu.contexts) (words : t.pool.words ≡ pool1.words) where
   low : i + 1 < 16
   low = domain_low m.domains (i + 1) h many there
 
@@ -152,12 +175,15 @@ module _ (m t : State) (w : World) (i : ℕ) (h h1 : Domain) (v : world.Domain) 
   others e k ne at =
       let below : e < 16 = domain_low m.domains e k many at in
       let stays : Stays m.pool pool1 3 k.root =
-      apart_stays m.pool pool1 3 h.root 3 k.root r.cut.frames (tree_of m.pool (domain_at m.domains) (i + 1) h q.frames low there) cuts.moves (tree_of m.pool (domain_at m.domains) e k q.frames below at)
-      (apart_of m.pool (domain_at m.domains) (i + 1) e h k q.frames low below ne there at) in
-      tree_stays m.pool pool1 t.pool.words k.root stays words
+      apart_stays m.pool pool1 3 h.root 3 k.root r.cut.frames (tree_of m.pool (domain_at m.domains) (i + 1) h q.frames low there) cuts.moves
+      (tree_of m.pool (domain_at m.domains) e k q.frames below at)
+      (apart_of m.pool (domain_at m.domains) (i + 1) e h k q.frames low below ne there at) in tree_stays m.pool pool1 t.pool.words k.root
+      stays words
 
   zeroed_then : (e : ℕ) (k : Domain) → domain_at m.domains e ≡ Some k → (f : ℕ) → 0 < held_in k.records f → IsZeroed pool1.words f
-  zeroed_then e k at f more = held_zeroed m.pool pool1 (domain_at m.domains) (i + 1) e h k r.cut.frames q.frames low (domain_low m.domains e k many at) there at cuts.moves f more
+  zeroed_then e k at f more =
+      held_zeroed m.pool pool1 (domain_at m.domains) (i + 1) e h k r.cut.frames q.frames low (domain_low m.domains e k many at) there at
+      cuts.moves f more
 
   zeroed : (e : ℕ) (k : Domain) → domain_at m.domains e ≡ Some k → (f : ℕ) → 0 < held_in k.records f → IsZeroed t.pool.words f
   zeroed e k at f more = subst (λ ws. IsZeroed ws f) (sym words) (zeroed_then e k at f more)
@@ -171,8 +197,10 @@ module _ (m t : State) (w : World) (i : ℕ) (h h1 : Domain) (v : world.Domain) 
 
   -- ---- a strict unmap
 
-  module _ (n : ℕ) (x : Descriptor) (space2 : Space) (strict : v.mode ≡ Strict) (sent : IsSent (i + 1) r.range r.cut x) (caches : t.iommu.unit.caches ≡ left_by_all (m.iommu.ring.waiting ++ x ∷ Wait n ∷ []) m.iommu.unit.caches)
-      (releases : Releases pool1 h1.space r t.pool space2) (domains : t.domains ≡ slice_set m.domains i (Some (domain_after h space2 h.records))) where
+  module _ (n : ℕ) (x : Descriptor) (space2 : Space) (strict : v.mode ≡ Strict) (sent : IsSent (i + 1) r.range r.cut x)
+      (caches : t.iommu.unit.caches ≡ left_by_all (m.iommu.ring.waiting ++ x ∷ Wait n ∷ []) m.iommu.unit.caches)
+      (releases : Releases pool1 h1.space r t.pool space2)
+      (domains : t.domains ≡ slice_set m.domains i (Some (domain_after h space2 h.records))) where
     purges : Purges x m.iommu.unit.caches t.iommu.unit.caches
     purges = purges_sent m.iommu.ring.waiting x n m.iommu.unit.caches t.iommu.unit.caches caches
 
@@ -182,7 +210,9 @@ module _ (m t : State) (w : World) (i : ℕ) (h h1 : Domain) (v : world.Domain) 
       row = row;
       root = refl;
       frames = releases.frames ∙ cuts.moves.frames;
-      mirrors = subst (λ ws. Mirrors ws (domain_after h space2 h.records) (unmapped r.range v)) (sym words) (mirrors_unmapped m.pool pool1 h h1 v r fits mirrors cuts t.pool space2 releases);
+      mirrors =
+          subst (λ ws. Mirrors ws (domain_after h space2 h.records) (unmapped r.range v)) (sym words)
+          (mirrors_unmapped m.pool pool1 h h1 v r fits mirrors cuts t.pool space2 releases);
       others = others;
       account = λ f. omega (arith, used f, releases.free f, cuts.moves.account f);
       zeroed = releases.is_pool.zeroed;
@@ -191,12 +221,14 @@ module _ (m t : State) (w : World) (i : ℕ) (h h1 : Domain) (v : world.Domain) 
       leaves = λ l inside. let left = purges.leaves l inside in (
         left.0,
         λ same lawful. subst (λ ws. IsLawfulLeaf ws l (domain_after h space2 h.records) (unmapped r.range v)) (sym words)
-            (strict_leaf m.pool pool1 h h1 v r fits mirrors cuts (zeroed_then (i + 1) h there) (i + 1) x sent space2 strict l same left.1 lawful),
+            (strict_leaf m.pool pool1 h h1 v r fits mirrors cuts (zeroed_then (i + 1) h there) (i + 1) x sent space2 strict l same left.1
+            lawful),
       );
       tables = λ k inside. let left = purges.tables k inside in (
         left.0,
         λ same lawful. subst (λ ws. IsLawfulTable ws k (domain_after h space2 h.records) (unmapped r.range v)) (sym words)
-            (strict_non_leaf m.pool pool1 h h1 v r fits mirrors cuts (zeroed_then (i + 1) h there) (i + 1) x sent space2 k same left.1 lawful),
+            (strict_non_leaf m.pool pool1 h h1 v r fits mirrors cuts (zeroed_then (i + 1) h there) (i + 1) x sent space2 k same left.1
+            lawful),
       );
       contexts = λ k inside. (purges.contexts k inside).0;
     }
@@ -206,7 +238,8 @@ module _ (m t : State) (w : World) (i : ℕ) (h h1 : Domain) (v : world.Domain) 
 
   -- ---- a lazy unmap, with room for its record
 
-  module _ (lazy : v.mode ≡ Lazy) (same_pool : t.pool ≡ pool1) (unit : t.iommu.unit ≡ m.iommu.unit) (domains : t.domains ≡ slice_set m.domains i (Some (domain_after h h1.space (h.records ++ r ∷ [])))) where
+  module _ (lazy : v.mode ≡ Lazy) (same_pool : t.pool ≡ pool1) (unit : t.iommu.unit ≡ m.iommu.unit)
+      (domains : t.domains ≡ slice_set m.domains i (Some (domain_after h h1.space (h.records ++ r ∷ [])))) where
     abbrev records1 : List Record
     records1 = h.records ++ r ∷ []
 
@@ -222,9 +255,15 @@ module _ (m t : State) (w : World) (i : ℕ) (h h1 : Domain) (v : world.Domain) 
       row = row;
       root = refl;
       frames = ap (λ (p : Pool). p.frames) same_pool ∙ cuts.moves.frames;
-      mirrors = subst (λ ws. Mirrors ws (domain_after h h1.space records1) (put_off r.range v)) (sym words) (mirrors_put_off m.pool pool1 h h1 v r fits mirrors cuts);
+      mirrors =
+          subst (λ ws. Mirrors ws (domain_after h h1.space records1) (put_off r.range v)) (sym words)
+          (mirrors_put_off m.pool pool1 h h1 v r fits mirrors cuts);
       others = others;
-      account = λ f. let free : occurs f t.pool.free ≡ occurs f pool1.free = ap (λ (p : Pool). occurs f p.free) same_pool in omega (arith, used f, free, held-last h.records r f, cuts.moves.account f);
+      account =
+          λ f.
+          let free : occurs f t.pool.free ≡ occurs f pool1.free =
+          ap (λ (p : Pool). occurs f p.free) same_pool in
+          omega (arith, used f, free, held-last h.records r f, cuts.moves.account f);
       zeroed = subst (λ (p : Pool). (f : ℕ) → 0 < occurs f p.free → IsZeroed p.words f) (sym same_pool) cuts.is_pool.zeroed;
       held = zeroed;
       held_here = λ f more. elim (held_more f more) [
@@ -250,12 +289,12 @@ module _ (m t : State) (w : World) (i : ℕ) (h h1 : Domain) (v : world.Domain) 
 -- ---- by what the calls below promise
 
 -- an unmap of a strict domain: the descriptor was sent and done before its pages and the cut tables came free
-pub strict_unmapped : (m t : State) (w : World) (i n : ℕ) (h h1 : Domain) (v : world.Domain) (r : Record) (x : Descriptor) (pool1 : Pool) (space2 : Space)
-    → Quarantine m w → length m.domains ≡ 15 → i < length m.domains → domain_at m.domains (i + 1) ≡ Some h → w.domains (i + 1) ≡ Some v
-    → v.mode ≡ Strict → IsPageRange r.range → RetiresAndUnmaps m.pool h r pool1 h1 → IsSent (i + 1) r.range r.cut x
-    → t.iommu.unit.caches ≡ left_by_all (m.iommu.ring.waiting ++ x ∷ Wait n ∷ []) m.iommu.unit.caches → Releases pool1 h1.space r t.pool space2
-    → t.domains ≡ slice_set m.domains i (Some (domain_after h space2 h.records)) → t.iommu.contexts ≡ m.iommu.contexts
-    → Quarantine t (record w { domains = put (i + 1) (Some (unmapped r.range v)) w.domains })
+pub strict_unmapped : (m t : State) (w : World) (i n : ℕ) (h h1 : Domain) (v : world.Domain) (r : Record) (x : Descriptor) (pool1 : Pool)
+    (space2 : Space) → Quarantine m w → length m.domains ≡ 15 → i < length m.domains → domain_at m.domains (i + 1) ≡ Some h
+    → w.domains (i + 1) ≡ Some v → v.mode ≡ Strict → IsPageRange r.range → RetiresAndUnmaps m.pool h r pool1 h1
+    → IsSent (i + 1) r.range r.cut x → t.iommu.unit.caches ≡ left_by_all (m.iommu.ring.waiting ++ x ∷ Wait n ∷ []) m.iommu.unit.caches
+    → Releases pool1 h1.space r t.pool space2 → t.domains ≡ slice_set m.domains i (Some (domain_after h space2 h.records))
+    → t.iommu.contexts ≡ m.iommu.contexts → Quarantine t (record w { domains = put (i + 1) (Some (unmapped r.range v)) w.domains })
 strict_unmapped m t w i n h h1 v r x pool1 space2 q many less there here strict fits cuts sent caches releases domains row =
     strict_keeps m t w i h h1 v r pool1 q many less there here (mirrors_of m w (i + 1) h v q there here) fits cuts row releases.words
     n x space2 strict sent caches releases domains

@@ -1,5 +1,6 @@
 -- Pages of a domain that are unmapped, for good or put off, and retired ones that come free.
-use Rattle.std.proofs.Common.{◌≡◌, ℕ, ◌+◌, ◌-◌, ◌<◌, ◌≤◌, ◌⊎◌, inl, inr, List, [], ◌∷◌, ◌++◌, Option, Some, None, IsSome, refl, sym, ap, subst, ◌∙◌, arith}
+use Rattle.std.proofs.Common.{◌≡◌, ℕ, ◌+◌, ◌-◌, ◌<◌, ◌≤◌, ◌⊎◌, inl, inr, List, [], ◌∷◌, ◌++◌, Option, Some, None, IsSome, refl, sym, ap}
+use Rattle.std.proofs.Common.{subst, ◌∙◌, arith}
 use Rattle.dmatypes.specs.Page.{Range, IsPage, IsPageRange, IsWithin}
 use Rattle.dmatypes.specs.World.{Target, Retired, IsIn, flushed, put_off, record_of, restricted, unmapped, without}
 use Rattle.dmatypes.specs.World as world
@@ -19,7 +20,8 @@ use Rattle.engine.proofs.Sets.{in_either, in_last, in_left}
 pub without_inside : (range : Range) (live : ℕ → Option Target) (p : ℕ) → IsWithin range p → without range live p ≡ None
 without_inside range live p inside = rw (within_is range p inside) refl
 
-pub without_outside : (range : Range) (live : ℕ → Option Target) (p : ℕ) → ((p < range.first) ⊎ (range.first + range.pages ≤ p)) → without range live p ≡ live p
+pub without_outside : (range : Range) (live : ℕ → Option Target) (p : ℕ) → ((p < range.first) ⊎ (range.first + range.pages ≤ p))
+    → without range live p ≡ live p
 without_outside range live p past = rw (within_not range p past) refl
 
 pub restricted_inside : (range : Range) (live : ℕ → Option Target) (p : ℕ) → IsWithin range p → restricted range live p ≡ live p
@@ -50,7 +52,8 @@ unfolding AllApart
 none_apart = tt
 
 -- one more that is apart from each
-apart_last : (rs : List Retired) (r : Retired) → ((q : Retired) → IsIn q rs → AreApart q.range r.range) → AllApart rs → AllApart (rs ++ r ∷ [])
+apart_last : (rs : List Retired) (r : Retired) → ((q : Retired) → IsIn q rs → AreApart q.range r.range) → AllApart rs
+    → AllApart (rs ++ r ∷ [])
 unfolding AllApart
 apart_last [] r new old = (λ q none. absurd none, tt)
 apart_last (x ∷ rs) r new old = (
@@ -66,29 +69,41 @@ apart_last (x ∷ rs) r new old = (
 module _ (space : Space) (v : world.Domain) (range : Range) (parts : PartsPages space v) (live : AllIn Live range space.pieces) where
   -- no record has a live page
   record_apart : (r : Retired) → IsIn r v.retired → AreApart r.range range
-  record_apart r inside p in_record in_range = live_not_retired (state_at space.pieces p) (live p in_range) ((parts.retired p).1 (r, inside, in_record))
+  record_apart r inside p in_record in_range =
+      live_not_retired (state_at space.pieces p) (live p in_range) ((parts.retired p).1 (r, inside, in_record))
 
   -- so its piece is another one
   piece_other : HasEnds range → (r : Retired) → IsIn r v.retired → piece_of r.range pages.Retired ≡ piece_of range pages.Retired → ⊥
   piece_other ends r inside same =
       let first : r.range.first ≡ range.first = ap (λ (x : Piece). x.first) same in
       let last : r.range.first + r.range.pages - 1 ≡ range.first + range.pages - 1 = ap (λ (x : Piece). x.last) same in
-      record_apart r inside range.first (omega (arith, first), omega (arith, first, last, ends.some, ends.first)) (omega arith, omega (arith, ends.some))
+      record_apart r inside range.first (omega (arith, first), omega (arith, first, last, ends.some, ends.first))
+      (omega arith, omega (arith, ends.some))
 
   -- ---- a strict unmap
 
-  pub pieces_unmapped : (space1 space2 : Space) → IsPageRange range → Retires space space1 range → Frees space1 space2 range pages.Retired → IsSpace space2 → PartsPages space2 (unmapped range v)
+  pub pieces_unmapped : (space1 space2 : Space) → IsPageRange range → Retires space space1 range → Frees space1 space2 range pages.Retired
+      → IsSpace space2 → PartsPages space2 (unmapped range v)
   pieces_unmapped space1 space2 fits retires frees is = record {
     is_space = is;
     whole = ap (λ (a : Space). a.last) frees.is ∙ ap (λ (a : Space). a.last) retires.is ∙ parts.whole;
     free = λ p. elim (within_or_not range p) [
       | inl inside ↦ (
-        λ e. (is_page space p Live parts.is_space (live p inside), record { not_live = without_inside range v.live p inside; not_retired = λ r i in_record. record_apart r i p in_record inside }),
+        λ e. (
+          is_page space p Live parts.is_space (live p inside),
+          record { not_live = without_inside range v.live p inside; not_retired = λ r i in_record. record_apart r i p in_record inside },
+        ),
         λ both. frees.states.inside p inside,
       )
       | inr past ↦ (
-        λ e. let old = (parts.free p).0 (sym (stays p past) ∙ e) in (old.0, record { not_live = without_outside range v.live p past ∙ old.1.not_live; not_retired = old.1.not_retired }),
-        λ both. stays p past ∙ (parts.free p).1 (both.0, record { not_live = sym (without_outside range v.live p past) ∙ both.1.not_live; not_retired = both.1.not_retired }),
+        λ e.
+            let old =
+            (parts.free p).0 (sym (stays p past) ∙ e) in
+            (old.0, record { not_live = without_outside range v.live p past ∙ old.1.not_live; not_retired = old.1.not_retired }),
+        λ both.
+            stays p past
+            ∙ (parts.free p).1
+            (both.0, record { not_live = sym (without_outside range v.live p past) ∙ both.1.not_live; not_retired = both.1.not_retired }),
       )
     ];
     live = λ p. elim (within_or_not range p) [
@@ -111,7 +126,10 @@ module _ (space : Space) (v : world.Domain) (range : Range) (parts : PartsPages 
         λ some. stays p past ∙ (parts.retired p).1 some,
       )
     ];
-    ranges = λ r i. (frees.in_use (piece_of r.range pages.Retired) (λ e. cc)).1 ((retires.retired (piece_of r.range pages.Retired) refl).1 (inr (parts.ranges r i)), piece_other (to_ends range fits) r i);
+    ranges =
+        λ r i.
+        (frees.in_use (piece_of r.range pages.Retired) (λ e. cc)).1
+        ((retires.retired (piece_of r.range pages.Retired) refl).1 (inr (parts.ranges r i)), piece_other (to_ends range fits) r i);
     apart = parts.apart;
     targets_known = parts.targets_known;
   } where
@@ -168,11 +186,16 @@ module _ (space : Space) (v : world.Domain) (range : Range) (parts : PartsPages 
     retired = λ p. elim (within_or_not range p) [
       | inl inside ↦ (λ e. (record_of range v, in_last (record_of range v) v.retired, inside), λ some. retires.states.inside p inside)
       | inr past ↦ (
-        λ e. let old = (parts.retired p).0 (sym (retires.states.outside p (not_within range p past)) ∙ e) in (old.0, in_left old.0 v.retired (record_of range v ∷ []) old.1, old.2),
-        λ some. retires.states.outside p (not_within range p past) ∙ (parts.retired p).1 (elim (in_either some.0 (record_of range v) v.retired some.1) [
-          | inl before ↦ (some.0, before, some.2)
-          | inr last ↦ absurd (not_within range p past (subst (λ (x : Range). IsWithin x p) (last_is some.0 last) some.2))
-        ]),
+        λ e.
+            let old =
+            (parts.retired p).0 (sym (retires.states.outside p (not_within range p past)) ∙ e) in
+            (old.0, in_left old.0 v.retired (record_of range v ∷ []) old.1, old.2),
+        λ some.
+            retires.states.outside p (not_within range p past)
+            ∙ (parts.retired p).1 (elim (in_either some.0 (record_of range v) v.retired some.1) [
+              | inl before ↦ (some.0, before, some.2)
+              | inr last ↦ absurd (not_within range p past (subst (λ (x : Range). IsWithin x p) (last_is some.0 last) some.2))
+            ]),
       )
     ];
     ranges = λ r i. elim (in_either r (record_of range v) v.retired i) [
@@ -208,18 +231,31 @@ not_some (Some x) never = absurd (never refl)
 
 -- retired pages become free, and no other page changes
 pub pieces_flushed : (space space' : Space) (v : world.Domain) → PartsPages space v → IsSpace space' → space'.last ≡ space.last
-    → ((p : ℕ) → IsInRecord v p → state_at space'.pieces p ≡ Some Free) → ((p : ℕ) → (IsInRecord v p → ⊥) → state_at space'.pieces p ≡ state_at space.pieces p) → PartsPages space' (flushed v)
+    → ((p : ℕ) → IsInRecord v p → state_at space'.pieces p ≡ Some Free)
+    → ((p : ℕ) → (IsInRecord v p → ⊥) → state_at space'.pieces p ≡ state_at space.pieces p) → PartsPages space' (flushed v)
 pieces_flushed space space' v parts is last inside outside = record {
   is_space = is;
   whole = last ∙ parts.whole;
   free = λ p. elim (by_state (state_at space.pieces p)) [
     | inl gone ↦ (
-      λ e. (is_page space p pages.Retired parts.is_space gone, record { not_live = not_some (v.live p) (λ some. live_not_retired (state_at space.pieces p) ((parts.live p).1 some) gone); not_retired = λ r none in_record. none }),
+      λ e. (
+        is_page space p pages.Retired parts.is_space gone,
+        record {
+          not_live = not_some (v.live p) (λ some. live_not_retired (state_at space.pieces p) ((parts.live p).1 some) gone);
+          not_retired = λ r none in_record. none;
+        },
+      ),
       λ both. inside p ((parts.retired p).0 gone),
     )
     | inr stays ↦ (
-      λ e. let old = (parts.free p).0 (sym (same p stays) ∙ e) in (old.0, record { not_live = old.1.not_live; not_retired = λ r none in_record. none }),
-      λ both. same p stays ∙ (parts.free p).1 (both.0, record { not_live = both.1.not_live; not_retired = λ r i in_record. stays ((parts.retired p).1 (r, i, in_record)) }),
+      λ e.
+          let old =
+          (parts.free p).0 (sym (same p stays) ∙ e) in
+          (old.0, record { not_live = old.1.not_live; not_retired = λ r none in_record. none }),
+      λ both.
+          same p stays
+          ∙ (parts.free p).1
+          (both.0, record { not_live = both.1.not_live; not_retired = λ r i in_record. stays ((parts.retired p).1 (r, i, in_record)) }),
     )
   ];
   live = λ p. elim (by_state (state_at space.pieces p)) [

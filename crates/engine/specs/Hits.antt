@@ -23,7 +23,8 @@ use Rattle.engine.specs.Quarantine.{Quarantine}
 -- the page of the address is live or in a record of the domain, with the frame and the rights of the hit, which has the
 -- right; the host address is in that frame
 pub record Has (v : world.Domain) (address : ℕ) (access : Access) (hit : Hit) : Type 0 where
-  pub page : IsLive v (page_of address) (target hit.frame (bits_of hit.rights)) ⊎ IsRetired v (page_of address) (target hit.frame (bits_of hit.rights))
+  pub page : IsLive v (page_of address) (target hit.frame (bits_of hit.rights))
+      ⊎ IsRetired v (page_of address) (target hit.frame (bits_of hit.rights))
   pub right : Permits (bits_of hit.rights) access
   pub host : hit.host ≡ host_of (target hit.frame (bits_of hit.rights)) address
 

@@ -12,7 +12,8 @@ use Rattle.tables.specs.Pool.{Pool, memory, occurs, IsTree, IsZeroed}
 use Rattle.tables.specs.Tree.{states}
 use Rattle.queue.specs.Ring.{Ring}
 use Rattle.vtdbits.specs.declared.descriptor.Descriptor.{Descriptor}
-use Rattle.vtdbits.specs.declared.descriptor.Descriptor.TheVariants.{ContextDevice, ContextDomain, ContextGlobal, IotlbDomain, IotlbGlobal, IotlbPages, Wait}
+use Rattle.vtdbits.specs.declared.descriptor.Descriptor.TheVariants.{ContextDevice, ContextDomain, ContextGlobal, IotlbDomain, IotlbGlobal}
+use Rattle.vtdbits.specs.declared.descriptor.Descriptor.TheVariants.{IotlbPages, Wait}
 use Rattle.engine.specs.declared.iommu.Iommu.{Iommu}
 use Rattle.engine.specs.declared.record.Record.{Record}
 use Rattle.engine.specs.Ending.{ReleasesAll, hint_of}

@@ -1,5 +1,6 @@
 -- What contracts see of the state.
-use Rattle.std.specs.Prelude.{◌≡◌, ℕ, ◌+◌, ◌-◌, ◌/◌, ◌<◌, ◌≤◌, List, [], replicate, IsSomeAnd, Option, None, Some, length, slice_get, slice_set, Result, Ok, Err}
+use Rattle.std.specs.Prelude.{◌≡◌, ℕ, ◌+◌, ◌-◌, ◌/◌, ◌<◌, ◌≤◌, List, [], replicate, IsSomeAnd, Option, None, Some, length, slice_get}
+use Rattle.std.specs.Prelude.{slice_set, Result, Ok, Err}
 use Rattle.dmatypes.specs.declared.call.Call.{Call}
 use Rattle.dmatypes.specs.declared.call.Call.TheVariants as calls
 use Rattle.dmatypes.specs.declared.refusal.Fault.{Fault}

@@ -1,5 +1,6 @@
 -- Which rows are cleared at an event, as the bits of a number.
-use Rattle.std.proofs.Common.{◌≡◌, ◌*◌, ◌^◌, ◌%◌, ◌<◌, ◌↔◌, ℕ, inl, inr, refl, sym, ap, subst, ◌∙◌, arith, Bool, true, false, List, Option, None, Some, IsSomeAnd, slice_get, bit_or, w16}
+use Rattle.std.proofs.Common.{◌≡◌, ◌*◌, ◌^◌, ◌%◌, ◌<◌, ◌↔◌, ℕ, inl, inr, refl, sym, ap, subst, ◌∙◌, arith, Bool, true, false, List, Option}
+use Rattle.std.proofs.Common.{None, Some, IsSomeAnd, slice_get, bit_or, w16}
 use Rattle.std.specs.Int.{bit_at}
 use Rattle.std.proofs.lemmas.Nat.Bits.{bit_at_set_same, bit_at_set_other, bit_at-zero}
 use Rattle.std.specs.Prelude.{if◌then◌else◌}
@@ -47,7 +48,8 @@ no_device w call reply none device low = (
 
 -- ---- at a detach
 
-pub told_detach : (w : World) (v bits : ℕ) → ((other : ℕ) → other < 16 → (bit_at bits other ≡ 1) ↔ (other ≡ v)) → TellCleared w (calls.Detach v) Done bits
+pub told_detach : (w : World) (v bits : ℕ) → ((other : ℕ) → other < 16 → (bit_at bits other ≡ 1) ↔ (other ≡ v))
+    → TellCleared w (calls.Detach v) Done bits
 unfolding IsCleared
 told_detach w v bits is = is
 
@@ -96,7 +98,8 @@ changed_mode : (range : Range) (o : Option world.Domain) → world_mode (change_
 changed_mode range None = refl
 changed_mode range (Some v) = ap Some (unmapped_mode v.mode range v)
 
-takes_by_mode : (o : Option world.Domain) (n : ℕ) → IsSomeAnd (world_mode o) (λ mode. TakesAway mode n) ↔ IsSomeAnd o (λ v. TakesAway v.mode n)
+takes_by_mode : (o : Option world.Domain) (n : ℕ) → IsSomeAnd (world_mode o) (λ mode. TakesAway mode n)
+    ↔ IsSomeAnd o (λ v. TakesAway v.mode n)
 takes_by_mode None n = (λ is. is, λ is. is)
 takes_by_mode (Some v) n = (λ is. is, λ is. is)
 
@@ -113,7 +116,7 @@ takes_at : (m : State) (w : World) (domain address pages n : ℕ) → Quarantine
     → IsSomeAnd (mode_of (domain_at m.domains domain)) (λ mode. TakesAway mode n) ↔ IsSomeAnd (w.domains domain) (λ v. TakesAway v.mode n)
 takes_at m w domain address pages n q =
     subst (λ (o : Option Mode). IsSomeAnd o (λ mode. TakesAway mode n) ↔ IsSomeAnd (w.domains domain) (λ v. TakesAway v.mode n))
-      (sym (mode_at m w domain address pages n q)) (takes_by_mode (w.domains domain) n)
+    (sym (mode_at m w domain address pages n q)) (takes_by_mode (w.domains domain) n)
 
 pub told_unmap : (m : State) (w : World) (domain address pages n bits : ℕ)
     → Quarantine m (next w (calls.Unmap domain address pages) (Unmapped n))

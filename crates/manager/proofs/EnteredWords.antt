@@ -39,11 +39,13 @@ emptied_cleared w call reply bits last last' tells emptied device slot low small
 
 -- ---- the step of an event
 
-step_from : (w : World) (history : List Event) (e : Event) → IsLegalFrom w (history ++ e ∷ []) → IsStep (after_from w history) e.call e.reply
+step_from : (w : World) (history : List Event) (e : Event) → IsLegalFrom w (history ++ e ∷ [])
+    → IsStep (after_from w history) e.call e.reply
 step_from w [] e legal = legal.0
 step_from w (x ∷ xs) e legal = step_from (next w x.call x.reply) xs e legal.1
 
-pub step_at : (frames : ℕ) (history : List Event) (e : Event) → IsLegal frames (history ++ e ∷ []) → IsStep (after frames history) e.call e.reply
+pub step_at : (frames : ℕ) (history : List Event) (e : Event) → IsLegal frames (history ++ e ∷ [])
+    → IsStep (after frames history) e.call e.reply
 step_at frames history e legal = step_from (empty frames) history e legal
 
 -- the words stay lawful where the rows that are to be are cleared
@@ -55,18 +57,20 @@ lawful_cleared frames history e bits last last' legal lawful tells emptied devic
     elim (same_or_not (bit_at bits device) 1) [
       | inl one ↦
           subst (IsLawfulAfter frames (history ++ e ∷ []) device) (sym ((emptied device slot low small).0 one))
-            (lawful_zero frames (history ++ e ∷ []) device)
+          (lawful_zero frames (history ++ e ∷ []) device)
       | inr not ↦
           subst (IsLawfulAfter frames (history ++ e ∷ []) device) (sym ((emptied device slot low small).1 not))
-            (subst (λ (w : World). IsLawful w device (slice_index last (place_of device slot))) (sym (after_from-push (empty frames) history e))
-            (keeps (after frames history) e.call e.reply device (slice_index last (place_of device slot))
-            (step_at frames history e legal) (lawful device slot low small) (λ is. not ((tells device low).1 is))))
+          (subst (λ (w : World). IsLawful w device (slice_index last (place_of device slot)))
+          (sym (after_from-push (empty frames) history e)) (keeps (after frames history) e.call e.reply device
+          (slice_index last (place_of device slot)) (step_at frames history e legal) (lawful device slot low small)
+          (λ is. not ((tells device low).1 is))))
     ]
 
 -- ---- the hit
 
 -- what a request hit is there after it too
-hit_next : (w : World) (call : Call) (reply : Reply) (hit : Option Hit) → IsHitIn w call reply hit → IsHitIn (next w call reply) call reply hit
+hit_next : (w : World) (call : Call) (reply : Reply) (hit : Option Hit) → IsHitIn w call reply hit
+    → IsHitIn (next w call reply) call reply hit
 unfolding IsHitIn next
 hit_next w (calls.Domain mode) reply hit is = is
 hit_next w (calls.Drop domain) reply hit is = is
@@ -85,13 +89,15 @@ pub hit_after : (frames : ℕ) (history : List Event) (e : Event) (hit : Option 
     → IsHitIn (after frames (history ++ e ∷ [])) e.call e.reply hit
 hit_after frames history e hit is =
     subst (λ (w : World). IsHitIn w e.call e.reply hit) (sym (after_from-push (empty frames) history e))
-      (hit_next (after frames history) e.call e.reply hit is)
+    (hit_next (after frames history) e.call e.reply hit is)
 
 -- ---- the rows cleared, and the event entered
 
-module _ (s : State) (frames : ℕ) (history : List Event) (e : Event) (bits : ℕ) (last last' : List ℕ) (legal : IsLegal frames (history ++ e ∷ []))
+module _ (s : State) (frames : ℕ) (history : List Event) (e : Event) (bits : ℕ) (last last' : List ℕ)
+    (legal : IsLegal frames (history ++ e ∷ []))
     (lawful : AreLawful (IsLawfulAfter frames) history last) (state : Quarantine s (after frames (history ++ e ∷ [])))
-    (tells : (w : World) → Quarantine s (next w e.call e.reply) → TellCleared w e.call e.reply bits) (emptied : AreEmptied bits last last') where
+    (tells : (w : World) → Quarantine s (next w e.call e.reply) → TellCleared w e.call e.reply bits)
+    (emptied : AreEmptied bits last last') where
   tells_here : TellCleared (after frames history) e.call e.reply bits
   tells_here = tells (after frames history) (subst (Quarantine s) (after_from-push (empty frames) history e) state)
 

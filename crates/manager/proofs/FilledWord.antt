@@ -40,8 +40,8 @@ unfolding IsHitIn
 reached_by w device address access whim (Host host) hit is = record { host = host; answer = refl; low = is.1; had = is.2 }
 reached_by w device address access whim _ hit is = absurd (none_is_no (Some hit) hit is refl)
 
-pub reached : (w : World) (call : Call) (reply : Reply) (found : Option Hit) (device address : ℕ) (access : Access) (whim : Whim) (hit : Hit)
-    → call ≡ calls.Dma device address access whim → found ≡ Some hit → IsHitIn w call reply found
+pub reached : (w : World) (call : Call) (reply : Reply) (found : Option Hit) (device address : ℕ) (access : Access) (whim : Whim)
+    (hit : Hit) → call ≡ calls.Dma device address access whim → found ≡ Some hit → IsHitIn w call reply found
     → Reached w device address access reply hit
 reached w call reply found device address access whim hit same is there =
     reached_by w device address access whim reply hit (rw (same, is) at there)
@@ -55,8 +55,8 @@ page_had v address access hit sound has = elim has.page [
 ]
 
 -- it is a page
-pub hit_page : (frames : ℕ) (history : List Event) (device address : ℕ) (access : Access) (reply : Reply) (hit : Hit) → IsLegal frames history
-    → Reached (after frames history) device address access reply hit → IsPage (page_of address)
+pub hit_page : (frames : ℕ) (history : List Event) (device address : ℕ) (access : Access) (reply : Reply) (hit : Hit)
+    → IsLegal frames history → Reached (after frames history) device address access reply hit → IsPage (page_of address)
 hit_page frames history device address access reply hit legal r =
     let w = after frames history in
     let v = is_of (domain_of_device w device) (λ v. Has v address access hit) r.had in
@@ -94,7 +94,7 @@ hit_had : (w : World) (p : PortWord) (device address : ℕ) (access : Access) (r
 hit_had w p device address access reply hit page to r =
     let v = is_of (domain_of_device w device) (λ v. Has v address access hit) r.had in
     of_is (domain_of_device w device) v.0 (λ v. IsLive v p.page p.translation ⊎ IsRetired v p.page p.translation) v.1
-      (has_hit v.0 p address access hit page to v.2)
+    (has_hit v.0 p address access hit page to v.2)
 
 -- ---- filled
 
@@ -103,8 +103,8 @@ filled_with : (w : World) (device address : ℕ) (access : Access) (whim : Whim)
 unfolding AreFilled
 filled_with w device address access whim host last last' fill is = subst (λ b. IsFilledIf b w device address last last') (sym fill) is
 
-pub filled : (w : World) (call : Call) (reply : Reply) (device address : ℕ) (access : Access) (whim : Whim) (hit : Hit) (p : PortWord) (last last' : List ℕ)
-    → call ≡ calls.Dma device address access whim → whim.fill ≡ true → p.page ≡ page_of address
+pub filled : (w : World) (call : Call) (reply : Reply) (device address : ℕ) (access : Access) (whim : Whim) (hit : Hit) (p : PortWord)
+    (last last' : List ℕ) → call ≡ calls.Dma device address access whim → whim.fill ≡ true → p.page ≡ page_of address
     → p.translation ≡ target hit.frame (bits_of hit.rights) → Reached w device address access reply hit
     → Spells (slice_index last' (place_of device (slot_of p.page))) p
     → last' ≡ slice_set last (place_of device (slot_of p.page)) (slice_index last' (place_of device (slot_of p.page)))
@@ -115,7 +115,8 @@ filled w call reply device address access whim hit p last last' same fill page t
       page = page;
       had = hit_had w p device address access reply hit page to r;
       spelled = subst (λ q. Spells (slice_index last' (place_of device (slot_of q))) p) page spelled;
-      others = subst (λ q. last' ≡ slice_set last (place_of device (slot_of q)) (slice_index last' (place_of device (slot_of q)))) page others;
+      others =
+          subst (λ q. last' ≡ slice_set last (place_of device (slot_of q)) (slice_index last' (place_of device (slot_of q)))) page others;
     }))
 
 -- ---- not filled
@@ -138,8 +139,8 @@ missed w device address access whim (Host host) last is = absurd is
 missed w device address access whim _ last is = refl
 
 -- without a hit
-pub missed_is : (w : World) (call : Call) (reply : Reply) (found : Option Hit) (device address : ℕ) (access : Access) (whim : Whim) (last : List ℕ)
-    → call ≡ calls.Dma device address access whim → ((hit : Hit) → found ≡ Some hit → ⊥) → IsHitIn w call reply found
+pub missed_is : (w : World) (call : Call) (reply : Reply) (found : Option Hit) (device address : ℕ) (access : Access) (whim : Whim)
+    (last : List ℕ) → call ≡ calls.Dma device address access whim → ((hit : Hit) → found ≡ Some hit → ⊥) → IsHitIn w call reply found
     → AreFilled w call reply last last
 missed_is w call reply None device address access whim last same none is =
     rw same (missed w device address access whim reply last (rw same at is))
@@ -161,11 +162,12 @@ pub lawful_filled : (frames : ℕ) (history : List Event) (device n : ℕ) (p : 
 lawful_filled frames history device n p last last' low lawful spelled backed is d slot hd hs =
     dite (ℕ_discrete (place_of d slot) (place_of device (slot_of p.page)))
     (λ e.
-      let same : device ≡ d = omega (arith, e, low, hd, hs) in
-      subst (λ (x : ℕ). IsLawfulAfter frames history x (slice_index last' (place_of d slot))) same
-        (subst (λ (k : ℕ). IsLawfulAfter frames history device (slice_index last' k)) (sym e)
-        (backed_word frames history device (slice_index last' (place_of device (slot_of p.page))) p spelled backed)))
+    let same : device ≡ d = omega (arith, e, low, hd, hs) in
+    subst (λ (x : ℕ). IsLawfulAfter frames history x (slice_index last' (place_of d slot))) same
+    (subst (λ (k : ℕ). IsLawfulAfter frames history device (slice_index last' k)) (sym e)
+    (backed_word frames history device (slice_index last' (place_of device (slot_of p.page))) p spelled backed)))
     (λ ne.
-      subst (IsLawfulAfter frames history d)
-        (sym (ap (λ (l : List ℕ). slice_index l (place_of d slot)) is ∙ get_or-set_other last (place_of device (slot_of p.page)) (place_of d slot) n 0 ne))
-        (lawful d slot hd hs))
+    subst (IsLawfulAfter frames history d)
+    (sym (ap (λ (l : List ℕ). slice_index l (place_of d slot)) is
+    ∙ get_or-set_other last (place_of device (slot_of p.page)) (place_of d slot) n 0 ne))
+    (lawful d slot hd hs))

@@ -6,7 +6,8 @@ use Rattle.engine.proofs.Beginning.{of_empty_world, whole_new}
 use Rattle.manager.specs.Kept.{IsKept}
 
 -- a book of a new state keeps what books keep
-pub kept_new : (frames room : ℕ) (m : State) → IsNew frames m → IsKept frames room (record { history = []; state = m; last = replicate 256 0 })
+pub kept_new : (frames room : ℕ) (m : State) → IsNew frames m
+    → IsKept frames room (record { history = []; state = m; last = replicate 256 0 })
 kept_new frames room m new = record {
   legal = tt;
   quarantine = of_empty_world m frames new;

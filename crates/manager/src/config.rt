@@ -92,7 +92,8 @@ impl Model for Seed {
 
     ghost Value = { Seed };
 
-    ghost view = { λ s. record { name = s.blank.name; shares = s.config.shares; room = s.config.calls; frames = s.config.frames; rows = s.rows } };
+    ghost view = { λ s.
+        record { name = s.blank.name; shares = s.config.shares; room = s.config.calls; frames = s.config.frames; rows = s.rows } };
 
     ghost invariant = { λ s. (s.blank.parts ≡ s.config.shares) × IsWithinLimits s.config × (s.rows.frames ≡ s.config.frames)
         × (s.desk ≡ new_desk s.rows) × (vec_len s.ports ≡ 16) × ArePorts s.rows s.ports.items 16

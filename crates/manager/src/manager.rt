@@ -1,6 +1,7 @@
 //! A book under its lock.
 
-ghost use Rattle.std.specs.Prelude.{◌≡◌, ◌+◌, ◌<◌, ◌≤◌, ◌↔◌, ◌++◌, ◌∷◌, [], ℕ, Some, slice_get, length, IsErr, IfOk, IfErr, MatchResult, OnOk, OnErr, All, sum_by, vec_len};
+ghost use Rattle.std.specs.Prelude.{◌≡◌, ◌+◌, ◌<◌, ◌≤◌, ◌↔◌, ◌++◌, ◌∷◌, [], ℕ, Some, slice_get, length, IsErr, IfOk, IfErr, MatchResult};
+ghost use Rattle.std.specs.Prelude.{OnOk, OnErr, All, sum_by, vec_len};
 ghost use Rattle.std.specs.Sync.Mutex.{mutex_guard_value};
 ghost use mathlib.Core.List.{IsPrefix};
 ghost use Rattle.dmatypes.specs.History.{IsLegal};
@@ -143,13 +144,7 @@ impl<B: Owner> Manager<B> {
     }
 
     /// Tells a port and a share one and the same history, under the lock.
-    pub fn check_in<R: Wait>(
-        &self,
-        rt: &R,
-        rows: &Rows<B>,
-        mine: &mut Share<B>,
-        port: &mut Port<B>,
-    )
+    pub fn check_in<R: Wait>(&self, rt: &R, rows: &Rows<B>, mine: &mut Share<B>, port: &mut Port<B>)
         ensures share { IsPrefix mine.old.seen mine.new.seen × (mine.new.calls ≡ mine.old.calls) }
         ensures port { IsPrefix port.old.seen port.new.seen × (port.new.device ≡ port.old.device) }
         ensures did { port.new.did ≡ port.old.did ++ Loaded counter (length port.new.seen) ∷ [] }

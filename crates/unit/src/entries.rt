@@ -30,7 +30,8 @@ impl Model for CachedLeaf {
 
     ghost invariant = { λ l. IsLeaf (leaf l.domain l.first l.pages l.frame (bits_of l.rights)) };
 
-    ghost inverse = { λ v. record { domain = v.domain; first = v.first; pages = v.pages; frame = v.frame; rights = record { 0 = v.rights } } };
+    ghost inverse = { λ v.
+        record { domain = v.domain; first = v.first; pages = v.pages; frame = v.frame; rights = record { 0 = v.rights } } };
 }
 
 impl CachedLeaf {

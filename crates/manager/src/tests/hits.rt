@@ -86,13 +86,19 @@ fn hit_by_words<B: Owner, R: Wait + Abort>(rt: &R, alloc: Global, seed: Seed) ->
     let mut mine = shares.pop().ok_or("a share")?;
     let mut port = ports.remove(3);
     request_pages(rt, &manager, &rows, &mut mine, 17, &[0x1000, 0x11000]);
-    assert_eq!(rt; port.hit(&rows, 0x11234, Access::Read), (Some(0x11_0234), 5));
+    assert_eq!(rt;
+        port.hit(&rows, 0x11234, Access::Read),
+        (Some(0x11_0234), 5)
+    );
     assert_eq!(rt; port.hit(&rows, 0x11234, Access::Write), (None, 5));
     assert_eq!(rt; port.hit(&rows, 0x1234, Access::Read), (None, 5));
     port.evict(&rows, 1);
     assert_eq!(rt; port.hit(&rows, 0x11234, Access::Read), (None, 5));
     let _ = manager.call(rt, &rows, &mut mine, read_at(0x11000));
-    assert_eq!(rt; port.hit(&rows, 0x11234, Access::Read), (Some(0x11_0234), 6));
+    assert_eq!(rt;
+        port.hit(&rows, 0x11234, Access::Read),
+        (Some(0x11_0234), 6)
+    );
     let _ = manager.call(rt, &rows, &mut mine, unmap_at(0x11000));
     assert_eq!(rt; port.hit(&rows, 0x11234, Access::Read), (None, 7));
     assert_eq!(rt; port.count(&rows), 7);
@@ -147,7 +153,12 @@ fn hit_beside_the_holder<B: Owner + Send + Sync, R: Threads + Wait + Abort + Syn
 }
 
 // Holds the lock until the port was answered; whether it was, in time.
-fn hold<B: Owner>(rt: &impl Wait, manager: &Manager<B>, held: &AtomicU64, answered: &AtomicU64) -> bool {
+fn hold<B: Owner>(
+    rt: &impl Wait,
+    manager: &Manager<B>,
+    held: &AtomicU64,
+    answered: &AtomicU64,
+) -> bool {
     let _guard = manager.lock(rt);
     held.store(1, Ordering::SeqCst);
     is_raised(answered)

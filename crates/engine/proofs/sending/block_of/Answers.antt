@@ -5,4 +5,6 @@ use Rattle.engine.proofs.sending.block_of.Goals as goal
 pub returns-then-order-lt-LARGE-clause-block : goal.returns-then-order-lt-LARGE-clause-block
 returns-then-order-lt-LARGE-clause-block c =
     let near : c.aligned_block-first.result.0 < 18446744073709551616 = search rules in
-    rw c.if-split.true (widened c.args.range c.aligned_block-first.result.0 c.aligned_block-first.result.1 (c.aligned_block-first.result.0 / 512 * 512 % 18446744073709551616) c.aligned_block-first.ensures c.if-order-lt-LARGE.true (omega (arith, near)))
+    rw c.if-split.true (widened c.args.range c.aligned_block-first.result.0 c.aligned_block-first.result.1
+    (c.aligned_block-first.result.0 / 512 * 512 % 18446744073709551616) c.aligned_block-first.ensures c.if-order-lt-LARGE.true
+    (omega (arith, near)))

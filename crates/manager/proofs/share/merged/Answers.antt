@@ -22,5 +22,5 @@ loop-share-preserved g c =
       grind (arith, common_steps),
       c.told.ensures.same ∙ i.3,
       λ before. i.4 (All-last (λ s. IsPrefix s.seen c.args.desk.now.history) c.loop-share.shares.items c.pop-in-loop-share.new.self.items
-        c.in-Some-pop.share c.in-Some-pop.ensures.items (rw (← i.3) c.told.ensures.saw) before),
+          c.in-Some-pop.share c.in-Some-pop.ensures.items (rw (← i.3) c.told.ensures.saw) before),
     )

@@ -9,7 +9,10 @@ returns-in-Err-TooManyPieces-clause-refused c =
 pub returns-in-Some-clause-refused : goal.returns-in-Some-clause-refused
 returns-in-Some-clause-refused c =
     let taken : IsTaken c.self.inside.space.pieces c.args.wanted.pages c.args.wanted.order c.in-Ok.start =
-    record { lowest = c.in-Ok.ensures.lowest; room = λ many. let no = c.in-Ok.ensures.too_many.1 (c.in-Ok.start, c.in-Ok.ensures.lowest, many) in cc } in
+    record {
+      lowest = c.in-Ok.ensures.lowest;
+      room = λ many. let no = c.in-Ok.ensures.too_many.1 (c.in-Ok.start, c.in-Ok.ensures.lowest, many) in cc;
+    } in
     let short : length c.args.pool.now.free < frames_taken c.args.pool.now c.self.inside.tree.root c.args.segments.now c.in-Ok.start =
     c.in-Err.ensures.refused.0 refl in
     rw (← c.self.view_is)

@@ -19,11 +19,13 @@ returns-then-device-gt15 c = rw (← c.self.view_is) (attach_no_device _ _ c.arg
 pub returns-in_default : goal.returns-in_default
 returns-in_default c =
     rw (← c.self.view_is) (attach_no_domain _ _ c.args.device c.args.domain refl c.if-device-gt15.false
-    (no_id_no_domain c.self.inside.domains.items c.args.domain c.self.invariant.0.places (λ id. let some = c.in_default.ensures.some.1 id in absurd cc)))
+    (no_id_no_domain c.self.inside.domains.items c.args.domain c.self.invariant.0.places
+    (λ id. let some = c.in_default.ensures.some.1 id in absurd cc)))
 
 pub returns-in_default-index : goal.returns-in_default-index
 returns-in_default-index c =
-    let m : State = record { pool = c.self.inside.pool; domains = c.self.inside.domains.items; iommu = c.self.inside.iommu; calls = c.self.inside.calls } in
+    let m : State =
+    record { pool = c.self.inside.pool; domains = c.self.inside.domains.items; iommu = c.self.inside.iommu; calls = c.self.inside.calls } in
     let read = stands m.domains c.place_of.result c.index.result.now c.self.invariant.0.places c.place_of.ensures.low c.index.ensures in
     let id : c.args.domain ≡ c.place_of.result + 1 = sym c.in-Some.ensures.value ∙ c.place_of.ensures.place in
     let at : slice_get m.domains c.place_of.result ≡ Some None = read ∙ ap Some c.in_default-index.is in
@@ -32,28 +34,44 @@ returns-in_default-index c =
 
 pub returns-in_default-get : goal.returns-in_default-get
 returns-in_default-get c =
-    let m : State = record { pool = c.self.inside.pool; domains = c.self.inside.domains.items; iommu = c.self.inside.iommu; calls = c.self.inside.calls } in
+    let m : State =
+    record { pool = c.self.inside.pool; domains = c.self.inside.domains.items; iommu = c.self.inside.iommu; calls = c.self.inside.calls } in
     let read = stands m.domains c.place_of.result c.index.result.now c.self.invariant.0.places c.place_of.ensures.low c.index.ensures in
     let id : c.args.domain ≡ c.place_of.result + 1 = sym c.in-Some.ensures.value ∙ c.place_of.ensures.place in
     let at : slice_get m.domains c.place_of.result ≡ Some (Some c.in-Some-index.domain) = read ∙ ap Some c.in-Some-index.is in
-    let there : domain_at m.domains c.args.domain ≡ Some c.in-Some-index.domain = at_place m.domains c.args.domain c.place_of.result (Some c.in-Some-index.domain) id at in
+    let there : domain_at m.domains c.args.domain ≡ Some c.in-Some-index.domain =
+    at_place m.domains c.args.domain c.place_of.result (Some c.in-Some-index.domain) id at in
     rw (← c.self.view_is)
-    (attach_busy m _ c.args.device c.args.domain c.in-Some-index.domain c.get.result refl c.if-device-gt15.false there c.get.ensures c.in_default-get.not-Absent)
+    (attach_busy m _ c.args.device c.args.domain c.in-Some-index.domain c.get.result refl c.if-device-gt15.false there c.get.ensures
+    c.in_default-get.not-Absent)
 
 abbrev before : goal.After-set → State
-before c = record { pool = c.self.inside.pool; domains = c.self.inside.domains.items; iommu = c.self.inside.iommu; calls = c.self.inside.calls }
+before c = record {
+  pool = c.self.inside.pool;
+  domains = c.self.inside.domains.items;
+  iommu = c.self.inside.iommu;
+  calls = c.self.inside.calls;
+}
 
 abbrev after : goal.After-set → State
-after c = record { pool = c.self.inside.pool; domains = c.self.inside.domains.items; iommu = record c.self.inside.iommu { contexts = c.set.new.self }; calls = c.self.inside.calls + 1 }
+after c = record {
+  pool = c.self.inside.pool;
+  domains = c.self.inside.domains.items;
+  iommu = record c.self.inside.iommu { contexts = c.set.new.self };
+  calls = c.self.inside.calls + 1;
+}
 
 does : (c : goal.After-set) → Does (before c) (calls.Attach c.args.device c.args.domain) Done (after c)
 does c =
-    let m : State = record { pool = c.self.inside.pool; domains = c.self.inside.domains.items; iommu = c.self.inside.iommu; calls = c.self.inside.calls } in
+    let m : State =
+    record { pool = c.self.inside.pool; domains = c.self.inside.domains.items; iommu = c.self.inside.iommu; calls = c.self.inside.calls } in
     let read = stands m.domains c.place_of.result c.index.result.now c.self.invariant.0.places c.place_of.ensures.low c.index.ensures in
     let id : c.args.domain ≡ c.place_of.result + 1 = sym c.in-Some.ensures.value ∙ c.place_of.ensures.place in
     let at : slice_get m.domains c.place_of.result ≡ Some (Some c.in-Some-index.domain) = read ∙ ap Some c.in-Some-index.is in
-    let there : domain_at m.domains c.args.domain ≡ Some c.in-Some-index.domain = at_place m.domains c.args.domain c.place_of.result (Some c.in-Some-index.domain) id at in
-    let row : c.set.new.self ≡ slice_set c.self.inside.iommu.contexts c.args.device (Present c.in-Some-index.domain.root W39 c.args.domain) =
+    let there : domain_at m.domains c.args.domain ≡ Some c.in-Some-index.domain =
+    at_place m.domains c.args.domain c.place_of.result (Some c.in-Some-index.domain) id at in
+    let row : c.set.new.self
+    ≡ slice_set c.self.inside.iommu.contexts c.args.device (Present c.in-Some-index.domain.root W39 c.args.domain) =
     rw (← c.root.ensures, ← c.in-Some.ensures.value) c.set.ensures in
     attaches (before c) (after c) c.args.device c.args.domain c.in-Some-index.domain c.if-device-gt15.false c.self.invariant.0.devices there
     (c.get.ensures ∙ ap Some c.in-Absent.is)
@@ -65,6 +83,7 @@ returns c = rw (← c.self.view_is) (does c)
 pub invariant_of-self-2 : goal.invariant_of-self-2
 invariant_of-self-2 c = (
   whole_quiet c.self.inside.frames (before c) (after c) (calls.Attach c.args.device c.args.domain) Done c.self.invariant.0 (does c) refl
-      (ap length c.set.ensures ∙ length-set c.self.inside.iommu.contexts c.args.device (Present c.root.result W39 c.in-Some.id)) refl refl refl,
+      (ap length c.set.ensures ∙ length-set c.self.inside.iommu.contexts c.args.device (Present c.root.result W39 c.in-Some.id)) refl refl
+      refl,
   c.self.invariant.1,
 )

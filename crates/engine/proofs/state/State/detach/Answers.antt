@@ -17,14 +17,22 @@ use Rattle.engine.proofs.state.State.detach.Goals as goal
 
 pub returns-in_default : goal.returns-in_default
 returns-in_default c =
-    let big : 15 < c.args.device = ⊎_elim (λ (big : 15 < c.args.device). big) (λ (small : c.args.device ≤ 15). let some = c.in_default.ensures.some.1 small in absurd cc) (cases_lt 15 c.args.device) in
+    let big : 15 < c.args.device =
+    ⊎_elim (λ (big : 15 < c.args.device). big)
+    (λ (small : c.args.device ≤ 15). let some = c.in_default.ensures.some.1 small in absurd cc) (cases_lt 15 c.args.device) in
     rw (← c.self.view_is) (detach_no_device _ _ c.args.device refl big)
 
 pub returns-in_default-get : goal.returns-in_default-get
-returns-in_default-get c = rw (← c.self.view_is) (detach_not_attached _ _ c.args.device Absent refl (c.in-Some.ensures.some.0 refl) c.in_default-get.ensures refl)
+returns-in_default-get c =
+    rw (← c.self.view_is) (detach_not_attached _ _ c.args.device Absent refl (c.in-Some.ensures.some.0 refl) c.in_default-get.ensures refl)
 
 abbrev before : goal.After-forget_context → State
-before c = record { pool = c.self.inside.pool; domains = c.self.inside.domains.items; iommu = c.self.inside.iommu; calls = c.self.inside.calls }
+before c = record {
+  pool = c.self.inside.pool;
+  domains = c.self.inside.domains.items;
+  iommu = c.self.inside.iommu;
+  calls = c.self.inside.calls;
+}
 
 -- the row with no entry of the device
 abbrev cleared : goal.After-forget_context → Iommu
@@ -32,7 +40,9 @@ cleared c = record c.self.inside.iommu { contexts = slice_set c.self.inside.iomm
 
 sent : (c : goal.After-forget_context) → Invalidates (cleared c) (ContextDevice c.in-Present.domain c.args.device) c.forget_context.new.self
 sent c =
-    subst (λ (row : List ContextEntry). Invalidates (record c.self.inside.iommu { contexts = row }) (ContextDevice c.in-Present.domain c.args.device) c.forget_context.new.self)
+    subst (λ (row : List ContextEntry).
+    Invalidates (record c.self.inside.iommu { contexts = row }) (ContextDevice c.in-Present.domain c.args.device)
+    c.forget_context.new.self)
     c.clear.ensures (rw (← c.in-Some.ensures.value) c.forget_context.ensures)
 
 does : (c : goal.After-forget_context) → Does (before c) (calls.Detach c.args.device) Done (detached (before c) c.forget_context.new.self)
@@ -45,8 +55,8 @@ does c =
 pub invariant_of-self-2 : goal.invariant_of-self-2
 invariant_of-self-2 c = (
   whole_sends c.self.inside.frames (before c) (detached (before c) c.forget_context.new.self) (calls.Detach c.args.device) Done
-      (ContextDevice c.in-Present.domain c.args.device) (slice_set c.self.inside.iommu.contexts c.args.device Absent) c.self.invariant.0 (does c) refl
-      (length-set c.self.inside.iommu.contexts c.args.device Absent) (sent c),
+      (ContextDevice c.in-Present.domain c.args.device) (slice_set c.self.inside.iommu.contexts c.args.device Absent) c.self.invariant.0
+      (does c) refl (length-set c.self.inside.iommu.contexts c.args.device Absent) (sent c),
   c.self.invariant.1,
 )
 

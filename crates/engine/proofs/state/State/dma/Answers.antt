@@ -24,23 +24,46 @@ returns-then-is_in_window c =
     })
 
 abbrev before : goal.After-dma-answer → State
-before c = record { pool = c.self.inside.pool; domains = c.self.inside.domains.items; iommu = c.self.inside.iommu; calls = c.self.inside.calls }
+before c = record {
+  pool = c.self.inside.pool;
+  domains = c.self.inside.domains.items;
+  iommu = c.self.inside.iommu;
+  calls = c.self.inside.calls;
+}
 
 abbrev after : goal.After-dma-answer → State
-after c = record { pool = c.self.inside.pool; domains = c.self.inside.domains.items; iommu = record c.self.inside.iommu { unit = c.dma-answer.new.self }; calls = c.self.inside.calls + 1 }
+after c = record {
+  pool = c.self.inside.pool;
+  domains = c.self.inside.domains.items;
+  iommu = record c.self.inside.iommu { unit = c.dma-answer.new.self };
+  calls = c.self.inside.calls + 1;
+}
 
-does : (c : goal.After-dma-answer) → Does (before c) (calls.Dma c.args.device c.args.address c.args.access c.args.whim) (reached_reply (host_in c.dma-answer.result)) (after c)
+does : (c : goal.After-dma-answer)
+    → Does (before c) (calls.Dma c.args.device c.args.address c.args.access c.args.whim) (reached_reply (host_in c.dma-answer.result))
+    (after c)
 does c =
-    let outside : IsInWindow c.args.address → ⊥ = λ inside. let both : true ≡ false = sym (c.is_in_window.ensures.1 inside) ∙ c.if-is_in_window.false in cc in
-    request_does (before c) (after c) c.args.device c.args.address c.args.access c.args.whim c.dma-answer.result c.if-device-gt15.false outside c.dma-answer.ensures.answers
-    (ap₂ (λ steps done. record (before c) { iommu = record c.self.inside.iommu { unit = unit_state c.dma-answer.new.self.caches steps done }; calls = c.self.inside.calls + 1 }) c.dma-answer.ensures.steps c.dma-answer.ensures.done)
+    let outside : IsInWindow c.args.address → ⊥ =
+    λ inside. let both : true ≡ false = sym (c.is_in_window.ensures.1 inside) ∙ c.if-is_in_window.false in cc in
+    request_does (before c) (after c) c.args.device c.args.address c.args.access c.args.whim c.dma-answer.result c.if-device-gt15.false
+    outside c.dma-answer.ensures.answers (ap₂ (λ steps done.
+    record (before c) {
+      iommu = record c.self.inside.iommu { unit = unit_state c.dma-answer.new.self.caches steps done };
+      calls = c.self.inside.calls + 1;
+    })
+    c.dma-answer.ensures.steps c.dma-answer.ensures.done)
 
 pub returns : goal.returns
 returns c = rw (← c.self.view_is) (record {
   does = does c;
-  hit = request_hits (before c) c.args.device c.args.address c.args.access c.args.whim c.dma-answer.new.self.caches c.dma-answer.result c.if-device-gt15.false c.dma-answer.ensures.answers;
+  hit =
+      request_hits (before c) c.args.device c.args.address c.args.access c.args.whim c.dma-answer.new.self.caches c.dma-answer.result
+      c.if-device-gt15.false c.dma-answer.ensures.answers;
 })
 
 pub invariant_of-self-2 : goal.invariant_of-self-2
-invariant_of-self-2 c =
-    (whole_quiet c.self.inside.frames (before c) (after c) (calls.Dma c.args.device c.args.address c.args.access c.args.whim) (reached_reply (host_in c.dma-answer.result)) c.self.invariant.0 (does c) refl refl refl refl c.dma-answer.ensures.steps, c.self.invariant.1)
+invariant_of-self-2 c = (
+  whole_quiet c.self.inside.frames (before c) (after c) (calls.Dma c.args.device c.args.address c.args.access c.args.whim)
+      (reached_reply (host_in c.dma-answer.result)) c.self.invariant.0 (does c) refl refl refl refl c.dma-answer.ensures.steps,
+  c.self.invariant.1,
+)

@@ -18,25 +18,36 @@ returns-in_default c =
 -- ---- no frame is free
 
 abbrev before_refused : goal.In-Err → State
-before_refused c = record { pool = c.self.inside.pool; domains = c.self.inside.domains.items; iommu = c.self.inside.iommu; calls = c.self.inside.calls }
+before_refused c = record {
+  pool = c.self.inside.pool;
+  domains = c.self.inside.domains.items;
+  iommu = c.self.inside.iommu;
+  calls = c.self.inside.calls;
+}
 
 abbrev refused : goal.In-Err → State
-refused c = record { pool = c.new.new.pool; domains = c.self.inside.domains.items; iommu = c.self.inside.iommu; calls = c.self.inside.calls + 1 }
+refused c = record {
+  pool = c.new.new.pool;
+  domains = c.self.inside.domains.items;
+  iommu = c.self.inside.iommu;
+  calls = c.self.inside.calls + 1;
+}
 
 refuses : (c : goal.In-Err) → Does (before_refused c) (calls.Domain c.args.mode) (Refused refusals.NoFrames) (refused c)
 refuses c =
     let vacant = rw c.as_slice.ensures.value at c.in-Some.ensures.vacant in
     no_root (before_refused c) (refused c) c.args.mode c.in-Some.index
     (ap (λ pool. record (before_refused c) { pool = pool; calls = c.self.inside.calls + 1 }) c.in-Err.ensures.unchanged)
-    c.self.invariant.0.places vacant.0 (at_place (before_refused c).domains (c.in-Some.index + 1) c.in-Some.index None refl vacant.1) (c.in-Err.ensures.refused.0 refl)
+    c.self.invariant.0.places vacant.0 (at_place (before_refused c).domains (c.in-Some.index + 1) c.in-Some.index None refl vacant.1)
+    (c.in-Err.ensures.refused.0 refl)
 
 pub returns-in-Err : goal.returns-in-Err
 returns-in-Err c = rw (← c.self.view_is) (refuses c)
 
 pub invariant_of-self-in-Err : goal.invariant_of-self-in-Err
 invariant_of-self-in-Err c = (
-  whole_quiet c.self.inside.frames (before_refused c) (refused c) (calls.Domain c.args.mode) (Refused refusals.NoFrames) c.self.invariant.0 (refuses c)
-      refl refl refl refl refl,
+  whole_quiet c.self.inside.frames (before_refused c) (refused c) (calls.Domain c.args.mode) (Refused refusals.NoFrames) c.self.invariant.0
+      (refuses c) refl refl refl refl refl,
   c.self.invariant.1,
 )
 
@@ -45,20 +56,37 @@ invariant_of-self-in-Err c = (
 pub unwrap-room-requires : goal.unwrap-room-requires
 unwrap-room-requires c =
     let vacant = rw c.as_slice.ensures.value at c.in-Some.ensures.vacant in
-    c.pop.ensures.variant.1 (some_room _ _ c.in-Some.index c.self.inside.domains.items c.self.invariant.0.places vacant.1 c.self.invariant.1)
+    c.pop.ensures.variant.1 (some_room _ _ c.in-Some.index c.self.inside.domains.items c.self.invariant.0.places vacant.1
+    c.self.invariant.1)
 
 abbrev before : goal.Joined-index_mut → State
-before c = record { pool = c.self.inside.pool; domains = c.self.inside.domains.items; iommu = c.self.inside.iommu; calls = c.self.inside.calls }
+before c = record {
+  pool = c.self.inside.pool;
+  domains = c.self.inside.domains.items;
+  iommu = c.self.inside.iommu;
+  calls = c.self.inside.calls;
+}
 
 abbrev after : goal.Joined-index_mut → State
-after c = record { pool = c.new.new.pool; domains = slice_set c.self.inside.domains.items c.in-Some.index (Some c.new-2.result); iommu = c.self.inside.iommu; calls = c.self.inside.calls + 1 }
+after c = record {
+  pool = c.new.new.pool;
+  domains = slice_set c.self.inside.domains.items c.in-Some.index (Some c.new-2.result);
+  iommu = c.self.inside.iommu;
+  calls = c.self.inside.calls + 1;
+}
 
 does : (c : goal.Joined-index_mut) → Does (before c) (calls.Domain c.args.mode) (Made (c.in-Some.index + 1)) (after c)
 does c =
     let vacant = rw c.as_slice.ensures.value at c.in-Some.ensures.vacant in
     let grown : IsEmptyTree c.self.inside.pool c.new.new.pool c.in-Ok.tree.root =
     record {
-      roots = record { free = c.in-Ok.ensures.free; count = c.in-Ok.ensures.count; words = c.in-Ok.ensures.words; frames = c.in-Ok.ensures.size };
+      roots =
+          record {
+            free = c.in-Ok.ensures.free;
+            count = c.in-Ok.ensures.count;
+            words = c.in-Ok.ensures.words;
+            frames = c.in-Ok.ensures.size;
+          };
       empty = c.in-Ok.ensures.empty;
       frames = c.in-Ok.ensures.frames;
       pool = c.in-Ok.ensures.pool;
@@ -66,7 +94,12 @@ does c =
     makes (before c) (after c) c.args.mode c.in-Some.index c.in-Ok.tree.root c.self.invariant.0.places vacant.0
     (at_place (before c).domains (c.in-Some.index + 1) c.in-Some.index None refl vacant.1) grown
     (rw c.new-2.ensures.new at c.new-2.ensures.space) (rw c.new-2.ensures.new at c.new-2.ensures.free)
-    (ap (λ (d : Domain). record (before c) { pool = c.new.new.pool; domains = slice_set c.self.inside.domains.items c.in-Some.index (Some d); calls = c.self.inside.calls + 1 })
+    (ap (λ (d : Domain).
+    record (before c) {
+      pool = c.new.new.pool;
+      domains = slice_set c.self.inside.domains.items c.in-Some.index (Some d);
+      calls = c.self.inside.calls + 1;
+    })
     c.new-2.ensures.new)
 
 pub returns : goal.returns
@@ -77,7 +110,10 @@ invariant_of-self-2 c =
     let vacant = rw c.as_slice.ensures.value at c.in-Some.ensures.vacant in
     let fewer = rw c.unwrap-room.ensures at c.pop.ensures.cases in
     let more = count_set c.self.inside.domains.items c.in-Some.index None (Some c.new-2.result) vacant.1 in (
-      whole_quiet c.self.inside.frames (before c) (after c) (calls.Domain c.args.mode) (Made (c.in-Some.index + 1)) c.self.invariant.0 (does c)
-          (length-set c.self.inside.domains.items c.in-Some.index (Some c.new-2.result)) refl refl refl refl,
-      record { count = omega (arith, more, c.self.invariant.1.count, fewer); roomy = omega (arith, c.self.invariant.1.roomy, c.pop.ensures.capacity) },
+      whole_quiet c.self.inside.frames (before c) (after c) (calls.Domain c.args.mode) (Made (c.in-Some.index + 1)) c.self.invariant.0
+          (does c) (length-set c.self.inside.domains.items c.in-Some.index (Some c.new-2.result)) refl refl refl refl,
+      record {
+        count = omega (arith, more, c.self.invariant.1.count, fewer);
+        roomy = omega (arith, c.self.invariant.1.roomy, c.pop.ensures.capacity);
+      },
     )

@@ -7,5 +7,6 @@ use Rattle.engine.proofs.state.State.domain_totals.Goals as goal
 pub returns-in_err-id : goal.returns-in_err-id
 returns-in_err-id c =
     let none : domain_at c.self.inside.domains.items c.args.id ≡ None =
-    no_id_no_domain c.self.inside.domains.items c.args.id c.self.invariant.0.places (λ id. let some = c.in_err-id.ensures.some.1 id in absurd cc) in
+    no_id_no_domain c.self.inside.domains.items c.args.id c.self.invariant.0.places
+    (λ id. let some = c.in_err-id.ensures.some.1 id in absurd cc) in
     c.from_residual.ensures ∙ rw (← c.self.view_is) (ap domain_totals_of (sym none))

@@ -14,8 +14,8 @@ enter-requires-clause-legal g c =
     let frames : s.desk.rows.frames ≡ g.B.Owner.frames = ap (λ (r : Rows). r.frames) i.7 ∙ i.8 in
     let a : Book = record { history = s.history.items; state = s.state; last = s.desk.last } in
     rw (frames, i.9)
-      (push_legal g.B.Owner.frames g.B.Owner.room a (event c.args.call c.perform-reply.result.reply) c.perform-reply.new.self i.0
-      c.perform-reply.ensures.does).0
+    (push_legal g.B.Owner.frames g.B.Owner.room a (event c.args.call c.perform-reply.result.reply) c.perform-reply.new.self i.0
+    c.perform-reply.ensures.does).0
 
 pub enter-requires-clause-state : goal.enter-requires-clause-state
 enter-requires-clause-state g c =
@@ -24,8 +24,8 @@ enter-requires-clause-state g c =
     let frames : s.desk.rows.frames ≡ g.B.Owner.frames = ap (λ (r : Rows). r.frames) i.7 ∙ i.8 in
     let a : Book = record { history = s.history.items; state = s.state; last = s.desk.last } in
     rw (frames, i.9)
-      (push_legal g.B.Owner.frames g.B.Owner.room a (event c.args.call c.perform-reply.result.reply) c.perform-reply.new.self i.0
-      c.perform-reply.ensures.does).1
+    (push_legal g.B.Owner.frames g.B.Owner.room a (event c.args.call c.perform-reply.result.reply) c.perform-reply.new.self i.0
+    c.perform-reply.ensures.does).1
 
 pub invariant_of-self-2 : goal.invariant_of-self-2
 invariant_of-self-2 g c =
@@ -34,9 +34,10 @@ invariant_of-self-2 g c =
     let less : length s.history.items < g.B.Owner.room = search rules in
     let frames : s.desk.rows.frames ≡ g.B.Owner.frames = ap (λ (r : Rows). r.frames) i.7 ∙ i.8 in
     let same : c.tell-2.new.self ≡ c.enter.new.desk = c.tell-2.ensures.same.0 in
-    let history : c.enter.new.desk.history ≡ c.push_reserved.new.self.items = rw (c.push_reserved.ensures.items, ← i.9) c.enter.ensures.history in
+    let history : c.enter.new.desk.history ≡ c.push_reserved.new.self.items =
+    rw (c.push_reserved.ensures.items, ← i.9) c.enter.ensures.history in
     let lawful : AreLawful (IsLawfulAfter g.B.Owner.frames) c.push_reserved.new.self.items c.tell-2.new.self.last =
-      rw (same, ← history, ← frames) c.enter.ensures.lawful in (
+    rw (same, ← history, ← frames) c.enter.ensures.lawful in (
       IsKept-push g.B.Owner.frames g.B.Owner.room (record { history = s.history.items; state = s.state; last = s.desk.last })
           (event c.args.call c.perform-reply.result.reply) c.perform-reply.new.self c.push_reserved.new.self.items c.tell-2.new.self.last
           c.push_reserved.ensures.items i.0 less c.perform-reply.ensures.does c.keeps.ensures lawful,
@@ -58,9 +59,10 @@ returns-clause-kept g c =
     let less : length s.history.items < g.B.Owner.room = search rules in
     let frames : s.desk.rows.frames ≡ g.B.Owner.frames = ap (λ (r : Rows). r.frames) i.7 ∙ i.8 in
     let same : c.tell-2.new.self ≡ c.enter.new.desk = c.tell-2.ensures.same.0 in
-    let history : c.enter.new.desk.history ≡ c.push_reserved.new.self.items = rw (c.push_reserved.ensures.items, ← i.9) c.enter.ensures.history in
+    let history : c.enter.new.desk.history ≡ c.push_reserved.new.self.items =
+    rw (c.push_reserved.ensures.items, ← i.9) c.enter.ensures.history in
     let lawful : AreLawful (IsLawfulAfter g.B.Owner.frames) c.push_reserved.new.self.items c.tell-2.new.self.last =
-      rw (same, ← history, ← frames) c.enter.ensures.lawful in
+    rw (same, ← history, ← frames) c.enter.ensures.lawful in
     IsKept-push g.B.Owner.frames g.B.Owner.room (record { history = s.history.items; state = s.state; last = s.desk.last })
-      (event c.args.call c.perform-reply.result.reply) c.perform-reply.new.self c.push_reserved.new.self.items c.tell-2.new.self.last
-      c.push_reserved.ensures.items i.0 less c.perform-reply.ensures.does c.keeps.ensures lawful
+    (event c.args.call c.perform-reply.result.reply) c.perform-reply.new.self c.push_reserved.new.self.items c.tell-2.new.self.last
+    c.push_reserved.ensures.items i.0 less c.perform-reply.ensures.does c.keeps.ensures lawful
