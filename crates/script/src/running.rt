@@ -133,7 +133,15 @@ fn work_through<B: Owner, T: Wait, R: Read, W: Write>(
     let mut guard = manager.lock(rt);
     let book = &mut *guard;
     book.audit(&mut mine);
-    let end = answer_lines(rt, book, &rows, &mut mine, reader, writer, replies_for(&output));
+    let end = answer_lines(
+        rt,
+        book,
+        &rows,
+        &mut mine,
+        reader,
+        writer,
+        replies_for(&output),
+    );
     match output {
         Output::Answers => end,
         Output::Report(mut text) => {
