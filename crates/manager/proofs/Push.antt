@@ -8,7 +8,7 @@ use Rattle.engine.specs.Quarantine.{Quarantine}
 use Rattle.engine.specs.State.{State}
 use Rattle.engine.specs.Steps.{Does, Goes}
 use Rattle.engine.specs.Whole.{IsWhole}
-use Rattle.engine.proofs.Refusing.{frames_kept}
+use Rattle.engine.proofs.states.Refused.{frames_kept}
 use Rattle.ports.specs.Lawful.{IsLawfulAfter}
 use Rattle.ports.specs.Steps.{AreLawful}
 use Rattle.manager.specs.Kept.{Book, IsKept}

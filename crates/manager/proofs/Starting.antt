@@ -2,7 +2,7 @@
 use Rattle.std.proofs.Common.{ℕ, [], refl, arith, replicate}
 use Rattle.ports.proofs.Examples.{empty_lawful}
 use Rattle.engine.specs.State.{IsNew, State}
-use Rattle.engine.proofs.Beginning.{of_empty_world, whole_new}
+use Rattle.engine.proofs.states.New.{of_empty_world, whole_new}
 use Rattle.manager.specs.Kept.{IsKept}
 
 -- a book of a new state keeps what books keep

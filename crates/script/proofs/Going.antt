@@ -9,7 +9,7 @@ use Rattle.manager.specs.Kept.{Book, IsKept}
 use Rattle.script.specs.declared.error.RunError.{RunError}
 use Rattle.script.specs.declared.error.RunError.TheVariants as errors
 use Rattle.script.specs.Bytes.{IsAnswered, IsUnbroken, Sent}
-use Rattle.engine.proofs.Beginning.{new_state, new_is_new}
+use Rattle.engine.proofs.states.New.{new_state, new_is_new}
 use Rattle.script.specs.Run.{Answers, IsOfOneLine, Size, LineSays, ScriptSays, BeginsBadly, AnswersOne, Ran, RanKnown, WroteAll}
 use Rattle.script.specs.Reported.{GoneThrough, GoneThroughKnown, shown}
 use Rattle.script.specs.declared.answering.Replies.{Replies}

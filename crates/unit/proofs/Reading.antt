@@ -6,7 +6,7 @@ use Rattle.std.proofs.lemmas.Option.{same_Some}
 use Rattle.dmatypes.specs.World.{IsIn, Target}
 use Rattle.vtdbits.specs.Translation.{target}
 use Rattle.std.proofs.lemmas.Bool.Decides.{nat_tests}
-use Rattle.tables.proofs.Near.{span_pos}
+use Rattle.tables.proofs.walks.Near.{span_pos}
 use Rattle.tables.specs.Tree.{Memory, Found, span, leaf_from, stated, states}
 use Rattle.unit.specs.Caches.{CachedLeaf, CachedNonLeaf, CachedContext}
 use Rattle.unit.specs.Lists.{Gains}

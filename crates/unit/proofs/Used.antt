@@ -5,9 +5,9 @@ use Rattle.std.proofs.lemmas.Option.{none-some, same_Some}
 use Rattle.vtdbits.specs.declared.entry.SsEntry.{SsEntry}
 use Rattle.vtdbits.specs.declared.entry.SsEntry.TheVariants.{Absent, Table, Leaf, LargeLeaf}
 use Rattle.tables.specs.Tree.{Memory, index_in, table_of, table_from, uses, entry_uses}
-use Rattle.tables.proofs.Total.{total_part}
+use Rattle.tables.proofs.sums.Firsts.{total_part}
 use Rattle.dmatypes.specs.declared.page.TheConstants.{SPAN_PAGES}
-use Rattle.tables.proofs.Walks.{index_lt}
+use Rattle.tables.proofs.walks.Onward.{index_lt}
 
 root_used : (m : Memory) (l t c : ℕ) → t ≡ c → 0 < uses m (suc l) t c
 unfolding uses

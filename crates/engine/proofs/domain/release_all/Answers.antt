@@ -1,6 +1,6 @@
 use Rattle.std.proofs.Common.{◌∙◌, refl}
 use Rattle.vtdbits.specs.declared.descriptor.Descriptor.TheVariants.{IotlbDomain}
-use Rattle.engine.proofs.Releasable.{releasing_one, releasing_step}
+use Rattle.engine.proofs.flushes.MayRelease.{releasing_one, releasing_step}
 use Rattle.engine.proofs.domain.release_all.Goals as goal
 
 pub release-requires : goal.release-requires

@@ -1,6 +1,6 @@
 use Rattle.std.proofs.Common.{◌≡◌}
 use Rattle.std.specs.Prelude.{vec_capacity}
-use Rattle.engine.proofs.Releasable.{IsReleasing}
+use Rattle.engine.proofs.flushes.MayRelease.{IsReleasing}
 use Rattle.engine.proofs.domain.release_all.Given as goal
 
 abbrev pub invariant-loop-retired : goal.invariant-loop-retired

@@ -2,7 +2,7 @@ use Rattle.std.proofs.Common.{◌≡◌, ◌∙◌, ◌≤◌, ◌++◌, ◌∷�
 use Rattle.queue.specs.Ring.{Ring, with_last}
 use Rattle.unit.specs.Caches.{UnitState}
 use Rattle.vtdbits.specs.declared.descriptor.Descriptor.TheVariants.{Wait}
-use Rattle.engine.proofs.Invalidating.{few_steps, fewer_wait, first_stage, last_stage, next_stage, submitted}
+use Rattle.engine.proofs.caches.WorkedOff.{few_steps, fewer_wait, first_stage, last_stage, next_stage, submitted}
 use Rattle.engine.proofs.iommu.work_off.Goals as goal
 
 pub loop-unit-init : goal.loop-unit-init

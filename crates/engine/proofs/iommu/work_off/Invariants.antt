@@ -1,5 +1,5 @@
 use Rattle.std.proofs.Common.{length, take}
-use Rattle.engine.proofs.Invalidating.{IsStage}
+use Rattle.engine.proofs.caches.WorkedOff.{IsStage}
 use Rattle.engine.proofs.iommu.work_off.Given as goal
 
 -- both wait, or the wait alone, or both are done

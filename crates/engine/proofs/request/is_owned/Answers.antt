@@ -1,5 +1,5 @@
 use Rattle.std.proofs.Common.{refl, arith}
-use Rattle.engine.proofs.Segments.{owned_at, owned_later, owned_none}
+use Rattle.engine.proofs.maps.Segments.{owned_at, owned_later, owned_none}
 use Rattle.engine.proofs.request.is_owned.Goals as goal
 
 pub returns-then-segment-frames : goal.returns-then-segment-frames

@@ -1,5 +1,5 @@
 use Rattle.std.proofs.Common.{◌≡◌, true, refl, arith}
-use Rattle.engine.proofs.Segments.{bad_else, mappable_not_bad, some_page}
+use Rattle.engine.proofs.maps.Segments.{bad_else, mappable_not_bad, some_page}
 use Rattle.engine.proofs.request.judge.Goals as goal
 
 pub returns-in_default-2 : goal.returns-in_default-2

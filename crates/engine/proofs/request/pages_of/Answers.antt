@@ -1,5 +1,5 @@
 use Rattle.std.proofs.Common.{inl, inr, arith}
-use Rattle.engine.proofs.Segments.{all_counted, none_counted, not_none, one_counted, some_page, unfit_stops}
+use Rattle.engine.proofs.maps.Segments.{all_counted, none_counted, not_none, one_counted, some_page, unfit_stops}
 use Rattle.engine.proofs.request.pages_of.Goals as goal
 use Rattle.engine.proofs.request.pages_of.Goals.{then-segment-eq0-via-then-segment-eq0}
 use Rattle.engine.proofs.request.pages_of.Goals.{then-segment-eq0-via-else-segment-eq0+then-segment-pages}

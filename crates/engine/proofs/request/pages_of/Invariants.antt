@@ -1,4 +1,4 @@
-use Rattle.engine.proofs.Segments.{IsCounted}
+use Rattle.engine.proofs.maps.Segments.{IsCounted}
 use Rattle.engine.proofs.request.pages_of.Given as goal
 
 abbrev pub invariant-loop-segment : goal.invariant-loop-segment

@@ -1,5 +1,5 @@
 use Rattle.std.proofs.Common.{◌*◌, ◌/◌, ◌%◌, ◌<◌, arith, rules}
-use Rattle.engine.proofs.Widening.{widened}
+use Rattle.engine.proofs.caches.Widened.{widened}
 use Rattle.engine.proofs.sending.block_of.Goals as goal
 
 pub returns-then-order-lt-LARGE-clause-block : goal.returns-then-order-lt-LARGE-clause-block

@@ -2,7 +2,7 @@ use Rattle.std.proofs.Common.{◌-◌, sym, subst, ◌∙◌, arith, inl, inr}
 use Rattle.vtdbits.specs.declared.entry.SsEntry.TheVariants.{Absent, Table, Leaf, LargeLeaf}
 use Rattle.vtdbits.specs.Entry.{MayStandAt}
 use Rattle.tables.specs.Pool.{memory}
-use Rattle.tables.proofs.Level.{root_in_level, below_level, large_level, is_large-one, is_large-zero}
+use Rattle.tables.proofs.walks.Levels.{root_in_level, below_level, large_level, is_large-one, is_large-zero}
 use Rattle.tables.proofs.entries.+is_in_large_leaf.Goals as goal
 
 pub entry-requires-clause-table : goal.entry-requires-clause-table

@@ -1,7 +1,7 @@
 use Rattle.std.proofs.Common.{◌-◌, sym, ◌∙◌, arith, inl, inr}
 use Rattle.vtdbits.specs.declared.entry.SsEntry.TheVariants.{Absent, Table, Leaf, LargeLeaf}
 use Rattle.tables.specs.Pool.{memory}
-use Rattle.tables.proofs.Level.{root_in_level, below_level, top_level, table_read}
+use Rattle.tables.proofs.walks.Levels.{root_in_level, below_level, top_level, table_read}
 use Rattle.tables.proofs.entries.+table_at.Goals as goal
 
 pub entry-requires-clause-table : goal.entry-requires-clause-table

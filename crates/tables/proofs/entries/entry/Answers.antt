@@ -1,6 +1,6 @@
 use Rattle.std.proofs.Common.{sym, ap, ◌∙◌}
 use Rattle.vtdbits.specs.Entry.{look}
-use Rattle.tables.proofs.Words.{memory_at}
+use Rattle.tables.proofs.walks.Words.{memory_at}
 use Rattle.tables.proofs.entries.entry.Goals as goal
 
 pub returns-clause-is : goal.returns-clause-is

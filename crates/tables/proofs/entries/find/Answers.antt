@@ -3,7 +3,7 @@ use Rattle.dmatypes.specs.declared.page.TheConstants.{SPAN_PAGES}
 use Rattle.vtdbits.specs.declared.entry.SsEntry.TheVariants.{Absent, Table, Leaf, LargeLeaf}
 use Rattle.vtdbits.specs.Translation.{target}
 use Rattle.tables.specs.Pool.{memory}
-use Rattle.tables.proofs.Level.{root_in_level, below_level, stated_level, stated_large, stated_small}
+use Rattle.tables.proofs.walks.Levels.{root_in_level, below_level, stated_level, stated_large, stated_small}
 use Rattle.tables.proofs.entries.find.Goals as goal
 
 pub entry-requires-clause-table : goal.entry-requires-clause-table

@@ -1,4 +1,4 @@
-use Rattle.tables.proofs.ByEntries.{lacks_by_entries}
+use Rattle.tables.proofs.counts.ByEntries.{lacks_by_entries}
 use Rattle.tables.proofs.laws.lacks_counts_entries.Goals as goal
 
 pub returns : goal.returns

@@ -1,4 +1,4 @@
-use Rattle.tables.proofs.Related.{stated_of_walks, walks_of_stated}
+use Rattle.tables.proofs.walks.Related.{stated_of_walks, walks_of_stated}
 use Rattle.tables.proofs.laws.walks_are_stated.Goals as goal
 
 pub returns : goal.returns

@@ -7,14 +7,14 @@ use Rattle.tables.specs.Lacks.{tables_lacking_at}
 use Rattle.tables.specs.Pieces.{piece_states, is_large}
 use Rattle.vtdbits.specs.Translation.{target}
 use Rattle.dmatypes.specs.Rights.{bits_of}
-use Rattle.tables.proofs.Descend.{Through, map_through, absent_below, made_through, count_through, count_grown, count_absent, no_leaf}
-use Rattle.tables.proofs.Descend.{spared_through, spared_grown}
-use Rattle.tables.proofs.Lacking.{lacks_at-one, lacks_at-large}
-use Rattle.tables.proofs.Level.{root_in_level, root_taken_level, below_level}
-use Rattle.tables.proofs.Mapped.{maps_over, moves_then}
-use Rattle.tables.proofs.Runs.{run_moves, run_maps}
-use Rattle.tables.proofs.Under.{moved_tree}
-use Rattle.tables.proofs.Words.{zeroed_bare}
+use Rattle.tables.proofs.maps.Descending.{Through, map_through, absent_below, made_through, count_through, count_grown, count_absent, no_leaf}
+use Rattle.tables.proofs.maps.Descending.{spared_through, spared_grown}
+use Rattle.tables.proofs.counts.OnePage.{lacks_at-one, lacks_at-large}
+use Rattle.tables.proofs.walks.Levels.{root_in_level, root_taken_level, below_level}
+use Rattle.tables.proofs.maps.Mapped.{maps_over, moves_then}
+use Rattle.tables.proofs.maps.Runs.{run_moves, run_maps}
+use Rattle.tables.proofs.unmaps.UnderEntry.{moved_tree}
+use Rattle.tables.proofs.walks.Words.{zeroed_bare}
 use Rattle.tables.proofs.mapping.+map_piece.Goals as goal
 use Rattle.tables.proofs.mapping.+map_piece.Goals.{After-grow-below, After-map_piece-else-level-eq2}
 use Rattle.tables.proofs.mapping.+map_piece.Goals.{else-level-eq2-via-then-level-eq2+else-is_large, else-level-eq2-via-else-level-eq2}

@@ -1,7 +1,7 @@
 use Rattle.std.proofs.Common.{◌≡◌, ◌-◌, suc, sym, subst, arith}
 use Rattle.tables.specs.Tree.{index_in}
-use Rattle.tables.proofs.Grown.{Grows, grows}
-use Rattle.tables.proofs.Level.{root_in_level, root_taken_level}
+use Rattle.tables.proofs.maps.Grown.{Grows, grows}
+use Rattle.tables.proofs.walks.Levels.{root_in_level, root_taken_level}
 use Rattle.tables.proofs.mapping.grow.Goals as goal
 use Rattle.tables.proofs.mapping.grow.Goals.{After-write}
 

@@ -2,7 +2,7 @@ use Rattle.std.proofs.Common.{◌≡◌, ℕ, Bool, true, false, not, cond, eqb,
 use Rattle.std.proofs.lemmas.Bool.Decides.{nat_tests}
 use Rattle.tables.specs.Pool.{memory}
 use Rattle.tables.specs.Segments.{is_large_at}
-use Rattle.tables.proofs.Lacking.{lacking_there, lacking_else}
+use Rattle.tables.proofs.counts.OnePage.{lacking_there, lacking_else}
 use Rattle.tables.proofs.mapping.lacks_table.Goals as goal
 
 flip : (b : Bool) → ◌≡◌ {A = ℕ} (cond (not b) 1 0) (cond (true && b) 0 1)

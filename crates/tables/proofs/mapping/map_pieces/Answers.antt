@@ -12,13 +12,13 @@ use Rattle.tables.specs.Changes.{Maps, MakesTables}
 use Rattle.tables.specs.Segments.{is_large_at}
 use Rattle.tables.specs.Lacks.{tables_lacking}
 use Rattle.tables.specs.Pieces.{piece_states, is_large}
-use Rattle.tables.proofs.Counting.{Placed, lacks_least, lacks_step, lacks_ended}
-use Rattle.tables.proofs.LargePieces.{small_piece, short_piece}
-use Rattle.tables.proofs.Making.{no_makes, makes_then}
-use Rattle.tables.proofs.Mapped.{no_moves, no_maps, moves_then, maps_then, maps_said}
-use Rattle.tables.proofs.Near.{span_pos}
-use Rattle.tables.proofs.Sums.{div_mono}
-use Rattle.tables.proofs.Placing.{not_large, rest_below}
+use Rattle.tables.proofs.counts.ByPieces.{Placed, lacks_least, lacks_step, lacks_ended}
+use Rattle.tables.proofs.maps.LargePieces.{small_piece, short_piece}
+use Rattle.tables.proofs.maps.TablesMade.{no_makes, makes_then}
+use Rattle.tables.proofs.maps.Mapped.{no_moves, no_maps, moves_then, maps_then, maps_said}
+use Rattle.tables.proofs.walks.Near.{span_pos}
+use Rattle.tables.proofs.sums.OverSpans.{div_mono}
+use Rattle.tables.proofs.maps.Placed.{not_large, rest_below}
 use Rattle.tables.proofs.mapping.map_pieces.Goals as goal
 
 -- the pages are in one span of the root

@@ -2,8 +2,8 @@ use Rattle.std.proofs.Common.{◌≡◌, suc, ◌+◌, ◌-◌, ◌/◌, ◌≤�
 use Rattle.std.proofs.Math.Nat.{div-le_self}
 use Rattle.tables.specs.Tree.{span, total}
 use Rattle.tables.specs.Lacks.{tables_lacking}
-use Rattle.tables.proofs.Sums.{level_lacks, level_few, lacks_levels}
-use Rattle.tables.proofs.Total.{total-zero, total-suc}
+use Rattle.tables.proofs.sums.OverSpans.{level_lacks, level_few, lacks_levels}
+use Rattle.tables.proofs.sums.Firsts.{total-zero, total-suc}
 use Rattle.tables.proofs.mapping.most_lacking.Goals as goal
 
 pub loop-wanted-init : goal.loop-wanted-init

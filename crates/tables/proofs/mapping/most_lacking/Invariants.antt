@@ -1,7 +1,7 @@
 use Rattle.std.proofs.Common.{ℕ, ◌-◌, ◌*◌, ◌≤◌, Bool}
 use Rattle.tables.specs.declared.entries.TheConstants.{WIDEST_PAGES_END}
 use Rattle.tables.specs.Tree.{Memory, total}
-use Rattle.tables.proofs.Sums.{level_lacks}
+use Rattle.tables.proofs.sums.OverSpans.{level_lacks}
 use Rattle.tables.proofs.mapping.most_lacking.Given as goal
 
 abbrev pub invariant-loop-wanted : goal.invariant-loop-wanted

@@ -1,5 +1,5 @@
 use Rattle.std.proofs.Common.{◌≡◌, ◌+◌, ◌/◌, Bool, cond, sym, ap, ◌∙◌, arith}
-use Rattle.tables.proofs.Sums.{so_far-start, so_far-test, so_far-end, lacking_at, few_more, last_span}
+use Rattle.tables.proofs.sums.OverSpans.{so_far-start, so_far-test, so_far-end, lacking_at, few_more, last_span}
 use Rattle.tables.proofs.mapping.spans_lacking.Goals as goal
 use Rattle.tables.proofs.mapping.spans_lacking.Goals.{then-lacks_table, else-lacks_table}
 

@@ -1,5 +1,5 @@
 use Rattle.std.proofs.Common.{◌≡◌, ◌-◌, ◌/◌, ◌≤◌}
-use Rattle.tables.proofs.Sums.{so_far, lacking_at}
+use Rattle.tables.proofs.sums.OverSpans.{so_far, lacking_at}
 use Rattle.tables.proofs.mapping.spans_lacking.Given as goal
 
 abbrev pub invariant-loop-number : goal.invariant-loop-number

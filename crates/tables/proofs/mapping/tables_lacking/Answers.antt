@@ -1,8 +1,8 @@
 use Rattle.std.proofs.Common.{◌≡◌, suc, ◌+◌, ◌-◌, sym, ap, ◌∙◌, arith}
 use Rattle.tables.specs.Tree.{total}
 use Rattle.tables.specs.Lacks.{tables_lacking}
-use Rattle.tables.proofs.Sums.{level_lacking, lacking_at, level_at}
-use Rattle.tables.proofs.Total.{total-zero, total-suc}
+use Rattle.tables.proofs.sums.OverSpans.{level_lacking, lacking_at, level_at}
+use Rattle.tables.proofs.sums.Firsts.{total-zero, total-suc}
 use Rattle.tables.proofs.mapping.tables_lacking.Goals as goal
 
 pub loop-wanted-init : goal.loop-wanted-init

@@ -1,7 +1,7 @@
 use Rattle.std.proofs.Common.{◌≡◌, ◌-◌, ◌*◌, ◌≤◌}
 use Rattle.tables.specs.declared.entries.TheConstants.{WIDEST_PAGES_END}
 use Rattle.tables.specs.Tree.{total}
-use Rattle.tables.proofs.Sums.{level_lacking}
+use Rattle.tables.proofs.sums.OverSpans.{level_lacking}
 use Rattle.tables.proofs.mapping.tables_lacking.Given as goal
 
 abbrev pub invariant-loop-wanted : goal.invariant-loop-wanted

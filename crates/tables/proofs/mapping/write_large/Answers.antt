@@ -9,11 +9,11 @@ use Rattle.tables.specs.Changes.{TakesAndGivesFrames, Maps}
 use Rattle.tables.specs.Pieces.{piece_states}
 use Rattle.tables.specs.Tree.{table_from}
 use Rattle.tables.specs.Pool.{memory}
-use Rattle.tables.proofs.Large.{large_maps}
-use Rattle.tables.proofs.LargePieces.{large_from}
-use Rattle.tables.proofs.Under.{root_in, root_taken}
-use Rattle.tables.proofs.Words.{memory_at}
-use Rattle.tables.proofs.Walks.{index_lt}
+use Rattle.tables.proofs.maps.Large.{large_maps}
+use Rattle.tables.proofs.maps.LargePieces.{large_from}
+use Rattle.tables.proofs.unmaps.UnderEntry.{root_in, root_taken}
+use Rattle.tables.proofs.walks.Words.{memory_at}
+use Rattle.tables.proofs.walks.Onward.{index_lt}
 use Rattle.tables.proofs.mapping.write_large.Goals as goal
 use Rattle.tables.proofs.mapping.write_large.Goals.{After-write}
 

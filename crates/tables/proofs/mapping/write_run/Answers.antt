@@ -3,7 +3,7 @@ use Rattle.dmatypes.specs.Rights.{bits_of}
 use Rattle.vtdbits.specs.Translation.{target}
 use Rattle.vtdbits.specs.declared.entry.SsEntry.TheVariants.{Leaf}
 use Rattle.tables.specs.Pieces.{leaf_at}
-use Rattle.tables.proofs.Runs.{run_of}
+use Rattle.tables.proofs.maps.Runs.{run_of}
 use Rattle.tables.proofs.mapping.write_run.Goals as goal
 
 pub returns-clause-run : goal.returns-clause-run

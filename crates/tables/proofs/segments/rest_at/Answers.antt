@@ -1,7 +1,7 @@
 use Rattle.std.proofs.Common.{◌+◌, ◌<◌, ◌≤◌, ◌⊎◌, inl, inr, drop, get_or, sym, ap, subst, ◌∙◌, arith}
 use Rattle.dmatypes.specs.Conditions.{total_pages}
 use Rattle.tables.specs.Segments.{rest_at, AreSegments}
-use Rattle.tables.proofs.Placing.{drop_ended, drop_at, rest_in, rest_out, rest-nil, total-cons}
+use Rattle.tables.proofs.maps.Placed.{drop_ended, drop_at, rest_in, rest_out, rest-nil, total-cons}
 use Rattle.tables.proofs.segments.rest_at.Goals as goal
 
 pub returns-then-page-end : goal.returns-then-page-end

@@ -4,10 +4,10 @@ use Rattle.vtdbits.specs.declared.entry.SsEntry.TheVariants.{Absent}
 use Rattle.tables.specs.Tree.{Found, leaf_from}
 use Rattle.tables.specs.Pool.{memory}
 use Rattle.tables.specs.Pieces.{cut_of}
-use Rattle.tables.proofs.Descend.{absent_below}
-use Rattle.tables.proofs.Level.{root_in_level, below_level, leaf_level}
-use Rattle.tables.proofs.SplitLeaf.{splits_below}
-use Rattle.tables.proofs.Unmapped.{unmap_through}
+use Rattle.tables.proofs.maps.Descending.{absent_below}
+use Rattle.tables.proofs.walks.Levels.{root_in_level, below_level, leaf_level}
+use Rattle.tables.proofs.unmaps.SplitLeaf.{splits_below}
+use Rattle.tables.proofs.unmaps.Unmapped.{unmap_through}
 use Rattle.tables.proofs.unmapping.+clear_piece.Goals as goal
 
 deep : (level : ℕ) → (level ≡ 2 → ⊥) → 2 ≤ level → (1 ≤ level - 1) × (1 < level - 1)

@@ -1,5 +1,5 @@
 use Rattle.std.proofs.Common.{◌*◌, ◌-◌}
-use Rattle.tables.proofs.Release.{IsReleasing}
+use Rattle.tables.proofs.unmaps.Destroyed.{IsReleasing}
 use Rattle.tables.proofs.unmapping.+releasing.Given as goal
 
 abbrev pub decreases-release : goal.decreases-release

@@ -4,7 +4,7 @@ use Rattle.vtdbits.specs.Entry.{look}
 use Rattle.vtdbits.specs.declared.entry.SsEntry.TheVariants.{Absent}
 use Rattle.vtdbits.proofs.Entries.{look-zero}
 use Rattle.tables.specs.Pool.{word}
-use Rattle.tables.proofs.Runs.{run_of}
+use Rattle.tables.proofs.maps.Runs.{run_of}
 use Rattle.tables.proofs.unmapping.clear_run.Goals as goal
 
 pub returns-then-to-from-eq1-clause-run : goal.returns-then-to-from-eq1-clause-run

@@ -6,18 +6,18 @@ use Rattle.vtdbits.specs.declared.entry.SsEntry.TheVariants.{Absent}
 use Rattle.tables.specs.Tree.{index_in}
 use Rattle.tables.specs.Pool.{occurs, memory, IsTree}
 use Rattle.tables.specs.Changes.{TakesAndGivesFrames, Unmaps}
-use Rattle.tables.proofs.Under.{root_in, root_taken, below_in, moved_tree}
-use Rattle.tables.proofs.Words.{memory_at}
-use Rattle.tables.proofs.Walks.{index_lt}
-use Rattle.tables.proofs.Steps.{leaf_under}
+use Rattle.tables.proofs.unmaps.UnderEntry.{root_in, root_taken, below_in, moved_tree}
+use Rattle.tables.proofs.walks.Words.{memory_at}
+use Rattle.tables.proofs.walks.Onward.{index_lt}
+use Rattle.tables.proofs.walks.Steps.{leaf_under}
 use Rattle.vtdbits.specs.Entry.{MayStandAt}
 use Rattle.tables.specs.Tree.{leaf_from}
 use Rattle.std.proofs.Common.{Option, Some, None, IsSome, inl, inr}
 use Rattle.tables.specs.Pieces.{WritesEntries}
 use Rattle.tables.specs.Tree.{Found}
-use Rattle.tables.proofs.Cleared.{run_through, large_gone}
-use Rattle.tables.proofs.CutTable.{table_cut}
-use Rattle.tables.proofs.SplitLeaf.{split_unmaps, splits_whole, splits_table, splits_large}
+use Rattle.tables.proofs.unmaps.Cleared.{run_through, large_gone}
+use Rattle.tables.proofs.unmaps.CutTable.{table_cut}
+use Rattle.tables.proofs.unmaps.SplitLeaf.{split_unmaps, splits_whole, splits_table, splits_large}
 use Rattle.tables.proofs.unmapping.clear_span.Goals as goal
 use Rattle.tables.proofs.unmapping.clear_span.Goals.{After-write, After-write-then-is_whole, After-clear_run-in-LargeLeaf}
 

@@ -1,8 +1,8 @@
 use Rattle.std.proofs.Common.{◌≡◌, ◌+◌, ◌/◌, Bool, cond, sym, ap, ◌∙◌, arith}
 use Rattle.dmatypes.specs.declared.page.TheConstants.{SPAN_PAGES}
-use Rattle.tables.proofs.Sums.{so_far-start, so_far-test, so_far-end, splitting_at, few_more, last_span}
+use Rattle.tables.proofs.sums.OverSpans.{so_far-start, so_far-test, so_far-end, splitting_at, few_more, last_span}
 use Rattle.tables.specs.Lacks.{splits}
-use Rattle.tables.proofs.Steps.{span-one}
+use Rattle.tables.proofs.walks.Steps.{span-one}
 use Rattle.tables.proofs.unmapping.leaves_splitting.Goals as goal
 use Rattle.tables.proofs.unmapping.leaves_splitting.Goals.{then-splits_leaf, else-splits_leaf}
 

@@ -1,6 +1,6 @@
 use Rattle.std.proofs.Common.{◌≡◌, ◌-◌, ◌/◌, ◌≤◌}
 use Rattle.dmatypes.specs.declared.page.TheConstants.{SPAN_PAGES}
-use Rattle.tables.proofs.Sums.{so_far, splitting_at}
+use Rattle.tables.proofs.sums.OverSpans.{so_far, splitting_at}
 use Rattle.tables.proofs.unmapping.leaves_splitting.Given as goal
 
 abbrev pub invariant-loop-number : goal.invariant-loop-number

@@ -1,4 +1,4 @@
-use Rattle.tables.proofs.Sums.{splits_few}
+use Rattle.tables.proofs.sums.OverSpans.{splits_few}
 use Rattle.tables.proofs.unmapping.spans_met.Goals as goal
 
 pub returns : goal.returns

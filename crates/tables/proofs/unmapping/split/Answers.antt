@@ -5,10 +5,10 @@ use Rattle.vtdbits.specs.Translation.{target}
 use Rattle.vtdbits.specs.declared.entry.SsEntry.TheVariants.{Leaf}
 use Rattle.tables.specs.Tree.{index_in}
 use Rattle.tables.specs.Pool.{occurs}
-use Rattle.tables.proofs.Here.{here-same}
-use Rattle.tables.proofs.SplitLeaf.{leaf_stays, spells_leaf, splits}
-use Rattle.tables.proofs.Under.{root_in, root_taken, under_moves}
-use Rattle.tables.proofs.Walks.{index_lt}
+use Rattle.tables.proofs.sums.OneFrame.{here-same}
+use Rattle.tables.proofs.unmaps.SplitLeaf.{leaf_stays, spells_leaf, splits}
+use Rattle.tables.proofs.unmaps.UnderEntry.{root_in, root_taken, under_moves}
+use Rattle.tables.proofs.walks.Onward.{index_lt}
 use Rattle.tables.proofs.unmapping.split.Goals as goal
 
 pub write_run-requires-clause-taken : goal.write_run-requires-clause-taken

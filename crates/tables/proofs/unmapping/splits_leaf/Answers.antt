@@ -1,7 +1,7 @@
 use Rattle.std.proofs.Common.{◌+◌, Bool, cond, ◌⊎◌, ◌<◌, inl, inr, sym, ap, ◌∙◌}
 use Rattle.dmatypes.specs.declared.page.TheConstants.{SPAN_PAGES}
 use Rattle.tables.specs.Pool.{memory}
-use Rattle.tables.proofs.Sums.{splitting_covered, splitting_else}
+use Rattle.tables.proofs.sums.OverSpans.{splitting_covered, splitting_else}
 use Rattle.tables.proofs.unmapping.splits_leaf.Goals as goal
 use Rattle.tables.proofs.unmapping.splits_leaf.Goals.{else-from-page-via-then-from-page+else-page-to, else-from-page-via-else-from-page}
 

@@ -7,11 +7,11 @@ use Rattle.tables.specs.Pool.{memory}
 use Rattle.tables.specs.Changes.{TakesAndGivesFrames, Unmaps}
 use Rattle.tables.specs.Lacks.{splits, splits_leaf}
 use Rattle.tables.specs.Pieces.{cut_of, piece_splits, was_split}
-use Rattle.tables.proofs.Mapped.{no_moves, moves_then}
-use Rattle.tables.proofs.Near.{span_pos}
-use Rattle.tables.proofs.Sizes.{leaf_ahead, piece_is}
-use Rattle.tables.proofs.Sums.{div_mono, split_so_far, split_so_far-start, split_so_far-step, split_so_far-end, split_so_far-most}
-use Rattle.tables.proofs.Unmapped.{no_unmaps, unmaps_then}
+use Rattle.tables.proofs.maps.Mapped.{no_moves, moves_then}
+use Rattle.tables.proofs.walks.Near.{span_pos}
+use Rattle.tables.proofs.walks.Sizes.{leaf_ahead, piece_is}
+use Rattle.tables.proofs.sums.OverSpans.{div_mono, split_so_far, split_so_far-start, split_so_far-step, split_so_far-end, split_so_far-most}
+use Rattle.tables.proofs.unmaps.Unmapped.{no_unmaps, unmaps_then}
 use Rattle.tables.proofs.unmapping.unmap_pieces.Goals as goal
 use Rattle.tables.proofs.unmapping.unmap_pieces.Goals.{After-min-next}
 

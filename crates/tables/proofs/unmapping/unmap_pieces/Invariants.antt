@@ -2,7 +2,7 @@ use Rattle.std.proofs.Common.{◌≡◌, ◌+◌, ◌-◌, ◌*◌, ◌%◌, ◌
 use Rattle.dmatypes.specs.declared.page.TheConstants.{SPAN_PAGES}
 use Rattle.tables.specs.Pool.{IsPool}
 use Rattle.tables.specs.Changes.{TakesAndGivesFrames, Unmaps}
-use Rattle.tables.proofs.Sums.{split_so_far}
+use Rattle.tables.proofs.sums.OverSpans.{split_so_far}
 use Rattle.tables.proofs.unmapping.unmap_pieces.Given as goal
 
 abbrev pub invariant-loop-place : goal.invariant-loop-place

@@ -1,4 +1,4 @@
-use Rattle.engine.proofs.Invalidating.{done_then}
+use Rattle.engine.proofs.caches.WorkedOff.{done_then}
 use Rattle.engine.proofs.domain.Domain.close.Goals as goal
 
 pub destroy-requires-clause-invalidated : goal.destroy-requires-clause-invalidated

@@ -1,4 +1,4 @@
-use Rattle.engine.proofs.Invalidating.{done_then}
+use Rattle.engine.proofs.caches.WorkedOff.{done_then}
 use Rattle.engine.proofs.domain.Domain.flush.Goals as goal
 
 pub release_all-requires-clause-invalidated : goal.release_all-requires-clause-invalidated

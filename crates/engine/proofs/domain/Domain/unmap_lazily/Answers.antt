@@ -1,5 +1,5 @@
 use Rattle.engine.specs.Domains.{parts_of}
-use Rattle.engine.proofs.PuttingOff.{still_ends}
+use Rattle.engine.proofs.unmaps.LazyRange.{still_ends}
 use Rattle.engine.proofs.domain.Domain.unmap_lazily.Goals as goal
 
 pub end-retired-requires-clause-can : goal.end-retired-requires-clause-can

@@ -2,8 +2,8 @@ use Rattle.std.proofs.Common.{ap, sym, subst}
 use Rattle.iova.specs.Space.{Space}
 use Rattle.engine.specs.Domains.{Domain}
 use Rattle.engine.specs.Ready.{IsReleasable}
-use Rattle.engine.proofs.Invalidating.{done_then, sent_covers}
-use Rattle.engine.proofs.Releasable.{cut_releasable}
+use Rattle.engine.proofs.caches.WorkedOff.{done_then, sent_covers}
+use Rattle.engine.proofs.flushes.MayRelease.{cut_releasable}
 use Rattle.engine.proofs.domain.Domain.unmap_strictly.Goals as goal
 
 pub release-requires-clause-can : goal.release-requires-clause-can

@@ -7,10 +7,10 @@ use Rattle.vtdbits.specs.declared.context.ContextEntry.TheVariants.{Present}
 use Rattle.engine.specs.Domains.{domain_at}
 use Rattle.engine.specs.State.{State}
 use Rattle.engine.specs.Steps.{Does}
-use Rattle.engine.proofs.Attaching.{attach_no_device, attach_no_domain, attach_busy, attaches}
-use Rattle.engine.proofs.Domains.{at_place, no_id_no_domain}
-use Rattle.engine.proofs.Finding.{stands}
-use Rattle.engine.proofs.Refusing.{whole_quiet}
+use Rattle.engine.proofs.devices.Attached.{attach_no_device, attach_no_domain, attach_busy, attaches}
+use Rattle.engine.proofs.domains.OneChanged.{at_place, no_id_no_domain}
+use Rattle.engine.proofs.domains.Found.{stands}
+use Rattle.engine.proofs.states.Refused.{whole_quiet}
 use Rattle.engine.proofs.state.State.attach.Goals as goal
 
 pub returns-then-device-gt15 : goal.returns-then-device-gt15

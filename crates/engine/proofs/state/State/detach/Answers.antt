@@ -11,8 +11,8 @@ use Rattle.engine.specs.declared.iommu.Iommu.{Iommu}
 use Rattle.engine.specs.Ending.{Invalidates}
 use Rattle.engine.specs.State.{State}
 use Rattle.engine.specs.Steps.{Does}
-use Rattle.engine.proofs.Detaching.{detach_does, detach_no_device, detach_not_attached, detached, only_width}
-use Rattle.engine.proofs.Sent.{whole_sends}
+use Rattle.engine.proofs.devices.Detached.{detach_does, detach_no_device, detach_not_attached, detached, only_width}
+use Rattle.engine.proofs.caches.Sent.{whole_sends}
 use Rattle.engine.proofs.state.State.detach.Goals as goal
 
 pub returns-in_default : goal.returns-in_default

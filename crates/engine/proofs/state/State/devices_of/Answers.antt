@@ -1,6 +1,6 @@
 use Rattle.std.proofs.Common.{◌≡◌, ℕ, Some, arith, slice_get, sym, true, false, ◌∙◌}
 use Rattle.engine.specs.Quarantine.{attached}
-use Rattle.engine.proofs.DeviceBits.{told_in, told_out}
+use Rattle.engine.proofs.devices.Bits.{told_in, told_out}
 use Rattle.engine.proofs.state.State.devices_of.Goals as goal
 use Rattle.engine.proofs.state.State.devices_of.Goals.{then-is_attached_to, else-is_attached_to}
 

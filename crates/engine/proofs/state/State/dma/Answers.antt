@@ -4,8 +4,8 @@ use Rattle.dmatypes.specs.declared.call.Call.TheVariants as calls
 use Rattle.unit.specs.Caches.{unit_state}
 use Rattle.engine.specs.State.{State, host_in, reached_reply}
 use Rattle.engine.specs.Steps.{Does}
-use Rattle.engine.proofs.Answered.{request_does, request_hits, request_no_device, request_window}
-use Rattle.engine.proofs.Refusing.{whole_quiet}
+use Rattle.engine.proofs.requests.Stepped.{request_does, request_hits, request_no_device, request_window}
+use Rattle.engine.proofs.states.Refused.{whole_quiet}
 use Rattle.engine.proofs.state.State.dma.Goals as goal
 
 pub returns-then-device-gt15 : goal.returns-then-device-gt15

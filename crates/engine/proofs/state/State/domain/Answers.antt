@@ -6,9 +6,9 @@ use Rattle.engine.specs.Domains.{Domain}
 use Rattle.engine.specs.State.{State}
 use Rattle.engine.specs.Steps.{Does}
 use Rattle.std.proofs.lemmas.List.{length-set}
-use Rattle.engine.proofs.Domains.{at_place, count_set, some_room}
-use Rattle.engine.proofs.Making.{IsEmptyTree, no_id, no_root, makes}
-use Rattle.engine.proofs.Refusing.{whole_quiet}
+use Rattle.engine.proofs.domains.OneChanged.{at_place, count_set, some_room}
+use Rattle.engine.proofs.domains.Made.{IsEmptyTree, no_id, no_root, makes}
+use Rattle.engine.proofs.states.Refused.{whole_quiet}
 use Rattle.engine.proofs.state.State.domain.Goals as goal
 
 pub returns-in_default : goal.returns-in_default

@@ -1,7 +1,7 @@
 use Rattle.std.proofs.Common.{◌≡◌, ◌∙◌, None, ap, sym}
 use Rattle.engine.specs.Domains.{domain_at}
 use Rattle.engine.specs.Totals.{domain_totals_of}
-use Rattle.engine.proofs.Domains.{no_id_no_domain}
+use Rattle.engine.proofs.domains.OneChanged.{no_id_no_domain}
 use Rattle.engine.proofs.state.State.domain_totals.Goals as goal
 
 pub returns-in_err-id : goal.returns-in_err-id

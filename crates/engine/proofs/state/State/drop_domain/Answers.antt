@@ -7,11 +7,11 @@ use Rattle.engine.specs.Domains.{domain_at}
 use Rattle.engine.specs.Ending.{Closes}
 use Rattle.engine.specs.State.{State, parts_in}
 use Rattle.engine.specs.Quarantine.{attached}
-use Rattle.engine.proofs.Domains.{at_place, count_set, no_id_no_domain}
-use Rattle.engine.proofs.Finding.{keeps_found, put_back, stands}
-use Rattle.engine.proofs.FlushSteps.{Did, drop_attached, drop_did, drop_no_domain}
-use Rattle.engine.proofs.Releasable.{can_unmap}
-use Rattle.engine.proofs.Sent.{changed}
+use Rattle.engine.proofs.domains.OneChanged.{at_place, count_set, no_id_no_domain}
+use Rattle.engine.proofs.domains.Found.{keeps_found, put_back, stands}
+use Rattle.engine.proofs.flushes.Steps.{Did, drop_attached, drop_did, drop_no_domain}
+use Rattle.engine.proofs.flushes.MayRelease.{can_unmap}
+use Rattle.engine.proofs.caches.Sent.{changed}
 use Rattle.engine.proofs.state.State.drop_domain.Goals as goal
 
 pub returns-in_default : goal.returns-in_default

@@ -4,8 +4,8 @@ use Rattle.dmatypes.specs.declared.reply.Reply.TheVariants.{Done}
 use Rattle.unit.specs.Caches.{UnitState}
 use Rattle.engine.specs.State.{State}
 use Rattle.engine.specs.Steps.{Does}
-use Rattle.engine.proofs.Answered.{evict_does}
-use Rattle.engine.proofs.Refusing.{whole_quiet}
+use Rattle.engine.proofs.requests.Stepped.{evict_does}
+use Rattle.engine.proofs.states.Refused.{whole_quiet}
 use Rattle.engine.proofs.state.State.evict.Goals as goal
 
 abbrev before : goal.After-evict → State

@@ -5,11 +5,11 @@ use Rattle.dmatypes.specs.declared.reply.Reply.TheVariants.{Flushed, Refused}
 use Rattle.engine.specs.Domains.{domain_at, parts_of}
 use Rattle.engine.specs.Ending.{Flushes}
 use Rattle.engine.specs.State.{State, parts_in}
-use Rattle.engine.proofs.Domains.{at_place, no_id_no_domain, rooms_stay}
-use Rattle.engine.proofs.Finding.{keeps_found, put_back, stands}
-use Rattle.engine.proofs.FlushSteps.{Did, flush_did, flush_no_domain}
-use Rattle.engine.proofs.Releasable.{records_releasable}
-use Rattle.engine.proofs.Sent.{changed}
+use Rattle.engine.proofs.domains.OneChanged.{at_place, no_id_no_domain, rooms_stay}
+use Rattle.engine.proofs.domains.Found.{keeps_found, put_back, stands}
+use Rattle.engine.proofs.flushes.Steps.{Did, flush_did, flush_no_domain}
+use Rattle.engine.proofs.flushes.MayRelease.{records_releasable}
+use Rattle.engine.proofs.caches.Sent.{changed}
 use Rattle.engine.proofs.state.State.flush.Goals as goal
 
 pub returns-in_default : goal.returns-in_default

@@ -1,4 +1,4 @@
-use Rattle.engine.proofs.Mapping.{one_map}
+use Rattle.engine.proofs.maps.Mapped.{one_map}
 use Rattle.engine.proofs.state.State.map.Goals as goal
 
 pub returns : goal.returns

@@ -7,10 +7,10 @@ use Rattle.engine.specs.Domains.{domain_at}
 use Rattle.engine.specs.Judged.{AreOwned, IsJudged}
 use Rattle.engine.specs.State.{State}
 use Rattle.engine.specs.Steps.{Does}
-use Rattle.engine.proofs.Domains.{at_place, can_place, no_id_no_domain, rooms_stay}
-use Rattle.engine.proofs.Finding.{keeps_found, put_back, stands}
-use Rattle.engine.proofs.Mapping.{map_no_domain, map_judged, map_refused, map_done}
-use Rattle.engine.proofs.Refusing.{whole_quiet}
+use Rattle.engine.proofs.domains.OneChanged.{at_place, can_place, no_id_no_domain, rooms_stay}
+use Rattle.engine.proofs.domains.Found.{keeps_found, put_back, stands}
+use Rattle.engine.proofs.maps.Mapped.{map_no_domain, map_judged, map_refused, map_done}
+use Rattle.engine.proofs.states.Refused.{whole_quiet}
 use Rattle.engine.proofs.state.State.map_segments.Goals as goal
 
 pub returns-in_default : goal.returns-in_default

@@ -2,7 +2,7 @@ use Rattle.std.proofs.Common.{◌≡◌, ap, arith, refl}
 use Rattle.engine.specs.declared.iommu.Iommu.{Iommu}
 use Rattle.engine.specs.State.{IsNew, State}
 use Rattle.engine.specs.Whole.{domain_count}
-use Rattle.engine.proofs.Beginning.{of_empty_world, whole_new}
+use Rattle.engine.proofs.states.New.{of_empty_world, whole_new}
 use Rattle.engine.proofs.state.State.new.Goals as goal
 
 abbrev made : goal.After-new-2 → State

@@ -1,4 +1,4 @@
-use Rattle.engine.proofs.Answered.{hit_of_request, no_hit}
+use Rattle.engine.proofs.requests.Stepped.{hit_of_request, no_hit}
 use Rattle.engine.proofs.state.State.perform.Goals as goal
 
 pub returns-in-Dma-clause-hit : goal.returns-in-Dma-clause-hit

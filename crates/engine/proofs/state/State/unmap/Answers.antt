@@ -6,11 +6,11 @@ use Rattle.dmatypes.specs.Page.{range_at}
 use Rattle.engine.specs.Domains.{domain_at, parts_of}
 use Rattle.engine.specs.Ending.{IsUnmapped}
 use Rattle.engine.specs.State.{State, parts_in}
-use Rattle.engine.proofs.Domains.{at_place, no_id_no_domain, rooms_stay}
-use Rattle.engine.proofs.Finding.{keeps_found, put_back, stands}
-use Rattle.engine.proofs.Releasable.{can_unmap}
-use Rattle.engine.proofs.Sent.{changed}
-use Rattle.engine.proofs.Unmapped.{AnswersUnmap, unmap_answered, unmap_bad_range, unmap_no_domain}
+use Rattle.engine.proofs.domains.OneChanged.{at_place, no_id_no_domain, rooms_stay}
+use Rattle.engine.proofs.domains.Found.{keeps_found, put_back, stands}
+use Rattle.engine.proofs.flushes.MayRelease.{can_unmap}
+use Rattle.engine.proofs.caches.Sent.{changed}
+use Rattle.engine.proofs.unmaps.ByPlace.{AnswersUnmap, unmap_answered, unmap_bad_range, unmap_no_domain}
 use Rattle.engine.proofs.state.State.unmap.Goals as goal
 
 pub returns-in_default : goal.returns-in_default

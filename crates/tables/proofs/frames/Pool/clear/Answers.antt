@@ -2,7 +2,7 @@ use Rattle.std.proofs.Common.{◌≡◌, ◌+◌, ◌*◌, length, take, get_or,
 use Rattle.std.proofs.lemmas.List.{get_or-replicate}
 use Rattle.tables.specs.declared.entries.TheConstants.{TABLE_ENTRIES}
 use Rattle.tables.specs.Pool.{Pool, word, occurs}
-use Rattle.tables.proofs.Patched.{IsPatch, patched, patch_lent}
+use Rattle.tables.proofs.pools.Patched.{IsPatch, patched, patch_lent}
 use Rattle.tables.proofs.frames.Pool.clear.Goals as goal
 use Rattle.tables.proofs.frames.Pool.clear.Goals.{After-fill}
 

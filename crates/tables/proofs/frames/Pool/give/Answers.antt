@@ -1,7 +1,7 @@
 use Rattle.std.proofs.Common.{◌≡◌, ◌+◌, ◌<◌, length, length-take, length-set, take, set, ap, sym, ◌∙◌, subst, arith}
 use Rattle.tables.specs.Tree.{here}
 use Rattle.tables.specs.Pool.{Pool, occurs, IsZeroed}
-use Rattle.tables.proofs.Store.{occurs_given, more_keeps, shorter}
+use Rattle.tables.proofs.pools.FreeList.{occurs_given, more_keeps, shorter}
 use Rattle.tables.proofs.frames.Pool.give.Goals as goal
 
 pub index_mut-requires : goal.index_mut-requires

@@ -1,6 +1,6 @@
 use Rattle.std.proofs.Common.{◌≡◌, ℕ, ◌+◌, ◌<◌, ◌≤◌, length, length-take, take, ap, sym, ◌∙◌, subst, arith}
 use Rattle.tables.specs.Pool.{Pool, occurs, IsZeroed}
-use Rattle.tables.proofs.Given.{given_state, given_fits, occurs-append}
+use Rattle.tables.proofs.pools.GivenBack.{given_state, given_fits, occurs-append}
 use Rattle.tables.proofs.frames.Pool.give_back.Goals as goal
 
 pub slice_bounds-copy_from_slice-end : goal.slice_bounds-copy_from_slice-end

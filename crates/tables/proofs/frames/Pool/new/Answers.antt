@@ -4,7 +4,7 @@ use Rattle.std.proofs.Math.ListN.{length-replicate}
 use Rattle.std.proofs.Math.Seq.{take-length}
 use Rattle.tables.specs.declared.entries.TheConstants.{TABLE_ENTRIES}
 use Rattle.tables.specs.Pool.{occurs}
-use Rattle.tables.proofs.Store.{zero_words, counted_up, counted_past, counted_once}
+use Rattle.tables.proofs.pools.FreeList.{zero_words, counted_up, counted_past, counted_once}
 use Rattle.tables.proofs.frames.Pool.new.Goals as goal
 
 pub loop-number-preserved : goal.loop-number-preserved

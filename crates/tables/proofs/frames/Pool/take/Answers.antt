@@ -2,7 +2,7 @@ use Rattle.std.proofs.Common.{◌≡◌, ◌-◌, ◌<◌, length, length-take, 
 use Rattle.std.proofs.lemmas.List.{get_or_read}
 use Rattle.std.proofs.lemmas.Bool.{cases_lt}
 use Rattle.tables.specs.Pool.{Pool, IsZeroed}
-use Rattle.tables.proofs.Store.{occurs_front, fewer_keeps, last_free}
+use Rattle.tables.proofs.pools.FreeList.{occurs_front, fewer_keeps, last_free}
 use Rattle.tables.proofs.frames.Pool.take.Goals as goal
 
 pub invariant_of-self : goal.invariant_of-self

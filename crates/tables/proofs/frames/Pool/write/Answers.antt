@@ -1,7 +1,7 @@
 use Rattle.std.proofs.Common.{◌≡◌, ◌+◌, ◌*◌, ◌≤◌, length, take, ap, sym, ◌∙◌, subst, set, arith}
 use Rattle.tables.specs.declared.entries.TheConstants.{TABLE_ENTRIES}
 use Rattle.tables.specs.Pool.{Pool, word, occurs, IsWrite, IsPool}
-use Rattle.tables.proofs.Store.{wrote, write_keeps}
+use Rattle.tables.proofs.pools.FreeList.{wrote, write_keeps}
 use Rattle.tables.proofs.frames.Pool.write.Goals as goal
 
 pub invariant_of-self : goal.invariant_of-self

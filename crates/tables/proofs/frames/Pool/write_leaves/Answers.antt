@@ -2,7 +2,7 @@ use Rattle.std.proofs.Common.{◌≡◌, ◌+◌, ◌*◌, length, take, ap, ◌
 use Rattle.tables.specs.declared.entries.TheConstants.{TABLE_ENTRIES}
 use Rattle.vtdbits.specs.Entry.{look}
 use Rattle.tables.specs.Pool.{Pool, word, occurs}
-use Rattle.tables.proofs.Patched.{IsPatch, patched, patch_lent}
+use Rattle.tables.proofs.pools.Patched.{IsPatch, patched, patch_lent}
 use Rattle.tables.proofs.frames.Pool.write_leaves.Goals as goal
 use Rattle.tables.proofs.frames.Pool.write_leaves.Goals.{After-spell_leaves}
 

@@ -2,7 +2,7 @@ use Rattle.std.proofs.Common.{◌+◌, ◌≤◌, Option, sym, subst, arith, IfN
 use Rattle.dmatypes.specs.Conditions.{total_pages}
 use Rattle.dmatypes.specs.Rights.{bits_of}
 use Rattle.tables.specs.declared.piece.Piece.{Piece}
-use Rattle.tables.proofs.Placing.{rest_ended, rest_bounds, rest_onward, placed_at, inner_small, HasRest}
+use Rattle.tables.proofs.maps.Placed.{rest_ended, rest_bounds, rest_onward, placed_at, inner_small, HasRest}
 use Rattle.tables.proofs.piece.Piece.at.Goals as goal
 
 pub returns-in_err-rest-clause-none : goal.returns-in_err-rest-clause-none

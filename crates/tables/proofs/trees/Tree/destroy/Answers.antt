@@ -1,5 +1,5 @@
 use Rattle.dmatypes.specs.declared.width.TheConstants.{LEVELS}
-use Rattle.tables.proofs.Kept.{given_stays}
+use Rattle.tables.proofs.pools.Kept.{given_stays}
 use Rattle.tables.proofs.trees.Tree.destroy.Goals as goal
 
 pub returns-clause-others : goal.returns-clause-others

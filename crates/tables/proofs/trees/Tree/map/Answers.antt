@@ -5,9 +5,9 @@ use Rattle.dmatypes.specs.Rights.{bits_of}
 use Rattle.dmatypes.specs.World.{placed}
 use Rattle.vtdbits.specs.Translation.{target}
 use Rattle.tables.specs.Changes.{Maps}
-use Rattle.tables.proofs.Kept.{on_done}
-use Rattle.tables.proofs.Mapped.{maps_said}
-use Rattle.tables.proofs.Placing.{rest_of, rest_in, placed_at}
+use Rattle.tables.proofs.pools.Kept.{on_done}
+use Rattle.tables.proofs.maps.Mapped.{maps_said}
+use Rattle.tables.proofs.maps.Placed.{rest_of, rest_in, placed_at}
 use Rattle.tables.proofs.trees.Tree.map.Goals as goal
 
 pub map_list-requires-clause-range : goal.map_list-requires-clause-range

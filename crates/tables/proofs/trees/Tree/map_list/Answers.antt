@@ -6,7 +6,7 @@ use Rattle.dmatypes.specs.Rights.{bits_of}
 use Rattle.dmatypes.specs.World.{placed}
 use Rattle.tables.specs.Tree.{IsLeafAt}
 use Rattle.tables.specs.Pool.{Pool, memory}
-use Rattle.tables.proofs.Kept.{span-three, same_root, map_leaves, apart_stays, either_way}
+use Rattle.tables.proofs.pools.Kept.{span-three, same_root, map_leaves, apart_stays, either_way}
 use Rattle.tables.proofs.trees.Tree.map_list.Goals as goal
 
 pub map_segments-requires-clause-one_span : goal.map_segments-requires-clause-one_span

@@ -1,9 +1,9 @@
 use Rattle.dmatypes.specs.declared.width.TheConstants.{LEVELS}
 use Rattle.tables.specs.Pool.{memory}
-use Rattle.tables.proofs.Fresh.{fresh_tree}
-use Rattle.tables.proofs.Steps.{uses-bare}
-use Rattle.tables.proofs.Walks.{leaf_zeroed, table_zeroed}
-use Rattle.tables.proofs.Words.{zeroed_bare}
+use Rattle.tables.proofs.pools.Fresh.{fresh_tree}
+use Rattle.tables.proofs.walks.Steps.{uses-bare}
+use Rattle.tables.proofs.walks.Onward.{leaf_zeroed, table_zeroed}
+use Rattle.tables.proofs.walks.Words.{zeroed_bare}
 use Rattle.tables.proofs.trees.Tree.new.Goals as goal
 
 pub returns-clause-tree : goal.returns-clause-tree

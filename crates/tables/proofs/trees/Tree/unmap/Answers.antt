@@ -3,8 +3,8 @@ use Rattle.dmatypes.specs.declared.width.TheConstants.{LEVELS}
 use Rattle.dmatypes.proofs.Ranges.{HasEnds, to_ends}
 use Rattle.tables.specs.Pool.{memory}
 use Rattle.tables.specs.Lacks.{splits}
-use Rattle.tables.proofs.Ended.{unmap_leaves, unmap_tables, unmap_whole}
-use Rattle.tables.proofs.Kept.{span-three, same_root, apart_stays}
+use Rattle.tables.proofs.unmaps.Ended.{unmap_leaves, unmap_tables, unmap_whole}
+use Rattle.tables.proofs.pools.Kept.{span-three, same_root, apart_stays}
 use Rattle.tables.proofs.trees.Tree.unmap.Goals as goal
 
 pub unmap_pieces-requires-clause-one_span : goal.unmap_pieces-requires-clause-one_span

@@ -1,6 +1,6 @@
 use Rattle.std.proofs.Common.{arith}
 use Rattle.tables.specs.Tree.{span}
-use Rattle.tables.proofs.Near.{span_grows}
+use Rattle.tables.proofs.walks.Near.{span_grows}
 use Rattle.unit.proofs.entries.CachedNonLeaf.new.Goals as goal
 
 pub invariant_of-result : goal.invariant_of-result

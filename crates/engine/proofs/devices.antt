@@ -1,0 +1,3 @@
+pub mod Attached
+pub mod Detached
+pub mod Bits

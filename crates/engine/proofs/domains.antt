@@ -1,0 +1,6 @@
+pub mod OneChanged
+pub mod Found
+pub mod Made
+pub mod Closed
+pub mod Dropped
+pub mod Pieces

@@ -1,0 +1,164 @@
+-- Flushes and drops: how they are refused, and what they change.
+use Rattle.std.proofs.Common.{◌≡◌, ℕ, ◌+◌, ◌-◌, ◌<◌, inl, inr, [], ◌∷◌, ◌++◌, length, Option, Some, None, refl, sym, ap, subst, ◌∙◌, arith}
+use Rattle.std.proofs.Common.{slice_get, slice_set}
+use Rattle.std.proofs.lemmas.List.{length-set}
+use Rattle.std.proofs.lemmas.Option.{same_Some}
+use Rattle.dmatypes.specs.declared.width.Width.TheVariants.{W39}
+use Rattle.vtdbits.specs.declared.context.ContextEntry.{ContextEntry}
+use Rattle.vtdbits.specs.declared.context.ContextEntry.TheVariants.{Absent, Present}
+use Rattle.dmatypes.specs.declared.call.Call.{Call}
+use Rattle.dmatypes.specs.declared.reply.Reply.{Reply}
+use Rattle.dmatypes.specs.declared.call.Call.TheVariants as calls
+use Rattle.dmatypes.specs.declared.refusal.Refusal.TheVariants as refusals
+use Rattle.dmatypes.specs.declared.reply.Reply.TheVariants.{Done, Flushed, Refused}
+use Rattle.dmatypes.specs.Conditions.{Stands}
+use Rattle.dmatypes.specs.Step.{Answers, IsStep, next}
+use Rattle.dmatypes.specs.World.{World, flushed, put}
+use Rattle.dmatypes.specs.World as world
+use Rattle.tables.specs.Pool.{Pool}
+use Rattle.vtdbits.specs.declared.descriptor.Descriptor.TheVariants.{IotlbDomain, Wait}
+use Rattle.engine.specs.declared.iommu.Iommu.{Iommu}
+use Rattle.engine.specs.Ending.{Closes, Flushes, Invalidates, left_by_all}
+use Rattle.engine.specs.Domains.{Domain, domain_at, parts_of}
+use Rattle.engine.specs.State.{Becomes, Exact, State, parts_in}
+use Rattle.engine.specs.Quarantine.{IsOfSomeWorld, Quarantine, attached}
+use Rattle.engine.specs.Steps.{Does}
+use Rattle.engine.specs.Whole.{IsWhole}
+use Rattle.engine.proofs.domains.Dropped.{domain_dropped}
+use Rattle.engine.proofs.lists.Places.{is_none, not_none}
+use Rattle.engine.proofs.domains.OneChanged.{both_absent, both_there}
+use Rattle.engine.proofs.states.Refused.{counted, refuses}
+use Rattle.engine.proofs.flushes.OneByOne.{domain_flushed}
+use Rattle.engine.proofs.caches.Sent.{changed, whole_sends}
+use Rattle.engine.proofs.unmaps.Steps.{records_count}
+
+-- ---- refused
+
+pub flush_no_domain : (m t : State) (domain : ℕ) → t ≡ counted m → domain_at m.domains domain ≡ None
+    → Does m (calls.Flush domain) (Refused refusals.NoDomain) t
+unfolding Exact IsStep Stands
+flush_no_domain m t domain is none = refuses m t (calls.Flush domain) refusals.NoDomain is tt
+    (λ w q.
+    inl (inl (
+      is_none (w.domains domain)
+          (both_absent m.pool.words (domain_at m.domains domain) (w.domains domain) (q.domains domain) none),
+      refl,
+    )))
+
+pub drop_no_domain : (m t : State) (domain : ℕ) → t ≡ counted m → domain_at m.domains domain ≡ None
+    → Does m (calls.Drop domain) (Refused refusals.NoDomain) t
+unfolding Exact IsStep Stands
+drop_no_domain m t domain is none = refuses m t (calls.Drop domain) refusals.NoDomain is tt
+    (λ w q.
+    inl (inl (
+      is_none (w.domains domain)
+          (both_absent m.pool.words (domain_at m.domains domain) (w.domains domain) (q.domains domain) none),
+      refl,
+    )))
+
+pub drop_busy : (m t : State) (domain : ℕ) (h : Domain) → t ≡ counted m → domain_at m.domains domain ≡ Some h
+    → ((v : ℕ) × (attached (slice_get m.iommu.contexts v) ≡ Some domain)) → Does m (calls.Drop domain) (Refused refusals.Busy) t
+unfolding Exact IsStep Stands
+drop_busy m t domain h is there (v, at) = refuses m t (calls.Drop domain) refusals.Busy is tt
+    (λ w q.
+    let both = both_there m.pool.words (domain_at m.domains domain) (w.domains domain) h (q.domains domain) there in
+    inl (inr (not_none (w.domains domain) both.0 both.1, inl ((v, q.contexts.devices v ∙ at), refl))))
+
+-- a device is attached to a domain that is there
+pub drop_attached : (m t : State) (domain : ℕ) → IsOfSomeWorld m → t ≡ counted m
+    → ((v : ℕ) × (attached (slice_get m.iommu.contexts v) ≡ Some domain)) → Does m (calls.Drop domain) (Refused refusals.Busy) t
+drop_attached m t domain (w, q) is (v, to) = by_entry (slice_get m.iommu.contexts v) refl
+  where
+    by_entry : (o : Option ContextEntry) → slice_get m.iommu.contexts v ≡ o → Does m (calls.Drop domain) (Refused refusals.Busy) t
+    by_entry None at = absurd (let no : None ≡ Some domain = sym (ap attached at) ∙ to in cc)
+    by_entry (Some Absent) at = absurd (let no : None ≡ Some domain = sym (ap attached at) ∙ to in cc)
+    by_entry (Some (Present root W39 named)) at =
+        let same : named ≡ domain = same_Some named domain (sym (ap attached at) ∙ to) in
+        let h = q.contexts.roots v root named at in
+        drop_busy m t domain h.0 is (ap (domain_at m.domains) (sym same) ∙ h.1) (v, to)
+
+-- ---- done
+
+-- a call is done, and the type of the state keeps what it does
+pub record Did (frames : ℕ) (m : State) (call : Call) (reply : Reply) (t : State) : Type 0 where
+  pub does : Does m call reply t
+  pub whole : IsWhole frames t
+
+module _ (frames : ℕ) (m : State) (domain i : ℕ) (h : Domain) (pool : Pool) (x : Iommu) (whole : IsWhole frames m)
+    (less : i < length m.domains) (id : domain ≡ i + 1)
+    (there : domain_at m.domains domain ≡ Some h) where
+  place : domain - 1 ≡ i
+  place = omega (arith, id)
+
+  at_next : domain_at m.domains (i + 1) ≡ Some h
+  at_next = rw id at there
+
+  -- the world after it, by the id of the call
+  at_id : (t : State) (w : World) (o : Option world.Domain) → Quarantine t (record w { domains = put (i + 1) o w.domains })
+      → Quarantine t (record w { domains = put domain o w.domains })
+  at_id t w o q = subst (λ (d : ℕ). Quarantine t (record w { domains = put d o w.domains })) (sym id) q
+
+  -- the type of the state keeps what an invalidation of the domain leaves
+  sends : (new : Option Domain) {call : Call} {reply : Reply} → Does m call reply (changed m i pool new x)
+      → Invalidates m.iommu (IotlbDomain domain) x → IsWhole frames (changed m i pool new x)
+  sends new {call} {reply} does invalidates =
+      whole_sends frames m (changed m i pool new x) call reply (IotlbDomain domain) m.iommu.contexts whole does (length-set m.domains i new)
+      refl invalidates
+
+  module _ (new : Domain) (released : ℕ) (count : released ≡ length h.records)
+      (flushes : Flushes (parts_in m h) domain (parts_of pool new x)) where
+    abbrev after_flush : State
+    after_flush = changed m i pool (Some new) x
+
+    flush_does : Does m (calls.Flush domain) (Flushed released) after_flush
+    unfolding Exact Becomes IsStep Stands Answers next
+    flush_does = record {
+      steps = λ w q.
+          let v = both_there m.pool.words (domain_at m.domains domain) (w.domains domain) h (q.domains domain) there in
+          let there' : w.domains (i + 1) ≡ Some v.0 = sym (ap w.domains id) ∙ v.1 in
+          let caches : x.unit.caches ≡ left_by_all (m.iommu.ring.waiting ++ IotlbDomain (i + 1) ∷ Wait x.sent ∷ []) m.iommu.unit.caches =
+          rw id at flushes.invalidates.caches in (
+            ((not_none (w.domains domain) v.0 v.1, tt), rw v.1 (ap (λ (n : ℕ). Flushed n) (count ∙ records_count h v.0 v.2.ids))),
+            rw v.1
+                (at_id after_flush w (Some (flushed v.0))
+                (domain_flushed m after_flush w i x.sent h v.0 new.space q whole.places less at_next
+                there' caches flushes.releases (ap (λ (d : Domain). slice_set m.domains i (Some d)) flushes.same)
+                flushes.invalidates.contexts)),
+          );
+      exact = tt;
+      becomes = (h, new, there, flushes, rw place refl);
+      calls = refl;
+    }
+
+    pub flush_did : Did frames m (calls.Flush domain) (Flushed released) after_flush
+    flush_did = record { does = flush_does; whole = sends (Some new) flush_does flushes.invalidates }
+
+  module _ (nobody : (v : ℕ) → attached (slice_get m.iommu.contexts v) ≡ Some domain → ⊥) (closes : Closes (parts_in m h) domain pool x)
+    where
+      abbrev after_drop : State
+      after_drop = changed m i pool None x
+
+      drop_does : Does m (calls.Drop domain) Done after_drop
+      unfolding Exact Becomes IsStep Stands Answers next
+      drop_does = record {
+        steps = λ w q.
+            let v = both_there m.pool.words (domain_at m.domains domain) (w.domains domain) h (q.domains domain) there in
+            let there' : w.domains (i + 1) ≡ Some v.0 = sym (ap w.domains id) ∙ v.1 in
+            let closes' : Closes (parts_in m h) (i + 1) pool x = rw id at closes in
+            let alone : (k : ℕ) → w.devices k ≡ Some domain → ⊥ = (λ k to. nobody k (sym (q.contexts.devices k) ∙ to)) in
+            let alone' : (k : ℕ) → w.devices k ≡ Some (i + 1) → ⊥ = rw id at alone in (
+              ((not_none (w.domains domain) v.0 v.1, (λ some. alone some.0 some.1, tt)), refl),
+              at_id after_drop w None (domain_dropped m after_drop w i h v.0 q whole.places less at_next there' alone' closes' refl),
+            );
+        exact = tt;
+        becomes = (h, there, closes, rw place refl);
+        calls = refl;
+      }
+
+      pub drop_did : Did frames m (calls.Drop domain) Done after_drop
+      drop_did = record {
+        does = drop_does;
+        whole =
+            sends None drop_does
+            (subst (λ (y : Iommu). Invalidates m.iommu (IotlbDomain domain) y) (sym closes.quiet) closes.flushes.invalidates);
+      }

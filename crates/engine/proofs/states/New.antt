@@ -1,0 +1,131 @@
+-- A new state is one of the empty world.
+use Rattle.std.proofs.Common.{◌≡◌, ℕ, zero, suc, ◌+◌, ◌*◌, ◌<◌, ◌≤◌, ⊎_elim, List, [], ◌∷◌, ◌++◌, length, length-append, Option, Some, None}
+use Rattle.std.proofs.Common.{refl, sym, ap, subst, ◌∙◌, arith, replicate, slice_get}
+use Rattle.std.proofs.lemmas.Bool.{cases_lt}
+use Rattle.dmatypes.specs.World.{World, IsIn, empty}
+use Rattle.dmatypes.specs.declared.width.Width.TheVariants.{W39}
+use Rattle.queue.specs.Ring.{Ring, ring_of}
+use Rattle.unit.specs.Caches.{Caches, UnitState, nothing, unit_state}
+use Rattle.vtdbits.specs.declared.context.ContextEntry.TheVariants.{Absent, Present}
+use Rattle.std.proofs.lemmas.Option.{none-some}
+use Rattle.tables.specs.Pool.{memory, occurs}
+use Rattle.tables.specs.Tree.{total}
+use Rattle.tables.proofs.pools.FreeList.{counted_up, counted_past, zero_words}
+use Rattle.tables.proofs.sums.Firsts.{total-none}
+use Rattle.std.specs.Option.{option_flatten}
+use Rattle.engine.specs.Domains.{Domain, domain_at}
+use Rattle.engine.specs.State.{IsNew, State}
+use Rattle.engine.specs.Whole.{IsWhole}
+use Rattle.engine.specs.Quarantine.{AreLawful, Quarantine, attached, owned}
+use Rattle.engine.proofs.domains.OneChanged.{domain_of_place}
+
+-- a list of no domains
+abbrev none_there : ℕ → List (Option Domain)
+none_there n = replicate n None
+
+none_in : (n i : ℕ) → option_flatten (slice_get (none_there n) i) ≡ None
+none_in zero i = refl
+none_in (suc n) zero = refl
+none_in (suc n) (suc i) = none_in n i
+
+no_domain : (domains : List (Option Domain)) (d : ℕ) → domains ≡ replicate 15 None → domain_at domains d ≡ None
+no_domain domains zero is = refl
+no_domain domains (suc i) is = let next : suc i ≡ i + 1 = omega arith in rw (next, domain_of_place domains i, is) (none_in 15 i)
+
+no_device_in : (n v : ℕ) → attached (slice_get (replicate n Absent) v) ≡ None
+no_device_in zero v = refl
+no_device_in (suc n) zero = refl
+no_device_in (suc n) (suc v) = no_device_in n v
+
+no_entry_in : (n v root domain : ℕ) → slice_get (replicate n Absent) v ≡ Some (Present root W39 domain) → ⊥
+no_entry_in zero v root domain at = absurd cc
+no_entry_in (suc n) zero root domain at = cc
+no_entry_in (suc n) (suc v) root domain at = no_entry_in n v root domain at
+
+-- nothing is remembered
+nothing_cached : (m : State) (w : World) (c : Caches) → c ≡ nothing → AreLawful m w c
+nothing_cached m w c is = rw is (record { leaves = λ l inside. absurd inside; tables = λ i inside. absurd inside })
+
+pub of_empty_world : (m : State) (frames : ℕ) → IsNew frames m → Quarantine m (empty frames)
+of_empty_world m frames new = record {
+  table_frames = sym new.frames_are;
+  domains = λ d. rw (no_domain m.domains d new.domains_are) tt;
+  caches = nothing_cached m (empty frames) m.iommu.unit.caches (ap (λ (u : UnitState). u.caches) new.unit_is);
+  contexts = record {
+    devices = λ v. sym (ap (λ row. attached (slice_get row v)) new.contexts_are ∙ no_device_in 16 v);
+    roots = λ v root domain at. absurd (no_entry_in 16 v root domain (ap (λ row. slice_get row v) (sym new.contexts_are) ∙ at));
+    cached = λ x inside. let none = subst (λ (u : UnitState). IsIn x u.caches.contexts) new.unit_is inside in absurd none;
+  };
+  frames = record {
+    once = λ f less. omega (arith, none f, new.free f (omega (arith, less, new.frames_are)));
+    past = λ f past. omega (arith, none f, new.past f (omega (arith, past, new.frames_are)));
+    zeroed =
+        λ f some.
+        ⊎_elim (λ (low : f < frames). new.zeroed f low) (λ (high : frames ≤ f). absurd (omega (arith, some, new.past f high)))
+        (cases_lt f frames);
+    held = λ d f h there some. absurd (none-some h (sym (no_domain m.domains d new.domains_are) ∙ there));
+  };
+  tickets = refl;
+} where
+  none : (f : ℕ) → total (λ d. owned (memory m.pool.words) (domain_at m.domains d) f) 16 ≡ 0
+  none f =
+      total-none (λ d. owned (memory m.pool.words) (domain_at m.domains d) f) 16
+      (λ d less. ap (λ (o : Option Domain). owned (memory m.pool.words) o f) (no_domain m.domains d new.domains_are))
+
+pub whole_new : (m : State) (frames : ℕ) → IsNew frames m → IsWhole frames m
+whole_new m frames new = record {
+  of_world = (empty frames, of_empty_world m frames new);
+  places = ap length new.domains_are;
+  devices = ap length new.contexts_are;
+  frames_are = sym new.frames_are;
+  idle = ap (λ (r : Ring). r.waiting) new.ring_is;
+  status = (let zero_status : m.iommu.ring.status ≡ 0 = ap (λ (r : Ring). r.status) new.ring_is in omega (arith, zero_status));
+  sent = omega (arith, new.sent_is);
+  steps = (let zero_steps : m.iommu.unit.steps ≡ 0 = ap (λ (u : UnitState). u.steps) new.unit_is in omega (arith, zero_steps));
+}
+
+-- ---- there is a new state of each size
+
+-- the frames below a number, from the first on
+frames_up : ℕ → List ℕ
+frames_up zero = []
+frames_up (suc n) = frames_up n ++ n ∷ []
+
+past : (n f : ℕ) → n ≤ f → occurs f (frames_up n) ≡ 0
+unfolding frames_up
+past zero f high = refl
+past (suc n) f high = counted_past (frames_up n) n (past n) f (omega (arith, high))
+
+below : (n f : ℕ) → f < n → occurs f (frames_up n) ≡ 1
+unfolding frames_up
+below zero f low = absurd (omega (arith, low))
+below (suc n) f low = counted_up (frames_up n) n (below n) (past n) f (omega (arith, low))
+
+many : (n : ℕ) → length (frames_up n) ≡ n
+unfolding frames_up
+many zero = refl
+many (suc n) = omega (arith, length-append (frames_up n) (n ∷ []), many n)
+
+pub new_state : ℕ → State
+new_state frames = record {
+  pool = record { words = replicate (frames * 512) 0; free = frames_up frames; frames = frames };
+  domains = replicate 15 None;
+  iommu = record { contexts = replicate 16 Absent; ring = ring_of [] 0 []; unit = unit_state nothing 0 0; sent = 0 };
+  calls = 0;
+}
+
+pub new_is_new : (frames : ℕ) → IsNew frames (new_state frames)
+unfolding new_state
+new_is_new frames = record {
+  frames_are = refl;
+  free = below frames;
+  past = past frames;
+  count = many frames;
+  zeroed = λ f low k small. zero_words (replicate (frames * 512) 0) frames refl f k low small;
+  domains_are = refl;
+  contexts_are = refl;
+  ring_is = refl;
+  unit_is = refl;
+  sent_is = refl;
+  calls_are = refl;
+}

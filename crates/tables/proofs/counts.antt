@@ -1,0 +1,3 @@
+pub mod OnePage
+pub mod ByPieces
+pub mod ByEntries

@@ -1,0 +1,5 @@
+pub mod FreeList
+pub mod Patched
+pub mod GivenBack
+pub mod Fresh
+pub mod Kept

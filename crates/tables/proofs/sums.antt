@@ -1,0 +1,4 @@
+pub mod Firsts
+pub mod OneFrame
+pub mod OverSpans
+pub mod Blocks

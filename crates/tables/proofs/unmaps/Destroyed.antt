@@ -1,0 +1,160 @@
+-- A tree given back, entry by entry.
+use Rattle.std.proofs.Common.{◌≡◌, ◌≢◌, ℕ, suc, ◌+◌, ◌-◌, ◌<◌, ◌≤◌, ⊎_elim, refl, sym, ap, subst, ◌∙◌, arith}
+use Rattle.dmatypes.specs.declared.page.TheConstants.{SPAN_PAGES}
+use Rattle.tables.specs.declared.entries.TheConstants.{TABLE_ENTRIES}
+use Rattle.vtdbits.specs.declared.entry.SsEntry.{SsEntry}
+use Rattle.vtdbits.specs.declared.entry.SsEntry.TheVariants.{Absent, Table, Leaf, LargeLeaf}
+use Rattle.tables.specs.Tree.{total, here, entry_uses, uses}
+use Rattle.tables.specs.Under.{used_by_entry, used_at}
+use Rattle.tables.specs.Pool.{Pool, word, memory, occurs, IsTree}
+use Rattle.tables.proofs.sums.Firsts.{total_same, total-suc, total-zero, total_le_more}
+use Rattle.tables.proofs.sums.OneFrame.{here-same}
+use Rattle.tables.proofs.walks.Words.{same_entry}
+use Rattle.tables.proofs.walks.Agreeing.{to_agree, uses_agree}
+use Rattle.tables.proofs.walks.Steps.{uses-suc, same_or_not}
+
+pub used_child : (pool : Pool) (l t f i : ℕ) → used_at pool (suc l) t f i ≡ used_by_entry (memory pool.words) l t f i
+unfolding used_at
+used_child pool l t f i =
+    ap (λ n. entry_uses (memory pool.words (suc l) t i) (λ c. uses (memory pool.words) n c f)) (let e : suc l - 1 ≡ l = omega arith in e)
+
+pub used_table : (pool : Pool) (level t f i c : ℕ) → memory pool.words level t i ≡ Table c
+    → used_at pool level t f i ≡ uses (memory pool.words) (level - 1) c f
+unfolding used_at
+used_table pool level t f i c e = ap (λ x. entry_uses x (λ c. uses (memory pool.words) (level - 1) c f)) e
+
+pub used_none : (pool : Pool) (level t f i : ℕ) (e : SsEntry) → memory pool.words level t i ≡ e → ((below : ℕ → ℕ) → entry_uses e below ≡ 0)
+    → used_at pool level t f i ≡ 0
+unfolding used_at
+used_none pool level t f i e is none =
+    ap (λ x. entry_uses x (λ c. uses (memory pool.words) (level - 1) c f)) is ∙ none (λ c. uses (memory pool.words) (level - 1) c f)
+
+-- the uses of a tree, by entries
+pub uses_level : (pool : Pool) (level l t f : ℕ) → level ≡ suc l
+    → uses (memory pool.words) level t f ≡ here t f + total (used_at pool level t f) TABLE_ENTRIES
+uses_level pool level l t f up =
+    subst (λ n. uses (memory pool.words) n t f ≡ here t f + total (used_at pool n t f) TABLE_ENTRIES) (sym up)
+    (uses-suc (memory pool.words) l t f
+    ∙ ap (λ k. here t f + k)
+    (total_same (used_at pool (suc l) t f) (used_by_entry (memory pool.words) l t f) TABLE_ENTRIES (λ i lt. sym (used_child pool l t f i))))
+
+-- the first entries are cleared and their tables free, and the others are as they were
+pub record IsReleasing (old cur : Pool) (level t i : ℕ) : Type 0 where
+  pub free : (f : ℕ) → occurs f cur.free ≡ occurs f old.free + total (used_at old level t f) i
+  pub cleared : (k : ℕ) → k < i → word cur.words t k ≡ 0
+  pub others : (f k : ℕ) → k < TABLE_ENTRIES → f ≢ t → total (used_at old level t f) i ≡ 0 → word cur.words f k ≡ word old.words f k
+  pub row : (k : ℕ) → k < TABLE_ENTRIES → i ≤ k → word cur.words t k ≡ word old.words t k
+  pub frames : cur.frames ≡ old.frames
+
+pub releasing_start : (pool : Pool) (level t : ℕ) → IsReleasing pool pool level t 0
+releasing_start pool level t = record {
+  free = λ f. omega (arith, total-zero (used_at pool level t f));
+  cleared = λ k lt. absurd (omega (arith, lt));
+  others = λ f k k_in ne none. refl;
+  row = λ k k_in le. refl;
+  frames = refl;
+}
+
+-- what the entries up to one use, and that one, is no more than the whole
+part_of : (pool : Pool) (level l t f i : ℕ) → level ≡ suc l → i < TABLE_ENTRIES
+    → here t f + total (used_at pool level t f) i + used_at pool level t f i ≤ uses (memory pool.words) level t f
+part_of pool level l t f i up lt =
+    let most : total (used_at pool level t f) (suc i) ≤ total (used_at pool level t f) TABLE_ENTRIES =
+    total_le_more (used_at pool level t f) (suc i) TABLE_ENTRIES (omega arith) in
+    omega (arith, uses_level pool level l t f up, total-suc (used_at pool level t f) i)
+
+-- the root is not among the frames given back before
+pub root_left : (old cur : Pool) (level l t i : ℕ) → level ≡ suc l → i ≤ SPAN_PAGES → IsTree old level t → IsReleasing old cur level t i
+    → occurs t cur.free ≡ 0
+root_left old cur level l t i up le tree r =
+    let most : total (used_at old level t t) i ≤ total (used_at old level t t) TABLE_ENTRIES =
+    total_le_more (used_at old level t t) i SPAN_PAGES le in
+    omega (arith, r.free t, tree.once t, uses_level old level l t t up, here-same t)
+
+entry_left : (old cur : Pool) (level t i : ℕ) → i < TABLE_ENTRIES → IsReleasing old cur level t i
+    → memory cur.words level t i ≡ memory old.words level t i
+entry_left old cur level t i lt r = same_entry old.words cur.words level t i (r.row i lt (omega arith))
+
+-- what lies under the next entry is as it was
+same_below : (old cur : Pool) (level l t i c f : ℕ) → level ≡ suc l → i < TABLE_ENTRIES → IsTree old level t → IsReleasing old cur level t i
+    → memory old.words level t i ≡ Table c → uses (memory cur.words) (level - 1) c f ≡ uses (memory old.words) (level - 1) c f
+same_below old cur level l t i c f up lt tree r is =
+    uses_agree (memory old.words) (memory cur.words) (level - 1) c f
+    (to_agree (memory old.words) (memory cur.words) (level - 1) c (λ g some l' k k_in.
+    let used = used_table old level t g i c is in
+    let part = part_of old level l t g i up lt in
+    same_entry old.words cur.words l' g k
+    (r.others g k k_in (λ e. let own : here t g ≡ here t t = ap (λ x. here t x) e in omega (arith, part, used, tree.once g, here-same t))
+    (omega (arith, part, used, tree.once g)))))
+
+pub used_left : (old cur : Pool) (level l t i f : ℕ) → level ≡ suc l → i < TABLE_ENTRIES → IsTree old level t
+    → IsReleasing old cur level t i → used_at cur level t f i ≡ used_at old level t f i
+used_left old cur level l t i f up lt tree r = by_entry (memory old.words level t i) refl
+  where
+    by_entry : (e : SsEntry) → memory old.words level t i ≡ e → used_at cur level t f i ≡ used_at old level t f i
+    by_entry Absent is =
+        used_none cur level t f i Absent (entry_left old cur level t i lt r ∙ is) (λ below. refl)
+        ∙ sym (used_none old level t f i Absent is (λ below. refl))
+    by_entry (Table c) is =
+        used_table cur level t f i c (entry_left old cur level t i lt r ∙ is) ∙ same_below old cur level l t i c f up lt tree r is
+        ∙ sym (used_table old level t f i c is)
+    by_entry (Leaf x) is =
+        used_none cur level t f i (Leaf x) (entry_left old cur level t i lt r ∙ is) (λ below. refl)
+        ∙ sym (used_none old level t f i (Leaf x) is (λ below. refl))
+    by_entry (LargeLeaf x) is =
+        used_none cur level t f i (LargeLeaf x) (entry_left old cur level t i lt r ∙ is) (λ below. refl)
+        ∙ sym (used_none old level t f i (LargeLeaf x) is (λ below. refl))
+
+pub taken_left : (old cur : Pool) (level l t i : ℕ) → level ≡ suc l → i < TABLE_ENTRIES → IsTree old level t → IsReleasing old cur level t i
+    → occurs t cur.free + used_at cur level t t i ≡ 0
+taken_left old cur level l t i up lt tree r =
+    omega (arith, used_left old cur level l t i t up lt tree r, part_of old level l t t i up lt, tree.once t, here-same t, r.free t)
+
+pub below_left : (old cur : Pool) (level l t i c : ℕ) → level ≡ suc l → i < TABLE_ENTRIES → IsTree old level t
+    → IsReleasing old cur level t i → memory cur.words level t i ≡ Table c → IsTree cur (level - 1) c
+below_left old cur level l t i c up lt tree r is =
+    let was : memory old.words level t i ≡ Table c = sym (entry_left old cur level t i lt r) ∙ is in
+    record {
+      once =
+          λ f.
+          omega (
+            arith,
+            same_below old cur level l t i c f up lt tree r was,
+            used_table old level t f i c was,
+            part_of old level l t f i up lt,
+            tree.once f,
+            r.free f,
+          );
+      within =
+          λ f past.
+          omega (
+            arith,
+            same_below old cur level l t i c f up lt tree r was,
+            used_table old level t f i c was,
+            part_of old level l t f i up lt,
+            tree.within f (omega (arith, r.frames)),
+            r.free f,
+          );
+    }
+
+-- one more entry
+pub releasing_more : (old cur new : Pool) (level l t i : ℕ) → level ≡ suc l → i < TABLE_ENTRIES → IsTree old level t
+    → IsReleasing old cur level t i → ((f : ℕ) → occurs f new.free ≡ occurs f cur.free + used_at cur level t f i) → word new.words t i ≡ 0
+    → ((k : ℕ) → k < TABLE_ENTRIES → k ≢ i → word new.words t k ≡ word cur.words t k)
+    → ((f k : ℕ) → k < TABLE_ENTRIES → f ≢ t → used_at cur level t f i ≡ 0 → word new.words f k ≡ word cur.words f k)
+    → new.frames ≡ cur.frames → IsReleasing old new level t (i + 1)
+releasing_more old cur new level l t i up lt tree r free cleared row others frames = record {
+  free = λ f. omega (arith, free f, r.free f, used_left old cur level l t i f up lt tree r, next f);
+  cleared = λ k k_in. ⊎_elim
+      (λ (e : k ≡ i). subst (λ j. word new.words t j ≡ 0) (sym e) cleared)
+      (λ (ne : k ≢ i). row k (omega arith) ne ∙ r.cleared k (omega arith))
+      (same_or_not k i);
+  others = λ f k k_in ne none.
+      others f k k_in ne (omega (arith, none, used_left old cur level l t i f up lt tree r, next f))
+      ∙ r.others f k k_in ne (omega (arith, none, next f));
+  row = λ k k_in le. row k k_in (λ e. omega arith) ∙ r.row k k_in (omega arith);
+  frames = frames ∙ r.frames;
+}
+  where
+    next : (f : ℕ) → total (used_at old level t f) (i + 1) ≡ total (used_at old level t f) i + used_at old level t f i
+    next f = ap (total (used_at old level t f)) (let e : i + 1 ≡ suc i = omega arith in e) ∙ total-suc (used_at old level t f) i
