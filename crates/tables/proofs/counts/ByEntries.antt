@@ -19,7 +19,8 @@ use Rattle.tables.proofs.walks.Steps.{span-suc, span-zero, leaf-suc, table_top, 
 use Rattle.tables.proofs.counts.OnePage.{lacking_by, lacking_is}
 use Rattle.tables.proofs.sums.OverSpans.{one_more_mul}
 use Rattle.tables.proofs.counts.ByPieces.{lacks-is}
-use Rattle.tables.proofs.sums.Blocks.{is_met-yes, met_spans, met_spans_same, met_one, among_spans, unmet_spans, span_in, spans_below, total_swap}
+use Rattle.tables.proofs.sums.Blocks.{is_met-yes, met_spans, met_spans_same, met_one, among_spans}
+use Rattle.tables.proofs.sums.Blocks.{unmet_spans, span_in, spans_below, total_swap}
 
 -- what a page's span of a level lacks, under an entry that could name a table of a level
 below_lacks : Memory → ℕ → SsEntry → (ℕ → Bool) → ℕ → ℕ → ℕ

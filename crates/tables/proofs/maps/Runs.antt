@@ -14,7 +14,8 @@ use Rattle.tables.specs.Pieces.{WritesEntries}
 use Rattle.tables.proofs.sums.OneFrame.{here-same}
 use Rattle.tables.proofs.walks.Words.{same_entry, memory_at}
 use Rattle.tables.proofs.walks.Levels.{stated_small}
-use Rattle.tables.proofs.walks.Steps.{leaf_under, table_under, table_top, same_or_not, uses-one, index-zero, div_span_one, leaf-zero, table-zero}
+use Rattle.tables.proofs.walks.Steps.{leaf_under, table_under, table_top, same_or_not, uses-one}
+use Rattle.tables.proofs.walks.Steps.{index-zero, div_span_one, leaf-zero, table-zero}
 use Rattle.tables.proofs.walks.Agreeing.{leaf_by}
 
 -- two pages of one span of 512 with one index are one

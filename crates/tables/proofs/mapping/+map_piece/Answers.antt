@@ -7,7 +7,8 @@ use Rattle.tables.specs.Lacks.{tables_lacking_at}
 use Rattle.tables.specs.Pieces.{piece_states, is_large}
 use Rattle.vtdbits.specs.Translation.{target}
 use Rattle.dmatypes.specs.Rights.{bits_of}
-use Rattle.tables.proofs.maps.Descending.{Through, map_through, absent_below, made_through, count_through, count_grown, count_absent, no_leaf}
+use Rattle.tables.proofs.maps.Descending.{Through, map_through, absent_below, made_through}
+use Rattle.tables.proofs.maps.Descending.{count_through, count_grown, count_absent, no_leaf}
 use Rattle.tables.proofs.maps.Descending.{spared_through, spared_grown}
 use Rattle.tables.proofs.counts.OnePage.{lacks_at-one, lacks_at-large}
 use Rattle.tables.proofs.walks.Levels.{root_in_level, root_taken_level, below_level}

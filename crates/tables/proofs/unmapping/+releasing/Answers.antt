@@ -7,7 +7,8 @@ use Rattle.tables.specs.Pool.{memory, word, occurs}
 use Rattle.tables.specs.Under.{used_at}
 use Rattle.tables.proofs.sums.OneFrame.{here-same}
 use Rattle.tables.proofs.walks.Levels.{root_in_level}
-use Rattle.tables.proofs.unmaps.Destroyed.{releasing_start, releasing_more, root_left, taken_left, below_left, uses_level, used_table, used_none}
+use Rattle.tables.proofs.unmaps.Destroyed.{releasing_start, releasing_more, root_left, taken_left}
+use Rattle.tables.proofs.unmaps.Destroyed.{below_left, uses_level, used_table, used_none}
 use Rattle.tables.proofs.unmapping.+releasing.Goals as goal
 
 pub release-loop-index-init : goal.release-loop-index-init
