@@ -1,17 +1,18 @@
 //! `vtdm`: answers scripts of calls on a manager of DMA addresses.
 #![tactic(auto)]
 
+mod help;
 mod options;
 mod program;
 mod status;
+mod words;
 
 use std::alloc::AllocError;
-use std::env;
 use std::io::ErrorKind;
 use std::process::ExitCode;
 
 fn main(rt: HostRuntime) -> ExitCode {
-    let words = match env::args(&rt) {
+    let words = match words::words(&rt) {
         Ok(words) => words,
         Err(error) => return without_words(&rt, error.kind()),
     };
@@ -20,7 +21,6 @@ fn main(rt: HostRuntime) -> ExitCode {
     };
     let texts: Result<Vec<&str>, AllocError> = words
         .iter()
-        .skip(1)
         .map(|word| word.as_str())
         .collect(rt.alloc());
     let Ok(texts) = texts else {

@@ -13,6 +13,12 @@ use std::io;
 use std::io::{Read, Write};
 use std::sync::Wait;
 
+// The bytes of the longest word that is told back (own): every word that asks for something is shorter.
+const LONGEST_WORD: usize = 64;
+
+const NOT_PLAIN: &str =
+    "a word of the command line is longer than 64 bytes, or isn't of printable ASCII";
+
 /// Runs the program over its words, without the program's name among them, and answers its exit status.
 /// The words are judged before anything is read.
 pub fn program<T: Wait, R: Read + Drop, W: Write + Drop, E: Write + Drop>(
@@ -60,9 +66,15 @@ fn perform<T: Wait, R: Read + Drop, W: Write + Drop, E: Write>(
     output: W,
     errors: &mut E,
 ) -> End {
-    let Ok(command) = command(alloc) else {
+    let Ok(mut command) = command(alloc) else {
         return End::Stopped(RunError::NoMemory);
     };
+    if !words.iter().all(|word| is_plain(word)) {
+        return match command.error(ErrorKind::InvalidValue, NOT_PLAIN) {
+            Ok(error) => explain(&error, output, errors),
+            Err(_) => End::Stopped(RunError::NoMemory),
+        };
+    }
     match command.try_get_matches_from(words) {
         Ok(matches) => match task_of(&matches) {
             Some((task, options)) => run_task(rt, alloc, task, options, input, output),
@@ -70,6 +82,11 @@ fn perform<T: Wait, R: Read + Drop, W: Write + Drop, E: Write>(
         },
         Err(error) => explain(&error, output, errors),
     }
+}
+
+// Whether a word may be shown on a terminal as it is: no other word asks for anything.
+fn is_plain(word: &str) -> bool {
+    word.len() <= LONGEST_WORD && word.bytes().all(|byte| matches!(byte, b' '..=b'~'))
 }
 
 // Why the words ask for no task: they ask for help, or are bad.

@@ -1,10 +1,10 @@
 //! The program over its words: statuses, and what it says on standard error.
 
-ghost use Rattle.std.specs.Prelude.{Some};
+ghost use Rattle.std.specs.Prelude.{None};
 
 use crate::program::program;
 use std::io;
-use std::io::{Read, Write};
+use std::io::Read;
 use std::test::Fail;
 
 const FIRST_MAP: &[u8] =
@@ -13,48 +13,15 @@ const FIRST_MAP: &[u8] =
 const EMPTY_REPORT: &[u8] =
     b"events 0\nframes 64 free 0 used 0 retired\ntickets 0 open\nring 0 pending\n";
 
-// Gives its bytes three at a time, and fails at one call.
+// Input that can't be read.
 #[derive(Drop)]
-struct Flaky<'a> {
-    rest: &'a [u8],
-    good: u64,
-}
+struct Closed;
 
-impl Read for Flaky<'_> {
-    ghost remaining = { λ f. Some f.rest.now };
+impl Read for Closed {
+    ghost remaining = { λ f. None };
 
-    fn read(&mut self, buf: &mut [u8]) -> io::Result<usize> {
-        if self.good == 0 {
-            return Err(io::Error::from(io::ErrorKind::Other));
-        }
-        self.good -= 1;
-        if buf.len() < 3 {
-            return self.rest.read(buf);
-        }
-        self.rest.read(&mut buf[..3])
-    }
-}
-
-// Holds what is written, and takes nothing from one call on.
-#[derive(Drop)]
-struct Limited {
-    held: Vec<u8>,
-    good: u64,
-}
-
-impl Write for Limited {
-    ghost contents = { λ f. Some f.held.items };
-
-    fn write(&mut self, buf: &[u8]) -> io::Result<usize> {
-        if self.good == 0 {
-            return Ok(0);
-        }
-        self.good -= 1;
-        self.held.write(buf)
-    }
-
-    fn flush(&mut self) -> io::Result<()> {
-        Ok(())
+    fn read(&mut self, _: &mut [u8]) -> io::Result<usize> {
+        Err(io::Error::from(io::ErrorKind::Other))
     }
 }
 
@@ -98,7 +65,8 @@ fn statuses(rt: HostRuntime) -> Result<(), Fail> {
 // A bad command line is told on standard error and reads nothing; help is output.
 #[test]
 fn command_lines(rt: HostRuntime) -> Result<(), Fail> {
-    let rows: [(&[&str], u8); 12] = [
+    let long = "run-with-a-word-of-more-than-sixty-four-bytes-that-asks-for-nothing-at-all";
+    let rows: [(&[&str], u8); 17] = [
         (&["run", "--frames", "15"], 2),
         (&["run", "--frames", "4097"], 2),
         (&["run", "--calls", "0"], 2),
@@ -111,6 +79,11 @@ fn command_lines(rt: HostRuntime) -> Result<(), Fail> {
         (&["--help"], 0),
         (&["run", "--help"], 0),
         (&["report", "--help"], 0),
+        (&["--version"], 0),
+        (&["run", "--version"], 0),
+        (&["\u{1b}[31mrun"], 2),
+        (&["run", "--frames", "6\n4"], 2),
+        (&[long], 2),
     ];
     for (words, status) in rows {
         let mut written = Vec::new(rt.alloc());
@@ -121,6 +94,11 @@ fn command_lines(rt: HostRuntime) -> Result<(), Fail> {
         );
         assert_eq!(rt; written.is_empty(), status == 2);
         assert_eq!(rt; told.is_empty(), status == 0);
+        assert!(rt;
+            told.iter()
+                .all(|byte| *byte == b'\n' || matches!(*byte, b' '..=b'~'))
+        );
+        assert!(rt; told.len() < 400);
     }
     Ok(())
 }
@@ -130,22 +108,22 @@ fn command_lines(rt: HostRuntime) -> Result<(), Fail> {
 fn failing_ends(rt: HostRuntime) -> Result<(), Fail> {
     let mut written = Vec::new(rt.alloc());
     let mut told = Vec::new(rt.alloc());
-    let input = Flaky {
-        rest: FIRST_MAP,
-        good: 1,
-    };
     assert_eq!(rt;
-        program(&rt, rt.alloc(), &["run"], input, &mut written, &mut told),
+        program(&rt, rt.alloc(), &["run"], Closed, &mut written, &mut told),
         1
     );
     assert_eq!(rt; told.as_slice(), b"input failed\n".as_slice());
     let mut told = Vec::new(rt.alloc());
-    let output = Limited {
-        held: Vec::new(rt.alloc()),
-        good: 0,
-    };
+    let mut full: [u8; 0] = [];
     assert_eq!(rt;
-        program(&rt, rt.alloc(), &["run"], FIRST_MAP, output, &mut told),
+        program(
+            &rt,
+            rt.alloc(),
+            &["run"],
+            FIRST_MAP,
+            full.as_mut_slice(),
+            &mut told
+        ),
         1
     );
     assert_eq!(rt; told.as_slice(), b"output failed\n".as_slice());

@@ -1,0 +1,96 @@
+//! What the program says of itself, in lines of at most 80 columns.
+
+pub(crate) const VERSION: &str = "0.1.0";
+
+pub(crate) const ABOUT: &str =
+    "Keeps DMA address domains of a simulated VT-d unit, as a script of calls asks.";
+
+pub(crate) const SCRIPT: &str = "\
+A script is read from standard input, one call a line. 'run' answers each line
+by a line on standard output, 'report' answers none and tells at the end what is
+there. Lines, and what they are answered by:
+
+  domain strict         makes a domain: 'domain D'
+  domain lazy
+  drop D                ends domain D, to which no device is attached, with all
+                        its pages: 'ok'
+  attach V D            attaches device V to domain D: 'ok'
+  detach V              detaches device V from its domain: 'ok'
+  map D F N O R         maps N pages of domain D to host frames from F on, where
+                        they begin at a multiple of 2^O pages: 'map A'
+  maplist D O R F:N ..  maps 1 to 16 such runs, one behind the other: 'map A'
+  unmap D A N           unmaps N pages of domain D from address A on:
+                        'unmapped C'
+  flush D               has the unit forget domain D, and releases what was
+                        unmapped lazily: 'flushed C'
+  dma V A X [look] [fill]
+                        device V reads or writes at address A: 'host H' or
+                        'fault E'; with look the unit answers from its caches
+                        where it can, with fill it remembers what it used
+  evict K P             the unit forgets what is at place P of its caches, from
+                        0: 'ok', also where nothing is there
+
+In these:
+
+  D  a domain, 1 to 15             V  a device, 0 to 15
+  F  a host frame below 2^24: 4 KiB of host memory from address F times 4096
+  N  pages of 4 KiB, 1 to 4096 in a call
+  O  an order, 0 to 9              R  rights: r, w or rw
+  A  a device's byte address, of a page's start but for dma; 'map' answers the
+     lowest that is free, of the first page
+  X  r or w                        K  leaf, nonleaf or context
+  H  a host's byte address
+  C  unmaps of a lazy domain that are released: all at a flush, and where 256
+     wait all at the next unmap; else 0
+  E  2 not attached, 4 beyond 39 bits of address, 5 a write or 6 a read that the
+     page doesn't permit, or of a page that isn't there
+
+In a strict domain unmapped pages are free when 'unmap' answers; in a lazy one
+the unit may use them until they are released, and no 'map' answers them before.
+Addresses 0xfee00000 to 0xfeefffff are the interrupt window, and no pages.
+
+A call that can't be done is 'refused', with one of these numbers:
+
+   1 no such domain      6 frame of a table     11 interrupt window
+   2 no such device      7 no free range        12 too many domains
+   3 busy                8 no table frames      15 the history is full
+   4 not attached        9 too many pieces
+   5 bad range          10 not live
+
+Numbers are decimal with no leading zero, or 0x and 1 to 16 digits 0 to 9 and a
+to f. One space stands between two fields, and none at an end of a line. A line
+has at most 512 bytes and ends with a newline, the last one too. No line is
+empty, and none is a comment. At the first line that isn't so the work stops:
+standard error says 'line K', and the lines before it are done.
+
+Exit status: 0 done; 1 input or output failed; 2 a bad line or a bad command
+line; 3 no memory. A call takes about 300 bytes of memory, for the history.
+The table frames are host frames 0 and on, and can't be mapped.
+
+Examples:
+
+  printf 'domain strict\\nmap 1 0x100 1 0 rw\\n' | vtdm run
+  vtdm run --frames 256 < script";
+
+pub(crate) const REPORT: &str = "\
+A script is read from standard input, of the lines that 'vtdm run --help' tells,
+and no line is answered. At its end, or at its first bad line, the report says:
+
+  events 5              calls that were made
+  frames 61 free 3 used 0 retired
+                        frames for tables; the retired ones wait until unmapped
+                        pages are released
+  tickets 0 open        flushes that were begun and not yet reaped
+  ring 0 pending        invalidation descriptors that wait for the unit
+  domain 1 lazy live 2 retired 1 pieces 4
+                        a domain: its mode, its mapped pages, its unmaps that
+                        are not yet released, and the pieces of its addresses
+  device 3 domain 1     an attached device
+
+Exit status: 0 done; 1 input or output failed; 2 a bad line (standard error says
+'line K') or a bad command line; 3 no memory.
+
+Examples:
+
+  printf 'domain lazy\\nattach 3 1\\n' | vtdm report
+  vtdm report --calls 100 < script";
