@@ -12,6 +12,3 @@ mod wrapped;
 pub use counted::Counted;
 pub use error::RunError;
 pub use running::{report, run};
-
-#[cfg(test)]
-mod tests;

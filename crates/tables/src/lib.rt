@@ -10,10 +10,7 @@ mod frames;
 pub mod laws;
 mod mapping;
 mod piece;
-mod segments;
-#[cfg(test)]
-mod tests;
-mod trees;
+mod segments;mod trees;
 mod unmapping;
 
 pub use cut::Cut;

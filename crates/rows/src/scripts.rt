@@ -2,9 +2,7 @@
 
 ghost use Rattle.std.specs.Prelude.{◌≡◌, IfSome, Some};
 
-use crate::counted::Counted;
-use crate::error::RunError;
-use crate::running::run;
+use script::{Counted, RunError, run};
 use manager::Config;
 use std::alloc::{AllocError, Global};
 use std::cell::Cell;

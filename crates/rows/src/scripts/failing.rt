@@ -3,9 +3,7 @@
 ghost use Rattle.std.specs.Prelude.{Some};
 
 use super::{FIRST_MAP, answers, config};
-use crate::counted::Counted;
-use crate::error::RunError;
-use crate::running::{report, run};
+use script::{Counted, RunError, report, run};
 use std::cell::Cell;
 use std::io;
 use std::io::{Read, Write};

@@ -2,9 +2,9 @@
 
 ghost use Rattle.std.specs.Prelude.{◌≡◌, ◌+◌, ◌<◌, ◌≤◌, ◌^◌};
 
-use crate::{Pool, Tree};
 use dmatypes::{FRAMES_END, Frame, MOST_PAGES, Page, PageRange, Rights};
 use std::test::Fail;
+use tables::{Pool, Tree};
 
 // A few pages before the interrupt address range.
 fn pages(first: u64, pages: u64) -> PageRange

@@ -1,9 +1,7 @@
 //! Scripts with their answers and their reports.
 
 use super::{FIRST_MAP, Flaky, Limited, check_answers, config};
-use crate::counted::Counted;
-use crate::error::RunError;
-use crate::running::{report, run};
+use script::{Counted, RunError, report, run};
 use manager::Config;
 use std::alloc::{AllocError, Global};
 use std::sync::Wait;
