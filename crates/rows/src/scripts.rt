@@ -2,8 +2,8 @@
 
 ghost use Rattle.std.specs.Prelude.{◌≡◌, IfSome, Some};
 
-use script::{Counted, RunError, run};
 use manager::Config;
+use script::{Counted, RunError, run};
 use std::alloc::{AllocError, Global};
 use std::cell::Cell;
 use std::io;

@@ -1,8 +1,8 @@
 //! Scripts with their answers and their reports.
 
 use super::{FIRST_MAP, Flaky, Limited, check_answers, config};
-use script::{Counted, RunError, report, run};
 use manager::Config;
+use script::{Counted, RunError, report, run};
 use std::alloc::{AllocError, Global};
 use std::sync::Wait;
 use std::test::Fail;
