@@ -1,3 +1,4 @@
 pub mod New
+pub mod RecordsMade
 pub mod Refused
 pub mod OneDomain

@@ -1,7 +1,8 @@
 -- Domains, how one is found by its id, and what a call of a domain works on.
-use Rattle.std.specs.Prelude.{ℕ, ◌-◌, ◌==◌, List, [], Option, None, slice_get, if◌then◌else◌, sum_by}
+use Rattle.std.specs.Prelude.{ℕ, ◌-◌, ◌<◌, ◌==◌, List, [], Option, None, slice_get, if◌then◌else◌, sum_by}
 use Rattle.std.specs.Option.{option_flatten}
 use Rattle.dmatypes.specs.declared.call.Mode.{Mode}
+use Rattle.dmatypes.specs.World.{IsIn}
 use Rattle.dmatypes.specs.declared.width.TheConstants.{PAGES_END}
 use Rattle.iova.specs.Space.{Space, new_space}
 use Rattle.tables.specs.Pool.{Pool, occurs}
@@ -29,6 +30,13 @@ domain_at domains d = if d == 0 then None else option_flatten (slice_get domains
 -- how often records hold a frame
 abbrev pub held_in : List Record → ℕ → ℕ
 held_in records f = sum_by (λ (r : Record). occurs f r.cut.frames) records
+
+-- the record was made before the wait of this number was sent: by then its entries were cleared
+abbrev pub IsMadeBefore : ℕ → Record → Type 0
+IsMadeBefore number r = r.sent < number
+
+abbrev pub AreMadeBefore : ℕ → List Record → Type 0
+AreMadeBefore number records = (r : Record) → IsIn r records → IsMadeBefore number r
 
 -- what a call of a domain works on: the table frames, the domain, and the IOMMU
 pub record Parts : Type 0 where

@@ -146,6 +146,7 @@ pub record UnmapsStrictly (old : Parts) (id : ℕ) (range : Range) (new : Parts)
   pub pool_between : Pool
   pub between : Domain
   pub retires : RetiresAndUnmaps old.pool old.domain retired pool_between between
+  pub made : retired.sent ≡ old.iommu.sent
   pub sent : IsSent id retired.range retired.cut descriptor
   pub invalidates : Invalidates old.iommu descriptor new.iommu
   pub releases : Releases pool_between between.space retired new.pool new.domain.space
@@ -196,6 +197,7 @@ pub record PutsOff (old : Parts) (id : ℕ) (range : Range) (released : ℕ) (ne
   pub of_range : retired.range ≡ range
   pub between : Domain
   pub retires : RetiresAndUnmaps roomy.pool roomy.domain retired new.pool between
+  pub made : retired.sent ≡ roomy.iommu.sent
   pub last : new.domain ≡ record between { records = between.records ++ retired ∷ [] }
   pub quiet : new.iommu ≡ roomy.iommu
 

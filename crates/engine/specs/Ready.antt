@@ -17,7 +17,7 @@ use Rattle.vtdbits.specs.declared.descriptor.Descriptor.TheVariants.{IotlbPages,
 use Rattle.engine.specs.declared.iommu.Iommu.{Iommu}
 use Rattle.engine.specs.declared.record.Record.{Record}
 use Rattle.engine.specs.Ending.{ReleasesAll, hint_of}
-use Rattle.engine.specs.Domains.{Domain, held_in}
+use Rattle.engine.specs.Domains.{Domain, IsMadeBefore, held_in}
 
 -- its tree is one of the pool, and maps each live page
 pub record CanCut (pool : Pool) (domain : Domain) : Type 0 where
@@ -80,11 +80,18 @@ Covers domain r (ContextDomain named) = ⊥
 Covers domain r (ContextDevice named device) = ⊥
 Covers domain r (Wait number) = ⊥
 
--- the last wait that was sent is done, and the descriptor before it covers the record
+-- a wait that was sent after the record was made is done, and the descriptor before it covers the record: nothing that
+-- the unit forgot by it can come back
 pub record IsInvalidated (x : Iommu) (domain : ℕ) (r : Record) : Type 0 where
   pub descriptor : Descriptor
   pub covers : Covers domain r descriptor
-  pub done : IsDone x.ring descriptor x.sent
+  pub number : ℕ
+  pub made : IsMadeBefore number r
+  pub sent : number ≤ x.sent
+  pub done : IsDone x.ring descriptor number
+
+abbrev pub AreInvalidated : Iommu → ℕ → List Record → Type 0
+AreInvalidated x domain records = (r : Record) → IsIn r records → IsInvalidated x domain r
 
 -- nothing waits, what was sent is done, and numbers are left for a wait and for two steps of the unit
 pub record IsReady (x : Iommu) : Type 0 where

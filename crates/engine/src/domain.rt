@@ -1,6 +1,6 @@
 //! A domain: its tree, its address space and its retired records.
 
-ghost use Rattle.std.specs.Prelude.{◌≡◌, ◌<◌, ◌≤◌, ◌++◌, ◌∷◌, length, IfOk, IfErr, OnErr, Ok, [], vec_capacity};
+ghost use Rattle.std.specs.Prelude.{◌≡◌, ◌<◌, ◌≤◌, ◌+◌, ◌++◌, ◌∷◌, length, IfOk, IfErr, OnErr, Ok, [], vec_capacity};
 ghost use Rattle.dmatypes.specs.Conditions.{total_pages};
 ghost use Rattle.dmatypes.specs.Page.{Range};
 ghost use Rattle.dmatypes.specs.Rights.{bits_of};
@@ -8,13 +8,13 @@ ghost use Rattle.dmatypes.specs.declared.width.TheConstants.{LEVELS, PAGES_END};
 ghost use Rattle.iova.specs.Space.{AllFree, IsSpace, MayRetire};
 ghost use Rattle.tables.specs.Pool.{IsTree};
 ghost use Rattle.vtdbits.specs.declared.descriptor.Descriptor.TheVariants.{IotlbDomain};
-ghost use Rattle.engine.specs.Domains.{new_domain, parts_of};
+ghost use Rattle.engine.specs.Domains.{AreMadeBefore, new_domain, parts_of};
 ghost use Rattle.engine.specs.declared.room.TheConstants.{MOST_RECORDS};
 ghost use Rattle.engine.specs.Ending.{Closes, Destroys, Flushes, IsJudgedEnd, IsUnmapped, MakesRoom, PutsOff, Releases, ReleasesAll};
 ghost use Rattle.engine.specs.Ending.{RetiresAndUnmaps, UnmapsStrictly};
 ghost use Rattle.engine.specs.Judged.{AreMappable};
 ghost use Rattle.engine.specs.Placing.{CanPlace, IsUnplaced, Places};
-ghost use Rattle.engine.specs.Ready.{AreReleasable, CanCut, CanUnmap, IsDone, IsInvalidated, IsReady, IsReleasable};
+ghost use Rattle.engine.specs.Ready.{AreInvalidated, AreReleasable, CanCut, CanUnmap, IsDone, IsInvalidated, IsReady, IsReleasable};
 
 use crate::iommu::Iommu;
 use crate::record::Record;
@@ -135,6 +135,7 @@ impl Domain {
         range: PageRange,
     ) -> Result<u64, Refusal>
         requires can { CanUnmap pool.old self.old }
+        requires made { AreMadeBefore (iommu.old.sent + 1) self.old.records }
         requires ready { IsReady iommu.old }
         ensures { IsUnmapped (parts_of pool.old self.old iommu.old) id range result (parts_of pool.new self.new iommu.new) }
     {
@@ -155,7 +156,7 @@ impl Domain {
         requires ready { IsReady iommu.old }
         ensures { UnmapsStrictly (parts_of pool.old self.old iommu.old) id range (parts_of pool.new self.new iommu.new) }
     {
-        let retired = self.end(pool, range);
+        let retired = self.end(pool, iommu, range);
         iommu.invalidate_pages(id, &retired, pool, &self.tree);
         release(&mut self.space, pool, iommu, id, &retired);
     }
@@ -170,18 +171,20 @@ impl Domain {
     ) -> u64
         requires can { CanUnmap pool.old self.old }
         requires may { IsJudgedEnd pool.old self.old range (Ok tt) }
+        requires made { AreMadeBefore (iommu.old.sent + 1) self.old.records }
         requires ready { IsReady iommu.old }
         ensures { PutsOff (parts_of pool.old self.old iommu.old) id range result (parts_of pool.new self.new iommu.new) }
     {
         let released = self.make_room(pool, iommu, id);
-        let retired = self.end(pool, range);
-        self.put_aside(retired);
+        let last = self.end(pool, iommu, range);
+        self.put_aside(last);
         released
     }
 
     // Room for one more record: where there is none, all go. Answers how many went.
     fn make_room(&mut self, pool: &mut Pool, iommu: &mut Iommu, id: DomainId) -> u64
         requires can { AreReleasable pool.old self.old.space self.old.records }
+        requires made { AreMadeBefore (iommu.old.sent + 1) self.old.records }
         requires ready { IsReady iommu.old }
         ensures room { MakesRoom (parts_of pool.old self.old iommu.old) id result (parts_of pool.new self.new iommu.new) }
         ensures fewer { length self.new.records < MOST_RECORDS }
@@ -196,6 +199,7 @@ impl Domain {
     /// Has the unit forget all that it remembers of the domain, releases all its records, and answers how many.
     pub(crate) fn flush(&mut self, pool: &mut Pool, iommu: &mut Iommu, id: DomainId) -> u64
         requires can { AreReleasable pool.old self.old.space self.old.records }
+        requires made { AreMadeBefore (iommu.old.sent + 1) self.old.records }
         requires ready { IsReady iommu.old }
         ensures flushes { Flushes (parts_of pool.old self.old iommu.old) id (parts_of pool.new self.new iommu.new) }
         ensures count { result ≡ length self.old.records }
@@ -209,6 +213,7 @@ impl Domain {
     /// Ends the domain with all its pages, gives all its table frames back, and leaves its room.
     pub(crate) fn close(mut self, pool: &mut Pool, iommu: &mut Iommu, id: DomainId) -> Room
         requires can { CanUnmap pool.old self }
+        requires made { AreMadeBefore (iommu.old.sent + 1) self.records }
         requires ready { IsReady iommu.old }
         ensures { Closes (parts_of pool.old self iommu.old) id pool.new iommu.new }
     {
@@ -246,12 +251,14 @@ impl Domain {
         }
     }
 
-    // Retires a range of live pages in the address space, unmaps it in the tree, and answers its record.
+    // Retires a range of live pages in the address space, unmaps it in the tree, and answers its record. It is made once the
+    // tree states none of the pages: no wait that was sent by then frees them.
     #[inline(always)]
-    fn end(&mut self, pool: &mut Pool, range: PageRange) -> Record
+    fn end(&mut self, pool: &mut Pool, iommu: &Iommu, range: PageRange) -> Record
         requires can { CanCut pool.old self.old }
         requires may { IsJudgedEnd pool.old self.old range (Ok tt) }
         ensures range { result.range ≡ range }
+        ensures made { result.sent ≡ iommu.now.sent }
         ensures ends { RetiresAndUnmaps pool.old self.old result pool.new self.new }
     {
         self.space.retire(range);
@@ -259,13 +266,15 @@ impl Domain {
         Record {
             range,
             mark: self.begun,
+            sent: iommu.sent(),
             cut,
         }
     }
 }
 
 /// Releases the pages of a retired record of a domain, and the table frames that were cut with them. The unit has
-/// forgotten them: it has done the last wait, and before it a descriptor that covers them.
+/// forgotten them for good: it has done a wait that was sent after the record was made, and before it a descriptor that
+/// covers them.
 #[inline(always)]
 pub(crate) fn release(
     space: &mut Space,
@@ -295,8 +304,7 @@ fn destroy(tree: Tree, pool: &mut Pool, iommu: &Iommu, id: DomainId)
     tree.destroy(pool);
 }
 
-/// Releases all records of a domain, the last one first. The unit has done the last wait, and before it the descriptor
-/// that names all of the domain.
+/// Releases all records of a domain, the last one first. The unit has forgotten each of them for good.
 pub(crate) fn release_all(
     space: &mut Space,
     pool: &mut Pool,
@@ -305,7 +313,7 @@ pub(crate) fn release_all(
     records: &mut Vec<Record>,
 )
     requires can { AreReleasable pool.old space.old records.old.items }
-    requires invalidated { IsDone iommu.now.ring (IotlbDomain id) iommu.now.sent }
+    requires invalidated { AreInvalidated iommu.now id records.old.items }
     ensures released { ReleasesAll pool.old space.old records.old.items pool.new space.new }
     ensures none { records.new.items ≡ [] }
     ensures room { vec_capacity records.new ≡ vec_capacity records.old }

@@ -23,7 +23,7 @@ pub(crate) struct Iommu {
     pub(crate) contexts: Contexts,
     pub(crate) ring: Ring,
     pub(crate) unit: Unit,
-    pub(crate) sent: u32,
+    sent: u32,
 }
 
 impl Iommu {
@@ -42,6 +42,13 @@ impl Iommu {
             unit: Unit::new(),
             sent: 0,
         }
+    }
+
+    /// How many waits were sent, which is the number of the last one.
+    pub(crate) fn sent(&self) -> u32
+        ensures { result ≡ self.now.sent }
+    {
+        self.sent
     }
 
     /// Has the unit forget the pages of a retired record, and what it remembers of the tables that were cut with them: sends

@@ -13,6 +13,7 @@ use Rattle.engine.specs.Domains.{Domain}
 use Rattle.engine.specs.State.{State}
 use Rattle.engine.specs.Steps.{Does}
 use Rattle.engine.specs.Whole.{IsWhole}
+use Rattle.engine.proofs.states.RecordsMade.{made_kept}
 use Rattle.engine.proofs.states.Refused.{frames_kept}
 
 -- the state with another domain at a place, or none, other table frames and another IOMMU
@@ -31,4 +32,5 @@ whole_sends frames m t call reply d row whole does domains rows sends = record {
   status = (let same = ap (λ (r : Ring). r.status) sends.done in omega (arith, same));
   sent = omega (arith, sends.number, whole.sent, does.calls);
   steps = omega (arith, sends.steps, sends.few, whole.steps, does.calls);
+  made = made_kept m t call reply does.becomes (omega (arith, sends.number)) whole.made;
 }

@@ -8,10 +8,11 @@ use Rattle.engine.specs.declared.record.Record.{Record}
 use Rattle.unit.specs.Caches.{UnitState, unit_state}
 use Rattle.unit.specs.Filters.{after_first, done_after, left_by, left_by_first, status_after}
 use Rattle.vtdbits.specs.declared.descriptor.Descriptor.{Descriptor}
-use Rattle.vtdbits.specs.declared.descriptor.Descriptor.TheVariants.{Wait}
+use Rattle.vtdbits.specs.declared.descriptor.Descriptor.TheVariants.{IotlbDomain, Wait}
 use Rattle.engine.specs.declared.iommu.Iommu.{Iommu}
+use Rattle.engine.specs.Domains.{AreMadeBefore}
 use Rattle.engine.specs.Ending.{Invalidates, IsSent, left_by_all}
-use Rattle.engine.specs.Ready.{Covers, IsDone}
+use Rattle.engine.specs.Ready.{AreInvalidated, Covers, IsDone}
 
 -- both wait, or the wait alone, or both are done; this is what was taken before them
 abbrev pub IsStage : Descriptor → ℕ → List Descriptor → UnitState → Ring → UnitState → Type 0
@@ -127,6 +128,18 @@ done_then old d new sends = record {
       ∙ ap (λ ds. ds ++ take (256 - length (old.ring.waiting ++ d ∷ Wait new.sent ∷ [])) old.ring.taken)
       (reverse-append old.ring.waiting (d ∷ Wait new.sent ∷ []));
   reached = (let status = ap (λ (q : Ring). q.status) sends.done in omega (arith, status));
+}
+
+-- a domain's own descriptor invalidates all of its records that were made by now
+pub all_invalidated : (old new : Iommu) (domain : ℕ) (records : List Record) → AreMadeBefore (old.sent + 1) records
+    → Invalidates old (IotlbDomain domain) new → AreInvalidated new domain records
+all_invalidated old new domain records made sends r inside = record {
+  descriptor = IotlbDomain domain;
+  covers = refl;
+  number = new.sent;
+  made = omega (arith, made r inside, sends.number);
+  sent = omega arith;
+  done = done_then old (IotlbDomain domain) new sends;
 }
 
 -- the descriptor of an unmap covers what the unmap ends

@@ -297,6 +297,10 @@ module _ (pool pool1 : Pool) (space space1 : Space) (all rest : List Record) (r 
   pub releasing_one : IsReleasable pool1 space1 r
   releasing_one = last_releasable pool1 space1 rest r so_far.ready
 
+  -- it is one of all
+  pub releasing_in : IsIn r all
+  releasing_in = subst (λ (rs : List Record). IsIn r rs) so_far.parts (in_left r (rest ++ r ∷ []) so_far.done (in_last r rest))
+
   pub releasing_step : (pool2 : Pool) (space2 : Space) → Releases pool1 space1 r pool2 space2
       → ((other : Range) → MayRetire space1.pieces other → MayRetire space2.pieces other) → length pool1.free ≤ length pool2.free
       → IsReleasing pool space all pool2 space2 rest

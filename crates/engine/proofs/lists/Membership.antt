@@ -1,5 +1,5 @@
 -- Membership in lists that are joined or mapped.
-use Rattle.std.proofs.Common.{◌≡◌, ◌⊎◌, inl, inr, List, [], ◌∷◌, ◌++◌, map, refl, ap}
+use Rattle.std.proofs.Common.{◌≡◌, ◌⊎◌, ℕ, zero, suc, inl, inr, List, [], ◌∷◌, ◌++◌, map, refl, ap, slice_set}
 use Rattle.dmatypes.specs.World.{IsIn}
 
 pub in_left : {X : Type 0} (x : X) (xs ys : List X) → IsIn x xs → IsIn x (xs ++ ys)
@@ -31,6 +31,14 @@ pub of_mapped : {X Y : Type 0} (f : X → Y) (y : Y) (xs : List X) → IsIn y (m
 of_mapped f y [] inside = absurd inside
 of_mapped f y (x ∷ xs) (inl same) = (x, inl refl, same)
 of_mapped f y (x ∷ xs) (inr rest) = let k = of_mapped f y xs rest in (k.0, inr k.1, k.2)
+
+-- what is in a list with another element at a place
+pub in_set : {X : Type 0} (xs : List X) (i : ℕ) (x y : X) → IsIn y (slice_set xs i x) → (y ≡ x) ⊎ IsIn y xs
+in_set [] i x y inside = absurd inside
+in_set (z ∷ xs) zero x y (inl same) = inl same
+in_set (z ∷ xs) zero x y (inr rest) = inr (inr rest)
+in_set (z ∷ xs) (suc i) x y (inl same) = inr (inl same)
+in_set (z ∷ xs) (suc i) x y (inr rest) = elim (in_set xs i x y rest) [ inl new ↦ inl new | inr old ↦ inr (inr old) ]
 
 -- a map of a list with one more element at the end
 pub map_last : {X Y : Type 0} (f : X → Y) (xs : List X) (x : X) → map f (xs ++ x ∷ []) ≡ map f xs ++ f x ∷ []

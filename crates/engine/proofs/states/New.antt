@@ -1,5 +1,5 @@
 -- A new state is one of the empty world.
-use Rattle.std.proofs.Common.{◌≡◌, ℕ, zero, suc, ◌+◌, ◌*◌, ◌<◌, ◌≤◌, ⊎_elim, List, [], ◌∷◌, ◌++◌, length, length-append, Option, Some, None}
+use Rattle.std.proofs.Common.{◌≡◌, ℕ, zero, suc, ◌+◌, ◌*◌, ◌<◌, ◌≤◌, ⊎_elim, inl, inr, List, [], ◌∷◌, ◌++◌, length, length-append, Option, Some, None}
 use Rattle.std.proofs.Common.{refl, sym, ap, subst, ◌∙◌, arith, replicate, slice_get}
 use Rattle.std.proofs.lemmas.Bool.{cases_lt}
 use Rattle.dmatypes.specs.World.{World, IsIn, empty}
@@ -27,6 +27,11 @@ none_in : (n i : ℕ) → option_flatten (slice_get (none_there n) i) ≡ None
 none_in zero i = refl
 none_in (suc n) zero = refl
 none_in (suc n) (suc i) = none_in n i
+
+not_there : (n : ℕ) (h : Domain) → IsIn (Some h) (none_there n) → ⊥
+not_there zero h inside = inside
+not_there (suc n) h (inl same) = cc
+not_there (suc n) h (inr rest) = not_there n h rest
 
 no_domain : (domains : List (Option Domain)) (d : ℕ) → domains ≡ replicate 15 None → domain_at domains d ≡ None
 no_domain domains zero is = refl
@@ -82,6 +87,7 @@ whole_new m frames new = record {
   status = (let zero_status : m.iommu.ring.status ≡ 0 = ap (λ (r : Ring). r.status) new.ring_is in omega (arith, zero_status));
   sent = omega (arith, new.sent_is);
   steps = (let zero_steps : m.iommu.unit.steps ≡ 0 = ap (λ (u : UnitState). u.steps) new.unit_is in omega (arith, zero_steps));
+  made = λ h inside. absurd (not_there 15 h (subst (λ ds. IsIn (Some h) ds) new.domains_are inside));
 }
 
 -- ---- there is a new state of each size

@@ -12,6 +12,7 @@ use Rattle.engine.specs.Quarantine.{IsOfSomeWorld, Quarantine}
 use Rattle.engine.specs.Whole.{IsWhole}
 use Rattle.queue.specs.Ring.{Ring}
 use Rattle.engine.specs.Steps.{Does}
+use Rattle.engine.proofs.states.RecordsMade.{made_kept}
 
 -- the same state, with one call more counted
 abbrev pub counted : State → State
@@ -101,4 +102,5 @@ whole_quiet frames m t call reply whole does domains row ring sent steps =
       status = (let same = ap (λ (r : Ring). r.status) ring in omega (arith, same, sent, whole.status));
       sent = omega (arith, sent, whole.sent, does.calls);
       steps = omega (arith, steps, whole.steps, does.calls);
+      made = made_kept m t call reply does.becomes (omega (arith, sent)) whole.made;
     }

@@ -1,4 +1,4 @@
-use Rattle.std.proofs.Common.{ap, sym, subst}
+use Rattle.std.proofs.Common.{ap, arith, sym, subst}
 use Rattle.iova.specs.Space.{Space}
 use Rattle.engine.specs.Domains.{Domain}
 use Rattle.engine.specs.Ready.{IsReleasable}
@@ -16,5 +16,8 @@ pub release-requires-clause-invalidated : goal.release-requires-clause-invalidat
 release-requires-clause-invalidated c = record {
   descriptor = c.invalidate_pages.ensures.0;
   covers = sent_covers c.args.id c.end-retired.result c.invalidate_pages.ensures.0 c.invalidate_pages.ensures.1;
+  number = c.invalidate_pages.new.self.sent;
+  made = omega (arith, c.end-retired.ensures.made, c.invalidate_pages.ensures.2.number);
+  sent = omega arith;
   done = done_then _ _ _ c.invalidate_pages.ensures.2;
 }

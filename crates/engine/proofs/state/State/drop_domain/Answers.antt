@@ -12,6 +12,7 @@ use Rattle.engine.proofs.domains.Found.{keeps_found, put_back, stands}
 use Rattle.engine.proofs.flushes.Steps.{Did, drop_attached, drop_did, drop_no_domain}
 use Rattle.engine.proofs.flushes.MayRelease.{can_unmap}
 use Rattle.engine.proofs.caches.Sent.{changed}
+use Rattle.engine.proofs.states.RecordsMade.{domain_in}
 use Rattle.engine.proofs.state.State.drop_domain.Goals as goal
 
 pub returns-in_default : goal.returns-in_default
@@ -64,6 +65,20 @@ close-room-requires-clause-can c =
     let there : domain_at m.domains c.args.domain ≡ Some c.in-Some-take.domain =
     at_place m.domains c.args.domain c.place_of.result (Some c.in-Some-take.domain) id at in
     can_unmap m c.args.domain c.in-Some-take.domain c.self.invariant.0.of_world c.self.invariant.0.places there
+
+pub close-room-requires-clause-made : goal.close-room-requires-clause-made
+close-room-requires-clause-made c =
+    let m : State =
+    record { pool = c.self.inside.pool; domains = c.self.inside.domains.items; iommu = c.self.inside.iommu; calls = c.self.inside.calls } in
+    let read =
+    stands m.domains c.place_of.result c.index_mut.result.now c.self.invariant.0.places c.place_of.ensures.low
+    c.index_mut.ensures.value in
+    let id : c.args.domain ≡ c.place_of.result + 1 = sym c.in-Some.ensures.value ∙ c.place_of.ensures.place in
+    let at : slice_get m.domains c.place_of.result ≡ Some (Some c.in-Some-take.domain) =
+    read ∙ ap Some (sym c.in-Some-take.ensures.value) in
+    let there : domain_at m.domains c.args.domain ≡ Some c.in-Some-take.domain =
+    at_place m.domains c.args.domain c.place_of.result (Some c.in-Some-take.domain) id at in
+    c.self.invariant.0.made c.in-Some-take.domain (domain_in m.domains c.args.domain c.in-Some-take.domain there)
 
 abbrev before : goal.Joined-push → State
 before c = record {

@@ -10,6 +10,7 @@ use Rattle.engine.proofs.domains.Found.{keeps_found, put_back, stands}
 use Rattle.engine.proofs.flushes.Steps.{Did, flush_did, flush_no_domain}
 use Rattle.engine.proofs.flushes.MayRelease.{records_releasable}
 use Rattle.engine.proofs.caches.Sent.{changed}
+use Rattle.engine.proofs.states.RecordsMade.{domain_in}
 use Rattle.engine.proofs.state.State.flush.Goals as goal
 
 pub returns-in_default : goal.returns-in_default
@@ -56,6 +57,19 @@ flush-requires-clause-can c =
     let there : domain_at m.domains c.args.domain ≡ Some c.in-Some-index_mut.domain =
     at_place m.domains c.args.domain c.place_of.result (Some c.in-Some-index_mut.domain) id at in
     records_releasable m c.args.domain c.in-Some-index_mut.domain c.self.invariant.0.of_world c.self.invariant.0.places there
+
+pub flush-requires-clause-made : goal.flush-requires-clause-made
+flush-requires-clause-made c =
+    let m : State =
+    record { pool = c.self.inside.pool; domains = c.self.inside.domains.items; iommu = c.self.inside.iommu; calls = c.self.inside.calls } in
+    let read =
+    stands m.domains c.place_of.result c.index_mut.result.now c.self.invariant.0.places c.place_of.ensures.low
+    c.index_mut.ensures.value in
+    let id : c.args.domain ≡ c.place_of.result + 1 = sym c.in-Some.ensures.value ∙ c.place_of.ensures.place in
+    let at : slice_get m.domains c.place_of.result ≡ Some (Some c.in-Some-index_mut.domain) = read ∙ ap Some c.in-Some-index_mut.is in
+    let there : domain_at m.domains c.args.domain ≡ Some c.in-Some-index_mut.domain =
+    at_place m.domains c.args.domain c.place_of.result (Some c.in-Some-index_mut.domain) id at in
+    c.self.invariant.0.made c.in-Some-index_mut.domain (domain_in m.domains c.args.domain c.in-Some-index_mut.domain there)
 
 abbrev before : goal.After-self-2-1 → State
 before c = record {

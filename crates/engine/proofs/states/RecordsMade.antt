@@ -1,0 +1,124 @@
+-- The next wait is sent after all records of a state were made, whatever call goes before it.
+use Rattle.std.proofs.Common.{◌≡◌, ℕ, zero, suc, ◌+◌, ◌-◌, ◌≤◌, inl, inr, List, [], ◌∷◌, ◌++◌, Option, Some, None, sym, ap, subst, ◌∙◌, arith}
+use Rattle.std.proofs.Common.{slice_get, slice_set}
+use Rattle.std.specs.Option.{option_flatten}
+use Rattle.dmatypes.specs.World.{IsIn}
+use Rattle.dmatypes.specs.declared.call.Call.{Call}
+use Rattle.dmatypes.specs.declared.call.Call.TheVariants as calls
+use Rattle.dmatypes.specs.declared.call.Mode.{Mode}
+use Rattle.dmatypes.specs.declared.call.Mode.TheVariants.{Strict, Lazy}
+use Rattle.dmatypes.specs.declared.reply.Reply.{Reply}
+use Rattle.dmatypes.specs.declared.reply.Reply.TheVariants.{Made, Done, Mapped, Unmapped, Flushed, Refused}
+use Rattle.dmatypes.specs.Page.{Range}
+use Rattle.engine.specs.declared.iommu.Iommu.{Iommu}
+use Rattle.engine.specs.declared.record.Record.{Record}
+use Rattle.engine.specs.Domains.{AreMadeBefore, Domain, Parts, domain_at}
+use Rattle.engine.specs.Ending.{ByMode, MakesRoom, PutsOff, UnmapsStrictly}
+use Rattle.engine.specs.State.{Becomes, State, parts_in}
+use Rattle.engine.specs.Whole.{AllAreMade}
+use Rattle.engine.proofs.domains.OneChanged.{domain_of_place}
+use Rattle.engine.proofs.lists.Membership.{in_either, in_set}
+
+-- ---- a domain of the state
+
+in_place : (domains : List (Option Domain)) (i : ℕ) (h : Domain) → option_flatten (slice_get domains i) ≡ Some h → IsIn (Some h) domains
+in_place [] i h at = absurd cc
+in_place (None ∷ rest) zero h at = absurd cc
+in_place (Some k ∷ rest) zero h at = inl (sym at)
+in_place (o ∷ rest) (suc i) h at = inr (in_place rest i h at)
+
+pub domain_in : (domains : List (Option Domain)) (d : ℕ) (h : Domain) → domain_at domains d ≡ Some h → IsIn (Some h) domains
+domain_in domains zero h there = absurd cc
+domain_in domains (suc i) h there =
+    let next : suc i ≡ i + 1 = omega arith in in_place domains i h (sym (domain_of_place domains i) ∙ (rw next at there))
+
+-- ---- its records
+
+none_made : (number : ℕ) (records : List Record) → records ≡ [] → AreMadeBefore number records
+none_made number records none = rw none (λ r inside. absurd inside)
+
+abbrev records_of : Option Domain → List Record
+records_of None = []
+records_of (Some h) = h.records
+
+-- those of a domain after an unmap
+module _ (old : Parts) (id released : ℕ) (range : Range) (new : Parts) (later : old.iommu.sent ≤ new.iommu.sent)
+    (made : AreMadeBefore (new.iommu.sent + 1) old.domain.records) where
+  roomy_made : (roomy : Parts) → MakesRoom old id released roomy → AreMadeBefore (new.iommu.sent + 1) roomy.domain.records
+  roomy_made roomy (inl has) = rw has.same made
+  roomy_made roomy (inr empties) = none_made (new.iommu.sent + 1) roomy.domain.records (ap (λ (h : Domain). h.records) empties.flushes.same)
+
+  ended_made : (mode : Mode) → ByMode mode ((released ≡ 0) × UnmapsStrictly old id range new) (PutsOff old id range released new)
+      → AreMadeBefore (new.iommu.sent + 1) new.domain.records
+  ended_made Strict does =
+      let same = ap (λ (h : Domain). h.records) does.1.same ∙ ap (λ (h : Domain). h.records) does.1.retires.same in rw same made
+  ended_made Lazy does =
+      let same = ap (λ (h : Domain). h.records) does.last
+      ∙ ap (λ (h : Domain). h.records ++ does.retired ∷ []) does.retires.same in
+      rw same (λ r inside. elim (in_either r does.retired does.roomy.domain.records inside) [
+        | inl earlier ↦ roomy_made does.roomy does.room r earlier
+        | inr last ↦
+            let stamp = ap (λ (x : Record). x.sent) last ∙ does.made in
+            let quiet = ap (λ (x : Iommu). x.sent) does.quiet in
+            omega (arith, stamp, quiet)
+      ])
+
+-- ---- a call
+
+module _ (m t : State) (later : m.iommu.sent ≤ t.iommu.sent) (made : AllAreMade m) where
+  still_made : (h : Domain) → IsIn (Some h) m.domains → AreMadeBefore (t.iommu.sent + 1) h.records
+  still_made h inside r at = omega (arith, later, made h inside r at)
+
+  -- no domain changes
+  same_made : t.domains ≡ m.domains → AllAreMade t
+  same_made same h inside = still_made h (subst (λ ds. IsIn (Some h) ds) same inside)
+
+  -- one does
+  one_made : (i : ℕ) (o : Option Domain) → t.domains ≡ slice_set m.domains i o → AreMadeBefore (t.iommu.sent + 1) (records_of o)
+      → AllAreMade t
+  one_made i o is new h inside = elim (in_set m.domains i o (Some h) (subst (λ ds. IsIn (Some h) ds) is inside)) [
+    | inl same ↦ subst (λ (x : Option Domain). AreMadeBefore (t.iommu.sent + 1) (records_of x)) (sym same) new
+    | inr other ↦ still_made h other
+  ]
+
+  -- one does, but for its records
+  space_made : (i d : ℕ) (h new : Domain) → t.domains ≡ slice_set m.domains i (Some new) → domain_at m.domains d ≡ Some h
+      → new.records ≡ h.records → AllAreMade t
+  space_made i d h new is there same = one_made i (Some new) is (rw same (still_made h (domain_in m.domains d h there)))
+
+pub made_kept : (m t : State) (call : Call) (reply : Reply) → Becomes m call reply t → m.iommu.sent ≤ t.iommu.sent → AllAreMade m
+    → AllAreMade t
+unfolding Becomes
+made_kept m t (calls.Domain mode) (Made d) (root, takes, is) later made =
+    one_made m t later made (d - 1) _ (ap (λ (x : State). x.domains) is) (λ r none. absurd none)
+made_kept m t (calls.Domain mode) _ is later made = same_made m t later made (ap (λ (x : State). x.domains) is)
+made_kept m t (calls.Attach device domain) Done (h, there, is) later made = same_made m t later made (ap (λ (x : State). x.domains) is)
+made_kept m t (calls.Attach device domain) _ is later made = same_made m t later made (ap (λ (x : State). x.domains) is)
+made_kept m t (calls.Drop domain) Done (h, there, closes, is) later made =
+    one_made m t later made (domain - 1) None (ap (λ (x : State). x.domains) is) (λ r none. absurd none)
+made_kept m t (calls.Drop domain) _ is later made = same_made m t later made (ap (λ (x : State). x.domains) is)
+made_kept m t (calls.Detach device) Done (domain, root, at, sends, is) later made =
+    same_made m t later made (ap (λ (x : State). x.domains) is)
+made_kept m t (calls.Detach device) _ is later made = same_made m t later made (ap (λ (x : State). x.domains) is)
+made_kept m t (calls.Map domain frame pages order rights) (Mapped address) (h, new, there, places, is) later made =
+    space_made m t later made (domain - 1) domain h new (ap (λ (x : State). x.domains) is) there (ap (λ (x : Domain). x.records) places.same)
+made_kept m t (calls.Map domain frame pages order rights) _ is later made = same_made m t later made (ap (λ (x : State). x.domains) is)
+made_kept m t (calls.MapList domain order rights segments) (Mapped address) (h, new, there, places, is) later made =
+    space_made m t later made (domain - 1) domain h new (ap (λ (x : State). x.domains) is) there (ap (λ (x : Domain). x.records) places.same)
+made_kept m t (calls.MapList domain order rights segments) _ is later made =
+    same_made m t later made (ap (λ (x : State). x.domains) is)
+made_kept m t (calls.Flush domain) (Flushed released) (h, new, there, flushes, is) later made =
+    one_made m t later made (domain - 1) (Some new) (ap (λ (x : State). x.domains) is)
+    (none_made (t.iommu.sent + 1) new.records (ap (λ (x : Domain). x.records) flushes.same))
+made_kept m t (calls.Flush domain) _ is later made = same_made m t later made (ap (λ (x : State). x.domains) is)
+made_kept m t (calls.Unmap domain address pages) (Unmapped released) (h, new, there, ends, is) later made =
+    one_made m t later made (domain - 1) (Some new) (ap (λ (x : State). x.domains) is)
+    (ended_made (parts_in m h) domain released _ (parts_in t new) later (still_made m t later made h (domain_in m.domains domain h there))
+    h.mode ends)
+made_kept m t (calls.Unmap domain address pages) _ is later made = same_made m t later made (ap (λ (x : State). x.domains) is)
+made_kept m t (calls.Dma device address access whim) (Refused refusal) is later made =
+    same_made m t later made (ap (λ (x : State). x.domains) is)
+made_kept m t (calls.Dma device address access whim) _ (answer, reached, answers, is) later made =
+    same_made m t later made (ap (λ (x : State). x.domains) is)
+made_kept m t (calls.Evict kind place) Done is later made = same_made m t later made (ap (λ (x : State). x.domains) is)
+made_kept m t (calls.Evict kind place) _ is later made = same_made m t later made (ap (λ (x : State). x.domains) is)
