@@ -27,6 +27,9 @@ pub const MOST_TABLE_FRAMES: u64 = 4096;
 /// The most calls in a history.
 pub const MOST_CALLS: u64 = 1 << 20;
 
+/// The most steps of the unit that a call makes.
+pub const MOST_STEPS: u64 = 130;
+
 /// The most shares by which a manager is called.
 pub const MOST_SHARES: u64 = 64;
 

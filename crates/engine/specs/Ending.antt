@@ -2,11 +2,11 @@
 -- free.
 use Rattle.std.specs.Prelude.{◌≡◌, ◌≢◌, ◌↔◌, ℕ, ◌+◌, ◌-◌, ◌<◌, ◌≤◌, ◌⊎◌, ◌++◌, Bool, true, false, IsTrue, not, ◌&&◌, List, [], ◌∷◌, length}
 use Rattle.std.specs.Prelude.{reverse, take, Some, Result, Ok, Err}
-use Rattle.engine.specs.declared.room.TheConstants.{MOST_RECORDS}
+use Rattle.dmatypes.specs.declared.limits.TheConstants.{MOST_RECORDS, MOST_STEPS}
 use Rattle.dmatypes.specs.Block.{Block, Holds, IsAligned}
 use Rattle.dmatypes.specs.Page.{Range, IsWithin}
 use Rattle.dmatypes.specs.World.{IsIn}
-use Rattle.dmatypes.specs.declared.page.TheConstants.{SPAN_PAGES}
+use Rattle.dmatypes.specs.declared.page.TheConstants.{SPAN_ORDER, SPAN_PAGES}
 use Rattle.dmatypes.specs.declared.width.TheConstants.{LEVELS}
 use Rattle.dmatypes.specs.declared.call.Mode.{Mode}
 use Rattle.dmatypes.specs.declared.call.Mode.TheVariants.{Strict, Lazy}
@@ -18,6 +18,7 @@ use Rattle.iova.specs.declared.piece.Piece.{Piece}
 use Rattle.iova.specs.Pieces.{AllIn, piece_of, state_at}
 use Rattle.iova.specs.Space.{Space, IsSpace, IsTooMany, MayRetire}
 use Rattle.queue.specs.Ring.{ring_of}
+use Rattle.queue.specs.declared.ring.TheConstants.Ring.{CAPACITY}
 use Rattle.tables.specs.Changes.{IsApart, TakesAndGivesFrames, Stays, Unmaps}
 use Rattle.tables.specs.Lacks.{splits}
 use Rattle.tables.specs.Pool.{Pool, memory, occurs, word, IsPool, IsTree, IsZeroed}
@@ -27,6 +28,7 @@ use Rattle.unit.specs.Caches.{Caches}
 use Rattle.unit.specs.Filters.{left_by}
 use Rattle.vtdbits.specs.declared.descriptor.Descriptor.{Descriptor}
 use Rattle.vtdbits.specs.declared.descriptor.Descriptor.TheVariants.{IotlbDomain, IotlbPages, Wait}
+use Rattle.vtdbits.specs.declared.number.TheConstants.{MOST_BLOCK_ORDER}
 use Rattle.engine.specs.declared.record.Record.{Record}
 use Rattle.engine.specs.declared.iommu.Iommu.{Iommu}
 use Rattle.engine.specs.Domains.{Domain, Parts, held_in}
@@ -68,8 +70,8 @@ IsJudgedEnd pool domain range (Err _) = ⊥
 pub record IsBlockOf (range : Range) (split : Bool) (b : Block) : Type 0 where
   pub aligned : IsAligned b
   pub holds : Holds b range
-  pub wide : IsTrue split → 9 ≤ b.order
-  pub smallest : (c : Block) → IsAligned c → Holds c range → (IsTrue split → 9 ≤ c.order) → b.order ≤ c.order
+  pub wide : IsTrue split → SPAN_ORDER ≤ b.order
+  pub smallest : (c : Block) → IsAligned c → Holds c range → (IsTrue split → SPAN_ORDER ≤ c.order) → b.order ≤ c.order
 
 abbrev pub is_empty : List ℕ → Bool
 is_empty [] = true
@@ -83,7 +85,7 @@ hint_of cut = is_empty cut.frames && not cut.split
 abbrev pub IsSent : ℕ → Range → Cut → Descriptor → Type 0
 IsSent domain range cut d =
     (b : Block) × IsBlockOf range cut.split b
-    × (((b.order ≤ 9) × (d ≡ IotlbPages domain b (hint_of cut))) ⊎ ((9 < b.order) × (d ≡ IotlbDomain domain)))
+    × (((b.order ≤ MOST_BLOCK_ORDER) × (d ≡ IotlbPages domain b (hint_of cut))) ⊎ ((MOST_BLOCK_ORDER < b.order) × (d ≡ IotlbDomain domain)))
 
 -- ---- the unit
 
@@ -92,19 +94,19 @@ unfoldable pub left_by_all : List Descriptor → Caches → Caches
 left_by_all [] c = c
 left_by_all (d ∷ ds) c = left_by_all ds (left_by d c)
 
--- what was taken, the last one first, once these were too, one after the other: the ring's page still holds 256
+-- what was taken, the last one first, once these were too, one after the other: as many as the ring's page still holds
 abbrev pub taken_after : List Descriptor → List Descriptor → List Descriptor
-taken_after ds taken = reverse ds ++ take (256 - length ds) taken
+taken_after ds taken = reverse ds ++ take (CAPACITY + 1 - length ds) taken
 
 -- what waited, then the descriptor, then a wait were taken, in this order, and nothing else was; the unit has done as many
--- as were taken, each in a step of its own, with no other step, in at most 130; the row of context entries stays
+-- as were taken, each in a step of its own, with no other step, in at most `MOST_STEPS`; the row of context entries stays
 pub record Invalidates (old : Iommu) (d : Descriptor) (new : Iommu) : Type 0 where
   pub number : new.sent ≡ old.sent + 1
   pub done : new.ring ≡ ring_of [] new.sent (taken_after (old.ring.waiting ++ d ∷ Wait new.sent ∷ []) old.ring.taken)
   pub caches : new.unit.caches ≡ left_by_all (old.ring.waiting ++ d ∷ Wait new.sent ∷ []) old.unit.caches
   pub steps : new.unit.steps ≡ old.unit.steps + (length old.ring.waiting + 2)
   pub each : new.unit.done ≡ old.unit.done + (length old.ring.waiting + 2)
-  pub few : length old.ring.waiting + 2 ≤ 130
+  pub few : length old.ring.waiting + 2 ≤ MOST_STEPS
   pub contexts : new.contexts ≡ old.contexts
 
 -- ---- what comes free

@@ -1,5 +1,5 @@
 -- What a request was answered by, and what is asked of the domains of devices.
-use Rattle.std.specs.Prelude.{◌≡◌, ◌≤◌, ◌⊎◌, ℕ, Option, None, Some, IsSomeAnd, Result, Ok, Err}
+use Rattle.std.specs.Prelude.{◌≡◌, ◌<◌, ◌⊎◌, ℕ, Option, None, Some, IsSomeAnd, Result, Ok, Err}
 use Rattle.dmatypes.specs.Allows.{domain_of_device, host_of}
 use Rattle.dmatypes.specs.Page.{page_of}
 use Rattle.dmatypes.specs.Rights.{Permits, bits_of}
@@ -10,6 +10,7 @@ use Rattle.dmatypes.specs.declared.call.Call.{Call}
 use Rattle.dmatypes.specs.declared.call.Call.TheVariants as calls
 use Rattle.dmatypes.specs.declared.call.Mode.{Mode}
 use Rattle.dmatypes.specs.declared.call.Whim.{Whim}
+use Rattle.dmatypes.specs.declared.limits.TheConstants.{DEVICES}
 use Rattle.dmatypes.specs.declared.refusal.Fault.{Fault}
 use Rattle.dmatypes.specs.declared.refusal.Refusal.{Refusal}
 use Rattle.dmatypes.specs.declared.reply.Reply.{Reply}
@@ -30,13 +31,13 @@ pub record Has (v : world.Domain) (address : ℕ) (access : Access) (hit : Hit) 
 
 -- the device, 0 to 15, is attached to a domain that has the page so, in every world that the state is one of
 pub record IsHitOf (m : State) (device address : ℕ) (access : Access) (hit : Hit) : Type 0 where
-  pub low : device ≤ 15
+  pub low : device < DEVICES
   pub had : (w : World) → Quarantine m w → IsSomeAnd (domain_of_device w device) (λ v. Has v address access hit)
 
 -- of a call and its reply in a world: there is a hit exactly where a request was answered a host address, which is the hit's
 unfoldable pub IsHitIn : World → Call → Reply → Option Hit → Type 0
 IsHitIn w (calls.Dma device address access whim) (Host a) (Some hit) =
-    (hit.host ≡ a) × (device ≤ 15) × IsSomeAnd (domain_of_device w device) (λ v. Has v address access hit)
+    (hit.host ≡ a) × (device < DEVICES) × IsSomeAnd (domain_of_device w device) (λ v. Has v address access hit)
 IsHitIn w (calls.Dma device address access whim) (Host a) None = ⊥
 IsHitIn w (calls.Dma device address access whim) reply hit = hit ≡ None
 IsHitIn w call reply hit = hit ≡ None

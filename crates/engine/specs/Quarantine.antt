@@ -1,6 +1,7 @@
 -- When the state is one of a world, part by part: no page that may still be used is free, and no table that may
 -- still be walked.
 use Rattle.std.specs.Prelude.{◌≡◌, ◌↔◌, ℕ, ◌+◌, ◌-◌, ◌<◌, ◌≤◌, ◌⊎◌, List, [], ◌∷◌, map, Option, Some, None, IsSome, slice_get}
+use Rattle.dmatypes.specs.declared.limits.TheConstants.{MOST_DOMAINS}
 use Rattle.dmatypes.specs.declared.width.TheConstants.{LEVELS, PAGES_END}
 use Rattle.dmatypes.specs.declared.call.Mode.TheVariants.{Strict}
 use Rattle.dmatypes.specs.declared.width.Width.TheVariants.{W39}
@@ -141,8 +142,8 @@ owned m (Some h) f = uses m LEVELS h.root f + held_in h.records f
 -- frames: each is free, used by one tree in one place, or held by one record; they are those below the number of
 -- table frames, and the free and the held ones are zeroed
 pub record PartsFrames (pool : Pool) (domains : ℕ → Option Domain) : Type 0 where
-  pub once : (f : ℕ) → f < pool.frames → total (λ d. owned (memory pool.words) (domains d) f) 16 + occurs f pool.free ≡ 1
-  pub past : (f : ℕ) → pool.frames ≤ f → total (λ d. owned (memory pool.words) (domains d) f) 16 + occurs f pool.free ≡ 0
+  pub once : (f : ℕ) → f < pool.frames → total (λ d. owned (memory pool.words) (domains d) f) (MOST_DOMAINS + 1) + occurs f pool.free ≡ 1
+  pub past : (f : ℕ) → pool.frames ≤ f → total (λ d. owned (memory pool.words) (domains d) f) (MOST_DOMAINS + 1) + occurs f pool.free ≡ 0
   pub zeroed : (f : ℕ) → 0 < occurs f pool.free → IsZeroed pool.words f
   pub held : (d f : ℕ) (h : Domain) → domains d ≡ Some h → 0 < held_in h.records f → IsZeroed pool.words f
 

@@ -4,6 +4,7 @@ use Rattle.std.specs.Prelude.{◌≡◌, ◌≢◌, ℕ, ◌+◌, ◌^◌, ◌<�
 use Rattle.dmatypes.specs.Block.{Holds, IsAligned}
 use Rattle.dmatypes.specs.Page.{Range, IsWithin}
 use Rattle.dmatypes.specs.World.{IsIn}
+use Rattle.dmatypes.specs.declared.page.TheConstants.{SPAN_ORDER}
 use Rattle.dmatypes.specs.declared.width.TheConstants.{LEVELS}
 use Rattle.iova.specs.declared.piece.PageState.TheVariants.{Live, Retired}
 use Rattle.iova.specs.Pieces.{piece_of, state_at}
@@ -73,7 +74,7 @@ abbrev pub Covers : ℕ → Record → Descriptor → Type 0
 Covers domain r IotlbGlobal = Unit {0}
 Covers domain r (IotlbDomain named) = named ≡ domain
 Covers domain r (IotlbPages named block hint) =
-    (named ≡ domain) × IsAligned block × Holds block r.range × (IsTrue r.cut.split → 9 ≤ block.order)
+    (named ≡ domain) × IsAligned block × Holds block r.range × (IsTrue r.cut.split → SPAN_ORDER ≤ block.order)
     × (IsTrue hint → IsTrue (hint_of r.cut))
 Covers domain r ContextGlobal = ⊥
 Covers domain r (ContextDomain named) = ⊥

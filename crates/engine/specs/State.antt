@@ -8,6 +8,7 @@ use Rattle.dmatypes.specs.declared.refusal.Refusal.{Refusal}
 use Rattle.dmatypes.specs.declared.refusal.Refusal.TheVariants as refusals
 use Rattle.dmatypes.specs.declared.reply.Reply.{Reply}
 use Rattle.dmatypes.specs.declared.reply.Reply.TheVariants.{Made, Done, Mapped, Unmapped, Flushed, Host, Faulted, Refused}
+use Rattle.dmatypes.specs.declared.limits.TheConstants.{DEVICES, MOST_DOMAINS}
 use Rattle.dmatypes.specs.declared.page.TheConstants.{PAGE_BYTES}
 use Rattle.dmatypes.specs.declared.width.Width.TheVariants.{W39}
 use Rattle.queue.specs.Ring.{ring_of}
@@ -41,8 +42,8 @@ pub record IsNew (frames : ℕ) (m : State) : Type 0 where
   pub past : (f : ℕ) → frames ≤ f → occurs f m.pool.free ≡ 0
   pub count : length m.pool.free ≡ frames
   pub zeroed : (f : ℕ) → f < frames → IsZeroed m.pool.words f
-  pub domains_are : m.domains ≡ replicate 15 None
-  pub contexts_are : m.iommu.contexts ≡ replicate 16 Absent
+  pub domains_are : m.domains ≡ replicate MOST_DOMAINS None
+  pub contexts_are : m.iommu.contexts ≡ replicate DEVICES Absent
   pub ring_is : m.iommu.ring ≡ ring_of [] 0 []
   pub unit_is : m.iommu.unit ≡ unit_state nothing 0 0
   pub sent_is : m.iommu.sent ≡ 0

@@ -4,12 +4,12 @@ ghost use Rattle.std.specs.Prelude.{◌≡◌, ◌<◌, ◌≤◌, ◌+◌, ◌+
 ghost use Rattle.dmatypes.specs.Conditions.{total_pages};
 ghost use Rattle.dmatypes.specs.Page.{Range};
 ghost use Rattle.dmatypes.specs.Rights.{bits_of};
+ghost use Rattle.dmatypes.specs.declared.limits.TheConstants.{MOST_RECORDS, MOST_SEGMENTS};
 ghost use Rattle.dmatypes.specs.declared.width.TheConstants.{LEVELS, PAGES_END};
 ghost use Rattle.iova.specs.Space.{AllFree, IsSpace, MayRetire};
 ghost use Rattle.tables.specs.Pool.{IsTree};
 ghost use Rattle.vtdbits.specs.declared.descriptor.Descriptor.TheVariants.{IotlbDomain};
 ghost use Rattle.engine.specs.Domains.{AreMadeBefore, new_domain, parts_of};
-ghost use Rattle.engine.specs.declared.room.TheConstants.{MOST_RECORDS};
 ghost use Rattle.engine.specs.Ending.{Closes, Destroys, Flushes, IsJudgedEnd, IsUnmapped, MakesRoom, PutsOff, Releases, ReleasesAll};
 ghost use Rattle.engine.specs.Ending.{RetiresAndUnmaps, UnmapsStrictly};
 ghost use Rattle.engine.specs.Judged.{AreMappable};
@@ -18,9 +18,9 @@ ghost use Rattle.engine.specs.Ready.{AreInvalidated, AreReleasable, CanCut, CanU
 
 use crate::iommu::Iommu;
 use crate::record::Record;
-use crate::room::{MOST_RECORDS, Room};
+use crate::room::Room;
 use crate::wanted::Wanted;
-use dmatypes::{Frame, Mode, PageRange, Refusal, Segment};
+use dmatypes::{Frame, MOST_RECORDS, Mode, PageRange, Refusal, Segment};
 use iova::{RetireError, Space, TakeError};
 use std::marker::Model;
 use tables::{NoFrames, Pool, Tree};
@@ -40,9 +40,9 @@ pub(crate) struct Domain {
 
 impl Model for Domain {
     ghost use Rattle.std.specs.Prelude.{◌≡◌, ◌≤◌, ◌-◌, vec_capacity, vec_len};
+    ghost use Rattle.dmatypes.specs.declared.limits.TheConstants.{MOST_RECORDS};
     ghost use Rattle.dmatypes.specs.declared.width.TheConstants.{PAGES_END};
     ghost use Rattle.engine.specs.Domains.{Domain};
-    ghost use Rattle.engine.specs.declared.room.TheConstants.{MOST_RECORDS};
 
     ghost Value = { Domain };
 
@@ -98,7 +98,7 @@ impl Domain {
     ) -> Result<u64, Refusal>
         requires can { CanPlace pool.old self.old }
         requires mappable { AreMappable segments.now }
-        requires few { length segments.now ≤ 16 }
+        requires few { length segments.now ≤ MOST_SEGMENTS }
         requires pages { wanted.pages ≡ total_pages segments.now }
         ensures placed { IfOk result (λ first. Places pool.old self.old
             (record { segments = segments.now; order = wanted.order; rights = bits_of wanted.rights; first = first }) pool.new self.new) }
@@ -189,7 +189,7 @@ impl Domain {
         ensures room { MakesRoom (parts_of pool.old self.old iommu.old) id result (parts_of pool.new self.new iommu.new) }
         ensures fewer { length self.new.records < MOST_RECORDS }
     {
-        if self.records.len() < MOST_RECORDS {
+        if (self.records.len() as u64) < MOST_RECORDS {
             0
         } else {
             self.flush(pool, iommu, id)

@@ -1,9 +1,11 @@
 //! The row of context entries, the ring and the unit that reads both, as the manager uses them.
 
-ghost use Rattle.std.specs.Prelude.{◌≡◌, ℕ, ◌+◌, ◌<◌, ◌≤◌, ◌^◌, ◌∷◌, [], Some, replicate, slice_get, take};
+ghost use Rattle.std.specs.Prelude.{◌≡◌, ℕ, ◌+◌, ◌-◌, ◌<◌, ◌≤◌, ◌^◌, ◌∷◌, [], Some, replicate, slice_get, take};
+ghost use Rattle.dmatypes.specs.declared.limits.TheConstants.{DEVICES};
 ghost use Rattle.engine.specs.Ending.{Invalidates, IsSent, left_by_all};
 ghost use Rattle.engine.specs.Ready.{IsCleared, IsReady};
 ghost use Rattle.queue.specs.Ring.{ring_of};
+ghost use Rattle.queue.specs.declared.ring.TheConstants.Ring.{CAPACITY};
 ghost use Rattle.unit.specs.Caches.{nothing, unit_state};
 ghost use Rattle.unit.specs.Filters.{status_after};
 ghost use Rattle.vtdbits.specs.declared.descriptor.Descriptor.{Descriptor};
@@ -30,7 +32,7 @@ impl Iommu {
     /// No device is attached, nothing waits, and the unit remembers nothing.
     pub(crate) fn new() -> Iommu
         ensures { result ≡ record {
-          contexts = replicate 16 ContextEntry.Absent;
+          contexts = replicate DEVICES ContextEntry.Absent;
           ring = ring_of [] 0 [];
           unit = unit_state nothing 0 0;
           sent = 0;
@@ -105,7 +107,7 @@ fn work_off(ring: &mut Ring, unit: &mut Unit, number: u32, descriptor: Descripto
     requires later { ring.old.status < number }
     requires no_wait { (status : ℕ) → status_after descriptor status ≡ status }
     requires steps { unit.old.steps + 2 ≤ 2 ^ 63 }
-    ensures ring { ring.new ≡ ring_of [] number (Wait number ∷ descriptor ∷ take 254 ring.old.taken) }
+    ensures ring { ring.new ≡ ring_of [] number (Wait number ∷ descriptor ∷ take (CAPACITY - 1) ring.old.taken) }
     ensures caches { unit.new.caches ≡ left_by_all (descriptor ∷ Wait number ∷ []) unit.old.caches }
     ensures steps { unit.new.steps ≡ unit.old.steps + 2 }
     ensures each { unit.new.done ≡ unit.old.done + 2 }

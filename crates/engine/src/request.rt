@@ -5,7 +5,7 @@ ghost use Rattle.dmatypes.specs.Conditions.{total_pages};
 ghost use Rattle.engine.specs.Judged.{AreMappable, AreOwned, IsJudged};
 
 use crate::wanted::Wanted;
-use dmatypes::{FRAMES_END, MOST_PAGES, Refusal, Rights, Segment};
+use dmatypes::{FRAMES_END, MOST_ORDER, MOST_PAGES, Refusal, Rights, Segment};
 
 /// What is wanted of these segments; `BadRange` where no map asks for that, else `FrameOwned` where a segment begins
 /// at one of the table frames, which are those below `frames`.
@@ -20,7 +20,7 @@ pub(crate) fn judge(
     let (Some(pages), Some(rights)) = (pages_of(segments), Rights::from_number(rights)) else {
         return Err(Refusal::BadRange);
     };
-    if order > 9 {
+    if order > MOST_ORDER {
         return Err(Refusal::BadRange);
     }
     if is_owned(frames, segments) {

@@ -1,18 +1,16 @@
 //! The memory of a domain that isn't there.
 
 ghost use Rattle.std.specs.Prelude.{◌≡◌, ◌-◌, ◌≤◌, vec_capacity};
+ghost use Rattle.dmatypes.specs.declared.limits.TheConstants.{MOST_RECORDS};
 ghost use Rattle.dmatypes.specs.declared.width.TheConstants.{PAGES_END};
 
 use crate::record::Record;
-use dmatypes::PAGES_END;
+use dmatypes::{MOST_RECORDS, PAGES_END};
 use iova::Space;
 use std::alloc::{AllocError, Global};
 
 // The last page of a domain.
 const LAST_PAGE: u64 = PAGES_END - 1;
-
-/// How many retired records a domain keeps at most (own).
-pub(crate) const MOST_RECORDS: usize = 256;
 
 /// An address space and room for retired records, reserved when the state is made: a domain takes them, and leaves them
 /// when it ends.
@@ -21,7 +19,7 @@ pub(crate) struct Room {
     pub(crate) space: Space,
     pub(crate) records: Vec<Record>,
     ghost whole: { space.last ≡ PAGES_END - 1 },
-    ghost roomy: { 256 ≤ vec_capacity records },
+    ghost roomy: { MOST_RECORDS ≤ vec_capacity records },
 }
 
 impl Room {
@@ -29,7 +27,7 @@ impl Room {
     pub(crate) fn new(alloc: Global) -> Result<Room, AllocError> {
         Ok(Room {
             space: Space::new(alloc, LAST_PAGE)?,
-            records: Vec::with_capacity(alloc, MOST_RECORDS)?,
+            records: Vec::with_capacity(alloc, MOST_RECORDS as usize)?,
         })
     }
 }

@@ -2,14 +2,12 @@
 
 ghost use Rattle.std.specs.Prelude.{◌≡◌, ◌<◌, ◌^◌};
 ghost use Rattle.dmatypes.specs.Block.{block};
+ghost use Rattle.vtdbits.specs.declared.number.TheConstants.{WIDE_PAGES_END};
 ghost use Rattle.engine.specs.Ending.{IsBlockOf, IsSent, hint_of};
 
-use dmatypes::{PageRange, aligned_block};
+use dmatypes::{PageRange, SPAN_ORDER, aligned_block};
 use tables::Cut;
 use vtdbits::{Descriptor, DomainId, PageBlock};
-
-// The order of a block of 512 pages, as a leaf of 2 MiB maps them, and the greatest that a descriptor names.
-const LARGE: u8 = 9;
 
 /// The descriptor of a strict unmap: page-selective for the smallest aligned block that holds the range, and where a
 /// leaf of 2 MiB was split for at least 512 pages; beyond 512 pages domain-selective. The invalidation hint is set
@@ -31,11 +29,11 @@ pub(crate) fn descriptor_of(domain: DomainId, range: PageRange, cut: &Cut) -> De
 // The first page number and the order of the block.
 fn block_of(range: PageRange, split: bool) -> (u64, u8)
     ensures block { IsBlockOf range split (block result.0 result.1) }
-    ensures near { result.0 < 2 ^ 36 }
+    ensures near { result.0 < WIDE_PAGES_END }
 {
     let (first, order) = aligned_block(range);
-    if split && order < LARGE {
-        (first >> LARGE << LARGE, LARGE)
+    if split && order < SPAN_ORDER {
+        (first >> SPAN_ORDER << SPAN_ORDER, SPAN_ORDER)
     } else {
         (first, order)
     }

@@ -5,6 +5,8 @@ ghost use Rattle.std.specs.Prelude.{vec_capacity, vec_len, Some, None, IsSome, I
 ghost use Rattle.dmatypes.specs.Conditions.{IsBadUnmap};
 ghost use Rattle.dmatypes.specs.Page.{IsInWindow, IsPageRange, range_at};
 ghost use Rattle.dmatypes.specs.World.{empty};
+ghost use Rattle.dmatypes.specs.declared.limits.TheConstants.{DEVICES, LEAST_TABLE_FRAMES, MOST_CALLS, MOST_DOMAINS, MOST_SEGMENTS};
+ghost use Rattle.dmatypes.specs.declared.limits.TheConstants.{MOST_TABLE_FRAMES};
 ghost use Rattle.dmatypes.specs.declared.page.TheConstants.{PAGE_BYTES};
 ghost use Rattle.dmatypes.specs.declared.call.Call.TheVariants as calls;
 ghost use Rattle.dmatypes.specs.declared.reply.Reply.TheVariants.{Done};
@@ -21,8 +23,8 @@ use crate::request::judge;
 use crate::room::Room;
 use arrayvec::ArrayVec;
 use dmatypes::{
-    Access, Cache, Fault, Mode, PAGE_BYTES, PageRange, Refusal, Reply, Segment, WINDOW_FIRST,
-    WINDOW_LAST, Whim, Width,
+    Access, Cache, DEVICES, Fault, MOST_DOMAINS, MOST_SEGMENTS, Mode, PAGE_BYTES, PageRange,
+    Refusal, Reply, Segment, WINDOW_FIRST, WINDOW_LAST, Whim, Width,
 };
 use std::alloc::{AllocError, Global};
 use std::marker::Model;
@@ -71,8 +73,8 @@ impl Model for State {
 impl State {
     /// A state with no domain and no attached device, with so many table frames.
     pub fn new(alloc: Global, frames: u64) -> Result<State, AllocError>
-        requires some { 16 ≤ frames }
-        requires few { frames ≤ 4096 }
+        requires some { LEAST_TABLE_FRAMES ≤ frames }
+        requires few { frames ≤ MOST_TABLE_FRAMES }
         ensures new { IfOk result (IsNew frames) }
         ensures empty { IfOk result (λ state. Quarantine state (empty frames)) }
     {
@@ -89,7 +91,7 @@ impl State {
     /// Makes an empty domain, and answers its id, 1 to 15. Refuses with `TooManyDomains` where all ids are in use, else
     /// with `NoFrames` where no table frame is free.
     pub fn domain(&mut self, mode: Mode) -> Result<u64, Refusal>
-        requires { self.old.calls < 1048576 }
+        requires { self.old.calls < MOST_CALLS }
         ensures { Does self.old (calls.Domain mode) (made_reply result) self.new }
     {
         self.calls += 1;
@@ -108,11 +110,11 @@ impl State {
     /// Attaches a device, 0 to 15, to a domain. Refuses with `NoDevice`, `NoDomain`, or `Busy` where it is attached, the
     /// first of these that stands.
     pub fn attach(&mut self, device: u64, domain: u64) -> Result<(), Refusal>
-        requires { self.old.calls < 1048576 }
+        requires { self.old.calls < MOST_CALLS }
         ensures { Does self.old (calls.Attach device domain) (done_reply result) self.new }
     {
         self.calls += 1;
-        if device > 15 {
+        if device >= DEVICES {
             return Err(Refusal::NoDevice);
         }
         let Some(id) = DomainId::new(domain) else {
@@ -136,7 +138,7 @@ impl State {
     /// Detaches a device, 0 to 15, from its domain, and has the unit forget its context. Refuses with `NoDevice`, else
     /// with `NotAttached`.
     pub fn detach(&mut self, device: u64) -> Result<(), Refusal>
-        requires { self.old.calls < 1048576 }
+        requires { self.old.calls < MOST_CALLS }
         ensures { Does self.old (calls.Detach device) (done_reply result) self.new }
     {
         self.calls += 1;
@@ -154,7 +156,7 @@ impl State {
     /// Ends a domain to which no device is attached, with all its pages, and gives all its table frames back. Refuses
     /// with `NoDomain`, or `Busy` where a device is attached.
     pub fn drop_domain(&mut self, domain: u64) -> Result<(), Refusal>
-        requires { self.old.calls < 1048576 }
+        requires { self.old.calls < MOST_CALLS }
         ensures { Does self.old (calls.Drop domain) (done_reply result) self.new }
     {
         self.calls += 1;
@@ -183,7 +185,7 @@ impl State {
         order: u64,
         rights: u64,
     ) -> Result<u64, Refusal>
-        requires { self.old.calls < 1048576 }
+        requires { self.old.calls < MOST_CALLS }
         ensures { Does self.old (calls.Map domain frame pages order rights) (mapped_reply result) self.new }
     {
         self.map_segments(domain, order, rights, &[Segment { frame, pages }])
@@ -199,9 +201,9 @@ impl State {
         domain: u64,
         order: u64,
         rights: u64,
-        segments: &ArrayVec<Segment, 16>,
+        segments: &ArrayVec<Segment, MOST_SEGMENTS>,
     ) -> Result<u64, Refusal>
-        requires { self.old.calls < 1048576 }
+        requires { self.old.calls < MOST_CALLS }
         ensures { Does self.old (calls.MapList domain order rights segments.now) (mapped_reply result) self.new }
     {
         self.map_segments(domain, order, rights, segments.as_slice())
@@ -214,8 +216,8 @@ impl State {
         rights: u64,
         segments: &[Segment],
     ) -> Result<u64, Refusal>
-        requires counts { self.old.calls < 1048576 }
-        requires few { length segments.now ≤ 16 }
+        requires counts { self.old.calls < MOST_CALLS }
+        requires few { length segments.now ≤ MOST_SEGMENTS }
         ensures { Does self.old (calls.MapList domain order rights (record { items = segments.now })) (mapped_reply result) self.new }
     {
         self.calls += 1;
@@ -245,12 +247,12 @@ impl State {
         access: Access,
         whim: Whim,
     ) -> Result<Result<Hit, Fault>, Refusal>
-        requires { self.old.calls < 1048576 }
+        requires { self.old.calls < MOST_CALLS }
         ensures does { Does self.old (calls.Dma device address access whim) (request_reply result) self.new }
         ensures hit { IfOk result (λ answer. IfOk answer (IsHitOf self.old device address access)) }
     {
         self.calls += 1;
-        if device > 15 {
+        if device >= DEVICES {
             return Err(Refusal::NoDevice);
         }
         if is_in_window(address) {
@@ -273,7 +275,7 @@ impl State {
     /// multiple of 4,096, or a range that can't be mapped at once), `NotLive`, `TooManyPieces`, or `NoFrames` (more leaves
     /// of 2 MiB are to be split than frames are free), the first of these that stands.
     pub fn unmap(&mut self, domain: u64, address: u64, pages: u64) -> Result<u64, Refusal>
-        requires { self.old.calls < 1048576 }
+        requires { self.old.calls < MOST_CALLS }
         ensures { Does self.old (calls.Unmap domain address pages) (unmapped_reply result) self.new }
     {
         self.calls += 1;
@@ -292,7 +294,7 @@ impl State {
     /// Releases all retired records of a domain, once the unit has forgotten what it remembers of the domain, and
     /// answers how many there were. Refuses with `NoDomain`.
     pub fn flush(&mut self, domain: u64) -> Result<u64, Refusal>
-        requires { self.old.calls < 1048576 }
+        requires { self.old.calls < MOST_CALLS }
         ensures { Does self.old (calls.Flush domain) (flushed_reply result) self.new }
     {
         self.calls += 1;
@@ -307,7 +309,7 @@ impl State {
 
     /// The entry at a place of one of the unit's caches is forgotten, if there is one.
     pub fn evict(&mut self, kind: Cache, place: u64)
-        requires { self.old.calls < 1048576 }
+        requires { self.old.calls < MOST_CALLS }
         ensures { Does self.old (calls.Evict kind place) Done self.new }
     {
         self.calls += 1;
@@ -322,12 +324,12 @@ impl State {
     }
 }
 
-// 15 places with no domain.
+// The places of all domains, with none there.
 fn no_domains(alloc: Global) -> Result<Vec<Option<Domain>>, AllocError>
-    ensures { IfOk result (λ v. v.items ≡ replicate 15 None) }
+    ensures { IfOk result (λ v. v.items ≡ replicate MOST_DOMAINS None) }
 {
-    let mut domains = Vec::with_capacity(alloc, 15)?;
-    for _place in 0..15u64 {
+    let mut domains = Vec::with_capacity(alloc, MOST_DOMAINS as usize)?;
+    for _place in 0..MOST_DOMAINS {
         domains.push(None)?;
     }
     Ok(domains)
@@ -335,11 +337,11 @@ fn no_domains(alloc: Global) -> Result<Vec<Option<Domain>>, AllocError>
 
 // The rooms of all domains.
 fn all_rooms(alloc: Global) -> Result<Vec<Room>, AllocError>
-    ensures count { IfOk result (λ v. vec_len v ≡ 15) }
-    ensures room { IfOk result (λ v. 15 ≤ vec_capacity v) }
+    ensures count { IfOk result (λ v. vec_len v ≡ MOST_DOMAINS) }
+    ensures room { IfOk result (λ v. MOST_DOMAINS ≤ vec_capacity v) }
 {
-    let mut rooms = Vec::with_capacity(alloc, 15)?;
-    for _room in 0..15u64 {
+    let mut rooms = Vec::with_capacity(alloc, MOST_DOMAINS as usize)?;
+    for _room in 0..MOST_DOMAINS {
         rooms.push(Room::new(alloc)?)?;
     }
     Ok(rooms)
@@ -356,18 +358,18 @@ fn first_vacant(domains: &[Option<Domain>]) -> Option<usize>
 // The place of a domain: domains 1 to 15 stand at places 0 to 14.
 fn place_of(id: DomainId) -> usize
     ensures place { id ≡ result + 1 }
-    ensures low { result < 15 }
+    ensures low { result < MOST_DOMAINS }
 {
     (id.number() - 1) as usize
 }
 
 // Whether a device is attached to the domain.
 fn is_attached(contexts: &Contexts, id: DomainId) -> bool
-    requires { length contexts.now ≡ 16 }
+    requires { length contexts.now ≡ DEVICES }
     ensures some { IsTrue result → (v : ℕ) × (attached (slice_get contexts.now v) ≡ Some id) }
     ensures none { IsFalse result → (v : ℕ) → attached (slice_get contexts.now v) ≡ Some id → ⊥ }
 {
-    for device in 0..16u64 {
+    for device in 0..DEVICES {
         if attaches(contexts.get(device), id) {
             return true;
         }

@@ -1,6 +1,7 @@
 //! What a map can ask for.
 
 ghost use Rattle.std.specs.Prelude.{◌≤◌};
+ghost use Rattle.dmatypes.specs.declared.limits.TheConstants.{MOST_ORDER};
 ghost use Rattle.dmatypes.specs.declared.page.TheConstants.{MOST_PAGES};
 ghost use Rattle.dmatypes.specs.Rights.{AreRights, bits_of};
 
@@ -14,6 +15,6 @@ pub(crate) struct Wanted {
     pub(crate) rights: Rights,
     ghost some_pages: { 1 ≤ pages },
     ghost few_pages: { pages ≤ MOST_PAGES },
-    ghost small_order: { order ≤ 9 },
+    ghost small_order: { order ≤ MOST_ORDER },
     ghost some_right: { AreRights (bits_of rights) },
 }

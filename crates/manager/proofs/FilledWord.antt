@@ -22,6 +22,7 @@ use Rattle.ports.proofs.Histories.{backed_word}
 use Rattle.ports.proofs.Maps.{followed, is_of, none_is_no, of_is}
 use Rattle.ports.proofs.Worlds.{IsSoundDomain, sound_after}
 use Rattle.unit.specs.declared.hit.Hit.{Hit}
+use Rattle.dmatypes.specs.declared.limits.TheConstants.{DEVICES}
 use Rattle.vtdbits.specs.Port.{Spells}
 use Rattle.vtdbits.specs.Translation.{target}
 use Rattle.vtdbits.specs.declared.port.PortWord.{PortWord}
@@ -31,7 +32,7 @@ use Rattle.manager.specs.Words.{AreFilled, IsFilled, IsFilledIf, IsHad}
 pub record Reached (w : World) (device address : ℕ) (access : Access) (reply : Reply) (hit : Hit) : Type 0 where
   pub host : ℕ
   pub answer : reply ≡ Host host
-  pub low : device ≤ 15
+  pub low : device < DEVICES
   pub had : IsSomeAnd (domain_of_device w device) (λ v. Has v address access hit)
 
 reached_by : (w : World) (device address : ℕ) (access : Access) (whim : Whim) (reply : Reply) (hit : Hit)

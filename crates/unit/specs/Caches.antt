@@ -1,5 +1,5 @@
 -- What the unit remembers.
-use Rattle.std.specs.Prelude.{◌≡◌, ℕ, ◌%◌, ◌^◌, ◌<◌, ◌≤◌, ◌⊎◌, List, [], length, remove}
+use Rattle.std.specs.Prelude.{◌≡◌, ℕ, ◌*◌, ◌%◌, ◌^◌, ◌<◌, ◌≤◌, ◌⊎◌, List, [], length, remove}
 use Rattle.dmatypes.specs.Rights.{AreRights}
 use Rattle.dmatypes.specs.declared.call.Cache.{Cache}
 use Rattle.dmatypes.specs.declared.limits.TheConstants.{MOST_CACHED_CONTEXTS, MOST_CACHED_LEAVES, MOST_CACHED_NON_LEAVES}
@@ -95,6 +95,6 @@ pub record IsLeaf (l : CachedLeaf) : Type 0 where
 -- a table of level 1 or 2
 pub record IsNonLeaf (t : CachedNonLeaf) : Type 0 where
   pub first : t.first < WIDE_PAGES_END
-  pub pages : t.pages ≤ 2 ^ 18
+  pub pages : t.pages ≤ SPAN_PAGES * SPAN_PAGES
   pub low : 1 ≤ t.level
   pub high : t.level ≤ 2

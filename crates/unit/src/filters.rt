@@ -1,6 +1,7 @@
 //! What a descriptor makes the unit forget.
 
-ghost use Rattle.std.specs.Prelude.{◌≡◌, ◌<◌, ◌≤◌, ◌^◌, filter, length, not};
+ghost use Rattle.std.specs.Prelude.{◌≡◌, ◌<◌, ◌≤◌, ◌*◌, ◌^◌, filter, length, not};
+ghost use Rattle.dmatypes.specs.declared.page.TheConstants.{SPAN_PAGES};
 ghost use Rattle.unit.specs.Filters.{drops_leaf, drops_non_leaf, drops_context, lie_in, meet};
 
 use crate::entries::{CachedContext, CachedLeaf, CachedNonLeaf};
@@ -87,7 +88,7 @@ pub(crate) fn forget<T: Cached + Copy + Default, const N: usize>(
 // Whether so many pages from a first one on lie wholly in the block.
 fn lie_in(block: PageBlock, first: u64, pages: u64) -> bool
     requires first { first < WIDE_PAGES_END }
-    requires pages { pages ≤ 2 ^ 18 }
+    requires pages { pages ≤ SPAN_PAGES * SPAN_PAGES }
     ensures { result ≡ lie_in block first pages }
 {
     block.first() <= first && first + pages <= block.first() + (1 << block.order())
@@ -96,7 +97,7 @@ fn lie_in(block: PageBlock, first: u64, pages: u64) -> bool
 // Whether some of them lie in it.
 fn meet(block: PageBlock, first: u64, pages: u64) -> bool
     requires first { first < WIDE_PAGES_END }
-    requires pages { pages ≤ 2 ^ 18 }
+    requires pages { pages ≤ SPAN_PAGES * SPAN_PAGES }
     ensures { result ≡ meet block first pages }
 {
     first < block.first() + (1 << block.order()) && block.first() < first + pages

@@ -1,6 +1,7 @@
 -- Spellings of context entries.
 use Rattle.std.specs.Prelude.{◌≡◌, ℕ, ◌+◌, ◌*◌, ◌/◌, ◌%◌, ◌^◌, ◌==◌, ◌&&◌, nat_lt, Bool, if◌then◌else◌, Option, Some, None}
 use Rattle.dmatypes.specs.Page.{IsFrame}
+use Rattle.dmatypes.specs.declared.page.TheConstants.{FRAMES_END}
 use Rattle.dmatypes.specs.declared.width.Width.{Width}
 use Rattle.dmatypes.specs.declared.width.Width.TheVariants.{W39}
 use Rattle.vtdbits.specs.Numbers.{IsDomainId, is_domain_id}
@@ -32,7 +33,7 @@ present_with root domain (Some width) = Some (Present root width domain)
 
 abbrev pub is_present : Words → Bool
 is_present words =
-    (words.low % 2 ^ 12 == 1) && nat_lt (words.low / 2 ^ 12) (2 ^ 24) && is_domain_id (words.high / 2 ^ 8)
+    (words.low % 2 ^ 12 == 1) && nat_lt (words.low / 2 ^ 12) FRAMES_END && is_domain_id (words.high / 2 ^ 8)
 
 -- the entry that the words spell, where they spell one
 unfoldable pub context_of : Words → Option ContextEntry

@@ -8,19 +8,21 @@ use Rattle.unit.specs.Caches.{Caches, CachedLeaf, CachedNonLeaf}
 use Rattle.engine.specs.Domains.{Domain, domain_at}
 use Rattle.engine.specs.State.{State}
 use Rattle.engine.specs.Quarantine.{AreLawful, IsHeld, IsLawfulLeaf, IsLawfulTable}
+use Rattle.dmatypes.specs.declared.width.TheConstants.{LEVELS}
 
 -- ---- one tree
 
 -- the leaf entries and the tables of a tree that has the same ones
-pub leaf_at_stays : (words words' : List ℕ) (root : ℕ) → ((p : ℕ) → leaf_from (memory words') 3 root p ≡ leaf_from (memory words) 3 root p)
-    → (first pages frame rights : ℕ) → IsLeafAt (memory words) 3 root first pages frame rights
-    → IsLeafAt (memory words') 3 root first pages frame rights
+pub leaf_at_stays : (words words' : List ℕ) (root : ℕ)
+    → ((p : ℕ) → leaf_from (memory words') LEVELS root p ≡ leaf_from (memory words) LEVELS root p)
+    → (first pages frame rights : ℕ) → IsLeafAt (memory words) LEVELS root first pages frame rights
+    → IsLeafAt (memory words') LEVELS root first pages frame rights
 leaf_at_stays words words' root same first pages frame rights at =
     (at.0, (at.1.0, at.1.1, at.1.2, at.1.3, λ p low high. same p ∙ at.1.4 p low high))
 
 pub table_at_stays : (words words' : List ℕ) (root : ℕ)
-    → ((p w : ℕ) → table_from (memory words') 3 root p w ≡ table_from (memory words) 3 root p w) → (first level frame : ℕ)
-    → IsTableAt (memory words) 3 root first level frame → IsTableAt (memory words') 3 root first level frame
+    → ((p w : ℕ) → table_from (memory words') LEVELS root p w ≡ table_from (memory words) LEVELS root p w) → (first level frame : ℕ)
+    → IsTableAt (memory words) LEVELS root first level frame → IsTableAt (memory words') LEVELS root first level frame
 table_at_stays words words' root same first level frame at = (at.0, at.1, at.2, at.3, λ p low high. same p level ∙ at.4 p low high)
 
 -- ---- one domain
@@ -32,8 +34,8 @@ pub record KeepsLawful (words words' : List ℕ) (h h' : Domain) (v v' : world.D
 
 -- a domain that stays, while the memory of its tree and what it holds do
 pub keeps_same : (words words' : List ℕ) (h : Domain) (v : world.Domain)
-    → ((p : ℕ) → leaf_from (memory words') 3 h.root p ≡ leaf_from (memory words) 3 h.root p)
-    → ((p w : ℕ) → table_from (memory words') 3 h.root p w ≡ table_from (memory words) 3 h.root p w)
+    → ((p : ℕ) → leaf_from (memory words') LEVELS h.root p ≡ leaf_from (memory words) LEVELS h.root p)
+    → ((p w : ℕ) → table_from (memory words') LEVELS h.root p w ≡ table_from (memory words) LEVELS h.root p w)
     → ((first pages f : ℕ) → IsHeld words h.records first pages f → IsHeld words' h.records first pages f)
     → KeepsLawful words words' h h v v
 keeps_same words words' h v leaves tables held = record {

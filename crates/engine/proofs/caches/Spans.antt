@@ -1,9 +1,11 @@
 -- The pages of the span that a page is in.
-use Rattle.std.proofs.Common.{◌≡◌, ℕ, zero, suc, ◌+◌, ◌-◌, ◌*◌, ◌%◌, ◌/◌, ◌^◌, ◌<◌, ◌≤◌, sym, ap, subst, ◌∙◌, arith, mod-lt}
+use Rattle.std.proofs.Common.{◌≡◌, ℕ, zero, suc, ◌+◌, ◌-◌, ◌*◌, ◌%◌, ◌/◌, ◌<◌, ◌≤◌, sym, ap, subst, ◌∙◌, arith, mod-lt}
 use Rattle.std.proofs.Math.Nat.{mul-mod_right}
 use Rattle.tables.specs.Tree.{span}
 use Rattle.tables.proofs.walks.Near.{div_within}
 use Rattle.tables.proofs.walks.Steps.{span-one, span-zero}
+use Rattle.dmatypes.specs.declared.page.TheConstants.{SPAN_PAGES}
+use Rattle.dmatypes.specs.declared.width.TheConstants.{PAGES_END}
 
 -- the first page of the span is a multiple of its size
 pub base_even : (p n : ℕ) → 0 < n → (p - p % n) % n ≡ 0
@@ -30,7 +32,8 @@ one_span p q n pos low high =
     ∙ sym (div_within (p - p % n) q n pos (base_even p n pos) low high)
 
 -- the span of a page of the space is in the space
-pub below_end : (p j q : ℕ) → p < 2 ^ 27 → j < 2 → q < p - p % span j + span j → q < 2 ^ 27
+pub below_end : (p j q : ℕ) → p < PAGES_END → j < 2 → q < p - p % span j + span j → q < PAGES_END
 below_end p zero q low small high = let one : q < p - p % 1 + 1 = subst (λ n. q < p - p % n + n) span-zero high in omega arith
-below_end p (suc zero) q low small high = let many : q < p - p % 512 + 512 = subst (λ n. q < p - p % n + n) span-one high in omega arith
+below_end p (suc zero) q low small high = let many : q < p - p % SPAN_PAGES + SPAN_PAGES = subst (λ n. q < p - p % n + n) span-one high in
+    omega arith
 below_end p (suc (suc j)) q low small high = absurd (omega arith)

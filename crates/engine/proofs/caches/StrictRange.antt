@@ -18,6 +18,9 @@ use Rattle.unit.specs.Filters.{drops_leaf, drops_non_leaf}
 use Rattle.vtdbits.specs.declared.descriptor.Descriptor.{Descriptor}
 use Rattle.vtdbits.specs.declared.descriptor.Descriptor.TheVariants.{IotlbDomain, IotlbPages}
 use Rattle.engine.specs.Ending.{IsBlockOf, IsSent, hint_of, leaves_split}
+use Rattle.dmatypes.specs.declared.page.TheConstants.{SPAN_ORDER, SPAN_PAGES}
+use Rattle.dmatypes.specs.declared.width.TheConstants.{LEVELS}
+use Rattle.vtdbits.specs.declared.number.TheConstants.{MOST_BLOCK_ORDER}
 
 -- ---- one descriptor
 
@@ -43,16 +46,17 @@ dropped_table d i e left = grind (arith, nat_tests)
 pub record Covers (range : Range) (split : Bool) (b : Block) : Type 0 where
   pub low : b.first ≤ range.first
   pub high : range.first + range.pages ≤ b.first + 2 ^ b.order
-  pub large : split ≡ true → (2 ^ b.order ≡ 512) × (b.first % 512 ≡ 0)
+  pub large : split ≡ true → (2 ^ b.order ≡ SPAN_PAGES) × (b.first % SPAN_PAGES ≡ 0)
 
-nine : (n : ℕ) → 9 ≤ n → n ≤ 9 → 2 ^ n ≡ 512
-nine n low high = let is : n ≡ 9 = omega arith in rw is refl
+one_span : (n : ℕ) → SPAN_ORDER ≤ n → n ≤ MOST_BLOCK_ORDER → 2 ^ n ≡ SPAN_PAGES
+one_span n low high = let is : n ≡ SPAN_ORDER = omega arith in rw is refl
 
-covers : (range : Range) (split : Bool) (b : Block) → 1 ≤ range.pages → IsBlockOf range split b → b.order ≤ 9 → Covers range split b
+covers : (range : Range) (split : Bool) (b : Block) → 1 ≤ range.pages → IsBlockOf range split b → b.order ≤ MOST_BLOCK_ORDER
+    → Covers range split b
 covers range split b some is small = record {
   low = (is.holds range.first (omega arith, omega (arith, some))).0;
   high = (let last = is.holds (range.first + range.pages - 1) (omega (arith, some), omega (arith, some)) in omega (arith, last.1, some));
-  large = λ yes. let size = nine b.order (is.wide (rw yes refl)) small in (size, subst (λ n. b.first % n ≡ 0) size is.aligned);
+  large = λ yes. let size = one_span b.order (is.wide (rw yes refl)) small in (size, subst (λ n. b.first % n ≡ 0) size is.aligned);
 }
 
 -- the descriptor is one for the domain, or one for a block that covers the range
@@ -77,22 +81,23 @@ in_block range split b l zero true e c small pages even covered lt gt =
 in_block range split b l (suc zero) true e c small pages even covered lt gt =
     let size = (c.large e).0 in
     let base = (c.large e).1 in
-    let many : l.pages ≡ 512 = pages ∙ span-one in
-    let aligned : l.first % 512 ≡ 0 = subst (λ (n : ℕ). l.first % n ≡ 0) span-one even in (
+    let many : l.pages ≡ SPAN_PAGES = pages ∙ span-one in
+    let aligned : l.first % SPAN_PAGES ≡ 0 = subst (λ (n : ℕ). l.first % n ≡ 0) span-one even in (
       inside_low b.first l.first range.first range.pages (omega (arith, c.high, size)) base aligned c.low (omega (arith, gt, many)),
       inside_high b.first l.first (2 ^ b.order) range.first range.pages size base aligned c.high lt many,
     )
   where
-    inside_low : (b f s n : ℕ) → s + n ≤ b + 512 → b % 512 ≡ 0 → f % 512 ≡ 0 → b ≤ s → s < f + 512 → b ≤ f
+    inside_low : (b f s n : ℕ) → s + n ≤ b + SPAN_PAGES → b % SPAN_PAGES ≡ 0 → f % SPAN_PAGES ≡ 0 → b ≤ s → s < f + SPAN_PAGES → b ≤ f
     inside_low b f s n high base aligned low gt = omega arith
 
-    inside_high : (b f k s n : ℕ) → k ≡ 512 → b % 512 ≡ 0 → f % 512 ≡ 0 → s + n ≤ b + k → f < s + n → l.pages ≡ 512 → f + l.pages ≤ b + k
+    inside_high : (b f k s n : ℕ) → k ≡ SPAN_PAGES → b % SPAN_PAGES ≡ 0 → f % SPAN_PAGES ≡ 0 → s + n ≤ b + k → f < s + n
+        → l.pages ≡ SPAN_PAGES → f + l.pages ≤ b + k
     inside_high b f k s n size base aligned high lt many = omega arith
 in_block range split b l (suc (suc j)) true e c small pages even covered lt gt = absurd (omega (arith, small))
 
 -- a leaf entry is covered where none was split and they meet
 leaf_covered : (old : Pool) (root : ℕ) (range : Range) (l : CachedLeaf) → 1 ≤ range.pages → leaves_split old root range ≡ 0
-    → IsLeafAt (memory old.words) 3 root l.first l.pages l.frame l.rights → l.first < range.first + range.pages
+    → IsLeafAt (memory old.words) LEVELS root l.first l.pages l.frame l.rights → l.first < range.first + range.pages
     → range.first < l.first + l.pages → (range.first ≤ l.first) × (l.first + l.pages ≤ range.first + range.pages)
 leaf_covered old root range l some none (j, at) lt gt = by_page (cases_lt l.first range.first)
   where
@@ -102,7 +107,8 @@ leaf_covered old root range l some none (j, at) lt gt = by_page (cases_lt l.firs
     whole : (p : ℕ) → range.first ≤ p → p < range.first + range.pages → l.first ≤ p → p < l.first + l.pages → (q : ℕ) → l.first ≤ q
         → q < l.first + l.pages → (range.first ≤ q) × (q < range.first + range.pages)
     whole p low high above below q q_above q_below =
-        unmap_whole old 3 root range.first (range.first + range.pages) none p (record { size = j; frame = l.frame; rights = l.rights }) low
+        unmap_whole old LEVELS root range.first (range.first + range.pages) none p (record { size = j; frame = l.frame; rights = l.rights })
+        low
         high (at.4 p above below) q
         (same_part l.first q p (span j) pos at.2 q_above (omega (arith, q_below, at.1)) above (omega (arith, below, at.1)))
       where
@@ -129,7 +135,8 @@ none_of (suc n) b to from e = let yes : b ≡ true = from (omega arith) in absur
 
 module _ (old new : Pool) (root d : ℕ) (range : Range) (cut : Cut) (x : Descriptor) (some : 1 ≤ range.pages)
     (sent : IsSent d range cut x) (split : IsTrue cut.split ↔ (0 < leaves_split old root range)) where
-  meets : (l : CachedLeaf) → l.domain ≡ d → drops_leaf x l ≡ false → IsLeafAt (memory old.words) 3 root l.first l.pages l.frame l.rights
+  meets : (l : CachedLeaf) → l.domain ≡ d → drops_leaf x l ≡ false
+      → IsLeafAt (memory old.words) LEVELS root l.first l.pages l.frame l.rights
       → l.first < range.first + range.pages → range.first < l.first + l.pages → ⊥
   meets l here left at lt gt = elim (sent_covers d range cut x some sent) [
     | inl all ↦ dropped_leaf d l here (ap (λ y. drops_leaf y l) (sym all) ∙ left)
@@ -141,7 +148,7 @@ module _ (old new : Pool) (root d : ℕ) (range : Range) (cut : Cut) (x : Descri
 
   -- a leaf entry of a cached leaf that the descriptor leaves is apart from the range
   pub strict_apart : (l : CachedLeaf) → l.domain ≡ d → drops_leaf x l ≡ false
-      → IsLeafAt (memory old.words) 3 root l.first l.pages l.frame l.rights
+      → IsLeafAt (memory old.words) LEVELS root l.first l.pages l.frame l.rights
       → (l.first + l.pages ≤ range.first) ⊎ (range.first + range.pages ≤ l.first)
   strict_apart l here left at =
       ⊎_elim
@@ -163,14 +170,16 @@ module _ (old new : Pool) (root d : ℕ) (range : Range) (cut : Cut) (x : Descri
       (ap (λ h. drops_non_leaf (IotlbPages d b h) i) (sym (hint_clear i.frame cut.frames cut.split held)) ∙ left)
 
   -- a cached table that the descriptor leaves wasn't cut
-  pub strict_table : range.first < span 3 → Unmaps old new 3 root range.first (range.first + range.pages) cut.frames → (i : CachedNonLeaf)
-      → i.domain ≡ d → i.pages ≡ span i.level → drops_non_leaf x i ≡ false → IsTableAt (memory old.words) 3 root i.first i.level i.frame
-      → IsTableAt (memory new.words) 3 root i.first i.level i.frame
+  pub strict_table : range.first < span LEVELS → Unmaps old new LEVELS root range.first (range.first + range.pages) cut.frames
+      → (i : CachedNonLeaf)
+      → i.domain ≡ d → i.pages ≡ span i.level → drops_non_leaf x i ≡ false
+      → IsTableAt (memory old.words) LEVELS root i.first i.level i.frame
+      → IsTableAt (memory new.words) LEVELS root i.first i.level i.frame
   strict_table within un i here pages left at =
-      elim (unmap_tables old new 3 root range.first (range.first + range.pages) cut.frames within un i.first i.level i.frame at) [
+      elim (unmap_tables old new LEVELS root range.first (range.first + range.pages) cut.frames within un i.first i.level i.frame at) [
         | inl stays ↦ stays
         | inr gone ↦
-            let one : i.pages ≡ 512 = pages ∙ ap span gone.0 ∙ span-one in
+            let one : i.pages ≡ SPAN_PAGES = pages ∙ ap span gone.0 ∙ span-one in
             elim (sent_covers d range cut x some sent) [
               | inl all ↦ absurd (dropped_table d i here (ap (λ y. drops_non_leaf y i) (sym all) ∙ left))
               | inr block ↦

@@ -13,6 +13,7 @@ use Rattle.engine.specs.declared.iommu.Iommu.{Iommu}
 use Rattle.engine.specs.Domains.{AreMadeBefore}
 use Rattle.engine.specs.Ending.{Invalidates, IsSent, left_by_all}
 use Rattle.engine.specs.Ready.{AreInvalidated, Covers, IsDone}
+use Rattle.queue.specs.declared.ring.TheConstants.Ring.{CAPACITY}
 
 -- both wait, or the wait alone, or both are done; this is what was taken before them
 abbrev pub IsStage : Descriptor → ℕ → List Descriptor → UnitState → Ring → UnitState → Type 0
@@ -97,21 +98,21 @@ few_steps d n taken old ring unit (inr (inr done)) later =
     absurd (later (let status = ap (λ (q : Ring). q.status) done.0 in omega (arith, status)))
 
 -- what was submitted where there was room
-pub submitted : {A E : Type 0} {P : Type 0} (r : Result A E) (n : ℕ) → (IsErr r → n ≡ 255) → n < 255 → OnOk r P → P
+pub submitted : {A E : Type 0} {P : Type 0} (r : Result A E) (n : ℕ) → (IsErr r → n ≡ CAPACITY) → n < CAPACITY → OnOk r P → P
 submitted (Ok a) n full less ok = ok
 submitted (Err e) n full less ok = absurd (omega (arith, less, full refl))
 
 -- nothing waited, and then both do
 pub first_stage : (d : Descriptor) (n : ℕ) (old ring ring' : Ring) (unit : UnitState) → old.waiting ≡ [] → old.status < n
-    → ring ≡ with_last d old → ring' ≡ with_last (Wait n) ring → IsStage d n (take 254 old.taken) unit ring' unit
+    → ring ≡ with_last d old → ring' ≡ with_last (Wait n) ring → IsStage d n (take (CAPACITY - 1) old.taken) unit ring' unit
 first_stage d n old ring ring' unit idle later one two =
-    let first : ring ≡ ring_of (d ∷ []) old.status (take 255 old.taken) =
-    one ∙ ap (λ ws. ring_of (ws ++ d ∷ []) old.status (take (255 - length ws) old.taken)) idle in
-    let both : ring' ≡ ring_of (d ∷ Wait n ∷ []) old.status (take 254 (take 255 old.taken)) =
+    let first : ring ≡ ring_of (d ∷ []) old.status (take CAPACITY old.taken) =
+    one ∙ ap (λ ws. ring_of (ws ++ d ∷ []) old.status (take (CAPACITY - length ws) old.taken)) idle in
+    let both : ring' ≡ ring_of (d ∷ Wait n ∷ []) old.status (take (CAPACITY - 1) (take CAPACITY old.taken)) =
     two ∙ ap (λ (q : Ring). with_last (Wait n) q) first in
     let status = ap (λ (q : Ring). q.status) both in
     inl (
-      both ∙ ap₂ (ring_of (d ∷ Wait n ∷ [])) (sym status) (take-take 254 255 old.taken (lit≤ tt)),
+      both ∙ ap₂ (ring_of (d ∷ Wait n ∷ [])) (sym status) (take-take (CAPACITY - 1) CAPACITY old.taken (lit≤ tt)),
       omega (arith, status, later),
       refl,
     )
@@ -122,10 +123,10 @@ first_stage d n old ring ring' unit idle later one two =
 pub done_then : (old : Iommu) (d : Descriptor) (new : Iommu) → Invalidates old d new → IsDone new.ring d new.sent
 done_then old d new sends = record {
   later = [];
-  earlier = reverse old.ring.waiting ++ take (256 - length (old.ring.waiting ++ d ∷ Wait new.sent ∷ [])) old.ring.taken;
+  earlier = reverse old.ring.waiting ++ take (CAPACITY + 1 - length (old.ring.waiting ++ d ∷ Wait new.sent ∷ [])) old.ring.taken;
   taken =
       ap (λ (q : Ring). q.taken) sends.done
-      ∙ ap (λ ds. ds ++ take (256 - length (old.ring.waiting ++ d ∷ Wait new.sent ∷ [])) old.ring.taken)
+      ∙ ap (λ ds. ds ++ take (CAPACITY + 1 - length (old.ring.waiting ++ d ∷ Wait new.sent ∷ [])) old.ring.taken)
       (reverse-append old.ring.waiting (d ∷ Wait new.sent ∷ []));
   reached = (let status = ap (λ (q : Ring). q.status) sends.done in omega (arith, status));
 }

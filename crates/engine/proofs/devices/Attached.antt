@@ -18,13 +18,14 @@ use Rattle.engine.specs.Steps.{Does}
 use Rattle.engine.proofs.lists.Places.{get_set, get_set_other, put_same, put_other, same_or_not, is_none, is_some, not_none, not_some}
 use Rattle.engine.proofs.domains.OneChanged.{both_absent, both_there}
 use Rattle.engine.proofs.states.Refused.{counted, refuses}
+use Rattle.dmatypes.specs.declared.limits.TheConstants.{DEVICES}
 
-pub attach_no_device : (m t : State) (device domain : ℕ) → t ≡ counted m → 15 < device
+pub attach_no_device : (m t : State) (device domain : ℕ) → t ≡ counted m → DEVICES ≤ device
     → Does m (calls.Attach device domain) (Refused refusals.NoDevice) t
 unfolding Exact IsStep Stands
 attach_no_device m t device domain is big = refuses m t (calls.Attach device domain) refusals.NoDevice is tt (λ w q. inl (inl (big, refl)))
 
-pub attach_no_domain : (m t : State) (device domain : ℕ) → t ≡ counted m → device ≤ 15 → domain_at m.domains domain ≡ None
+pub attach_no_domain : (m t : State) (device domain : ℕ) → t ≡ counted m → device < DEVICES → domain_at m.domains domain ≡ None
     → Does m (calls.Attach device domain) (Refused refusals.NoDomain) t
 unfolding Exact IsStep Stands
 attach_no_domain m t device domain is small none = refuses m t (calls.Attach device domain) refusals.NoDomain is tt
@@ -36,7 +37,7 @@ attach_no_domain m t device domain is small none = refuses m t (calls.Attach dev
       ),
     )))
 
-pub attach_busy : (m t : State) (device domain : ℕ) (h : Domain) (entry : ContextEntry) → t ≡ counted m → device ≤ 15
+pub attach_busy : (m t : State) (device domain : ℕ) (h : Domain) (entry : ContextEntry) → t ≡ counted m → device < DEVICES
     → domain_at m.domains domain ≡ Some h → slice_get m.iommu.contexts device ≡ Some entry → entry ≢ Absent
     → Does m (calls.Attach device domain) (Refused refusals.Busy) t
 unfolding Exact IsStep Stands
@@ -112,7 +113,7 @@ attaches_row m t w device domain h old less there absent row domains unit = reco
   root_in : {root root' d d' : ℕ} → Present root W39 d ≡ Present root' W39 d' → root ≡ root'
   root_in e = cc
 
-pub attaches : (m t : State) (device domain : ℕ) (h : Domain) → device ≤ 15 → length m.iommu.contexts ≡ 16
+pub attaches : (m t : State) (device domain : ℕ) (h : Domain) → device < DEVICES → length m.iommu.contexts ≡ DEVICES
     → domain_at m.domains domain ≡ Some h → slice_get m.iommu.contexts device ≡ Some Absent
     → t
     ≡ record m { iommu = record m.iommu { contexts = slice_set m.iommu.contexts device (Present h.root W39 domain) }; calls = m.calls + 1 }

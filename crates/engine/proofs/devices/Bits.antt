@@ -2,6 +2,7 @@
 use Rattle.std.proofs.Common.{◌≡◌, ◌<◌, ◌≤◌, ◌+◌, ◌*◌, ◌^◌, ◌%◌, ◌↔◌, ℕ, inl, inr, bit_or, arith, subst, sym, w16}
 use Rattle.std.specs.Int.{bit_at}
 use Rattle.std.proofs.lemmas.Nat.Bits.{bit_at_set_same, bit_at_set_other}
+use Rattle.dmatypes.specs.declared.limits.TheConstants.{DEVICES}
 use Rattle.engine.proofs.lists.Places.{same_or_not}
 
 module _ (In : ℕ → Type 0) (devices k : ℕ) where
@@ -10,7 +11,7 @@ module _ (In : ℕ → Type 0) (devices k : ℕ) where
   AreTold = ((v : ℕ) → v < k → (bit_at devices v ≡ 1) ↔ In v) × ((v : ℕ) → k ≤ v → bit_at devices v ≡ 0)
 
 -- one more, which is in the set
-pub told_in : (In : ℕ → Type 0) (devices k : ℕ) → k < 16 → AreTold In devices k → In k
+pub told_in : (In : ℕ → Type 0) (devices k : ℕ) → k < DEVICES → AreTold In devices k → In k
     → AreTold In (bit_or devices (1 * 2 ^ k % 2 ^ 16)) (k + 1)
 told_in In devices k low told is = (
   λ v less. elim (same_or_not v k) [

@@ -24,6 +24,7 @@ use Rattle.engine.specs.Steps.{Does}
 use Rattle.engine.proofs.lists.Places.{get_set, get_set_other, is_none, not_none, put_other, put_same, same_or_not}
 use Rattle.engine.proofs.caches.Purged.{Purges, purges_sent}
 use Rattle.engine.proofs.states.Refused.{counted, refuses}
+use Rattle.dmatypes.specs.declared.limits.TheConstants.{DEVICES}
 
 dropped_context : (domain device : ℕ) (x : CachedContext) → x.device ≡ device → drops_context (ContextDevice domain device) x ≡ false → ⊥
 dropped_context domain device x same left = grind (arith, nat_tests)
@@ -83,11 +84,12 @@ module _ (m t : State) (w : World) (device domain : ℕ) (q : Quarantine m w) (s
 pub only_width : (w : Width) → w ≡ W39
 only_width W39 = refl
 
-pub detach_no_device : (m t : State) (device : ℕ) → t ≡ counted m → 15 < device → Does m (calls.Detach device) (Refused refusals.NoDevice) t
+pub detach_no_device : (m t : State) (device : ℕ) → t ≡ counted m → DEVICES ≤ device
+    → Does m (calls.Detach device) (Refused refusals.NoDevice) t
 unfolding Exact IsStep Stands
 detach_no_device m t device is big = refuses m t (calls.Detach device) refusals.NoDevice is tt (λ w q. inl (inl (big, refl)))
 
-pub detach_not_attached : (m t : State) (device : ℕ) (entry : ContextEntry) → t ≡ counted m → device ≤ 15
+pub detach_not_attached : (m t : State) (device : ℕ) (entry : ContextEntry) → t ≡ counted m → device < DEVICES
     → slice_get m.iommu.contexts device ≡ Some entry → attached (Some entry) ≡ None
     → Does m (calls.Detach device) (Refused refusals.NotAttached) t
 unfolding Exact IsStep Stands
@@ -102,7 +104,7 @@ detach_not_attached m t device entry is small at free = refuses m t (calls.Detac
 abbrev pub detached : State → Iommu → State
 detached m x = record m { iommu = x; calls = m.calls + 1 }
 
-pub detach_does : (m : State) (device root domain : ℕ) (x : Iommu) → device ≤ 15 → length m.iommu.contexts ≡ 16
+pub detach_does : (m : State) (device root domain : ℕ) (x : Iommu) → device < DEVICES → length m.iommu.contexts ≡ DEVICES
     → slice_get m.iommu.contexts device ≡ Some (Present root W39 domain)
     → Invalidates (record m.iommu { contexts = slice_set m.iommu.contexts device Absent }) (ContextDevice domain device) x
     → Does m (calls.Detach device) Done (detached m x)

@@ -17,24 +17,26 @@ use Rattle.engine.proofs.frames.Held.{held-nil, held_stays}
 use Rattle.engine.proofs.caches.Lawful.{KeepsLawful, keeps_same}
 use Rattle.engine.proofs.lists.Places.{put_other, put_same, same_or_not}
 use Rattle.engine.proofs.domains.OneChanged.{domain_out, domain_low}
+use Rattle.dmatypes.specs.declared.limits.TheConstants.{MOST_DOMAINS}
+use Rattle.dmatypes.specs.declared.width.TheConstants.{LEVELS}
 
 -- its records went, and nothing is remembered of it; then its tree goes
-module _ (m t : State) (w : World) (d : ℕ) (h : Domain) (q : Quarantine m w) (many : length m.domains ≡ 15)
+module _ (m t : State) (w : World) (d : ℕ) (h : Domain) (q : Quarantine m w) (many : length m.domains ≡ MOST_DOMAINS)
     (there : domain_at m.domains d ≡ Some h) (no_records : h.records ≡ [])
     (nobody : (x : ℕ) → w.devices x ≡ Some d → ⊥) (no_leaf : (l : CachedLeaf) → IsIn l m.iommu.unit.caches.leaves → l.domain ≡ d → ⊥)
     (no_table : (i : CachedNonLeaf) → IsIn i m.iommu.unit.caches.non_leaves → i.domain ≡ d → ⊥)
     (domains : (e : ℕ) → domain_at t.domains e ≡ put d None (domain_at m.domains) e) (row : t.iommu.contexts ≡ m.iommu.contexts)
     (unit : t.iommu.unit ≡ m.iommu.unit) (destroys : Destroys m.pool h.root t.pool) where
-  low : d < 16
+  low : d < MOST_DOMAINS + 1
   low = domain_low m.domains d h many there
 
   at_other : (e : ℕ) → e ≢ d → domain_at t.domains e ≡ domain_at m.domains e
   at_other e ne = domains e ∙ put_other d None (domain_at m.domains) e ne
 
-  stays : (e : ℕ) (k : Domain) → e ≢ d → domain_at m.domains e ≡ Some k → Stays m.pool t.pool 3 k.root
+  stays : (e : ℕ) (k : Domain) → e ≢ d → domain_at m.domains e ≡ Some k → Stays m.pool t.pool LEVELS k.root
   stays e k ne at =
-      let less : e < 16 = domain_low m.domains e k many at in
-      destroys.others 3 k.root (tree_of m.pool (domain_at m.domains) e k q.frames less at)
+      let less : e < MOST_DOMAINS + 1 = domain_low m.domains e k many at in
+      destroys.others LEVELS k.root (tree_of m.pool (domain_at m.domains) e k q.frames less at)
       (apart_of m.pool (domain_at m.domains) d e h k q.frames low less ne there at)
 
   zeroed : (e : ℕ) (k : Domain) → domain_at m.domains e ≡ Some k → (f : ℕ) → 0 < held_in k.records f → IsZeroed t.pool.words f

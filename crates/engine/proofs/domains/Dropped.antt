@@ -16,8 +16,9 @@ use Rattle.engine.proofs.domains.OneChanged.{domain_set}
 use Rattle.engine.proofs.caches.Purged.{Purges, purges_sent}
 use Rattle.engine.proofs.flushes.OneByOne.{domain_flushed, dropped_leaf, dropped_table}
 use Rattle.engine.proofs.unmaps.DomainAfter.{domain_after}
+use Rattle.dmatypes.specs.declared.limits.TheConstants.{MOST_DOMAINS}
 
-module _ (m t : State) (w : World) (i : ℕ) (h : Domain) (v : world.Domain) (q : Quarantine m w) (many : length m.domains ≡ 15)
+module _ (m t : State) (w : World) (i : ℕ) (h : Domain) (v : world.Domain) (q : Quarantine m w) (many : length m.domains ≡ MOST_DOMAINS)
     (less : i < length m.domains)
     (there : domain_at m.domains (i + 1) ≡ Some h) (here : w.domains (i + 1) ≡ Some v) (nobody : (x : ℕ) → w.devices x ≡ Some (i + 1) → ⊥)
     (closes : Closes (parts_in m h) (i + 1) t.pool t.iommu) (domains : t.domains ≡ slice_set m.domains i None) where

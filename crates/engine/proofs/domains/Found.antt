@@ -9,9 +9,11 @@ use Rattle.engine.specs.Steps.{Does}
 use Rattle.engine.specs.Whole.{HasRooms, IsWhole}
 use Rattle.engine.proofs.lists.Places.{set_again}
 use Rattle.engine.proofs.states.Refused.{counted, whole_quiet}
+use Rattle.dmatypes.specs.declared.limits.TheConstants.{MOST_DOMAINS}
 
 -- what is read at a place stands there
-pub stands : (domains : List (Option Domain)) (i : ℕ) (o : Option Domain) → length domains ≡ 15 → i < 15 → o ≡ get_or domains i o
+pub stands : (domains : List (Option Domain)) (i : ℕ) (o : Option Domain) → length domains ≡ MOST_DOMAINS → i < MOST_DOMAINS
+    → o ≡ get_or domains i o
     → slice_get domains i ≡ Some o
 stands domains i o many low read = slice_get_read domains (length domains) i o refl (omega (arith, many, low)) read
 

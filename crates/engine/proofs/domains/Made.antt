@@ -8,7 +8,7 @@ use Rattle.dmatypes.specs.declared.reply.Reply.TheVariants.{Made, Refused}
 use Rattle.dmatypes.specs.declared.refusal.Refusal.TheVariants as refusals
 use Rattle.dmatypes.specs.World.{World, empty_domain, put}
 use Rattle.dmatypes.specs.World as world
-use Rattle.dmatypes.specs.declared.width.TheConstants.{PAGES_END}
+use Rattle.dmatypes.specs.declared.width.TheConstants.{LEVELS, PAGES_END}
 use Rattle.dmatypes.specs.Conditions.{Stands}
 use Rattle.dmatypes.specs.Step.{IsStep, Answers, next}
 use Rattle.iova.specs.Space.{AllFree, IsSpace, new_space}
@@ -25,6 +25,7 @@ use Rattle.engine.proofs.domains.OneChanged.{domain_set, both_absent, domains_pu
 use Rattle.engine.proofs.frames.Held.{held-nil}
 use Rattle.engine.proofs.caches.Lawful.{keeps_same, stay_lawful}
 use Rattle.engine.proofs.states.Refused.{counted, refuses}
+use Rattle.dmatypes.specs.declared.limits.TheConstants.{MOST_DOMAINS}
 
 -- where a place is used, the world has the domain
 used_there : (words : List ℕ) (o : Option Domain) (p : Option world.Domain) → MirrorsIfAny words o p → IsSome o → IsSome p
@@ -32,7 +33,7 @@ used_there words None p both h = absurd (not_some {A = Domain} None refl h)
 used_there words (Some h) None both s = absurd both
 used_there words (Some h) (Some v) both s = refl
 
-pub no_id : (m t : State) (mode : Mode) → t ≡ counted m → length m.domains ≡ 15
+pub no_id : (m t : State) (mode : Mode) → t ≡ counted m → length m.domains ≡ MOST_DOMAINS
     → ((d : ℕ) → 1 ≤ d → d ≤ length m.domains → IsSome (domain_at m.domains d))
     → Does m (calls.Domain mode) (Refused refusals.TooManyDomains) t
 unfolding Exact IsStep Stands
@@ -44,14 +45,14 @@ no_id m t mode is many all = refuses m t (calls.Domain mode) refusals.TooManyDom
       refl,
     )))
 
-unused : (m : State) (w : World) (i : ℕ) → Quarantine m w → length m.domains ≡ 15 → i < length m.domains
-    → domain_at m.domains (i + 1) ≡ None → ((d : ℕ) → 1 ≤ d → d ≤ 15 → IsSome (w.domains d)) → ⊥
+unused : (m : State) (w : World) (i : ℕ) → Quarantine m w → length m.domains ≡ MOST_DOMAINS → i < length m.domains
+    → domain_at m.domains (i + 1) ≡ None → ((d : ℕ) → 1 ≤ d → d ≤ MOST_DOMAINS → IsSome (w.domains d)) → ⊥
 unused m w i q many less free all =
     let absent : w.domains (i + 1) ≡ None =
     both_absent m.pool.words (domain_at m.domains (i + 1)) (w.domains (i + 1)) (q.domains (i + 1)) free in
     not_some (w.domains (i + 1)) absent (all (i + 1) (omega arith) (omega (arith, less, many)))
 
-pub no_root : (m t : State) (mode : Mode) (i : ℕ) → t ≡ counted m → length m.domains ≡ 15 → i < length m.domains
+pub no_root : (m t : State) (mode : Mode) (i : ℕ) → t ≡ counted m → length m.domains ≡ MOST_DOMAINS → i < length m.domains
     → domain_at m.domains (i + 1) ≡ None → length m.pool.free ≡ 0 → Does m (calls.Domain mode) (Refused refusals.NoFrames) t
 unfolding Exact IsStep Stands
 no_root m t mode i is many less free empty = refuses m t (calls.Domain mode) refusals.NoFrames is empty
@@ -60,12 +61,13 @@ no_root m t mode i is many less free empty = refuses m t (calls.Domain mode) ref
 -- an empty tree in one free frame
 pub record IsEmptyTree (old new : Pool) (root : ℕ) : Type 0 where
   pub roots : TakesRoot old new root
-  pub empty : (p : ℕ) → leaf_from (memory new.words) 3 root p ≡ None
-  pub frames : (f : ℕ) → uses (memory new.words) 3 root f ≡ here root f
+  pub empty : (p : ℕ) → leaf_from (memory new.words) LEVELS root p ≡ None
+  pub frames : (f : ℕ) → uses (memory new.words) LEVELS root f ≡ here root f
   pub pool : IsPool new
 
 -- the state with the domain is the state of the world with it
-with_new : (m t : State) (w : World) (mode : Mode) (i : ℕ) (root : ℕ) → Quarantine m w → length m.domains ≡ 15 → i < length m.domains
+with_new : (m t : State) (w : World) (mode : Mode) (i : ℕ) (root : ℕ) → Quarantine m w → length m.domains ≡ MOST_DOMAINS
+    → i < length m.domains
     → domain_at m.domains (i + 1) ≡ None → IsEmptyTree m.pool t.pool root → IsSpace (new_space (PAGES_END - 1))
     → AllFree (new_space (PAGES_END - 1)) → t.domains ≡ slice_set m.domains i (Some (new_domain mode root))
     → t.iommu.contexts ≡ m.iommu.contexts → t.iommu.unit ≡ m.iommu.unit
@@ -78,7 +80,7 @@ with_new m t w mode i root q many less free grown is_space all domains row unit 
         tree = λ p low. ap (stated p) (grown.empty p);
         pieces = pieces_new (new_space (PAGES_END - 1)) mode is_space all refl;
       })
-      (λ e k ne there p. ap (λ ws. leaf_from (memory ws) 3 k.root p) grown.roots.words);
+      (λ e k ne there p. ap (λ ws. leaf_from (memory ws) LEVELS k.root p) grown.roots.words);
   caches =
       subst (λ u. AreLawful t (record w { domains = put (i + 1) (Some (empty_domain mode)) w.domains }) u.caches) (sym unit)
       (stay_lawful m t w (record w { domains = put (i + 1) (Some (empty_domain mode)) w.domains }) m.iommu.unit.caches q.caches
@@ -87,8 +89,8 @@ with_new m t w mode i root q many less free grown is_space all domains row unit 
         v,
         kept d h there,
         put_other (i + 1) (Some (empty_domain mode)) w.domains d (another d h there) ∙ here,
-        keeps_same m.pool.words t.pool.words h v (λ p. ap (λ ws. leaf_from (memory ws) 3 h.root p) grown.roots.words)
-            (λ p x. ap (λ ws. table_from (memory ws) 3 h.root p x) grown.roots.words)
+        keeps_same m.pool.words t.pool.words h v (λ p. ap (λ ws. leaf_from (memory ws) LEVELS h.root p) grown.roots.words)
+            (λ p x. ap (λ ws. table_from (memory ws) LEVELS h.root p x) grown.roots.words)
             (λ first pages f held. subst (λ ws. IsHeld ws h.records first pages f) (sym grown.roots.words) held),
       )));
   contexts = record {
@@ -132,7 +134,7 @@ with_new m t w mode i root q many less free grown is_space all domains row unit 
         (sym (put_other (i + 1) (Some (new_domain mode root)) (domain_at m.domains) e ne) ∙ sym (domains_are e) ∙ there) some)
   ]
 
-pub makes : (m t : State) (mode : Mode) (i : ℕ) (root : ℕ) → length m.domains ≡ 15 → i < length m.domains
+pub makes : (m t : State) (mode : Mode) (i : ℕ) (root : ℕ) → length m.domains ≡ MOST_DOMAINS → i < length m.domains
     → domain_at m.domains (i + 1) ≡ None → IsEmptyTree m.pool t.pool root → IsSpace (new_space (PAGES_END - 1))
     → AllFree (new_space (PAGES_END - 1))
     → t ≡ record m { pool = t.pool; domains = slice_set m.domains i (Some (new_domain mode root)); calls = m.calls + 1 }

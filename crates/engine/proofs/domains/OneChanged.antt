@@ -17,6 +17,8 @@ use Rattle.engine.specs.Quarantine.{MirrorsIfAny, IsOfSomeWorld, Mirrors, Quaran
 use Rattle.engine.specs.Placing.{CanPlace}
 use Rattle.engine.proofs.frames.Owners.{tree_of}
 use Rattle.engine.proofs.lists.Places.{get_set, get_set_other, put_same, put_other, same_or_not}
+use Rattle.dmatypes.specs.declared.limits.TheConstants.{MOST_DOMAINS}
+use Rattle.dmatypes.specs.declared.width.TheConstants.{LEVELS}
 
 -- ---- the list of domains
 
@@ -41,7 +43,8 @@ domain_set domains i o less (suc e) =
     ]
 
 -- there is no domain past the places
-pub domain_low : (domains : List (Option Domain)) (d : ℕ) (h : Domain) → length domains ≡ 15 → domain_at domains d ≡ Some h → d < 16
+pub domain_low : (domains : List (Option Domain)) (d : ℕ) (h : Domain) → length domains ≡ MOST_DOMAINS → domain_at domains d ≡ Some h
+    → d < MOST_DOMAINS + 1
 domain_low domains zero h many there = omega arith
 domain_low domains (suc e) h many there =
     let next : suc e ≡ e + 1 = omega arith in
@@ -54,7 +57,8 @@ domain_low domains (suc e) h many there =
     ]
 
 -- there is none of a number that is no id
-pub no_id_no_domain : (domains : List (Option Domain)) (d : ℕ) → length domains ≡ 15 → (IsDomainId d → ⊥) → domain_at domains d ≡ None
+pub no_id_no_domain : (domains : List (Option Domain)) (d : ℕ) → length domains ≡ MOST_DOMAINS → (IsDomainId d → ⊥)
+    → domain_at domains d ≡ None
 no_id_no_domain domains d many no_id = by_domain (domain_at domains d) refl
   where
     by_domain : (o : Option Domain) → domain_at domains d ≡ o → domain_at domains d ≡ None
@@ -86,7 +90,7 @@ both_absent words (Some h) p both e = absurd cc
 
 -- it stays where all leaves of its tree do
 both_stays : (words words' : List ℕ) (o : Option Domain) (p : Option world.Domain) → MirrorsIfAny words o p
-    → ((h : Domain) → o ≡ Some h → (page : ℕ) → leaf_from (memory words') 3 h.root page ≡ leaf_from (memory words) 3 h.root page)
+    → ((h : Domain) → o ≡ Some h → (page : ℕ) → leaf_from (memory words') LEVELS h.root page ≡ leaf_from (memory words) LEVELS h.root page)
     → MirrorsIfAny words' o p
 both_stays words words' None None both same = tt
 both_stays words words' None (Some v) both same = both
@@ -101,7 +105,7 @@ both_stays words words' (Some h) (Some v) both same = record {
 pub domains_put : (m t : State) (w : World) (d : ℕ) (h : Domain) (v : world.Domain) → Quarantine m w
     → ((e : ℕ) → domain_at t.domains e ≡ put d (Some h) (domain_at m.domains) e) → Mirrors t.pool.words h v
     → ((e : ℕ) (k : Domain) → e ≢ d → domain_at m.domains e ≡ Some k → (page : ℕ)
-    → leaf_from (memory t.pool.words) 3 k.root page ≡ leaf_from (memory m.pool.words) 3 k.root page) → (e : ℕ)
+    → leaf_from (memory t.pool.words) LEVELS k.root page ≡ leaf_from (memory m.pool.words) LEVELS k.root page) → (e : ℕ)
     → MirrorsIfAny t.pool.words (domain_at t.domains e) (put d (Some v) w.domains e)
 domains_put m t w d h v q is mirrors stay e = elim (same_or_not e d) [
   | inl same ↦ rw (is e, same, put_same d (Some h) (domain_at m.domains), put_same d (Some v) w.domains) mirrors
@@ -112,7 +116,7 @@ domains_put m t w d h v q is mirrors stay e = elim (same_or_not e d) [
 -- one domain of the state and of the world goes
 pub domain_out : (m t : State) (w : World) (d : ℕ) → Quarantine m w → ((e : ℕ) → domain_at t.domains e ≡ put d None (domain_at m.domains) e)
     → ((e : ℕ) (k : Domain) → e ≢ d → domain_at m.domains e ≡ Some k → (page : ℕ)
-    → leaf_from (memory t.pool.words) 3 k.root page ≡ leaf_from (memory m.pool.words) 3 k.root page) → (e : ℕ)
+    → leaf_from (memory t.pool.words) LEVELS k.root page ≡ leaf_from (memory m.pool.words) LEVELS k.root page) → (e : ℕ)
     → MirrorsIfAny t.pool.words (domain_at t.domains e) (put d None w.domains e)
 domain_out m t w d q is stay e = elim (same_or_not e d) [
   | inl same ↦ rw (is e, same, put_same d None (domain_at m.domains), put_same d None w.domains) tt
@@ -121,7 +125,7 @@ domain_out m t w d q is stay e = elim (same_or_not e d) [
 ]
 
 -- a state of some world can place pages in each of its domains
-pub can_place : (m : State) (d : ℕ) (h : Domain) → IsOfSomeWorld m → length m.domains ≡ 15 → domain_at m.domains d ≡ Some h
+pub can_place : (m : State) (d : ℕ) (h : Domain) → IsOfSomeWorld m → length m.domains ≡ MOST_DOMAINS → domain_at m.domains d ≡ Some h
     → CanPlace m.pool h
 can_place m d h (w, q) many there = record {
   tree = tree_of m.pool (domain_at m.domains) d h q.frames (domain_low m.domains d h many there) there;
@@ -168,6 +172,6 @@ vacant_fewer (o ∷ rest) zero at =
 vacant_fewer (None ∷ rest) (suc i) at = omega (arith, sum_by-cons one_if_there None rest, vacant_fewer rest i at)
 vacant_fewer (Some d ∷ rest) (suc i) at = omega (arith, sum_by-cons one_if_there (Some d) rest, vacant_fewer rest i at)
 
-pub some_room : (rooms capacity i : ℕ) (domains : List (Option Domain)) → length domains ≡ 15 → slice_get domains i ≡ Some None
+pub some_room : (rooms capacity i : ℕ) (domains : List (Option Domain)) → length domains ≡ MOST_DOMAINS → slice_get domains i ≡ Some None
     → HasRooms rooms capacity domains → 0 < rooms
 some_room rooms capacity i domains many at has = omega (arith, many, vacant_fewer domains i at, has.count)

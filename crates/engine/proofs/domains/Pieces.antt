@@ -1,5 +1,5 @@
 -- The pieces of a domain's address space, and its pages.
-use Rattle.std.proofs.Common.{◌≡◌, ℕ, ◌+◌, ◌-◌, ◌%◌, ◌^◌, ◌<◌, ◌≤◌, ◌⊎◌, inl, inr, List, [], Option, Some, refl, sym, ap, ◌∙◌, arith}
+use Rattle.std.proofs.Common.{◌≡◌, ℕ, ◌+◌, ◌-◌, ◌%◌, ◌<◌, ◌≤◌, ◌⊎◌, inl, inr, List, [], Option, Some, refl, sym, ap, ◌∙◌, arith}
 use Rattle.std.proofs.lemmas.Option.{none-some}
 use Rattle.dmatypes.specs.declared.call.Mode.{Mode}
 use Rattle.dmatypes.specs.Page.{Range, IsWithin}
@@ -16,6 +16,7 @@ use Rattle.iova.specs.Pieces.{piece_of, state_at}
 use Rattle.iova.specs.Space.{Space, AllFree, IsFit, IsSpace}
 use Rattle.engine.specs.Quarantine.{AllApart, PartsPages}
 use Rattle.engine.proofs.maps.Segments.{placed_inside, placed_outside}
+use Rattle.dmatypes.specs.declared.width.TheConstants.{PAGES_END}
 
 -- ---- free pages
 
@@ -39,7 +40,7 @@ none_apart : AllApart []
 unfolding AllApart
 none_apart = tt
 
-pub pieces_new : (space : Space) (mode : Mode) → IsSpace space → AllFree space → space.last ≡ 2 ^ 27 - 1
+pub pieces_new : (space : Space) (mode : Mode) → IsSpace space → AllFree space → space.last ≡ PAGES_END - 1
     → PartsPages space (empty_domain mode)
 pieces_new space mode is all whole = record {
   is_space = is;

@@ -27,6 +27,8 @@ use Rattle.engine.proofs.flushes.OneByOne.{matching, mirrors_flushed, releases_f
 use Rattle.engine.proofs.lists.Membership.{in_last, in_left}
 use Rattle.engine.proofs.unmaps.DomainAfter.{domain_after, held-last}
 use Rattle.engine.proofs.unmaps.Pages.{is_page}
+use Rattle.dmatypes.specs.declared.limits.TheConstants.{MOST_DOMAINS}
+use Rattle.dmatypes.specs.declared.width.TheConstants.{LEVELS}
 
 -- ---- pieces
 
@@ -78,31 +80,33 @@ module _ (space : Space) (is : IsSpace space) where
 
 -- ---- frames
 
-module _ (pool : Pool) (domains : ℕ → Option Domain) (d : ℕ) (h : Domain) (parts : PartsFrames pool domains) (low : d < 16)
+module _ (pool : Pool) (domains : ℕ → Option Domain) (d : ℕ) (h : Domain) (parts : PartsFrames pool domains) (low : d < MOST_DOMAINS + 1)
     (there : domains d ≡ Some h) where
-  part : (f : ℕ) → uses (memory pool.words) 3 h.root f + held_in h.records f ≤ total (λ e. owned (memory pool.words) (domains e) f) 16
+  part : (f : ℕ) → uses (memory pool.words) LEVELS h.root f + held_in h.records f ≤ total (λ e. owned (memory pool.words) (domains e) f)
+      (MOST_DOMAINS + 1)
   part f =
-      let one = total_part (λ e. owned (memory pool.words) (domains e) f) 16 d low in
-      let is : owned (memory pool.words) (domains d) f ≡ uses (memory pool.words) 3 h.root f + held_in h.records f =
+      let one = total_part (λ e. owned (memory pool.words) (domains e) f) (MOST_DOMAINS + 1) d low in
+      let is : owned (memory pool.words) (domains d) f ≡ uses (memory pool.words) LEVELS h.root f + held_in h.records f =
       ap (λ (o : Option Domain). owned (memory pool.words) o f) there in
       omega (arith, one, is)
 
   -- a frame is in the domain's tree, in its records or free once at most
-  pub own_once : (f : ℕ) → uses (memory pool.words) 3 h.root f + held_in h.records f + occurs f pool.free ≤ 1
+  pub own_once : (f : ℕ) → uses (memory pool.words) LEVELS h.root f + held_in h.records f + occurs f pool.free ≤ 1
   own_once f =
       ⊎_elim (λ (less : f < pool.frames). omega (arith, parts.once f less, part f))
       (λ (past : pool.frames ≤ f). omega (arith, parts.past f past, part f)) (cases_lt f pool.frames)
 
-  pub own_within : (f : ℕ) → pool.frames ≤ f → uses (memory pool.words) 3 h.root f + held_in h.records f + occurs f pool.free ≡ 0
+  pub own_within : (f : ℕ) → pool.frames ≤ f → uses (memory pool.words) LEVELS h.root f + held_in h.records f + occurs f pool.free ≡ 0
   own_within f past = omega (arith, parts.past f past, part f)
 
 -- ---- records that can go
 
-pub records_releasable : (m : State) (d : ℕ) (h : Domain) → IsOfSomeWorld m → length m.domains ≡ 15 → domain_at m.domains d ≡ Some h
+pub records_releasable : (m : State) (d : ℕ) (h : Domain) → IsOfSomeWorld m → length m.domains ≡ MOST_DOMAINS
+    → domain_at m.domains d ≡ Some h
     → AreReleasable m.pool h.space h.records
 records_releasable m d h (w, q) many there =
     let v = both_there m.pool.words (domain_at m.domains d) (w.domains d) h (q.domains d) there in
-    let low : d < 16 = domain_low m.domains d h many there in
+    let low : d < MOST_DOMAINS + 1 = domain_low m.domains d h many there in
     let found : (k : Record) → IsIn k h.records → IsIn (piece_of k.range pages.Retired) h.space.pieces =
     (λ k inside.
     let r =
@@ -197,7 +201,7 @@ last_released pool pool1 space space1 rest r are went =
 
 -- ---- what was cut just now
 
-pub cut_releasable : (pool pool1 : Pool) (h h1 : Domain) (r : Record) → IsTree pool 3 h.root → RetiresAndUnmaps pool h r pool1 h1
+pub cut_releasable : (pool pool1 : Pool) (h h1 : Domain) (r : Record) → IsTree pool LEVELS h.root → RetiresAndUnmaps pool h r pool1 h1
     → IsReleasable pool1 h1.space r
 cut_releasable pool pool1 h h1 r tree cuts = record {
   piece = cuts.retires.piece;
@@ -217,7 +221,7 @@ cut_cleared pool pool1 h h1 r cuts p inside =
 
 -- ---- pages that can be unmapped
 
-can_cut_by : (pool : Pool) (h : Domain) (v : world.Domain) → IsTree pool 3 h.root → Mirrors pool.words h v → CanCut pool h
+can_cut_by : (pool : Pool) (h : Domain) (v : world.Domain) → IsTree pool LEVELS h.root → Mirrors pool.words h v → CanCut pool h
 can_cut_by pool h v tree mirrors = record {
   tree = tree;
   there =
@@ -226,20 +230,21 @@ can_cut_by pool h v tree mirrors = record {
 }
 
 -- of each domain of a state of some world
-pub can_cut : (m : State) (d : ℕ) (h : Domain) → IsOfSomeWorld m → length m.domains ≡ 15 → domain_at m.domains d ≡ Some h → CanCut m.pool h
+pub can_cut : (m : State) (d : ℕ) (h : Domain) → IsOfSomeWorld m → length m.domains ≡ MOST_DOMAINS → domain_at m.domains d ≡ Some h
+    → CanCut m.pool h
 can_cut m d h (w, q) many there =
     let v = both_there m.pool.words (domain_at m.domains d) (w.domains d) h (q.domains d) there in
     can_cut_by m.pool h v.0 (tree_of m.pool (domain_at m.domains) d h q.frames (domain_low m.domains d h many there) there) v.2
 
 -- and once all its records went
-pub can_cut_emptied : (m : State) (d : ℕ) (h : Domain) (pool1 : Pool) (space1 : Space) → IsOfSomeWorld m → length m.domains ≡ 15
+pub can_cut_emptied : (m : State) (d : ℕ) (h : Domain) (pool1 : Pool) (space1 : Space) → IsOfSomeWorld m → length m.domains ≡ MOST_DOMAINS
     → domain_at m.domains d ≡ Some h → ReleasesAll m.pool h.space h.records pool1 space1
     → CanCut pool1 (record h { space = space1; records = [] })
 can_cut_emptied m d h pool1 space1 (w, q) many there all =
     let v = both_there m.pool.words (domain_at m.domains d) (w.domains d) h (q.domains d) there in
-    let low : d < 16 = domain_low m.domains d h many there in
-    let used : (f : ℕ) → uses (memory pool1.words) 3 h.root f ≡ uses (memory m.pool.words) 3 h.root f =
-    (λ f. ap (λ ws. uses (memory ws) 3 h.root f) all.words) in
+    let low : d < MOST_DOMAINS + 1 = domain_low m.domains d h many there in
+    let used : (f : ℕ) → uses (memory pool1.words) LEVELS h.root f ≡ uses (memory m.pool.words) LEVELS h.root f =
+    (λ f. ap (λ ws. uses (memory ws) LEVELS h.root f) all.words) in
     can_cut_by pool1 (domain_after h space1 []) (flushed v.0) (record {
       once = λ f. omega (arith, used f, all.free f, own_once m.pool (domain_at m.domains) d h q.frames low there f);
       within =
@@ -253,7 +258,7 @@ can_cut_emptied m d h pool1 space1 (w, q) many there all =
     }) (mirrors_flushed m.pool pool1 space1 h v.0 v.2 all)
 
 -- so of each domain of such a state a range can be unmapped
-pub can_unmap : (m : State) (d : ℕ) (h : Domain) → IsOfSomeWorld m → length m.domains ≡ 15 → domain_at m.domains d ≡ Some h
+pub can_unmap : (m : State) (d : ℕ) (h : Domain) → IsOfSomeWorld m → length m.domains ≡ MOST_DOMAINS → domain_at m.domains d ≡ Some h
     → CanUnmap m.pool h
 can_unmap m d h of_world many there = record {
   cut = can_cut m d h of_world many there;
@@ -267,7 +272,7 @@ pub split_room : (pool pool1 : Pool) (space space1 : Space) (records : List Reco
     → leaves_split pool1 root range ≤ length pool1.free
 split_room pool pool1 space space1 records root range all room =
     let same : leaves_split pool1 root range ≡ leaves_split pool root range =
-    ap (λ ws. splits (memory ws) 3 root range.first (range.first + range.pages)) all.words in
+    ap (λ ws. splits (memory ws) LEVELS root range.first (range.first + range.pages)) all.words in
     omega (arith, same, room, all.more)
 
 -- ---- the records one after the other, from the last one on

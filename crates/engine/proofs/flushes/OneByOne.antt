@@ -30,6 +30,8 @@ use Rattle.engine.proofs.caches.Purged.{Purges, purges_sent}
 use Rattle.engine.proofs.lists.Membership.{in_either, in_last, in_left, in_mapped, of_mapped}
 use Rattle.engine.proofs.unmaps.DomainAfter.{domain_after, held-last, mirrors_of}
 use Rattle.engine.proofs.unmaps.Pages.{not_within, pieces_flushed}
+use Rattle.dmatypes.specs.declared.limits.TheConstants.{MOST_DOMAINS}
+use Rattle.dmatypes.specs.declared.width.TheConstants.{LEVELS}
 
 -- ---- one record more
 
@@ -136,7 +138,7 @@ pub mirrors_flushed : (pool pool' : Pool) (space' : Space) (h : Domain) (v : wor
     → ReleasesAll pool h.space h.records pool' space' → Mirrors pool'.words (domain_after h space' []) (flushed v)
 mirrors_flushed pool pool' space' h v mirrors all = record {
   ids = record { mode = mirrors.ids.mode; begun = mirrors.ids.begun; records = refl };
-  tree = λ p low. ap (λ ws. states (memory ws) 3 h.root p) all.words ∙ mirrors.tree p low;
+  tree = λ p low. ap (λ ws. states (memory ws) LEVELS h.root p) all.words ∙ mirrors.tree p low;
   pieces = pieces_flushed h.space space' v mirrors.pieces all.is_space all.last
       (λ p some. let k = in_records h v mirrors.ids some.0 some.1 in all.inside k.0 k.1 p (subst (λ (x : Range). IsWithin x p) k.2 some.2))
       (λ p none.
@@ -151,7 +153,8 @@ dropped_leaf d l same left = grind (arith, nat_tests)
 pub dropped_table : (d : ℕ) (i : CachedNonLeaf) → i.domain ≡ d → drops_non_leaf (IotlbDomain d) i ≡ false → ⊥
 dropped_table d i same left = grind (arith, nat_tests)
 
-flush_changes : (m t : State) (w : World) (i : ℕ) (h : Domain) (v : world.Domain) (space : Space) → Quarantine m w → length m.domains ≡ 15
+flush_changes : (m t : State) (w : World) (i : ℕ) (h : Domain) (v : world.Domain) (space : Space) → Quarantine m w
+    → length m.domains ≡ MOST_DOMAINS
     → i < length m.domains → domain_at m.domains (i + 1) ≡ Some h → Mirrors m.pool.words h v
     → Purges (IotlbDomain (i + 1)) m.iommu.unit.caches t.iommu.unit.caches → ReleasesAll m.pool h.space h.records t.pool space
     → t.domains ≡ slice_set m.domains i (Some (domain_after h space [])) → t.iommu.contexts ≡ m.iommu.contexts
@@ -165,8 +168,8 @@ flush_changes m t w i h v space q many less there mirrors purges all domains row
   others = λ e k ne at. same_tree m.pool.words t.pool.words k.root all.words;
   account =
       λ f.
-      let used : uses (memory t.pool.words) 3 h.root f ≡ uses (memory m.pool.words) 3 h.root f =
-      ap (λ ws. uses (memory ws) 3 h.root f) all.words in
+      let used : uses (memory t.pool.words) LEVELS h.root f ≡ uses (memory m.pool.words) LEVELS h.root f =
+      ap (λ ws. uses (memory ws) LEVELS h.root f) all.words in
       omega (arith, used, all.free f, held-nil f);
   zeroed = all.zeroed;
   held = λ e k at f more. subst (λ ws. IsZeroed ws f) (sym all.words) (q.frames.held e f k at more);
@@ -178,7 +181,7 @@ flush_changes m t w i h v space q many less there mirrors purges all domains row
 
 -- a flush: the descriptor was sent and done before the records came free
 pub domain_flushed : (m t : State) (w : World) (i n : ℕ) (h : Domain) (v : world.Domain) (space : Space) → Quarantine m w
-    → length m.domains ≡ 15 → i < length m.domains → domain_at m.domains (i + 1) ≡ Some h → w.domains (i + 1) ≡ Some v
+    → length m.domains ≡ MOST_DOMAINS → i < length m.domains → domain_at m.domains (i + 1) ≡ Some h → w.domains (i + 1) ≡ Some v
     → t.iommu.unit.caches ≡ left_by_all (m.iommu.ring.waiting ++ IotlbDomain (i + 1) ∷ Wait n ∷ []) m.iommu.unit.caches
     → ReleasesAll m.pool h.space h.records t.pool space → t.domains ≡ slice_set m.domains i (Some (domain_after h space []))
     → t.iommu.contexts ≡ m.iommu.contexts → Quarantine t (record w { domains = put (i + 1) (Some (flushed v)) w.domains })

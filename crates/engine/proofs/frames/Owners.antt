@@ -10,58 +10,66 @@ use Rattle.tables.proofs.sums.Firsts.{total_change, total_part, total_two}
 use Rattle.engine.specs.Domains.{Domain, held_in}
 use Rattle.engine.specs.Quarantine.{PartsFrames, owned}
 use Rattle.engine.proofs.lists.Places.{put_same, put_other, same_or_not}
+use Rattle.dmatypes.specs.declared.limits.TheConstants.{MOST_DOMAINS}
+use Rattle.dmatypes.specs.declared.width.TheConstants.{LEVELS}
 
 at_most_one : (pool : Pool) (domains : ℕ → Option Domain) → PartsFrames pool domains → (f : ℕ)
-    → total (λ d. owned (memory pool.words) (domains d) f) 16 + occurs f pool.free ≤ 1
+    → total (λ d. owned (memory pool.words) (domains d) f) (MOST_DOMAINS + 1) + occurs f pool.free ≤ 1
 at_most_one pool domains parts f =
     ⊎_elim (λ (low : f < pool.frames). omega (arith, parts.once f low)) (λ (past : pool.frames ≤ f). omega (arith, parts.past f past))
     (cases_lt f pool.frames)
 
 owned_by : (pool : Pool) (domains : ℕ → Option Domain) (d : ℕ) (h : Domain) (f : ℕ) → domains d ≡ Some h
-    → owned (memory pool.words) (domains d) f ≡ uses (memory pool.words) 3 h.root f + held_in h.records f
+    → owned (memory pool.words) (domains d) f ≡ uses (memory pool.words) LEVELS h.root f + held_in h.records f
 owned_by pool domains d h f there = ap (λ (o : Option Domain). owned (memory pool.words) o f) there
 
 -- a domain's root is one of a tree of the pool
-pub tree_of : (pool : Pool) (domains : ℕ → Option Domain) (d : ℕ) (h : Domain) → PartsFrames pool domains → d < 16 → domains d ≡ Some h
-    → IsTree pool 3 h.root
+pub tree_of : (pool : Pool) (domains : ℕ → Option Domain) (d : ℕ) (h : Domain) → PartsFrames pool domains → d < MOST_DOMAINS + 1
+    → domains d ≡ Some h
+    → IsTree pool LEVELS h.root
 tree_of pool domains d h parts low there = record {
   once = λ f. omega (arith, at_most_one pool domains parts f, part f, owned_by pool domains d h f there);
   within = λ f past. omega (arith, parts.past f past, part f, owned_by pool domains d h f there);
 } where
-  part : (f : ℕ) → owned (memory pool.words) (domains d) f ≤ total (λ e. owned (memory pool.words) (domains e) f) 16
-  part f = total_part (λ e. owned (memory pool.words) (domains e) f) 16 d low
+  part : (f : ℕ) → owned (memory pool.words) (domains d) f ≤ total (λ e. owned (memory pool.words) (domains e) f) (MOST_DOMAINS + 1)
+  part f = total_part (λ e. owned (memory pool.words) (domains e) f) (MOST_DOMAINS + 1) d low
 
 -- the trees of two domains are apart
-pub apart_of : (pool : Pool) (domains : ℕ → Option Domain) (d e : ℕ) (h k : Domain) → PartsFrames pool domains → d < 16 → e < 16 → e ≢ d
-    → domains d ≡ Some h → domains e ≡ Some k → IsApart pool 3 h.root 3 k.root
+pub apart_of : (pool : Pool) (domains : ℕ → Option Domain) (d e : ℕ) (h k : Domain) → PartsFrames pool domains → d < MOST_DOMAINS + 1
+    → e < MOST_DOMAINS + 1 → e ≢ d
+    → domains d ≡ Some h → domains e ≡ Some k → IsApart pool LEVELS h.root LEVELS k.root
 apart_of pool domains d e h k parts low less ne there here f some =
-    let two = total_two (λ x. owned (memory pool.words) (domains x) f) 16 d e low less ne in
+    let two = total_two (λ x. owned (memory pool.words) (domains x) f) (MOST_DOMAINS + 1) d e low less ne in
     omega (arith, two, at_most_one pool domains parts f, owned_by pool domains d h f there, owned_by pool domains e k f here)
 
 -- what a record holds is of no tree, and not free
-pub held_out : (pool : Pool) (domains : ℕ → Option Domain) (d e : ℕ) (h k : Domain) → PartsFrames pool domains → d < 16 → e < 16
+pub held_out : (pool : Pool) (domains : ℕ → Option Domain) (d e : ℕ) (h k : Domain) → PartsFrames pool domains → d < MOST_DOMAINS + 1
+    → e < MOST_DOMAINS + 1
     → domains d ≡ Some h → domains e ≡ Some k → (f : ℕ) → 0 < held_in k.records f
-    → uses (memory pool.words) 3 h.root f + occurs f pool.free ≡ 0
+    → uses (memory pool.words) LEVELS h.root f + occurs f pool.free ≡ 0
 held_out pool domains d e h k parts low less there here f some = elim (same_or_not e d) [
   | inl same ↦
-      let one : uses (memory pool.words) 3 k.root f ≡ uses (memory pool.words) 3 h.root f =
-      ap (λ (x : Domain). uses (memory pool.words) 3 x.root f) (same_Some k h (sym here ∙ ap domains same ∙ there)) in
-      let part = total_part (λ x. owned (memory pool.words) (domains x) f) 16 e less in
+      let one : uses (memory pool.words) LEVELS k.root f ≡ uses (memory pool.words) LEVELS h.root f =
+      ap (λ (x : Domain). uses (memory pool.words) LEVELS x.root f) (same_Some k h (sym here ∙ ap domains same ∙ there)) in
+      let part = total_part (λ x. owned (memory pool.words) (domains x) f) (MOST_DOMAINS + 1) e less in
       omega (arith, one, part, at_most_one pool domains parts f, owned_by pool domains e k f here)
   | inr ne ↦
-      let two = total_two (λ x. owned (memory pool.words) (domains x) f) 16 d e low less ne in
+      let two = total_two (λ x. owned (memory pool.words) (domains x) f) (MOST_DOMAINS + 1) d e low less ne in
       omega (arith, two, at_most_one pool domains parts f, owned_by pool domains d h f there, owned_by pool domains e k f here)
 ]
 
 -- held frames stay zeroed where only frames of one tree and free ones change
-pub held_zeroed : (old new : Pool) (domains : ℕ → Option Domain) (d e : ℕ) (h k : Domain) (cut : List ℕ) → PartsFrames old domains → d < 16
-    → e < 16 → domains d ≡ Some h → domains e ≡ Some k → TakesAndGivesFrames old new 3 h.root cut → (f : ℕ) → 0 < held_in k.records f
+pub held_zeroed : (old new : Pool) (domains : ℕ → Option Domain) (d e : ℕ) (h k : Domain) (cut : List ℕ) → PartsFrames old domains
+    → d < MOST_DOMAINS + 1
+    → e < MOST_DOMAINS + 1 → domains d ≡ Some h → domains e ≡ Some k → TakesAndGivesFrames old new LEVELS h.root cut → (f : ℕ)
+    → 0 < held_in k.records f
     → IsZeroed new.words f
 held_zeroed old new domains d e h k cut parts low less there here moves f some i small =
     moves.others f i small (held_out old domains d e h k parts low less there here f some) ∙ parts.held e f k here some i small
 
 -- one domain changed, with free frames
-pub frames_move : (old new : Pool) (domains homes' : ℕ → Option Domain) (d : ℕ) (o : Option Domain) → PartsFrames old domains → d < 16
+pub frames_move : (old new : Pool) (domains homes' : ℕ → Option Domain) (d : ℕ) (o : Option Domain) → PartsFrames old domains
+    → d < MOST_DOMAINS + 1
     → ((e : ℕ) → homes' e ≡ put d o domains e) → new.frames ≡ old.frames
     → ((f : ℕ) → owned (memory new.words) o f + occurs f new.free ≡ owned (memory old.words) (domains d) f + occurs f old.free)
     → ((e f : ℕ) → e ≢ d → owned (memory new.words) (domains e) f ≡ owned (memory old.words) (domains e) f)
@@ -76,8 +84,8 @@ frames_move old new domains homes' d o parts low is frames moves others zeroed h
   here : (f : ℕ) → owned (memory new.words) (homes' d) f ≡ owned (memory new.words) o f
   here f = ap (λ (x : Option Domain). owned (memory new.words) x f) (is d ∙ put_same d o domains)
 
-  change : (f : ℕ) → total (λ e. owned (memory new.words) (homes' e) f) 16 + owned (memory old.words) (domains d) f
-      ≡ total (λ e. owned (memory old.words) (domains e) f) 16 + owned (memory new.words) (homes' d) f
+  change : (f : ℕ) → total (λ e. owned (memory new.words) (homes' e) f) (MOST_DOMAINS + 1) + owned (memory old.words) (domains d) f
+      ≡ total (λ e. owned (memory old.words) (domains e) f) (MOST_DOMAINS + 1) + owned (memory new.words) (homes' d) f
   change f =
-      total_change (λ e. owned (memory old.words) (domains e) f) (λ e. owned (memory new.words) (homes' e) f) 16 d low
+      total_change (λ e. owned (memory old.words) (domains e) f) (λ e. owned (memory new.words) (homes' e) f) (MOST_DOMAINS + 1) d low
       (λ e less ne. ap (λ (x : Option Domain). owned (memory new.words) x f) (is e ∙ put_other d o domains e ne) ∙ others e f ne)

@@ -37,6 +37,9 @@ use Rattle.engine.proofs.domains.Pieces.{fit_of, free_pages, mapped_inside, mapp
 use Rattle.engine.proofs.domains.OneChanged.{both_absent, both_there, domain_low, domain_set, domains_put}
 use Rattle.engine.proofs.states.Refused.{counted, refuses}
 use Rattle.engine.proofs.maps.Segments.{some_page}
+use Rattle.dmatypes.specs.declared.limits.TheConstants.{MOST_DOMAINS}
+use Rattle.dmatypes.specs.declared.page.TheConstants.{PAGE_BYTES}
+use Rattle.dmatypes.specs.declared.width.TheConstants.{LEVELS, PAGES_END}
 
 pub map_no_domain : (m t : State) (domain order rights : ℕ) (segments : ArrayVec Segment) → t ≡ counted m
     → domain_at m.domains domain ≡ None → Does m (calls.MapList domain order rights segments) (Refused refusals.NoDomain) t
@@ -161,7 +164,7 @@ placement segments order rights first = record { segments = segments; order = or
 
 -- the first page of a map is a page
 first_low : (space space' : Space) (v : world.Domain) (first pages : ℕ) → PartsPages space v
-    → Takes space space' (record { first = first; pages = pages }) → 1 ≤ pages → first < 2 ^ 27
+    → Takes space space' (record { first = first; pages = pages }) → 1 ≤ pages → first < PAGES_END
 first_low space space' v first pages parts takes some = ((parts.free first).0 (takes.free first (omega arith, omega (arith, some)))).0.1
 
 -- the domain after the map is the one of the world after it
@@ -174,12 +177,12 @@ maps_mirror pool pool' h h1 v segments first order rights mirrors places some = 
     | inl inside ↦ places.maps.mapped p inside.0 inside.1 ∙ sym (mapped_inside v segments first rights p inside)
     | inr past ↦
         ap (stated p)
-        (places.maps.elsewhere p (same_root 3 p first (omega (arith, low, span-three)) (omega (arith, start, span-three))) past)
+        (places.maps.elsewhere p (same_root LEVELS p first (omega (arith, low, span-three)) (omega (arith, start, span-three))) past)
         ∙ mirrors.tree p low ∙ sym (mapped_outside v segments first rights p past)
   ];
   pieces = pieces_mapped h.space h1.space v segments first rights mirrors.pieces places.takes places.is_space;
 } where
-  start : first < 2 ^ 27
+  start : first < PAGES_END
   start = first_low h.space h1.space v first (total_pages segments) mirrors.pieces places.takes some
 
 -- what is cached of the domain stays lawful
@@ -192,24 +195,24 @@ maps_lawful pool pool' h h1 v segments first order rights mirrors places some ze
     stated = λ p low high. elim (lawful.stated p low high) [ inl live ↦ inl (still p (stated_by p l) live) | inr retired ↦ inr retired ];
     entry =
         λ strict.
-        map_leaves pool pool' 3 h.root first (first + total_pages segments) (placed segments first rights) (omega arith)
+        map_leaves pool pool' LEVELS h.root first (first + total_pages segments) (placed segments first rights) (omega arith)
         (omega (arith, start, span-three)) absent places.maps l.first l.pages l.frame l.rights (lawful.entry strict);
   };
   table = λ i lawful. record {
     span = lawful.span;
     named = elim lawful.named [
       | inl at ↦
-          inl (map_tables pool pool' 3 h.root first (first + total_pages segments) (placed segments first rights) places.maps i.first
+          inl (map_tables pool pool' LEVELS h.root first (first + total_pages segments) (placed segments first rights) places.maps i.first
           i.level i.frame at)
       | inr has ↦ inr (held_stays pool.words pool'.words h.records zeroed i.first i.pages i.frame has)
     ];
   };
 } where
-  start : first < 2 ^ 27
+  start : first < PAGES_END
   start = first_low h.space h1.space v first (total_pages segments) mirrors.pieces places.takes some
 
   -- a page of the range was free, and so absent
-  absent : (p : ℕ) → first ≤ p → p < first + total_pages segments → states (memory pool.words) 3 h.root p ≡ None
+  absent : (p : ℕ) → first ≤ p → p < first + total_pages segments → states (memory pool.words) LEVELS h.root p ≡ None
   absent p low high = let free = (mirrors.pieces.free p).0 (places.takes.free p (low, high)) in mirrors.tree p free.0.1 ∙ free.1.not_live
 
   still : (p : ℕ) (t : Target) → v.live p ≡ Some t → (mapped segments first rights v).live p ≡ Some t
@@ -220,17 +223,18 @@ maps_lawful pool pool' h h1 v segments first order rights mirrors places some ze
 
 -- the other trees are as they were
 others_stay : (m t : State) (w : World) (d : ℕ) (h h1 : Domain) (segments : List Segment) (first order rights : ℕ) → Quarantine m w
-    → length m.domains ≡ 15 → domain_at m.domains d ≡ Some h → Places m.pool h (placement segments order rights first) t.pool h1
-    → (e : ℕ) (k : Domain) → e ≢ d → domain_at m.domains e ≡ Some k → Stays m.pool t.pool 3 k.root
+    → length m.domains ≡ MOST_DOMAINS → domain_at m.domains d ≡ Some h → Places m.pool h (placement segments order rights first) t.pool h1
+    → (e : ℕ) (k : Domain) → e ≢ d → domain_at m.domains e ≡ Some k → Stays m.pool t.pool LEVELS k.root
 others_stay m t w d h h1 segments first order rights q many there places e k ne here =
-    let low : d < 16 = domain_low m.domains d h many there in
-    let less : e < 16 = domain_low m.domains e k many here in
-    apart_stays m.pool t.pool 3 h.root 3 k.root [] (tree_of m.pool (domain_at m.domains) d h q.frames low there) places.moves
+    let low : d < MOST_DOMAINS + 1 = domain_low m.domains d h many there in
+    let less : e < MOST_DOMAINS + 1 = domain_low m.domains e k many here in
+    apart_stays m.pool t.pool LEVELS h.root LEVELS k.root [] (tree_of m.pool (domain_at m.domains) d h q.frames low there) places.moves
     (tree_of m.pool (domain_at m.domains) e k q.frames less here)
     (apart_of m.pool (domain_at m.domains) d e h k q.frames low less ne there here)
 
 with_map : (m t : State) (w : World) (i : ℕ) (h h1 : Domain) (v : world.Domain) (segments : List Segment) (first order rights : ℕ)
-    → Quarantine m w → length m.domains ≡ 15 → i < length m.domains → domain_at m.domains (i + 1) ≡ Some h → w.domains (i + 1) ≡ Some v
+    → Quarantine m w → length m.domains ≡ MOST_DOMAINS → i < length m.domains → domain_at m.domains (i + 1) ≡ Some h
+    → w.domains (i + 1) ≡ Some v
     → Mirrors m.pool.words h v → Places m.pool h (placement segments order rights first) t.pool h1 → 1 ≤ total_pages segments
     → t.domains ≡ slice_set m.domains i (Some (domain_mapped h h1.space)) → t.iommu.contexts ≡ m.iommu.contexts
     → t.iommu.unit ≡ m.iommu.unit → Quarantine t (record w { domains = put (i + 1) (Some (mapped segments first rights v)) w.domains })
@@ -257,10 +261,10 @@ with_map m t w i h h1 v segments first order rights q many less there here mirro
       domains_are places.moves.frames moves stay places.is_pool.zeroed held;
   tickets = q.tickets;
 } where
-  low : i + 1 < 16
+  low : i + 1 < MOST_DOMAINS + 1
   low = domain_low m.domains (i + 1) h many there
 
-  stays : (e : ℕ) (k : Domain) → e ≢ i + 1 → domain_at m.domains e ≡ Some k → Stays m.pool t.pool 3 k.root
+  stays : (e : ℕ) (k : Domain) → e ≢ i + 1 → domain_at m.domains e ≡ Some k → Stays m.pool t.pool LEVELS k.root
   stays e k ne at = others_stay m t w (i + 1) h h1 segments first order rights q many there places e k ne at
 
   zeroed : (e : ℕ) (k : Domain) → domain_at m.domains e ≡ Some k → (f : ℕ) → 0 < held_in k.records f → IsZeroed t.pool.words f
@@ -340,17 +344,17 @@ with_map m t w i h h1 v segments first order rights q many less there here mirro
         zeroed e k (sym (put_other (i + 1) (Some (domain_mapped h h1.space)) (domain_at m.domains) e ne) ∙ sym (domains_are e) ∙ at) f more
   ]
 
-pub maps : (m t : State) (order rights i first : ℕ) (segments : ArrayVec Segment) (h h1 : Domain) → length m.domains ≡ 15
+pub maps : (m t : State) (order rights i first : ℕ) (segments : ArrayVec Segment) (h h1 : Domain) → length m.domains ≡ MOST_DOMAINS
     → i < length m.domains → domain_at m.domains (i + 1) ≡ Some h → (IsBadMap segments.items order rights → ⊥)
     → (AreOwned m.pool.frames segments.items → ⊥) → AreMappable segments.items
     → Places m.pool h (placement segments.items order rights first) t.pool h1
     → t ≡ record m { pool = t.pool; domains = slice_set m.domains i (Some h1); calls = m.calls + 1 }
-    → Does m (calls.MapList (i + 1) order rights segments) (Mapped (4096 * first)) t
+    → Does m (calls.MapList (i + 1) order rights segments) (Mapped (PAGE_BYTES * first)) t
 unfolding Exact Becomes IsStep Stands Answers next
 maps m t order rights i first segments h h1 many less there good high are places is =
     let fit : IsFit h.space.pieces (total_pages segments.items) (2 ^ order) first = places.taken.lowest.fit in
-    let page : 4096 * first / 4096 ≡ first = omega arith in
-    let at_start : 4096 * first ≡ 4096 * first + 0 = omega arith in
+    let page : PAGE_BYTES * first / PAGE_BYTES ≡ first = omega arith in
+    let at_start : PAGE_BYTES * first ≡ PAGE_BYTES * first + 0 = omega arith in
     record {
       steps = λ w q.
           let v = both_there m.pool.words (domain_at m.domains (i + 1)) (w.domains (i + 1)) h (q.domains (i + 1)) there in
@@ -408,11 +412,11 @@ map_refused m t domain order rights i segments h h1 pool wanted refusal at there
     there good high (subst (λ o. IsUnplaced m.pool h segments.items o refusal) wants.order_is unplaced)
 
 pub map_done : (m t : State) (domain order rights i first : ℕ) (segments : ArrayVec Segment) (h h1 : Domain) (pool : Pool) (wanted : Wanted)
-    → length m.domains ≡ 15 → i < length m.domains → domain ≡ i + 1 → domain_at m.domains domain ≡ Some h
+    → length m.domains ≡ MOST_DOMAINS → i < length m.domains → domain ≡ i + 1 → domain_at m.domains domain ≡ Some h
     → (IsBadMap segments.items order rights → ⊥) → (AreOwned m.pool.frames segments.items → ⊥) → Wants wanted segments.items order rights
     → Places m.pool h (placement segments.items wanted.order (bits_of wanted.rights) first) pool h1
     → t ≡ record m { pool = pool; domains = slice_set m.domains i (Some h1); calls = m.calls + 1 }
-    → Does m (calls.MapList domain order rights segments) (Mapped (4096 * first)) t
+    → Does m (calls.MapList domain order rights segments) (Mapped (PAGE_BYTES * first)) t
 map_done m t domain order rights i first segments h h1 pool wanted many less id there good high wants places is =
     rw id (maps m t order rights i first segments h h1 many less (rw id at there) good high wants.mappable
     (subst (λ (p : Pool). Places m.pool h (placement segments.items order rights first) p h1) pool_is

@@ -1,5 +1,5 @@
 -- Where segments map pages: their pages one after the other, and no other page.
-use Rattle.std.proofs.Common.{◌≡◌, ◌≢◌, ℕ, zero, suc, ◌+◌, ◌-◌, ◌^◌, ◌<◌, ◌≤◌, ◌⊎◌, inl, inr, ⊎_elim, List, [], ◌∷◌, drop, get_or, length}
+use Rattle.std.proofs.Common.{◌≡◌, ◌≢◌, ℕ, zero, suc, ◌+◌, ◌-◌, ◌<◌, ◌≤◌, ◌⊎◌, inl, inr, ⊎_elim, List, [], ◌∷◌, drop, get_or, length}
 use Rattle.std.proofs.Common.{Some, None, refl, sym, ap, subst, ◌∙◌, arith}
 use Rattle.std.proofs.lemmas.Bool.{cases_lt}
 use Rattle.dmatypes.specs.Conditions.{IsBadMap, SomeHas, total_pages}
@@ -11,6 +11,8 @@ use Rattle.dmatypes.proofs.Ranges.{within_is, within_not, within_or_not}
 use Rattle.tables.specs.Segments.{AreSegments}
 use Rattle.tables.proofs.maps.Placed.{drop_at, drop_ended, total-cons}
 use Rattle.engine.specs.Judged.{AreMappable, AreOwned}
+use Rattle.dmatypes.specs.declared.limits.TheConstants.{MOST_ORDER}
+use Rattle.dmatypes.specs.declared.page.TheConstants.{FRAMES_END, MOST_PAGES}
 
 pub placed_inside : (ss : List Segment) (first rights p : ℕ) → IsWithin (record { first = first; pages = total_pages ss }) p
     → (t : Target) × (placed ss first rights p ≡ Some t)
@@ -52,7 +54,7 @@ pub some_segment : (ss : List Segment) → AreMappable ss → 1 ≤ length ss
 some_segment [] are = absurd (are.some refl)
 some_segment (s ∷ ss) are = omega arith
 
-no_bad : (ss : List Segment) → AreSegments ss → (SomeHas (λ s. s.pages ≡ 0) ss → ⊥) × (SomeHas (λ s. 2 ^ 24 < s.frame + s.pages) ss → ⊥)
+no_bad : (ss : List Segment) → AreSegments ss → (SomeHas (λ s. s.pages ≡ 0) ss → ⊥) × (SomeHas (λ s. FRAMES_END < s.frame + s.pages) ss → ⊥)
 no_bad [] each = (λ none. none, λ none. none)
 no_bad (s ∷ ss) each =
     let later = no_bad ss each.2 in
@@ -62,7 +64,8 @@ no_bad (s ∷ ss) each =
     first_or never nowhere (inl x) = never x
     first_or never nowhere (inr y) = nowhere y
 
-pub mappable_not_bad : (ss : List Segment) (order rights : ℕ) → AreMappable ss → order ≤ 9 → AreRights rights → IsBadMap ss order rights → ⊥
+pub mappable_not_bad : (ss : List Segment) (order rights : ℕ) → AreMappable ss → order ≤ MOST_ORDER → AreRights rights
+    → IsBadMap ss order rights → ⊥
 mappable_not_bad ss order rights are small rightful (inl none) = are.some none
 mappable_not_bad ss order rights are small rightful (inr (inl none)) = (no_bad ss are.each).0 none
 mappable_not_bad ss order rights are small rightful (inr (inr (inl many))) = omega (arith, many, are.few)
@@ -76,7 +79,7 @@ mappable_not_bad ss order rights are small rightful (inr (inr (inr (inr (inr wro
 -- for is up to those from the place on
 pub record IsCounted (ss : List Segment) (i pages : ℕ) : Type 0 where
   pub counted : total_pages ss ≡ pages + total_pages (drop i ss)
-  pub few : pages ≤ 4096
+  pub few : pages ≤ MOST_PAGES
   pub later : AreSegments ss → AreSegments (drop i ss)
   pub before : AreSegments (drop i ss) → AreSegments ss
 
@@ -89,7 +92,7 @@ segment_at ss i = get_or ss i (record { frame = 0; pages = 0 })
 
 -- it can't be asked for
 abbrev pub IsUnfit : Segment → ℕ → Type 0
-IsUnfit s pages = (s.pages ≡ 0) ⊎ (4096 < pages + s.pages) ⊎ (2 ^ 24 < s.frame + s.pages)
+IsUnfit s pages = (s.pages ≡ 0) ⊎ (MOST_PAGES < pages + s.pages) ⊎ (FRAMES_END < s.frame + s.pages)
 
 pub one_counted : (ss : List Segment) (i pages : ℕ) → i < length ss → IsCounted ss i pages → (IsUnfit (segment_at ss i) pages → ⊥)
     → IsCounted ss (i + 1) (pages + (segment_at ss i).pages)
@@ -98,12 +101,12 @@ one_counted ss i pages less so_far fit =
     let cut = drop_at ss i (record { frame = 0; pages = 0 }) less in
     let some : 1 ≤ s.pages =
     ⊎_elim (λ (zero : s.pages < 1). absurd (fit (inl (omega (arith, zero))))) (λ (some : 1 ≤ s.pages). some) (cases_lt s.pages 1) in
-    let few : pages + s.pages ≤ 4096 =
-    ⊎_elim (λ (many : 4096 < pages + s.pages). absurd (fit (inr (inl many)))) (λ (few : pages + s.pages ≤ 4096). few)
-    (cases_lt 4096 (pages + s.pages)) in
-    let low : s.frame + s.pages ≤ 2 ^ 24 =
-    ⊎_elim (λ (high : 2 ^ 24 < s.frame + s.pages). absurd (fit (inr (inr high)))) (λ (low : s.frame + s.pages ≤ 2 ^ 24). low)
-    (cases_lt (2 ^ 24) (s.frame + s.pages)) in
+    let few : pages + s.pages ≤ MOST_PAGES =
+    ⊎_elim (λ (many : MOST_PAGES < pages + s.pages). absurd (fit (inr (inl many)))) (λ (few : pages + s.pages ≤ MOST_PAGES). few)
+    (cases_lt MOST_PAGES (pages + s.pages)) in
+    let low : s.frame + s.pages ≤ FRAMES_END =
+    ⊎_elim (λ (high : FRAMES_END < s.frame + s.pages). absurd (fit (inr (inr high)))) (λ (low : s.frame + s.pages ≤ FRAMES_END). low)
+    (cases_lt (FRAMES_END) (s.frame + s.pages)) in
     record {
       counted = omega (arith, so_far.counted, ap (λ xs. total_pages xs) cut, total-cons s (drop (i + 1) ss));
       few = few;
@@ -128,7 +131,7 @@ unfit_stops ss i pages less so_far unfit are = by_reason unfit
     by_reason (inr (inr high)) = omega (arith, high, here.1)
 
 pub all_counted : (ss : List Segment) (i pages : ℕ) → length ss ≤ i → IsCounted ss i pages
-    → (pages ≡ total_pages ss) × AreSegments ss × (pages ≤ 4096)
+    → (pages ≡ total_pages ss) × AreSegments ss × (pages ≤ MOST_PAGES)
 all_counted ss i pages past so_far =
     let none = drop_ended ss i past in
     (omega (arith, so_far.counted, ap (λ xs. total_pages xs) none), so_far.before (subst (λ xs. AreSegments xs) (sym none) tt), so_far.few)
@@ -139,13 +142,13 @@ not_none (s ∷ ss) pages counted some same = cc
 
 -- ---- bad where they can't be asked for
 
-all_or_one : (ss : List Segment) → AreSegments ss ⊎ SomeHas (λ s. s.pages ≡ 0) ss ⊎ SomeHas (λ s. 2 ^ 24 < s.frame + s.pages) ss
+all_or_one : (ss : List Segment) → AreSegments ss ⊎ SomeHas (λ s. s.pages ≡ 0) ss ⊎ SomeHas (λ s. FRAMES_END < s.frame + s.pages) ss
 all_or_one [] = inl tt
-all_or_one (s ∷ ss) = by_first (cases_lt s.pages 1) (cases_lt (2 ^ 24) (s.frame + s.pages)) (all_or_one ss)
+all_or_one (s ∷ ss) = by_first (cases_lt s.pages 1) (cases_lt (FRAMES_END) (s.frame + s.pages)) (all_or_one ss)
   where
-    by_first : (s.pages < 1) ⊎ (1 ≤ s.pages) → (2 ^ 24 < s.frame + s.pages) ⊎ (s.frame + s.pages ≤ 2 ^ 24)
-        → AreSegments ss ⊎ SomeHas (λ s. s.pages ≡ 0) ss ⊎ SomeHas (λ s. 2 ^ 24 < s.frame + s.pages) ss
-        → AreSegments (s ∷ ss) ⊎ SomeHas (λ s. s.pages ≡ 0) (s ∷ ss) ⊎ SomeHas (λ s. 2 ^ 24 < s.frame + s.pages) (s ∷ ss)
+    by_first : (s.pages < 1) ⊎ (1 ≤ s.pages) → (FRAMES_END < s.frame + s.pages) ⊎ (s.frame + s.pages ≤ FRAMES_END)
+        → AreSegments ss ⊎ SomeHas (λ s. s.pages ≡ 0) ss ⊎ SomeHas (λ s. FRAMES_END < s.frame + s.pages) ss
+        → AreSegments (s ∷ ss) ⊎ SomeHas (λ s. s.pages ≡ 0) (s ∷ ss) ⊎ SomeHas (λ s. FRAMES_END < s.frame + s.pages) (s ∷ ss)
     by_first (inl none) high later = inr (inl (inl (omega (arith, none))))
     by_first (inr some) (inl high) later = inr (inr (inl high))
     by_first (inr some) (inr low) (inl each) = inl (some, low, each)
@@ -154,13 +157,13 @@ all_or_one (s ∷ ss) = by_first (cases_lt s.pages 1) (cases_lt (2 ^ 24) (s.fram
 
 pub bad_else : (ss : List Segment) (order rights : ℕ) → (AreMappable ss → ⊥) → IsBadMap ss order rights
 bad_else [] order rights not = inl refl
-bad_else (s ∷ ss) order rights not = by_segments (all_or_one (s ∷ ss)) (cases_lt 4096 (total_pages (s ∷ ss)))
+bad_else (s ∷ ss) order rights not = by_segments (all_or_one (s ∷ ss)) (cases_lt MOST_PAGES (total_pages (s ∷ ss)))
   where
     some : s ∷ ss ≢ []
     some e = cc
 
-    by_segments : AreSegments (s ∷ ss) ⊎ SomeHas (λ s. s.pages ≡ 0) (s ∷ ss) ⊎ SomeHas (λ s. 2 ^ 24 < s.frame + s.pages) (s ∷ ss)
-        → (4096 < total_pages (s ∷ ss)) ⊎ (total_pages (s ∷ ss) ≤ 4096) → IsBadMap (s ∷ ss) order rights
+    by_segments : AreSegments (s ∷ ss) ⊎ SomeHas (λ s. s.pages ≡ 0) (s ∷ ss) ⊎ SomeHas (λ s. FRAMES_END < s.frame + s.pages) (s ∷ ss)
+        → (MOST_PAGES < total_pages (s ∷ ss)) ⊎ (total_pages (s ∷ ss) ≤ MOST_PAGES) → IsBadMap (s ∷ ss) order rights
     by_segments (inr (inl none)) total = inr (inl none)
     by_segments (inr (inr high)) total = inr (inr (inr (inl high)))
     by_segments (inl each) (inl many) = inr (inr (inl many))

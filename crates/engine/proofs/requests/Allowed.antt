@@ -1,5 +1,5 @@
 -- A device's request is answered as the world allows, and what the unit then remembers is lawful.
-use Rattle.std.proofs.Common.{◌≡◌, ℕ, ◌^◌, ◌<◌, ◌⊎◌, inl, inr, Bool, List, Option, Some, None, refl, sym, ap, subst, ◌∙◌, arith, slice_get}
+use Rattle.std.proofs.Common.{◌≡◌, ℕ, ◌<◌, ◌⊎◌, inl, inr, Bool, List, Option, Some, None, refl, sym, ap, subst, ◌∙◌, arith, slice_get}
 use Rattle.std.proofs.lemmas.Option.{none-some, same_Some}
 use Rattle.std.specs.Option.{option_and_then}
 use Rattle.std.specs.Prelude.{IsSomeAnd, Result, Ok, Err}
@@ -27,6 +27,7 @@ use Rattle.engine.specs.Domains.{Domain, domain_at}
 use Rattle.engine.specs.State.{State, host_in, reached_reply}
 use Rattle.engine.specs.Quarantine.{AreLawful, MirrorsIfAny, InDomain, IsLawfulLeaf, IsLawfulTable, Mirrors, Quarantine, attached}
 use Rattle.engine.proofs.requests.Read.{IsOnWay, MeetsNothing, IsReadOf, from_start, leaf_of_way, off_leaf, off_walk, table_of_way}
+use Rattle.dmatypes.specs.declared.width.TheConstants.{PAGES_END}
 
 -- ---- the answer
 
@@ -80,7 +81,7 @@ as_domain m w P d e h v here there same has =
     let v_is : has.1 ≡ v = same_Some has.1 v (sym has.3 ∙ ap w.domains same ∙ there) in
     subst (P h) v_is (subst (λ k. P k has.1) h_is has.4)
 
-within : (address : ℕ) → (IsBeyond address → ⊥) → page_of address < 2 ^ 27
+within : (address : ℕ) → (IsBeyond address → ⊥) → page_of address < PAGES_END
 within address near = omega arith
 
 -- no domain for a device without one
@@ -122,7 +123,7 @@ module _ (m : State) (w : World) (quarantine : Quarantine m w) where
 module _ (m : State) (w : World) (lawful : AreLawful m w m.iommu.unit.caches) (x : CachedContext) (h : Domain) (v : world.Domain)
     (here : domain_at m.domains x.domain ≡ Some h) (there : w.domains x.domain ≡ Some v) (root : h.root ≡ x.root)
     (mirrors : Mirrors m.pool.words h v)
-    (look fill : Bool) (p : ℕ) (low : p < 2 ^ 27) (leaves' : List CachedLeaf) (tables' : List CachedNonLeaf) (t : Option Target) where
+    (look fill : Bool) (p : ℕ) (low : p < PAGES_END) (leaves' : List CachedLeaf) (tables' : List CachedNonLeaf) (t : Option Target) where
   begun : (level table : ℕ) → IsStart m.iommu.unit.caches.non_leaves look x p level table
       → IsOnWay m.pool.words h.root p level table ⊎ MeetsNothing m.pool.words v p level table
   begun level table start =

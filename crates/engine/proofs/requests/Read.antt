@@ -1,5 +1,5 @@
 -- What the unit reads of a page of one domain, and what it may remember of that.
-use Rattle.std.proofs.Common.{◌≡◌, ℕ, ◌+◌, ◌-◌, ◌%◌, ◌^◌, ◌<◌, ◌≤◌, ◌⊎◌, inl, inr, Bool, List, [], ◌∷◌, map, Option, Some, None, IsTrue}
+use Rattle.std.proofs.Common.{◌≡◌, ℕ, ◌+◌, ◌-◌, ◌%◌, ◌<◌, ◌≤◌, ◌⊎◌, inl, inr, Bool, List, [], ◌∷◌, map, Option, Some, None, IsTrue}
 use Rattle.std.proofs.Common.{refl, sym, ap, subst, ◌∙◌, arith}
 use Rattle.std.proofs.lemmas.Bool.Decides.{nat_tests}
 use Rattle.std.proofs.lemmas.Option.{none-some}
@@ -28,6 +28,7 @@ use Rattle.engine.specs.Quarantine.{IsInRecord, IsLawfulLeaf, IsLawfulTable, IsO
 use Rattle.engine.specs.Quarantine.{marked_there}
 use Rattle.engine.proofs.lists.Places.{is_some}
 use Rattle.engine.proofs.caches.Spans.{base_even, base_low, below_end, one_span, rest_is}
+use Rattle.dmatypes.specs.declared.width.TheConstants.{LEVELS, PAGES_END}
 
 -- ---- records
 
@@ -74,8 +75,8 @@ IsReadOf v p t = (t ≡ v.live p) ⊎ ((v.live p ≡ None) × ((t ≡ None) ⊎ 
 -- the walk from a table is the walk from the root, begun lower
 abbrev pub IsOnWay : List ℕ → ℕ → ℕ → ℕ → ℕ → Type 0
 IsOnWay words root p level table =
-    (leaf_from (memory words) level table p ≡ leaf_from (memory words) 3 root p) × (level ≤ 3)
-    × ((l : ℕ) → l < level → table_from (memory words) level table p l ≡ table_from (memory words) 3 root p l)
+    (leaf_from (memory words) level table p ≡ leaf_from (memory words) LEVELS root p) × (level ≤ LEVELS)
+    × ((l : ℕ) → l < level → table_from (memory words) level table p l ≡ table_from (memory words) LEVELS root p l)
 
 -- it meets nothing, at a page in a record
 abbrev pub MeetsNothing : List ℕ → world.Domain → ℕ → ℕ → ℕ → Type 0
@@ -83,15 +84,15 @@ MeetsNothing words v p level table =
     (leaf_from (memory words) level table p ≡ None) × IsInRecord v p
     × ((l : ℕ) → l < level → table_from (memory words) level table p l ≡ None)
 
-on_way : (words : List ℕ) (root p level table : ℕ) → table_from (memory words) 3 root p level ≡ Some table
+on_way : (words : List ℕ) (root p level table : ℕ) → table_from (memory words) LEVELS root p level ≡ Some table
     → IsOnWay words root p level table
 on_way words root p level table there = (
-  leaf_on (memory words) 3 root p level table there,
-  deeper (memory words) 3 root p level table there,
-  λ l lt. table_on (memory words) 3 root p level l table lt there,
+  leaf_on (memory words) LEVELS root p level table there,
+  deeper (memory words) LEVELS root p level table there,
+  λ l lt. table_on (memory words) LEVELS root p level l table lt there,
 )
 
-at_root : (words : List ℕ) (root p level table : ℕ) → level ≡ 3 → table ≡ root → IsOnWay words root p level table
+at_root : (words : List ℕ) (root p level table : ℕ) → level ≡ LEVELS → table ≡ root → IsOnWay words root p level table
 at_root words root p level table high same = (cc, omega arith, λ l lt. cc)
 
 pub hold_low : (first pages p : ℕ) → IsTrue (hold first pages p) → first ≤ p
@@ -105,9 +106,9 @@ module _ (words : List ℕ) (h : Domain) (v : world.Domain) (mirrors : Mirrors w
       → table ≡ i.frame → IsOnWay words h.root p level table ⊎ MeetsNothing words v p level table
   at_cached i p level table lawful holds high same = elim lawful.named [
     | inl at ↦
-        let there : table_from (memory words) 3 h.root p i.level ≡ Some i.frame =
+        let there : table_from (memory words) LEVELS h.root p i.level ≡ Some i.frame =
         at.4 p (hold_low i.first i.pages p holds) (omega (arith, hold_high i.first i.pages p holds, lawful.span)) in
-        inl (on_way words h.root p level table (let there' : table_from (memory words) 3 h.root p level ≡ Some table = cc in there'))
+        inl (on_way words h.root p level table (let there' : table_from (memory words) LEVELS h.root p level ≡ Some table = cc in there'))
     | inr held ↦
         let bare = zeroed_bare words table (subst (IsZeroed words) (sym same) held.3) in
         inr (
@@ -129,33 +130,33 @@ module _ (words : List ℕ) (h : Domain) (v : world.Domain) (mirrors : Mirrors w
   -- ---- what a walk met
 
   -- the leaf on a page's way is an entry of the tree
-  met_entry : (p : ℕ) (y : Found) → p < 2 ^ 27 → leaf_from (memory words) 3 h.root p ≡ Some y
-      → IsLeafAt (memory words) 3 h.root (p - p % span y.size) (span y.size) y.frame y.rights
+  met_entry : (p : ℕ) (y : Found) → p < PAGES_END → leaf_from (memory words) LEVELS h.root p ≡ Some y
+      → IsLeafAt (memory words) LEVELS h.root (p - p % span y.size) (span y.size) y.frame y.rights
   met_entry p y low there = (
     y.size,
     (
-      leaf_size words 3 h.root p y there,
+      leaf_size words LEVELS h.root p y there,
       refl,
       base_even p (span y.size) (span_pos y.size),
       omega (arith, base_low p (span y.size), span-three),
-      λ q above below. near_leaf (memory words) 3 h.root p q y (one_span p q (span y.size) (span_pos y.size) above below) there,
+      λ q above below. near_leaf (memory words) LEVELS h.root p q y (one_span p q (span y.size) (span_pos y.size) above below) there,
     ),
   )
 
   -- and each of its pages is live, as the leaf states it
-  met_stated : (p q : ℕ) (y : Found) → p < 2 ^ 27 → leaf_from (memory words) 3 h.root p ≡ Some y → p - p % span y.size ≤ q
+  met_stated : (p q : ℕ) (y : Found) → p < PAGES_END → leaf_from (memory words) LEVELS h.root p ≡ Some y → p - p % span y.size ≤ q
       → q < p - p % span y.size + span y.size → v.live q ≡ Some (target (y.frame + (q - (p - p % span y.size))) y.rights)
   met_stated p q y low there above below =
       let pos : 0 < span y.size = span_pos y.size in
-      let met : leaf_from (memory words) 3 h.root q ≡ Some y =
-      near_leaf (memory words) 3 h.root p q y (one_span p q (span y.size) pos above below) there in
+      let met : leaf_from (memory words) LEVELS h.root q ≡ Some y =
+      near_leaf (memory words) LEVELS h.root p q y (one_span p q (span y.size) pos above below) there in
       let rest : q % span y.size ≡ q - (p - p % span y.size) =
       rest_is (p - p % span y.size) q (span y.size) pos (base_even p (span y.size) pos) above below in
-      sym (mirrors.tree q (below_end p y.size q low (leaf_size words 3 h.root p y there) below))
+      sym (mirrors.tree q (below_end p y.size q low (leaf_size words LEVELS h.root p y there) below))
       ∙ ap (stated q) met
       ∙ ap (λ n. Some (target (y.frame + n) y.rights)) rest
 
-  met_lawful : (domain p : ℕ) (y : Found) → p < 2 ^ 27 → leaf_from (memory words) 3 h.root p ≡ Some y
+  met_lawful : (domain p : ℕ) (y : Found) → p < PAGES_END → leaf_from (memory words) LEVELS h.root p ≡ Some y
       → IsLawfulLeaf words (met_leaf domain p y) h v
   met_lawful domain p y low there = record {
     stated = λ q above below. inl (met_stated p q y low there above below);
@@ -163,7 +164,7 @@ module _ (words : List ℕ) (h : Domain) (v : world.Domain) (mirrors : Mirrors w
   }
 
   -- a table on its way is in use for its span
-  passed_lawful : (domain p l f : ℕ) → p < 2 ^ 27 → 0 < l → l < 3 → table_from (memory words) 3 h.root p l ≡ Some f
+  passed_lawful : (domain p l f : ℕ) → p < PAGES_END → 0 < l → l < LEVELS → table_from (memory words) LEVELS h.root p l ≡ Some f
       → IsLawfulTable words (met_non_leaf domain p l f) h v
   passed_lawful domain p l f low some below there = record {
     span = refl;
@@ -172,7 +173,7 @@ module _ (words : List ℕ) (h : Domain) (v : world.Domain) (mirrors : Mirrors w
       below,
       base_even p (span l) (span_pos l),
       omega (arith, base_low p (span l), span-three),
-      λ q above high. near_table (memory words) 3 h.root p q l f (one_span p q (span l) (span_pos l) above high) there,
+      λ q above high. near_table (memory words) LEVELS h.root p q l f (one_span p q (span l) (span_pos l) above high) there,
     );
   }
 
@@ -185,12 +186,12 @@ module _ (words : List ℕ) (h : Domain) (v : world.Domain) (mirrors : Mirrors w
     | inr old ↦ inr (retired_none h.space v p mirrors.pieces (old.0, old.1, old.2), inr (stated_by p l, is, old))
   ]
 
-  pub off_walk : (p level table : ℕ) (t : Option Target) → p < 2 ^ 27 → t ≡ states (memory words) level table p
+  pub off_walk : (p level table : ℕ) (t : Option Target) → p < PAGES_END → t ≡ states (memory words) level table p
       → IsOnWay words h.root p level table ⊎ MeetsNothing words v p level table → IsReadOf v p t
   off_walk p level table t low is (inl way) = inl (is ∙ ap (stated p) way.0 ∙ mirrors.tree p low)
   off_walk p level table t low is (inr none) = inr (retired_none h.space v p mirrors.pieces none.1, inl (is ∙ ap (stated p) none.0))
 
-  pub leaf_of_way : (domain p level table : ℕ) (l : CachedLeaf) → p < 2 ^ 27
+  pub leaf_of_way : (domain p level table : ℕ) (l : CachedLeaf) → p < PAGES_END
       → met domain p (leaf_from (memory words) level table p) ≡ Some l
       → IsOnWay words h.root p level table ⊎ MeetsNothing words v p level table → IsLawfulLeaf words l h v
   leaf_of_way domain p level table l low is (inl way) =
@@ -200,7 +201,7 @@ module _ (words : List ℕ) (h : Domain) (v : world.Domain) (mirrors : Mirrors w
       let found = met_is domain p (leaf_from (memory words) level table p) l is in
       absurd (none-some found.0 (sym none.0 ∙ found.1))
 
-  pub table_of_way : (domain p level table : ℕ) (i : CachedNonLeaf) → p < 2 ^ 27 → IsPassed (memory words) level table domain p i
+  pub table_of_way : (domain p level table : ℕ) (i : CachedNonLeaf) → p < PAGES_END → IsPassed (memory words) level table domain p i
       → IsOnWay words h.root p level table ⊎ MeetsNothing words v p level table → IsLawfulTable words i h v
   table_of_way domain p level table i low passed (inl way) =
       subst (λ k. IsLawfulTable words k h v) (sym passed.5)

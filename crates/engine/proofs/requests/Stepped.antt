@@ -32,6 +32,7 @@ use Rattle.unit.proofs.Members.{without_leaf, without_non_leaf, without_context}
 use Rattle.engine.proofs.caches.Lawful.{fewer_lawful}
 use Rattle.engine.proofs.states.Refused.{counted, refuses}
 use Rattle.engine.proofs.requests.Allowed.{request_allowed, request_contexts, request_hit, request_keeps}
+use Rattle.dmatypes.specs.declared.limits.TheConstants.{DEVICES}
 
 -- the state with these caches and so many calls, so many steps of the unit, and so many descriptors that it did
 abbrev pub remembering : State → Caches → ℕ → ℕ → ℕ → State
@@ -50,7 +51,7 @@ quarantine_remembering m w c steps done calls q lawful contexts = record {
   tickets = q.tickets;
 }
 
-step_of : (w : World) (device address : ℕ) (access : Access) (whim : Whim) (answer : Result Hit Fault) → device ≤ 15
+step_of : (w : World) (device address : ℕ) (access : Access) (whim : Whim) (answer : Result Hit Fault) → device < DEVICES
     → (IsInWindow address → ⊥) → AllowsTo (domain_of_device w device) address access (reached_reply (host_in answer))
     → IsStep w (calls.Dma device address access whim) (reached_reply (host_in answer))
 unfolding IsStep model.Answers Stands Allows
@@ -78,7 +79,7 @@ becomes_request m t device address access whim (Ok hit) answers is = (Ok hit, re
 becomes_request m t device address access whim (Err fault) answers is = (Err fault, refl, answers, is)
 
 -- a request to the unit does what a request does
-pub request_does : (m t : State) (device address : ℕ) (access : Access) (whim : Whim) (answer : Result Hit Fault) → device ≤ 15
+pub request_does : (m t : State) (device address : ℕ) (access : Access) (whim : Whim) (answer : Result Hit Fault) → device < DEVICES
     → (IsInWindow address → ⊥)
     → Answers (memory m.pool.words) m.iommu.contexts whim.look whim.fill device address access m.iommu.unit.caches t.iommu.unit.caches
     answer → t ≡ remembering m t.iommu.unit.caches m.iommu.unit.steps m.iommu.unit.done (m.calls + 1)
@@ -99,7 +100,8 @@ request_does m t device address access whim answer small outside answers is = re
 }
 
 -- where it is answered a host address, the device's domain has the page so
-pub request_hits : (m : State) (device address : ℕ) (access : Access) (whim : Whim) (new : Caches) (answer : Result Hit Fault) → device ≤ 15
+pub request_hits : (m : State) (device address : ℕ) (access : Access) (whim : Whim) (new : Caches) (answer : Result Hit Fault)
+    → device < DEVICES
     → Answers (memory m.pool.words) m.iommu.contexts whim.look whim.fill device address access m.iommu.unit.caches new answer
     → IfOk answer (IsHitOf m device address access)
 request_hits m device address access whim new (Ok hit) small answers =
@@ -139,13 +141,14 @@ no_hit w (calls.Evict kind place) reply other = refl
 
 -- ---- the refusals
 
-pub request_no_device : (m t : State) (device address : ℕ) (access : Access) (whim : Whim) → t ≡ counted m → 15 < device
+pub request_no_device : (m t : State) (device address : ℕ) (access : Access) (whim : Whim) → t ≡ counted m → DEVICES ≤ device
     → Does m (calls.Dma device address access whim) (Refused refusals.NoDevice) t
 unfolding Exact IsStep Stands
 request_no_device m t device address access whim is big =
     refuses m t (calls.Dma device address access whim) refusals.NoDevice is tt (λ w q. inl (inl (big, refl)))
 
-pub request_window : (m t : State) (device address : ℕ) (access : Access) (whim : Whim) → t ≡ counted m → device ≤ 15 → IsInWindow address
+pub request_window : (m t : State) (device address : ℕ) (access : Access) (whim : Whim) → t ≡ counted m → device < DEVICES
+    → IsInWindow address
     → Does m (calls.Dma device address access whim) (Refused refusals.Window) t
 unfolding Exact IsStep Stands
 request_window m t device address access whim is small inside = refuses m t (calls.Dma device address access whim) refusals.Window is tt

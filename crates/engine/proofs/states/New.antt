@@ -1,5 +1,6 @@
 -- A new state is one of the empty world.
-use Rattle.std.proofs.Common.{◌≡◌, ℕ, zero, suc, ◌+◌, ◌*◌, ◌<◌, ◌≤◌, ⊎_elim, inl, inr, List, [], ◌∷◌, ◌++◌, length, length-append, Option, Some, None}
+use Rattle.std.proofs.Common.{◌≡◌, ℕ, zero, suc, ◌+◌, ◌*◌, ◌<◌, ◌≤◌, ⊎_elim, inl, inr, List, [], ◌∷◌, ◌++◌, length, length-append, Option}
+use Rattle.std.proofs.Common.{Some, None}
 use Rattle.std.proofs.Common.{refl, sym, ap, subst, ◌∙◌, arith, replicate, slice_get}
 use Rattle.std.proofs.lemmas.Bool.{cases_lt}
 use Rattle.dmatypes.specs.World.{World, IsIn, empty}
@@ -18,6 +19,8 @@ use Rattle.engine.specs.State.{IsNew, State}
 use Rattle.engine.specs.Whole.{IsWhole}
 use Rattle.engine.specs.Quarantine.{AreLawful, Quarantine, attached, owned}
 use Rattle.engine.proofs.domains.OneChanged.{domain_of_place}
+use Rattle.dmatypes.specs.declared.limits.TheConstants.{DEVICES, MOST_DOMAINS}
+use Rattle.tables.specs.declared.entries.TheConstants.{TABLE_ENTRIES}
 
 -- a list of no domains
 abbrev none_there : ℕ → List (Option Domain)
@@ -33,9 +36,9 @@ not_there zero h inside = inside
 not_there (suc n) h (inl same) = cc
 not_there (suc n) h (inr rest) = not_there n h rest
 
-no_domain : (domains : List (Option Domain)) (d : ℕ) → domains ≡ replicate 15 None → domain_at domains d ≡ None
+no_domain : (domains : List (Option Domain)) (d : ℕ) → domains ≡ replicate MOST_DOMAINS None → domain_at domains d ≡ None
 no_domain domains zero is = refl
-no_domain domains (suc i) is = let next : suc i ≡ i + 1 = omega arith in rw (next, domain_of_place domains i, is) (none_in 15 i)
+no_domain domains (suc i) is = let next : suc i ≡ i + 1 = omega arith in rw (next, domain_of_place domains i, is) (none_in MOST_DOMAINS i)
 
 no_device_in : (n v : ℕ) → attached (slice_get (replicate n Absent) v) ≡ None
 no_device_in zero v = refl
@@ -57,8 +60,8 @@ of_empty_world m frames new = record {
   domains = λ d. rw (no_domain m.domains d new.domains_are) tt;
   caches = nothing_cached m (empty frames) m.iommu.unit.caches (ap (λ (u : UnitState). u.caches) new.unit_is);
   contexts = record {
-    devices = λ v. sym (ap (λ row. attached (slice_get row v)) new.contexts_are ∙ no_device_in 16 v);
-    roots = λ v root domain at. absurd (no_entry_in 16 v root domain (ap (λ row. slice_get row v) (sym new.contexts_are) ∙ at));
+    devices = λ v. sym (ap (λ row. attached (slice_get row v)) new.contexts_are ∙ no_device_in DEVICES v);
+    roots = λ v root domain at. absurd (no_entry_in DEVICES v root domain (ap (λ row. slice_get row v) (sym new.contexts_are) ∙ at));
     cached = λ x inside. let none = subst (λ (u : UnitState). IsIn x u.caches.contexts) new.unit_is inside in absurd none;
   };
   frames = record {
@@ -72,9 +75,9 @@ of_empty_world m frames new = record {
   };
   tickets = refl;
 } where
-  none : (f : ℕ) → total (λ d. owned (memory m.pool.words) (domain_at m.domains d) f) 16 ≡ 0
+  none : (f : ℕ) → total (λ d. owned (memory m.pool.words) (domain_at m.domains d) f) (MOST_DOMAINS + 1) ≡ 0
   none f =
-      total-none (λ d. owned (memory m.pool.words) (domain_at m.domains d) f) 16
+      total-none (λ d. owned (memory m.pool.words) (domain_at m.domains d) f) (MOST_DOMAINS + 1)
       (λ d less. ap (λ (o : Option Domain). owned (memory m.pool.words) o f) (no_domain m.domains d new.domains_are))
 
 pub whole_new : (m : State) (frames : ℕ) → IsNew frames m → IsWhole frames m
@@ -87,7 +90,7 @@ whole_new m frames new = record {
   status = (let zero_status : m.iommu.ring.status ≡ 0 = ap (λ (r : Ring). r.status) new.ring_is in omega (arith, zero_status));
   sent = omega (arith, new.sent_is);
   steps = (let zero_steps : m.iommu.unit.steps ≡ 0 = ap (λ (u : UnitState). u.steps) new.unit_is in omega (arith, zero_steps));
-  made = λ h inside. absurd (not_there 15 h (subst (λ ds. IsIn (Some h) ds) new.domains_are inside));
+  made = λ h inside. absurd (not_there MOST_DOMAINS h (subst (λ ds. IsIn (Some h) ds) new.domains_are inside));
 }
 
 -- ---- there is a new state of each size
@@ -114,9 +117,9 @@ many (suc n) = omega (arith, length-append (frames_up n) (n ∷ []), many n)
 
 pub new_state : ℕ → State
 new_state frames = record {
-  pool = record { words = replicate (frames * 512) 0; free = frames_up frames; frames = frames };
-  domains = replicate 15 None;
-  iommu = record { contexts = replicate 16 Absent; ring = ring_of [] 0 []; unit = unit_state nothing 0 0; sent = 0 };
+  pool = record { words = replicate (frames * TABLE_ENTRIES) 0; free = frames_up frames; frames = frames };
+  domains = replicate MOST_DOMAINS None;
+  iommu = record { contexts = replicate DEVICES Absent; ring = ring_of [] 0 []; unit = unit_state nothing 0 0; sent = 0 };
   calls = 0;
 }
 
@@ -127,7 +130,7 @@ new_is_new frames = record {
   free = below frames;
   past = past frames;
   count = many frames;
-  zeroed = λ f low k small. zero_words (replicate (frames * 512) 0) frames refl f k low small;
+  zeroed = λ f low k small. zero_words (replicate (frames * TABLE_ENTRIES) 0) frames refl f k low small;
   domains_are = refl;
   contexts_are = refl;
   ring_is = refl;

@@ -15,18 +15,21 @@ use Rattle.engine.proofs.frames.Held.{held_stays}
 use Rattle.engine.proofs.caches.Lawful.{KeepsLawful, keeps_same}
 use Rattle.engine.proofs.lists.Places.{put_same, put_other, same_or_not}
 use Rattle.engine.proofs.domains.OneChanged.{domains_put, domain_low}
+use Rattle.dmatypes.specs.declared.limits.TheConstants.{MOST_DOMAINS}
+use Rattle.dmatypes.specs.declared.width.TheConstants.{LEVELS}
 
 -- a tree that has the same leaves, tables and frames in both
 pub record SameTree (words words' : List ℕ) (root : ℕ) : Type 0 where
-  pub leaves : (p : ℕ) → leaf_from (memory words') 3 root p ≡ leaf_from (memory words) 3 root p
-  pub tables : (p w : ℕ) → table_from (memory words') 3 root p w ≡ table_from (memory words) 3 root p w
-  pub frames : (f : ℕ) → uses (memory words') 3 root f ≡ uses (memory words) 3 root f
+  pub leaves : (p : ℕ) → leaf_from (memory words') LEVELS root p ≡ leaf_from (memory words) LEVELS root p
+  pub tables : (p w : ℕ) → table_from (memory words') LEVELS root p w ≡ table_from (memory words) LEVELS root p w
+  pub frames : (f : ℕ) → uses (memory words') LEVELS root f ≡ uses (memory words) LEVELS root f
 
 pub same_tree : (words words' : List ℕ) (root : ℕ) → words' ≡ words → SameTree words words' root
 same_tree words words' root same =
     subst (λ ws. SameTree words ws root) (sym same) (record { leaves = λ p. refl; tables = λ p w. refl; frames = λ f. refl })
 
-pub tree_stays : (old new : Pool) (words : List ℕ) (root : ℕ) → Stays old new 3 root → words ≡ new.words → SameTree old.words words root
+pub tree_stays : (old new : Pool) (words : List ℕ) (root : ℕ) → Stays old new LEVELS root → words ≡ new.words
+    → SameTree old.words words root
 tree_stays old new words root stays same =
     subst (λ ws. SameTree old.words ws root) (sym same)
     (record { leaves = stays.same_leaves; tables = stays.same_tables; frames = stays.same_frames })
@@ -39,8 +42,8 @@ pub record ChangesDomain (m t : State) (d : ℕ) (h h' : Domain) (v v' : world.D
   pub frames : t.pool.frames ≡ m.pool.frames
   pub mirrors : Mirrors t.pool.words h' v'
   pub others : (e : ℕ) (k : Domain) → e ≢ d → domain_at m.domains e ≡ Some k → SameTree m.pool.words t.pool.words k.root
-  pub account : (f : ℕ) → uses (memory t.pool.words) 3 h'.root f + held_in h'.records f + occurs f t.pool.free
-      ≡ uses (memory m.pool.words) 3 h.root f + held_in h.records f + occurs f m.pool.free
+  pub account : (f : ℕ) → uses (memory t.pool.words) LEVELS h'.root f + held_in h'.records f + occurs f t.pool.free
+      ≡ uses (memory m.pool.words) LEVELS h.root f + held_in h.records f + occurs f m.pool.free
   pub zeroed : (f : ℕ) → 0 < occurs f t.pool.free → IsZeroed t.pool.words f
   pub held : (e : ℕ) (k : Domain) → domain_at m.domains e ≡ Some k → (f : ℕ) → 0 < held_in k.records f → IsZeroed t.pool.words f
   pub held_here : (f : ℕ) → 0 < held_in h'.records f → IsZeroed t.pool.words f
@@ -50,9 +53,10 @@ pub record ChangesDomain (m t : State) (d : ℕ) (h h' : Domain) (v v' : world.D
       → IsIn i m.iommu.unit.caches.non_leaves × (i.domain ≡ d → IsLawfulTable m.pool.words i h v → IsLawfulTable t.pool.words i h' v')
   pub contexts : (x : CachedContext) → IsIn x t.iommu.unit.caches.contexts → IsIn x m.iommu.unit.caches.contexts
 
-module _ (m t : State) (w : World) (d : ℕ) (h h' : Domain) (v v' : world.Domain) (q : Quarantine m w) (many : length m.domains ≡ 15)
+module _ (m t : State) (w : World) (d : ℕ) (h h' : Domain) (v v' : world.Domain) (q : Quarantine m w)
+    (many : length m.domains ≡ MOST_DOMAINS)
     (there : domain_at m.domains d ≡ Some h) (here : w.domains d ≡ Some v) (c : ChangesDomain m t d h h' v v') where
-  low : d < 16
+  low : d < MOST_DOMAINS + 1
   low = domain_low m.domains d h many there
 
   at_new : (e : ℕ) → e ≡ d → domain_at t.domains e ≡ Some h'

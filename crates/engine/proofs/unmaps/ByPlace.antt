@@ -25,6 +25,8 @@ use Rattle.engine.proofs.caches.Sent.{changed, whole_sends}
 use Rattle.engine.proofs.unmaps.DomainAfter.{domain_after}
 use Rattle.engine.proofs.unmaps.Steps.{bad_range_step, full_steps, no_domain_step, no_frames_step, not_live_step, room_steps, strict_steps}
 use Rattle.engine.proofs.unmaps.Steps.{too_many_step}
+use Rattle.dmatypes.specs.declared.limits.TheConstants.{MOST_DOMAINS}
+use Rattle.dmatypes.specs.declared.page.TheConstants.{PAGE_BYTES}
 
 -- ---- refused
 
@@ -40,7 +42,8 @@ unfolding Exact
 unmap_bad_range m t domain address pages h is there bad =
     refuses m t (calls.Unmap domain address pages) refusals.BadRange is tt (λ w q. bad_range_step m w domain address pages h q there bad)
 
-judged : (m : State) (domain address pages : ℕ) (h : Domain) (refusal : Refusal) → domain_at m.domains domain ≡ Some h → address % 4096 ≡ 0
+judged : (m : State) (domain address pages : ℕ) (h : Domain) (refusal : Refusal) → domain_at m.domains domain ≡ Some h
+    → address % PAGE_BYTES ≡ 0
     → IsPageRange (range_at address pages) → IsJudgedEnd m.pool h (range_at address pages) (Err refusal)
     → Does m (calls.Unmap domain address pages) (Refused refusal) (counted m)
 unfolding Exact
@@ -56,7 +59,7 @@ judged m domain address pages h refusals.NoFrames there whole fits short =
 judged m domain address pages h _ there whole fits other = absurd other
 
 unmap_refused : (m : State) (domain address pages i : ℕ) (h new : Domain) (pool : Pool) (x : Iommu) (refusal : Refusal)
-    → slice_get m.domains i ≡ Some (Some h) → domain_at m.domains domain ≡ Some h → address % 4096 ≡ 0
+    → slice_get m.domains i ≡ Some (Some h) → domain_at m.domains domain ≡ Some h → address % PAGE_BYTES ≡ 0
     → IsPageRange (range_at address pages) → IsUnmapped (parts_in m h) domain (range_at address pages) (Err refusal) (parts_of pool new x)
     → Does m (calls.Unmap domain address pages) (Refused refusal) (changed m i pool (Some new) x)
 unmap_refused m domain address pages i h new pool x refusal at there whole fits ended =
@@ -68,9 +71,9 @@ unmap_refused m domain address pages i h new pool x refusal at there whole fits 
 
 -- ---- done
 
-module _ (m : State) (address pages i released : ℕ) (h new : Domain) (pool : Pool) (x : Iommu) (many : length m.domains ≡ 15)
+module _ (m : State) (address pages i released : ℕ) (h new : Domain) (pool : Pool) (x : Iommu) (many : length m.domains ≡ MOST_DOMAINS)
     (less : i < length m.domains)
-    (there : domain_at m.domains (i + 1) ≡ Some h) (whole : address % 4096 ≡ 0) (fits : IsPageRange (range_at address pages)) where
+    (there : domain_at m.domains (i + 1) ≡ Some h) (whole : address % PAGE_BYTES ≡ 0) (fits : IsPageRange (range_at address pages)) where
   abbrev after : State
   after = changed m i pool (Some new) x
 
@@ -162,7 +165,7 @@ pub record AnswersUnmap (frames : ℕ) (m : State) (domain address pages : ℕ) 
 
 pub unmap_answered : (frames : ℕ) (m : State) (domain address pages i : ℕ) (h new : Domain) (pool : Pool) (x : Iommu)
     (answer : Result ℕ Refusal) → IsWhole frames m → i < length m.domains → domain ≡ i + 1 → slice_get m.domains i ≡ Some (Some h)
-    → domain_at m.domains domain ≡ Some h → address % 4096 ≡ 0 → IsPageRange (range_at address pages)
+    → domain_at m.domains domain ≡ Some h → address % PAGE_BYTES ≡ 0 → IsPageRange (range_at address pages)
     → IsUnmapped (parts_in m h) domain (range_at address pages) answer (parts_of pool new x)
     → AnswersUnmap frames m domain address pages answer (changed m i pool (Some new) x)
 unmap_answered frames m domain address pages i h new pool x (Ok released) is less id at there whole fits ended =

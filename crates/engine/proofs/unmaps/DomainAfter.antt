@@ -1,5 +1,5 @@
 -- An unmap: what it makes of one domain and of the caches, in a strict domain and in a lazy one with room.
-use Rattle.std.proofs.Common.{◌≡◌, ◌≢◌, ℕ, ◌+◌, ◌^◌, ◌<◌, ◌≤◌, ◌⊎◌, inl, inr, ⊎_elim, false, List, [], ◌∷◌, ◌++◌, length, map, Some, refl}
+use Rattle.std.proofs.Common.{◌≡◌, ◌≢◌, ℕ, ◌+◌, ◌<◌, ◌≤◌, ◌⊎◌, inl, inr, ⊎_elim, false, List, [], ◌∷◌, ◌++◌, length, map, Some, refl}
 use Rattle.std.proofs.Common.{sym, ap, subst, ◌∙◌, arith, slice_set}
 use Rattle.std.proofs.lemmas.Bool.{cases_lt}
 use Rattle.std.proofs.lemmas.List.Sums.{sum_by_push}
@@ -34,6 +34,9 @@ use Rattle.engine.proofs.caches.Purged.{Purges, purges_sent}
 use Rattle.engine.proofs.lists.Membership.{in_last, in_left, map_last}
 use Rattle.engine.proofs.caches.StrictRange.{strict_apart, strict_table}
 use Rattle.engine.proofs.unmaps.Pages.{pieces_put_off, pieces_unmapped, restricted_inside, without_inside, without_outside}
+use Rattle.dmatypes.specs.declared.limits.TheConstants.{MOST_DOMAINS}
+use Rattle.dmatypes.specs.declared.page.TheConstants.{SPAN_PAGES}
+use Rattle.dmatypes.specs.declared.width.TheConstants.{LEVELS, PAGES_END}
 
 -- the domain with another space and other records
 abbrev pub domain_after : Domain → Space → List Record → Domain
@@ -47,15 +50,15 @@ held-last rs r f = sum_by_push (λ (y : Record). occurs f y.cut.frames) rs r
 
 module _ (pool pool1 : Pool) (h h1 : Domain) (v : world.Domain) (r : Record) (fits : IsPageRange r.range)
     (mirrors : Mirrors pool.words h v) (cuts : RetiresAndUnmaps pool h r pool1 h1) where
-  start : r.range.first < span 3
+  start : r.range.first < span LEVELS
   start = let ends = to_ends r.range fits in omega (arith, ends.some, ends.last, span-three)
 
   -- what the tree says is live without the range
-  tree_without : (p : ℕ) → p < 2 ^ 27 → states (memory pool1.words) 3 h.root p ≡ (unmapped r.range v).live p
+  tree_without : (p : ℕ) → p < PAGES_END → states (memory pool1.words) LEVELS h.root p ≡ (unmapped r.range v).live p
   tree_without p low = elim (within_or_not r.range p) [
     | inl inside ↦ ap (stated p) (cuts.unmaps.gone p inside.0 inside.1) ∙ sym (without_inside r.range v.live p inside)
     | inr past ↦
-        cuts.unmaps.elsewhere p (same_root 3 p r.range.first (omega (arith, low, span-three)) start) past ∙ mirrors.tree p low
+        cuts.unmaps.elsewhere p (same_root LEVELS p r.range.first (omega (arith, low, span-three)) start) past ∙ mirrors.tree p low
         ∙ sym (without_outside r.range v.live p past)
   ]
 
@@ -102,7 +105,7 @@ module _ (pool pool1 : Pool) (h h1 : Domain) (v : world.Domain) (r : Record) (fi
             ];
             entry =
                 λ e.
-                unmap_leaves pool pool1 3 h.root r.range.first (r.range.first + r.range.pages) r.cut.frames (omega arith) start
+                unmap_leaves pool pool1 LEVELS h.root r.range.first (r.range.first + r.range.pages) r.cut.frames (omega arith) start
                 cuts.unmaps l.first l.pages l.frame l.rights at away;
           }
 
@@ -141,11 +144,11 @@ module _ (pool pool1 : Pool) (h h1 : Domain) (v : world.Domain) (r : Record) (fi
       span = lawful.span;
       named = elim lawful.named [
         | inl at ↦
-            elim (unmap_tables pool pool1 3 h.root r.range.first (r.range.first + r.range.pages) r.cut.frames start cuts.unmaps i.first
+            elim (unmap_tables pool pool1 LEVELS h.root r.range.first (r.range.first + r.range.pages) r.cut.frames start cuts.unmaps i.first
             i.level i.frame at) [
               | inl stays ↦ inl stays
               | inr gone ↦
-                  let pages : i.pages ≡ 512 = lawful.span ∙ ap span gone.0 ∙ span-one in
+                  let pages : i.pages ≡ SPAN_PAGES = lawful.span ∙ ap span gone.0 ∙ span-one in
                   inr (r, in_last r h.records, gone.3, cuts.unmaps.zeroed i.frame gone.3, gone.1, omega (arith, gone.2, pages))
             ]
         | inr has ↦
@@ -164,18 +167,20 @@ mirrors_of m w d h v q there here =
     subst (λ (u : world.Domain). Mirrors m.pool.words h u) (same_Some both.0 v (sym both.1 ∙ here)) both.2
 
 module _ (m t : State) (w : World) (i : ℕ) (h h1 : Domain) (v : world.Domain) (r : Record) (pool1 : Pool)
-    (q : Quarantine m w) (many : length m.domains ≡ 15) (less : i < length m.domains) (there : domain_at m.domains (i + 1) ≡ Some h)
+    (q : Quarantine m w) (many : length m.domains ≡ MOST_DOMAINS) (less : i < length m.domains)
+    (there : domain_at m.domains (i + 1) ≡ Some h)
     (here : w.domains (i + 1) ≡ Some v)
     (mirrors : Mirrors m.pool.words h v) (fits : IsPageRange r.range) (cuts : RetiresAndUnmaps m.pool h r pool1 h1)
     (row : t.iommu.contexts ≡ m.iommu.contexts) (words : t.pool.words ≡ pool1.words) where
-  low : i + 1 < 16
+  low : i + 1 < MOST_DOMAINS + 1
   low = domain_low m.domains (i + 1) h many there
 
   others : (e : ℕ) (k : Domain) → e ≢ i + 1 → domain_at m.domains e ≡ Some k → SameTree m.pool.words t.pool.words k.root
   others e k ne at =
-      let below : e < 16 = domain_low m.domains e k many at in
-      let stays : Stays m.pool pool1 3 k.root =
-      apart_stays m.pool pool1 3 h.root 3 k.root r.cut.frames (tree_of m.pool (domain_at m.domains) (i + 1) h q.frames low there) cuts.moves
+      let below : e < MOST_DOMAINS + 1 = domain_low m.domains e k many at in
+      let stays : Stays m.pool pool1 LEVELS k.root =
+      apart_stays m.pool pool1 LEVELS h.root LEVELS k.root r.cut.frames (tree_of m.pool (domain_at m.domains) (i + 1) h q.frames low there)
+      cuts.moves
       (tree_of m.pool (domain_at m.domains) e k q.frames below at)
       (apart_of m.pool (domain_at m.domains) (i + 1) e h k q.frames low below ne there at) in tree_stays m.pool pool1 t.pool.words k.root
       stays words
@@ -192,8 +197,8 @@ module _ (m t : State) (w : World) (i : ℕ) (h h1 : Domain) (v : world.Domain) 
       → (e : ℕ) → domain_at t.domains e ≡ put (i + 1) (Some new) (domain_at m.domains) e
   domains_then new domains e = ap (λ ds. domain_at ds e) domains ∙ domain_set m.domains i (Some new) less e
 
-  used : (f : ℕ) → uses (memory t.pool.words) 3 h.root f ≡ uses (memory pool1.words) 3 h.root f
-  used f = ap (λ ws. uses (memory ws) 3 h.root f) words
+  used : (f : ℕ) → uses (memory t.pool.words) LEVELS h.root f ≡ uses (memory pool1.words) LEVELS h.root f
+  used f = ap (λ ws. uses (memory ws) LEVELS h.root f) words
 
   -- ---- a strict unmap
 
@@ -290,7 +295,7 @@ module _ (m t : State) (w : World) (i : ℕ) (h h1 : Domain) (v : world.Domain) 
 
 -- an unmap of a strict domain: the descriptor was sent and done before its pages and the cut tables came free
 pub strict_unmapped : (m t : State) (w : World) (i n : ℕ) (h h1 : Domain) (v : world.Domain) (r : Record) (x : Descriptor) (pool1 : Pool)
-    (space2 : Space) → Quarantine m w → length m.domains ≡ 15 → i < length m.domains → domain_at m.domains (i + 1) ≡ Some h
+    (space2 : Space) → Quarantine m w → length m.domains ≡ MOST_DOMAINS → i < length m.domains → domain_at m.domains (i + 1) ≡ Some h
     → w.domains (i + 1) ≡ Some v → v.mode ≡ Strict → IsPageRange r.range → RetiresAndUnmaps m.pool h r pool1 h1
     → IsSent (i + 1) r.range r.cut x → t.iommu.unit.caches ≡ left_by_all (m.iommu.ring.waiting ++ x ∷ Wait n ∷ []) m.iommu.unit.caches
     → Releases pool1 h1.space r t.pool space2 → t.domains ≡ slice_set m.domains i (Some (domain_after h space2 h.records))
@@ -301,7 +306,8 @@ strict_unmapped m t w i n h h1 v r x pool1 space2 q many less there here strict 
 
 -- an unmap of a lazy domain that has room for one more record
 pub lazy_put_off : (m t : State) (w : World) (i : ℕ) (h h1 : Domain) (v : world.Domain) (r : Record)
-    → Quarantine m w → length m.domains ≡ 15 → i < length m.domains → domain_at m.domains (i + 1) ≡ Some h → w.domains (i + 1) ≡ Some v
+    → Quarantine m w → length m.domains ≡ MOST_DOMAINS → i < length m.domains → domain_at m.domains (i + 1) ≡ Some h
+    → w.domains (i + 1) ≡ Some v
     → v.mode ≡ Lazy → IsPageRange r.range → RetiresAndUnmaps m.pool h r t.pool h1 → t.iommu.unit ≡ m.iommu.unit
     → t.domains ≡ slice_set m.domains i (Some (domain_after h h1.space (h.records ++ r ∷ []))) → t.iommu.contexts ≡ m.iommu.contexts
     → Quarantine t (record w { domains = put (i + 1) (Some (put_off r.range v)) w.domains })

@@ -17,6 +17,7 @@ use Rattle.engine.proofs.lists.Places.{put_other, put_same, same_or_not}
 use Rattle.engine.proofs.domains.OneChanged.{domain_set}
 use Rattle.engine.proofs.flushes.OneByOne.{domain_flushed}
 use Rattle.engine.proofs.unmaps.DomainAfter.{domain_after, lazy_put_off}
+use Rattle.dmatypes.specs.declared.limits.TheConstants.{MOST_DOMAINS}
 
 -- ---- lists and maps
 
@@ -54,7 +55,7 @@ same_domains m w domains same q = record {
 -- ---- the call
 
 module _ (m t : State) (w : World) (i n : ℕ) (h : Domain) (v : world.Domain) (pool1 : Pool) (space1 : Space) (q : Quarantine m w)
-    (many : length m.domains ≡ 15) (less : i < length m.domains)
+    (many : length m.domains ≡ MOST_DOMAINS) (less : i < length m.domains)
     (there : domain_at m.domains (i + 1) ≡ Some h) (here : w.domains (i + 1) ≡ Some v)
     (caches : t.iommu.unit.caches ≡ left_by_all (m.iommu.ring.waiting ++ IotlbDomain (i + 1) ∷ Wait n ∷ []) m.iommu.unit.caches)
     (all : ReleasesAll m.pool h.space h.records pool1 space1) where
@@ -84,7 +85,8 @@ module _ (m t : State) (w : World) (i n : ℕ) (h : Domain) (v : world.Domain) (
 
 -- all records of the domain went, and then the pages of the range were put off
 pub full_put_off : (m t : State) (w : World) (i n : ℕ) (h h2 : Domain) (v : world.Domain) (r : Record) (pool1 : Pool) (space1 : Space)
-    → Quarantine m w → length m.domains ≡ 15 → i < length m.domains → domain_at m.domains (i + 1) ≡ Some h → w.domains (i + 1) ≡ Some v
+    → Quarantine m w → length m.domains ≡ MOST_DOMAINS → i < length m.domains → domain_at m.domains (i + 1) ≡ Some h
+    → w.domains (i + 1) ≡ Some v
     → v.mode ≡ Lazy → IsPageRange r.range
     → t.iommu.unit.caches ≡ left_by_all (m.iommu.ring.waiting ++ IotlbDomain (i + 1) ∷ Wait n ∷ []) m.iommu.unit.caches
     → ReleasesAll m.pool h.space h.records pool1 space1 → RetiresAndUnmaps pool1 (domain_after h space1 []) r t.pool h2

@@ -29,6 +29,8 @@ use Rattle.engine.proofs.unmaps.FullList.{full_put_off}
 use Rattle.engine.proofs.lists.Places.{is_none, not_none}
 use Rattle.engine.proofs.domains.OneChanged.{both_absent, both_there}
 use Rattle.engine.proofs.unmaps.DomainAfter.{domain_after, lazy_put_off, strict_unmapped}
+use Rattle.dmatypes.specs.declared.limits.TheConstants.{MOST_DOMAINS, MOST_RECORDS}
+use Rattle.dmatypes.specs.declared.page.TheConstants.{PAGE_BYTES}
 
 -- ---- the world
 
@@ -46,12 +48,13 @@ next_unmapped w d address pages released v after here is = rw (here, is) refl
 strict_after : (range : Range) (v : world.Domain) → v.mode ≡ Strict → unmapped_by v.mode range v ≡ unmapped range v
 strict_after range v strict = ap (λ (mode : Mode). unmapped_by mode range v) strict
 
-room_after : (range : Range) (v : world.Domain) → v.mode ≡ Lazy → length v.retired ≢ 256 → unmapped_by v.mode range v ≡ put_off range v
-room_after range v lazy room = ap (λ (mode : Mode). unmapped_by mode range v) lazy ∙ (rw (ne_eqb (length v.retired) 256 room) refl)
+room_after : (range : Range) (v : world.Domain) → v.mode ≡ Lazy → length v.retired ≢ MOST_RECORDS
+    → unmapped_by v.mode range v ≡ put_off range v
+room_after range v lazy room = ap (λ (mode : Mode). unmapped_by mode range v) lazy ∙ (rw (ne_eqb (length v.retired) MOST_RECORDS room) refl)
 
-full_after : (range : Range) (v : world.Domain) → v.mode ≡ Lazy → length v.retired ≡ 256
+full_after : (range : Range) (v : world.Domain) → v.mode ≡ Lazy → length v.retired ≡ MOST_RECORDS
     → unmapped_by v.mode range v ≡ put_off range (flushed v)
-full_after range v lazy full = ap (λ (mode : Mode). unmapped_by mode range v) lazy ∙ (rw (eq-eqb (length v.retired) 256 full) refl)
+full_after range v lazy full = ap (λ (mode : Mode). unmapped_by mode range v) lazy ∙ (rw (eq-eqb (length v.retired) MOST_RECORDS full) refl)
 
 -- ---- no refusal stands
 
@@ -64,12 +67,12 @@ all_live : (w : World) (d : ℕ) (space : Space) (v : world.Domain) (range : Ran
 all_live w d space v range here parts live some =
     let dead = rw here at some in some_not_none (v.live dead.0) ((parts.live dead.0).0 (live dead.0 dead.1)) dead.2
 
-not_bad : (address pages : ℕ) → address % 4096 ≡ 0 → IsPageRange (range_at address pages) → IsBadUnmap address pages → ⊥
+not_bad : (address pages : ℕ) → address % PAGE_BYTES ≡ 0 → IsPageRange (range_at address pages) → IsBadUnmap address pages → ⊥
 not_bad address pages whole fits (inl uneven) = uneven whole
 not_bad address pages whole fits (inr unfit) = unfit fits
 
 none_stands : (w : World) (d address pages : ℕ) (space : Space) (v : world.Domain) → w.domains d ≡ Some v → PartsPages space v
-    → AllIn Live (range_at address pages) space.pieces → address % 4096 ≡ 0 → IsPageRange (range_at address pages)
+    → AllIn Live (range_at address pages) space.pieces → address % PAGE_BYTES ≡ 0 → IsPageRange (range_at address pages)
     → NoConditionStands w (calls.Unmap d address pages)
 unfolding Stands
 none_stands w d address pages space v here parts live whole fits =
@@ -84,8 +87,9 @@ answered w d address pages released v here none answer = (none, rw here answer)
 
 -- ---- the calls
 
-module _ (m t : State) (i address pages : ℕ) (h h1 : Domain) (r : Record) (many : length m.domains ≡ 15) (less : i < length m.domains)
-    (there : domain_at m.domains (i + 1) ≡ Some h) (whole : address % 4096 ≡ 0) (fits : IsPageRange (range_at address pages))
+module _ (m t : State) (i address pages : ℕ) (h h1 : Domain) (r : Record) (many : length m.domains ≡ MOST_DOMAINS)
+    (less : i < length m.domains)
+    (there : domain_at m.domains (i + 1) ≡ Some h) (whole : address % PAGE_BYTES ≡ 0) (fits : IsPageRange (range_at address pages))
     (of_range : r.range ≡ range_at address pages) (row : t.iommu.contexts ≡ m.iommu.contexts) where
   fits_record : IsPageRange r.range
   fits_record = subst IsPageRange (sym of_range) fits
@@ -115,13 +119,13 @@ module _ (m t : State) (i address pages : ℕ) (h h1 : Domain) (r : Record) (man
             domains row)),
       )
 
-  pub room_steps : h.mode ≡ Lazy → length h.records ≢ 256 → RetiresAndUnmaps m.pool h r t.pool h1 → t.iommu.unit ≡ m.iommu.unit
+  pub room_steps : h.mode ≡ Lazy → length h.records ≢ MOST_RECORDS → RetiresAndUnmaps m.pool h r t.pool h1 → t.iommu.unit ≡ m.iommu.unit
       → t.domains ≡ slice_set m.domains i (Some (domain_after h h1.space (h.records ++ r ∷ [])))
       → Steps m (calls.Unmap (i + 1) address pages) (Unmapped 0) t
   room_steps mode room cuts unit domains w q =
       let both = both_there m.pool.words (domain_at m.domains (i + 1)) (w.domains (i + 1)) h (q.domains (i + 1)) there in
       let lazy : both.0.mode ≡ Lazy = sym both.2.ids.mode ∙ mode in
-      let few : length both.0.retired ≢ 256 = (λ e. room (records_count h both.0 both.2.ids ∙ e)) in (
+      let few : length both.0.retired ≢ MOST_RECORDS = (λ e. room (records_count h both.0 both.2.ids ∙ e)) in (
         answered w (i + 1) address pages 0 both.0 both.1
             (none_stands w (i + 1) address pages h.space both.0 both.1 both.2.pieces (live_in h.space cuts.may.live) whole fits)
             (rw lazy (inr (few, refl))),
@@ -132,19 +136,19 @@ module _ (m t : State) (i address pages : ℕ) (h h1 : Domain) (r : Record) (man
       )
 
   -- the pages may be retired before the flush, and so after it
-  pub full_steps : (n : ℕ) (pool1 : Pool) (space1 : Space) → h.mode ≡ Lazy → length h.records ≡ 256
+  pub full_steps : (n : ℕ) (pool1 : Pool) (space1 : Space) → h.mode ≡ Lazy → length h.records ≡ MOST_RECORDS
       → AllIn Live (range_at address pages) h.space.pieces
       → t.iommu.unit.caches ≡ left_by_all (m.iommu.ring.waiting ++ IotlbDomain (i + 1) ∷ Wait n ∷ []) m.iommu.unit.caches
       → ReleasesAll m.pool h.space h.records pool1 space1 → RetiresAndUnmaps pool1 (domain_after h space1 []) r t.pool h1
       → t.domains ≡ slice_set m.domains i (Some (domain_after h h1.space (r ∷ [])))
-      → Steps m (calls.Unmap (i + 1) address pages) (Unmapped 256) t
+      → Steps m (calls.Unmap (i + 1) address pages) (Unmapped MOST_RECORDS) t
   full_steps n pool1 space1 mode full live caches all cuts domains w q =
       let both = both_there m.pool.words (domain_at m.domains (i + 1)) (w.domains (i + 1)) h (q.domains (i + 1)) there in
       let lazy : both.0.mode ≡ Lazy = sym both.2.ids.mode ∙ mode in
-      let most : length both.0.retired ≡ 256 = sym (records_count h both.0 both.2.ids) ∙ full in (
-        answered w (i + 1) address pages 256 both.0 both.1
+      let most : length both.0.retired ≡ MOST_RECORDS = sym (records_count h both.0 both.2.ids) ∙ full in (
+        answered w (i + 1) address pages MOST_RECORDS both.0 both.1
             (none_stands w (i + 1) address pages h.space both.0 both.1 both.2.pieces live whole fits) (rw lazy (inl (most, refl))),
-        rw (next_unmapped w (i + 1) address pages 256 both.0 (put_off (range_at address pages) (flushed both.0)) both.1
+        rw (next_unmapped w (i + 1) address pages MOST_RECORDS both.0 (put_off (range_at address pages) (flushed both.0)) both.1
             (full_after (range_at address pages) both.0 lazy most))
             (of_call w (λ (x : Range). put_off x (flushed both.0))
             (full_put_off m t w i n h h1 both.0 r pool1 space1 q many less there both.1 lazy fits_record caches all cuts domains row)),
@@ -178,7 +182,7 @@ not_live_stands : (w : World) (d : ℕ) (v : world.Domain) (range : Range) (p : 
 not_live_stands w d v range p here inside dead = rw here (p, inside, dead)
 
 pub not_live_step : (m : State) (w : World) (d address pages : ℕ) (h : Domain) → Quarantine m w → domain_at m.domains d ≡ Some h
-    → address % 4096 ≡ 0 → IsPageRange (range_at address pages)
+    → address % PAGE_BYTES ≡ 0 → IsPageRange (range_at address pages)
     → ((p : ℕ) × IsWithin (range_at address pages) p × (state_at h.space.pieces p ≢ Some Live))
     → IsStep w (calls.Unmap d address pages) (Refused refusals.NotLive)
 unfolding IsStep Stands
@@ -196,20 +200,20 @@ not_live_step m w d address pages h q there whole fits (p, inside, dead) =
     ))
 
 live_stands : (m : State) (w : World) (d address pages : ℕ) (h : Domain) → Quarantine m w → domain_at m.domains d ≡ Some h
-    → address % 4096 ≡ 0 → IsPageRange (range_at address pages) → AllIn Live (range_at address pages) h.space.pieces
+    → address % PAGE_BYTES ≡ 0 → IsPageRange (range_at address pages) → AllIn Live (range_at address pages) h.space.pieces
     → NoConditionStands w (calls.Unmap d address pages)
 live_stands m w d address pages h q there whole fits live =
     let both = both_there m.pool.words (domain_at m.domains d) (w.domains d) h (q.domains d) there in
     none_stands w d address pages h.space both.0 both.1 both.2.pieces live whole fits
 
 pub too_many_step : (m : State) (w : World) (d address pages : ℕ) (h : Domain) → Quarantine m w → domain_at m.domains d ≡ Some h
-    → address % 4096 ≡ 0 → IsPageRange (range_at address pages) → AllIn Live (range_at address pages) h.space.pieces
+    → address % PAGE_BYTES ≡ 0 → IsPageRange (range_at address pages) → AllIn Live (range_at address pages) h.space.pieces
     → IsStep w (calls.Unmap d address pages) (Refused refusals.TooManyPieces)
 unfolding IsStep
 too_many_step m w d address pages h q there whole fits live = inr (live_stands m w d address pages h q there whole fits live, tt)
 
 pub no_frames_step : (m : State) (w : World) (d address pages : ℕ) (h : Domain) → Quarantine m w → domain_at m.domains d ≡ Some h
-    → address % 4096 ≡ 0 → IsPageRange (range_at address pages) → AllIn Live (range_at address pages) h.space.pieces
+    → address % PAGE_BYTES ≡ 0 → IsPageRange (range_at address pages) → AllIn Live (range_at address pages) h.space.pieces
     → IsStep w (calls.Unmap d address pages) (Refused refusals.NoFrames)
 unfolding IsStep
 no_frames_step m w d address pages h q there whole fits live = inr (live_stands m w d address pages h q there whole fits live, tt)

@@ -1,6 +1,7 @@
 //! What a report tells of one domain.
 
-ghost use Rattle.std.specs.Prelude.{◌≡◌, ◌<◌, ◌≤◌, ◌^◌, All, length};
+ghost use Rattle.std.specs.Prelude.{◌≡◌, ◌*◌, ◌<◌, ◌≤◌, ◌^◌, All, length};
+ghost use Rattle.dmatypes.specs.declared.limits.TheConstants.{MOST_RECORDS};
 ghost use Rattle.iova.specs.Pieces.{IsOrdered};
 ghost use Rattle.engine.specs.Totals.{held_by, live_in, live_pages, totals_of_domain};
 
@@ -26,7 +27,7 @@ impl Domain {
     /// How many table frames the retired records hold: at most 8 each.
     pub(crate) fn held(&self) -> u64
         ensures held { result ≡ held_by self.now.records }
-        ensures few { result ≤ 2048 }
+        ensures few { result ≤ 8 * MOST_RECORDS }
     {
         held_by(self.records.as_slice())
     }
@@ -34,9 +35,9 @@ impl Domain {
 
 // How many table frames the records hold.
 fn held_by(records: &[Record]) -> u64
-    requires { length records.now ≤ 256 }
+    requires { length records.now ≤ MOST_RECORDS }
     ensures held { result ≡ held_by records.now }
-    ensures few { result ≤ 2048 }
+    ensures few { result ≤ 8 * MOST_RECORDS }
 {
     let mut held = 0;
     for record in records {

@@ -1,13 +1,14 @@
 //! What a report tells of the state.
 
 ghost use Rattle.std.specs.Prelude.{◌≡◌, ◌≤◌, length, slice_get};
+ghost use Rattle.dmatypes.specs.declared.limits.TheConstants.{MOST_DOMAINS};
 ghost use Rattle.engine.specs.Domains.{domain_at};
 ghost use Rattle.engine.specs.Quarantine.{attached};
 ghost use Rattle.engine.specs.Totals.{domain_totals_of, held_by_all, totals_of};
 
 use super::{State, place_of};
 use crate::domain::Domain;
-use dmatypes::Mode;
+use dmatypes::{DEVICES, Mode};
 use vtdbits::{ContextEntry, DomainId};
 
 /// How many table frames are free, used by trees, and held by retired records; how many tickets are open, and how
@@ -63,7 +64,7 @@ impl State {
         ensures { result ≡ attached (slice_get self.now.iommu.contexts device) }
     {
         let contexts = &self.iommu.contexts;
-        if device > 15 {
+        if device >= DEVICES {
             return None;
         }
         match contexts.get(device) {
@@ -75,7 +76,7 @@ impl State {
 
 // How many table frames the records of all domains hold.
 fn held_by_all(domains: &[Option<Domain>]) -> u64
-    requires { length domains.now ≤ 15 }
+    requires { length domains.now ≤ MOST_DOMAINS }
     ensures { result ≡ held_by_all domains.now }
 {
     let mut held = 0;

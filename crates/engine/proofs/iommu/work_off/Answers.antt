@@ -1,9 +1,10 @@
-use Rattle.std.proofs.Common.{◌≡◌, ◌∙◌, ◌≤◌, ◌++◌, ◌∷◌, [], true, false, ap, sym, length, take, arith}
+use Rattle.std.proofs.Common.{◌-◌, ◌≡◌, ◌∙◌, ◌≤◌, ◌++◌, ◌∷◌, [], true, false, ap, sym, length, take, arith}
 use Rattle.queue.specs.Ring.{Ring, with_last}
 use Rattle.unit.specs.Caches.{UnitState}
 use Rattle.vtdbits.specs.declared.descriptor.Descriptor.TheVariants.{Wait}
 use Rattle.engine.proofs.caches.WorkedOff.{few_steps, fewer_wait, first_stage, last_stage, next_stage, submitted}
 use Rattle.engine.proofs.iommu.work_off.Goals as goal
+use Rattle.queue.specs.declared.ring.TheConstants.Ring.{CAPACITY}
 
 pub loop-unit-init : goal.loop-unit-init
 loop-unit-init c =
@@ -23,7 +24,8 @@ step-requires c =
     λ done. let clash : true ≡ false = sym (c.wait_done.ensures.1 done) ∙ c.loop-unit-test.true in cc in
     omega (
       arith,
-      few_steps c.args.descriptor c.args.number (take 254 c.args.ring.now.taken) c.args.unit.now c.loop-unit.ring c.loop-unit.unit
+      few_steps c.args.descriptor c.args.number (take (CAPACITY - 1) c.args.ring.now.taken) c.args.unit.now c.loop-unit.ring
+          c.loop-unit.unit
           c.loop-unit.invariant later,
       c.requires.steps,
     )
@@ -32,35 +34,39 @@ pub loop-unit-smaller : goal.loop-unit-smaller
 loop-unit-smaller c =
     let later : c.args.number ≤ c.loop-unit.ring.status → ⊥ =
     λ done. let clash : true ≡ false = sym (c.wait_done.ensures.1 done) ∙ c.loop-unit-test.true in cc in
-    fewer_wait c.args.descriptor c.args.number (take 254 c.args.ring.now.taken) c.args.unit.now c.loop-unit.ring c.step.new.ring
+    fewer_wait c.args.descriptor c.args.number (take (CAPACITY - 1) c.args.ring.now.taken) c.args.unit.now c.loop-unit.ring c.step.new.ring
     c.loop-unit.unit c.loop-unit.invariant later c.step.ensures.ring
 
 pub loop-unit-preserved : goal.loop-unit-preserved
 loop-unit-preserved c =
     let later : c.args.number ≤ c.loop-unit.ring.status → ⊥ =
     λ done. let clash : true ≡ false = sym (c.wait_done.ensures.1 done) ∙ c.loop-unit-test.true in cc in
-    next_stage c.args.descriptor c.args.number (take 254 c.args.ring.now.taken) c.args.unit.now c.loop-unit.ring c.step.new.ring
+    next_stage c.args.descriptor c.args.number (take (CAPACITY - 1) c.args.ring.now.taken) c.args.unit.now c.loop-unit.ring c.step.new.ring
     c.loop-unit.unit c.step.new.self c.requires.no_wait c.loop-unit.invariant later c.step.ensures.ring c.step.ensures.unit
 
 pub returns-clause-ring : goal.returns-clause-ring
 returns-clause-ring c =
-    (last_stage c.args.descriptor c.args.number (take 254 c.args.ring.now.taken) c.args.unit.now c.loop-unit.ring c.loop-unit.unit
+    (last_stage c.args.descriptor c.args.number (take (CAPACITY - 1) c.args.ring.now.taken) c.args.unit.now c.loop-unit.ring
+    c.loop-unit.unit
     c.loop-unit.invariant (c.wait_done.ensures.0 c.loop-unit-test.false)).0
 
 pub returns-clause-caches : goal.returns-clause-caches
 returns-clause-caches c =
     ap (λ (u : UnitState). u.caches)
-    (last_stage c.args.descriptor c.args.number (take 254 c.args.ring.now.taken) c.args.unit.now c.loop-unit.ring c.loop-unit.unit
+    (last_stage c.args.descriptor c.args.number (take (CAPACITY - 1) c.args.ring.now.taken) c.args.unit.now c.loop-unit.ring
+    c.loop-unit.unit
     c.loop-unit.invariant (c.wait_done.ensures.0 c.loop-unit-test.false)).1
 
 pub returns-clause-steps : goal.returns-clause-steps
 returns-clause-steps c =
     ap (λ (u : UnitState). u.steps)
-    (last_stage c.args.descriptor c.args.number (take 254 c.args.ring.now.taken) c.args.unit.now c.loop-unit.ring c.loop-unit.unit
+    (last_stage c.args.descriptor c.args.number (take (CAPACITY - 1) c.args.ring.now.taken) c.args.unit.now c.loop-unit.ring
+    c.loop-unit.unit
     c.loop-unit.invariant (c.wait_done.ensures.0 c.loop-unit-test.false)).1
 
 pub returns-clause-each : goal.returns-clause-each
 returns-clause-each c =
     ap (λ (u : UnitState). u.done)
-    (last_stage c.args.descriptor c.args.number (take 254 c.args.ring.now.taken) c.args.unit.now c.loop-unit.ring c.loop-unit.unit
+    (last_stage c.args.descriptor c.args.number (take (CAPACITY - 1) c.args.ring.now.taken) c.args.unit.now c.loop-unit.ring
+    c.loop-unit.unit
     c.loop-unit.invariant (c.wait_done.ensures.0 c.loop-unit-test.false)).1

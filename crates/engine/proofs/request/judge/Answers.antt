@@ -7,7 +7,7 @@ returns-in_default-2 c = bad_else c.args.segments.now c.args.order c.args.rights
 
 pub returns-then-is_owned : goal.returns-then-is_owned
 returns-then-is_owned c = (
-  mappable_not_bad c.args.segments.now c.args.order c.args.rights c.in-Some-Some.ensures.some.1 c.if-order-gt9.false
+  mappable_not_bad c.args.segments.now c.args.order c.args.rights c.in-Some-Some.ensures.some.1 c.if-order-gt-MOST_ORDER.false
       (c.in-Some-Some.ensures'.some.0 refl),
   c.is_owned.ensures.0 c.if-is_owned.true,
 )
@@ -21,7 +21,7 @@ invariant_of-result-clause-few_pages c = omega (arith, c.in-Some-Some.ensures.so
 
 pub returns : goal.returns
 returns c = (
-  mappable_not_bad c.args.segments.now c.args.order c.args.rights c.in-Some-Some.ensures.some.1 c.if-order-gt9.false
+  mappable_not_bad c.args.segments.now c.args.order c.args.rights c.in-Some-Some.ensures.some.1 c.if-order-gt-MOST_ORDER.false
       (c.in-Some-Some.ensures'.some.0 refl),
   λ owned. let yes : c.is_owned.result ≡ true = c.is_owned.ensures.1 owned in let clash = rw c.if-is_owned.false at yes in absurd cc,
   record {

@@ -13,12 +13,12 @@ use Rattle.engine.proofs.domains.Found.{stands}
 use Rattle.engine.proofs.states.Refused.{whole_quiet}
 use Rattle.engine.proofs.state.State.attach.Goals as goal
 
-pub returns-then-device-gt15 : goal.returns-then-device-gt15
-returns-then-device-gt15 c = rw (← c.self.view_is) (attach_no_device _ _ c.args.device c.args.domain refl c.if-device-gt15.true)
+pub returns-then-device-ge-DEVICES : goal.returns-then-device-ge-DEVICES
+returns-then-device-ge-DEVICES c = rw (← c.self.view_is) (attach_no_device _ _ c.args.device c.args.domain refl c.if-device-ge-DEVICES.true)
 
 pub returns-in_default : goal.returns-in_default
 returns-in_default c =
-    rw (← c.self.view_is) (attach_no_domain _ _ c.args.device c.args.domain refl c.if-device-gt15.false
+    rw (← c.self.view_is) (attach_no_domain _ _ c.args.device c.args.domain refl c.if-device-ge-DEVICES.false
     (no_id_no_domain c.self.inside.domains.items c.args.domain c.self.invariant.0.places
     (λ id. let some = c.in_default.ensures.some.1 id in absurd cc)))
 
@@ -30,7 +30,7 @@ returns-in_default-index c =
     let id : c.args.domain ≡ c.place_of.result + 1 = sym c.in-Some.ensures.value ∙ c.place_of.ensures.place in
     let at : slice_get m.domains c.place_of.result ≡ Some None = read ∙ ap Some c.in_default-index.is in
     let none : domain_at m.domains c.args.domain ≡ None = at_place m.domains c.args.domain c.place_of.result None id at in
-    rw (← c.self.view_is) (attach_no_domain m _ c.args.device c.args.domain refl c.if-device-gt15.false none)
+    rw (← c.self.view_is) (attach_no_domain m _ c.args.device c.args.domain refl c.if-device-ge-DEVICES.false none)
 
 pub returns-in_default-get : goal.returns-in_default-get
 returns-in_default-get c =
@@ -42,7 +42,7 @@ returns-in_default-get c =
     let there : domain_at m.domains c.args.domain ≡ Some c.in-Some-index.domain =
     at_place m.domains c.args.domain c.place_of.result (Some c.in-Some-index.domain) id at in
     rw (← c.self.view_is)
-    (attach_busy m _ c.args.device c.args.domain c.in-Some-index.domain c.get.result refl c.if-device-gt15.false there c.get.ensures
+    (attach_busy m _ c.args.device c.args.domain c.in-Some-index.domain c.get.result refl c.if-device-ge-DEVICES.false there c.get.ensures
     c.in_default-get.not-Absent)
 
 abbrev before : goal.After-set → State
@@ -73,7 +73,8 @@ does c =
     let row : c.set.new.self
     ≡ slice_set c.self.inside.iommu.contexts c.args.device (Present c.in-Some-index.domain.root W39 c.args.domain) =
     rw (← c.root.ensures, ← c.in-Some.ensures.value) c.set.ensures in
-    attaches (before c) (after c) c.args.device c.args.domain c.in-Some-index.domain c.if-device-gt15.false c.self.invariant.0.devices there
+    attaches (before c) (after c) c.args.device c.args.domain c.in-Some-index.domain c.if-device-ge-DEVICES.false c.self.invariant.0.devices
+    there
     (c.get.ensures ∙ ap Some c.in-Absent.is)
     (ap (λ r. record (before c) { iommu = record c.self.inside.iommu { contexts = r }; calls = c.self.inside.calls + 1 }) row)
 

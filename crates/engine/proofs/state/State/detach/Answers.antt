@@ -1,4 +1,4 @@
-use Rattle.std.proofs.Common.{◌≡◌, ◌≤◌, ◌<◌, ◌∙◌, ⊎_elim, List, Some, ap, refl, slice_get, slice_set, subst}
+use Rattle.std.proofs.Common.{arith, ◌≡◌, ◌≤◌, ◌<◌, ◌∙◌, ⊎_elim, List, Some, ap, refl, slice_get, slice_set, subst}
 use Rattle.std.proofs.lemmas.Bool.{cases_lt}
 use Rattle.std.proofs.lemmas.List.{length-set}
 use Rattle.dmatypes.specs.declared.call.Call.TheVariants as calls
@@ -14,17 +14,20 @@ use Rattle.engine.specs.Steps.{Does}
 use Rattle.engine.proofs.devices.Detached.{detach_does, detach_no_device, detach_not_attached, detached, only_width}
 use Rattle.engine.proofs.caches.Sent.{whole_sends}
 use Rattle.engine.proofs.state.State.detach.Goals as goal
+use Rattle.dmatypes.specs.declared.limits.TheConstants.{DEVICES}
 
 pub returns-in_default : goal.returns-in_default
 returns-in_default c =
-    let big : 15 < c.args.device =
-    ⊎_elim (λ (big : 15 < c.args.device). big)
-    (λ (small : c.args.device ≤ 15). let some = c.in_default.ensures.some.1 small in absurd cc) (cases_lt 15 c.args.device) in
+    let big : DEVICES ≤ c.args.device =
+    ⊎_elim (λ (small : c.args.device < DEVICES). let some = c.in_default.ensures.some.1 (omega (arith, small)) in absurd cc)
+    (λ (big : DEVICES ≤ c.args.device). big) (cases_lt c.args.device DEVICES) in
     rw (← c.self.view_is) (detach_no_device _ _ c.args.device refl big)
 
 pub returns-in_default-get : goal.returns-in_default-get
 returns-in_default-get c =
-    rw (← c.self.view_is) (detach_not_attached _ _ c.args.device Absent refl (c.in-Some.ensures.some.0 refl) c.in_default-get.ensures refl)
+    rw (← c.self.view_is)
+    (detach_not_attached _ _ c.args.device Absent refl (let low = c.in-Some.ensures.some.0 refl in omega (arith, low))
+    c.in_default-get.ensures refl)
 
 abbrev before : goal.After-forget_context → State
 before c = record {
@@ -49,7 +52,8 @@ does : (c : goal.After-forget_context) → Does (before c) (calls.Detach c.args.
 does c =
     let at : slice_get c.self.inside.iommu.contexts c.args.device ≡ Some (Present c.in-Present.root W39 c.in-Present.domain) =
     c.in-Present.ensures ∙ ap (λ w. Some (Present c.in-Present.root w c.in-Present.domain)) (only_width c.in-Present.width) in
-    detach_does (before c) c.args.device c.in-Present.root c.in-Present.domain c.forget_context.new.self (c.in-Some.ensures.some.0 refl)
+    detach_does (before c) c.args.device c.in-Present.root c.in-Present.domain c.forget_context.new.self
+    (let low = c.in-Some.ensures.some.0 refl in omega (arith, low))
     c.self.invariant.0.devices at (sent c)
 
 pub invariant_of-self-2 : goal.invariant_of-self-2

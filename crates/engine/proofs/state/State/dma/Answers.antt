@@ -8,9 +8,9 @@ use Rattle.engine.proofs.requests.Stepped.{request_does, request_hits, request_n
 use Rattle.engine.proofs.states.Refused.{whole_quiet}
 use Rattle.engine.proofs.state.State.dma.Goals as goal
 
-pub returns-then-device-gt15 : goal.returns-then-device-gt15
-returns-then-device-gt15 c = rw (← c.self.view_is) (record {
-  does = request_no_device _ _ c.args.device c.args.address c.args.access c.args.whim refl c.if-device-gt15.true;
+pub returns-then-device-ge-DEVICES : goal.returns-then-device-ge-DEVICES
+returns-then-device-ge-DEVICES c = rw (← c.self.view_is) (record {
+  does = request_no_device _ _ c.args.device c.args.address c.args.access c.args.whim refl c.if-device-ge-DEVICES.true;
   hit = tt;
 })
 
@@ -18,7 +18,7 @@ pub returns-then-is_in_window : goal.returns-then-is_in_window
 returns-then-is_in_window c =
     rw (← c.self.view_is) (record {
       does =
-          request_window _ _ c.args.device c.args.address c.args.access c.args.whim refl c.if-device-gt15.false
+          request_window _ _ c.args.device c.args.address c.args.access c.args.whim refl c.if-device-ge-DEVICES.false
           (c.is_in_window.ensures.0 c.if-is_in_window.true);
       hit = tt;
     })
@@ -45,7 +45,8 @@ does : (c : goal.After-dma-answer)
 does c =
     let outside : IsInWindow c.args.address → ⊥ =
     λ inside. let both : true ≡ false = sym (c.is_in_window.ensures.1 inside) ∙ c.if-is_in_window.false in cc in
-    request_does (before c) (after c) c.args.device c.args.address c.args.access c.args.whim c.dma-answer.result c.if-device-gt15.false
+    request_does (before c) (after c) c.args.device c.args.address c.args.access c.args.whim c.dma-answer.result
+    c.if-device-ge-DEVICES.false
     outside c.dma-answer.ensures.answers (ap₂ (λ steps done.
     record (before c) {
       iommu = record c.self.inside.iommu { unit = unit_state c.dma-answer.new.self.caches steps done };
@@ -58,7 +59,7 @@ returns c = rw (← c.self.view_is) (record {
   does = does c;
   hit =
       request_hits (before c) c.args.device c.args.address c.args.access c.args.whim c.dma-answer.new.self.caches c.dma-answer.result
-      c.if-device-gt15.false c.dma-answer.ensures.answers;
+      c.if-device-ge-DEVICES.false c.dma-answer.ensures.answers;
 })
 
 pub invariant_of-self-2 : goal.invariant_of-self-2

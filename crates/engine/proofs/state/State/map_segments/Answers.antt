@@ -12,6 +12,7 @@ use Rattle.engine.proofs.domains.Found.{keeps_found, put_back, stands}
 use Rattle.engine.proofs.maps.Mapped.{map_no_domain, map_judged, map_refused, map_done}
 use Rattle.engine.proofs.states.Refused.{whole_quiet}
 use Rattle.engine.proofs.state.State.map_segments.Goals as goal
+use Rattle.dmatypes.specs.declared.page.TheConstants.{PAGE_BYTES}
 
 pub returns-in_default : goal.returns-in_default
 returns-in_default c =
@@ -177,7 +178,7 @@ after c = record {
 
 does : (c : goal.In-Ok-map)
     → Does (before c) (calls.MapList c.args.domain c.args.order c.args.rights (record { items = c.args.segments.now }))
-    (Mapped (4096 * c.in-Ok-map.first)) (after c)
+    (Mapped (PAGE_BYTES * c.in-Ok-map.first)) (after c)
 does c =
     let m : State =
     record { pool = c.self.inside.pool; domains = c.self.inside.domains.items; iommu = c.self.inside.iommu; calls = c.self.inside.calls } in
@@ -211,7 +212,7 @@ invariant_of-self-2 c =
     at_place m.domains c.args.domain c.place_of.result (Some c.in-Some-index_mut.domain) id at in (
       whole_quiet c.self.inside.frames (before c) (after c)
           (calls.MapList c.args.domain c.args.order c.args.rights (record { items = c.args.segments.now }))
-          (Mapped (4096 * c.in-Ok-map.first)) c.self.invariant.0 (does c)
+          (Mapped (PAGE_BYTES * c.in-Ok-map.first)) c.self.invariant.0 (does c)
           (length-set m.domains c.place_of.result (Some c.map.new.self)) refl refl refl refl,
       rooms_stay _ _ c.place_of.result m.domains c.in-Some-index_mut.domain c.map.new.self at c.self.invariant.1,
     )
