@@ -1,15 +1,15 @@
-use Rattle.std.proofs.Common.{◌≡◌, ◌+◌, ◌∙◌, None, Some, ap, length, refl, slice_get, slice_set, sym}
+use Rattle.std.proofs.Common.{◌≡◌, ◌+◌, ◌∙◌, Some, ap, length, refl, slice_set}
 use Rattle.dmatypes.specs.declared.call.Call.TheVariants as calls
 use Rattle.dmatypes.specs.declared.reply.Reply.TheVariants.{Done}
 use Rattle.dmatypes.specs.declared.width.Width.TheVariants.{W39}
 use Rattle.std.proofs.lemmas.List.{length-set}
 use Rattle.vtdbits.specs.declared.context.ContextEntry.TheVariants.{Present}
-use Rattle.engine.specs.Domains.{domain_at}
+use Rattle.engine.specs.contracts.state.State.{the_view}
 use Rattle.engine.specs.State.{State}
 use Rattle.engine.specs.Steps.{Does}
 use Rattle.engine.proofs.devices.Attached.{attach_no_device, attach_no_domain, attach_busy, attaches}
-use Rattle.engine.proofs.domains.OneChanged.{at_place, no_id_no_domain}
-use Rattle.engine.proofs.domains.Found.{stands}
+use Rattle.engine.proofs.domains.OneChanged.{no_id_no_domain}
+use Rattle.engine.proofs.domains.Found.{finds}
 use Rattle.engine.proofs.states.Refused.{whole_quiet}
 use Rattle.engine.proofs.state.State.attach.Goals as goal
 
@@ -24,66 +24,45 @@ returns-in_default c =
 
 pub returns-in_default-index : goal.returns-in_default-index
 returns-in_default-index c =
-    let m : State =
-    record { pool = c.self.inside.pool; domains = c.self.inside.domains.items; iommu = c.self.inside.iommu; calls = c.self.inside.calls } in
-    let read = stands m.domains c.place_of.result c.index.result.now c.self.invariant.0.places c.place_of.ensures.low c.index.ensures in
-    let id : c.args.domain ≡ c.place_of.result + 1 = sym c.in-Some.ensures.value ∙ c.place_of.ensures.place in
-    let at : slice_get m.domains c.place_of.result ≡ Some None = read ∙ ap Some c.in_default-index.is in
-    let none : domain_at m.domains c.args.domain ≡ None = at_place m.domains c.args.domain c.place_of.result None id at in
-    rw (← c.self.view_is) (attach_no_domain m _ c.args.device c.args.domain refl c.if-device-ge-DEVICES.false none)
+    let found =
+    finds c.self.invariant.0 c.in-Some.ensures.value c.place_of.ensures.place c.place_of.ensures.low c.index.ensures
+    c.in_default-index.is in
+    rw (← c.self.view_is) (attach_no_domain _ _ c.args.device c.args.domain refl c.if-device-ge-DEVICES.false found.there)
 
 pub returns-in_default-get : goal.returns-in_default-get
 returns-in_default-get c =
-    let m : State =
-    record { pool = c.self.inside.pool; domains = c.self.inside.domains.items; iommu = c.self.inside.iommu; calls = c.self.inside.calls } in
-    let read = stands m.domains c.place_of.result c.index.result.now c.self.invariant.0.places c.place_of.ensures.low c.index.ensures in
-    let id : c.args.domain ≡ c.place_of.result + 1 = sym c.in-Some.ensures.value ∙ c.place_of.ensures.place in
-    let at : slice_get m.domains c.place_of.result ≡ Some (Some c.in-Some-index.domain) = read ∙ ap Some c.in-Some-index.is in
-    let there : domain_at m.domains c.args.domain ≡ Some c.in-Some-index.domain =
-    at_place m.domains c.args.domain c.place_of.result (Some c.in-Some-index.domain) id at in
+    let found =
+    finds c.self.invariant.0 c.in-Some.ensures.value c.place_of.ensures.place c.place_of.ensures.low c.index.ensures
+    c.in-Some-index.is in
     rw (← c.self.view_is)
-    (attach_busy m _ c.args.device c.args.domain c.in-Some-index.domain c.get.result refl c.if-device-ge-DEVICES.false there c.get.ensures
+    (attach_busy _ _ c.args.device c.args.domain c.in-Some-index.domain c.get.result refl c.if-device-ge-DEVICES.false found.there c.get.ensures
     c.in_default-get.not-Absent)
 
-abbrev before : goal.After-set → State
-before c = record {
-  pool = c.self.inside.pool;
-  domains = c.self.inside.domains.items;
-  iommu = c.self.inside.iommu;
-  calls = c.self.inside.calls;
-}
-
 abbrev after : goal.After-set → State
-after c = record {
-  pool = c.self.inside.pool;
-  domains = c.self.inside.domains.items;
+after c = record (the_view c.self.inside) {
   iommu = record c.self.inside.iommu { contexts = c.set.new.self };
   calls = c.self.inside.calls + 1;
 }
 
-does : (c : goal.After-set) → Does (before c) (calls.Attach c.args.device c.args.domain) Done (after c)
+does : (c : goal.After-set) → Does (the_view c.self.inside) (calls.Attach c.args.device c.args.domain) Done (after c)
 does c =
-    let m : State =
-    record { pool = c.self.inside.pool; domains = c.self.inside.domains.items; iommu = c.self.inside.iommu; calls = c.self.inside.calls } in
-    let read = stands m.domains c.place_of.result c.index.result.now c.self.invariant.0.places c.place_of.ensures.low c.index.ensures in
-    let id : c.args.domain ≡ c.place_of.result + 1 = sym c.in-Some.ensures.value ∙ c.place_of.ensures.place in
-    let at : slice_get m.domains c.place_of.result ≡ Some (Some c.in-Some-index.domain) = read ∙ ap Some c.in-Some-index.is in
-    let there : domain_at m.domains c.args.domain ≡ Some c.in-Some-index.domain =
-    at_place m.domains c.args.domain c.place_of.result (Some c.in-Some-index.domain) id at in
+    let found =
+    finds c.self.invariant.0 c.in-Some.ensures.value c.place_of.ensures.place c.place_of.ensures.low c.index.ensures
+    c.in-Some-index.is in
     let row : c.set.new.self
     ≡ slice_set c.self.inside.iommu.contexts c.args.device (Present c.in-Some-index.domain.root W39 c.args.domain) =
     rw (← c.root.ensures, ← c.in-Some.ensures.value) c.set.ensures in
-    attaches (before c) (after c) c.args.device c.args.domain c.in-Some-index.domain c.if-device-ge-DEVICES.false c.self.invariant.0.devices
-    there
+    attaches (the_view c.self.inside) (after c) c.args.device c.args.domain c.in-Some-index.domain c.if-device-ge-DEVICES.false c.self.invariant.0.devices
+    found.there
     (c.get.ensures ∙ ap Some c.in-Absent.is)
-    (ap (λ r. record (before c) { iommu = record c.self.inside.iommu { contexts = r }; calls = c.self.inside.calls + 1 }) row)
+    (ap (λ r. record (the_view c.self.inside) { iommu = record c.self.inside.iommu { contexts = r }; calls = c.self.inside.calls + 1 }) row)
 
 pub returns : goal.returns
 returns c = rw (← c.self.view_is) (does c)
 
 pub invariant_of-self-2 : goal.invariant_of-self-2
 invariant_of-self-2 c = (
-  whole_quiet c.self.inside.frames (before c) (after c) (calls.Attach c.args.device c.args.domain) Done c.self.invariant.0 (does c) refl
+  whole_quiet c.self.inside.frames (the_view c.self.inside) (after c) (calls.Attach c.args.device c.args.domain) Done c.self.invariant.0 (does c) refl
       (ap length c.set.ensures ∙ length-set c.self.inside.iommu.contexts c.args.device (Present c.root.result W39 c.in-Some.id)) refl refl
       refl,
   c.self.invariant.1,

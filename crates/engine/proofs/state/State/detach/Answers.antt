@@ -7,9 +7,9 @@ use Rattle.dmatypes.specs.declared.width.Width.TheVariants.{W39}
 use Rattle.vtdbits.specs.declared.context.ContextEntry.TheVariants.{Absent, Present}
 use Rattle.vtdbits.specs.declared.descriptor.Descriptor.TheVariants.{ContextDevice}
 use Rattle.vtdbits.specs.declared.context.ContextEntry.{ContextEntry}
+use Rattle.engine.specs.contracts.state.State.{the_view}
 use Rattle.engine.specs.declared.iommu.Iommu.{Iommu}
 use Rattle.engine.specs.Ending.{Invalidates}
-use Rattle.engine.specs.State.{State}
 use Rattle.engine.specs.Steps.{Does}
 use Rattle.engine.proofs.devices.Detached.{detach_does, detach_no_device, detach_not_attached, detached, only_width}
 use Rattle.engine.proofs.caches.Sent.{whole_sends}
@@ -29,14 +29,6 @@ returns-in_default-get c =
     (detach_not_attached _ _ c.args.device Absent refl (let low = c.in-Some.ensures.some.0 refl in omega (arith, low))
     c.in_default-get.ensures refl)
 
-abbrev before : goal.After-forget_context → State
-before c = record {
-  pool = c.self.inside.pool;
-  domains = c.self.inside.domains.items;
-  iommu = c.self.inside.iommu;
-  calls = c.self.inside.calls;
-}
-
 -- the row with no entry of the device
 abbrev cleared : goal.After-forget_context → Iommu
 cleared c = record c.self.inside.iommu { contexts = slice_set c.self.inside.iommu.contexts c.args.device Absent }
@@ -48,17 +40,17 @@ sent c =
     c.forget_context.new.self)
     c.clear.ensures (rw (← c.in-Some.ensures.value) c.forget_context.ensures)
 
-does : (c : goal.After-forget_context) → Does (before c) (calls.Detach c.args.device) Done (detached (before c) c.forget_context.new.self)
+does : (c : goal.After-forget_context) → Does (the_view c.self.inside) (calls.Detach c.args.device) Done (detached (the_view c.self.inside) c.forget_context.new.self)
 does c =
     let at : slice_get c.self.inside.iommu.contexts c.args.device ≡ Some (Present c.in-Present.root W39 c.in-Present.domain) =
     c.in-Present.ensures ∙ ap (λ w. Some (Present c.in-Present.root w c.in-Present.domain)) (only_width c.in-Present.width) in
-    detach_does (before c) c.args.device c.in-Present.root c.in-Present.domain c.forget_context.new.self
+    detach_does (the_view c.self.inside) c.args.device c.in-Present.root c.in-Present.domain c.forget_context.new.self
     (let low = c.in-Some.ensures.some.0 refl in omega (arith, low))
     c.self.invariant.0.devices at (sent c)
 
 pub invariant_of-self-2 : goal.invariant_of-self-2
 invariant_of-self-2 c = (
-  whole_sends c.self.inside.frames (before c) (detached (before c) c.forget_context.new.self) (calls.Detach c.args.device) Done
+  whole_sends c.self.inside.frames (the_view c.self.inside) (detached (the_view c.self.inside) c.forget_context.new.self) (calls.Detach c.args.device) Done
       (ContextDevice c.in-Present.domain c.args.device) (slice_set c.self.inside.iommu.contexts c.args.device Absent) c.self.invariant.0
       (does c) refl (length-set c.self.inside.iommu.contexts c.args.device Absent) (sent c),
   c.self.invariant.1,

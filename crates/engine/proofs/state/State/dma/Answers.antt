@@ -2,6 +2,7 @@ use Rattle.std.proofs.Common.{◌≡◌, ◌+◌, ◌∙◌, ap₂, true, false,
 use Rattle.dmatypes.specs.Page.{IsInWindow}
 use Rattle.dmatypes.specs.declared.call.Call.TheVariants as calls
 use Rattle.unit.specs.Caches.{unit_state}
+use Rattle.engine.specs.contracts.state.State.{the_view}
 use Rattle.engine.specs.State.{State, host_in, reached_reply}
 use Rattle.engine.specs.Steps.{Does}
 use Rattle.engine.proofs.requests.Stepped.{request_does, request_hits, request_no_device, request_window}
@@ -23,32 +24,22 @@ returns-then-is_in_window c =
       hit = tt;
     })
 
-abbrev before : goal.After-dma-answer → State
-before c = record {
-  pool = c.self.inside.pool;
-  domains = c.self.inside.domains.items;
-  iommu = c.self.inside.iommu;
-  calls = c.self.inside.calls;
-}
-
 abbrev after : goal.After-dma-answer → State
-after c = record {
-  pool = c.self.inside.pool;
-  domains = c.self.inside.domains.items;
+after c = record (the_view c.self.inside) {
   iommu = record c.self.inside.iommu { unit = c.dma-answer.new.self };
   calls = c.self.inside.calls + 1;
 }
 
 does : (c : goal.After-dma-answer)
-    → Does (before c) (calls.Dma c.args.device c.args.address c.args.access c.args.whim) (reached_reply (host_in c.dma-answer.result))
+    → Does (the_view c.self.inside) (calls.Dma c.args.device c.args.address c.args.access c.args.whim) (reached_reply (host_in c.dma-answer.result))
     (after c)
 does c =
     let outside : IsInWindow c.args.address → ⊥ =
     λ inside. let both : true ≡ false = sym (c.is_in_window.ensures.1 inside) ∙ c.if-is_in_window.false in cc in
-    request_does (before c) (after c) c.args.device c.args.address c.args.access c.args.whim c.dma-answer.result
+    request_does (the_view c.self.inside) (after c) c.args.device c.args.address c.args.access c.args.whim c.dma-answer.result
     c.if-device-ge-DEVICES.false
     outside c.dma-answer.ensures.answers (ap₂ (λ steps done.
-    record (before c) {
+    record (the_view c.self.inside) {
       iommu = record c.self.inside.iommu { unit = unit_state c.dma-answer.new.self.caches steps done };
       calls = c.self.inside.calls + 1;
     })
@@ -58,13 +49,13 @@ pub returns : goal.returns
 returns c = rw (← c.self.view_is) (record {
   does = does c;
   hit =
-      request_hits (before c) c.args.device c.args.address c.args.access c.args.whim c.dma-answer.new.self.caches c.dma-answer.result
+      request_hits (the_view c.self.inside) c.args.device c.args.address c.args.access c.args.whim c.dma-answer.new.self.caches c.dma-answer.result
       c.if-device-ge-DEVICES.false c.dma-answer.ensures.answers;
 })
 
 pub invariant_of-self-2 : goal.invariant_of-self-2
 invariant_of-self-2 c = (
-  whole_quiet c.self.inside.frames (before c) (after c) (calls.Dma c.args.device c.args.address c.args.access c.args.whim)
+  whole_quiet c.self.inside.frames (the_view c.self.inside) (after c) (calls.Dma c.args.device c.args.address c.args.access c.args.whim)
       (reached_reply (host_in c.dma-answer.result)) c.self.invariant.0 (does c) refl refl refl refl c.dma-answer.ensures.steps,
   c.self.invariant.1,
 )

@@ -2,6 +2,7 @@ use Rattle.std.proofs.Common.{◌+◌, None, Some, ap, arith, refl, slice_set}
 use Rattle.dmatypes.specs.declared.call.Call.TheVariants as calls
 use Rattle.dmatypes.specs.declared.refusal.Refusal.TheVariants as refusals
 use Rattle.dmatypes.specs.declared.reply.Reply.TheVariants.{Made, Refused}
+use Rattle.engine.specs.contracts.state.State.{the_view}
 use Rattle.engine.specs.Domains.{Domain}
 use Rattle.engine.specs.State.{State}
 use Rattle.engine.specs.Steps.{Does}
@@ -17,28 +18,18 @@ returns-in_default c =
 
 -- ---- no frame is free
 
-abbrev before_refused : goal.In-Err → State
-before_refused c = record {
-  pool = c.self.inside.pool;
-  domains = c.self.inside.domains.items;
-  iommu = c.self.inside.iommu;
-  calls = c.self.inside.calls;
-}
-
 abbrev refused : goal.In-Err → State
-refused c = record {
+refused c = record (the_view c.self.inside) {
   pool = c.new.new.pool;
-  domains = c.self.inside.domains.items;
-  iommu = c.self.inside.iommu;
   calls = c.self.inside.calls + 1;
 }
 
-refuses : (c : goal.In-Err) → Does (before_refused c) (calls.Domain c.args.mode) (Refused refusals.NoFrames) (refused c)
+refuses : (c : goal.In-Err) → Does (the_view c.self.inside) (calls.Domain c.args.mode) (Refused refusals.NoFrames) (refused c)
 refuses c =
     let vacant = rw c.as_slice.ensures.value at c.in-Some.ensures.vacant in
-    no_root (before_refused c) (refused c) c.args.mode c.in-Some.index
-    (ap (λ pool. record (before_refused c) { pool = pool; calls = c.self.inside.calls + 1 }) c.in-Err.ensures.unchanged)
-    c.self.invariant.0.places vacant.0 (at_place (before_refused c).domains (c.in-Some.index + 1) c.in-Some.index None refl vacant.1)
+    no_root (the_view c.self.inside) (refused c) c.args.mode c.in-Some.index
+    (ap (λ pool. record (the_view c.self.inside) { pool = pool; calls = c.self.inside.calls + 1 }) c.in-Err.ensures.unchanged)
+    c.self.invariant.0.places vacant.0 (at_place c.self.inside.domains.items (c.in-Some.index + 1) c.in-Some.index None refl vacant.1)
     (c.in-Err.ensures.refused.0 refl)
 
 pub returns-in-Err : goal.returns-in-Err
@@ -46,7 +37,7 @@ returns-in-Err c = rw (← c.self.view_is) (refuses c)
 
 pub invariant_of-self-in-Err : goal.invariant_of-self-in-Err
 invariant_of-self-in-Err c = (
-  whole_quiet c.self.inside.frames (before_refused c) (refused c) (calls.Domain c.args.mode) (Refused refusals.NoFrames) c.self.invariant.0
+  whole_quiet c.self.inside.frames (the_view c.self.inside) (refused c) (calls.Domain c.args.mode) (Refused refusals.NoFrames) c.self.invariant.0
       (refuses c) refl refl refl refl refl,
   c.self.invariant.1,
 )
@@ -59,23 +50,14 @@ unwrap-room-requires c =
     c.pop.ensures.variant.1 (some_room _ _ c.in-Some.index c.self.inside.domains.items c.self.invariant.0.places vacant.1
     c.self.invariant.1)
 
-abbrev before : goal.Joined-index_mut → State
-before c = record {
-  pool = c.self.inside.pool;
-  domains = c.self.inside.domains.items;
-  iommu = c.self.inside.iommu;
-  calls = c.self.inside.calls;
-}
-
 abbrev after : goal.Joined-index_mut → State
-after c = record {
+after c = record (the_view c.self.inside) {
   pool = c.new.new.pool;
   domains = slice_set c.self.inside.domains.items c.in-Some.index (Some c.new-2.result);
-  iommu = c.self.inside.iommu;
   calls = c.self.inside.calls + 1;
 }
 
-does : (c : goal.Joined-index_mut) → Does (before c) (calls.Domain c.args.mode) (Made (c.in-Some.index + 1)) (after c)
+does : (c : goal.Joined-index_mut) → Does (the_view c.self.inside) (calls.Domain c.args.mode) (Made (c.in-Some.index + 1)) (after c)
 does c =
     let vacant = rw c.as_slice.ensures.value at c.in-Some.ensures.vacant in
     let grown : IsEmptyTree c.self.inside.pool c.new.new.pool c.in-Ok.tree.root =
@@ -91,11 +73,11 @@ does c =
       frames = c.in-Ok.ensures.frames;
       pool = c.in-Ok.ensures.pool;
     } in
-    makes (before c) (after c) c.args.mode c.in-Some.index c.in-Ok.tree.root c.self.invariant.0.places vacant.0
-    (at_place (before c).domains (c.in-Some.index + 1) c.in-Some.index None refl vacant.1) grown
+    makes (the_view c.self.inside) (after c) c.args.mode c.in-Some.index c.in-Ok.tree.root c.self.invariant.0.places vacant.0
+    (at_place c.self.inside.domains.items (c.in-Some.index + 1) c.in-Some.index None refl vacant.1) grown
     (rw c.new-2.ensures.new at c.new-2.ensures.space) (rw c.new-2.ensures.new at c.new-2.ensures.free)
     (ap (λ (d : Domain).
-    record (before c) {
+    record (the_view c.self.inside) {
       pool = c.new.new.pool;
       domains = slice_set c.self.inside.domains.items c.in-Some.index (Some d);
       calls = c.self.inside.calls + 1;
@@ -110,7 +92,7 @@ invariant_of-self-2 c =
     let vacant = rw c.as_slice.ensures.value at c.in-Some.ensures.vacant in
     let fewer = rw c.unwrap-room.ensures at c.pop.ensures.cases in
     let more = count_set c.self.inside.domains.items c.in-Some.index None (Some c.new-2.result) vacant.1 in (
-      whole_quiet c.self.inside.frames (before c) (after c) (calls.Domain c.args.mode) (Made (c.in-Some.index + 1)) c.self.invariant.0
+      whole_quiet c.self.inside.frames (the_view c.self.inside) (after c) (calls.Domain c.args.mode) (Made (c.in-Some.index + 1)) c.self.invariant.0
           (does c) (length-set c.self.inside.domains.items c.in-Some.index (Some c.new-2.result)) refl refl refl refl,
       record {
         count = omega (arith, more, c.self.invariant.1.count, fewer);

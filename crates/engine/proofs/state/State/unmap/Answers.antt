@@ -1,13 +1,11 @@
-use Rattle.std.proofs.Common.{◌≡◌, ◌+◌, ◌<◌, ◌∙◌, None, Some, ap, arith, length, refl, slice_get, sym}
-use Rattle.dmatypes.specs.declared.call.Call.TheVariants as calls
-use Rattle.dmatypes.specs.declared.refusal.Refusal.TheVariants as refusals
-use Rattle.dmatypes.specs.declared.reply.Reply.TheVariants.{Refused}
+use Rattle.std.proofs.Common.{Some, refl}
 use Rattle.dmatypes.specs.Page.{range_at}
-use Rattle.engine.specs.Domains.{domain_at, parts_of}
+use Rattle.engine.specs.contracts.state.State.{the_view}
+use Rattle.engine.specs.Domains.{parts_of}
 use Rattle.engine.specs.Ending.{IsUnmapped}
 use Rattle.engine.specs.State.{State, parts_in}
-use Rattle.engine.proofs.domains.OneChanged.{at_place, no_id_no_domain, rooms_stay}
-use Rattle.engine.proofs.domains.Found.{keeps_found, put_back, stands}
+use Rattle.engine.proofs.domains.OneChanged.{no_id_no_domain}
+use Rattle.engine.proofs.domains.Found.{Finds, finds, keeps_found, keeps_rooms, put_back}
 use Rattle.engine.proofs.flushes.MayRelease.{can_unmap}
 use Rattle.engine.proofs.caches.Sent.{changed}
 use Rattle.engine.proofs.states.RecordsMade.{domain_in}
@@ -22,132 +20,74 @@ returns-in_default c =
 
 pub returns-in_default-index_mut : goal.returns-in_default-index_mut
 returns-in_default-index_mut c =
-    let m : State =
-    record { pool = c.self.inside.pool; domains = c.self.inside.domains.items; iommu = c.self.inside.iommu; calls = c.self.inside.calls } in
-    let read =
-    stands m.domains c.place_of.result c.index_mut.result.now c.self.invariant.0.places c.place_of.ensures.low
-    c.index_mut.ensures.value in
-    let id : c.args.domain ≡ c.place_of.result + 1 = sym c.in-Some.ensures.value ∙ c.place_of.ensures.place in
-    let at : slice_get m.domains c.place_of.result ≡ Some None = read ∙ ap Some c.in_default-index_mut.is in
-    let none : domain_at m.domains c.args.domain ≡ None = at_place m.domains c.args.domain c.place_of.result None id at in
+    let found =
+    finds c.self.invariant.0 c.in-Some.ensures.value c.place_of.ensures.place c.place_of.ensures.low c.index_mut.ensures.value
+    c.in_default-index_mut.is in
     rw (← c.self.view_is, c.in_default-index_mut.is)
-    (unmap_no_domain m _ c.args.domain c.args.address c.args.pages (put_back m c.place_of.result None at) none)
+    (unmap_no_domain _ _ c.args.domain c.args.address c.args.pages (put_back found) found.there)
 
 pub invariant_of-self-in_default-index_mut : goal.invariant_of-self-in_default-index_mut
 invariant_of-self-in_default-index_mut c =
-    let m : State =
-    record { pool = c.self.inside.pool; domains = c.self.inside.domains.items; iommu = c.self.inside.iommu; calls = c.self.inside.calls } in
-    let read =
-    stands m.domains c.place_of.result c.index_mut.result.now c.self.invariant.0.places c.place_of.ensures.low
-    c.index_mut.ensures.value in
-    let id : c.args.domain ≡ c.place_of.result + 1 = sym c.in-Some.ensures.value ∙ c.place_of.ensures.place in
-    let at : slice_get m.domains c.place_of.result ≡ Some None = read ∙ ap Some c.in_default-index_mut.is in
-    let none : domain_at m.domains c.args.domain ≡ None = at_place m.domains c.args.domain c.place_of.result None id at in
-    rw c.in_default-index_mut.is (keeps_found c.self.inside.frames _ _ m c.place_of.result None
-    (calls.Unmap c.args.domain c.args.address c.args.pages) (Refused refusals.NoDomain) c.self.invariant.0 c.self.invariant.1 at
-    (unmap_no_domain m _ c.args.domain c.args.address c.args.pages (put_back m c.place_of.result None at) none))
+    let found =
+    finds c.self.invariant.0 c.in-Some.ensures.value c.place_of.ensures.place c.place_of.ensures.low c.index_mut.ensures.value
+    c.in_default-index_mut.is in
+    rw c.in_default-index_mut.is (keeps_found c.self.invariant found
+    (unmap_no_domain _ _ c.args.domain c.args.address c.args.pages (put_back found) found.there))
 
 pub returns-in_default-range_at : goal.returns-in_default-range_at
 returns-in_default-range_at c =
-    let m : State =
-    record { pool = c.self.inside.pool; domains = c.self.inside.domains.items; iommu = c.self.inside.iommu; calls = c.self.inside.calls } in
-    let read =
-    stands m.domains c.place_of.result c.index_mut.result.now c.self.invariant.0.places c.place_of.ensures.low
-    c.index_mut.ensures.value in
-    let id : c.args.domain ≡ c.place_of.result + 1 = sym c.in-Some.ensures.value ∙ c.place_of.ensures.place in
-    let at : slice_get m.domains c.place_of.result ≡ Some (Some c.in-Some-index_mut.domain) = read ∙ ap Some c.in-Some-index_mut.is in
-    let there : domain_at m.domains c.args.domain ≡ Some c.in-Some-index_mut.domain =
-    at_place m.domains c.args.domain c.place_of.result (Some c.in-Some-index_mut.domain) id at in
-    rw (← c.self.view_is) (unmap_bad_range m _ c.args.domain c.args.address c.args.pages c.in-Some-index_mut.domain
-    (put_back m c.place_of.result (Some c.in-Some-index_mut.domain) at) there c.in_default-range_at.ensures.none)
+    let found =
+    finds c.self.invariant.0 c.in-Some.ensures.value c.place_of.ensures.place c.place_of.ensures.low c.index_mut.ensures.value
+    c.in-Some-index_mut.is in
+    rw (← c.self.view_is) (unmap_bad_range _ _ c.args.domain c.args.address c.args.pages c.in-Some-index_mut.domain (put_back found)
+    found.there c.in_default-range_at.ensures.none)
 
 pub invariant_of-self-in_default-range_at : goal.invariant_of-self-in_default-range_at
 invariant_of-self-in_default-range_at c =
-    let m : State =
-    record { pool = c.self.inside.pool; domains = c.self.inside.domains.items; iommu = c.self.inside.iommu; calls = c.self.inside.calls } in
-    let read =
-    stands m.domains c.place_of.result c.index_mut.result.now c.self.invariant.0.places c.place_of.ensures.low
-    c.index_mut.ensures.value in
-    let id : c.args.domain ≡ c.place_of.result + 1 = sym c.in-Some.ensures.value ∙ c.place_of.ensures.place in
-    let at : slice_get m.domains c.place_of.result ≡ Some (Some c.in-Some-index_mut.domain) = read ∙ ap Some c.in-Some-index_mut.is in
-    let there : domain_at m.domains c.args.domain ≡ Some c.in-Some-index_mut.domain =
-    at_place m.domains c.args.domain c.place_of.result (Some c.in-Some-index_mut.domain) id at in
-    keeps_found c.self.inside.frames _ _ m c.place_of.result (Some c.in-Some-index_mut.domain)
-    (calls.Unmap c.args.domain c.args.address c.args.pages) (Refused refusals.BadRange) c.self.invariant.0 c.self.invariant.1 at
-    (unmap_bad_range m _ c.args.domain c.args.address c.args.pages c.in-Some-index_mut.domain
-    (put_back m c.place_of.result (Some c.in-Some-index_mut.domain) at) there c.in_default-range_at.ensures.none)
+    let found =
+    finds c.self.invariant.0 c.in-Some.ensures.value c.place_of.ensures.place c.place_of.ensures.low c.index_mut.ensures.value
+    c.in-Some-index_mut.is in
+    keeps_found c.self.invariant found (unmap_bad_range _ _ c.args.domain c.args.address c.args.pages c.in-Some-index_mut.domain
+    (put_back found) found.there c.in_default-range_at.ensures.none)
 
 pub unmap-requires-clause-can : goal.unmap-requires-clause-can
 unmap-requires-clause-can c =
-    let m : State =
-    record { pool = c.self.inside.pool; domains = c.self.inside.domains.items; iommu = c.self.inside.iommu; calls = c.self.inside.calls } in
-    let read =
-    stands m.domains c.place_of.result c.index_mut.result.now c.self.invariant.0.places c.place_of.ensures.low
-    c.index_mut.ensures.value in
-    let id : c.args.domain ≡ c.place_of.result + 1 = sym c.in-Some.ensures.value ∙ c.place_of.ensures.place in
-    let at : slice_get m.domains c.place_of.result ≡ Some (Some c.in-Some-index_mut.domain) = read ∙ ap Some c.in-Some-index_mut.is in
-    let there : domain_at m.domains c.args.domain ≡ Some c.in-Some-index_mut.domain =
-    at_place m.domains c.args.domain c.place_of.result (Some c.in-Some-index_mut.domain) id at in
-    can_unmap m c.args.domain c.in-Some-index_mut.domain c.self.invariant.0.of_world c.self.invariant.0.places there
+    let found =
+    finds c.self.invariant.0 c.in-Some.ensures.value c.place_of.ensures.place c.place_of.ensures.low c.index_mut.ensures.value
+    c.in-Some-index_mut.is in
+    can_unmap _ c.args.domain c.in-Some-index_mut.domain c.self.invariant.0.of_world c.self.invariant.0.places found.there
 
 pub unmap-requires-clause-made : goal.unmap-requires-clause-made
 unmap-requires-clause-made c =
-    let m : State =
-    record { pool = c.self.inside.pool; domains = c.self.inside.domains.items; iommu = c.self.inside.iommu; calls = c.self.inside.calls } in
-    let read =
-    stands m.domains c.place_of.result c.index_mut.result.now c.self.invariant.0.places c.place_of.ensures.low
-    c.index_mut.ensures.value in
-    let id : c.args.domain ≡ c.place_of.result + 1 = sym c.in-Some.ensures.value ∙ c.place_of.ensures.place in
-    let at : slice_get m.domains c.place_of.result ≡ Some (Some c.in-Some-index_mut.domain) = read ∙ ap Some c.in-Some-index_mut.is in
-    let there : domain_at m.domains c.args.domain ≡ Some c.in-Some-index_mut.domain =
-    at_place m.domains c.args.domain c.place_of.result (Some c.in-Some-index_mut.domain) id at in
-    c.self.invariant.0.made c.in-Some-index_mut.domain (domain_in m.domains c.args.domain c.in-Some-index_mut.domain there)
+    let found =
+    finds c.self.invariant.0 c.in-Some.ensures.value c.place_of.ensures.place c.place_of.ensures.low c.index_mut.ensures.value
+    c.in-Some-index_mut.is in
+    c.self.invariant.0.made c.in-Some-index_mut.domain (domain_in _ c.args.domain c.in-Some-index_mut.domain found.there)
 
 -- ---- the domain answers
 
-abbrev before : goal.After-self-2-1 → State
-before c = record {
-  pool = c.self.inside.pool;
-  domains = c.self.inside.domains.items;
-  iommu = c.self.inside.iommu;
-  calls = c.self.inside.calls;
-}
+found_by : (c : goal.After-self-2-1) → Finds (the_view c.self.inside) c.args.domain c.place_of.result (Some c.in-Some-index_mut.domain)
+found_by c =
+    finds c.self.invariant.0 c.in-Some.ensures.value c.place_of.ensures.place c.place_of.ensures.low c.index_mut.ensures.value
+    c.in-Some-index_mut.is
 
 abbrev after : goal.After-self-2-1 → State
-after c = changed (before c) c.place_of.result c.unmap.new.pool (Some c.unmap.new.self) c.unmap.new.iommu
+after c = changed (the_view c.self.inside) c.place_of.result c.unmap.new.pool (Some c.unmap.new.self) c.unmap.new.iommu
 
 answered : (c : goal.After-self-2-1)
-    → AnswersUnmap c.self.inside.frames (before c) c.args.domain c.args.address c.args.pages c.unmap.result (after c)
+    → AnswersUnmap c.self.inside.frames (the_view c.self.inside) c.args.domain c.args.address c.args.pages c.unmap.result (after c)
 answered c =
-    let m : State =
-    record { pool = c.self.inside.pool; domains = c.self.inside.domains.items; iommu = c.self.inside.iommu; calls = c.self.inside.calls } in
-    let read =
-    stands m.domains c.place_of.result c.index_mut.result.now c.self.invariant.0.places c.place_of.ensures.low
-    c.index_mut.ensures.value in
-    let id : c.args.domain ≡ c.place_of.result + 1 = sym c.in-Some.ensures.value ∙ c.place_of.ensures.place in
-    let at : slice_get m.domains c.place_of.result ≡ Some (Some c.in-Some-index_mut.domain) = read ∙ ap Some c.in-Some-index_mut.is in
-    let there : domain_at m.domains c.args.domain ≡ Some c.in-Some-index_mut.domain =
-    at_place m.domains c.args.domain c.place_of.result (Some c.in-Some-index_mut.domain) id at in
-    let less : c.place_of.result < length m.domains = omega (arith, c.self.invariant.0.places, c.place_of.ensures.low) in
+    let found = found_by c in
     let range = c.in-Some-range_at.ensures.some in
-    let ended : IsUnmapped (parts_in m c.in-Some-index_mut.domain) c.args.domain (range_at c.args.address c.args.pages) c.unmap.result
-    (parts_of c.unmap.new.pool c.unmap.new.self c.unmap.new.iommu) =
+    let ended : IsUnmapped (parts_in (the_view c.self.inside) c.in-Some-index_mut.domain) c.args.domain
+    (range_at c.args.address c.args.pages) c.unmap.result (parts_of c.unmap.new.pool c.unmap.new.self c.unmap.new.iommu) =
     rw (← c.in-Some.ensures.value, ← range.1) c.unmap.ensures in
-    unmap_answered c.self.inside.frames m c.args.domain c.args.address c.args.pages c.place_of.result c.in-Some-index_mut.domain
-    c.unmap.new.self c.unmap.new.pool c.unmap.new.iommu c.unmap.result c.self.invariant.0 less id at there range.0 range.2 ended
+    unmap_answered c.self.inside.frames (the_view c.self.inside) c.args.domain c.args.address c.args.pages c.place_of.result
+    c.in-Some-index_mut.domain c.unmap.new.self c.unmap.new.pool c.unmap.new.iommu c.unmap.result c.self.invariant.0 found.less found.id
+    found.at found.there range.0 range.2 ended
 
 pub invariant_of-self-2 : goal.invariant_of-self-2
-invariant_of-self-2 c =
-    let m : State =
-    record { pool = c.self.inside.pool; domains = c.self.inside.domains.items; iommu = c.self.inside.iommu; calls = c.self.inside.calls } in
-    let read =
-    stands m.domains c.place_of.result c.index_mut.result.now c.self.invariant.0.places c.place_of.ensures.low
-    c.index_mut.ensures.value in
-    let id : c.args.domain ≡ c.place_of.result + 1 = sym c.in-Some.ensures.value ∙ c.place_of.ensures.place in
-    let at : slice_get m.domains c.place_of.result ≡ Some (Some c.in-Some-index_mut.domain) = read ∙ ap Some c.in-Some-index_mut.is in
-    let there : domain_at m.domains c.args.domain ≡ Some c.in-Some-index_mut.domain =
-    at_place m.domains c.args.domain c.place_of.result (Some c.in-Some-index_mut.domain) id at in
-    ((answered c).whole, rooms_stay _ _ c.place_of.result m.domains c.in-Some-index_mut.domain c.unmap.new.self at c.self.invariant.1)
+invariant_of-self-2 c = ((answered c).whole, keeps_rooms (found_by c) c.unmap.new.self c.self.invariant.1)
 
 pub returns : goal.returns
 returns c = rw (← c.self.view_is) (answered c).does
