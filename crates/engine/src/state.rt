@@ -49,7 +49,6 @@ pub struct Answer {
 /// and the number of calls made. Its type keeps that it is a state of some world.
 #[derive(Drop)]
 pub struct State {
-    frames: u64,
     pool: Pool,
     domains: Vec<Option<Domain>>,
     rooms: Vec<Room>,
@@ -66,7 +65,7 @@ impl Model for State {
 
     ghost view = { λ s. record { pool = s.pool; domains = s.domains.items; iommu = s.iommu; calls = s.calls } };
 
-    ghost invariant = { λ s. IsWhole s.frames (record { pool = s.pool; domains = s.domains.items; iommu = s.iommu; calls = s.calls })
+    ghost invariant = { λ s. IsWhole s.pool.frames (record { pool = s.pool; domains = s.domains.items; iommu = s.iommu; calls = s.calls })
         × HasRooms (vec_len s.rooms) (vec_capacity s.rooms) s.domains.items };
 }
 
@@ -79,7 +78,6 @@ impl State {
         ensures empty { IfOk result (λ state. Quarantine state (empty frames)) }
     {
         Ok(State {
-            frames,
             pool: Pool::new(alloc, frames)?,
             domains: no_domains(alloc)?,
             rooms: all_rooms(alloc)?,
@@ -227,7 +225,7 @@ impl State {
         let Some(domain) = &mut self.domains[place_of(id)] else {
             return Err(Refusal::NoDomain);
         };
-        let wanted = match judge(self.frames, segments, order, rights) {
+        let wanted = match judge(self.pool.frames(), segments, order, rights) {
             Ok(wanted) => wanted,
             Err(refusal) => return Err(refusal),
         };
@@ -320,7 +318,7 @@ impl State {
     pub fn keeps(&self)
         ensures { IsWhole self.now.pool.frames self.now }
     {
-        let _ = &self.frames;
+        let _ = &self.calls;
     }
 }
 

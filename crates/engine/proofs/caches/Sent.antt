@@ -1,5 +1,5 @@
 -- A call that sends a descriptor and a wait, and ends once the unit did both: what the type of a state keeps.
-use Rattle.std.proofs.Common.{◌≡◌, ℕ, ◌+◌, ◌∙◌, List, Option, length, ap, arith, slice_set}
+use Rattle.std.proofs.Common.{◌≡◌, ℕ, ◌+◌, ◌∙◌, List, Option, length, ap, arith, refl, slice_set}
 use Rattle.dmatypes.specs.declared.call.Call.{Call}
 use Rattle.dmatypes.specs.declared.reply.Reply.{Reply}
 use Rattle.dmatypes.specs.Step.{next}
@@ -14,20 +14,19 @@ use Rattle.engine.specs.State.{State}
 use Rattle.engine.specs.Steps.{Does}
 use Rattle.engine.specs.Whole.{IsWhole}
 use Rattle.engine.proofs.states.RecordsMade.{made_kept}
-use Rattle.engine.proofs.states.Refused.{frames_kept}
 
 -- the state with another domain at a place, or none, other table frames and another IOMMU
 abbrev pub changed : State → ℕ → Pool → Option Domain → Iommu → State
 changed m i pool new x = record { pool = pool; domains = slice_set m.domains i new; iommu = x; calls = m.calls + 1 }
 
-pub whole_sends : (frames : ℕ) (m t : State) (call : Call) (reply : Reply) (d : Descriptor) (row : List ContextEntry) → IsWhole frames m
+pub whole_sends : (m t : State) (call : Call) (reply : Reply) (d : Descriptor) (row : List ContextEntry) → IsWhole m.pool.frames m
     → Does m call reply t → length t.domains ≡ length m.domains → length row ≡ length m.iommu.contexts
-    → Invalidates (record m.iommu { contexts = row }) d t.iommu → IsWhole frames t
-whole_sends frames m t call reply d row whole does domains rows sends = record {
+    → Invalidates (record m.iommu { contexts = row }) d t.iommu → IsWhole t.pool.frames t
+whole_sends m t call reply d row whole does domains rows sends = record {
   of_world = (next whole.of_world.0 call reply, (does.steps whole.of_world.0 whole.of_world.1).1);
   places = domains ∙ whole.places;
   devices = ap length sends.contexts ∙ rows ∙ whole.devices;
-  frames_are = whole.frames_are ∙ frames_kept m t call reply whole.of_world does;
+  frames_are = refl;
   idle = ap (λ (r : Ring). r.waiting) sends.done;
   status = (let same = ap (λ (r : Ring). r.status) sends.done in omega (arith, same));
   sent = omega (arith, sends.number, whole.sent, does.calls);

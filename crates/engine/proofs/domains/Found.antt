@@ -34,13 +34,13 @@ module _ {m : State} {domain i : ℕ} where
       ap (λ (ds : List (Option Domain)). record m { domains = ds; calls = m.calls + 1 }) (set_again m.domains i o found.at)
 
   -- what the type of a state keeps then
-  pub keeps_found : {frames rooms capacity : ℕ} {o : Option Domain} {call : Call} {reply : Reply}
-      → IsWhole frames m × HasRooms rooms capacity m.domains → Finds m domain i o
+  pub keeps_found : {rooms capacity : ℕ} {o : Option Domain} {call : Call} {reply : Reply}
+      → IsWhole m.pool.frames m × HasRooms rooms capacity m.domains → Finds m domain i o
       → Does m call reply (record m { domains = slice_set m.domains i o; calls = m.calls + 1 })
-      → IsWhole frames (record m { domains = slice_set m.domains i o; calls = m.calls + 1 })
+      → IsWhole m.pool.frames (record m { domains = slice_set m.domains i o; calls = m.calls + 1 })
       × HasRooms rooms capacity (slice_set m.domains i o)
-  keeps_found {frames} {rooms} {capacity} {o} {call} {reply} keeps found does = (
-    whole_quiet frames m (record m { domains = slice_set m.domains i o; calls = m.calls + 1 }) call reply keeps.0 does
+  keeps_found {rooms} {capacity} {o} {call} {reply} keeps found does = (
+    whole_quiet m (record m { domains = slice_set m.domains i o; calls = m.calls + 1 }) call reply keeps.0 does
         (ap length (set_again m.domains i o found.at)) refl refl refl refl,
     subst (HasRooms rooms capacity) (sym (set_again m.domains i o found.at)) keeps.1,
   )

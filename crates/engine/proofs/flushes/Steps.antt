@@ -80,11 +80,11 @@ drop_attached m t domain (w, q) is (v, to) = by_entry (slice_get m.iommu.context
 -- ---- done
 
 -- a call is done, and the type of the state keeps what it does
-pub record Did (frames : ℕ) (m : State) (call : Call) (reply : Reply) (t : State) : Type 0 where
+pub record Did (m : State) (call : Call) (reply : Reply) (t : State) : Type 0 where
   pub does : Does m call reply t
-  pub whole : IsWhole frames t
+  pub whole : IsWhole t.pool.frames t
 
-module _ (frames : ℕ) (m : State) (domain i : ℕ) (h : Domain) (pool : Pool) (x : Iommu) (whole : IsWhole frames m)
+module _ (m : State) (domain i : ℕ) (h : Domain) (pool : Pool) (x : Iommu) (whole : IsWhole m.pool.frames m)
     (less : i < length m.domains) (id : domain ≡ i + 1)
     (there : domain_at m.domains domain ≡ Some h) where
   place : domain - 1 ≡ i
@@ -100,9 +100,9 @@ module _ (frames : ℕ) (m : State) (domain i : ℕ) (h : Domain) (pool : Pool) 
 
   -- the type of the state keeps what an invalidation of the domain leaves
   sends : (new : Option Domain) {call : Call} {reply : Reply} → Does m call reply (changed m i pool new x)
-      → Invalidates m.iommu (IotlbDomain domain) x → IsWhole frames (changed m i pool new x)
+      → Invalidates m.iommu (IotlbDomain domain) x → IsWhole pool.frames (changed m i pool new x)
   sends new {call} {reply} does invalidates =
-      whole_sends frames m (changed m i pool new x) call reply (IotlbDomain domain) m.iommu.contexts whole does (length-set m.domains i new)
+      whole_sends m (changed m i pool new x) call reply (IotlbDomain domain) m.iommu.contexts whole does (length-set m.domains i new)
       refl invalidates
 
   module _ (new : Domain) (released : ℕ) (count : released ≡ length h.records)
@@ -130,7 +130,7 @@ module _ (frames : ℕ) (m : State) (domain i : ℕ) (h : Domain) (pool : Pool) 
       calls = refl;
     }
 
-    pub flush_did : Did frames m (calls.Flush domain) (Flushed released) after_flush
+    pub flush_did : Did m (calls.Flush domain) (Flushed released) after_flush
     flush_did = record { does = flush_does; whole = sends (Some new) flush_does flushes.invalidates }
 
   module _ (nobody : (v : ℕ) → attached (slice_get m.iommu.contexts v) ≡ Some domain → ⊥) (closes : Closes (parts_in m h) domain pool x)
@@ -155,7 +155,7 @@ module _ (frames : ℕ) (m : State) (domain i : ℕ) (h : Domain) (pool : Pool) 
         calls = refl;
       }
 
-      pub drop_did : Did frames m (calls.Drop domain) Done after_drop
+      pub drop_did : Did m (calls.Drop domain) Done after_drop
       drop_did = record {
         does = drop_does;
         whole =

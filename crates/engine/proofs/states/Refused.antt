@@ -1,5 +1,5 @@
 -- A refused call: the state counts it and stays.
-use Rattle.std.proofs.Common.{◌≡◌, ℕ, ◌+◌, ◌∙◌, length, refl, sym, ap, arith}
+use Rattle.std.proofs.Common.{◌≡◌, ◌+◌, ◌∙◌, length, refl, sym, ap, arith}
 use Rattle.dmatypes.specs.declared.call.Call.{Call}
 use Rattle.dmatypes.specs.declared.call.Call.TheVariants as calls
 use Rattle.dmatypes.specs.declared.reply.Reply.{Reply}
@@ -89,15 +89,15 @@ pub frames_kept : (m t : State) (call : Call) (reply : Reply) → IsOfSomeWorld 
 frames_kept m t call reply (w, q) does = sym q.table_frames ∙ sym (next_frames w call reply) ∙ (does.steps w q).1.table_frames
 
 -- what the type of a state keeps, after a call that sends nothing
-pub whole_quiet : (frames : ℕ) (m t : State) (call : Call) (reply : Reply) → IsWhole frames m → Does m call reply t
+pub whole_quiet : (m t : State) (call : Call) (reply : Reply) → IsWhole m.pool.frames m → Does m call reply t
     → length t.domains ≡ length m.domains → length t.iommu.contexts ≡ length m.iommu.contexts → t.iommu.ring ≡ m.iommu.ring
-    → t.iommu.sent ≡ m.iommu.sent → t.iommu.unit.steps ≡ m.iommu.unit.steps → IsWhole frames t
-whole_quiet frames m t call reply whole does domains row ring sent steps =
+    → t.iommu.sent ≡ m.iommu.sent → t.iommu.unit.steps ≡ m.iommu.unit.steps → IsWhole t.pool.frames t
+whole_quiet m t call reply whole does domains row ring sent steps =
     record {
       of_world = (next whole.of_world.0 call reply, (does.steps whole.of_world.0 whole.of_world.1).1);
       places = domains ∙ whole.places;
       devices = row ∙ whole.devices;
-      frames_are = whole.frames_are ∙ frames_kept m t call reply whole.of_world does;
+      frames_are = refl;
       idle = ap (λ (r : Ring). r.waiting) ring ∙ whole.idle;
       status = (let same = ap (λ (r : Ring). r.status) ring in omega (arith, same, sent, whole.status));
       sent = omega (arith, sent, whole.sent, does.calls);

@@ -145,43 +145,43 @@ module _ (m : State) (address pages i released : ℕ) (h new : Domain) (pool : P
         )
   ]
 
-  unmap_whole : (frames : ℕ) → IsWhole frames m → IsUnmapped old_parts (i + 1) (range_at address pages) (Ok released) new_parts
-      → IsWhole frames after
-  unmap_whole frames is does = elim (quiet_or_sent h.mode does.1) [
+  unmap_whole : IsWhole m.pool.frames m → IsUnmapped old_parts (i + 1) (range_at address pages) (Ok released) new_parts
+      → IsWhole pool.frames after
+  unmap_whole is does = elim (quiet_or_sent h.mode does.1) [
     | inl quiet ↦
-        whole_quiet frames m after (calls.Unmap (i + 1) address pages) (Unmapped released) is (unmap_done does)
+        whole_quiet m after (calls.Unmap (i + 1) address pages) (Unmapped released) is (unmap_done does)
         (length-set m.domains i (Some new)) (ap (λ (y : Iommu). length y.contexts) quiet)
         (ap (λ (y : Iommu). y.ring) quiet) (ap (λ (y : Iommu). y.sent) quiet) (ap (λ (y : Iommu). y.unit.steps) quiet)
     | inr sent ↦
-        whole_sends frames m after (calls.Unmap (i + 1) address pages) (Unmapped released) sent.0 m.iommu.contexts is (unmap_done does)
+        whole_sends m after (calls.Unmap (i + 1) address pages) (Unmapped released) sent.0 m.iommu.contexts is (unmap_done does)
         (length-set m.domains i (Some new)) refl sent.1
   ]
 
 -- ---- both
 
-pub record AnswersUnmap (frames : ℕ) (m : State) (domain address pages : ℕ) (answer : Result ℕ Refusal) (t : State) : Type 0 where
+pub record AnswersUnmap (m : State) (domain address pages : ℕ) (answer : Result ℕ Refusal) (t : State) : Type 0 where
   pub does : Does m (calls.Unmap domain address pages) (unmapped_reply answer) t
-  pub whole : IsWhole frames t
+  pub whole : IsWhole t.pool.frames t
 
-pub unmap_answered : (frames : ℕ) (m : State) (domain address pages i : ℕ) (h new : Domain) (pool : Pool) (x : Iommu)
-    (answer : Result ℕ Refusal) → IsWhole frames m → i < length m.domains → domain ≡ i + 1 → slice_get m.domains i ≡ Some (Some h)
+pub unmap_answered : (m : State) (domain address pages i : ℕ) (h new : Domain) (pool : Pool) (x : Iommu)
+    (answer : Result ℕ Refusal) → IsWhole m.pool.frames m → i < length m.domains → domain ≡ i + 1 → slice_get m.domains i ≡ Some (Some h)
     → domain_at m.domains domain ≡ Some h → address % PAGE_BYTES ≡ 0 → IsPageRange (range_at address pages)
     → IsUnmapped (parts_in m h) domain (range_at address pages) answer (parts_of pool new x)
-    → AnswersUnmap frames m domain address pages answer (changed m i pool (Some new) x)
-unmap_answered frames m domain address pages i h new pool x (Ok released) is less id at there whole fits ended =
+    → AnswersUnmap m domain address pages answer (changed m i pool (Some new) x)
+unmap_answered m domain address pages i h new pool x (Ok released) is less id at there whole fits ended =
     let there' : domain_at m.domains (i + 1) ≡ Some h = rw id at there in
     let ended' : IsUnmapped (parts_in m h) (i + 1) (range_at address pages) (Ok released) (parts_of pool new x) = rw id at ended in
     record {
       does = rw id (unmap_done m address pages i released h new pool x is.places less there' whole fits ended');
-      whole = unmap_whole m address pages i released h new pool x is.places less there' whole fits frames is ended';
+      whole = unmap_whole m address pages i released h new pool x is.places less there' whole fits is ended';
     }
-unmap_answered frames m domain address pages i h new pool x (Err refusal) is less id at there whole fits ended =
+unmap_answered m domain address pages i h new pool x (Err refusal) is less id at there whole fits ended =
     let does = unmap_refused m domain address pages i h new pool x refusal at there whole fits ended in
     let quiet : x ≡ m.iommu = ap (λ (p : Parts). p.iommu) ended.0 in
     record {
       does = does;
       whole =
-          whole_quiet frames m (changed m i pool (Some new) x) (calls.Unmap domain address pages) (Refused refusal) is does
+          whole_quiet m (changed m i pool (Some new) x) (calls.Unmap domain address pages) (Refused refusal) is does
           (length-set m.domains i (Some new)) (ap (λ (y : Iommu). length y.contexts) quiet)
           (ap (λ (y : Iommu). y.ring) quiet) (ap (λ (y : Iommu). y.sent) quiet) (ap (λ (y : Iommu). y.unit.steps) quiet);
     }

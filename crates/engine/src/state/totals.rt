@@ -40,7 +40,7 @@ impl State {
         let held = held_by_all(self.domains.as_slice());
         Totals {
             free,
-            used: self.frames.saturating_sub(free).saturating_sub(held),
+            used: self.pool.frames().saturating_sub(free).saturating_sub(held),
             held,
             // No call opens a ticket yet.
             tickets: 0,

@@ -35,7 +35,8 @@ returns-in_default-get c =
     finds c.self.invariant.0 c.in-Some.ensures.value c.place_of.ensures.place c.place_of.ensures.low c.index.ensures
     c.in-Some-index.is in
     rw (← c.self.view_is)
-    (attach_busy _ _ c.args.device c.args.domain c.in-Some-index.domain c.get.result refl c.if-device-ge-DEVICES.false found.there c.get.ensures
+    (attach_busy _ _ c.args.device c.args.domain c.in-Some-index.domain c.get.result refl c.if-device-ge-DEVICES.false found.there
+    c.get.ensures
     c.in_default-get.not-Absent)
 
 abbrev after : goal.After-set → State
@@ -52,7 +53,8 @@ does c =
     let row : c.set.new.self
     ≡ slice_set c.self.inside.iommu.contexts c.args.device (Present c.in-Some-index.domain.root W39 c.args.domain) =
     rw (← c.root.ensures, ← c.in-Some.ensures.value) c.set.ensures in
-    attaches (the_view c.self.inside) (after c) c.args.device c.args.domain c.in-Some-index.domain c.if-device-ge-DEVICES.false c.self.invariant.0.devices
+    attaches (the_view c.self.inside) (after c) c.args.device c.args.domain c.in-Some-index.domain c.if-device-ge-DEVICES.false
+    c.self.invariant.0.devices
     found.there
     (c.get.ensures ∙ ap Some c.in-Absent.is)
     (ap (λ r. record (the_view c.self.inside) { iommu = record c.self.inside.iommu { contexts = r }; calls = c.self.inside.calls + 1 }) row)
@@ -62,7 +64,8 @@ returns c = rw (← c.self.view_is) (does c)
 
 pub invariant_of-self-2 : goal.invariant_of-self-2
 invariant_of-self-2 c = (
-  whole_quiet c.self.inside.frames (the_view c.self.inside) (after c) (calls.Attach c.args.device c.args.domain) Done c.self.invariant.0 (does c) refl
+  whole_quiet (the_view c.self.inside) (after c) (calls.Attach c.args.device c.args.domain) Done c.self.invariant.0
+      (does c) refl
       (ap length c.set.ensures ∙ length-set c.self.inside.iommu.contexts c.args.device (Present c.root.result W39 c.in-Some.id)) refl refl
       refl,
   c.self.invariant.1,

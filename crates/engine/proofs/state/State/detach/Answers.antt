@@ -40,7 +40,8 @@ sent c =
     c.forget_context.new.self)
     c.clear.ensures (rw (← c.in-Some.ensures.value) c.forget_context.ensures)
 
-does : (c : goal.After-forget_context) → Does (the_view c.self.inside) (calls.Detach c.args.device) Done (detached (the_view c.self.inside) c.forget_context.new.self)
+does : (c : goal.After-forget_context)
+    → Does (the_view c.self.inside) (calls.Detach c.args.device) Done (detached (the_view c.self.inside) c.forget_context.new.self)
 does c =
     let at : slice_get c.self.inside.iommu.contexts c.args.device ≡ Some (Present c.in-Present.root W39 c.in-Present.domain) =
     c.in-Present.ensures ∙ ap (λ w. Some (Present c.in-Present.root w c.in-Present.domain)) (only_width c.in-Present.width) in
@@ -50,7 +51,8 @@ does c =
 
 pub invariant_of-self-2 : goal.invariant_of-self-2
 invariant_of-self-2 c = (
-  whole_sends c.self.inside.frames (the_view c.self.inside) (detached (the_view c.self.inside) c.forget_context.new.self) (calls.Detach c.args.device) Done
+  whole_sends (the_view c.self.inside) (detached (the_view c.self.inside) c.forget_context.new.self)
+      (calls.Detach c.args.device) Done
       (ContextDevice c.in-Present.domain c.args.device) (slice_set c.self.inside.iommu.contexts c.args.device Absent) c.self.invariant.0
       (does c) refl (length-set c.self.inside.iommu.contexts c.args.device Absent) (sent c),
   c.self.invariant.1,

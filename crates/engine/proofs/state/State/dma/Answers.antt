@@ -31,7 +31,8 @@ after c = record (the_view c.self.inside) {
 }
 
 does : (c : goal.After-dma-answer)
-    → Does (the_view c.self.inside) (calls.Dma c.args.device c.args.address c.args.access c.args.whim) (reached_reply (host_in c.dma-answer.result))
+    → Does (the_view c.self.inside) (calls.Dma c.args.device c.args.address c.args.access c.args.whim)
+    (reached_reply (host_in c.dma-answer.result))
     (after c)
 does c =
     let outside : IsInWindow c.args.address → ⊥ =
@@ -49,13 +50,14 @@ pub returns : goal.returns
 returns c = rw (← c.self.view_is) (record {
   does = does c;
   hit =
-      request_hits (the_view c.self.inside) c.args.device c.args.address c.args.access c.args.whim c.dma-answer.new.self.caches c.dma-answer.result
+      request_hits (the_view c.self.inside) c.args.device c.args.address c.args.access c.args.whim c.dma-answer.new.self.caches
+      c.dma-answer.result
       c.if-device-ge-DEVICES.false c.dma-answer.ensures.answers;
 })
 
 pub invariant_of-self-2 : goal.invariant_of-self-2
 invariant_of-self-2 c = (
-  whole_quiet c.self.inside.frames (the_view c.self.inside) (after c) (calls.Dma c.args.device c.args.address c.args.access c.args.whim)
+  whole_quiet (the_view c.self.inside) (after c) (calls.Dma c.args.device c.args.address c.args.access c.args.whim)
       (reached_reply (host_in c.dma-answer.result)) c.self.invariant.0 (does c) refl refl refl refl c.dma-answer.ensures.steps,
   c.self.invariant.1,
 )

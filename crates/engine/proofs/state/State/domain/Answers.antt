@@ -37,7 +37,8 @@ returns-in-Err c = rw (← c.self.view_is) (refuses c)
 
 pub invariant_of-self-in-Err : goal.invariant_of-self-in-Err
 invariant_of-self-in-Err c = (
-  whole_quiet c.self.inside.frames (the_view c.self.inside) (refused c) (calls.Domain c.args.mode) (Refused refusals.NoFrames) c.self.invariant.0
+  whole_quiet (the_view c.self.inside) (refused c) (calls.Domain c.args.mode) (Refused refusals.NoFrames)
+      c.self.invariant.0
       (refuses c) refl refl refl refl refl,
   c.self.invariant.1,
 )
@@ -92,7 +93,8 @@ invariant_of-self-2 c =
     let vacant = rw c.as_slice.ensures.value at c.in-Some.ensures.vacant in
     let fewer = rw c.unwrap-room.ensures at c.pop.ensures.cases in
     let more = count_set c.self.inside.domains.items c.in-Some.index None (Some c.new-2.result) vacant.1 in (
-      whole_quiet c.self.inside.frames (the_view c.self.inside) (after c) (calls.Domain c.args.mode) (Made (c.in-Some.index + 1)) c.self.invariant.0
+      whole_quiet (the_view c.self.inside) (after c) (calls.Domain c.args.mode) (Made (c.in-Some.index + 1))
+          c.self.invariant.0
           (does c) (length-set c.self.inside.domains.items c.in-Some.index (Some c.new-2.result)) refl refl refl refl,
       record {
         count = omega (arith, more, c.self.invariant.1.count, fewer);

@@ -59,7 +59,7 @@ found_by c =
     finds c.self.invariant.0 c.in-Some.ensures.value c.place_of.ensures.place c.place_of.ensures.low c.index_mut.ensures.value
     (sym c.in-Some-take.ensures.value)
 
-did : (c : goal.Joined-push) → Did c.self.inside.frames (the_view c.self.inside) (calls.Drop c.args.domain) Done
+did : (c : goal.Joined-push) → Did (the_view c.self.inside) (calls.Drop c.args.domain) Done
     (changed (the_view c.self.inside) c.place_of.result c.close-room.new.pool None c.close-room.new.iommu)
 did c =
     let found = found_by c in
@@ -68,7 +68,7 @@ did c =
     let closes : Closes (parts_in (the_view c.self.inside) c.in-Some-take.domain) c.args.domain c.close-room.new.pool
     c.close-room.new.iommu =
     rw (← c.in-Some.ensures.value) c.close-room.ensures in
-    drop_did c.self.inside.frames (the_view c.self.inside) c.args.domain c.place_of.result c.in-Some-take.domain c.close-room.new.pool
+    drop_did (the_view c.self.inside) c.args.domain c.place_of.result c.in-Some-take.domain c.close-room.new.pool
     c.close-room.new.iommu c.self.invariant.0 found.less found.id found.there nobody closes
 
 pub invariant_of-self-2 : goal.invariant_of-self-2

@@ -18,7 +18,8 @@ after c = record (the_view c.self.inside) {
 does : (c : goal.After-evict) → Does (the_view c.self.inside) (calls.Evict c.args.kind c.args.place) Done (after c)
 does c =
     evict_does (the_view c.self.inside) (after c) c.args.kind c.args.place (ap
-    (λ (u : UnitState). record (the_view c.self.inside) { iommu = record c.self.inside.iommu { unit = u }; calls = c.self.inside.calls + 1 })
+    (λ (u : UnitState). record (the_view c.self.inside)
+    { iommu = record c.self.inside.iommu { unit = u }; calls = c.self.inside.calls + 1 })
     c.evict.ensures)
 
 pub returns : goal.returns
@@ -26,7 +27,8 @@ returns c = rw (← c.self.view_is) (does c)
 
 pub invariant_of-self : goal.invariant_of-self
 invariant_of-self c = (
-  whole_quiet c.self.inside.frames (the_view c.self.inside) (after c) (calls.Evict c.args.kind c.args.place) Done c.self.invariant.0 (does c) refl refl
+  whole_quiet (the_view c.self.inside) (after c) (calls.Evict c.args.kind c.args.place) Done c.self.invariant.0
+      (does c) refl refl
       refl refl (ap (λ (u : UnitState). u.steps) c.evict.ensures),
   c.self.invariant.1,
 )

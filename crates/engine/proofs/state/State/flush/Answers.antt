@@ -53,14 +53,14 @@ found_by c =
     finds c.self.invariant.0 c.in-Some.ensures.value c.place_of.ensures.place c.place_of.ensures.low c.index_mut.ensures.value
     c.in-Some-index_mut.is
 
-did : (c : goal.After-self-2-1) → Did c.self.inside.frames (the_view c.self.inside) (calls.Flush c.args.domain) (Flushed c.flush.result)
+did : (c : goal.After-self-2-1) → Did (the_view c.self.inside) (calls.Flush c.args.domain) (Flushed c.flush.result)
     (changed (the_view c.self.inside) c.place_of.result c.flush.new.pool (Some c.flush.new.self) c.flush.new.iommu)
 did c =
     let found = found_by c in
     let flushes : Flushes (parts_in (the_view c.self.inside) c.in-Some-index_mut.domain) c.args.domain
     (parts_of c.flush.new.pool c.flush.new.self c.flush.new.iommu) =
     rw (← c.in-Some.ensures.value) c.flush.ensures.flushes in
-    flush_did c.self.inside.frames (the_view c.self.inside) c.args.domain c.place_of.result c.in-Some-index_mut.domain c.flush.new.pool
+    flush_did (the_view c.self.inside) c.args.domain c.place_of.result c.in-Some-index_mut.domain c.flush.new.pool
     c.flush.new.iommu c.self.invariant.0 found.less found.id found.there c.flush.new.self c.flush.result c.flush.ensures.count flushes
 
 pub invariant_of-self-2 : goal.invariant_of-self-2

@@ -44,8 +44,7 @@ returns-in-Err c =
     c.in-Some-index_mut.is in
     rw (← c.self.view_is) (map_judged _ _ c.args.domain c.args.order c.args.rights (record { items = c.args.segments.now })
     c.in-Some-index_mut.domain c.in-Err.refusal (put_back found) found.there
-    (subst (λ n. IsJudged n c.args.segments.now c.args.order c.args.rights (Err c.in-Err.refusal)) c.self.invariant.0.frames_are
-    c.in-Err.ensures))
+    (subst (λ n. IsJudged n c.args.segments.now c.args.order c.args.rights (Err c.in-Err.refusal)) c.frames.ensures c.in-Err.ensures))
 
 pub invariant_of-self-in-Err : goal.invariant_of-self-in-Err
 invariant_of-self-in-Err c =
@@ -55,8 +54,7 @@ invariant_of-self-in-Err c =
     keeps_found c.self.invariant found
     (map_judged _ _ c.args.domain c.args.order c.args.rights (record { items = c.args.segments.now }) c.in-Some-index_mut.domain
     c.in-Err.refusal (put_back found) found.there
-    (subst (λ n. IsJudged n c.args.segments.now c.args.order c.args.rights (Err c.in-Err.refusal)) c.self.invariant.0.frames_are
-    c.in-Err.ensures))
+    (subst (λ n. IsJudged n c.args.segments.now c.args.order c.args.rights (Err c.in-Err.refusal)) c.frames.ensures c.in-Err.ensures))
 
 pub map-requires-clause-can : goal.map-requires-clause-can
 map-requires-clause-can c =
@@ -86,7 +84,7 @@ refuses c =
     map_refused (the_view c.self.inside) (refused c) c.args.domain c.args.order c.args.rights c.place_of.result
     (record { items = c.args.segments.now }) c.in-Some-index_mut.domain c.map.new.self c.map.new.pool
     c.in-Ok.wanted c.in-Err-map.refusal (found_full c).at (found_full c).there c.in-Ok.ensures.0
-    (subst (λ n. AreOwned n c.args.segments.now → ⊥) c.self.invariant.0.frames_are c.in-Ok.ensures.1) c.in-Ok.ensures.2
+    (subst (λ n. AreOwned n c.args.segments.now → ⊥) c.frames.ensures c.in-Ok.ensures.1) c.in-Ok.ensures.2
     c.in-Err-map.ensures.refused c.in-Err-map.ensures.pool c.in-Err-map.ensures.domain refl
 
 pub returns-in-Err-map : goal.returns-in-Err-map
@@ -94,7 +92,7 @@ returns-in-Err-map c = rw (← c.self.view_is) (refuses c)
 
 pub invariant_of-self-in-Err-map : goal.invariant_of-self-in-Err-map
 invariant_of-self-in-Err-map c = (
-  whole_quiet c.self.inside.frames (the_view c.self.inside) (refused c)
+  whole_quiet (the_view c.self.inside) (refused c)
       (calls.MapList c.args.domain c.args.order c.args.rights (record { items = c.args.segments.now })) (Refused c.in-Err-map.refusal)
       c.self.invariant.0 (refuses c)
       (length-set c.self.inside.domains.items c.place_of.result (Some c.map.new.self)) refl refl refl refl,
@@ -123,7 +121,7 @@ does c =
     map_done (the_view c.self.inside) (after c) c.args.domain c.args.order c.args.rights c.place_of.result c.in-Ok-map.first
     (record { items = c.args.segments.now }) c.in-Some-index_mut.domain c.map.new.self
     c.map.new.pool c.in-Ok.wanted c.self.invariant.0.places found.less found.id found.there c.in-Ok.ensures.0
-    (subst (λ n. AreOwned n c.args.segments.now → ⊥) c.self.invariant.0.frames_are c.in-Ok.ensures.1) c.in-Ok.ensures.2
+    (subst (λ n. AreOwned n c.args.segments.now → ⊥) c.frames.ensures c.in-Ok.ensures.1) c.in-Ok.ensures.2
     c.in-Ok-map.ensures.placed refl
 
 pub returns : goal.returns
@@ -131,7 +129,7 @@ returns c = rw (← c.self.view_is) (does c)
 
 pub invariant_of-self-2 : goal.invariant_of-self-2
 invariant_of-self-2 c = (
-  whole_quiet c.self.inside.frames (the_view c.self.inside) (after c)
+  whole_quiet (the_view c.self.inside) (after c)
       (calls.MapList c.args.domain c.args.order c.args.rights (record { items = c.args.segments.now }))
       (Mapped (PAGE_BYTES * c.in-Ok-map.first)) c.self.invariant.0 (does c)
       (length-set c.self.inside.domains.items c.place_of.result (Some c.map.new.self)) refl refl refl refl,

@@ -1,7 +1,7 @@
-use Rattle.std.proofs.Common.{◌≡◌, ap, arith, refl}
+use Rattle.std.proofs.Common.{◌≡◌, ap, arith, refl, subst, sym}
 use Rattle.engine.specs.declared.iommu.Iommu.{Iommu}
 use Rattle.engine.specs.State.{IsNew, State}
-use Rattle.engine.specs.Whole.{domain_count}
+use Rattle.engine.specs.Whole.{IsWhole, domain_count}
 use Rattle.engine.proofs.states.New.{of_empty_world, whole_new}
 use Rattle.engine.proofs.state.State.new.Goals as goal
 
@@ -29,5 +29,8 @@ returns c = record { new = is_new c; empty = of_empty_world (made c) c.args.fram
 pub invariant_of-result : goal.invariant_of-result
 invariant_of-result c =
     let none : domain_count c.in_ok-no_domains.field-0.items ≡ 0 = ap domain_count c.in_ok-no_domains.ensures in
-    let many = c.in_ok-all_rooms.ensures.count in
-    (whole_new (made c) c.args.frames (is_new c), record { count = omega (arith, none, many); roomy = c.in_ok-all_rooms.ensures.room })
+    let many = c.in_ok-all_rooms.ensures.count in (
+      subst (λ n. IsWhole n (made c)) (sym c.in_ok-new.ensures.frames) (whole_new (made c) c.args.frames (is_new c)),
+      record
+          { count = omega (arith, none, many); roomy = c.in_ok-all_rooms.ensures.room },
+    )

@@ -75,14 +75,14 @@ abbrev after : goal.After-self-2-1 → State
 after c = changed (the_view c.self.inside) c.place_of.result c.unmap.new.pool (Some c.unmap.new.self) c.unmap.new.iommu
 
 answered : (c : goal.After-self-2-1)
-    → AnswersUnmap c.self.inside.frames (the_view c.self.inside) c.args.domain c.args.address c.args.pages c.unmap.result (after c)
+    → AnswersUnmap (the_view c.self.inside) c.args.domain c.args.address c.args.pages c.unmap.result (after c)
 answered c =
     let found = found_by c in
     let range = c.in-Some-range_at.ensures.some in
     let ended : IsUnmapped (parts_in (the_view c.self.inside) c.in-Some-index_mut.domain) c.args.domain
     (range_at c.args.address c.args.pages) c.unmap.result (parts_of c.unmap.new.pool c.unmap.new.self c.unmap.new.iommu) =
     rw (← c.in-Some.ensures.value, ← range.1) c.unmap.ensures in
-    unmap_answered c.self.inside.frames (the_view c.self.inside) c.args.domain c.args.address c.args.pages c.place_of.result
+    unmap_answered (the_view c.self.inside) c.args.domain c.args.address c.args.pages c.place_of.result
     c.in-Some-index_mut.domain c.unmap.new.self c.unmap.new.pool c.unmap.new.iommu c.unmap.result c.self.invariant.0 found.less found.id
     found.at found.there range.0 range.2 ended
 
