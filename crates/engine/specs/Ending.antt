@@ -19,8 +19,8 @@ use Rattle.iova.specs.Pieces.{AllIn, piece_of, state_at}
 use Rattle.iova.specs.Space.{Space, IsSpace, IsTooMany, MayRetire}
 use Rattle.queue.specs.Ring.{ring_of}
 use Rattle.queue.specs.declared.ring.TheConstants.Ring.{CAPACITY}
-use Rattle.tables.specs.Changes.{IsApart, TakesAndGivesFrames, Stays, Unmaps}
-use Rattle.tables.specs.Lacks.{splits}
+use Rattle.tables.specs.Changes.{IsApart, TakesAndGivesFrames, TreeStays, UnmapsPages}
+use Rattle.tables.specs.Lacks.{leaves_splitting}
 use Rattle.tables.specs.Pool.{Pool, memory, occurs, word, IsPool, IsTree, IsZeroed}
 use Rattle.tables.specs.Tree.{uses}
 use Rattle.tables.specs.Cut.{Cut}
@@ -37,7 +37,7 @@ use Rattle.engine.specs.Domains.{Domain, Parts, held_in}
 
 -- how many leaves of 2 MiB an unmap splits
 abbrev pub leaves_split : Pool → ℕ → Range → ℕ
-leaves_split pool root range = splits (memory pool.words) LEVELS root range.first (range.first + range.pages)
+leaves_split pool root range = leaves_splitting (memory pool.words) LEVELS root range.first (range.first + range.pages)
 
 -- the pages of the record are retired in the domain's address space, and gone from its tree; what was cut from the
 -- tree is zeroed and neither free nor used. Nothing else of the domain changes
@@ -48,7 +48,7 @@ pub record RetiresAndUnmaps (pool : Pool) (old : Domain) (r : Record) (pool' : P
   pub is_space : IsSpace new.space
   pub count : length pool'.free + leaves_split pool old.root r.range ≡ length pool.free
   pub moves : TakesAndGivesFrames pool pool' LEVELS old.root r.cut.frames
-  pub unmaps : Unmaps pool pool' LEVELS old.root r.range.first (r.range.first + r.range.pages) r.cut.frames
+  pub unmaps : UnmapsPages pool pool' LEVELS old.root r.range.first (r.range.first + r.range.pages) r.cut.frames
   pub split : IsTrue r.cut.split ↔ (0 < leaves_split pool old.root r.range)
   pub is_pool : IsPool pool'
   pub same : new ≡ record old { space = new.space }
@@ -166,7 +166,7 @@ pub record Destroys (pool : Pool) (root : ℕ) (pool' : Pool) : Type 0 where
   pub words : (f k : ℕ) → k < SPAN_PAGES → uses (memory pool.words) LEVELS root f ≡ 0
       → word pool'.words f k ≡ word pool.words f k
   pub others : (level table : ℕ) → IsTree pool level table → IsApart pool LEVELS root level table
-      → Stays pool pool' level table
+      → TreeStays pool pool' level table
   pub frames : pool'.frames ≡ pool.frames
   pub is_pool : IsPool pool'
 

@@ -11,8 +11,8 @@ use Rattle.iova.specs.declared.piece.PageState.TheVariants.{Free}
 use Rattle.iova.specs.declared.piece.Piece.{Piece}
 use Rattle.iova.specs.Pieces.{state_at}
 use Rattle.iova.specs.Space.{IsFit, IsLowestFit, IsSpace, IsTooMany}
-use Rattle.tables.specs.Changes.{MakesTables, Maps, TakesAndGivesFrames}
-use Rattle.tables.specs.Lacks.{map_lacks}
+use Rattle.tables.specs.Changes.{MakesTables, MapsPages, TakesAndGivesFrames}
+use Rattle.tables.specs.Lacks.{frames_to_map}
 use Rattle.tables.specs.Pool.{Pool, memory, IsPool, IsTree}
 use Rattle.tables.specs.Segments.{is_large_at}
 use Rattle.tables.specs.Tree.{states}
@@ -34,7 +34,7 @@ IsCrowded pieces pages order =
 
 -- how many a map of the segments at a start takes
 abbrev pub frames_taken : Pool → ℕ → List Segment → ℕ → ℕ
-frames_taken pool root segments start = map_lacks pool LEVELS root segments start
+frames_taken pool root segments start = frames_to_map pool LEVELS root segments start
 
 -- at the start of the domain's space the tables that are lacking are more than the free frames
 abbrev pub IsShort : Pool → Domain → List Segment → ℕ → Type 0
@@ -64,7 +64,7 @@ pub record Places (pool : Pool) (old : Domain) (at : Placement) (pool' : Pool) (
   pub is_space : IsSpace new.space
   pub count : length pool'.free + frames_taken pool old.root at.segments at.first ≡ length pool.free
   pub moves : TakesAndGivesFrames pool pool' LEVELS old.root []
-  pub maps : Maps pool pool' LEVELS old.root at.first (at.first + total_pages at.segments) (placed at.segments at.first at.rights)
+  pub maps : MapsPages pool pool' LEVELS old.root at.first (at.first + total_pages at.segments) (placed at.segments at.first at.rights)
   pub makes : MakesTables pool pool' LEVELS old.root at.first (at.first + total_pages at.segments) (is_large_at at.segments at.first)
   pub is_pool : IsPool pool'
   pub same : new ≡ record old { space = new.space }

@@ -13,7 +13,7 @@ use Rattle.iova.specs.declared.piece.PageState.TheVariants as pages
 use Rattle.iova.specs.Pieces.{piece_of, state_at}
 use Rattle.iova.specs.Space.{Space, IsSpace}
 use Rattle.tables.specs.Pool.{Pool, memory, occurs, IsZeroed}
-use Rattle.tables.specs.Tree.{IsLeafAt, IsTableAt, Memory, span, states, total, uses}
+use Rattle.tables.specs.Tree.{IsLeafAt, IsTableAt, Memory, span, states, sum_below, uses}
 use Rattle.vtdbits.specs.declared.context.ContextEntry.{ContextEntry}
 use Rattle.vtdbits.specs.declared.context.ContextEntry.TheVariants.{Absent, Present}
 use Rattle.unit.specs.Caches.{Caches, CachedContext, CachedLeaf, CachedNonLeaf}
@@ -142,8 +142,10 @@ owned m (Some h) f = uses m LEVELS h.root f + held_in h.records f
 -- frames: each is free, used by one tree in one place, or held by one record; they are those below the number of
 -- table frames, and the free and the held ones are zeroed
 pub record PartsFrames (pool : Pool) (domains : ℕ → Option Domain) : Type 0 where
-  pub once : (f : ℕ) → f < pool.frames → total (λ d. owned (memory pool.words) (domains d) f) (MOST_DOMAINS + 1) + occurs f pool.free ≡ 1
-  pub past : (f : ℕ) → pool.frames ≤ f → total (λ d. owned (memory pool.words) (domains d) f) (MOST_DOMAINS + 1) + occurs f pool.free ≡ 0
+  pub once : (f : ℕ) → f < pool.frames
+      → sum_below (λ d. owned (memory pool.words) (domains d) f) (MOST_DOMAINS + 1) + occurs f pool.free ≡ 1
+  pub past : (f : ℕ) → pool.frames ≤ f
+      → sum_below (λ d. owned (memory pool.words) (domains d) f) (MOST_DOMAINS + 1) + occurs f pool.free ≡ 0
   pub zeroed : (f : ℕ) → 0 < occurs f pool.free → IsZeroed pool.words f
   pub held : (d f : ℕ) (h : Domain) → domains d ≡ Some h → 0 < held_in h.records f → IsZeroed pool.words f
 

@@ -13,7 +13,7 @@ use Rattle.dmatypes.specs.declared.page.TheConstants.{PAGE_BYTES}
 use Rattle.dmatypes.specs.declared.width.Width.TheVariants.{W39}
 use Rattle.queue.specs.Ring.{ring_of}
 use Rattle.tables.specs.Pool.{Pool, memory, occurs, IsZeroed}
-use Rattle.tables.specs.Tree.{here}
+use Rattle.tables.specs.Tree.{one_if_same}
 use Rattle.unit.specs.Answers.{Answers}
 use Rattle.unit.specs.Caches.{nothing, unit_state, without}
 use Rattle.unit.specs.declared.hit.Hit.{Hit}
@@ -80,7 +80,7 @@ Exact m call reply = Unit {0}
 
 -- a free frame became the root of a tree that maps no page
 pub record TakesRoot (pool pool' : Pool) (root : ℕ) : Type 0 where
-  pub free : (f : ℕ) → occurs f pool'.free + here root f ≡ occurs f pool.free
+  pub free : (f : ℕ) → occurs f pool'.free + one_if_same root f ≡ occurs f pool.free
   pub count : length pool'.free + 1 ≡ length pool.free
   pub words : pool'.words ≡ pool.words
   pub frames : pool'.frames ≡ pool.frames

@@ -4,7 +4,7 @@ use Rattle.std.specs.Prelude.{ℕ, zero, suc, ◌+◌, ◌*◌, Bool, ◌==◌, 
 use Rattle.tables.specs.declared.entries.TheConstants.{TABLE_ENTRIES}
 use Rattle.vtdbits.specs.declared.entry.SsEntry.{SsEntry}
 use Rattle.vtdbits.specs.declared.entry.SsEntry.TheVariants.{Absent, Table, Leaf, LargeLeaf}
-use Rattle.tables.specs.Tree.{Memory, span, total}
+use Rattle.tables.specs.Tree.{Memory, span, sum_below}
 
 -- the span of a level that begins at a page has one of the pages
 abbrev pub is_met : ℕ → ℕ → ℕ → ℕ → Bool
@@ -32,5 +32,5 @@ entry_lacks m zero e large from to first = 0
 entry_lacks m (suc l) e large from to first =
     if is_met (suc l) from to first
     then own_lack e (suc l) (large first)
-    + total (λ i. entry_lacks m l (entry_below e (λ c. m (suc l) c i)) large from to (first + i * span l)) TABLE_ENTRIES
+    + sum_below (λ i. entry_lacks m l (entry_below e (λ c. m (suc l) c i)) large from to (first + i * span l)) TABLE_ENTRIES
     else 0

@@ -30,7 +30,7 @@ pub record TakesAndGivesFrames (old new : Pool) (level table : ℕ) (cut : List 
   pub frames : new.frames ≡ old.frames
 
 -- the pages from one up to another were mapped; the facts are of pages in one span of the table
-pub record Maps (old new : Pool) (level table from to : ℕ) (says : ℕ → Option Target) : Type 0 where
+pub record MapsPages (old new : Pool) (level table from to : ℕ) (says : ℕ → Option Target) : Type 0 where
   pub mapped : (p : ℕ) → from ≤ p → p < to → states (memory new.words) level table p ≡ says p
   -- every leaf entry stays
   pub elsewhere : (p : ℕ) → p / span level ≡ from / span level → IsOutside from to p
@@ -54,7 +54,7 @@ pub record MakesTables (old new : Pool) (level table from to : ℕ) (large : ℕ
       → table_from (memory new.words) level table p 1 ≡ table_from (memory old.words) level table p 1
 
 -- the pages from one up to another were unmapped; the facts are of pages in one span of the table
-pub record Unmaps (old new : Pool) (level table from to : ℕ) (cut : List ℕ) : Type 0 where
+pub record UnmapsPages (old new : Pool) (level table from to : ℕ) (cut : List ℕ) : Type 0 where
   pub gone : (p : ℕ) → from ≤ p → p < to → leaf_from (memory new.words) level table p ≡ None
   pub elsewhere : (p : ℕ) → p / span level ≡ from / span level → IsOutside from to p
       → states (memory new.words) level table p ≡ states (memory old.words) level table p
@@ -88,7 +88,7 @@ IsApart pool level table level' table' =
     (f : ℕ) → 0 < uses (memory pool.words) level' table' f → uses (memory pool.words) level table f + occurs f pool.free ≡ 0
 
 -- a table that has the same leaves, tables and frames in both
-pub record Stays (old new : Pool) (level table : ℕ) : Type 0 where
+pub record TreeStays (old new : Pool) (level table : ℕ) : Type 0 where
   pub tree : IsTree new level table
   pub same_frames : (f : ℕ) → uses (memory new.words) level table f ≡ uses (memory old.words) level table f
   pub same_leaves : (p : ℕ) → leaf_from (memory new.words) level table p ≡ leaf_from (memory old.words) level table p
@@ -109,4 +109,4 @@ KeepsTables old new level root =
 -- every tree that stands apart from it stays as it is
 abbrev pub KeepsOthers : Pool → Pool → ℕ → ℕ → Type 0
 KeepsOthers old new level root =
-    (height table : ℕ) → IsTree old height table → IsApart old level root height table → Stays old new height table
+    (height table : ℕ) → IsTree old height table → IsApart old level root height table → TreeStays old new height table

@@ -78,13 +78,13 @@ IsTableAt m l root first level frame =
 -- ---- the frames of a tree
 
 -- the sum of the first values of a function
-unfoldable pub total : (ℕ → ℕ) → ℕ → ℕ
-total g zero = 0
-total g (suc n) = total g n + g n
+unfoldable pub sum_below : (ℕ → ℕ) → ℕ → ℕ
+sum_below g zero = 0
+sum_below g (suc n) = sum_below g n + g n
 
 -- 1 where the two frames are one, else 0
-abbrev pub here : ℕ → ℕ → ℕ
-here table frame = if table == frame then 1 else 0
+abbrev pub one_if_same : ℕ → ℕ → ℕ
+one_if_same table frame = if table == frame then 1 else 0
 
 -- how often an entry uses a frame
 abbrev pub entry_uses : SsEntry → (ℕ → ℕ) → ℕ
@@ -96,4 +96,4 @@ entry_uses (LargeLeaf t) below = 0
 -- in how many places a tree has the frame as a table
 unfoldable pub uses : Memory → ℕ → ℕ → ℕ → ℕ
 uses m zero t f = 0
-uses m (suc l) t f = here t f + total (λ i. entry_uses (m (suc l) t i) (λ c. uses m l c f)) TABLE_ENTRIES
+uses m (suc l) t f = one_if_same t f + sum_below (λ i. entry_uses (m (suc l) t i) (λ c. uses m l c f)) TABLE_ENTRIES

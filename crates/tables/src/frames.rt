@@ -4,7 +4,7 @@ ghost use Rattle.std.specs.Prelude.{◌≡◌, ℕ, ◌+◌, ◌<◌, ◌≤◌,
 ghost use Rattle.dmatypes.specs.Rights.{AreRights, bits_of};
 ghost use Rattle.vtdbits.specs.Entry.{look};
 ghost use Rattle.vtdbits.specs.Translation.{target};
-ghost use Rattle.tables.specs.Tree.{here};
+ghost use Rattle.tables.specs.Tree.{one_if_same};
 ghost use Rattle.tables.specs.Pool.{word, occurs, IsZeroed, IsWrite, KeepsOtherWords, IsPool};
 
 use crate::entries::{TABLE_ENTRIES, leaf_word};
@@ -164,7 +164,7 @@ impl Pool {
     pub(crate) fn take(&mut self) -> Frame
         requires { 0 < length self.old.free }
         ensures within { result < self.old.frames }
-        ensures free { (f : ℕ) → occurs f self.new.free + here result f ≡ occurs f self.old.free }
+        ensures free { (f : ℕ) → occurs f self.new.free + one_if_same result f ≡ occurs f self.old.free }
         ensures count { length self.new.free + 1 ≡ length self.old.free }
         ensures zeroed { IsZeroed self.new.words result }
         ensures words { self.new.words ≡ self.old.words }
@@ -181,7 +181,7 @@ impl Pool {
         requires within { frame < self.old.frames }
         requires taken { occurs frame self.old.free ≡ 0 }
         requires zeroed { IsZeroed self.old.words frame }
-        ensures free { (f : ℕ) → occurs f self.new.free ≡ occurs f self.old.free + here frame f }
+        ensures free { (f : ℕ) → occurs f self.new.free ≡ occurs f self.old.free + one_if_same frame f }
         ensures count { length self.new.free ≡ length self.old.free + 1 }
         ensures words { self.new.words ≡ self.old.words }
         ensures frames { self.new.frames ≡ self.old.frames }

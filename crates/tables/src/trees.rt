@@ -7,11 +7,11 @@ ghost use Rattle.dmatypes.specs.Page.{IsPageRange, IsWithin};
 ghost use Rattle.dmatypes.specs.Rights.{AreRights, bits_of};
 ghost use Rattle.dmatypes.specs.World.{placed};
 ghost use Rattle.vtdbits.specs.Translation.{target};
-ghost use Rattle.tables.specs.Tree.{here, span, states, leaf_from, table_from, uses, IsLeafAt, IsTableAt, Found};
+ghost use Rattle.tables.specs.Tree.{one_if_same, span, states, leaf_from, table_from, uses, IsLeafAt, IsTableAt, Found};
 ghost use Rattle.tables.specs.Pool.{word, memory, occurs, IsPool, IsTree};
-ghost use Rattle.tables.specs.Changes.{TakesAndGivesFrames, Maps, MakesTables, Unmaps, KeepsLeaves, KeepsTables, KeepsOthers};
+ghost use Rattle.tables.specs.Changes.{TakesAndGivesFrames, MapsPages, MakesTables, UnmapsPages, KeepsLeaves, KeepsTables, KeepsOthers};
 ghost use Rattle.tables.specs.Segments.{AreSegments, is_large_at, one_segment};
-ghost use Rattle.tables.specs.Lacks.{map_lacks, splits};
+ghost use Rattle.tables.specs.Lacks.{frames_to_map, leaves_splitting};
 
 use crate::cut::Cut;
 use crate::entries::{TABLE_ENTRIES, find};
@@ -36,8 +36,8 @@ impl Tree {
         ensures tree { IfOk result (λ tree. IsTree pool.new LEVELS tree.root) }
         ensures empty { IfOk result (λ tree. (p : ℕ) → leaf_from (memory pool.new.words) LEVELS tree.root p ≡ None) }
         ensures tables { IfOk result (λ tree. (p w : ℕ) → w < LEVELS → table_from (memory pool.new.words) LEVELS tree.root p w ≡ None) }
-        ensures frames { IfOk result (λ tree. (f : ℕ) → uses (memory pool.new.words) LEVELS tree.root f ≡ here tree.root f) }
-        ensures free { IfOk result (λ tree. (f : ℕ) → occurs f pool.new.free + here tree.root f ≡ occurs f pool.old.free) }
+        ensures frames { IfOk result (λ tree. (f : ℕ) → uses (memory pool.new.words) LEVELS tree.root f ≡ one_if_same tree.root f) }
+        ensures free { IfOk result (λ tree. (f : ℕ) → occurs f pool.new.free + one_if_same tree.root f ≡ occurs f pool.old.free) }
         ensures count { OnOk result (length pool.new.free + 1 ≡ length pool.old.free) }
         ensures words { pool.new.words ≡ pool.old.words }
         ensures size { pool.new.frames ≡ pool.old.frames }
@@ -78,16 +78,16 @@ impl Tree {
         requires frames { frame + range.pages ≤ FRAMES_END }
         requires rights { AreRights (bits_of rights) }
         ensures refused { IsErr result
-            ↔ (length pool.old.free < map_lacks pool.old LEVELS self.old.root (one_segment frame range.pages) range.first) }
+            ↔ (length pool.old.free < frames_to_map pool.old LEVELS self.old.root (one_segment frame range.pages) range.first) }
         ensures unchanged { OnErr result (pool.new ≡ pool.old) }
         ensures root { self.new ≡ self.old }
         ensures moves { TakesAndGivesFrames pool.old pool.new LEVELS self.old.root [] }
-        ensures maps { OnOk result (Maps pool.old pool.new LEVELS self.old.root range.first (range.first + range.pages)
+        ensures maps { OnOk result (MapsPages pool.old pool.new LEVELS self.old.root range.first (range.first + range.pages)
             (λ p. Some (target (frame + (p - range.first)) (bits_of rights)))) }
         ensures makes { OnOk result (MakesTables pool.old pool.new LEVELS self.old.root range.first (range.first + range.pages)
             (is_large_at (one_segment frame range.pages) range.first)) }
         ensures count { OnOk result (length pool.new.free
-            + map_lacks pool.old LEVELS self.old.root (one_segment frame range.pages) range.first ≡ length pool.old.free) }
+            + frames_to_map pool.old LEVELS self.old.root (one_segment frame range.pages) range.first ≡ length pool.old.free) }
         ensures leaves { KeepsLeaves pool.old pool.new LEVELS self.old.root }
         ensures tables { KeepsTables pool.old pool.new LEVELS self.old.root }
         ensures others { KeepsOthers pool.old pool.new LEVELS self.old.root }
@@ -118,16 +118,16 @@ impl Tree {
         requires absent { (p : ℕ) → start ≤ p → p < start + total_pages segments.now
             → states (memory pool.old.words) LEVELS self.old.root p ≡ None }
         requires rights { AreRights (bits_of rights) }
-        ensures refused { IsErr result ↔ (length pool.old.free < map_lacks pool.old LEVELS self.old.root segments.now start) }
+        ensures refused { IsErr result ↔ (length pool.old.free < frames_to_map pool.old LEVELS self.old.root segments.now start) }
         ensures unchanged { OnErr result (pool.new ≡ pool.old) }
         ensures root { self.new ≡ self.old }
         ensures moves { TakesAndGivesFrames pool.old pool.new LEVELS self.old.root [] }
-        ensures maps { OnOk result (Maps pool.old pool.new LEVELS self.old.root start (start + total_pages segments.now)
+        ensures maps { OnOk result (MapsPages pool.old pool.new LEVELS self.old.root start (start + total_pages segments.now)
             (placed segments.now start (bits_of rights))) }
         ensures makes { OnOk result (MakesTables pool.old pool.new LEVELS self.old.root start (start + total_pages segments.now)
             (is_large_at segments.now start)) }
         ensures count { OnOk result
-            (length pool.new.free + map_lacks pool.old LEVELS self.old.root segments.now start ≡ length pool.old.free) }
+            (length pool.new.free + frames_to_map pool.old LEVELS self.old.root segments.now start ≡ length pool.old.free) }
         ensures leaves { KeepsLeaves pool.old pool.new LEVELS self.old.root }
         ensures tables { KeepsTables pool.old pool.new LEVELS self.old.root }
         ensures others { KeepsOthers pool.old pool.new LEVELS self.old.root }
@@ -142,7 +142,8 @@ impl Tree {
     pub fn may_unmap(&self, pool: &Pool, range: PageRange) -> Result<(), NoFrames>
         requires { IsTree pool.now LEVELS self.now.root }
         ensures { IsErr result
-            ↔ (length pool.now.free < splits (memory pool.now.words) LEVELS self.now.root range.first (range.first + range.pages)) }
+            ↔ (length pool.now.free
+            < leaves_splitting (memory pool.now.words) LEVELS self.now.root range.first (range.first + range.pages)) }
     {
         let from = range.first();
         let to = from + range.pages();
@@ -162,16 +163,18 @@ impl Tree {
     pub fn unmap(&mut self, pool: &mut Pool, range: PageRange) -> Cut
         requires tree { IsTree pool.old LEVELS self.old.root }
         requires there { (p : ℕ) → IsWithin range p → IsSome (states (memory pool.old.words) LEVELS self.old.root p) }
-        requires may { splits (memory pool.old.words) LEVELS self.old.root range.first (range.first + range.pages) ≤ length pool.old.free }
+        requires may { leaves_splitting (memory pool.old.words) LEVELS self.old.root range.first (range.first + range.pages)
+            ≤ length pool.old.free }
         ensures root { self.new ≡ self.old }
         ensures moves { TakesAndGivesFrames pool.old pool.new LEVELS self.old.root result.frames }
-        ensures unmaps { Unmaps pool.old pool.new LEVELS self.old.root range.first (range.first + range.pages) result.frames }
+        ensures unmaps { UnmapsPages pool.old pool.new LEVELS self.old.root range.first (range.first + range.pages) result.frames }
         ensures split { IsTrue result.split
-            ↔ (0 < splits (memory pool.old.words) LEVELS self.old.root range.first (range.first + range.pages)) }
+            ↔ (0 < leaves_splitting (memory pool.old.words) LEVELS self.old.root range.first (range.first + range.pages)) }
         ensures whole { (p : ℕ) (x : Found) → IsWithin range p → result.split ≡ false
             → leaf_from (memory pool.old.words) LEVELS self.old.root p ≡ Some x
             → (q : ℕ) → q / span x.size ≡ p / span x.size → IsWithin range q }
-        ensures count { length pool.new.free + splits (memory pool.old.words) LEVELS self.old.root range.first (range.first + range.pages)
+        ensures count { length pool.new.free
+            + leaves_splitting (memory pool.old.words) LEVELS self.old.root range.first (range.first + range.pages)
             ≡ length pool.old.free }
         ensures leaves { (first pages frame rights : ℕ) → IsLeafAt (memory pool.old.words) LEVELS self.old.root first pages frame rights
             → (first + pages ≤ range.first) ⊎ (range.first + range.pages ≤ first)

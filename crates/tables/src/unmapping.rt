@@ -6,8 +6,8 @@ ghost use Rattle.tables.specs.Tree.{Memory, span, index_in, leaf_from, uses};
 ghost use Rattle.tables.specs.Pool.{word, memory, occurs, IsPool, IsTree, IsWrite};
 ghost use Rattle.vtdbits.specs.Entry.{look};
 ghost use Rattle.vtdbits.specs.Translation.{target};
-ghost use Rattle.tables.specs.Changes.{TakesAndGivesFrames, Unmaps};
-ghost use Rattle.tables.specs.Lacks.{splits_leaf, splits};
+ghost use Rattle.tables.specs.Changes.{TakesAndGivesFrames, UnmapsPages};
+ghost use Rattle.tables.specs.Lacks.{splits_leaf, leaves_splitting};
 ghost use Rattle.tables.specs.Under.{IsSplit, used_at};
 ghost use Rattle.tables.specs.Pieces.{WritesEntries, cut_of, was_split, piece_splits};
 
@@ -101,7 +101,7 @@ fn clear_span(pool: &mut Pool, table: Frame, from: u64, to: u64) -> Cleared
     requires there { (p : ℕ) → from ≤ p → p < to → IsSome (leaf_from (memory pool.old.words) 2 table p) }
     requires room { piece_splits (memory pool.old.words) 2 table from to ≤ length pool.old.free }
     ensures moves { TakesAndGivesFrames pool.old pool.new 2 table (cut_of result) }
-    ensures unmaps { Unmaps pool.old pool.new 2 table from to (cut_of result) }
+    ensures unmaps { UnmapsPages pool.old pool.new 2 table from to (cut_of result) }
     ensures split { (if was_split result then 1 else 0) ≡ piece_splits (memory pool.old.words) 2 table from to }
     ensures count { length pool.new.free + piece_splits (memory pool.old.words) 2 table from to ≡ length pool.old.free }
     ensures cut { SPAN_PAGES * length (cut_of result) ≤ to - from }
@@ -142,7 +142,7 @@ fn clear_piece(pool: &mut Pool, level: u64, table: Frame, from: u64, to: u64) ->
     requires there { (p : ℕ) → from ≤ p → p < to → IsSome (leaf_from (memory pool.old.words) level table p) }
     requires room { piece_splits (memory pool.old.words) level table from to ≤ length pool.old.free }
     ensures moves { TakesAndGivesFrames pool.old pool.new level table (cut_of result) }
-    ensures unmaps { Unmaps pool.old pool.new level table from to (cut_of result) }
+    ensures unmaps { UnmapsPages pool.old pool.new level table from to (cut_of result) }
     ensures split { (if was_split result then 1 else 0) ≡ piece_splits (memory pool.old.words) level table from to }
     ensures count { length pool.new.free + piece_splits (memory pool.old.words) level table from to ≡ length pool.old.free }
     ensures cut { SPAN_PAGES * length (cut_of result) ≤ to - from }
@@ -168,11 +168,11 @@ pub fn unmap_pieces(pool: &mut Pool, level: u64, root: Frame, from: u64, to: u64
     requires within { to ≤ WIDEST_PAGES_END }
     requires one_span { from / span level ≡ (to - 1) / span level }
     requires there { (p : ℕ) → from ≤ p → p < to → IsSome (leaf_from (memory pool.old.words) level root p) }
-    requires room { splits (memory pool.old.words) level root from to ≤ length pool.old.free }
+    requires room { leaves_splitting (memory pool.old.words) level root from to ≤ length pool.old.free }
     ensures moves { TakesAndGivesFrames pool.old pool.new level root result.frames }
-    ensures unmaps { Unmaps pool.old pool.new level root from to result.frames }
-    ensures split { IsTrue result.split ↔ (0 < splits (memory pool.old.words) level root from to) }
-    ensures count { length pool.new.free + splits (memory pool.old.words) level root from to ≡ length pool.old.free }
+    ensures unmaps { UnmapsPages pool.old pool.new level root from to result.frames }
+    ensures split { IsTrue result.split ↔ (0 < leaves_splitting (memory pool.old.words) level root from to) }
+    ensures count { length pool.new.free + leaves_splitting (memory pool.old.words) level root from to ≡ length pool.old.free }
     ensures pool { IsPool pool.new }
 {
     let mut cut = Cut::none(root);
@@ -207,7 +207,7 @@ pub fn leaves_splitting(pool: &Pool, level: u64, root: Frame, from: u64, to: u64
     requires tree { IsTree pool.now level root }
     requires some { from < to }
     requires within { to ≤ WIDEST_PAGES_END }
-    ensures { result ≡ splits (memory pool.now.words) level root from to }
+    ensures { result ≡ leaves_splitting (memory pool.now.words) level root from to }
 {
     let mut count = 0;
     for number in from / SPAN_PAGES..(to - 1) / SPAN_PAGES + 1 {
@@ -223,7 +223,7 @@ pub fn leaves_splitting(pool: &Pool, level: u64, root: Frame, from: u64, to: u64
 pub fn spans_met(from: u64, to: u64) -> u64
     requires some { from < to }
     requires within { to ≤ WIDEST_PAGES_END }
-    ensures { (m : Memory) (level root : ℕ) → splits m level root from to ≤ result }
+    ensures { (m : Memory) (level root : ℕ) → leaves_splitting m level root from to ≤ result }
 {
     (to - 1) / SPAN_PAGES + 1 - from / SPAN_PAGES
 }

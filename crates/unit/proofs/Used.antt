@@ -5,7 +5,7 @@ use Rattle.std.proofs.lemmas.Option.{none-some, same_Some}
 use Rattle.vtdbits.specs.declared.entry.SsEntry.{SsEntry}
 use Rattle.vtdbits.specs.declared.entry.SsEntry.TheVariants.{Absent, Table, Leaf, LargeLeaf}
 use Rattle.tables.specs.Tree.{Memory, index_in, table_of, table_from, uses, entry_uses}
-use Rattle.tables.proofs.sums.Firsts.{total_part}
+use Rattle.tables.proofs.sums.Firsts.{sum_below_part}
 use Rattle.dmatypes.specs.declared.page.TheConstants.{SPAN_PAGES}
 use Rattle.tables.proofs.walks.Onward.{index_lt}
 
@@ -23,7 +23,7 @@ below_used m l p w c (LargeLeaf x) go h = absurd (none-some c h)
 entry_used : (m : Memory) (l t p c : ℕ) → 0 < entry_uses (m (suc l) t (index_in l p)) (λ t. uses m l t c) → 0 < uses m (suc l) t c
 unfolding uses
 entry_used m l t p c some =
-    let part = total_part (λ i. entry_uses (m (suc l) t i) (λ t. uses m l t c)) SPAN_PAGES (index_in l p) (index_lt l p) in
+    let part = sum_below_part (λ i. entry_uses (m (suc l) t i) (λ t. uses m l t c)) SPAN_PAGES (index_in l p) (index_lt l p) in
     omega (arith, part)
 
 used_by : (m : Memory) (l t p w c : ℕ) (b : Bool) → ((t' : ℕ) → table_from m l t' p w ≡ Some c → 0 < uses m l t' c)

@@ -6,7 +6,7 @@ use Rattle.std.proofs.lemmas.Bool.{cases_lt}
 use Rattle.std.specs.Prelude.{◌↔◌, IsTrue}
 use Rattle.dmatypes.specs.Block.{Block}
 use Rattle.dmatypes.specs.Page.{Range}
-use Rattle.tables.specs.Changes.{Unmaps}
+use Rattle.tables.specs.Changes.{UnmapsPages}
 use Rattle.tables.specs.Pool.{Pool, memory, occurs}
 use Rattle.tables.specs.Cut.{Cut}
 use Rattle.tables.specs.Tree.{IsLeafAt, IsTableAt, span}
@@ -170,7 +170,7 @@ module _ (old new : Pool) (root d : ℕ) (range : Range) (cut : Cut) (x : Descri
       (ap (λ h. drops_non_leaf (IotlbPages d b h) i) (sym (hint_clear i.frame cut.frames cut.split held)) ∙ left)
 
   -- a cached table that the descriptor leaves wasn't cut
-  pub strict_table : range.first < span LEVELS → Unmaps old new LEVELS root range.first (range.first + range.pages) cut.frames
+  pub strict_table : range.first < span LEVELS → UnmapsPages old new LEVELS root range.first (range.first + range.pages) cut.frames
       → (i : CachedNonLeaf)
       → i.domain ≡ d → i.pages ≡ span i.level → drops_non_leaf x i ≡ false
       → IsTableAt (memory old.words) LEVELS root i.first i.level i.frame

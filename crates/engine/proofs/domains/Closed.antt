@@ -4,7 +4,7 @@ use Rattle.std.proofs.lemmas.Option.{none-some}
 use Rattle.dmatypes.specs.declared.width.Width.TheVariants.{W39}
 use Rattle.dmatypes.specs.World.{World, IsIn, put}
 use Rattle.dmatypes.specs.World as world
-use Rattle.tables.specs.Changes.{Stays}
+use Rattle.tables.specs.Changes.{TreeStays}
 use Rattle.tables.specs.Pool.{memory, occurs, IsZeroed}
 use Rattle.unit.specs.Caches.{CachedLeaf, CachedNonLeaf}
 use Rattle.vtdbits.specs.declared.context.ContextEntry.TheVariants.{Present}
@@ -33,7 +33,7 @@ module _ (m t : State) (w : World) (d : ℕ) (h : Domain) (q : Quarantine m w) (
   at_other : (e : ℕ) → e ≢ d → domain_at t.domains e ≡ domain_at m.domains e
   at_other e ne = domains e ∙ put_other d None (domain_at m.domains) e ne
 
-  stays : (e : ℕ) (k : Domain) → e ≢ d → domain_at m.domains e ≡ Some k → Stays m.pool t.pool LEVELS k.root
+  stays : (e : ℕ) (k : Domain) → e ≢ d → domain_at m.domains e ≡ Some k → TreeStays m.pool t.pool LEVELS k.root
   stays e k ne at =
       let less : e < MOST_DOMAINS + 1 = domain_low m.domains e k many at in
       destroys.others LEVELS k.root (tree_of m.pool (domain_at m.domains) e k q.frames less at)

@@ -13,7 +13,7 @@ use Rattle.dmatypes.specs.Conditions.{Stands}
 use Rattle.dmatypes.specs.Step.{IsStep, Answers, next}
 use Rattle.iova.specs.Space.{AllFree, IsSpace, new_space}
 use Rattle.tables.specs.Pool.{Pool, memory, occurs, IsPool, IsZeroed}
-use Rattle.tables.specs.Tree.{here, leaf_from, stated, table_from, uses}
+use Rattle.tables.specs.Tree.{one_if_same, leaf_from, stated, table_from, uses}
 use Rattle.engine.specs.Domains.{Domain, domain_at, held_in, new_domain}
 use Rattle.engine.specs.State.{State, Exact, Becomes, TakesRoot}
 use Rattle.engine.specs.Quarantine.{AreLawful, MirrorsIfAny, IsHeld, Quarantine, owned}
@@ -62,7 +62,7 @@ no_root m t mode i is many less free empty = refuses m t (calls.Domain mode) ref
 pub record IsEmptyTree (old new : Pool) (root : ℕ) : Type 0 where
   pub roots : TakesRoot old new root
   pub empty : (p : ℕ) → leaf_from (memory new.words) LEVELS root p ≡ None
-  pub frames : (f : ℕ) → uses (memory new.words) LEVELS root f ≡ here root f
+  pub frames : (f : ℕ) → uses (memory new.words) LEVELS root f ≡ one_if_same root f
   pub pool : IsPool new
 
 -- the state with the domain is the state of the world with it

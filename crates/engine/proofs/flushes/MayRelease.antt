@@ -11,10 +11,10 @@ use Rattle.iova.specs.declared.piece.PageState.TheVariants as pages
 use Rattle.iova.specs.declared.piece.Piece.{Piece}
 use Rattle.iova.specs.Pieces.{IsOrdered, piece_of}
 use Rattle.iova.specs.Space.{Space, IsSpace, MayRetire}
-use Rattle.tables.specs.Lacks.{splits}
+use Rattle.tables.specs.Lacks.{leaves_splitting}
 use Rattle.tables.specs.Pool.{Pool, memory, occurs, IsTree, IsZeroed}
-use Rattle.tables.specs.Tree.{stated, total, uses}
-use Rattle.tables.proofs.sums.Firsts.{total_part}
+use Rattle.tables.specs.Tree.{stated, sum_below, uses}
+use Rattle.tables.proofs.sums.Firsts.{sum_below_part}
 use Rattle.engine.specs.declared.record.Record.{Record}
 use Rattle.engine.specs.Ending.{RetiresAndUnmaps, Releases, ReleasesAll, leaves_split}
 use Rattle.engine.specs.Ready.{AllDiffer, AreReleasable, CanCut, CanUnmap, IsCleared, IsReleasable}
@@ -82,10 +82,10 @@ module _ (space : Space) (is : IsSpace space) where
 
 module _ (pool : Pool) (domains : ℕ → Option Domain) (d : ℕ) (h : Domain) (parts : PartsFrames pool domains) (low : d < MOST_DOMAINS + 1)
     (there : domains d ≡ Some h) where
-  part : (f : ℕ) → uses (memory pool.words) LEVELS h.root f + held_in h.records f ≤ total (λ e. owned (memory pool.words) (domains e) f)
+  part : (f : ℕ) → uses (memory pool.words) LEVELS h.root f + held_in h.records f ≤ sum_below (λ e. owned (memory pool.words) (domains e) f)
       (MOST_DOMAINS + 1)
   part f =
-      let one = total_part (λ e. owned (memory pool.words) (domains e) f) (MOST_DOMAINS + 1) d low in
+      let one = sum_below_part (λ e. owned (memory pool.words) (domains e) f) (MOST_DOMAINS + 1) d low in
       let is : owned (memory pool.words) (domains d) f ≡ uses (memory pool.words) LEVELS h.root f + held_in h.records f =
       ap (λ (o : Option Domain). owned (memory pool.words) o f) there in
       omega (arith, one, is)
@@ -272,7 +272,7 @@ pub split_room : (pool pool1 : Pool) (space space1 : Space) (records : List Reco
     → leaves_split pool1 root range ≤ length pool1.free
 split_room pool pool1 space space1 records root range all room =
     let same : leaves_split pool1 root range ≡ leaves_split pool root range =
-    ap (λ ws. splits (memory ws) LEVELS root range.first (range.first + range.pages)) all.words in
+    ap (λ ws. leaves_splitting (memory ws) LEVELS root range.first (range.first + range.pages)) all.words in
     omega (arith, same, room, all.more)
 
 -- ---- the records one after the other, from the last one on

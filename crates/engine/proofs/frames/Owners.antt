@@ -5,8 +5,8 @@ use Rattle.std.proofs.lemmas.Option.{same_Some}
 use Rattle.dmatypes.specs.World.{put}
 use Rattle.tables.specs.Changes.{IsApart, TakesAndGivesFrames}
 use Rattle.tables.specs.Pool.{Pool, memory, occurs, IsTree, IsZeroed}
-use Rattle.tables.specs.Tree.{total, uses}
-use Rattle.tables.proofs.sums.Firsts.{total_change, total_part, total_two}
+use Rattle.tables.specs.Tree.{sum_below, uses}
+use Rattle.tables.proofs.sums.Firsts.{sum_below_change, sum_below_part, sum_below_two}
 use Rattle.engine.specs.Domains.{Domain, held_in}
 use Rattle.engine.specs.Quarantine.{PartsFrames, owned}
 use Rattle.engine.proofs.lists.Places.{put_same, put_other, same_or_not}
@@ -14,7 +14,7 @@ use Rattle.dmatypes.specs.declared.limits.TheConstants.{MOST_DOMAINS}
 use Rattle.dmatypes.specs.declared.width.TheConstants.{LEVELS}
 
 at_most_one : (pool : Pool) (domains : ℕ → Option Domain) → PartsFrames pool domains → (f : ℕ)
-    → total (λ d. owned (memory pool.words) (domains d) f) (MOST_DOMAINS + 1) + occurs f pool.free ≤ 1
+    → sum_below (λ d. owned (memory pool.words) (domains d) f) (MOST_DOMAINS + 1) + occurs f pool.free ≤ 1
 at_most_one pool domains parts f =
     ⊎_elim (λ (low : f < pool.frames). omega (arith, parts.once f low)) (λ (past : pool.frames ≤ f). omega (arith, parts.past f past))
     (cases_lt f pool.frames)
@@ -31,15 +31,15 @@ tree_of pool domains d h parts low there = record {
   once = λ f. omega (arith, at_most_one pool domains parts f, part f, owned_by pool domains d h f there);
   within = λ f past. omega (arith, parts.past f past, part f, owned_by pool domains d h f there);
 } where
-  part : (f : ℕ) → owned (memory pool.words) (domains d) f ≤ total (λ e. owned (memory pool.words) (domains e) f) (MOST_DOMAINS + 1)
-  part f = total_part (λ e. owned (memory pool.words) (domains e) f) (MOST_DOMAINS + 1) d low
+  part : (f : ℕ) → owned (memory pool.words) (domains d) f ≤ sum_below (λ e. owned (memory pool.words) (domains e) f) (MOST_DOMAINS + 1)
+  part f = sum_below_part (λ e. owned (memory pool.words) (domains e) f) (MOST_DOMAINS + 1) d low
 
 -- the trees of two domains are apart
 pub apart_of : (pool : Pool) (domains : ℕ → Option Domain) (d e : ℕ) (h k : Domain) → PartsFrames pool domains → d < MOST_DOMAINS + 1
     → e < MOST_DOMAINS + 1 → e ≢ d
     → domains d ≡ Some h → domains e ≡ Some k → IsApart pool LEVELS h.root LEVELS k.root
 apart_of pool domains d e h k parts low less ne there here f some =
-    let two = total_two (λ x. owned (memory pool.words) (domains x) f) (MOST_DOMAINS + 1) d e low less ne in
+    let two = sum_below_two (λ x. owned (memory pool.words) (domains x) f) (MOST_DOMAINS + 1) d e low less ne in
     omega (arith, two, at_most_one pool domains parts f, owned_by pool domains d h f there, owned_by pool domains e k f here)
 
 -- what a record holds is of no tree, and not free
@@ -51,10 +51,10 @@ held_out pool domains d e h k parts low less there here f some = elim (same_or_n
   | inl same ↦
       let one : uses (memory pool.words) LEVELS k.root f ≡ uses (memory pool.words) LEVELS h.root f =
       ap (λ (x : Domain). uses (memory pool.words) LEVELS x.root f) (same_Some k h (sym here ∙ ap domains same ∙ there)) in
-      let part = total_part (λ x. owned (memory pool.words) (domains x) f) (MOST_DOMAINS + 1) e less in
+      let part = sum_below_part (λ x. owned (memory pool.words) (domains x) f) (MOST_DOMAINS + 1) e less in
       omega (arith, one, part, at_most_one pool domains parts f, owned_by pool domains e k f here)
   | inr ne ↦
-      let two = total_two (λ x. owned (memory pool.words) (domains x) f) (MOST_DOMAINS + 1) d e low less ne in
+      let two = sum_below_two (λ x. owned (memory pool.words) (domains x) f) (MOST_DOMAINS + 1) d e low less ne in
       omega (arith, two, at_most_one pool domains parts f, owned_by pool domains d h f there, owned_by pool domains e k f here)
 ]
 
@@ -84,8 +84,8 @@ frames_move old new domains homes' d o parts low is frames moves others zeroed h
   here : (f : ℕ) → owned (memory new.words) (homes' d) f ≡ owned (memory new.words) o f
   here f = ap (λ (x : Option Domain). owned (memory new.words) x f) (is d ∙ put_same d o domains)
 
-  change : (f : ℕ) → total (λ e. owned (memory new.words) (homes' e) f) (MOST_DOMAINS + 1) + owned (memory old.words) (domains d) f
-      ≡ total (λ e. owned (memory old.words) (domains e) f) (MOST_DOMAINS + 1) + owned (memory new.words) (homes' d) f
+  change : (f : ℕ) → sum_below (λ e. owned (memory new.words) (homes' e) f) (MOST_DOMAINS + 1) + owned (memory old.words) (domains d) f
+      ≡ sum_below (λ e. owned (memory old.words) (domains e) f) (MOST_DOMAINS + 1) + owned (memory new.words) (homes' d) f
   change f =
-      total_change (λ e. owned (memory old.words) (domains e) f) (λ e. owned (memory new.words) (homes' e) f) (MOST_DOMAINS + 1) d low
+      sum_below_change (λ e. owned (memory old.words) (domains e) f) (λ e. owned (memory new.words) (homes' e) f) (MOST_DOMAINS + 1) d low
       (λ e less ne. ap (λ (x : Option Domain). owned (memory new.words) x f) (is e ∙ put_other d o domains e ne) ∙ others e f ne)

@@ -16,13 +16,13 @@ use Rattle.iova.specs.Changes.{Takes}
 use Rattle.unit.specs.Walking.{stated_by}
 use Rattle.engine.specs.declared.wanted.Wanted.{Wanted}
 use Rattle.iova.specs.Space.{Space, IsFit}
-use Rattle.tables.specs.Changes.{Stays}
+use Rattle.tables.specs.Changes.{TreeStays}
 use Rattle.arrayvec.specs.ArrayVec.{ArrayVec}
 use Rattle.dmatypes.specs.Rights.{bits_of}
 use Rattle.tables.specs.Pool.{Pool, memory, occurs, IsZeroed}
 use Rattle.tables.specs.Segments.{one_segment}
 use Rattle.tables.specs.Tree.{stated, states}
-use Rattle.tables.proofs.pools.Kept.{apart_stays, map_leaves, map_tables, same_root, span-three}
+use Rattle.tables.proofs.pools.Kept.{apart_stays, map_leaves, map_tables, same_root, span-levels}
 use Rattle.engine.specs.Domains.{Domain, domain_at, held_in}
 use Rattle.engine.specs.Judged.{AreMappable, AreOwned, IsJudged, Wants}
 use Rattle.engine.specs.State.{State, Exact, Becomes, mapped_reply}
@@ -177,7 +177,7 @@ maps_mirror pool pool' h h1 v segments first order rights mirrors places some = 
     | inl inside ↦ places.maps.mapped p inside.0 inside.1 ∙ sym (mapped_inside v segments first rights p inside)
     | inr past ↦
         ap (stated p)
-        (places.maps.elsewhere p (same_root LEVELS p first (omega (arith, low, span-three)) (omega (arith, start, span-three))) past)
+        (places.maps.elsewhere p (same_root LEVELS p first (omega (arith, low, span-levels)) (omega (arith, start, span-levels))) past)
         ∙ mirrors.tree p low ∙ sym (mapped_outside v segments first rights p past)
   ];
   pieces = pieces_mapped h.space h1.space v segments first rights mirrors.pieces places.takes places.is_space;
@@ -196,7 +196,7 @@ maps_lawful pool pool' h h1 v segments first order rights mirrors places some ze
     entry =
         λ strict.
         map_leaves pool pool' LEVELS h.root first (first + total_pages segments) (placed segments first rights) (omega arith)
-        (omega (arith, start, span-three)) absent places.maps l.first l.pages l.frame l.rights (lawful.entry strict);
+        (omega (arith, start, span-levels)) absent places.maps l.first l.pages l.frame l.rights (lawful.entry strict);
   };
   table = λ i lawful. record {
     span = lawful.span;
@@ -224,7 +224,7 @@ maps_lawful pool pool' h h1 v segments first order rights mirrors places some ze
 -- the other trees are as they were
 others_stay : (m t : State) (w : World) (d : ℕ) (h h1 : Domain) (segments : List Segment) (first order rights : ℕ) → Quarantine m w
     → length m.domains ≡ MOST_DOMAINS → domain_at m.domains d ≡ Some h → Places m.pool h (placement segments order rights first) t.pool h1
-    → (e : ℕ) (k : Domain) → e ≢ d → domain_at m.domains e ≡ Some k → Stays m.pool t.pool LEVELS k.root
+    → (e : ℕ) (k : Domain) → e ≢ d → domain_at m.domains e ≡ Some k → TreeStays m.pool t.pool LEVELS k.root
 others_stay m t w d h h1 segments first order rights q many there places e k ne here =
     let low : d < MOST_DOMAINS + 1 = domain_low m.domains d h many there in
     let less : e < MOST_DOMAINS + 1 = domain_low m.domains e k many here in
@@ -264,7 +264,7 @@ with_map m t w i h h1 v segments first order rights q many less there here mirro
   low : i + 1 < MOST_DOMAINS + 1
   low = domain_low m.domains (i + 1) h many there
 
-  stays : (e : ℕ) (k : Domain) → e ≢ i + 1 → domain_at m.domains e ≡ Some k → Stays m.pool t.pool LEVELS k.root
+  stays : (e : ℕ) (k : Domain) → e ≢ i + 1 → domain_at m.domains e ≡ Some k → TreeStays m.pool t.pool LEVELS k.root
   stays e k ne at = others_stay m t w (i + 1) h h1 segments first order rights q many there places e k ne at
 
   zeroed : (e : ℕ) (k : Domain) → domain_at m.domains e ≡ Some k → (f : ℕ) → 0 < held_in k.records f → IsZeroed t.pool.words f

@@ -10,7 +10,7 @@ use Rattle.iova.specs.declared.piece.PageState.TheVariants.{Live}
 use Rattle.iova.specs.declared.piece.PageState.TheVariants as pages
 use Rattle.iova.specs.Pieces.{state_at}
 use Rattle.iova.specs.Space.{Space}
-use Rattle.tables.proofs.pools.Kept.{span-three}
+use Rattle.tables.proofs.pools.Kept.{span-levels}
 use Rattle.tables.proofs.walks.Near.{near_leaf, near_table, span_pos}
 use Rattle.tables.proofs.walks.Sizes.{leaf_size}
 use Rattle.tables.proofs.walks.Onward.{deeper, leaf_on, leaf_zeroed, table_on, table_zeroed}
@@ -138,7 +138,7 @@ module _ (words : List ℕ) (h : Domain) (v : world.Domain) (mirrors : Mirrors w
       leaf_size words LEVELS h.root p y there,
       refl,
       base_even p (span y.size) (span_pos y.size),
-      omega (arith, base_low p (span y.size), span-three),
+      omega (arith, base_low p (span y.size), span-levels),
       λ q above below. near_leaf (memory words) LEVELS h.root p q y (one_span p q (span y.size) (span_pos y.size) above below) there,
     ),
   )
@@ -172,7 +172,7 @@ module _ (words : List ℕ) (h : Domain) (v : world.Domain) (mirrors : Mirrors w
       some,
       below,
       base_even p (span l) (span_pos l),
-      omega (arith, base_low p (span l), span-three),
+      omega (arith, base_low p (span l), span-levels),
       λ q above high. near_table (memory words) LEVELS h.root p q l f (one_span p q (span l) (span_pos l) above high) there,
     );
   }

@@ -10,9 +10,9 @@ use Rattle.unit.specs.Caches.{Caches, UnitState, nothing, unit_state}
 use Rattle.vtdbits.specs.declared.context.ContextEntry.TheVariants.{Absent, Present}
 use Rattle.std.proofs.lemmas.Option.{none-some}
 use Rattle.tables.specs.Pool.{memory, occurs}
-use Rattle.tables.specs.Tree.{total}
+use Rattle.tables.specs.Tree.{sum_below}
 use Rattle.tables.proofs.pools.FreeList.{counted_up, counted_past, zero_words}
-use Rattle.tables.proofs.sums.Firsts.{total-none}
+use Rattle.tables.proofs.sums.Firsts.{sum_below-none}
 use Rattle.std.specs.Option.{option_flatten}
 use Rattle.engine.specs.Domains.{Domain, domain_at}
 use Rattle.engine.specs.State.{IsNew, State}
@@ -75,9 +75,9 @@ of_empty_world m frames new = record {
   };
   tickets = refl;
 } where
-  none : (f : ℕ) → total (λ d. owned (memory m.pool.words) (domain_at m.domains d) f) (MOST_DOMAINS + 1) ≡ 0
+  none : (f : ℕ) → sum_below (λ d. owned (memory m.pool.words) (domain_at m.domains d) f) (MOST_DOMAINS + 1) ≡ 0
   none f =
-      total-none (λ d. owned (memory m.pool.words) (domain_at m.domains d) f) (MOST_DOMAINS + 1)
+      sum_below-none (λ d. owned (memory m.pool.words) (domain_at m.domains d) f) (MOST_DOMAINS + 1)
       (λ d less. ap (λ (o : Option Domain). owned (memory m.pool.words) o f) (no_domain m.domains d new.domains_are))
 
 pub whole_new : (m : State) (frames : ℕ) → IsNew frames m → IsWhole frames m

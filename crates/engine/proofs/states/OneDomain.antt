@@ -3,7 +3,7 @@ use Rattle.std.proofs.Common.{◌≡◌, ◌≢◌, ℕ, ◌+◌, ◌<◌, ◌�
 use Rattle.std.proofs.lemmas.Option.{same_Some}
 use Rattle.dmatypes.specs.World.{World, IsIn, put}
 use Rattle.dmatypes.specs.World as world
-use Rattle.tables.specs.Changes.{Stays}
+use Rattle.tables.specs.Changes.{TreeStays}
 use Rattle.tables.specs.Pool.{Pool, memory, occurs, IsZeroed}
 use Rattle.tables.specs.Tree.{leaf_from, table_from, uses}
 use Rattle.unit.specs.Caches.{CachedContext, CachedLeaf, CachedNonLeaf}
@@ -28,7 +28,7 @@ pub same_tree : (words words' : List ℕ) (root : ℕ) → words' ≡ words → 
 same_tree words words' root same =
     subst (λ ws. SameTree words ws root) (sym same) (record { leaves = λ p. refl; tables = λ p w. refl; frames = λ f. refl })
 
-pub tree_stays : (old new : Pool) (words : List ℕ) (root : ℕ) → Stays old new LEVELS root → words ≡ new.words
+pub tree_stays : (old new : Pool) (words : List ℕ) (root : ℕ) → TreeStays old new LEVELS root → words ≡ new.words
     → SameTree old.words words root
 tree_stays old new words root stays same =
     subst (λ ws. SameTree old.words ws root) (sym same)

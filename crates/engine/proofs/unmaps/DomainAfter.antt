@@ -10,11 +10,11 @@ use Rattle.dmatypes.specs.World.{Target, World, IsIn, IsLive, IsRetired, put, pu
 use Rattle.dmatypes.specs.World as world
 use Rattle.dmatypes.proofs.Ranges.{to_ends, within_or_not}
 use Rattle.iova.specs.Space.{Space}
-use Rattle.tables.specs.Changes.{Stays}
+use Rattle.tables.specs.Changes.{TreeStays}
 use Rattle.tables.specs.Pool.{Pool, memory, occurs, IsZeroed}
 use Rattle.tables.specs.Tree.{span, stated, states, uses}
 use Rattle.tables.proofs.unmaps.Ended.{unmap_leaves, unmap_tables}
-use Rattle.tables.proofs.pools.Kept.{apart_stays, same_root, span-three}
+use Rattle.tables.proofs.pools.Kept.{apart_stays, same_root, span-levels}
 use Rattle.tables.proofs.walks.Steps.{span-one}
 use Rattle.unit.specs.Caches.{CachedLeaf, CachedNonLeaf}
 use Rattle.unit.specs.Filters.{drops_leaf, drops_non_leaf}
@@ -51,14 +51,14 @@ held-last rs r f = sum_by_push (λ (y : Record). occurs f y.cut.frames) rs r
 module _ (pool pool1 : Pool) (h h1 : Domain) (v : world.Domain) (r : Record) (fits : IsPageRange r.range)
     (mirrors : Mirrors pool.words h v) (cuts : RetiresAndUnmaps pool h r pool1 h1) where
   start : r.range.first < span LEVELS
-  start = let ends = to_ends r.range fits in omega (arith, ends.some, ends.last, span-three)
+  start = let ends = to_ends r.range fits in omega (arith, ends.some, ends.last, span-levels)
 
   -- what the tree says is live without the range
   tree_without : (p : ℕ) → p < PAGES_END → states (memory pool1.words) LEVELS h.root p ≡ (unmapped r.range v).live p
   tree_without p low = elim (within_or_not r.range p) [
     | inl inside ↦ ap (stated p) (cuts.unmaps.gone p inside.0 inside.1) ∙ sym (without_inside r.range v.live p inside)
     | inr past ↦
-        cuts.unmaps.elsewhere p (same_root LEVELS p r.range.first (omega (arith, low, span-three)) start) past ∙ mirrors.tree p low
+        cuts.unmaps.elsewhere p (same_root LEVELS p r.range.first (omega (arith, low, span-levels)) start) past ∙ mirrors.tree p low
         ∙ sym (without_outside r.range v.live p past)
   ]
 
@@ -178,7 +178,7 @@ module _ (m t : State) (w : World) (i : ℕ) (h h1 : Domain) (v : world.Domain) 
   others : (e : ℕ) (k : Domain) → e ≢ i + 1 → domain_at m.domains e ≡ Some k → SameTree m.pool.words t.pool.words k.root
   others e k ne at =
       let below : e < MOST_DOMAINS + 1 = domain_low m.domains e k many at in
-      let stays : Stays m.pool pool1 LEVELS k.root =
+      let stays : TreeStays m.pool pool1 LEVELS k.root =
       apart_stays m.pool pool1 LEVELS h.root LEVELS k.root r.cut.frames (tree_of m.pool (domain_at m.domains) (i + 1) h q.frames low there)
       cuts.moves
       (tree_of m.pool (domain_at m.domains) e k q.frames below at)

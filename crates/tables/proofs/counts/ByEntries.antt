@@ -10,17 +10,17 @@ use Rattle.dmatypes.specs.declared.page.TheConstants.{SPAN_PAGES}
 use Rattle.tables.specs.declared.entries.TheConstants.{TABLE_ENTRIES}
 use Rattle.vtdbits.specs.declared.entry.SsEntry.{SsEntry}
 use Rattle.vtdbits.specs.declared.entry.SsEntry.TheVariants.{Absent, Table, Leaf, LargeLeaf}
-use Rattle.tables.specs.Tree.{Memory, Found, span, index_in, leaf_of, table_of, leaf_from, table_from, stated, states, total}
+use Rattle.tables.specs.Tree.{Memory, Found, span, index_in, leaf_of, table_of, leaf_from, table_from, stated, states, sum_below}
 use Rattle.tables.specs.Lacks.{lacks_table, tables_lacking, sum_spans}
 use Rattle.tables.specs.ByEntries.{is_met, own_lack, entry_below, entry_lacks}
-use Rattle.tables.proofs.sums.Firsts.{total_same, total-suc, total-zero, total-none}
+use Rattle.tables.proofs.sums.Firsts.{sum_below_same, sum_below-suc, sum_below-zero, sum_below-none}
 use Rattle.tables.proofs.walks.Near.{span_pos}
 use Rattle.tables.proofs.walks.Steps.{span-suc, span-zero, leaf-suc, table_top, table_under, div_span-suc}
 use Rattle.tables.proofs.counts.OnePage.{lacking_by, lacking_is}
 use Rattle.tables.proofs.sums.OverSpans.{one_more_mul}
 use Rattle.tables.proofs.counts.ByPieces.{lacks-is}
 use Rattle.tables.proofs.sums.Blocks.{is_met-yes, met_spans, met_spans_same, met_one, among_spans}
-use Rattle.tables.proofs.sums.Blocks.{unmet_spans, span_in, spans_below, total_swap}
+use Rattle.tables.proofs.sums.Blocks.{unmet_spans, span_in, spans_below, sum_below_swap}
 
 -- what a page's span of a level lacks, under an entry that could name a table of a level
 below_lacks : Memory → ℕ → SsEntry → (ℕ → Bool) → ℕ → ℕ → ℕ
@@ -132,7 +132,7 @@ entries_below-is m l e large from to first i = refl
 lacks-suc : (m : Memory) (l : ℕ) (e : SsEntry) (large : ℕ → Bool) (from to first : ℕ)
     → entry_lacks m (suc l) e large from to first
     ≡ cond (is_met (suc l) from to first)
-    (own_lack e (suc l) (large first) + total (entries_below m l e large from to first) TABLE_ENTRIES) 0
+    (own_lack e (suc l) (large first) + sum_below (entries_below m l e large from to first) TABLE_ENTRIES) 0
 unfolding entry_lacks entries_below
 lacks-suc m l e large from to first = refl
 
@@ -158,11 +158,11 @@ top_level m l e large from to first p meets clear =
 -- the tables of a lower level, entry by entry
 lower_level : (m : Memory) (l : ℕ) (e : SsEntry) (large : ℕ → Bool) (from to q v : ℕ) → v < l
     → level_lacks m (suc l) e large from to (q * span (suc l)) v
-    ≡ total (λ i. level_lacks m l (entry_below e (λ c. m (suc l) c i)) large from to (q * span (suc l) + i * span l) v) TABLE_ENTRIES
+    ≡ sum_below (λ i. level_lacks m l (entry_below e (λ c. m (suc l) c i)) large from to (q * span (suc l) + i * span l) v) TABLE_ENTRIES
 unfolding level_lacks
 lower_level m l e large from to q v v_in =
     spans_below (below_lacks m (suc l) e large (v + 1)) (v + 1) l from to (q * span (suc l)) (omega arith)
-    ∙ total_same (λ i.
+    ∙ sum_below_same (λ i.
     met_spans (below_lacks m l (entry_below e (λ c. m (suc l) c i)) large (v + 1)) (v + 1) from to (q * span (suc l) + i * span l)
     (span (l - (v + 1))))
     (λ i. met_spans (below_lacks m (suc l) e large (v + 1)) (v + 1) from to (q * span (suc l) + i * span l) (span (l - (v + 1))))
@@ -187,55 +187,57 @@ lower_level m l e large from to q v v_in =
 step_levels : (m : Memory) (l : ℕ) (e : SsEntry) (large : ℕ → Bool) (from to q : ℕ) → from < to
     → ((p : ℕ) → from ≤ p → p < to → p / span (suc l) ≡ q → MeetsNone m (suc l) e p)
     → ((i : ℕ) → i < TABLE_ENTRIES → entry_lacks m l (entry_below e (λ c. m (suc l) c i)) large from to ((q * SPAN_PAGES + i) * span l)
-    ≡ total (level_lacks m l (entry_below e (λ c. m (suc l) c i)) large from to ((q * SPAN_PAGES + i) * span l)) l)
-    → entry_lacks m (suc l) e large from to (q * span (suc l)) ≡ total (level_lacks m (suc l) e large from to (q * span (suc l))) (suc l)
+    ≡ sum_below (level_lacks m l (entry_below e (λ c. m (suc l) c i)) large from to ((q * SPAN_PAGES + i) * span l)) l)
+    → entry_lacks m (suc l) e large from to (q * span (suc l)) ≡ sum_below (level_lacks m (suc l) e large from to (q * span (suc l)))
+    (suc l)
 step_levels m l e large from to q some clear each = by_met (is_met (suc l) from to (q * span (suc l))) refl
   where
     below : (i : ℕ) → i < TABLE_ENTRIES
         → entries_below m l e large from to (q * span (suc l)) i
-        ≡ total (level_lacks m l (entry_below e (λ c. m (suc l) c i)) large from to (q * span (suc l) + i * span l)) l
+        ≡ sum_below (level_lacks m l (entry_below e (λ c. m (suc l) c i)) large from to (q * span (suc l) + i * span l)) l
     below i i_in =
         entries_below-is m l e large from to (q * span (suc l)) i
         ∙ ap (entry_lacks m l (entry_below e (λ c. m (suc l) c i)) large from to) (entry_first q i l)
         ∙ each i i_in
-        ∙ ap (λ x. total (level_lacks m l (entry_below e (λ c. m (suc l) c i)) large from to x) l) (sym (entry_first q i l))
+        ∙ ap (λ x. sum_below (level_lacks m l (entry_below e (λ c. m (suc l) c i)) large from to x) l) (sym (entry_first q i l))
 
     by_met : (b : Bool) → is_met (suc l) from to (q * span (suc l)) ≡ b
         → entry_lacks m (suc l) e large from to (q * span (suc l))
-        ≡ total (level_lacks m (suc l) e large from to (q * span (suc l))) (suc l)
+        ≡ sum_below (level_lacks m (suc l) e large from to (q * span (suc l))) (suc l)
     by_met false apart =
         lacks-suc m l e large from to (q * span (suc l))
         ∙ ap (λ b.
         cond b
-        (own_lack e (suc l) (large (q * span (suc l))) + total (entries_below m l e large from to (q * span (suc l))) TABLE_ENTRIES)
+        (own_lack e (suc l) (large (q * span (suc l))) + sum_below (entries_below m l e large from to (q * span (suc l))) TABLE_ENTRIES)
         0) apart
-        ∙ sym (total-none (level_lacks m (suc l) e large from to (q * span (suc l))) (suc l)
+        ∙ sym (sum_below-none (level_lacks m (suc l) e large from to (q * span (suc l))) (suc l)
         (λ v v_in. unmet_level m l e large from to (q * span (suc l)) v apart v_in))
     by_met true meets =
         let first : ℕ = q * span (suc l) in
         let page = page_met q (suc l) from to some meets in
         let top : level_lacks m (suc l) e large from to first l ≡ own_lack e (suc l) (large first) =
         top_level m l e large from to first page.0 meets (clear page.0 page.1.0 page.1.1 page.1.2) in
-        let lower : total (level_lacks m (suc l) e large from to first) l ≡ total (entries_below m l e large from to first) TABLE_ENTRIES =
-        total_same
-        (λ v. total (λ i. level_lacks m l (entry_below e (λ c. m (suc l) c i)) large from to (first + i * span l) v) TABLE_ENTRIES)
+        let lower : sum_below (level_lacks m (suc l) e large from to first) l
+        ≡ sum_below (entries_below m l e large from to first) TABLE_ENTRIES =
+        sum_below_same
+        (λ v. sum_below (λ i. level_lacks m l (entry_below e (λ c. m (suc l) c i)) large from to (first + i * span l) v) TABLE_ENTRIES)
         (level_lacks m (suc l) e large from to first) l (λ v v_in. lower_level m l e large from to q v v_in)
-        ∙ total_swap (λ v i. level_lacks m l (entry_below e (λ c. m (suc l) c i)) large from to (first + i * span l) v) TABLE_ENTRIES l
-        ∙ total_same (entries_below m l e large from to first)
-        (λ i. total (λ v. level_lacks m l (entry_below e (λ c. m (suc l) c i)) large from to (first + i * span l) v) l) TABLE_ENTRIES
+        ∙ sum_below_swap (λ v i. level_lacks m l (entry_below e (λ c. m (suc l) c i)) large from to (first + i * span l) v) TABLE_ENTRIES l
+        ∙ sum_below_same (entries_below m l e large from to first)
+        (λ i. sum_below (λ v. level_lacks m l (entry_below e (λ c. m (suc l) c i)) large from to (first + i * span l) v) l) TABLE_ENTRIES
         (λ i i_in. sym (below i i_in)) in
         let whole : entry_lacks m (suc l) e large from to first
-        ≡ own_lack e (suc l) (large first) + total (entries_below m l e large from to first) TABLE_ENTRIES =
+        ≡ own_lack e (suc l) (large first) + sum_below (entries_below m l e large from to first) TABLE_ENTRIES =
         lacks-suc m l e large from to first
-        ∙ ap (λ b. cond b (own_lack e (suc l) (large first) + total (entries_below m l e large from to first) TABLE_ENTRIES) 0) meets in
-        omega (arith, top, lower, whole, total-suc (level_lacks m (suc l) e large from to first) l)
+        ∙ ap (λ b. cond b (own_lack e (suc l) (large first) + sum_below (entries_below m l e large from to first) TABLE_ENTRIES) 0) meets in
+        omega (arith, top, lower, whole, sum_below-suc (level_lacks m (suc l) e large from to first) l)
 
 -- what an entry lacks is what the spans of each level in its own lack
 by_levels : (m : Memory) (l : ℕ) (e : SsEntry) (large : ℕ → Bool) (from to q : ℕ) → from < to
     → ((p : ℕ) → from ≤ p → p < to → p / span l ≡ q → MeetsNone m l e p)
-    → entry_lacks m l e large from to (q * span l) ≡ total (level_lacks m l e large from to (q * span l)) l
+    → entry_lacks m l e large from to (q * span l) ≡ sum_below (level_lacks m l e large from to (q * span l)) l
 by_levels m zero e large from to q some clear =
-    lacks-zero m e large from to (q * span 0) ∙ sym (total-zero (level_lacks m 0 e large from to (q * span 0)))
+    lacks-zero m e large from to (q * span 0) ∙ sym (sum_below-zero (level_lacks m 0 e large from to (q * span 0)))
 by_levels m (suc l) e large from to q some clear =
     step_levels m l e large from to q some clear
     (λ i i_in. by_levels m l (entry_below e (λ c. m (suc l) c i)) large from to (q * SPAN_PAGES + i) some
@@ -300,8 +302,8 @@ pub lacks_by_entries : (m : Memory) (level root : ℕ) (large : ℕ → Bool) (f
     → tables_lacking m level root large from to ≡ entry_lacks m level (Table root) large from to (from / span level * span level)
 lacks_by_entries m zero root large from to some one absent =
     lacks-is m 0 root large from to
-    ∙ ap (total (λ v. sum_spans (λ p. lacks_table m 0 root (large p) (v + 1) p) (v + 1) from to)) (let e : 0 - 1 ≡ 0 = omega arith in e)
-    ∙ total-zero (λ v. sum_spans (λ p. lacks_table m 0 root (large p) (v + 1) p) (v + 1) from to)
+    ∙ ap (sum_below (λ v. sum_spans (λ p. lacks_table m 0 root (large p) (v + 1) p) (v + 1) from to)) (let e : 0 - 1 ≡ 0 = omega arith in e)
+    ∙ sum_below-zero (λ v. sum_spans (λ p. lacks_table m 0 root (large p) (v + 1) p) (v + 1) from to)
     ∙ sym (lacks-zero m (Table root) large from to (from / span 0 * span 0))
 lacks_by_entries m (suc l) root large from to some one absent =
     let first : ℕ = from / span (suc l) * span (suc l) in
@@ -313,12 +315,12 @@ lacks_by_entries m (suc l) root large from to some one absent =
     is_met-yes (suc l) from to first above (omega (arith, div-mul-le_self from (span (suc l)))) in
     let top = root_level m l root large from to first meets in
     let flat : tables_lacking m (suc l) root large from to
-    ≡ total (λ v. sum_spans (λ p. lacks_table m (suc l) root (large p) (v + 1) p) (v + 1) from to) l =
+    ≡ sum_below (λ v. sum_spans (λ p. lacks_table m (suc l) root (large p) (v + 1) p) (v + 1) from to) l =
     lacks-is m (suc l) root large from to
-    ∙ ap (total (λ v. sum_spans (λ p. lacks_table m (suc l) root (large p) (v + 1) p) (v + 1) from to))
+    ∙ ap (sum_below (λ v. sum_spans (λ p. lacks_table m (suc l) root (large p) (v + 1) p) (v + 1) from to))
     (let e : suc l - 1 ≡ l = omega arith in e) in
-    let lower : total (level_lacks m (suc l) (Table root) large from to first) l
-    ≡ total (λ v. sum_spans (λ p. lacks_table m (suc l) root (large p) (v + 1) p) (v + 1) from to) l =
-    total_same (λ v. sum_spans (λ p. lacks_table m (suc l) root (large p) (v + 1) p) (v + 1) from to)
+    let lower : sum_below (level_lacks m (suc l) (Table root) large from to first) l
+    ≡ sum_below (λ v. sum_spans (λ p. lacks_table m (suc l) root (large p) (v + 1) p) (v + 1) from to) l =
+    sum_below_same (λ v. sum_spans (λ p. lacks_table m (suc l) root (large p) (v + 1) p) (v + 1) from to)
     (level_lacks m (suc l) (Table root) large from to first) l (λ v v_in. under_root m l root large from to v some one v_in) in
-    omega (arith, levels, top, flat, lower, total-suc (level_lacks m (suc l) (Table root) large from to first) l)
+    omega (arith, levels, top, flat, lower, sum_below-suc (level_lacks m (suc l) (Table root) large from to first) l)

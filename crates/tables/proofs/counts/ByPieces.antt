@@ -7,12 +7,12 @@ use Rattle.std.proofs.lemmas.Bool.Decides.{nat_tests}
 use Rattle.std.proofs.lemmas.Option.{none-some}
 use Rattle.dmatypes.specs.declared.page.TheConstants.{SPAN_PAGES}
 use Rattle.dmatypes.specs.World.{Target}
-use Rattle.tables.specs.Tree.{Memory, span, total, table_from}
+use Rattle.tables.specs.Tree.{Memory, span, sum_below, table_from}
 use Rattle.tables.specs.Pool.{Pool, memory}
-use Rattle.tables.specs.Changes.{Maps}
+use Rattle.tables.specs.Changes.{MapsPages}
 use Rattle.tables.specs.Lacks.{lacks_table, tables_lacking, tables_lacking_at, sum_spans}
-use Rattle.tables.proofs.sums.Firsts.{total_same, total-none}
-use Rattle.tables.proofs.pools.FreeList.{total_plus}
+use Rattle.tables.proofs.sums.Firsts.{sum_below_same, sum_below-none}
+use Rattle.tables.proofs.pools.FreeList.{sum_below_plus}
 use Rattle.tables.proofs.counts.OnePage.{lacking_same}
 use Rattle.tables.proofs.walks.Near.{near_table, near_at, span_pos}
 use Rattle.tables.proofs.walks.Steps.{div_span_one, same_or_not, span-one}
@@ -50,19 +50,19 @@ some_is : (m : Memory) (level t w p : ℕ) (large : Bool) → IsSome (table_from
 unfolding lacks_table
 some_is m level t w p large h = ap (λ b. cond b 0 (cond (eqb w 1 && large) 0 1)) h
 
-total_le_each : (g h : ℕ → ℕ) (n : ℕ) → ((i : ℕ) → i < n → g i ≤ h i) → total g n ≤ total h n
-unfolding total
-total_le_each g h zero le = omega arith
-total_le_each g h (suc n) le = omega (arith, total_le_each g h n (λ i l. le i (omega arith)), le n (omega arith))
+sum_below_le_each : (g h : ℕ → ℕ) (n : ℕ) → ((i : ℕ) → i < n → g i ≤ h i) → sum_below g n ≤ sum_below h n
+unfolding sum_below
+sum_below_le_each g h zero le = omega arith
+sum_below_le_each g h (suc n) le = omega (arith, sum_below_le_each g h n (λ i l. le i (omega arith)), le n (omega arith))
 
 pub lacks-is : (m : Memory) (level t : ℕ) (large : ℕ → Bool) (from to : ℕ)
     → tables_lacking m level t large from to
-    ≡ total (λ v. sum_spans (λ p. lacks_table m level t (large p) (v + 1) p) (v + 1) from to) (level - 1)
+    ≡ sum_below (λ v. sum_spans (λ p. lacks_table m level t (large p) (v + 1) p) (v + 1) from to) (level - 1)
 unfolding tables_lacking
 lacks-is m level t large from to = refl
 
 lacks_at-is : (m : Memory) (level t : ℕ) (large : Bool) (p : ℕ)
-    → tables_lacking_at m level t large p ≡ total (λ v. lacks_table m level t large (v + 1) p) (level - 1)
+    → tables_lacking_at m level t large p ≡ sum_below (λ v. lacks_table m level t large (v + 1) p) (level - 1)
 unfolding tables_lacking_at
 lacks_at-is m level t large p = refl
 
@@ -80,7 +80,7 @@ pub lacks_least : (m : Memory) (level t : ℕ) (large : ℕ → Bool) (b : Bool)
     → large (from / SPAN_PAGES * SPAN_PAGES) ≡ b → tables_lacking_at m level t b from ≤ tables_lacking m level t large from to
 lacks_least m level t large b from to some flag =
     let each =
-    total_le_each (λ v. lacks_table m level t b (v + 1) from)
+    sum_below_le_each (λ v. lacks_table m level t b (v + 1) from)
     (λ v. sum_spans (λ p. lacks_table m level t (large p) (v + 1) p) (v + 1) from to)
     (level - 1) (λ v v_in.
     omega (
@@ -94,7 +94,7 @@ lacks_least m level t large b from to some flag =
 
 -- a piece was mapped, with the tables that it lacked
 pub record Placed (old new : Pool) (level t from next : ℕ) (says : ℕ → Option Target) (b : Bool) : Type 0 where
-  pub maps : Maps old new level t from next says
+  pub maps : MapsPages old new level t from next says
   pub made : (w : ℕ) → 1 ≤ w → w < level → (w ≡ 1 → b ≡ false) → IsSome (table_from (memory new.words) level t from w)
   pub some : from < next
   pub one : from / SPAN_PAGES ≡ (next - 1) / SPAN_PAGES
@@ -163,17 +163,17 @@ lacks_step old new level t from next to says large b x le wide flag =
     (λ stay. none_left old new level t from next says large b (v + 1) (omega arith) (omega arith) x stay) in
     omega (arith, step, own_span m level t large b (v + 1) from (omega arith) flag) in
     lacks-is m level t large from to
-    ∙ total_same (λ v. lacks_table m level t b (v + 1) from + sum_spans (h v) (v + 1) next to) (λ v. sum_spans (g v) (v + 1) from to)
+    ∙ sum_below_same (λ v. lacks_table m level t b (v + 1) from + sum_spans (h v) (v + 1) next to) (λ v. sum_spans (g v) (v + 1) from to)
     (level - 1) each
-    ∙ total_plus (λ v. lacks_table m level t b (v + 1) from) (λ v. sum_spans (h v) (v + 1) next to) (level - 1)
-    ∙ ap (λ k. k + total (λ v. sum_spans (h v) (v + 1) next to) (level - 1)) (sym (lacks_at-is m level t b from))
+    ∙ sum_below_plus (λ v. lacks_table m level t b (v + 1) from) (λ v. sum_spans (h v) (v + 1) next to) (level - 1)
+    ∙ ap (λ k. k + sum_below (λ v. sum_spans (h v) (v + 1) next to) (level - 1)) (sym (lacks_at-is m level t b from))
     ∙ ap (λ k. tables_lacking_at m level t b from + k) (sym (lacks-is n level t large next to))
 
 pub lacks_ended : (old new : Pool) (level t from next : ℕ) (says : ℕ → Option Target) (large : ℕ → Bool) (b : Bool)
     → Placed old new level t from next says b → tables_lacking (memory new.words) level t large next next ≡ 0
 lacks_ended old new level t from next says large b x =
     lacks-is (memory new.words) level t large next next
-    ∙ total-none (λ v. sum_spans (λ p. lacks_table (memory new.words) level t (large p) (v + 1) p) (v + 1) next next) (level - 1)
+    ∙ sum_below-none (λ v. sum_spans (λ p. lacks_table (memory new.words) level t (large p) (v + 1) p) (v + 1) next next) (level - 1)
     (λ v v_in. ended_spans (λ p. lacks_table (memory new.words) level t (large p) (v + 1) p) (v + 1) from next (span_pos (v + 1)) x.some
     (sym (piece_near (v + 1) from next (next - 1) (omega arith) x.one (omega (arith, x.some)) (omega (arith, x.some))))
     (λ stay. none_left old new level t from next says large b (v + 1) (omega arith) (omega arith) x stay))

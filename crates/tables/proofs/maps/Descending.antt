@@ -9,7 +9,7 @@ use Rattle.vtdbits.specs.declared.entry.SsEntry.{SsEntry}
 use Rattle.vtdbits.specs.declared.entry.SsEntry.TheVariants.{Absent, Table}
 use Rattle.tables.specs.Tree.{Memory, Found, span, index_in, leaf_of, leaf_from, table_from}
 use Rattle.tables.specs.Pool.{Pool, memory, IsTree}
-use Rattle.tables.specs.Changes.{TakesAndGivesFrames, Maps}
+use Rattle.tables.specs.Changes.{TakesAndGivesFrames, MapsPages}
 use Rattle.tables.specs.Lacks.{tables_lacking_at}
 use Rattle.tables.proofs.maps.Mapped.{maps_up}
 use Rattle.tables.proofs.unmaps.UnderEntry.{under_moves, below_under}
@@ -27,15 +27,15 @@ piece_span l from to p some one low high =
 -- a map through the table under an entry is one of the table
 abbrev pub Through : Pool → Pool → ℕ → ℕ → ℕ → ℕ → ℕ → ℕ → ℕ → (ℕ → Option Target) → Type 0
 Through old new level l t i c from to says =
-    TakesAndGivesFrames old new level t [] × Maps old new level t from to says × (memory new.words level t i ≡ Table c)
+    TakesAndGivesFrames old new level t [] × MapsPages old new level t from to says × (memory new.words level t i ≡ Table c)
 
 pub map_through : (old new : Pool) (level l t i c from to : ℕ) (says : ℕ → Option Target) → level ≡ suc l → 1 ≤ l
     → from / SPAN_PAGES ≡ (to - 1) / SPAN_PAGES → IsTree old level t → i < TABLE_ENTRIES → i ≡ index_in l from
-    → memory old.words level t i ≡ Table c → TakesAndGivesFrames old new l c [] → Maps old new l c from to says
+    → memory old.words level t i ≡ Table c → TakesAndGivesFrames old new l c [] → MapsPages old new l c from to says
     → Through old new level l t i c from to says
 map_through old new level l t i c from to says up some one =
     subst (λ n. IsTree old n t → i < TABLE_ENTRIES → i ≡ index_in l from → memory old.words n t i ≡ Table c
-    → TakesAndGivesFrames old new l c [] → Maps old new l c from to says → Through old new n l t i c from to says) (sym up)
+    → TakesAndGivesFrames old new l c [] → MapsPages old new l c from to says → Through old new n l t i c from to says) (sym up)
     (λ tree a is names moves maps.
     let both = below_under old new l t i c [] tree a names moves in (
       under_moves old new l t i [] tree a both.0,

@@ -6,10 +6,10 @@ use Rattle.tables.specs.declared.entries.TheConstants.{TABLE_ENTRIES}
 use Rattle.vtdbits.specs.Entry.{look}
 use Rattle.vtdbits.specs.declared.entry.SsEntry.TheVariants.{Absent, Table}
 use Rattle.tables.specs.Under.{ChangesUnder, used_by_entry}
-use Rattle.tables.specs.Tree.{Memory, span, index_in, leaf_from, table_from, stated, states, uses, here, entry_uses}
+use Rattle.tables.specs.Tree.{Memory, span, index_in, leaf_from, table_from, stated, states, uses, one_if_same, entry_uses}
 use Rattle.tables.specs.Pool.{Pool, word, memory, occurs, IsTree, IsZeroed, IsWrite}
-use Rattle.tables.specs.Changes.{TakesAndGivesFrames, Maps}
-use Rattle.tables.proofs.sums.OneFrame.{here-same}
+use Rattle.tables.specs.Changes.{TakesAndGivesFrames, MapsPages}
+use Rattle.tables.proofs.sums.OneFrame.{one_if_same-self}
 use Rattle.tables.proofs.unmaps.UnderEntry.{under_moves, other_leaf, other_table, root_apart}
 use Rattle.tables.proofs.walks.Steps.{leaf_under, table_under, table_top, too_high, same_or_not, same_span, uses-bare}
 use Rattle.tables.proofs.walks.Onward.{IsBare, leaf_zeroed, table_zeroed}
@@ -21,7 +21,7 @@ no_word t i f k h = ⊎_elim (λ same. inr (λ e. h same e)) (λ ne. inl ne) (sa
 -- a table of nothing, in a frame that was free
 pub under_grown : (old new : Pool) (l t i c : ℕ) → IsTree old (suc (suc l)) t → i < TABLE_ENTRIES
     → memory old.words (suc (suc l)) t i ≡ Absent → memory new.words (suc (suc l)) t i ≡ Table c
-    → ((f : ℕ) → occurs f new.free + here c f ≡ occurs f old.free) → IsBare (memory new.words) c
+    → ((f : ℕ) → occurs f new.free + one_if_same c f ≡ occurs f old.free) → IsBare (memory new.words) c
     → ((f k : ℕ) → k < TABLE_ENTRIES → (f ≡ t → k ≡ i → ⊥) → word new.words f k ≡ word old.words f k) → new.frames ≡ old.frames
     → ChangesUnder old new (suc l) t i []
 under_grown old new l t i c tree a absent names free bare rest frames =
@@ -30,7 +30,7 @@ under_grown old new l t i c tree a absent names free bare rest frames =
     record {
       account = λ f.
           let before : used_by_entry m (suc l) t f i ≡ 0 = ap (λ e. entry_uses e (λ c. uses m (suc l) c f)) absent in
-          let after : used_by_entry n (suc l) t f i ≡ here c f =
+          let after : used_by_entry n (suc l) t f i ≡ one_if_same c f =
           ap (λ e. entry_uses e (λ c. uses n (suc l) c f)) names ∙ uses-bare n l c f bare in
           omega (arith, free f);
       fewer = λ f. omega (arith, free f);
@@ -70,7 +70,7 @@ new_table n l c p w x bare h =
 
 pub grown_maps : (old new : Pool) (l t i c from to : ℕ) → IsTree old (suc (suc l)) t → i < TABLE_ENTRIES → from < to
     → index_in (suc l) from ≡ i → IsGrown old new (suc l) t i c
-    → Maps old new (suc (suc l)) t from to (states (memory old.words) (suc (suc l)) t)
+    → MapsPages old new (suc (suc l)) t from to (states (memory old.words) (suc (suc l)) t)
 grown_maps old new l t i c from to tree a some is g =
     let m : Memory = memory old.words in
     let n : Memory = memory new.words in
@@ -122,18 +122,19 @@ grown_maps old new l t i c from to tree a some is g =
 -- what the making of a table is
 pub record Grows (old new : Pool) (level l t i c : ℕ) : Type 0 where
   pub moves : TakesAndGivesFrames old new level t []
-  pub maps : (from to : ℕ) → from < to → index_in l from ≡ i → Maps old new level t from to (states (memory old.words) level t)
+  pub maps : (from to : ℕ) → from < to → index_in l from ≡ i → MapsPages old new level t from to (states (memory old.words) level t)
   pub leaves : (p : ℕ) → leaf_from (memory new.words) level t p ≡ leaf_from (memory old.words) level t p
   pub names : memory new.words level t i ≡ Table c
   pub zeroed : IsZeroed new.words c
 
 grows_two : (old mid new : Pool) (l t i c value : ℕ) → IsTree old (suc (suc l)) t → i < TABLE_ENTRIES
     → memory old.words (suc (suc l)) t i ≡ Absent → look (suc (suc l)) value ≡ Table c
-    → ((f : ℕ) → occurs f mid.free + here c f ≡ occurs f old.free) → IsZeroed mid.words c → mid.words ≡ old.words → mid.frames ≡ old.frames
+    → ((f : ℕ) → occurs f mid.free + one_if_same c f ≡ occurs f old.free) → IsZeroed mid.words c → mid.words ≡ old.words
+    → mid.frames ≡ old.frames
     → IsWrite mid.words new.words t i value → new.free ≡ mid.free → new.frames ≡ mid.frames → Grows old new (suc (suc l)) (suc l) t i c
 grows_two old mid new l t i c value tree a absent reads free zeroed same_words same_frames wrote same_free frames =
     let n : Memory = memory new.words in
-    let c_free : 0 < occurs c old.free = omega (arith, free c, here-same c) in
+    let c_free : 0 < occurs c old.free = omega (arith, free c, one_if_same-self c) in
     let apart : c ≡ t → ⊥ =
     λ e.
     let same : occurs c old.free ≡ occurs t old.free =
@@ -141,7 +142,7 @@ grows_two old mid new l t i c value tree a absent reads free zeroed same_words s
     omega (arith, root_apart old (suc l) t i tree a) in
     let names : n (suc (suc l)) t i ≡ Table c = memory_at new.words (suc (suc l)) t i ∙ ap (look (suc (suc l))) wrote.0 ∙ reads in
     let zeroed_now : IsZeroed new.words c = λ k k_in. wrote.1 c k k_in (λ e _. apart e) ∙ zeroed k k_in in
-    let free_now : (f : ℕ) → occurs f new.free + here c f ≡ occurs f old.free =
+    let free_now : (f : ℕ) → occurs f new.free + one_if_same c f ≡ occurs f old.free =
     λ f. omega (arith, free f, ap (λ xs. occurs f xs) same_free) in
     let rest : (f k : ℕ) → k < TABLE_ENTRIES → (f ≡ t → k ≡ i → ⊥) → word new.words f k ≡ word old.words f k =
     λ f k k_in ne. wrote.1 f k k_in ne ∙ ap (λ ws. word ws f k) same_words in
@@ -158,12 +159,13 @@ grows_two old mid new l t i c value tree a absent reads free zeroed same_words s
     }
 
 pub grows : (old mid new : Pool) (level l t i c value : ℕ) → level ≡ suc (suc l) → IsTree old level t → i < TABLE_ENTRIES
-    → memory old.words level t i ≡ Absent → look level value ≡ Table c → ((f : ℕ) → occurs f mid.free + here c f ≡ occurs f old.free)
+    → memory old.words level t i ≡ Absent → look level value ≡ Table c → ((f : ℕ) → occurs f mid.free + one_if_same c f ≡ occurs f old.free)
     → IsZeroed mid.words c → mid.words ≡ old.words → mid.frames ≡ old.frames → IsWrite mid.words new.words t i value → new.free ≡ mid.free
     → new.frames ≡ mid.frames → Grows old new level (suc l) t i c
 grows old mid new level l t i c value up =
     subst (λ n. IsTree old n t → i < TABLE_ENTRIES → memory old.words n t i ≡ Absent
-    → look n value ≡ Table c → ((f : ℕ) → occurs f mid.free + here c f ≡ occurs f old.free) → IsZeroed mid.words c → mid.words ≡ old.words
+    → look n value ≡ Table c → ((f : ℕ) → occurs f mid.free + one_if_same c f ≡ occurs f old.free) → IsZeroed mid.words c
+    → mid.words ≡ old.words
     → mid.frames ≡ old.frames
     → IsWrite mid.words new.words t i value → new.free ≡ mid.free → new.frames ≡ mid.frames → Grows old new n (suc l) t i c) (sym up)
     (grows_two old mid new l t i c value)

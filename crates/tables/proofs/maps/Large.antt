@@ -9,7 +9,7 @@ use Rattle.vtdbits.specs.declared.entry.SsEntry.TheVariants.{Absent, LargeLeaf}
 use Rattle.tables.specs.Under.{ChangesUnder, used_by_entry}
 use Rattle.tables.specs.Tree.{Memory, index_in, table_of, table_from, stated, uses, entry_uses}
 use Rattle.tables.specs.Pool.{Pool, memory, occurs, IsTree, IsWrite}
-use Rattle.tables.specs.Changes.{TakesAndGivesFrames, Maps}
+use Rattle.tables.specs.Changes.{TakesAndGivesFrames, MapsPages}
 use Rattle.tables.proofs.unmaps.UnderEntry.{under_moves, other_leaf, other_table}
 use Rattle.tables.proofs.walks.Levels.{stated_large}
 use Rattle.tables.proofs.walks.Steps.{leaf_under, table_under, table_top, same_or_not, same_span, div_span_one, same_index}
@@ -58,7 +58,7 @@ same_tables old new l t i p w cut before after tree a u was is none none_now =
 pub large_maps : (old new : Pool) (t i from frame rights value : ℕ) → IsTree old 2 t → i < TABLE_ENTRIES → i ≡ index_in 1 from
     → from % SPAN_PAGES ≡ 0 → IsWrite old.words new.words t i value → new.free ≡ old.free → new.frames ≡ old.frames
     → memory old.words 2 t i ≡ Absent → memory new.words 2 t i ≡ LargeLeaf (target frame rights)
-    → TakesAndGivesFrames old new 2 t [] × Maps old new 2 t from (from + SPAN_PAGES) (λ p. Some (target (frame + (p - from)) rights))
+    → TakesAndGivesFrames old new 2 t [] × MapsPages old new 2 t from (from + SPAN_PAGES) (λ p. Some (target (frame + (p - from)) rights))
     × ((p w : ℕ) → table_from (memory new.words) 2 t p w ≡ table_from (memory old.words) 2 t p w)
 large_maps old new t i from frame rights value tree a at aligned wrote free frames was is =
     let n : Memory = memory new.words in

@@ -7,7 +7,7 @@ use Rattle.vtdbits.specs.declared.entry.SsEntry.TheVariants.{Table}
 use Rattle.tables.specs.Under.{ChangesUnder}
 use Rattle.tables.specs.Tree.{Memory, span, index_in, leaf_from, table_from, stated, states}
 use Rattle.tables.specs.Pool.{Pool, memory, occurs, IsTree}
-use Rattle.tables.specs.Changes.{TakesAndGivesFrames, Maps, IsOutside}
+use Rattle.tables.specs.Changes.{TakesAndGivesFrames, MapsPages, IsOutside}
 use Rattle.tables.proofs.pools.GivenBack.{occurs-append}
 use Rattle.tables.proofs.unmaps.UnderEntry.{below_under, other_leaf, other_table}
 use Rattle.tables.proofs.walks.Steps.{leaf_under, table_under, table_top, same_or_not, same_span, same_index}
@@ -42,7 +42,7 @@ table_either m n l t c p w x P e f h same below =
 -- a map under an entry is one of the table
 pub maps_up : (old new : Pool) (l t i c from to : ℕ) (says : ℕ → Option Target) → IsTree old (suc l) t → i < TABLE_ENTRIES
     → i ≡ index_in l from → memory old.words (suc l) t i ≡ Table c → ((p : ℕ) → from ≤ p → p < to → p / span l ≡ from / span l)
-    → TakesAndGivesFrames old new l c [] → Maps old new l c from to says → Maps old new (suc l) t from to says
+    → TakesAndGivesFrames old new l c [] → MapsPages old new l c from to says → MapsPages old new (suc l) t from to says
 maps_up old new l t i c from to says tree a is names one moves maps =
     let m : Memory = memory old.words in
     let n : Memory = memory new.words in
@@ -88,7 +88,8 @@ maps_up old new l t i c from to says tree a is names one moves maps =
 -- a map after a change that left what is stated
 pub maps_over : (a b c : Pool) (level t from to : ℕ) (says : ℕ → Option Target)
     → ((p : ℕ) → leaf_from (memory b.words) level t p ≡ leaf_from (memory a.words) level t p) → TakesAndGivesFrames a b level t []
-    → Maps a b level t from to (states (memory a.words) level t) → Maps b c level t from to says → Maps a c level t from to says
+    → MapsPages a b level t from to (states (memory a.words) level t) → MapsPages b c level t from to says
+    → MapsPages a c level t from to says
 maps_over a b c level t from to says leaves moves x y = record {
   mapped = y.mapped;
   elsewhere = λ p wide out. y.elsewhere p wide out ∙ leaves p;
@@ -97,7 +98,7 @@ maps_over a b c level t from to says leaves moves x y = record {
   clear = λ p w wide far. y.clear p w wide far ∙ x.clear p w wide far;
 }
 
-pub no_maps : (a : Pool) (level t from : ℕ) (says : ℕ → Option Target) → Maps a a level t from from says
+pub no_maps : (a : Pool) (level t from : ℕ) (says : ℕ → Option Target) → MapsPages a a level t from from says
 no_maps a level t from says = record {
   mapped = λ p low high. absurd (omega (arith, low, high));
   elsewhere = λ p wide out. refl;
@@ -113,7 +114,8 @@ before from mid to p lo hi (inr h) = (inr (omega arith), inr h)
 -- two maps one after the other, of pages one after the other
 pub maps_then : (a b c : Pool) (level t from mid to : ℕ) (says : ℕ → Option Target) → from ≤ mid → mid < to
     → ((p : ℕ) → from ≤ p → p < to → p / span level ≡ from / span level)
-    → TakesAndGivesFrames a b level t [] → Maps a b level t from mid says → Maps b c level t mid to says → Maps a c level t from to says
+    → TakesAndGivesFrames a b level t [] → MapsPages a b level t from mid says → MapsPages b c level t mid to says
+    → MapsPages a c level t from to says
 maps_then a b c level t from mid to says lo hi one moves x y =
     let shift : from / span level ≡ mid / span level = sym (one mid lo hi) in
     record {
@@ -133,7 +135,7 @@ maps_then a b c level t from mid to says lo hi one moves x y =
 
 -- what is said of the pages counts alone
 pub maps_said : (a b : Pool) (level t from to : ℕ) (says tells : ℕ → Option Target) → ((p : ℕ) → from ≤ p → p < to → says p ≡ tells p)
-    → Maps a b level t from to says → Maps a b level t from to tells
+    → MapsPages a b level t from to says → MapsPages a b level t from to tells
 maps_said a b level t from to says tells same x = record {
   mapped = λ p low high. x.mapped p low high ∙ same p low high;
   elsewhere = x.elsewhere;

@@ -7,11 +7,11 @@ use Rattle.dmatypes.specs.World.{Target}
 use Rattle.vtdbits.specs.Entry.{look}
 use Rattle.vtdbits.specs.declared.entry.SsEntry.{SsEntry}
 use Rattle.vtdbits.specs.declared.entry.SsEntry.TheVariants.{Absent, Table, Leaf, LargeLeaf}
-use Rattle.tables.specs.Tree.{Memory, index_in, leaf_of, table_of, leaf_from, table_from, stated, here}
+use Rattle.tables.specs.Tree.{Memory, index_in, leaf_of, table_of, leaf_from, table_from, stated, one_if_same}
 use Rattle.tables.specs.Pool.{Pool, word, memory, occurs, KeepsOtherWords}
-use Rattle.tables.specs.Changes.{TakesAndGivesFrames, Maps, IsOutside}
+use Rattle.tables.specs.Changes.{TakesAndGivesFrames, MapsPages, IsOutside}
 use Rattle.tables.specs.Pieces.{WritesEntries}
-use Rattle.tables.proofs.sums.OneFrame.{here-same}
+use Rattle.tables.proofs.sums.OneFrame.{one_if_same-self}
 use Rattle.tables.proofs.walks.Words.{same_entry, memory_at}
 use Rattle.tables.proofs.walks.Levels.{stated_small}
 use Rattle.tables.proofs.walks.Steps.{leaf_under, table_under, table_top, same_or_not, uses-one}
@@ -43,7 +43,8 @@ run_moves old new t from to entry run free frames = record {
   account = λ f. omega (arith, uses-one (memory old.words) t f, uses-one (memory new.words) t f, ap (λ xs. occurs f xs) free);
   fewer = λ f. omega (arith, ap (λ xs. occurs f xs) free);
   others = λ f k k_in none. run.rest f k k_in (λ e p low high at.
-      let used : here t f ≡ here t t = ap (λ x. here t x) e in absurd (omega (arith, none, uses-one (memory old.words) t f, here-same t)));
+      let used : one_if_same t f ≡ one_if_same t t = ap (λ x. one_if_same t x) e in
+      absurd (omega (arith, none, uses-one (memory old.words) t f, one_if_same-self t)));
   frames = frames;
 }
 
@@ -75,7 +76,7 @@ run_rest old new t from to p entry run one same out =
 
 pub run_maps : (old new : Pool) (t from to : ℕ) (entry : ℕ → SsEntry) (says : ℕ → Target)
     → WritesEntries old.words new.words t from to entry → ((q : ℕ) → from ≤ q → q < to → q / SPAN_PAGES ≡ from / SPAN_PAGES)
-    → ((p : ℕ) → entry p ≡ Leaf (says p)) → Maps old new 1 t from to (λ p. Some (says p))
+    → ((p : ℕ) → entry p ≡ Leaf (says p)) → MapsPages old new 1 t from to (λ p. Some (says p))
 run_maps old new t from to entry says run one leaves = record {
   mapped =
       λ p low high.

@@ -6,7 +6,7 @@ use Rattle.dmatypes.specs.declared.page.TheConstants.{SPAN_PAGES}
 use Rattle.dmatypes.specs.World.{Target}
 use Rattle.tables.specs.Tree.{Memory, span, table_from}
 use Rattle.tables.specs.Pool.{Pool, memory}
-use Rattle.tables.specs.Changes.{Maps, MakesTables}
+use Rattle.tables.specs.Changes.{MapsPages, MakesTables}
 use Rattle.tables.proofs.counts.ByPieces.{Placed, near_same, piece_near}
 use Rattle.tables.proofs.walks.Steps.{div_span_one}
 
@@ -27,7 +27,7 @@ some_stays m n level t p w stays (Some c) e h = subst (λ (o : Option ℕ). IsSo
 -- one piece more
 pub makes_then : (old cur new : Pool) (level t first from to : ℕ) (says says' : ℕ → Option Target) (large : ℕ → Bool) (b : Bool)
     → first ≤ from → ((p : ℕ) → first ≤ p → p < to → p / span level ≡ first / span level) → MakesTables old cur level t first from large
-    → Maps old cur level t first from says → Placed cur new level t from to says' b → large (from / SPAN_PAGES * SPAN_PAGES) ≡ b
+    → MapsPages old cur level t first from says → Placed cur new level t from to says' b → large (from / SPAN_PAGES * SPAN_PAGES) ≡ b
     → (0 < from % SPAN_PAGES → b ≡ false)
     → (1 < level → b ≡ true → table_from (memory new.words) level t from 1 ≡ table_from (memory cur.words) level t from 1)
     → MakesTables old new level t first to large

@@ -6,70 +6,76 @@ use Rattle.std.proofs.lemmas.List.{take_more_set, get_or-replicate}
 use Rattle.std.proofs.lemmas.Bool.{cases_lt}
 use Rattle.std.proofs.lemmas.Bool.Decides.{eqb_tells}
 use Rattle.tables.specs.declared.entries.TheConstants.{TABLE_ENTRIES}
-use Rattle.tables.specs.Tree.{total, here}
+use Rattle.tables.specs.Tree.{sum_below, one_if_same}
 use Rattle.tables.specs.Pool.{Pool, word, occurs, IsZeroed, IsPool, IsWrite}
-use Rattle.tables.proofs.sums.Firsts.{total_same, total_change, total-zeros}
-use Rattle.tables.proofs.sums.OneFrame.{here-same, here-other, here_le}
+use Rattle.tables.proofs.sums.Firsts.{sum_below_same, sum_below_change, sum_below-zeros}
+use Rattle.tables.proofs.sums.OneFrame.{one_if_same-self, one_if_same-other, one_if_same_le}
 
 pub same_or_not : (a b : ℕ) → (a ≡ b) ⊎ (a ≢ b)
 same_or_not a b = elim (eqb_tells a b) [ inl h ↦ inl h.1 | inr h ↦ inr h.1 ]
 
-occurs-cons : (x : ℕ) (xs : List ℕ) (f : ℕ) → occurs f (x ∷ xs) ≡ here x f + occurs f xs
-occurs-cons x xs f = sum_by-cons (λ y. here y f) x xs
+occurs-cons : (x : ℕ) (xs : List ℕ) (f : ℕ) → occurs f (x ∷ xs) ≡ one_if_same x f + occurs f xs
+occurs-cons x xs f = sum_by-cons (λ y. one_if_same y f) x xs
 
 -- one more of the front
-pub occurs_more : (xs : List ℕ) (n f : ℕ) → n < length xs → occurs f (take (n + 1) xs) ≡ occurs f (take n xs) + here (get_or xs n 0) f
-occurs_more xs n f h = sum_by_more (λ x. here x f) xs n 0 h
+pub occurs_more : (xs : List ℕ) (n f : ℕ) → n < length xs
+    → occurs f (take (n + 1) xs) ≡ occurs f (take n xs) + one_if_same (get_or xs n 0) f
+occurs_more xs n f h = sum_by_more (λ x. one_if_same x f) xs n 0 h
 
 pub occurs_front : (xs : List ℕ) (n f : ℕ) → 0 < n → n ≤ length xs
-    → occurs f (take (n - 1) xs) + here (get_or xs (n - 1) 0) f ≡ occurs f (take n xs)
+    → occurs f (take (n - 1) xs) + one_if_same (get_or xs (n - 1) 0) f ≡ occurs f (take n xs)
 occurs_front xs n f pos h =
     let e : n - 1 + 1 ≡ n = omega arith in
     sym (occurs_more xs (n - 1) f (omega arith)) ∙ ap (λ k. occurs f (take k xs)) e
 
 pub last_free : (xs : List ℕ) (n : ℕ) → 0 < n → n ≤ length xs → 0 < occurs (get_or xs (n - 1) 0) (take n xs)
-last_free xs n pos h = omega (arith, occurs_front xs n (get_or xs (n - 1) 0) pos h, here-same (get_or xs (n - 1) 0))
+last_free xs n pos h = omega (arith, occurs_front xs n (get_or xs (n - 1) 0) pos h, one_if_same-self (get_or xs (n - 1) 0))
 
 -- one more free frame, at the end of the front
-pub occurs_given : (xs : List ℕ) (n v f : ℕ) → n < length xs → occurs f (take (n + 1) (set xs n v)) ≡ occurs f (take n xs) + here v f
-occurs_given xs n v f h = ap (occurs f) (take_more_set xs n v h) ∙ sum_by_push (λ y. here y f) (take n xs) v
+pub occurs_given : (xs : List ℕ) (n v f : ℕ) → n < length xs → occurs f (take (n + 1) (set xs n v)) ≡ occurs f (take n xs) + one_if_same v f
+occurs_given xs n v f h = ap (occurs f) (take_more_set xs n v h) ∙ sum_by_push (λ y. one_if_same y f) (take n xs) v
 
 -- a sum of two functions
-pub total_plus : (g h : ℕ → ℕ) (n : ℕ) → total (λ i. g i + h i) n ≡ total g n + total h n
-unfolding total
-total_plus g h zero = refl
-total_plus g h (suc n) = omega (arith, total_plus g h n)
+pub sum_below_plus : (g h : ℕ → ℕ) (n : ℕ) → sum_below (λ i. g i + h i) n ≡ sum_below g n + sum_below h n
+unfolding sum_below
+sum_below_plus g h zero = refl
+sum_below_plus g h (suc n) = omega (arith, sum_below_plus g h n)
 
-total_here : (x n : ℕ) → x < n → total (here x) n ≡ 1
-total_here x n l =
-    omega (arith, total_change (λ _. 0) (here x) n x l (λ j k ne. here-other x j (λ e. ne (sym e))), total-zeros n, here-same x)
-
--- how long a list is, by how often it has each number
-length_total : (xs : List ℕ) (n : ℕ) → ((f : ℕ) → n ≤ f → occurs f xs ≡ 0) → total (λ f. occurs f xs) n ≡ length xs
-length_total [] n h = total-zeros n
-length_total (x ∷ xs) n h =
-    let inside : x < n = ⊎_elim (λ l. l) (λ g. absurd (omega (arith, h x g, here-same x, occurs-cons x xs x))) (cases_lt x n) in
+sum_below_one : (x n : ℕ) → x < n → sum_below (one_if_same x) n ≡ 1
+sum_below_one x n l =
     omega (
       arith,
-      total_plus (here x) (λ f. occurs f xs) n,
-      total_here x n inside,
-      total_same (λ f. here x f + occurs f xs) (λ f. occurs f (x ∷ xs)) n (λ f _. occurs-cons x xs f),
+      sum_below_change (λ _. 0) (one_if_same x) n x l (λ j k ne. one_if_same-other x j (λ e. ne (sym e))),
+      sum_below-zeros n,
+      one_if_same-self x,
+    )
+
+-- how long a list is, by how often it has each number
+length_total : (xs : List ℕ) (n : ℕ) → ((f : ℕ) → n ≤ f → occurs f xs ≡ 0) → sum_below (λ f. occurs f xs) n ≡ length xs
+length_total [] n h = sum_below-zeros n
+length_total (x ∷ xs) n h =
+    let inside : x < n = ⊎_elim (λ l. l) (λ g. absurd (omega (arith, h x g, one_if_same-self x, occurs-cons x xs x))) (cases_lt x n) in
+    omega (
+      arith,
+      sum_below_plus (one_if_same x) (λ f. occurs f xs) n,
+      sum_below_one x n inside,
+      sum_below_same (λ f. one_if_same x f + occurs f xs) (λ f. occurs f (x ∷ xs)) n (λ f _. occurs-cons x xs f),
       length_total xs n (λ f g. omega (arith, h f g, occurs-cons x xs f)),
     )
 
-total_le : (g : ℕ → ℕ) (n : ℕ) → ((i : ℕ) → g i ≤ 1) → total g n ≤ n
-unfolding total
-total_le g zero h = omega arith
-total_le g (suc n) h = omega (arith, total_le g n h, h n)
+sum_below_le : (g : ℕ → ℕ) (n : ℕ) → ((i : ℕ) → g i ≤ 1) → sum_below g n ≤ n
+unfolding sum_below
+sum_below_le g zero h = omega arith
+sum_below_le g (suc n) h = omega (arith, sum_below_le g n h, h n)
 
 -- a list of different numbers below a bound is no longer than it
 pub longest : (xs : List ℕ) (n : ℕ) → ((f : ℕ) → occurs f xs ≤ 1) → ((f : ℕ) → n ≤ f → occurs f xs ≡ 0) → length xs ≤ n
-longest xs n once within = omega (arith, total_le (λ f. occurs f xs) n once, length_total xs n within)
+longest xs n once within = omega (arith, sum_below_le (λ f. occurs f xs) n once, length_total xs n within)
 
-at_most : (xs : List ℕ) (g f : ℕ) → occurs f xs ≤ 1 → occurs g xs ≡ 0 → occurs f xs + here g f ≤ 1
+at_most : (xs : List ℕ) (g f : ℕ) → occurs f xs ≤ 1 → occurs g xs ≡ 0 → occurs f xs + one_if_same g f ≤ 1
 at_most xs g f once none =
-    ⊎_elim (λ e. let same : occurs g xs ≡ occurs f xs = ap (λ x. occurs x xs) e in omega (arith, here_le g f))
-    (λ ne. omega (arith, here-other g f ne)) (same_or_not g f)
+    ⊎_elim (λ e. let same : occurs g xs ≡ occurs f xs = ap (λ x. occurs x xs) e in omega (arith, one_if_same_le g f))
+    (λ ne. omega (arith, one_if_same-other g f ne)) (same_or_not g f)
 
 -- a list of different numbers below a bound, without one of them, is shorter than the bound
 pub shorter : (xs : List ℕ) (n g : ℕ) → ((f : ℕ) → occurs f xs ≤ 1) → ((f : ℕ) → n ≤ f → occurs f xs ≡ 0) → g < n → occurs g xs ≡ 0
@@ -77,9 +83,9 @@ pub shorter : (xs : List ℕ) (n g : ℕ) → ((f : ℕ) → occurs f xs ≤ 1) 
 shorter xs n g once within g_in none =
     omega (
       arith,
-      total_le (λ f. occurs f xs + here g f) n (λ f. at_most xs g f (once f) none),
-      total_plus (λ f. occurs f xs) (here g) n,
-      total_here g n g_in,
+      sum_below_le (λ f. occurs f xs + one_if_same g f) n (λ f. at_most xs g f (once f) none),
+      sum_below_plus (λ f. occurs f xs) (one_if_same g) n,
+      sum_below_one g n g_in,
       length_total xs n within,
     )
 
@@ -124,28 +130,31 @@ fewer_keeps pool free ok le = record {
 
 -- a pool with one more free frame
 pub more_keeps : (pool : Pool) (frame : ℕ) (free : List ℕ) → IsPool pool → frame < pool.frames → occurs frame pool.free ≡ 0
-    → IsZeroed pool.words frame → ((f : ℕ) → occurs f free ≡ occurs f pool.free + here frame f) → IsPool (record pool { free = free })
+    → IsZeroed pool.words frame → ((f : ℕ) → occurs f free ≡ occurs f pool.free + one_if_same frame f)
+    → IsPool (record pool { free = free })
 more_keeps pool frame free ok inside none zero_words is = record {
   fit = ok.fit;
   few = ok.few;
   once = λ f. omega (arith, is f, at_most pool.free frame f (ok.once f) none);
-  within = λ f past. omega (arith, is f, ok.within f past, here-other frame f (λ e. omega arith));
+  within = λ f past. omega (arith, is f, ok.within f past, one_if_same-other frame f (λ e. omega arith));
   zeroed =
       λ f has.
-      ⊎_elim (λ e. subst (λ x. IsZeroed pool.words x) e zero_words) (λ ne. ok.zeroed f (omega (arith, is f, here-other frame f ne)))
+      ⊎_elim (λ e. subst (λ x. IsZeroed pool.words x) e zero_words) (λ ne. ok.zeroed f (omega (arith, is f, one_if_same-other frame f ne)))
       (same_or_not frame f);
 }
 
 pub counted_up : (xs : List ℕ) (n : ℕ) → ((f : ℕ) → f < n → occurs f xs ≡ 1) → ((f : ℕ) → n ≤ f → occurs f xs ≡ 0) → (f : ℕ) → f < n + 1
     → occurs f (xs ++ n ∷ []) ≡ 1
 counted_up xs n below past f l =
-    let step : occurs f (xs ++ n ∷ []) ≡ occurs f xs + here n f = sum_by_push (λ y. here y f) xs n in
+    let step : occurs f (xs ++ n ∷ []) ≡ occurs f xs + one_if_same n f = sum_by_push (λ y. one_if_same y f) xs n in
     ⊎_elim
-    (λ e. subst (λ x. occurs x (xs ++ n ∷ []) ≡ 1) e (omega (arith, sum_by_push (λ y. here y n) xs n, past n (omega arith), here-same n)))
-    (λ ne. omega (arith, step, below f (omega arith), here-other n f ne)) (same_or_not n f)
+    (λ e. subst (λ x. occurs x (xs ++ n ∷ []) ≡ 1) e
+    (omega (arith, sum_by_push (λ y. one_if_same y n) xs n, past n (omega arith), one_if_same-self n)))
+    (λ ne. omega (arith, step, below f (omega arith), one_if_same-other n f ne)) (same_or_not n f)
 
 pub counted_past : (xs : List ℕ) (n : ℕ) → ((f : ℕ) → n ≤ f → occurs f xs ≡ 0) → (f : ℕ) → n + 1 ≤ f → occurs f (xs ++ n ∷ []) ≡ 0
-counted_past xs n past f l = omega (arith, sum_by_push (λ y. here y f) xs n, past f (omega arith), here-other n f (λ e. omega arith))
+counted_past xs n past f l =
+    omega (arith, sum_by_push (λ y. one_if_same y f) xs n, past f (omega arith), one_if_same-other n f (λ e. omega arith))
 
 pub counted_once : (xs : List ℕ) (n : ℕ) → ((f : ℕ) → f < n → occurs f xs ≡ 1) → ((f : ℕ) → n ≤ f → occurs f xs ≡ 0) → (f : ℕ)
     → occurs f xs ≤ 1

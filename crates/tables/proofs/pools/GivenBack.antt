@@ -4,12 +4,12 @@ use Rattle.std.proofs.Common.{length-append, refl, ap, sym, ◌∙◌, subst, ar
 use Rattle.std.proofs.lemmas.List.{take-append-le, take-take}
 use Rattle.std.proofs.lemmas.List.Sums.{sum_by-append}
 use Rattle.std.proofs.Math.Seq.{take-append-add, take-append_seam}
-use Rattle.tables.specs.Tree.{here}
+use Rattle.tables.specs.Tree.{one_if_same}
 use Rattle.tables.specs.Pool.{Pool, occurs, IsZeroed, IsPool}
 use Rattle.tables.proofs.pools.FreeList.{longest}
 
 pub occurs-append : (f : ℕ) (xs ys : List ℕ) → occurs f (xs ++ ys) ≡ occurs f xs + occurs f ys
-occurs-append f xs ys = sum_by-append (λ y. here y f) xs ys
+occurs-append f xs ys = sum_by-append (λ y. one_if_same y f) xs ys
 
 -- the front of a list whose middle was replaced
 pub front_given : (n limit : ℕ) (xs given rest more : List ℕ) → n ≤ length xs → n + length given ≤ limit

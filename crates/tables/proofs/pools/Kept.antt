@@ -10,14 +10,14 @@ use Rattle.tables.specs.declared.entries.TheConstants.{TABLE_ENTRIES}
 use Rattle.dmatypes.specs.World.{Target}
 use Rattle.tables.specs.Tree.{Memory, Found, span, leaf_from, stated, states, uses, IsLeafAt, IsTableAt}
 use Rattle.tables.specs.Pool.{Pool, word, memory, occurs, IsTree}
-use Rattle.tables.specs.Changes.{TakesAndGivesFrames, Maps, IsApart, Stays}
+use Rattle.tables.specs.Changes.{TakesAndGivesFrames, MapsPages, IsApart, TreeStays}
 use Rattle.tables.proofs.walks.Agreeing.{AgreeAt, to_agree, leaf_agrees, table_agrees, uses_agree}
 use Rattle.tables.proofs.walks.Words.{same_entry}
 use Rattle.tables.proofs.walks.Near.{div_within, near_at, span_pos}
 
-pub span-three : span LEVELS ≡ PAGES_END
+pub span-levels : span LEVELS ≡ PAGES_END
 unfolding span
-span-three = refl
+span-levels = refl
 
 -- the pages of a tree are in its root's one span
 pub same_root : (level p q : ℕ) → p < span level → q < span level → p / span level ≡ q / span level
@@ -35,7 +35,7 @@ stated_none p (Some x) h = cc
 
 -- a map leaves every leaf entry
 pub map_leaves : (old new : Pool) (level root from to : ℕ) (says : ℕ → Option Target) → 1 ≤ level → from < span level
-    → ((p : ℕ) → from ≤ p → p < to → states (memory old.words) level root p ≡ None) → Maps old new level root from to says
+    → ((p : ℕ) → from ≤ p → p < to → states (memory old.words) level root p ≡ None) → MapsPages old new level root from to says
     → (first pages frame rights : ℕ) → IsLeafAt (memory old.words) level root first pages frame rights
     → IsLeafAt (memory new.words) level root first pages frame rights
 map_leaves old new level root from to says some within absent maps first pages frame rights (j, leaf) = (
@@ -66,7 +66,7 @@ map_leaves old new level root from to says some within absent maps first pages f
         (cases_lt p to))
         (cases_lt p from)
 
-pub map_tables : (old new : Pool) (height root from to : ℕ) (says : ℕ → Option Target) → Maps old new height root from to says
+pub map_tables : (old new : Pool) (height root from to : ℕ) (says : ℕ → Option Target) → MapsPages old new height root from to says
     → (first level table : ℕ) → IsTableAt (memory old.words) height root first level table
     → IsTableAt (memory new.words) height root first level table
 map_tables old new height root from to says maps first level table at =
@@ -78,7 +78,7 @@ none_or_some (suc n) = inr (omega arith)
 
 -- a tree apart from the one that changed stays
 pub apart_stays : (old new : Pool) (l t l' t' : ℕ) (cut : List ℕ) → IsTree old l t → TakesAndGivesFrames old new l t cut → IsTree old l' t'
-    → IsApart old l t l' t' → Stays old new l' t'
+    → IsApart old l t l' t' → TreeStays old new l' t'
 apart_stays old new l t l' t' cut first moves tree apart =
     let m : Memory = memory old.words in
     let n : Memory = memory new.words in
@@ -121,7 +121,7 @@ on_done (Err e) ok f = ok
 pub given_stays : (old new : Pool) (l t l' t' : ℕ) → IsTree old l t
     → ((f : ℕ) → occurs f new.free ≡ occurs f old.free + uses (memory old.words) l t f)
     → ((f k : ℕ) → k < TABLE_ENTRIES → uses (memory old.words) l t f ≡ 0 → word new.words f k ≡ word old.words f k)
-    → new.frames ≡ old.frames → IsTree old l' t' → IsApart old l t l' t' → Stays old new l' t'
+    → new.frames ≡ old.frames → IsTree old l' t' → IsApart old l t l' t' → TreeStays old new l' t'
 given_stays old new l t l' t' first free others frames tree apart =
     let m : Memory = memory old.words in
     let n : Memory = memory new.words in

@@ -1,7 +1,7 @@
 -- Sums of the first values of a function.
 use Rattle.std.proofs.Common.{◌≡◌, ℕ, zero, suc, ◌+◌, ◌<◌, ◌≤◌, ◌≢◌, ◌⊎◌, refl, ap, sym, ◌∙◌, inl, inr, ⊎_elim, arith}
 use Rattle.std.proofs.lemmas.Bool.{cases_lt}
-use Rattle.tables.specs.Tree.{total}
+use Rattle.tables.specs.Tree.{sum_below}
 
 -- a number below the next one is that one or below it
 split : (i n : ℕ) → i < suc n → (i ≡ n) ⊎ (i < n)
@@ -10,73 +10,73 @@ split i n l = elim (cases_lt i n) [ inl h ↦ inr h | inr h ↦ inl (omega arith
 pub last_or_below : {P : Type 0} (i n : ℕ) → (i ≡ n → P) → (i < n → P) → i < suc n → P
 last_or_below i n p q l = ⊎_elim p q (split i n l)
 
-pub total-suc : (g : ℕ → ℕ) (n : ℕ) → total g (suc n) ≡ total g n + g n
-unfolding total
-total-suc g n = refl
+pub sum_below-suc : (g : ℕ → ℕ) (n : ℕ) → sum_below g (suc n) ≡ sum_below g n + g n
+unfolding sum_below
+sum_below-suc g n = refl
 
-pub total-zero : (g : ℕ → ℕ) → total g 0 ≡ 0
-unfolding total
-total-zero g = refl
+pub sum_below-zero : (g : ℕ → ℕ) → sum_below g 0 ≡ 0
+unfolding sum_below
+sum_below-zero g = refl
 
 -- functions that agree have one sum
-pub total_same : (g h : ℕ → ℕ) (n : ℕ) → ((i : ℕ) → i < n → h i ≡ g i) → total h n ≡ total g n
-unfolding total
-total_same g h zero e = refl
-total_same g h (suc n) e = omega (arith, total_same g h n (λ i l. e i (omega arith)), e n (omega arith))
+pub sum_below_same : (g h : ℕ → ℕ) (n : ℕ) → ((i : ℕ) → i < n → h i ≡ g i) → sum_below h n ≡ sum_below g n
+unfolding sum_below
+sum_below_same g h zero e = refl
+sum_below_same g h (suc n) e = omega (arith, sum_below_same g h n (λ i l. e i (omega arith)), e n (omega arith))
 
 -- no value is above the sum
-pub total_part : (g : ℕ → ℕ) (n i : ℕ) → i < n → g i ≤ total g n
-unfolding total
-total_part g zero i l = omega arith
-total_part g (suc n) i l =
-    last_or_below i n (λ e. let same : g i ≡ g n = ap g e in omega arith) (λ below. omega (arith, total_part g n i below)) l
+pub sum_below_part : (g : ℕ → ℕ) (n i : ℕ) → i < n → g i ≤ sum_below g n
+unfolding sum_below
+sum_below_part g zero i l = omega arith
+sum_below_part g (suc n) i l =
+    last_or_below i n (λ e. let same : g i ≡ g n = ap g e in omega arith) (λ below. omega (arith, sum_below_part g n i below)) l
 
 -- a sum where one value changed
-pub total_change : (g h : ℕ → ℕ) (n i : ℕ) → i < n → ((j : ℕ) → j < n → j ≢ i → h j ≡ g j) → total h n + g i ≡ total g n + h i
-unfolding total
-total_change g h zero i l e = omega arith
-total_change g h (suc n) i l e =
+pub sum_below_change : (g h : ℕ → ℕ) (n i : ℕ) → i < n → ((j : ℕ) → j < n → j ≢ i → h j ≡ g j) → sum_below h n + g i ≡ sum_below g n + h i
+unfolding sum_below
+sum_below_change g h zero i l e = omega arith
+sum_below_change g h (suc n) i l e =
     last_or_below i n
     (λ s. let same : g i ≡ g n = ap g s in let same2 : h i ≡ h n = ap h s in
-    omega (arith, total_same g h n (λ j k. e j (omega arith) (λ q. omega arith))))
+    omega (arith, sum_below_same g h n (λ j k. e j (omega arith) (λ q. omega arith))))
     (λ below. let last : h n ≡ g n = e n (omega arith) (λ q. omega arith) in
-    omega (arith, total_change g h n i below (λ j k. e j (omega arith))))
+    omega (arith, sum_below_change g h n i below (λ j k. e j (omega arith))))
     l
 
 -- two values at two places
-pub total_two : (g : ℕ → ℕ) (n i j : ℕ) → i < n → j < n → j ≢ i → g i + g j ≤ total g n
-unfolding total
-total_two g zero i j l k ne = omega arith
-total_two g (suc n) i j l k ne =
+pub sum_below_two : (g : ℕ → ℕ) (n i j : ℕ) → i < n → j < n → j ≢ i → g i + g j ≤ sum_below g n
+unfolding sum_below
+sum_below_two g zero i j l k ne = omega arith
+sum_below_two g (suc n) i j l k ne =
     last_or_below i n
     (λ s. let same : g i ≡ g n = ap g s in
-    let inside : j < n = omega arith in omega (arith, total_part g n j inside))
+    let inside : j < n = omega arith in omega (arith, sum_below_part g n j inside))
     (λ below. last_or_below j n
-    (λ s. let same : g j ≡ g n = ap g s in omega (arith, total_part g n i below))
-    (λ below_too. omega (arith, total_two g n i j below below_too ne)) k)
+    (λ s. let same : g j ≡ g n = ap g s in omega (arith, sum_below_part g n i below))
+    (λ below_too. omega (arith, sum_below_two g n i j below below_too ne)) k)
     l
 
-pub total-zeros : (n : ℕ) → total (λ _. 0) n ≡ 0
-unfolding total
-total-zeros zero = refl
-total-zeros (suc n) = omega (arith, total-zeros n)
+pub sum_below-zeros : (n : ℕ) → sum_below (λ _. 0) n ≡ 0
+unfolding sum_below
+sum_below-zeros zero = refl
+sum_below-zeros (suc n) = omega (arith, sum_below-zeros n)
 
 -- what stands past the values that count is 0
-pub total_tail : (g : ℕ → ℕ) (i n : ℕ) → i ≤ n → ((j : ℕ) → i ≤ j → g j ≡ 0) → total g n ≡ total g i
-unfolding total
-total_tail g i zero l h = let e : 0 ≡ i = omega arith in ap (total g) e
-total_tail g i (suc n) l h =
+pub sum_below_tail : (g : ℕ → ℕ) (i n : ℕ) → i ≤ n → ((j : ℕ) → i ≤ j → g j ≡ 0) → sum_below g n ≡ sum_below g i
+unfolding sum_below
+sum_below_tail g i zero l h = let e : 0 ≡ i = omega arith in ap (sum_below g) e
+sum_below_tail g i (suc n) l h =
     let le : i < suc (suc n) = omega arith in
-    last_or_below i (suc n) (λ e. ap (total g) (sym e))
-    (λ below. let le' : i ≤ n = omega arith in omega (arith, total_tail g i n le' h, h n le')) le
+    last_or_below i (suc n) (λ e. ap (sum_below g) (sym e))
+    (λ below. let le' : i ≤ n = omega arith in omega (arith, sum_below_tail g i n le' h, h n le')) le
 
-pub total_le_more : (g : ℕ → ℕ) (i n : ℕ) → i ≤ n → total g i ≤ total g n
-unfolding total
-total_le_more g i zero l = let e : i ≡ 0 = omega arith in let same : total g i ≡ total g 0 = ap (total g) e in omega arith
-total_le_more g i (suc n) l =
+pub sum_below_le_more : (g : ℕ → ℕ) (i n : ℕ) → i ≤ n → sum_below g i ≤ sum_below g n
+unfolding sum_below
+sum_below_le_more g i zero l = let e : i ≡ 0 = omega arith in let same : sum_below g i ≡ sum_below g 0 = ap (sum_below g) e in omega arith
+sum_below_le_more g i (suc n) l =
     let le : i < suc (suc n) = omega arith in
-    last_or_below i (suc n) (λ e. let same : total g i ≡ total g (suc n) = ap (total g) e in omega arith)
-    (λ below. let le' : i ≤ n = omega arith in omega (arith, total_le_more g i n le')) le
+    last_or_below i (suc n) (λ e. let same : sum_below g i ≡ sum_below g (suc n) = ap (sum_below g) e in omega arith)
+    (λ below. let le' : i ≤ n = omega arith in omega (arith, sum_below_le_more g i n le')) le
 
-pub total-none : (g : ℕ → ℕ) (n : ℕ) → ((j : ℕ) → j < n → g j ≡ 0) → total g n ≡ 0
-total-none g n h = total_same (λ _. 0) g n h ∙ total-zeros n
+pub sum_below-none : (g : ℕ → ℕ) (n : ℕ) → ((j : ℕ) → j < n → g j ≡ 0) → sum_below g n ≡ 0
+sum_below-none g n h = sum_below_same (λ _. 0) g n h ∙ sum_below-zeros n

@@ -1,16 +1,16 @@
 -- One frame, counted.
 use Rattle.std.proofs.Common.{◌≡◌, ◌≢◌, ℕ, ◌<◌, ◌≤◌, arith}
 use Rattle.std.proofs.lemmas.Bool.Decides.{nat_tests}
-use Rattle.tables.specs.Tree.{here}
+use Rattle.tables.specs.Tree.{one_if_same}
 
-pub here-same : (t : ℕ) → here t t ≡ 1
-here-same t = grind (arith, nat_tests)
+pub one_if_same-self : (t : ℕ) → one_if_same t t ≡ 1
+one_if_same-self t = grind (arith, nat_tests)
 
-pub here-other : (t f : ℕ) → t ≢ f → here t f ≡ 0
-here-other t f ne = grind (arith, nat_tests)
+pub one_if_same-other : (t f : ℕ) → t ≢ f → one_if_same t f ≡ 0
+one_if_same-other t f ne = grind (arith, nat_tests)
 
-pub here_is : (t f : ℕ) → 0 < here t f → t ≡ f
-here_is t f h = grind (arith, nat_tests)
+pub one_if_same_is : (t f : ℕ) → 0 < one_if_same t f → t ≡ f
+one_if_same_is t f h = grind (arith, nat_tests)
 
-pub here_le : (t f : ℕ) → here t f ≤ 1
-here_le t f = grind (arith, nat_tests)
+pub one_if_same_le : (t f : ℕ) → one_if_same t f ≤ 1
+one_if_same_le t f = grind (arith, nat_tests)

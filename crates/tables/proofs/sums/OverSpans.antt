@@ -7,34 +7,34 @@ use Rattle.std.proofs.lemmas.Bool.{cases_lt}
 use Rattle.std.proofs.Common.{nat_le}
 use Rattle.std.proofs.lemmas.Bool.Decides.{nat_tests}
 use Rattle.dmatypes.specs.declared.page.TheConstants.{SPAN_PAGES}
-use Rattle.tables.specs.Tree.{Memory, span, total, leaf_from, is_large_leaf}
+use Rattle.tables.specs.Tree.{Memory, span, sum_below, leaf_from, is_large_leaf}
 use Rattle.std.proofs.Common.{List}
 use Rattle.dmatypes.specs.declared.call.Segment.{Segment}
 use Rattle.tables.specs.Pool.{Pool, memory}
 use Rattle.tables.specs.Segments.{is_large_at}
-use Rattle.tables.specs.Lacks.{sum_spans, lacks_table, tables_lacking, splits_leaf, splits}
+use Rattle.tables.specs.Lacks.{sum_spans, lacks_table, tables_lacking, splits_leaf, leaves_splitting}
 use Rattle.tables.proofs.walks.Steps.{span-one, same_or_not}
-use Rattle.tables.proofs.sums.Firsts.{total_same, total-suc, total-zero, total_part, total_le_more}
+use Rattle.tables.proofs.sums.Firsts.{sum_below_same, sum_below-suc, sum_below-zero, sum_below_part, sum_below_le_more}
 
 -- the first value apart
-pub total_first : (g : ℕ → ℕ) (n : ℕ) → total g (suc n) ≡ g 0 + total (λ k. g (suc k)) n
-total_first g zero = omega (arith, total-suc g 0, total-zero g, total-zero (λ k. g (suc k)))
-total_first g (suc n) = omega (arith, total-suc g (suc n), total_first g n, total-suc (λ k. g (suc k)) n)
+pub sum_below_first : (g : ℕ → ℕ) (n : ℕ) → sum_below g (suc n) ≡ g 0 + sum_below (λ k. g (suc k)) n
+sum_below_first g zero = omega (arith, sum_below-suc g 0, sum_below-zero g, sum_below-zero (λ k. g (suc k)))
+sum_below_first g (suc n) = omega (arith, sum_below-suc g (suc n), sum_below_first g n, sum_below-suc (λ k. g (suc k)) n)
 
 sum_spans-is : (g : ℕ → ℕ) (w from to : ℕ)
-    → sum_spans g w from to ≡ total (λ k. g ((from / span w + k) * span w)) ((to - 1) / span w + 1 - from / span w)
+    → sum_spans g w from to ≡ sum_below (λ k. g ((from / span w + k) * span w)) ((to - 1) / span w + 1 - from / span w)
 unfolding sum_spans
 sum_spans-is g w from to = refl
 
 -- the spans from a numbered one on
 from_span : (ℕ → ℕ) → ℕ → ℕ → ℕ → ℕ
-from_span g w a b = total (λ k. g ((a + k) * span w)) (b - a)
+from_span g w a b = sum_below (λ k. g ((a + k) * span w)) (b - a)
 
 spans_at : (g : ℕ → ℕ) (w from to a b : ℕ) → from / span w ≡ a → (to - 1) / span w + 1 ≡ b → sum_spans g w from to ≡ from_span g w a b
 unfolding from_span
 spans_at g w from to a b ea eb =
-    sum_spans-is g w from to ∙ ap (λ (x : ℕ). total (λ k. g ((x + k) * span w)) ((to - 1) / span w + 1 - x)) ea
-    ∙ ap (λ (y : ℕ). total (λ k. g ((a + k) * span w)) (y - a)) eb
+    sum_spans-is g w from to ∙ ap (λ (x : ℕ). sum_below (λ k. g ((x + k) * span w)) ((to - 1) / span w + 1 - x)) ea
+    ∙ ap (λ (y : ℕ). sum_below (λ k. g ((a + k) * span w)) (y - a)) eb
 
 first_span : (g : ℕ → ℕ) (w a b : ℕ) → a < b → from_span g w a b ≡ g (a * span w) + from_span g w (a + 1) b
 unfolding from_span
@@ -42,21 +42,22 @@ first_span g w a b lt =
     let n : ℕ = b - (a + 1) in
     let long : b - a ≡ suc (b - (a + 1)) = omega arith in
     let h : ℕ → ℕ = λ k. g ((a + k) * span w) in
-    let shift : total (λ k. h (suc k)) n ≡ total (λ k. g ((a + 1 + k) * span w)) n =
-    total_same (λ k. g ((a + 1 + k) * span w)) (λ k. h (suc k)) n
+    let shift : sum_below (λ k. h (suc k)) n ≡ sum_below (λ k. g ((a + 1 + k) * span w)) n =
+    sum_below_same (λ k. g ((a + 1 + k) * span w)) (λ k. h (suc k)) n
     (λ k k_in. ap (λ (x : ℕ). g (x * span w)) (let e : a + suc k ≡ a + 1 + k = omega arith in e)) in
     let zeroth : h 0 ≡ g (a * span w) = ap (λ (x : ℕ). g (x * span w)) (let e : a + 0 ≡ a = omega arith in e) in
-    let all : total h (b - a) ≡ total h (suc n) = ap (total h) long in
-    omega (arith, total_first h n)
+    let all : sum_below h (b - a) ≡ sum_below h (suc n) = ap (sum_below h) long in
+    omega (arith, sum_below_first h n)
 
 same_spans : (g h : ℕ → ℕ) (w a b : ℕ) → ((k : ℕ) → a ≤ k → k < b → h (k * span w) ≡ g (k * span w)) → from_span h w a b ≡ from_span g w a b
 unfolding from_span
 same_spans g h w a b same =
-    total_same (λ k. g ((a + k) * span w)) (λ k. h ((a + k) * span w)) (b - a) (λ k k_in. same (a + k) (omega arith) (omega arith))
+    sum_below_same (λ k. g ((a + k) * span w)) (λ k. h ((a + k) * span w)) (b - a) (λ k k_in. same (a + k) (omega arith) (omega arith))
 
 no_spans : (g : ℕ → ℕ) (w a b : ℕ) → b ≤ a → from_span g w a b ≡ 0
 unfolding from_span
-no_spans g w a b le = ap (total (λ k. g ((a + k) * span w))) (let e : b - a ≡ 0 = omega arith in e) ∙ total-zero (λ k. g ((a + k) * span w))
+no_spans g w a b le = ap (sum_below (λ k. g ((a + k) * span w))) (let e : b - a ≡ 0 = omega arith in e)
+    ∙ sum_below-zero (λ k. g ((a + k) * span w))
 
 pub div_mono : (a b n : ℕ) → 0 < n → a ≤ b → a / n ≤ b / n
 div_mono a b n pos le = le-div (a / n) b n pos (omega (arith, div-mul-le_self a n))
@@ -146,29 +147,30 @@ least_spans g w from to pos some =
 
 -- the sum up to a numbered span
 pub so_far : (ℕ → ℕ) → ℕ → ℕ → ℕ → ℕ
-so_far g width from number = total (λ k. g ((from / width + k) * width)) (number - from / width)
+so_far g width from number = sum_below (λ k. g ((from / width + k) * width)) (number - from / width)
 
 pub so_far-start : (g : ℕ → ℕ) (width from : ℕ) → so_far g width from (from / width) ≡ 0
 unfolding so_far
 so_far-start g width from =
-    ap (total (λ k. g ((from / width + k) * width))) (let e : from / width - from / width ≡ 0 = omega arith in e)
-    ∙ total-zero (λ k. g ((from / width + k) * width))
+    ap (sum_below (λ k. g ((from / width + k) * width))) (let e : from / width - from / width ≡ 0 = omega arith in e)
+    ∙ sum_below-zero (λ k. g ((from / width + k) * width))
 
 pub so_far-more : (g : ℕ → ℕ) (width from number : ℕ) → from / width ≤ number
     → so_far g width from (number + 1) ≡ so_far g width from number + g (number * width)
 unfolding so_far
 so_far-more g width from number le =
-    ap (total (λ k. g ((from / width + k) * width))) (let e : number + 1 - from / width ≡ suc (number - from / width) = omega arith in e)
-    ∙ total-suc (λ k. g ((from / width + k) * width)) (number - from / width)
-    ∙ ap (λ (x : ℕ). total (λ k. g ((from / width + k) * width)) (number - from / width) + g (x * width))
+    ap (sum_below (λ k. g ((from / width + k) * width)))
+    (let e : number + 1 - from / width ≡ suc (number - from / width) = omega arith in e)
+    ∙ sum_below-suc (λ k. g ((from / width + k) * width)) (number - from / width)
+    ∙ ap (λ (x : ℕ). sum_below (λ k. g ((from / width + k) * width)) (number - from / width) + g (x * width))
     (let e : from / width + (number - from / width) ≡ number = omega arith in e)
 
 pub so_far-end : (g : ℕ → ℕ) (w width from to number : ℕ) → width ≡ span w → number ≡ (to - 1) / width + 1
     → so_far g width from number ≡ sum_spans g w from to
 unfolding so_far
 so_far-end g w width from to number ew en =
-    ap (λ (n : ℕ). total (λ k. g ((from / width + k) * width)) (n - from / width)) en
-    ∙ ap (λ (v : ℕ). total (λ k. g ((from / v + k) * v)) ((to - 1) / v + 1 - from / v)) ew
+    ap (λ (n : ℕ). sum_below (λ k. g ((from / width + k) * width)) (n - from / width)) en
+    ∙ ap (λ (v : ℕ). sum_below (λ k. g ((from / v + k) * v)) ((to - 1) / v + 1 - from / v)) ew
     ∙ sym (sum_spans-is g w from to)
 
 -- one more by a test
@@ -264,19 +266,19 @@ split_so_far-step pool level root from to place next low some one edge =
     only_even place from (inr h) ne = absurd (ne h)
 
 pub split_so_far-end : (pool : Pool) (level root from to : ℕ) → from < to
-    → split_so_far pool level root from to to ≡ splits (memory pool.words) level root from to
-unfolding splits splitting_at
+    → split_so_far pool level root from to to ≡ leaves_splitting (memory pool.words) level root from to
+unfolding leaves_splitting splitting_at
 split_so_far-end pool level root from to some =
     split_later pool level root from to to some
     ∙ so_far-end (splitting_at pool level root from to) 1 SPAN_PAGES from to ((to - 1) / SPAN_PAGES + 1) (sym span-one) refl
 
 pub split_so_far-most : (pool : Pool) (level root from to next : ℕ) → from < next → next ≤ to
-    → split_so_far pool level root from to next ≤ splits (memory pool.words) level root from to
+    → split_so_far pool level root from to next ≤ leaves_splitting (memory pool.words) level root from to
 unfolding so_far
 split_so_far-most pool level root from to next some le =
     let g : ℕ → ℕ = λ k. splitting_at pool level root from to ((from / SPAN_PAGES + k) * SPAN_PAGES) in
-    let more : total g ((next - 1) / SPAN_PAGES + 1 - from / SPAN_PAGES) ≤ total g ((to - 1) / SPAN_PAGES + 1 - from / SPAN_PAGES) =
-    total_le_more g ((next - 1) / SPAN_PAGES + 1 - from / SPAN_PAGES) ((to - 1) / SPAN_PAGES + 1 - from / SPAN_PAGES)
+    let more : sum_below g ((next - 1) / SPAN_PAGES + 1 - from / SPAN_PAGES) ≤ sum_below g ((to - 1) / SPAN_PAGES + 1 - from / SPAN_PAGES) =
+    sum_below_le_more g ((next - 1) / SPAN_PAGES + 1 - from / SPAN_PAGES) ((to - 1) / SPAN_PAGES + 1 - from / SPAN_PAGES)
     (omega (arith, div_mono (next - 1) (to - 1) SPAN_PAGES (omega arith) (omega arith))) in
     omega (
       arith,
@@ -287,33 +289,33 @@ split_so_far-most pool level root from to next some le =
     )
 
 -- where no leaf is split, none of a page's span is
-pub none_split : (m : Memory) (level t from to p : ℕ) → from ≤ p → p < to → splits m level t from to ≡ 0
+pub none_split : (m : Memory) (level t from to p : ℕ) → from ≤ p → p < to → leaves_splitting m level t from to ≡ 0
     → splits_leaf m level t from to (p / SPAN_PAGES * SPAN_PAGES) ≡ 0
-unfolding splits
+unfolding leaves_splitting
 none_split m level t from to p low high none =
     let g : ℕ → ℕ = splits_leaf m level t from to in
     let k : ℕ = p / SPAN_PAGES - from / SPAN_PAGES in
     let first : from / SPAN_PAGES ≤ p / SPAN_PAGES = div_mono from p SPAN_PAGES (omega arith) low in
     let last : p / SPAN_PAGES ≤ (to - 1) / SPAN_PAGES = div_mono p (to - 1) SPAN_PAGES (omega arith) (omega arith) in
-    let sum : total (λ j. g ((from / SPAN_PAGES + j) * SPAN_PAGES)) ((to - 1) / SPAN_PAGES + 1 - from / SPAN_PAGES) ≡ 0 =
-    ap (λ (n : ℕ). total (λ j. g ((from / n + j) * n)) ((to - 1) / n + 1 - from / n)) (sym span-one) ∙ sym (sum_spans-is g 1 from to)
+    let sum : sum_below (λ j. g ((from / SPAN_PAGES + j) * SPAN_PAGES)) ((to - 1) / SPAN_PAGES + 1 - from / SPAN_PAGES) ≡ 0 =
+    ap (λ (n : ℕ). sum_below (λ j. g ((from / n + j) * n)) ((to - 1) / n + 1 - from / n)) (sym span-one) ∙ sym (sum_spans-is g 1 from to)
     ∙ none in
     let part =
-    total_part (λ j. g ((from / SPAN_PAGES + j) * SPAN_PAGES)) ((to - 1) / SPAN_PAGES + 1 - from / SPAN_PAGES)
+    sum_below_part (λ j. g ((from / SPAN_PAGES + j) * SPAN_PAGES)) ((to - 1) / SPAN_PAGES + 1 - from / SPAN_PAGES)
     (p / SPAN_PAGES - from / SPAN_PAGES) (omega arith) in
     let here : g ((from / SPAN_PAGES + (p / SPAN_PAGES - from / SPAN_PAGES)) * SPAN_PAGES) ≡ g (p / SPAN_PAGES * SPAN_PAGES) =
     ap (λ (j : ℕ). g (j * SPAN_PAGES)) (omega arith) in
     omega arith
 
 -- values of at most 1 sum to no more than their number
-pub total_few : (g : ℕ → ℕ) (n : ℕ) → ((i : ℕ) → g i ≤ 1) → total g n ≤ n
-total_few g zero few = omega (arith, total-zero g)
-total_few g (suc n) few = omega (arith, total-suc g n, total_few g n few, few n)
+pub sum_below_few : (g : ℕ → ℕ) (n : ℕ) → ((i : ℕ) → g i ≤ 1) → sum_below g n ≤ n
+sum_below_few g zero few = omega (arith, sum_below-zero g)
+sum_below_few g (suc n) few = omega (arith, sum_below-suc g n, sum_below_few g n few, few n)
 
 pub sum_few : (g : ℕ → ℕ) (w from to : ℕ) → ((p : ℕ) → g p ≤ 1) → sum_spans g w from to ≤ (to - 1) / span w + 1 - from / span w
 unfolding sum_spans
 sum_few g w from to few =
-    total_few (λ k. g ((from / span w + k) * span w)) ((to - 1) / span w + 1 - from / span w) (λ i. few ((from / span w + i) * span w))
+    sum_below_few (λ k. g ((from / span w + k) * span w)) ((to - 1) / span w + 1 - from / span w) (λ i. few ((from / span w + i) * span w))
 
 cond_few : (a b : Bool) → cond a 0 (cond b 0 1) ≤ 1
 cond_few true b = omega arith
@@ -333,9 +335,10 @@ splitting_few : (m : Memory) (level root from to p : ℕ) → splits_leaf m leve
 unfolding splits_leaf
 splitting_few m level root from to p = cond_one _ _
 
-pub splits_few : (m : Memory) (level root from to : ℕ) → splits m level root from to ≤ (to - 1) / SPAN_PAGES + 1 - from / SPAN_PAGES
-unfolding splits
-splits_few m level root from to =
+pub leaves_splitting_few : (m : Memory) (level root from to : ℕ)
+    → leaves_splitting m level root from to ≤ (to - 1) / SPAN_PAGES + 1 - from / SPAN_PAGES
+unfolding leaves_splitting
+leaves_splitting_few m level root from to =
     let few = sum_few (splits_leaf m level root from to) 1 from to (splitting_few m level root from to) in
     let same : (to - 1) / span 1 + 1 - from / span 1 ≡ (to - 1) / SPAN_PAGES + 1 - from / SPAN_PAGES =
     ap (λ (n : ℕ). (to - 1) / n + 1 - from / n) span-one in
@@ -356,6 +359,6 @@ level_few m level root large first end v width e =
     omega arith
 
 pub lacks_levels : (m : Memory) (level root : ℕ) (large : ℕ → Bool) (first end n : ℕ) → n ≡ level - 1
-    → tables_lacking m level root large first end ≡ total (level_lacks m level root large first end) n
+    → tables_lacking m level root large first end ≡ sum_below (level_lacks m level root large first end) n
 unfolding tables_lacking level_lacks
-lacks_levels m level root large first end n e = ap (total (level_lacks m level root large first end)) (sym e)
+lacks_levels m level root large first end n e = ap (sum_below (level_lacks m level root large first end)) (sym e)

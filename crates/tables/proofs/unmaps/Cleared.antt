@@ -10,9 +10,9 @@ use Rattle.dmatypes.specs.World.{Target}
 use Rattle.vtdbits.specs.declared.entry.SsEntry.{SsEntry}
 use Rattle.vtdbits.specs.declared.entry.SsEntry.TheVariants.{Absent, Table, LargeLeaf}
 use Rattle.tables.specs.Under.{ChangesUnder}
-use Rattle.tables.specs.Tree.{Memory, Found, span, index_in, leaf_from, table_from, stated, here}
+use Rattle.tables.specs.Tree.{Memory, Found, span, index_in, leaf_from, table_from, stated, one_if_same}
 use Rattle.tables.specs.Pool.{Pool, memory, occurs, IsTree, IsWrite}
-use Rattle.tables.specs.Changes.{TakesAndGivesFrames, Unmaps, IsOutside, IsCovered}
+use Rattle.tables.specs.Changes.{TakesAndGivesFrames, UnmapsPages, IsOutside, IsCovered}
 use Rattle.tables.specs.Pieces.{WritesEntries}
 use Rattle.tables.proofs.unmaps.UnderEntry.{under_moves, below_under, other_leaf}
 use Rattle.tables.proofs.maps.Large.{under_written, no_table_at, same_tables}
@@ -20,12 +20,12 @@ use Rattle.tables.proofs.maps.Runs.{run_leaf, run_rest, run_moves, table_one}
 use Rattle.tables.proofs.walks.Steps.{leaf_under, table_under, same_or_not, same_span, same_index, div_span_one}
 use Rattle.tables.proofs.unmaps.Unmapped.{unmaps_up}
 
-one_list : (f c : ℕ) → occurs f (c ∷ []) ≡ here c f
-one_list f c = sum_by-cons (λ y. here y f) c [] ∙ (let e : here c f + 0 ≡ here c f = omega arith in e)
+one_list : (f c : ℕ) → occurs f (c ∷ []) ≡ one_if_same c f
+one_list f c = sum_by-cons (λ y. one_if_same y f) c [] ∙ (let e : one_if_same c f + 0 ≡ one_if_same c f = omega arith in e)
 
 -- a run cleared in a table of level 1, short of the whole
 pub run_unmaps : (old new : Pool) (t from to : ℕ) → WritesEntries old.words new.words t from to (λ p. Absent) → from < to
-    → ((q : ℕ) → from ≤ q → q < to → q / SPAN_PAGES ≡ from / SPAN_PAGES) → to - from < SPAN_PAGES → Unmaps old new 1 t from to []
+    → ((q : ℕ) → from ≤ q → q < to → q / SPAN_PAGES ≡ from / SPAN_PAGES) → to - from < SPAN_PAGES → UnmapsPages old new 1 t from to []
 run_unmaps old new t from to run some one short =
     let m : Memory = memory old.words in
     let n : Memory = memory new.words in
@@ -54,7 +54,7 @@ run_unmaps old new t from to run some one short =
 pub run_through : (old new : Pool) (t i c from to : ℕ) → IsTree old 2 t → i < TABLE_ENTRIES → i ≡ index_in 1 from
     → memory old.words 2 t i ≡ Table c → WritesEntries old.words new.words c from to (λ p. Absent) → new.free ≡ old.free
     → new.frames ≡ old.frames → from < to → from / SPAN_PAGES ≡ (to - 1) / SPAN_PAGES → to - from < SPAN_PAGES
-    → TakesAndGivesFrames old new 2 t [] × Unmaps old new 2 t from to []
+    → TakesAndGivesFrames old new 2 t [] × UnmapsPages old new 2 t from to []
 run_through old new t i c from to tree a is names run free frames some one short =
     let near : (q : ℕ) → from ≤ q → q < to → q / SPAN_PAGES ≡ from / SPAN_PAGES = λ q low high. omega (arith, low, high) in
     let moves : TakesAndGivesFrames old new 1 c [] = run_moves old new c from to (λ p. Absent) run free frames in (
@@ -96,7 +96,7 @@ whole_at from to i p end even is wide out at =
 pub large_gone : (old new : Pool) (t i from value : ℕ) (x : Target) → IsTree old 2 t → i < TABLE_ENTRIES → i ≡ index_in 1 from
     → from % SPAN_PAGES ≡ 0 → IsWrite old.words new.words t i value → new.free ≡ old.free → new.frames ≡ old.frames
     → memory old.words 2 t i ≡ LargeLeaf x → memory new.words 2 t i ≡ Absent
-    → TakesAndGivesFrames old new 2 t [] × Unmaps old new 2 t from (from + SPAN_PAGES) []
+    → TakesAndGivesFrames old new 2 t [] × UnmapsPages old new 2 t from (from + SPAN_PAGES) []
 large_gone old new t i from value x tree a is even wrote free frames was now =
     let m : Memory = memory old.words in
     let n : Memory = memory new.words in

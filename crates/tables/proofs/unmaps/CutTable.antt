@@ -6,17 +6,17 @@ use Rattle.dmatypes.specs.declared.page.TheConstants.{SPAN_PAGES}
 use Rattle.tables.specs.declared.entries.TheConstants.{TABLE_ENTRIES}
 use Rattle.vtdbits.specs.declared.entry.SsEntry.TheVariants.{Absent, Table}
 use Rattle.tables.specs.Under.{ChangesUnder, used_by_entry}
-use Rattle.tables.specs.Tree.{Memory, span, index_in, table_from, stated, uses, here, entry_uses}
+use Rattle.tables.specs.Tree.{Memory, span, index_in, table_from, stated, uses, one_if_same, entry_uses}
 use Rattle.tables.specs.Pool.{Pool, word, memory, occurs, IsTree, IsZeroed, IsWrite}
-use Rattle.tables.specs.Changes.{TakesAndGivesFrames, Unmaps, IsOutside, IsCovered}
+use Rattle.tables.specs.Changes.{TakesAndGivesFrames, UnmapsPages, IsOutside, IsCovered}
 use Rattle.tables.specs.Pieces.{WritesEntries}
-use Rattle.tables.proofs.sums.OneFrame.{here-same, here_is}
+use Rattle.tables.proofs.sums.OneFrame.{one_if_same-self, one_if_same_is}
 use Rattle.tables.proofs.unmaps.UnderEntry.{under_moves, other_leaf, other_table, root_apart}
 use Rattle.tables.proofs.maps.Runs.{no_table}
 use Rattle.tables.proofs.walks.Steps.{leaf_under, table_under, table_top, same_or_not, same_span, same_index, div_span_one, uses-one}
 
-one_list : (f c : ℕ) → occurs f (c ∷ []) ≡ here c f
-one_list f c = sum_by-cons (λ y. here y f) c [] ∙ (let e : here c f + 0 ≡ here c f = omega arith in e)
+one_list : (f c : ℕ) → occurs f (c ∷ []) ≡ one_if_same c f
+one_list f c = sum_by-cons (λ y. one_if_same y f) c [] ∙ (let e : one_if_same c f + 0 ≡ one_if_same c f = omega arith in e)
 
 -- the pages under an entry whose span begins at a page
 in_whole : (from i p : ℕ) → from % SPAN_PAGES ≡ 0 → i ≡ index_in 1 from → p / span 2 ≡ from / span 2 → index_in 1 p ≡ i
@@ -35,14 +35,16 @@ pub table_cut : (old mid new : Pool) (t i c from value : ℕ) → IsTree old 2 t
     → from % SPAN_PAGES ≡ 0 → memory old.words 2 t i ≡ Table c → WritesEntries old.words mid.words c from (from + SPAN_PAGES) (λ p. Absent)
     → ((p : ℕ) → from ≤ p → p < from + SPAN_PAGES → word mid.words c (p % SPAN_PAGES) ≡ 0) → mid.free ≡ old.free → mid.frames ≡ old.frames
     → IsWrite mid.words new.words t i value → new.free ≡ mid.free → new.frames ≡ mid.frames → memory new.words 2 t i ≡ Absent
-    → TakesAndGivesFrames old new 2 t (c ∷ []) × Unmaps old new 2 t from (from + SPAN_PAGES) (c ∷ [])
+    → TakesAndGivesFrames old new 2 t (c ∷ []) × UnmapsPages old new 2 t from (from + SPAN_PAGES) (c ∷ [])
 table_cut old mid new t i c from value tree a is even names run blank free frames wrote free' frames' now =
     let m : Memory = memory old.words in
     let n : Memory = memory new.words in
-    let used : (f : ℕ) → used_by_entry m 1 t f i ≡ here c f = λ f. ap (λ e. entry_uses e (λ c. uses m 1 c f)) names ∙ uses-one m c f in
+    let used : (f : ℕ) → used_by_entry m 1 t f i ≡ one_if_same c f = λ f. ap (λ e. entry_uses e (λ c. uses m 1 c f)) names
+    ∙ uses-one m c f in
     let left : (f : ℕ) → used_by_entry n 1 t f i ≡ 0 = λ f. ap (λ e. entry_uses e (λ c. uses n 1 c f)) now in
     let apart : c ≡ t → ⊥ =
-    λ e. let own : here c t ≡ here t t = ap (λ x. here x t) e in omega (arith, root_apart old 1 t i tree a, used t, here-same t) in
+    λ e. let own : one_if_same c t ≡ one_if_same t t = ap (λ x. one_if_same x t) e in
+    omega (arith, root_apart old 1 t i tree a, used t, one_if_same-self t) in
     let same_free : (f : ℕ) → occurs f new.free ≡ occurs f old.free = λ f. ap (λ xs. occurs f xs) (free' ∙ free) in
     let u : ChangesUnder old new 1 t i (c ∷ []) = record {
       account = λ f. omega (arith, used f, left f, same_free f, one_list f c);
@@ -50,7 +52,8 @@ table_cut old mid new t i c from value tree a is even names run blank free frame
       others = λ f k k_in ne none.
           wrote.1 f k k_in (λ e _. ne e)
           ∙ run.rest f k k_in
-          (λ e p low high at. let own : here c f ≡ here c c = ap (λ x. here c x) e in omega (arith, none, used f, here-same c));
+          (λ e p low high at. let own : one_if_same c f ≡ one_if_same c c = ap (λ x. one_if_same c x) e in
+          omega (arith, none, used f, one_if_same-self c));
       row = λ k k_in ne. wrote.1 t k k_in (λ _ e. ne e) ∙ run.rest t k k_in (λ e p low high at. apart (sym e));
       frames = frames' ∙ frames;
     } in
@@ -58,7 +61,7 @@ table_cut old mid new t i c from value tree a is even names run blank free frame
     let new_at : (p : ℕ) → index_in 1 p ≡ i → n 2 t (index_in 1 p) ≡ Absent = λ p e. ap (λ j. n 2 t j) e ∙ now in
     let own_table : (p : ℕ) → index_in 1 p ≡ i → table_from m 2 t p 1 ≡ Some c =
     λ p e. table_under m 1 t p 1 (Table c) (λ k. omega arith) (old_at p e) ∙ table_top m 0 c p 1 refl in
-    let has_c : 0 < occurs c (c ∷ []) = omega (arith, one_list c c, here-same c) in
+    let has_c : 0 < occurs c (c ∷ []) = omega (arith, one_list c c, one_if_same-self c) in
     let cover : (p : ℕ) → p / span 1 ≡ from / span 1 → IsCovered from (from + SPAN_PAGES) p = λ p e.
     let near : p / SPAN_PAGES ≡ from / SPAN_PAGES = sym (div_span_one p) ∙ e ∙ div_span_one from in (omega arith, omega arith) in (
       under_moves old new 1 t i (c ∷ []) tree a u,
@@ -114,10 +117,10 @@ table_cut old mid new t i c from value tree a is even names run blank free frame
             let e : index_in 1 p ≡ i = at_whole from i p even is (omega (arith, all.0)) (omega (arith, all.1)) in
             subst (λ y. 0 < occurs y (c ∷ [])) (same_Some c x (sym (own_table p e) ∙ h)) has_c;
         cut_only = λ x has.
-            let same : c ≡ x = here_is c x (omega (arith, one_list x c, has)) in
+            let same : c ≡ x = one_if_same_is c x (omega (arith, one_list x c, has)) in
             (from, (omega arith, omega arith, (omega arith, omega arith), own_table from (sym is) ∙ ap (λ y. Some y) same));
         zeroed = λ x has.
-            let same : c ≡ x = here_is c x (omega (arith, one_list x c, has)) in
+            let same : c ≡ x = one_if_same_is c x (omega (arith, one_list x c, has)) in
             subst (λ y. IsZeroed new.words y) same (λ k k_in.
             wrote.1 c k k_in (λ e _. apart e) ∙ ap (λ j. word mid.words c j) (let e : k ≡ (from + k) % SPAN_PAGES = omega arith in e)
             ∙ blank (from + k) (omega arith) (omega arith));

@@ -4,11 +4,11 @@ use Rattle.dmatypes.specs.declared.page.TheConstants.{SPAN_PAGES}
 use Rattle.tables.specs.declared.entries.TheConstants.{TABLE_ENTRIES}
 use Rattle.vtdbits.specs.declared.entry.SsEntry.{SsEntry}
 use Rattle.vtdbits.specs.declared.entry.SsEntry.TheVariants.{Absent, Table, Leaf, LargeLeaf}
-use Rattle.tables.specs.Tree.{total, here, entry_uses, uses}
+use Rattle.tables.specs.Tree.{sum_below, one_if_same, entry_uses, uses}
 use Rattle.tables.specs.Under.{used_by_entry, used_at}
 use Rattle.tables.specs.Pool.{Pool, word, memory, occurs, IsTree}
-use Rattle.tables.proofs.sums.Firsts.{total_same, total-suc, total-zero, total_le_more}
-use Rattle.tables.proofs.sums.OneFrame.{here-same}
+use Rattle.tables.proofs.sums.Firsts.{sum_below_same, sum_below-suc, sum_below-zero, sum_below_le_more}
+use Rattle.tables.proofs.sums.OneFrame.{one_if_same-self}
 use Rattle.tables.proofs.walks.Words.{same_entry}
 use Rattle.tables.proofs.walks.Agreeing.{to_agree, uses_agree}
 use Rattle.tables.proofs.walks.Steps.{uses-suc, same_or_not}
@@ -31,24 +31,25 @@ used_none pool level t f i e is none =
 
 -- the uses of a tree, by entries
 pub uses_level : (pool : Pool) (level l t f : ℕ) → level ≡ suc l
-    → uses (memory pool.words) level t f ≡ here t f + total (used_at pool level t f) TABLE_ENTRIES
+    → uses (memory pool.words) level t f ≡ one_if_same t f + sum_below (used_at pool level t f) TABLE_ENTRIES
 uses_level pool level l t f up =
-    subst (λ n. uses (memory pool.words) n t f ≡ here t f + total (used_at pool n t f) TABLE_ENTRIES) (sym up)
+    subst (λ n. uses (memory pool.words) n t f ≡ one_if_same t f + sum_below (used_at pool n t f) TABLE_ENTRIES) (sym up)
     (uses-suc (memory pool.words) l t f
-    ∙ ap (λ k. here t f + k)
-    (total_same (used_at pool (suc l) t f) (used_by_entry (memory pool.words) l t f) TABLE_ENTRIES (λ i lt. sym (used_child pool l t f i))))
+    ∙ ap (λ k. one_if_same t f + k)
+    (sum_below_same (used_at pool (suc l) t f) (used_by_entry (memory pool.words) l t f) TABLE_ENTRIES
+    (λ i lt. sym (used_child pool l t f i))))
 
 -- the first entries are cleared and their tables free, and the others are as they were
 pub record IsReleasing (old cur : Pool) (level t i : ℕ) : Type 0 where
-  pub free : (f : ℕ) → occurs f cur.free ≡ occurs f old.free + total (used_at old level t f) i
+  pub free : (f : ℕ) → occurs f cur.free ≡ occurs f old.free + sum_below (used_at old level t f) i
   pub cleared : (k : ℕ) → k < i → word cur.words t k ≡ 0
-  pub others : (f k : ℕ) → k < TABLE_ENTRIES → f ≢ t → total (used_at old level t f) i ≡ 0 → word cur.words f k ≡ word old.words f k
+  pub others : (f k : ℕ) → k < TABLE_ENTRIES → f ≢ t → sum_below (used_at old level t f) i ≡ 0 → word cur.words f k ≡ word old.words f k
   pub row : (k : ℕ) → k < TABLE_ENTRIES → i ≤ k → word cur.words t k ≡ word old.words t k
   pub frames : cur.frames ≡ old.frames
 
 pub releasing_start : (pool : Pool) (level t : ℕ) → IsReleasing pool pool level t 0
 releasing_start pool level t = record {
-  free = λ f. omega (arith, total-zero (used_at pool level t f));
+  free = λ f. omega (arith, sum_below-zero (used_at pool level t f));
   cleared = λ k lt. absurd (omega (arith, lt));
   others = λ f k k_in ne none. refl;
   row = λ k k_in le. refl;
@@ -57,19 +58,19 @@ releasing_start pool level t = record {
 
 -- what the entries up to one use, and that one, is no more than the whole
 part_of : (pool : Pool) (level l t f i : ℕ) → level ≡ suc l → i < TABLE_ENTRIES
-    → here t f + total (used_at pool level t f) i + used_at pool level t f i ≤ uses (memory pool.words) level t f
+    → one_if_same t f + sum_below (used_at pool level t f) i + used_at pool level t f i ≤ uses (memory pool.words) level t f
 part_of pool level l t f i up lt =
-    let most : total (used_at pool level t f) (suc i) ≤ total (used_at pool level t f) TABLE_ENTRIES =
-    total_le_more (used_at pool level t f) (suc i) TABLE_ENTRIES (omega arith) in
-    omega (arith, uses_level pool level l t f up, total-suc (used_at pool level t f) i)
+    let most : sum_below (used_at pool level t f) (suc i) ≤ sum_below (used_at pool level t f) TABLE_ENTRIES =
+    sum_below_le_more (used_at pool level t f) (suc i) TABLE_ENTRIES (omega arith) in
+    omega (arith, uses_level pool level l t f up, sum_below-suc (used_at pool level t f) i)
 
 -- the root is not among the frames given back before
 pub root_left : (old cur : Pool) (level l t i : ℕ) → level ≡ suc l → i ≤ SPAN_PAGES → IsTree old level t → IsReleasing old cur level t i
     → occurs t cur.free ≡ 0
 root_left old cur level l t i up le tree r =
-    let most : total (used_at old level t t) i ≤ total (used_at old level t t) TABLE_ENTRIES =
-    total_le_more (used_at old level t t) i SPAN_PAGES le in
-    omega (arith, r.free t, tree.once t, uses_level old level l t t up, here-same t)
+    let most : sum_below (used_at old level t t) i ≤ sum_below (used_at old level t t) TABLE_ENTRIES =
+    sum_below_le_more (used_at old level t t) i SPAN_PAGES le in
+    omega (arith, r.free t, tree.once t, uses_level old level l t t up, one_if_same-self t)
 
 entry_left : (old cur : Pool) (level t i : ℕ) → i < TABLE_ENTRIES → IsReleasing old cur level t i
     → memory cur.words level t i ≡ memory old.words level t i
@@ -84,7 +85,8 @@ same_below old cur level l t i c f up lt tree r is =
     let used = used_table old level t g i c is in
     let part = part_of old level l t g i up lt in
     same_entry old.words cur.words l' g k
-    (r.others g k k_in (λ e. let own : here t g ≡ here t t = ap (λ x. here t x) e in omega (arith, part, used, tree.once g, here-same t))
+    (r.others g k k_in (λ e. let own : one_if_same t g ≡ one_if_same t t = ap (λ x. one_if_same t x) e in
+    omega (arith, part, used, tree.once g, one_if_same-self t))
     (omega (arith, part, used, tree.once g)))))
 
 pub used_left : (old cur : Pool) (level l t i f : ℕ) → level ≡ suc l → i < TABLE_ENTRIES → IsTree old level t
@@ -108,7 +110,7 @@ used_left old cur level l t i f up lt tree r = by_entry (memory old.words level 
 pub taken_left : (old cur : Pool) (level l t i : ℕ) → level ≡ suc l → i < TABLE_ENTRIES → IsTree old level t → IsReleasing old cur level t i
     → occurs t cur.free + used_at cur level t t i ≡ 0
 taken_left old cur level l t i up lt tree r =
-    omega (arith, used_left old cur level l t i t up lt tree r, part_of old level l t t i up lt, tree.once t, here-same t, r.free t)
+    omega (arith, used_left old cur level l t i t up lt tree r, part_of old level l t t i up lt, tree.once t, one_if_same-self t, r.free t)
 
 pub below_left : (old cur : Pool) (level l t i c : ℕ) → level ≡ suc l → i < TABLE_ENTRIES → IsTree old level t
     → IsReleasing old cur level t i → memory cur.words level t i ≡ Table c → IsTree cur (level - 1) c
@@ -156,5 +158,5 @@ releasing_more old cur new level l t i up lt tree r free cleared row others fram
   frames = frames ∙ r.frames;
 }
   where
-    next : (f : ℕ) → total (used_at old level t f) (i + 1) ≡ total (used_at old level t f) i + used_at old level t f i
-    next f = ap (total (used_at old level t f)) (let e : i + 1 ≡ suc i = omega arith in e) ∙ total-suc (used_at old level t f) i
+    next : (f : ℕ) → sum_below (used_at old level t f) (i + 1) ≡ sum_below (used_at old level t f) i + used_at old level t f i
+    next f = ap (sum_below (used_at old level t f)) (let e : i + 1 ≡ suc i = omega arith in e) ∙ sum_below-suc (used_at old level t f) i

@@ -8,8 +8,8 @@ use Rattle.std.proofs.lemmas.Bool.Decides.{nat_tests}
 use Rattle.dmatypes.specs.declared.page.TheConstants.{SPAN_PAGES}
 use Rattle.tables.specs.Tree.{Found, span, leaf_from, table_from, is_large_leaf, IsLeafAt, IsTableAt}
 use Rattle.tables.specs.Pool.{Pool, memory, occurs}
-use Rattle.tables.specs.Changes.{Unmaps}
-use Rattle.tables.specs.Lacks.{splits_leaf, splits}
+use Rattle.tables.specs.Changes.{UnmapsPages}
+use Rattle.tables.specs.Lacks.{splits_leaf, leaves_splitting}
 use Rattle.tables.proofs.pools.Kept.{same_root, leaf_inside}
 use Rattle.tables.proofs.walks.Near.{near_table, div_within, span_pos}
 use Rattle.tables.proofs.walks.Sizes.{leaf_size, same_large}
@@ -33,7 +33,7 @@ in_leaf j first p q aligned low high e =
 
 -- a leaf entry apart from the pages stays
 pub unmap_leaves : (old new : Pool) (level root from to : ℕ) (cut : List ℕ) → 1 ≤ level → from < span level
-    → Unmaps old new level root from to cut → (first pages frame rights : ℕ)
+    → UnmapsPages old new level root from to cut → (first pages frame rights : ℕ)
     → IsLeafAt (memory old.words) level root first pages frame rights → (first + pages ≤ from) ⊎ (to ≤ first)
     → IsLeafAt (memory new.words) level root first pages frame rights
 unmap_leaves old new level root from to cut some within un first pages frame rights (j, leaf) apart = (
@@ -59,7 +59,8 @@ unmap_leaves old new level root from to cut some within un first pages frame rig
     none first e (inr h) q low high a b = omega arith
 
 -- a table entry stays, or its table was cut
-pub unmap_tables : (old new : Pool) (height root from to : ℕ) (cut : List ℕ) → from < span height → Unmaps old new height root from to cut
+pub unmap_tables : (old new : Pool) (height root from to : ℕ) (cut : List ℕ) → from < span height
+    → UnmapsPages old new height root from to cut
     → (first level table : ℕ) → IsTableAt (memory old.words) height root first level table
     → IsTableAt (memory new.words) height root first level table
     ⊎ ((level ≡ 1) × (from ≤ first) × (first + SPAN_PAGES ≤ to) × (0 < occurs table cut))
@@ -83,7 +84,8 @@ unmap_tables old new height root from to cut within un first level table at =
     (un.tables first level table (same_root height first from at.3 within) start)
 
 -- where none is split, the pages cover each leaf entry that they meet
-pub unmap_whole : (old : Pool) (level root from to : ℕ) → splits (memory old.words) level root from to ≡ 0 → (p : ℕ) (x : Found) → from ≤ p
+pub unmap_whole : (old : Pool) (level root from to : ℕ) → leaves_splitting (memory old.words) level root from to ≡ 0 → (p : ℕ) (x : Found)
+    → from ≤ p
     → p < to → leaf_from (memory old.words) level root p ≡ Some x → (q : ℕ) → q / span x.size ≡ p / span x.size → (from ≤ q) × (q < to)
 unmap_whole old level root from to none p x low high leaf q near = by_size (cases_lt 0 x.size)
   where

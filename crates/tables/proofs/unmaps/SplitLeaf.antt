@@ -11,11 +11,11 @@ use Rattle.vtdbits.specs.Translation.{target}
 use Rattle.vtdbits.specs.declared.entry.SsEntry.{SsEntry}
 use Rattle.vtdbits.specs.declared.entry.SsEntry.TheVariants.{Table, Leaf, LargeLeaf}
 use Rattle.tables.specs.Under.{IsSplit, ChangesUnder, used_by_entry}
-use Rattle.tables.specs.Tree.{Memory, Found, span, index_in, leaf_from, stated, states, uses, here, entry_uses, is_large_leaf}
+use Rattle.tables.specs.Tree.{Memory, Found, span, index_in, leaf_from, stated, states, uses, one_if_same, entry_uses, is_large_leaf}
 use Rattle.tables.specs.Pool.{Pool, word, memory, occurs, IsTree, IsWrite}
-use Rattle.tables.specs.Changes.{TakesAndGivesFrames, Unmaps}
+use Rattle.tables.specs.Changes.{TakesAndGivesFrames, UnmapsPages}
 use Rattle.tables.specs.Pieces.{WritesEntries, piece_splits}
-use Rattle.tables.proofs.sums.OneFrame.{here-same}
+use Rattle.tables.proofs.sums.OneFrame.{one_if_same-self}
 use Rattle.tables.proofs.walks.Levels.{stated_small, stated_large}
 use Rattle.tables.proofs.maps.Mapped.{moves_then}
 use Rattle.tables.proofs.walks.Near.{smaller}
@@ -26,27 +26,28 @@ use Rattle.tables.proofs.unmaps.UnderEntry.{under_moves, other_leaf, other_table
 
 -- a large leaf became a table, in a frame that was free
 pub under_split : (old new : Pool) (t i c : ℕ) (x : Target) → IsTree old 2 t → i < TABLE_ENTRIES → memory old.words 2 t i ≡ LargeLeaf x
-    → memory new.words 2 t i ≡ Table c → ((f : ℕ) → occurs f new.free + here c f ≡ occurs f old.free)
+    → memory new.words 2 t i ≡ Table c → ((f : ℕ) → occurs f new.free + one_if_same c f ≡ occurs f old.free)
     → ((f k : ℕ) → k < TABLE_ENTRIES → f ≢ t → f ≢ c → word new.words f k ≡ word old.words f k)
     → ((k : ℕ) → k < TABLE_ENTRIES → k ≢ i → word new.words t k ≡ word old.words t k) → new.frames ≡ old.frames
     → ChangesUnder old new 1 t i []
 under_split old new t i c x tree a was is free stay row frames = record {
   account = λ f.
       let before : used_by_entry (memory old.words) 1 t f i ≡ 0 = ap (λ e. entry_uses e (λ c. uses (memory old.words) 1 c f)) was in
-      let after : used_by_entry (memory new.words) 1 t f i ≡ here c f =
+      let after : used_by_entry (memory new.words) 1 t f i ≡ one_if_same c f =
       ap (λ e. entry_uses e (λ c. uses (memory new.words) 1 c f)) is ∙ uses-one (memory new.words) c f in
       omega (arith, free f);
   fewer = λ f. omega (arith, free f);
   others =
       λ f k k_in ne none.
-      stay f k k_in ne (λ e. let own : here c f ≡ here c c = ap (λ y. here c y) e in omega (arith, none, free f, here-same c));
+      stay f k k_in ne (λ e. let own : one_if_same c f ≡ one_if_same c c = ap (λ y. one_if_same c y) e in
+      omega (arith, none, free f, one_if_same-self c));
   row = row;
   frames = frames;
 }
 
 -- the making of the table: a free frame, its leaves, and the entry
 pub splits : (old took ran new : Pool) (t i page c value : ℕ) (entry : ℕ → SsEntry) (x : Target) → IsTree old 2 t → i < TABLE_ENTRIES
-    → memory old.words 2 t i ≡ LargeLeaf x → ((f : ℕ) → occurs f took.free + here c f ≡ occurs f old.free) → took.words ≡ old.words
+    → memory old.words 2 t i ≡ LargeLeaf x → ((f : ℕ) → occurs f took.free + one_if_same c f ≡ occurs f old.free) → took.words ≡ old.words
     → took.frames ≡ old.frames
     → WritesEntries took.words ran.words c (page / SPAN_PAGES * SPAN_PAGES) (page / SPAN_PAGES * SPAN_PAGES + SPAN_PAGES) entry
     → ran.free ≡ took.free → ran.frames ≡ took.frames → IsWrite ran.words new.words t i value → new.free ≡ ran.free
@@ -54,7 +55,7 @@ pub splits : (old took ran new : Pool) (t i page c value : ℕ) (entry : ℕ →
     → ((p : ℕ) → page / SPAN_PAGES * SPAN_PAGES ≤ p → p < page / SPAN_PAGES * SPAN_PAGES + SPAN_PAGES
     → entry p ≡ Leaf (target (x.frame + p % SPAN_PAGES) x.rights)) → IsSplit old new t i page c x
 splits old took ran new t i page c value entry x tree a was free words frames run free' frames' wrote free'' frames'' reads leaves =
-    let c_free : 0 < occurs c old.free = omega (arith, free c, here-same c) in
+    let c_free : 0 < occurs c old.free = omega (arith, free c, one_if_same-self c) in
     let apart : c ≡ t → ⊥ =
     λ e.
     let same : occurs c old.free ≡ occurs t old.free = ap (λ y. occurs y old.free) e in omega (arith, root_apart old 1 t i tree a) in
@@ -90,7 +91,7 @@ spells_leaf took ran page c entry x run leaves i small =
     (run.entries p (omega arith) (omega arith) ∙ leaves p (omega arith) (omega arith))
 
 pub leaf_stays : (old took ran : Pool) (t i page c : ℕ) (entry : ℕ → SsEntry) (x : Target) → IsTree old 2 t → i < TABLE_ENTRIES
-    → memory old.words 2 t i ≡ LargeLeaf x → ((f : ℕ) → occurs f took.free + here c f ≡ occurs f old.free) → took.words ≡ old.words
+    → memory old.words 2 t i ≡ LargeLeaf x → ((f : ℕ) → occurs f took.free + one_if_same c f ≡ occurs f old.free) → took.words ≡ old.words
     → WritesEntries took.words ran.words c (page / SPAN_PAGES * SPAN_PAGES) (page / SPAN_PAGES * SPAN_PAGES + SPAN_PAGES) entry
     → memory ran.words 2 t i ≡ LargeLeaf x
 leaf_stays old took ran t i page c entry x tree small was free words run =
@@ -98,7 +99,7 @@ leaf_stays old took ran t i page c entry x tree small was free words run =
     λ e.
     let same : occurs c old.free ≡ occurs t old.free =
     ap (λ y. occurs y old.free) e in
-    omega (arith, free c, here-same c, root_apart old 1 t i tree small) in
+    omega (arith, free c, one_if_same-self c, root_apart old 1 t i tree small) in
     same_entry old.words ran.words 2 t i (run.rest t i small (λ e p low high at. apart (sym e)) ∙ ap (λ ws. word ws t i) words) ∙ was
 
 -- it states the same
@@ -121,8 +122,9 @@ split_states old new t i from c p x tree a is s wide =
 
 -- an unmap of some of its pages, after the split, is one of the tree before
 pub split_unmaps : (old mid new : Pool) (t i from to c : ℕ) (x : Target) → IsTree old 2 t → i < TABLE_ENTRIES → i ≡ index_in 1 from
-    → IsSplit old mid t i from c x → from < to → to - from < SPAN_PAGES → TakesAndGivesFrames mid new 2 t [] → Unmaps mid new 2 t from to []
-    → TakesAndGivesFrames old new 2 t [] × Unmaps old new 2 t from to []
+    → IsSplit old mid t i from c x → from < to → to - from < SPAN_PAGES → TakesAndGivesFrames mid new 2 t []
+    → UnmapsPages mid new 2 t from to []
+    → TakesAndGivesFrames old new 2 t [] × UnmapsPages old new 2 t from to []
 split_unmaps old mid new t i from to c x tree a is s some short moves un =
     let m : Memory = memory old.words in
     let d : Memory = memory mid.words in
@@ -191,16 +193,16 @@ split_unmaps old mid new t i from to c x tree a is s some short moves un =
 
 -- ---- how many leaves are split for a piece
 
-pub splits_whole : (m : Memory) (level t from to : ℕ) → SPAN_PAGES ≤ to - from → piece_splits m level t from to ≡ 0
+pub leaves_splitting_whole : (m : Memory) (level t from to : ℕ) → SPAN_PAGES ≤ to - from → piece_splits m level t from to ≡ 0
 unfolding piece_splits
-splits_whole m level t from to h =
+leaves_splitting_whole m level t from to h =
     let yes : nat_le SPAN_PAGES (to - from) ≡ true = grind (arith, nat_tests) in
     ap (λ b. cond b 0 (cond (is_large_leaf (leaf_from m level t from)) 1 0)) yes
 
-pub splits_part : (m : Memory) (level t from to : ℕ) → to - from < SPAN_PAGES
+pub leaves_splitting_part : (m : Memory) (level t from to : ℕ) → to - from < SPAN_PAGES
     → piece_splits m level t from to ≡ cond (is_large_leaf (leaf_from m level t from)) 1 0
 unfolding piece_splits
-splits_part m level t from to h =
+leaves_splitting_part m level t from to h =
     let no : nat_le SPAN_PAGES (to - from) ≡ false = grind (arith, nat_tests) in
     ap (λ b. cond b 0 (cond (is_large_leaf (leaf_from m level t from)) 1 0)) no
 
@@ -208,20 +210,20 @@ small_leaf : (m : Memory) (c p : ℕ) (o : Option Found) → leaf_from m 1 c p �
 small_leaf m c p None e = refl
 small_leaf m c p (Some x) e = let lt : x.size < 1 = smaller m 1 c p x e in grind (arith, nat_tests)
 
-pub splits_table : (m : Memory) (t from to c : ℕ) → to - from < SPAN_PAGES → m 2 t (index_in 1 from) ≡ Table c
+pub leaves_splitting_table : (m : Memory) (t from to c : ℕ) → to - from < SPAN_PAGES → m 2 t (index_in 1 from) ≡ Table c
     → piece_splits m 2 t from to ≡ 0
-splits_table m t from to c short is =
-    splits_part m 2 t from to short
+leaves_splitting_table m t from to c short is =
+    leaves_splitting_part m 2 t from to short
     ∙ ap (λ o. cond (is_large_leaf o) 1 0) (leaf_under m 1 t from (Table c) is)
     ∙ ap (λ b. cond b 1 0) (small_leaf m c from (leaf_from m 1 c from) refl)
 
-pub splits_large : (m : Memory) (t from to : ℕ) (x : Target) → to - from < SPAN_PAGES → m 2 t (index_in 1 from) ≡ LargeLeaf x
+pub leaves_splitting_large : (m : Memory) (t from to : ℕ) (x : Target) → to - from < SPAN_PAGES → m 2 t (index_in 1 from) ≡ LargeLeaf x
     → piece_splits m 2 t from to ≡ 1
-splits_large m t from to x short is =
-    splits_part m 2 t from to short ∙ ap (λ o. cond (is_large_leaf o) 1 0) (leaf_under m 1 t from (LargeLeaf x) is)
+leaves_splitting_large m t from to x short is =
+    leaves_splitting_part m 2 t from to short ∙ ap (λ o. cond (is_large_leaf o) 1 0) (leaf_under m 1 t from (LargeLeaf x) is)
 
 -- and it is the same seen from above
-pub splits_below : (m : Memory) (level level' t t' from to : ℕ) → leaf_from m level t from ≡ leaf_from m level' t' from
+pub leaves_splitting_below : (m : Memory) (level level' t t' from to : ℕ) → leaf_from m level t from ≡ leaf_from m level' t' from
     → piece_splits m level t from to ≡ piece_splits m level' t' from to
 unfolding piece_splits
-splits_below m level level' t t' from to e = ap (λ o. cond (nat_le SPAN_PAGES (to - from)) 0 (cond (is_large_leaf o) 1 0)) e
+leaves_splitting_below m level level' t t' from to e = ap (λ o. cond (nat_le SPAN_PAGES (to - from)) 0 (cond (is_large_leaf o) 1 0)) e

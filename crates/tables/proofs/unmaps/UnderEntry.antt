@@ -7,8 +7,8 @@ use Rattle.tables.specs.Under.{ChangesUnder, used_by_entry}
 use Rattle.tables.specs.Tree.{Memory, index_in, leaf_of, leaf_from, table_from, entry_uses, uses}
 use Rattle.tables.specs.Pool.{Pool, memory, occurs, IsTree}
 use Rattle.tables.specs.Changes.{TakesAndGivesFrames}
-use Rattle.tables.proofs.sums.Firsts.{total_change}
-use Rattle.tables.proofs.sums.OneFrame.{here-same}
+use Rattle.tables.proofs.sums.Firsts.{sum_below_change}
+use Rattle.tables.proofs.sums.OneFrame.{one_if_same-self}
 use Rattle.tables.proofs.walks.Words.{same_entry}
 use Rattle.tables.proofs.walks.Agreeing.{to_agree, leaf_agrees, table_agrees, uses_agree, leaf_by, table_by, uses_by}
 use Rattle.tables.proofs.walks.Steps.{leaf-suc, table_under, table_top, uses-suc, own_use, child_use, two_uses, same_or_not}
@@ -16,11 +16,11 @@ use Rattle.tables.proofs.walks.Onward.{index_lt}
 
 -- a tree's root is not free, and in the pool
 pub root_taken : (pool : Pool) (l t : ℕ) → IsTree pool (suc l) t → occurs t pool.free ≡ 0
-root_taken pool l t tree = omega (arith, tree.once t, uses-suc (memory pool.words) l t t, here-same t)
+root_taken pool l t tree = omega (arith, tree.once t, uses-suc (memory pool.words) l t t, one_if_same-self t)
 
 pub root_in : (pool : Pool) (l t : ℕ) → IsTree pool (suc l) t → t < pool.frames
 root_in pool l t tree =
-    ⊎_elim (λ h. h) (λ past. absurd (omega (arith, tree.within t past, uses-suc (memory pool.words) l t t, here-same t)))
+    ⊎_elim (λ h. h) (λ past. absurd (omega (arith, tree.within t past, uses-suc (memory pool.words) l t t, one_if_same-self t)))
     (cases_lt t pool.frames)
 
 -- the tree under an entry
@@ -109,7 +109,7 @@ under_moves old new l t i cut tree a u =
     record {
       account = λ f.
           let changed =
-          total_change (used_by_entry m l t f) (used_by_entry n l t f) TABLE_ENTRIES i a
+          sum_below_change (used_by_entry m l t f) (used_by_entry n l t f) TABLE_ENTRIES i a
           (λ j b ne. other_child old new l t i j f cut tree a b ne u) in
           omega (arith, changed, u.account f, uses-suc m l t f, uses-suc n l t f);
       fewer = u.fewer;

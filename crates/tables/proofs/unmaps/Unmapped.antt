@@ -8,7 +8,7 @@ use Rattle.vtdbits.specs.declared.entry.SsEntry.TheVariants.{Table}
 use Rattle.tables.specs.Under.{ChangesUnder}
 use Rattle.tables.specs.Tree.{Memory, span, index_in, leaf_from, table_from, stated}
 use Rattle.tables.specs.Pool.{Pool, memory, occurs, IsTree}
-use Rattle.tables.specs.Changes.{TakesAndGivesFrames, Unmaps, IsOutside, MeetsNone, IsCovered}
+use Rattle.tables.specs.Changes.{TakesAndGivesFrames, UnmapsPages, IsOutside, MeetsNone, IsCovered}
 use Rattle.tables.proofs.pools.GivenBack.{occurs-append}
 use Rattle.tables.proofs.pools.Kept.{stated_none}
 use Rattle.tables.proofs.maps.Mapped.{table_either}
@@ -20,7 +20,7 @@ use Rattle.tables.proofs.walks.Near.{near_at}
 pub unmaps_up : (old new : Pool) (l t i c from to : ℕ) (cut : List ℕ) → IsTree old (suc l) t → i < TABLE_ENTRIES → i ≡ index_in l from
     → 1 ≤ l → memory old.words (suc l) t i ≡ Table c → ((p : ℕ) → from ≤ p → p < to → p / span l ≡ from / span l)
     → ((p : ℕ) → IsCovered from to p → p / span (suc l) ≡ from / span (suc l) → index_in l p ≡ i) → TakesAndGivesFrames old new l c cut
-    → (1 < l ⊎ (cut ≡ [])) → Unmaps old new l c from to cut → Unmaps old new (suc l) t from to cut
+    → (1 < l ⊎ (cut ≡ [])) → UnmapsPages old new l c from to cut → UnmapsPages old new (suc l) t from to cut
 unmaps_up old new l t i c from to cut tree a is some names one covers moves deep un =
     let m : Memory = memory old.words in
     let n : Memory = memory new.words in
@@ -83,7 +83,7 @@ unmaps_up old new l t i c from to cut tree a is some names one covers moves deep
       zeroed = un.zeroed;
     }
 
-pub no_unmaps : (a : Pool) (level t from : ℕ) → Unmaps a a level t from from []
+pub no_unmaps : (a : Pool) (level t from : ℕ) → UnmapsPages a a level t from from []
 no_unmaps a level t from = record {
   gone = λ p low high. absurd (omega (arith, low, high));
   elsewhere = λ p wide out. refl;
@@ -114,8 +114,8 @@ split_cover from mid to p edge all =
 -- two unmaps one after the other, of pages one after the other
 pub unmaps_then : (a b c : Pool) (level t from mid to : ℕ) (cut more : List ℕ) → from ≤ mid → mid < to
     → (mid % SPAN_PAGES ≡ 0 ⊎ (mid ≡ from)) → IsTree a level t → ((p : ℕ) → from ≤ p → p < to → p / span level ≡ from / span level)
-    → TakesAndGivesFrames a b level t cut → TakesAndGivesFrames b c level t more → Unmaps a b level t from mid cut
-    → Unmaps b c level t mid to more → Unmaps a c level t from to (cut ++ more)
+    → TakesAndGivesFrames a b level t cut → TakesAndGivesFrames b c level t more → UnmapsPages a b level t from mid cut
+    → UnmapsPages b c level t mid to more → UnmapsPages a c level t from to (cut ++ more)
 unmaps_then a b c level t from mid to cut more lo hi edge tree one moves moves' x y =
     let shift : from / span level ≡ mid / span level = sym (one mid lo hi) in
     let joins : (f : ℕ) → occurs f (cut ++ more) ≡ occurs f cut + occurs f more = λ f. occurs-append f cut more in
@@ -181,12 +181,12 @@ unmaps_then a b c level t from mid to cut more lo hi edge tree one moves moves' 
 -- an unmap of a piece through the table under an entry, at a level one above
 pub unmap_through : (old new : Pool) (level l t i c from to : ℕ) (cut : List ℕ) → level ≡ suc l → 1 < l → from < to
     → from / SPAN_PAGES ≡ (to - 1) / SPAN_PAGES → IsTree old level t → i < TABLE_ENTRIES → i ≡ index_in l from
-    → memory old.words level t i ≡ Table c → TakesAndGivesFrames old new l c cut → Unmaps old new l c from to cut
-    → TakesAndGivesFrames old new level t cut × Unmaps old new level t from to cut
+    → memory old.words level t i ≡ Table c → TakesAndGivesFrames old new l c cut → UnmapsPages old new l c from to cut
+    → TakesAndGivesFrames old new level t cut × UnmapsPages old new level t from to cut
 unmap_through old new level l t i c from to cut up deep some one =
     subst (λ n. IsTree old n t → i < TABLE_ENTRIES → i ≡ index_in l from → memory old.words n t i ≡ Table c
-    → TakesAndGivesFrames old new l c cut → Unmaps old new l c from to cut
-    → TakesAndGivesFrames old new n t cut × Unmaps old new n t from to cut) (sym up)
+    → TakesAndGivesFrames old new l c cut → UnmapsPages old new l c from to cut
+    → TakesAndGivesFrames old new n t cut × UnmapsPages old new n t from to cut) (sym up)
     (λ tree a is names moves un.
     let near : (p : ℕ) → p / SPAN_PAGES ≡ from / SPAN_PAGES → p / span l ≡ from / span l =
     λ p e. near_at 1 l p from (omega arith) (div_span_one p ∙ e ∙ sym (div_span_one from)) in (

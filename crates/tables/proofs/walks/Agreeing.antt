@@ -4,8 +4,8 @@ use Rattle.std.proofs.lemmas.Bool.Decides.{nat_tests}
 use Rattle.tables.specs.declared.entries.TheConstants.{TABLE_ENTRIES}
 use Rattle.vtdbits.specs.declared.entry.SsEntry.{SsEntry}
 use Rattle.vtdbits.specs.declared.entry.SsEntry.TheVariants.{Absent, Table, Leaf, LargeLeaf}
-use Rattle.tables.specs.Tree.{Memory, span, index_in, leaf_of, table_of, leaf_from, table_from, uses, entry_uses, here}
-use Rattle.tables.proofs.sums.Firsts.{total_part, total_same}
+use Rattle.tables.specs.Tree.{Memory, span, index_in, leaf_of, table_of, leaf_from, table_from, uses, entry_uses, one_if_same}
+use Rattle.tables.proofs.sums.Firsts.{sum_below_part, sum_below_same}
 
 -- the frames of the tree are as they were
 pub AgreeAt : Memory → Memory → ℕ → ℕ → Type 0
@@ -23,7 +23,7 @@ root_used a l t = let is : nat_eq t t ≡ true = grind (arith, nat_tests) in rw 
 under : (a : Memory) (l t k c f : ℕ) → k < TABLE_ENTRIES → a (suc l) t k ≡ Table c → 0 < uses a l c f → 0 < uses a (suc l) t f
 unfolding uses
 under a l t k c f lt e some =
-    let part = total_part (λ i. entry_uses (a (suc l) t i) (λ c. uses a l c f)) TABLE_ENTRIES k lt in
+    let part = sum_below_part (λ i. entry_uses (a (suc l) t i) (λ c. uses a l c f)) TABLE_ENTRIES k lt in
     let here : entry_uses (a (suc l) t k) (λ c. uses a l c f) ≡ uses a l c f = ap (λ x. entry_uses x (λ c. uses a l c f)) e in
     omega (arith, part)
 
@@ -77,8 +77,9 @@ pub uses_agree : (a b : Memory) (l t f : ℕ) → AgreeAt a b l t → uses b l t
 unfolding uses
 uses_agree a b zero t f h = refl
 uses_agree a b (suc l) t f h =
-    ap (λ x. here t f + x)
-    (total_same (λ i. entry_uses (a (suc l) t i) (λ c. uses a l c f)) (λ i. entry_uses (b (suc l) t i) (λ c. uses b l c f)) TABLE_ENTRIES
+    ap (λ x. one_if_same t f + x)
+    (sum_below_same (λ i. entry_uses (a (suc l) t i) (λ c. uses a l c f)) (λ i. entry_uses (b (suc l) t i) (λ c. uses b l c f))
+    TABLE_ENTRIES
     (λ i lt.
     ap (λ e. entry_uses e (λ c. uses b l c f)) (root_same a b l t i lt h)
     ∙ uses_by a b l f (a (suc l) t i) (λ c e. uses_agree a b l c f (below_same a b l t i c lt e h))))

@@ -11,13 +11,13 @@ use Rattle.vtdbits.specs.declared.entry.SsEntry.{SsEntry}
 use Rattle.vtdbits.specs.declared.entry.SsEntry.TheVariants.{Absent, Table, Leaf, LargeLeaf}
 use Rattle.tables.specs.Tree.{Found, span, index_in, leaf_of, leaf_from, is_large_leaf}
 use Rattle.tables.specs.Pool.{Pool, word, memory}
-use Rattle.tables.specs.Changes.{Unmaps}
+use Rattle.tables.specs.Changes.{UnmapsPages}
 use Rattle.tables.specs.Lacks.{splits_leaf}
 use Rattle.tables.specs.Pieces.{piece_splits}
 use Rattle.tables.proofs.walks.Near.{near_leaf, near_at}
 use Rattle.tables.proofs.walks.Steps.{leaf-suc, leaf-zero, div_span_one}
 use Rattle.tables.proofs.sums.OverSpans.{splitting_covered, splitting_else}
-use Rattle.tables.proofs.unmaps.SplitLeaf.{splits_whole, splits_part}
+use Rattle.tables.proofs.unmaps.SplitLeaf.{leaves_splitting_whole, leaves_splitting_part}
 use Rattle.tables.proofs.walks.Words.{memory_at}
 
 size_by : (words : List ℕ) (l t p : ℕ) (x : Found) (e : SsEntry) → look (suc l) (word words t (index_in l p)) ≡ e
@@ -67,7 +67,7 @@ same_large words l t p q near =
     by_both false false x y = refl
 
 -- a leaf behind pages that were unmapped up to an edge is as it was
-pub leaf_ahead : (old cur : Pool) (level root from place : ℕ) (cut : List ℕ) → Unmaps old cur level root from place cut
+pub leaf_ahead : (old cur : Pool) (level root from place : ℕ) (cut : List ℕ) → UnmapsPages old cur level root from place cut
     → ((place % SPAN_PAGES ≡ 0) ⊎ (place ≡ from)) → place / span level ≡ from / span level
     → IsSome (leaf_from (memory old.words) level root place)
     → leaf_from (memory cur.words) level root place ≡ leaf_from (memory old.words) level root place
@@ -97,7 +97,7 @@ pub piece_is : (old cur : Pool) (level root from to place next : ℕ) → from �
 piece_is old cur level root from to place next low some high one edge end same =
     ⊎_elim
     (λ (part : next - place < SPAN_PAGES).
-    splits_part (memory cur.words) level root place next part
+    leaves_splitting_part (memory cur.words) level root place next part
     ∙ ap (λ o. cond (is_large_leaf o) 1 0) same
     ∙ ap (λ (b : Bool). cond b 1 0) (same_large old.words level root place (place / SPAN_PAGES * SPAN_PAGES)
     (div_span_one place ∙ (let e : place / SPAN_PAGES ≡ place / SPAN_PAGES * SPAN_PAGES / SPAN_PAGES = omega arith in e)
@@ -106,7 +106,7 @@ piece_is old cur level root from to place next low some high one edge end same =
     (splitting_else (memory old.words) level root from to (place / SPAN_PAGES * SPAN_PAGES)
     (opened from to place next low some high one part edge end)))
     (λ (whole : SPAN_PAGES ≤ next - place).
-    splits_whole (memory cur.words) level root place next whole
+    leaves_splitting_whole (memory cur.words) level root place next whole
     ∙ sym (splitting_covered (memory old.words) level root from to (place / SPAN_PAGES * SPAN_PAGES) (omega arith) (omega arith)))
     (cases_lt (next - place) SPAN_PAGES)
   where

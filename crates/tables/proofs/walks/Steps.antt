@@ -8,9 +8,9 @@ use Rattle.tables.specs.declared.entries.TheConstants.{TABLE_ENTRIES}
 use Rattle.vtdbits.specs.declared.entry.SsEntry.{SsEntry}
 use Rattle.vtdbits.specs.declared.entry.SsEntry.TheVariants.{Absent, Table, Leaf, LargeLeaf}
 use Rattle.tables.specs.Under.{used_by_entry}
-use Rattle.tables.specs.Tree.{Memory, span, index_in, leaf_of, table_of, leaf_from, table_from, total, here, entry_uses, uses}
-use Rattle.tables.proofs.sums.Firsts.{total_part, total_two, total-none}
-use Rattle.tables.proofs.sums.OneFrame.{here-same}
+use Rattle.tables.specs.Tree.{Memory, span, index_in, leaf_of, table_of, leaf_from, table_from, sum_below, one_if_same, entry_uses, uses}
+use Rattle.tables.proofs.sums.Firsts.{sum_below_part, sum_below_two, sum_below-none}
+use Rattle.tables.proofs.sums.OneFrame.{one_if_same-self}
 use Rattle.tables.proofs.walks.Onward.{IsBare, deeper}
 
 pub leaf-suc : (m : Memory) (l t p : ℕ) → leaf_from m (suc l) t p ≡ leaf_of (m (suc l) t (index_in l p)) l (λ c. leaf_from m l c p)
@@ -31,7 +31,7 @@ pub table-zero : (m : Memory) (t p w : ℕ) → table_from m 0 t p w ≡ None
 unfolding table_from
 table-zero m t p w = refl
 
-pub uses-suc : (m : Memory) (l t f : ℕ) → uses m (suc l) t f ≡ here t f + total (used_by_entry m l t f) TABLE_ENTRIES
+pub uses-suc : (m : Memory) (l t f : ℕ) → uses m (suc l) t f ≡ one_if_same t f + sum_below (used_by_entry m l t f) TABLE_ENTRIES
 unfolding uses
 uses-suc m l t f = refl
 
@@ -67,28 +67,28 @@ too_high m l t p w lt = by_value (table_from m l t p w) refl
 
 -- a table is used by itself, beside its entries
 pub own_use : (m : Memory) (l t i : ℕ) → i < TABLE_ENTRIES → 1 + used_by_entry m l t t i ≤ uses m (suc l) t t
-own_use m l t i inside = omega (arith, uses-suc m l t t, here-same t, total_part (used_by_entry m l t t) TABLE_ENTRIES i inside)
+own_use m l t i inside = omega (arith, uses-suc m l t t, one_if_same-self t, sum_below_part (used_by_entry m l t t) TABLE_ENTRIES i inside)
 
 pub child_use : (m : Memory) (l t f i : ℕ) → i < TABLE_ENTRIES → used_by_entry m l t f i ≤ uses m (suc l) t f
-child_use m l t f i inside = omega (arith, uses-suc m l t f, total_part (used_by_entry m l t f) TABLE_ENTRIES i inside)
+child_use m l t f i inside = omega (arith, uses-suc m l t f, sum_below_part (used_by_entry m l t f) TABLE_ENTRIES i inside)
 
 pub two_uses : (m : Memory) (l t f i j : ℕ) → i < TABLE_ENTRIES → j < TABLE_ENTRIES → j ≢ i
     → used_by_entry m l t f i + used_by_entry m l t f j ≤ uses m (suc l) t f
-two_uses m l t f i j a b ne = omega (arith, uses-suc m l t f, total_two (used_by_entry m l t f) TABLE_ENTRIES i j a b ne)
+two_uses m l t f i j a b ne = omega (arith, uses-suc m l t f, sum_below_two (used_by_entry m l t f) TABLE_ENTRIES i j a b ne)
 
 -- a bare table uses itself alone
-pub uses-bare : (m : Memory) (l t f : ℕ) → IsBare m t → uses m (suc l) t f ≡ here t f
+pub uses-bare : (m : Memory) (l t f : ℕ) → IsBare m t → uses m (suc l) t f ≡ one_if_same t f
 uses-bare m l t f bare =
-    let none : total (used_by_entry m l t f) TABLE_ENTRIES ≡ 0 =
-    total-none (used_by_entry m l t f) TABLE_ENTRIES (λ j lt. ap (λ e. entry_uses e (λ c. uses m l c f)) (bare (suc l) j lt)) in
+    let none : sum_below (used_by_entry m l t f) TABLE_ENTRIES ≡ 0 =
+    sum_below-none (used_by_entry m l t f) TABLE_ENTRIES (λ j lt. ap (λ e. entry_uses e (λ c. uses m l c f)) (bare (suc l) j lt)) in
     omega (arith, uses-suc m l t f)
 
 -- and so does a table of level 1
-pub uses-one : (m : Memory) (t f : ℕ) → uses m 1 t f ≡ here t f
+pub uses-one : (m : Memory) (t f : ℕ) → uses m 1 t f ≡ one_if_same t f
 unfolding uses
 uses-one m t f =
-    let none : total (used_by_entry m 0 t f) TABLE_ENTRIES ≡ 0 =
-    total-none (used_by_entry m 0 t f) TABLE_ENTRIES (λ j lt. by_entry (m 1 t j)) in
+    let none : sum_below (used_by_entry m 0 t f) TABLE_ENTRIES ≡ 0 =
+    sum_below-none (used_by_entry m 0 t f) TABLE_ENTRIES (λ j lt. by_entry (m 1 t j)) in
     omega (arith, uses-suc m 0 t f)
   where
     by_entry : (e : SsEntry) → entry_uses e (λ c. uses m 0 c f) ≡ 0

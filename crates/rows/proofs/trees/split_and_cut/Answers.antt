@@ -8,8 +8,8 @@ use Rattle.dmatypes.specs.World.{Target}
 use Rattle.tables.specs.declared.trees.Tree.{Tree}
 use Rattle.tables.specs.Tree.{states, stated, uses}
 use Rattle.tables.specs.Pool.{Pool, memory, occurs, IsTree}
-use Rattle.tables.specs.Changes.{Maps, Unmaps, TakesAndGivesFrames}
-use Rattle.tables.proofs.pools.Kept.{span-three, same_root}
+use Rattle.tables.specs.Changes.{MapsPages, UnmapsPages, TakesAndGivesFrames}
+use Rattle.tables.proofs.pools.Kept.{span-levels, same_root}
 use Rattle.rows.proofs.trees.split_and_cut.Goals as goal
 
 on_ok : {A E P : Type 0} (r : Result A E) (a : A) → r ≡ Ok a → OnOk r P → P
@@ -17,18 +17,18 @@ on_ok {A} {E} {P} r a e h = let Q : Result A E → Type 0 = λ x. OnOk x P in su
 
 -- the same of a range and a root that are known
 unmaps_at : (old new : Pool) (tree known : Tree) (range : Range) (first pages : ℕ) (cut : List ℕ) → tree ≡ known
-    → range ≡ record { first = first; pages = pages } → Unmaps old new LEVELS tree.root range.first (range.first + range.pages) cut
-    → Unmaps old new LEVELS known.root first (first + pages) cut
+    → range ≡ record { first = first; pages = pages } → UnmapsPages old new LEVELS tree.root range.first (range.first + range.pages) cut
+    → UnmapsPages old new LEVELS known.root first (first + pages) cut
 unmaps_at old new tree known range first pages cut et er un =
-    subst (λ (t : Tree). Unmaps old new LEVELS t.root first (first + pages) cut) et
-    (subst (λ (r : Range). Unmaps old new LEVELS tree.root r.first (r.first + r.pages) cut) er un)
+    subst (λ (t : Tree). UnmapsPages old new LEVELS t.root first (first + pages) cut) et
+    (subst (λ (r : Range). UnmapsPages old new LEVELS tree.root r.first (r.first + r.pages) cut) er un)
 
 maps_at : (old new : Pool) (tree known : Tree) (range : Range) (first pages : ℕ) (says : ℕ → Option Target) → tree ≡ known
-    → range ≡ record { first = first; pages = pages } → Maps old new LEVELS tree.root range.first (range.first + range.pages) says
-    → Maps old new LEVELS known.root first (first + pages) says
+    → range ≡ record { first = first; pages = pages } → MapsPages old new LEVELS tree.root range.first (range.first + range.pages) says
+    → MapsPages old new LEVELS known.root first (first + pages) says
 maps_at old new tree known range first pages says et er maps =
-    subst (λ (t : Tree). Maps old new LEVELS t.root first (first + pages) says) et
-    (subst (λ (r : Range). Maps old new LEVELS tree.root r.first (r.first + r.pages) says) er maps)
+    subst (λ (t : Tree). MapsPages old new LEVELS t.root first (first + pages) says) et
+    (subst (λ (r : Range). MapsPages old new LEVELS tree.root r.first (r.first + r.pages) says) er maps)
 
 -- which pages a tree has, and which it doesn't have
 HasAll : Pool → ℕ → ℕ → ℕ → Type 0
@@ -41,28 +41,28 @@ some_of : (o : Option Target) (t : Target) → o ≡ Some t → IsSome o
 some_of None t e = cc
 some_of (Some x) t e = refl
 
-mapped_all : (old new : Pool) (root from to : ℕ) (says : ℕ → Target) → Maps old new LEVELS root from to (λ p. Some (says p))
+mapped_all : (old new : Pool) (root from to : ℕ) (says : ℕ → Target) → MapsPages old new LEVELS root from to (λ p. Some (says p))
     → HasAll new root from to
 unfolding HasAll
 mapped_all old new root from to says maps p low high = some_of (states (memory new.words) LEVELS root p) (says p) (maps.mapped p low high)
 
 kept_all : (old new : Pool) (root from to a b : ℕ) (cut : List ℕ) → from < PAGES_END → b ≤ PAGES_END → (b ≤ from) ⊎ (to ≤ a)
-    → Unmaps old new LEVELS root from to cut → HasAll old root a b → HasAll new root a b
+    → UnmapsPages old new LEVELS root from to cut → HasAll old root a b → HasAll new root a b
 unfolding HasAll
 kept_all old new root from to a b cut within end apart un all p low high =
     subst (λ (o : Option Target). IsSome o) (sym
-    (un.elsewhere p (same_root LEVELS p from (omega (arith, span-three)) (omega (arith, span-three)))
+    (un.elsewhere p (same_root LEVELS p from (omega (arith, span-levels)) (omega (arith, span-levels)))
     (⊎_elim (λ h. inl (omega arith)) (λ h. inr (omega arith)) apart)))
     (all p low high)
 
 kept_none : (old new : Pool) (root from to a b : ℕ) (cut : List ℕ) → from < PAGES_END → b ≤ PAGES_END → (b ≤ from) ⊎ (to ≤ a)
-    → Unmaps old new LEVELS root from to cut → HasNone old root a b → HasNone new root a b
+    → UnmapsPages old new LEVELS root from to cut → HasNone old root a b → HasNone new root a b
 unfolding HasNone
 kept_none old new root from to a b cut within end apart un none p low high =
-    un.elsewhere p (same_root LEVELS p from (omega (arith, span-three)) (omega (arith, span-three)))
+    un.elsewhere p (same_root LEVELS p from (omega (arith, span-levels)) (omega (arith, span-levels)))
     (⊎_elim (λ h. inl (omega arith)) (λ h. inr (omega arith)) apart) ∙ none p low high
 
-gone_none : (old new : Pool) (root from to : ℕ) (cut : List ℕ) → Unmaps old new LEVELS root from to cut → HasNone new root from to
+gone_none : (old new : Pool) (root from to : ℕ) (cut : List ℕ) → UnmapsPages old new LEVELS root from to cut → HasNone new root from to
 unfolding HasNone
 gone_none old new root from to cut un p low high = ap (stated p) (un.gone p low high)
 

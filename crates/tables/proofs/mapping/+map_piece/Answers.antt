@@ -2,7 +2,7 @@ use Rattle.std.proofs.Common.{◌≡◌, ℕ, ◌+◌, ◌-◌, ◌<◌, ◌≤�
 use Rattle.vtdbits.specs.declared.entry.SsEntry.TheVariants.{Absent, Leaf, LargeLeaf}
 use Rattle.tables.specs.Tree.{index_in, table_from}
 use Rattle.tables.specs.Pool.{memory}
-use Rattle.tables.specs.Changes.{TakesAndGivesFrames, Maps}
+use Rattle.tables.specs.Changes.{TakesAndGivesFrames, MapsPages}
 use Rattle.tables.specs.Lacks.{tables_lacking_at}
 use Rattle.tables.specs.Pieces.{piece_states, is_large}
 use Rattle.vtdbits.specs.Translation.{target}
@@ -41,7 +41,7 @@ returns-then-level-eq1-clause-moves t c =
 pub returns-then-level-eq1-clause-maps : goal.returns-then-level-eq1-clause-maps
 returns-then-level-eq1-clause-maps t c =
     subst (λ n.
-    Maps c.args.pool.now c.write_run.new.pool n c.args.table c.args.piece.now.from c.args.piece.now.to (piece_states c.args.piece.now))
+    MapsPages c.args.pool.now c.write_run.new.pool n c.args.table c.args.piece.now.from c.args.piece.now.to (piece_states c.args.piece.now))
     (sym c.if-level-eq1.true) (run_maps c.args.pool.now c.write_run.new.pool c.args.table c.args.piece.now.from c.args.piece.now.to _
     (λ p. target (c.args.piece.now.frame + (p - c.args.piece.now.from)) (bits_of c.args.piece.now.rights)) c.write_run.ensures.run
     (λ q low high. omega (arith, low, high, c.args.piece.now.one_span)) (λ p. refl))

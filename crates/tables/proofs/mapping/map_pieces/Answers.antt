@@ -8,7 +8,7 @@ use Rattle.dmatypes.specs.declared.call.Segment.{Segment}
 use Rattle.tables.specs.declared.piece.Piece.{Piece}
 use Rattle.tables.specs.Tree.{span}
 use Rattle.tables.specs.Pool.{memory}
-use Rattle.tables.specs.Changes.{Maps, MakesTables}
+use Rattle.tables.specs.Changes.{MapsPages, MakesTables}
 use Rattle.tables.specs.Segments.{is_large_at}
 use Rattle.tables.specs.Lacks.{tables_lacking}
 use Rattle.tables.specs.Pieces.{piece_states, is_large}
@@ -98,10 +98,10 @@ loop-piece-preserved c =
     let far : c.in-Some.piece.to ≤ c.args.first + total_pages c.args.segments.now = c.in-Some.ensures.within in
     let near : c.args.first ≤ c.in-Some.piece.from = omega (arith, at, c.loop-piece.invariant.low) in
     let some : c.in-Some.piece.from < c.in-Some.piece.to = c.in-Some.piece.some in
-    let before : Maps c.args.pool.now c.loop-piece.pool c.args.level c.args.root c.args.first c.in-Some.piece.from
+    let before : MapsPages c.args.pool.now c.loop-piece.pool c.args.level c.args.root c.args.first c.in-Some.piece.from
     (placed c.args.segments.now c.args.first (bits_of c.args.rights)) =
     subst (λ q.
-    Maps c.args.pool.now c.loop-piece.pool c.args.level c.args.root c.args.first q
+    MapsPages c.args.pool.now c.loop-piece.pool c.args.level c.args.root c.args.first q
     (placed c.args.segments.now c.args.first (bits_of c.args.rights)))
     (sym at) c.loop-piece.invariant.maps in
     let made : MakesTables c.args.pool.now c.loop-piece.pool c.args.level c.args.root c.args.first c.in-Some.piece.from

@@ -4,9 +4,9 @@ use Rattle.dmatypes.specs.Conditions.{total_pages}
 use Rattle.dmatypes.specs.Rights.{bits_of}
 use Rattle.dmatypes.specs.World.{placed}
 use Rattle.tables.specs.Pool.{memory, IsPool}
-use Rattle.tables.specs.Changes.{TakesAndGivesFrames, Maps, MakesTables}
+use Rattle.tables.specs.Changes.{TakesAndGivesFrames, MapsPages, MakesTables}
 use Rattle.tables.specs.Segments.{is_large_at}
-use Rattle.tables.specs.Lacks.{tables_lacking, map_lacks}
+use Rattle.tables.specs.Lacks.{tables_lacking, frames_to_map}
 use Rattle.tables.proofs.mapping.map_pieces.Given as goal
 
 abbrev pub invariant-loop-piece : goal.invariant-loop-piece
@@ -14,8 +14,8 @@ invariant-loop-piece l = record {
   low : l.first ≤ l.place;
   high : l.place ≤ l.first + total_pages l.segments;
   moves : TakesAndGivesFrames l.initial.pool l.pool l.level l.root [];
-  maps : Maps l.initial.pool l.pool l.level l.root l.first l.place (placed l.segments l.first (bits_of l.rights));
-  count : length l.pool.free + map_lacks l.initial.pool l.level l.root l.segments l.first
+  maps : MapsPages l.initial.pool l.pool l.level l.root l.first l.place (placed l.segments l.first (bits_of l.rights));
+  count : length l.pool.free + frames_to_map l.initial.pool l.level l.root l.segments l.first
       ≡ length l.initial.pool.free
       + tables_lacking (memory l.pool.words) l.level l.root (is_large_at l.segments l.first) l.place (l.first + total_pages l.segments);
   inner : 0 < l.place % SPAN_PAGES → is_large_at l.segments l.first (SPAN_PAGES * (l.place / SPAN_PAGES)) ≡ false;

@@ -5,7 +5,7 @@ use Rattle.vtdbits.specs.Entry.{look}
 use Rattle.vtdbits.specs.Translation.{target}
 use Rattle.vtdbits.specs.declared.entry.SsEntry.TheVariants.{LargeLeaf}
 use Rattle.dmatypes.specs.Rights.{bits_of}
-use Rattle.tables.specs.Changes.{TakesAndGivesFrames, Maps}
+use Rattle.tables.specs.Changes.{TakesAndGivesFrames, MapsPages}
 use Rattle.tables.specs.Pieces.{piece_states}
 use Rattle.tables.specs.Tree.{table_from}
 use Rattle.tables.specs.Pool.{memory}
@@ -26,7 +26,7 @@ write-requires-clause-taken c = root_taken c.args.pool.now 1 c.args.table c.requ
 -- what the one word that was written changed
 written : (c : After-write)
     → TakesAndGivesFrames c.args.pool.now c.write.new.self 2 c.args.table []
-    × Maps c.args.pool.now c.write.new.self 2 c.args.table c.args.piece.now.from c.args.piece.now.to (piece_states c.args.piece.now)
+    × MapsPages c.args.pool.now c.write.new.self 2 c.args.table c.args.piece.now.from c.args.piece.now.to (piece_states c.args.piece.now)
     × ((p w : ℕ)
     → table_from (memory c.write.new.self.words) 2 c.args.table p w ≡ table_from (memory c.args.pool.now.words) 2 c.args.table p w)
 written c =
@@ -45,7 +45,8 @@ written c =
     c.write.ensures.free c.write.ensures.frames c.requires.absent names in
     let end : c.args.piece.now.from + SPAN_PAGES ≡ c.args.piece.now.to = omega (arith, whole.1, c.args.piece.now.some) in (
       all.0,
-      subst (λ to. Maps c.args.pool.now c.write.new.self 2 c.args.table c.args.piece.now.from to (piece_states c.args.piece.now)) end all.1,
+      subst (λ to. MapsPages c.args.pool.now c.write.new.self 2 c.args.table c.args.piece.now.from to (piece_states c.args.piece.now)) end
+          all.1,
       all.2,
     )
 

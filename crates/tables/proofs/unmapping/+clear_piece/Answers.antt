@@ -6,7 +6,7 @@ use Rattle.tables.specs.Pool.{memory}
 use Rattle.tables.specs.Pieces.{cut_of}
 use Rattle.tables.proofs.maps.Descending.{absent_below}
 use Rattle.tables.proofs.walks.Levels.{root_in_level, below_level, leaf_level}
-use Rattle.tables.proofs.unmaps.SplitLeaf.{splits_below}
+use Rattle.tables.proofs.unmaps.SplitLeaf.{leaves_splitting_below}
 use Rattle.tables.proofs.unmaps.Unmapped.{unmap_through}
 use Rattle.tables.proofs.unmapping.+clear_piece.Goals as goal
 
@@ -42,7 +42,8 @@ clear_piece-requires t c = (
                 omega (
                   arith,
                   c.requires.room,
-                  splits_below (memory c.args.pool.now.words) c.args.level (c.args.level - 1) c.args.table c.in-Table.below c.args.from
+                  leaves_splitting_below (memory c.args.pool.now.words) c.args.level (c.args.level - 1) c.args.table c.in-Table.below
+                      c.args.from
                       c.args.to (absent_below (memory c.args.pool.now.words) c.args.level (c.args.level - 1) c.args.table c.index_of.result
                       c.in-Table.below c.args.from c.args.to c.args.from (omega arith)
                       (deep c.args.level c.if-level-eq2.false c.requires.low).0 c.requires.one_span c.index_of.ensures.exact
@@ -74,7 +75,8 @@ returns-clause-unmaps t c =
 pub returns-clause-split : goal.returns-clause-split
 returns-clause-split t c =
     c.clear_piece.ensures.split
-    ∙ sym (splits_below (memory c.args.pool.now.words) c.args.level (c.args.level - 1) c.args.table c.in-Table.below c.args.from c.args.to
+    ∙ sym (leaves_splitting_below (memory c.args.pool.now.words) c.args.level (c.args.level - 1) c.args.table c.in-Table.below c.args.from
+    c.args.to
     (absent_below (memory c.args.pool.now.words) c.args.level (c.args.level - 1) c.args.table c.index_of.result c.in-Table.below
     c.args.from c.args.to c.args.from (omega arith) (deep c.args.level c.if-level-eq2.false c.requires.low).0 c.requires.one_span
     c.index_of.ensures.exact c.in-Table.ensures.is (omega arith) c.requires.some))
@@ -84,7 +86,8 @@ returns-clause-count t c =
     omega (
       arith,
       c.clear_piece.ensures.count,
-      splits_below (memory c.args.pool.now.words) c.args.level (c.args.level - 1) c.args.table c.in-Table.below c.args.from c.args.to
+      leaves_splitting_below (memory c.args.pool.now.words) c.args.level (c.args.level - 1) c.args.table c.in-Table.below c.args.from
+          c.args.to
           (absent_below (memory c.args.pool.now.words) c.args.level (c.args.level - 1) c.args.table c.index_of.result c.in-Table.below
           c.args.from c.args.to c.args.from (omega arith) (deep c.args.level c.if-level-eq2.false c.requires.low).0 c.requires.one_span
           c.index_of.ensures.exact c.in-Table.ensures.is (omega arith) c.requires.some),

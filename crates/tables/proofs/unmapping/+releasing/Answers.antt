@@ -2,10 +2,10 @@ use Rattle.std.proofs.Common.{◌≡◌, ℕ, ◌-◌, refl, ap, ◌∙◌, arit
 use Rattle.dmatypes.specs.declared.page.TheConstants.{SPAN_PAGES}
 use Rattle.tables.specs.declared.entries.TheConstants.{TABLE_ENTRIES}
 use Rattle.vtdbits.specs.declared.entry.SsEntry.TheVariants.{Absent, Leaf, LargeLeaf}
-use Rattle.tables.specs.Tree.{total, uses}
+use Rattle.tables.specs.Tree.{sum_below, uses}
 use Rattle.tables.specs.Pool.{memory, word, occurs}
 use Rattle.tables.specs.Under.{used_at}
-use Rattle.tables.proofs.sums.OneFrame.{here-same}
+use Rattle.tables.proofs.sums.OneFrame.{one_if_same-self}
 use Rattle.tables.proofs.walks.Levels.{root_in_level}
 use Rattle.tables.proofs.unmaps.Destroyed.{releasing_start, releasing_more, root_left, taken_left}
 use Rattle.tables.proofs.unmaps.Destroyed.{below_left, uses_level, used_table, used_none}
@@ -64,9 +64,9 @@ release-give-requires-clause-taken t c =
 pub release-returns-clause-free : goal.release-returns-clause-free
 release-returns-clause-free t c f =
     let done : c.loop-index.index ≡ SPAN_PAGES = omega (arith, c.loop-index.auto.index-end, c.loop-index-test.false) in
-    let all : total (used_at c.args.pool.now c.args.level c.args.table f) c.loop-index.index
-    ≡ total (used_at c.args.pool.now c.args.level c.args.table f) TABLE_ENTRIES =
-    ap (total (used_at c.args.pool.now c.args.level c.args.table f)) done in
+    let all : sum_below (used_at c.args.pool.now c.args.level c.args.table f) c.loop-index.index
+    ≡ sum_below (used_at c.args.pool.now c.args.level c.args.table f) TABLE_ENTRIES =
+    ap (sum_below (used_at c.args.pool.now c.args.level c.args.table f)) done in
     omega (
       arith,
       c.give.ensures.free f,
@@ -78,9 +78,9 @@ release-returns-clause-free t c f =
 pub release-returns-clause-others : goal.release-returns-clause-others
 release-returns-clause-others t c f k k_in none =
     let done : c.loop-index.index ≡ SPAN_PAGES = omega (arith, c.loop-index.auto.index-end, c.loop-index-test.false) in
-    let all : total (used_at c.args.pool.now c.args.level c.args.table f) c.loop-index.index
-    ≡ total (used_at c.args.pool.now c.args.level c.args.table f) TABLE_ENTRIES =
-    ap (total (used_at c.args.pool.now c.args.level c.args.table f)) done in
+    let all : sum_below (used_at c.args.pool.now c.args.level c.args.table f) c.loop-index.index
+    ≡ sum_below (used_at c.args.pool.now c.args.level c.args.table f) TABLE_ENTRIES =
+    ap (sum_below (used_at c.args.pool.now c.args.level c.args.table f)) done in
     let whole = uses_level c.args.pool.now c.args.level (c.args.level - 1) c.args.table f (omega arith) in
     ap (λ ws. word ws f k) c.give.ensures.words
     ∙ c.loop-index.invariant.others f k k_in
@@ -93,7 +93,7 @@ release-returns-clause-others t c f k k_in none =
       own,
       none,
       uses_level c.args.pool.now c.args.level (c.args.level - 1) c.args.table c.args.table (omega arith),
-      here-same c.args.table,
+      one_if_same-self c.args.table,
     ))
     (omega (arith, all, whole, none))
 

@@ -5,7 +5,7 @@ use Rattle.vtdbits.proofs.Entries.{look-zero}
 use Rattle.vtdbits.specs.declared.entry.SsEntry.TheVariants.{Absent}
 use Rattle.tables.specs.Tree.{index_in}
 use Rattle.tables.specs.Pool.{occurs, memory, IsTree}
-use Rattle.tables.specs.Changes.{TakesAndGivesFrames, Unmaps}
+use Rattle.tables.specs.Changes.{TakesAndGivesFrames, UnmapsPages}
 use Rattle.tables.proofs.unmaps.UnderEntry.{root_in, root_taken, below_in, moved_tree}
 use Rattle.tables.proofs.walks.Words.{memory_at}
 use Rattle.tables.proofs.walks.Onward.{index_lt}
@@ -17,7 +17,7 @@ use Rattle.tables.specs.Pieces.{WritesEntries}
 use Rattle.tables.specs.Tree.{Found}
 use Rattle.tables.proofs.unmaps.Cleared.{run_through, large_gone}
 use Rattle.tables.proofs.unmaps.CutTable.{table_cut}
-use Rattle.tables.proofs.unmaps.SplitLeaf.{split_unmaps, splits_whole, splits_table, splits_large}
+use Rattle.tables.proofs.unmaps.SplitLeaf.{split_unmaps, leaves_splitting_whole, leaves_splitting_table, leaves_splitting_large}
 use Rattle.tables.proofs.unmapping.clear_span.Goals as goal
 use Rattle.tables.proofs.unmapping.clear_span.Goals.{After-write, After-write-then-is_whole, After-clear_run-in-LargeLeaf}
 
@@ -60,7 +60,7 @@ returns-then-not-is_whole-clause-unmaps c =
 
 pub returns-then-not-is_whole-clause-split : goal.returns-then-not-is_whole-clause-split
 returns-then-not-is_whole-clause-split c =
-    sym (splits_table (memory c.args.pool.now.words) c.args.table c.args.from c.args.to c.in-Table.below
+    sym (leaves_splitting_table (memory c.args.pool.now.words) c.args.table c.args.from c.args.to c.in-Table.below
     (part c.args.from c.args.to c.requires.some c.requires.one_span c.if-not-is_whole.true)
     (ap (λ i. memory c.args.pool.now.words 2 c.args.table i) (sym c.index_of-index.ensures.exact) ∙ c.in-Table.ensures.is))
 
@@ -68,7 +68,7 @@ pub returns-then-not-is_whole-clause-count : goal.returns-then-not-is_whole-clau
 returns-then-not-is_whole-clause-count c =
     omega (
       arith,
-      splits_table (memory c.args.pool.now.words) c.args.table c.args.from c.args.to c.in-Table.below
+      leaves_splitting_table (memory c.args.pool.now.words) c.args.table c.args.from c.args.to c.in-Table.below
           (part c.args.from c.args.to c.requires.some c.requires.one_span c.if-not-is_whole.true)
           (ap (λ i. memory c.args.pool.now.words 2 c.args.table i) (sym c.index_of-index.ensures.exact) ∙ c.in-Table.ensures.is),
       ap length c.clear_run.ensures.free,
@@ -84,7 +84,7 @@ write-requires-clause-taken c =
 -- the table itself, with its whole span
 was_cut : (c : After-write)
     → TakesAndGivesFrames c.args.pool.now c.write.new.self 2 c.args.table (c.in-Table.below ∷ [])
-    × Unmaps c.args.pool.now c.write.new.self 2 c.args.table c.args.from c.args.to (c.in-Table.below ∷ [])
+    × UnmapsPages c.args.pool.now c.write.new.self 2 c.args.table c.args.from c.args.to (c.in-Table.below ∷ [])
 was_cut c =
     let e = even c.args.from c.args.to c.requires.some c.requires.one_span c.if-not-is_whole.false in
     let absent : memory c.write.new.self.words 2 c.args.table c.index_of-index.result ≡ Absent =
@@ -96,7 +96,7 @@ was_cut c =
     c.clear_run.ensures.run)
     (λ p low high. c.clear_run.ensures.zeroed p low (omega (arith, high, e.1))) c.clear_run.ensures.free c.clear_run.ensures.frames
     c.write.ensures.wrote c.write.ensures.free c.write.ensures.frames absent in
-    (all.0, subst (λ to. Unmaps c.args.pool.now c.write.new.self 2 c.args.table c.args.from to (c.in-Table.below ∷ [])) e.1 all.1)
+    (all.0, subst (λ to. UnmapsPages c.args.pool.now c.write.new.self 2 c.args.table c.args.from to (c.in-Table.below ∷ [])) e.1 all.1)
 
 pub returns-else-not-is_whole-clause-moves : goal.returns-else-not-is_whole-clause-moves
 returns-else-not-is_whole-clause-moves c = (was_cut (goal.at.returns-else-not-is_whole-clause-moves c).After-write).0
@@ -106,13 +106,14 @@ returns-else-not-is_whole-clause-unmaps c = (was_cut (goal.at.returns-else-not-i
 
 pub returns-else-not-is_whole-clause-split : goal.returns-else-not-is_whole-clause-split
 returns-else-not-is_whole-clause-split c =
-    sym (splits_whole (memory c.args.pool.now.words) 2 c.args.table c.args.from c.args.to (omega (arith, c.if-not-is_whole.false)))
+    sym (leaves_splitting_whole (memory c.args.pool.now.words) 2 c.args.table c.args.from c.args.to
+    (omega (arith, c.if-not-is_whole.false)))
 
 pub returns-else-not-is_whole-clause-count : goal.returns-else-not-is_whole-clause-count
 returns-else-not-is_whole-clause-count c =
     omega (
       arith,
-      splits_whole (memory c.args.pool.now.words) 2 c.args.table c.args.from c.args.to (omega (arith, c.if-not-is_whole.false)),
+      leaves_splitting_whole (memory c.args.pool.now.words) 2 c.args.table c.args.from c.args.to (omega (arith, c.if-not-is_whole.false)),
       ap length c.clear_run.ensures.free,
       ap length c.write.ensures.free,
     )
@@ -126,7 +127,7 @@ write-requires-then-is_whole-clause-taken c = root_taken c.args.pool.now 1 c.arg
 
 leaf_gone : (c : After-write-then-is_whole)
     → TakesAndGivesFrames c.args.pool.now c.write-then-is_whole.new.self 2 c.args.table []
-    × Unmaps c.args.pool.now c.write-then-is_whole.new.self 2 c.args.table c.args.from c.args.to []
+    × UnmapsPages c.args.pool.now c.write-then-is_whole.new.self 2 c.args.table c.args.from c.args.to []
 leaf_gone c =
     let e = even c.args.from c.args.to c.requires.some c.requires.one_span c.if-is_whole.true in
     let new = c.write-then-is_whole.new.self in
@@ -136,7 +137,7 @@ leaf_gone c =
     large_gone c.args.pool.now new c.args.table c.index_of-index.result c.args.from 0 c.in-LargeLeaf.leaf c.requires.tree
     c.index_of-index.ensures.inside c.index_of-index.ensures.exact e.0 c.write-then-is_whole.ensures.wrote
     c.write-then-is_whole.ensures.free c.write-then-is_whole.ensures.frames c.in-LargeLeaf.ensures.is absent in
-    (all.0, subst (λ to. Unmaps c.args.pool.now new 2 c.args.table c.args.from to []) e.1 all.1)
+    (all.0, subst (λ to. UnmapsPages c.args.pool.now new 2 c.args.table c.args.from to []) e.1 all.1)
 
 pub returns-then-is_whole-clause-moves : goal.returns-then-is_whole-clause-moves
 returns-then-is_whole-clause-moves c = (leaf_gone (goal.at.returns-then-is_whole-clause-moves c).After-write-then-is_whole).0
@@ -146,13 +147,13 @@ returns-then-is_whole-clause-unmaps c = (leaf_gone (goal.at.returns-then-is_whol
 
 pub returns-then-is_whole-clause-split : goal.returns-then-is_whole-clause-split
 returns-then-is_whole-clause-split c =
-    sym (splits_whole (memory c.args.pool.now.words) 2 c.args.table c.args.from c.args.to (omega (arith, c.if-is_whole.true)))
+    sym (leaves_splitting_whole (memory c.args.pool.now.words) 2 c.args.table c.args.from c.args.to (omega (arith, c.if-is_whole.true)))
 
 pub returns-then-is_whole-clause-count : goal.returns-then-is_whole-clause-count
 returns-then-is_whole-clause-count c =
     omega (
       arith,
-      splits_whole (memory c.args.pool.now.words) 2 c.args.table c.args.from c.args.to (omega (arith, c.if-is_whole.true)),
+      leaves_splitting_whole (memory c.args.pool.now.words) 2 c.args.table c.args.from c.args.to (omega (arith, c.if-is_whole.true)),
       ap length c.write-then-is_whole.ensures.free,
     )
 
@@ -162,7 +163,7 @@ split-below-requires-clause-room c =
     omega (
       arith,
       c.requires.room,
-      splits_large (memory c.args.pool.now.words) c.args.table c.args.from c.args.to c.in-LargeLeaf.leaf
+      leaves_splitting_large (memory c.args.pool.now.words) c.args.table c.args.from c.args.to c.in-LargeLeaf.leaf
           (part c.args.from c.args.to c.requires.some c.requires.one_span c.if-is_whole.false)
           (ap (λ i. memory c.args.pool.now.words 2 c.args.table i) (sym c.index_of-index.ensures.exact) ∙ c.in-LargeLeaf.ensures.is),
     )
@@ -187,7 +188,7 @@ clear_run-requires-in-LargeLeaf-clause-taken c =
 
 part_gone : (c : After-clear_run-in-LargeLeaf)
     → TakesAndGivesFrames c.args.pool.now c.clear_run-in-LargeLeaf.new.pool 2 c.args.table []
-    × Unmaps c.args.pool.now c.clear_run-in-LargeLeaf.new.pool 2 c.args.table c.args.from c.args.to []
+    × UnmapsPages c.args.pool.now c.clear_run-in-LargeLeaf.new.pool 2 c.args.table c.args.from c.args.to []
 part_gone c =
     let mid = c.split-below.new.pool in
     let s = c.split-below.ensures.split in
@@ -212,7 +213,7 @@ returns-else-is_whole-clause-unmaps c = (part_gone (goal.at.returns-else-is_whol
 
 pub returns-else-is_whole-clause-split : goal.returns-else-is_whole-clause-split
 returns-else-is_whole-clause-split c =
-    sym (splits_large (memory c.args.pool.now.words) c.args.table c.args.from c.args.to c.in-LargeLeaf.leaf
+    sym (leaves_splitting_large (memory c.args.pool.now.words) c.args.table c.args.from c.args.to c.in-LargeLeaf.leaf
     (part c.args.from c.args.to c.requires.some c.requires.one_span c.if-is_whole.false)
     (ap (λ i. memory c.args.pool.now.words 2 c.args.table i) (sym c.index_of-index.ensures.exact) ∙ c.in-LargeLeaf.ensures.is))
 
@@ -220,7 +221,7 @@ pub returns-else-is_whole-clause-count : goal.returns-else-is_whole-clause-count
 returns-else-is_whole-clause-count c =
     omega (
       arith,
-      splits_large (memory c.args.pool.now.words) c.args.table c.args.from c.args.to c.in-LargeLeaf.leaf
+      leaves_splitting_large (memory c.args.pool.now.words) c.args.table c.args.from c.args.to c.in-LargeLeaf.leaf
           (part c.args.from c.args.to c.requires.some c.requires.one_span c.if-is_whole.false)
           (ap (λ i. memory c.args.pool.now.words 2 c.args.table i) (sym c.index_of-index.ensures.exact) ∙ c.in-LargeLeaf.ensures.is),
       c.split-below.ensures.count,

@@ -1,7 +1,7 @@
 use Rattle.std.proofs.Common.{◌≡◌, ◌+◌, ◌/◌, Bool, cond, sym, ap, ◌∙◌, arith}
 use Rattle.dmatypes.specs.declared.page.TheConstants.{SPAN_PAGES}
 use Rattle.tables.proofs.sums.OverSpans.{so_far-start, so_far-test, so_far-end, splitting_at, few_more, last_span}
-use Rattle.tables.specs.Lacks.{splits}
+use Rattle.tables.specs.Lacks.{leaves_splitting}
 use Rattle.tables.proofs.walks.Steps.{span-one}
 use Rattle.tables.proofs.unmapping.leaves_splitting.Goals as goal
 use Rattle.tables.proofs.unmapping.leaves_splitting.Goals.{then-splits_leaf, else-splits_leaf}
@@ -35,7 +35,7 @@ loop-number-preserved c =
     }
 
 pub returns : goal.returns
-unfolding splitting_at splits
+unfolding splitting_at leaves_splitting
 returns c =
     c.loop-number.invariant.sum
     ∙ so_far-end (splitting_at c.args.pool.now c.args.level c.args.root c.args.from c.args.to) (1) (SPAN_PAGES) c.args.from c.args.to

@@ -1,5 +1,5 @@
-use Rattle.tables.proofs.sums.OverSpans.{splits_few}
+use Rattle.tables.proofs.sums.OverSpans.{leaves_splitting_few}
 use Rattle.tables.proofs.unmapping.spans_met.Goals as goal
 
 pub returns : goal.returns
-returns c m level root = splits_few m level root c.args.from c.args.to
+returns c m level root = leaves_splitting_few m level root c.args.from c.args.to

@@ -5,7 +5,7 @@ use Rattle.vtdbits.specs.Translation.{target}
 use Rattle.vtdbits.specs.declared.entry.SsEntry.TheVariants.{Leaf}
 use Rattle.tables.specs.Tree.{index_in}
 use Rattle.tables.specs.Pool.{occurs}
-use Rattle.tables.proofs.sums.OneFrame.{here-same}
+use Rattle.tables.proofs.sums.OneFrame.{one_if_same-self}
 use Rattle.tables.proofs.unmaps.SplitLeaf.{leaf_stays, spells_leaf, splits}
 use Rattle.tables.proofs.unmaps.UnderEntry.{root_in, root_taken, under_moves}
 use Rattle.tables.proofs.walks.Onward.{index_lt}
@@ -17,7 +17,7 @@ write_run-requires-clause-taken c =
       arith,
       c.take-below.ensures.free c.take-below.result,
       c.take-below.ensures.old_pool.once c.take-below.result,
-      here-same c.take-below.result,
+      one_if_same-self c.take-below.result,
     )
 
 -- the leaves of the run, page by page

@@ -4,8 +4,8 @@ use Rattle.std.proofs.lemmas.Bool.{cases_lt}
 use Rattle.dmatypes.specs.declared.page.TheConstants.{SPAN_PAGES}
 use Rattle.tables.specs.Tree.{Found, span, leaf_from, stated}
 use Rattle.tables.specs.Pool.{memory}
-use Rattle.tables.specs.Changes.{TakesAndGivesFrames, Unmaps}
-use Rattle.tables.specs.Lacks.{splits, splits_leaf}
+use Rattle.tables.specs.Changes.{TakesAndGivesFrames, UnmapsPages}
+use Rattle.tables.specs.Lacks.{leaves_splitting, splits_leaf}
 use Rattle.tables.specs.Pieces.{cut_of, piece_splits, was_split}
 use Rattle.tables.proofs.maps.Mapped.{no_moves, moves_then}
 use Rattle.tables.proofs.walks.Near.{span_pos}
@@ -68,7 +68,7 @@ loop-place-init c = record {
       subst (λ xs. TakesAndGivesFrames c.args.pool.now c.args.pool.now c.args.level c.args.root xs) (sym c.none-cut.ensures.frames)
       (no_moves c.args.pool.now c.args.level c.args.root);
   unmaps =
-      subst (λ xs. Unmaps c.args.pool.now c.args.pool.now c.args.level c.args.root c.args.from c.args.from xs)
+      subst (λ xs. UnmapsPages c.args.pool.now c.args.pool.now c.args.level c.args.root c.args.from c.args.from xs)
       (sym c.none-cut.ensures.frames) (no_unmaps c.args.pool.now c.args.level c.args.root c.args.from);
   room = omega (arith, ap length c.none-cut.ensures.frames);
   count = omega (arith, split_so_far-start c.args.pool.now c.args.level c.args.root c.args.from c.args.to);
@@ -160,7 +160,7 @@ loop-place-preserved c =
           subst (λ xs. TakesAndGivesFrames c.args.pool.now new c.args.level c.args.root xs) (sym joined)
           (moves_then c.args.pool.now cur new c.args.level c.args.root cut more c.loop-place.invariant.moves
           c.clear_piece-cleared.ensures.moves);
-      unmaps = subst (λ xs. Unmaps c.args.pool.now new c.args.level c.args.root c.args.from next xs) (sym joined)
+      unmaps = subst (λ xs. UnmapsPages c.args.pool.now new c.args.level c.args.root c.args.from next xs) (sym joined)
           (unmaps_then c.args.pool.now cur new c.args.level c.args.root c.args.from c.loop-place.place next cut more
           c.loop-place.invariant.low one.0
           (edge_of c.loop-place.place c.args.from c.args.to c.loop-place-test.true c.loop-place.invariant.edge) c.requires.tree
@@ -198,7 +198,7 @@ pub returns-clause-split : goal.returns-clause-split
 returns-clause-split c =
     let done : c.loop-place.place ≡ c.args.to = omega (arith, c.loop-place-test.false, c.loop-place.invariant.high) in
     let all : split_so_far c.args.pool.now c.args.level c.args.root c.args.from c.args.to c.loop-place.place
-    ≡ splits (memory c.args.pool.now.words) c.args.level c.args.root c.args.from c.args.to =
+    ≡ leaves_splitting (memory c.args.pool.now.words) c.args.level c.args.root c.args.from c.args.to =
     ap (split_so_far c.args.pool.now c.args.level c.args.root c.args.from c.args.to) done
     ∙ split_so_far-end c.args.pool.now c.args.level c.args.root c.args.from c.args.to c.requires.some in (
       (λ h. omega (arith, all, c.loop-place.invariant.split h)),

@@ -1,5 +1,5 @@
 use Rattle.std.proofs.Common.{◌≡◌, ◌+◌, ◌<◌, length, length-take, length-set, take, set, ap, sym, ◌∙◌, subst, arith}
-use Rattle.tables.specs.Tree.{here}
+use Rattle.tables.specs.Tree.{one_if_same}
 use Rattle.tables.specs.Pool.{Pool, occurs, IsZeroed}
 use Rattle.tables.proofs.pools.FreeList.{occurs_given, more_keeps, shorter}
 use Rattle.tables.proofs.frames.Pool.give.Goals as goal
@@ -46,7 +46,7 @@ returns-clause-free c f =
       shorter (take n slots) (length slots) c.args.frame c.self.invariant.0.once c.self.invariant.0.within (omega arith) taken,
       length-take n slots,
     ) in
-    occurs_given slots n c.args.frame f room ∙ ap (λ (p : Pool). occurs f p.free + here c.args.frame f) c.self.view_is
+    occurs_given slots n c.args.frame f room ∙ ap (λ (p : Pool). occurs f p.free + one_if_same c.args.frame f) c.self.view_is
 
 pub returns-clause-count : goal.returns-clause-count
 returns-clause-count c =

@@ -4,7 +4,7 @@ use Rattle.dmatypes.specs.declared.call.Segment.{Segment}
 use Rattle.dmatypes.specs.Rights.{bits_of}
 use Rattle.dmatypes.specs.World.{placed}
 use Rattle.vtdbits.specs.Translation.{target}
-use Rattle.tables.specs.Changes.{Maps}
+use Rattle.tables.specs.Changes.{MapsPages}
 use Rattle.tables.proofs.pools.Kept.{on_done}
 use Rattle.tables.proofs.maps.Mapped.{maps_said}
 use Rattle.tables.proofs.maps.Placed.{rest_of, rest_in, placed_at}
@@ -33,8 +33,9 @@ returns-clause-maps c =
     omega (arith, start, c.pages.ensures.value) in
     let says = λ (p : ℕ). Some (target (c.args.frame + (p - c.args.range.first)) (bits_of c.args.rights)) in
     on_done c.map_list.result c.map_list.ensures.maps (λ maps.
-    subst (λ a. Maps c.args.pool.now c.map_list.new.pool LEVELS c.args.self.now.root a (c.args.range.first + c.args.range.pages) says) start
-    (subst (λ b. Maps c.args.pool.now c.map_list.new.pool LEVELS c.args.self.now.root c.unwrap-start.result b says) end
+    subst (λ a. MapsPages c.args.pool.now c.map_list.new.pool LEVELS c.args.self.now.root a (c.args.range.first + c.args.range.pages) says)
+    start
+    (subst (λ b. MapsPages c.args.pool.now c.map_list.new.pool LEVELS c.args.self.now.root c.unwrap-start.result b says) end
     (maps_said c.args.pool.now c.map_list.new.pool LEVELS c.args.self.now.root c.unwrap-start.result
     (c.unwrap-start.result + (0 + c.pages.result)) (placed (segment ∷ []) c.unwrap-start.result (bits_of c.args.rights)) says
     (λ p low high.

@@ -6,7 +6,7 @@ use Rattle.dmatypes.specs.Rights.{bits_of}
 use Rattle.dmatypes.specs.World.{placed}
 use Rattle.tables.specs.Tree.{IsLeafAt}
 use Rattle.tables.specs.Pool.{Pool, memory}
-use Rattle.tables.proofs.pools.Kept.{span-three, same_root, map_leaves, apart_stays, either_way}
+use Rattle.tables.proofs.pools.Kept.{span-levels, same_root, map_leaves, apart_stays, either_way}
 use Rattle.tables.proofs.trees.Tree.map_list.Goals as goal
 
 pub map_segments-requires-clause-one_span : goal.map_segments-requires-clause-one_span
@@ -14,8 +14,8 @@ map_segments-requires-clause-one_span c =
     let e : HasEnds (record { first = c.args.start; pages = total_pages c.args.segments.now }) =
     to_ends (record { first = c.args.start; pages = total_pages c.args.segments.now }) c.requires.range in
     same_root LEVELS c.number.result (c.number.result + total_pages c.args.segments.now - 1)
-    (omega (arith, span-three, e.last, e.some, c.number.ensures.value))
-    (omega (arith, span-three, e.last, e.some, c.number.ensures.value))
+    (omega (arith, span-levels, e.last, e.some, c.number.ensures.value))
+    (omega (arith, span-levels, e.last, e.some, c.number.ensures.value))
 
 pub returns-clause-leaves : goal.returns-clause-leaves
 returns-clause-leaves c =
@@ -25,7 +25,7 @@ returns-clause-leaves c =
     (λ maps.
     map_leaves c.args.pool.now c.map_segments.new.pool LEVELS c.args.self.now.root c.number.result
     (c.number.result + total_pages c.args.segments.now) (placed c.args.segments.now c.number.result (bits_of c.args.rights))
-    (omega arith) (omega (arith, span-three, e.last, e.some, c.number.ensures.value))
+    (omega arith) (omega (arith, span-levels, e.last, e.some, c.number.ensures.value))
     (λ p low high. c.requires.absent p (omega (arith, low, c.number.ensures.value)) (omega (arith, high, c.number.ensures.value))) maps)
     (λ same first pages frame rights h.
     subst (λ (p : Pool). IsLeafAt (memory p.words) LEVELS c.args.self.now.root first pages frame rights) (sym same) h)

@@ -2,17 +2,17 @@ use Rattle.std.proofs.Common.{◌≡◌, ℕ, ◌+◌, ◌-◌, ◌<◌, inl, in
 use Rattle.dmatypes.specs.declared.width.TheConstants.{LEVELS}
 use Rattle.dmatypes.proofs.Ranges.{HasEnds, to_ends}
 use Rattle.tables.specs.Pool.{memory}
-use Rattle.tables.specs.Lacks.{splits}
+use Rattle.tables.specs.Lacks.{leaves_splitting}
 use Rattle.tables.proofs.unmaps.Ended.{unmap_leaves, unmap_tables, unmap_whole}
-use Rattle.tables.proofs.pools.Kept.{span-three, same_root, apart_stays}
+use Rattle.tables.proofs.pools.Kept.{span-levels, same_root, apart_stays}
 use Rattle.tables.proofs.trees.Tree.unmap.Goals as goal
 
 pub unmap_pieces-requires-clause-one_span : goal.unmap_pieces-requires-clause-one_span
 unmap_pieces-requires-clause-one_span c =
     let e : HasEnds c.args.range = to_ends c.args.range c.first-from.ensures.range in
     same_root LEVELS c.first-from.result (c.first-from.result + c.pages.result - 1)
-    (omega (arith, span-three, e.last, e.some, c.first-from.ensures.value))
-    (omega (arith, span-three, e.last, e.some, c.first-from.ensures.value, c.pages.ensures.value))
+    (omega (arith, span-levels, e.last, e.some, c.first-from.ensures.value))
+    (omega (arith, span-levels, e.last, e.some, c.first-from.ensures.value, c.pages.ensures.value))
 
 true_false : true ≡ false → ⊥
 true_false e = cc
@@ -22,10 +22,11 @@ zero_or_more n h = omega arith
 
 pub returns-clause-whole : goal.returns-clause-whole
 returns-clause-whole c p x within unset leaf q near =
-    let none : splits (memory c.args.pool.now.words) LEVELS c.args.self.now.root c.first-from.result (c.first-from.result + c.pages.result)
+    let none : leaves_splitting (memory c.args.pool.now.words) LEVELS c.args.self.now.root c.first-from.result
+    (c.first-from.result + c.pages.result)
     ≡ 0 =
     zero_or_more
-    (splits (memory c.args.pool.now.words) LEVELS c.args.self.now.root c.first-from.result (c.first-from.result + c.pages.result))
+    (leaves_splitting (memory c.args.pool.now.words) LEVELS c.args.self.now.root c.first-from.result (c.first-from.result + c.pages.result))
     (λ some. true_false (sym (c.unmap_pieces.ensures.split.1 some) ∙ unset)) in
     let all =
     unmap_whole c.args.pool.now LEVELS c.args.self.now.root c.first-from.result (c.first-from.result + c.pages.result) none p x
@@ -38,7 +39,7 @@ returns-clause-leaves c first pages frame rights leaf apart =
     let e : HasEnds c.args.range = to_ends c.args.range c.first-from.ensures.range in
     unmap_leaves c.args.pool.now c.unmap_pieces.new.pool LEVELS c.args.self.now.root c.first-from.result
     (c.first-from.result + c.pages.result) c.unmap_pieces.result.frames (omega arith)
-    (omega (arith, span-three, e.last, e.some, c.first-from.ensures.value)) c.unmap_pieces.ensures.unmaps first pages frame rights leaf
+    (omega (arith, span-levels, e.last, e.some, c.first-from.ensures.value)) c.unmap_pieces.ensures.unmaps first pages frame rights leaf
     (elim apart [
       | inl h ↦ inl (omega (arith, h, c.first-from.ensures.value))
       | inr h ↦ inr (omega (arith, h, c.first-from.ensures.value, c.pages.ensures.value))
@@ -49,7 +50,7 @@ returns-clause-tables c first level table at =
     let e : HasEnds c.args.range = to_ends c.args.range c.first-from.ensures.range in
     elim (unmap_tables c.args.pool.now c.unmap_pieces.new.pool LEVELS c.args.self.now.root c.first-from.result
     (c.first-from.result + c.pages.result) c.unmap_pieces.result.frames
-    (omega (arith, span-three, e.last, e.some, c.first-from.ensures.value)) c.unmap_pieces.ensures.unmaps first level table at) [
+    (omega (arith, span-levels, e.last, e.some, c.first-from.ensures.value)) c.unmap_pieces.ensures.unmaps first level table at) [
       | inl there ↦ inl there
       | inr gone ↦
           inr (
