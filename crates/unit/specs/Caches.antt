@@ -1,5 +1,5 @@
 -- What the unit remembers.
-use Rattle.std.specs.Prelude.{◌≡◌, ℕ, ◌*◌, ◌%◌, ◌^◌, ◌<◌, ◌≤◌, ◌⊎◌, List, [], length, remove}
+use Rattle.std.specs.Prelude.{◌≡◌, ℕ, ◌*◌, ◌%◌, ◌<◌, ◌≤◌, ◌⊎◌, List, [], length, remove}
 use Rattle.dmatypes.specs.Rights.{AreRights}
 use Rattle.dmatypes.specs.declared.call.Cache.{Cache}
 use Rattle.dmatypes.specs.declared.limits.TheConstants.{MOST_CACHED_CONTEXTS, MOST_CACHED_LEAVES, MOST_CACHED_NON_LEAVES}
