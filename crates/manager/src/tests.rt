@@ -1,6 +1,6 @@
 //! Managers that threads share.
 
-ghost use Rattle.std.specs.Prelude.{◌≡◌};
+ghost use Rattle.std.specs.Prelude.{◌≡◌, IfOk, vec_len};
 ghost use Rattle.manager.specs.Kept.{IsNamedBy};
 
 use super::*;
@@ -12,16 +12,59 @@ use std::sync::Wait;
 use std::test::Fail;
 use std::thread::{Threads, join};
 
+mod device_thread;
 mod hits;
+
+// The seed of a manager of this size.
+fn seed_of(alloc: Global, frames: u64, calls: u64, shares: u64) -> Result<Seed, Fail> {
+    let config = Config::new(frames, calls, shares).ok_or("within the limits")?;
+    Ok(Seed::new(alloc, config)?)
+}
+
+// A manager with its port words and ports, and the one share that is needed.
+fn made<B: Owner>(
+    alloc: Global,
+    seed: Seed,
+) -> Result<(Manager<B>, Rows<B>, Vec<Port<B>>, Share<B>), Fail>
+    requires { IsNamedBy seed B.name B.parts B.shares B.room B.frames B.rows }
+    ensures { IfOk result (λ r. vec_len r.2 ≡ 16) }
+{
+    let Made {
+        manager,
+        rows,
+        ports,
+        mut shares,
+    } = Manager::<B>::new(alloc, seed)?;
+    let mine = shares.pop().ok_or("a share")?;
+    Ok((manager, rows, ports, mine))
+}
+
+// So many pages from a host frame on, at the lowest start.
+fn map_of(domain: u64, frame: u64, pages: u64, rights: u64) -> Call {
+    Call::Map {
+        domain,
+        frame,
+        pages,
+        order: 0,
+        rights,
+    }
+}
 
 // One page at the lowest start.
 fn one_page(domain: u64) -> Call {
-    Call::Map {
-        domain,
-        frame: 0x1000,
-        pages: 1,
-        order: 0,
-        rights: 3,
+    map_of(domain, 0x1000, 1, 3)
+}
+
+// A device's request, which goes through the unit's caches and is remembered where so asked.
+fn request_of(device: u64, address: u64, access: Access, cached: bool) -> Call {
+    Call::Dma {
+        device,
+        address,
+        access,
+        whim: Whim {
+            look: cached,
+            fill: cached,
+        },
     }
 }
 
@@ -80,8 +123,7 @@ fn finished<B: Owner>(
 
 #[test]
 fn two_threads_share_a_manager(rt: HostRuntime) -> Result<(), Fail> {
-    let config = Config::new(64, 1000, 2).ok_or("within the limits")?;
-    let seed = Seed::new(rt.alloc(), config)?;
+    let seed = seed_of(rt.alloc(), 64, 1000, 2)?;
     shared_by_two::<Brand, _>(&rt, rt.alloc(), seed)
 }
 
@@ -121,8 +163,7 @@ fn shared_by_two<B: Owner + Send + Sync, R: Threads + Wait + Abort + Sync>(
 
 #[test]
 fn two_shares_fill_the_history(rt: HostRuntime) -> Result<(), Fail> {
-    let config = Config::new(64, 2500, 2).ok_or("within the limits")?;
-    let seed = Seed::new(rt.alloc(), config)?;
+    let seed = seed_of(rt.alloc(), 64, 2500, 2)?;
     filled_by_two::<Brand, _>(&rt, rt.alloc(), seed)
 }
 
@@ -171,8 +212,7 @@ fn limits_of_a_configuration(rt: HostRuntime) {
 
 #[test]
 fn calls_of_one_share(rt: HostRuntime) -> Result<(), Fail> {
-    let config = Config::new(64, 1022, 1).ok_or("within the limits")?;
-    let seed = Seed::new(rt.alloc(), config)?;
+    let seed = seed_of(rt.alloc(), 64, 1022, 1)?;
     called_by_one::<Brand, _>(&rt, rt.alloc(), seed)
 }
 
@@ -181,13 +221,7 @@ fn calls_of_one_share(rt: HostRuntime) -> Result<(), Fail> {
 fn called_by_one<B: Owner, R: Wait + Abort>(rt: &R, alloc: Global, seed: Seed) -> Result<(), Fail>
     requires { IsNamedBy seed B.name B.parts B.shares B.room B.frames B.rows }
 {
-    let Made {
-        manager,
-        rows,
-        mut shares,
-        ..
-    } = Manager::<B>::new(alloc, seed)?;
-    let mut mine = shares.pop().ok_or("a share")?;
+    let (manager, rows, _, mut mine) = made::<B>(alloc, seed)?;
     {
         let mut guard = manager.lock(rt);
         let book = &mut *guard;
@@ -209,35 +243,15 @@ fn called_by_one<B: Owner, R: Wait + Abort>(rt: &R, alloc: Global, seed: Seed) -
 
 #[test]
 fn pieces_run_out(rt: HostRuntime) -> Result<(), Fail> {
-    let config = Config::new(64, 2000, 1).ok_or("within the limits")?;
-    let seed = Seed::new(rt.alloc(), config)?;
+    let seed = seed_of(rt.alloc(), 64, 2000, 1)?;
     crowded::<Brand, _>(&rt, rt.alloc(), seed)
 }
 
 // The 1,022nd piece of one page is one too many; devices go on.
-// A write of device 3, through the caches and remembered where so asked.
-fn write_at(address: u64, cached: bool) -> Call {
-    Call::Dma {
-        device: 3,
-        address,
-        access: Access::Write,
-        whim: Whim {
-            look: cached,
-            fill: cached,
-        },
-    }
-}
-
 fn crowded<B: Owner, R: Wait + Abort>(rt: &R, alloc: Global, seed: Seed) -> Result<(), Fail>
     requires { IsNamedBy seed B.name B.parts B.shares B.room B.frames B.rows }
 {
-    let Made {
-        manager,
-        rows,
-        mut shares,
-        ..
-    } = Manager::<B>::new(alloc, seed)?;
-    let mut mine = shares.pop().ok_or("a share")?;
+    let (manager, rows, _, mut mine) = made::<B>(alloc, seed)?;
     let _ = manager.call(rt, &rows, &mut mine, Call::Domain(Mode::Strict));
     for _ in 0..1021u64 {
         let _ = manager.call(rt, &rows, &mut mine, one_page(1));
@@ -253,11 +267,21 @@ fn crowded<B: Owner, R: Wait + Abort>(rt: &R, alloc: Global, seed: Seed) -> Resu
         Ok((1024, Reply::Done))
     );
     assert_eq!(rt;
-        manager.call(rt, &rows, &mut mine, write_at(0x3fd123, false)),
+        manager.call(
+            rt,
+            &rows,
+            &mut mine,
+            request_of(3, 0x3fd123, Access::Write, false)
+        ),
         Ok((1025, Reply::Host(0x1000123)))
     );
     assert_eq!(rt;
-        manager.call(rt, &rows, &mut mine, write_at(0x3fe000, true)),
+        manager.call(
+            rt,
+            &rows,
+            &mut mine,
+            request_of(3, 0x3fe000, Access::Write, true)
+        ),
         Ok((1026, Reply::Faulted(Fault::Write)))
     );
     Ok(())
@@ -265,8 +289,7 @@ fn crowded<B: Owner, R: Wait + Abort>(rt: &R, alloc: Global, seed: Seed) -> Resu
 
 #[test]
 fn snapshots(rt: HostRuntime) -> Result<(), Fail> {
-    let config = Config::new(16, 100, 1).ok_or("within the limits")?;
-    let seed = Seed::new(rt.alloc(), config)?;
+    let seed = seed_of(rt.alloc(), 16, 100, 1)?;
     told_at_moments::<Brand, _>(&rt, rt.alloc(), seed)
 }
 
@@ -274,13 +297,7 @@ fn snapshots(rt: HostRuntime) -> Result<(), Fail> {
 fn told_at_moments<B: Owner, R: Wait + Abort>(rt: &R, alloc: Global, seed: Seed) -> Result<(), Fail>
     requires { IsNamedBy seed B.name B.parts B.shares B.room B.frames B.rows }
 {
-    let Made {
-        manager,
-        rows,
-        mut shares,
-        ..
-    } = Manager::<B>::new(alloc, seed)?;
-    let mut mine = shares.pop().ok_or("a share")?;
+    let (manager, rows, _, mut mine) = made::<B>(alloc, seed)?;
     let report = manager.snapshot(rt, alloc)?;
     assert_eq!(rt;
         report.text(),

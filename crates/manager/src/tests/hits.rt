@@ -2,8 +2,9 @@
 
 ghost use Rattle.manager.specs.Kept.{IsNamedBy};
 
+use super::{made, map_of, request_of, seed_of};
 use crate::*;
-use dmatypes::{Access, Call, Mode, Reply, Whim};
+use dmatypes::{Access, Call, Mode, Reply};
 use std::alloc::Global;
 use std::marker::Brand;
 use std::process::Abort;
@@ -29,16 +30,9 @@ fn request_pages<B: Owner>(
         device: 3,
         domain: 1,
     };
-    let map = Call::Map {
-        domain: 1,
-        frame: 0x100,
-        pages,
-        order: 0,
-        rights: 1,
-    };
     let _ = manager.call(rt, rows, mine, Call::Domain(Mode::Strict));
     let _ = manager.call(rt, rows, mine, attach);
-    let _ = manager.call(rt, rows, mine, map);
+    let _ = manager.call(rt, rows, mine, map_of(1, 0x100, pages, 1));
     for address in addresses {
         let _ = manager.call(rt, rows, mine, read_at(*address));
     }
@@ -46,15 +40,7 @@ fn request_pages<B: Owner>(
 
 // A read of device 3 through the caches, which is remembered.
 fn read_at(address: u64) -> Call {
-    Call::Dma {
-        device: 3,
-        address,
-        access: Access::Read,
-        whim: Whim {
-            look: true,
-            fill: true,
-        },
-    }
+    request_of(3, address, Access::Read, true)
 }
 
 // The end of one page of domain 1.
@@ -68,8 +54,7 @@ fn unmap_at(address: u64) -> Call {
 
 #[test]
 fn words_of_a_row(rt: HostRuntime) -> Result<(), Fail> {
-    let config = Config::new(64, 100, 1).ok_or("within the limits")?;
-    let seed = Seed::new(rt.alloc(), config)?;
+    let seed = seed_of(rt.alloc(), 64, 100, 1)?;
     hit_by_words::<Brand, _>(&rt, rt.alloc(), seed)
 }
 
@@ -77,13 +62,7 @@ fn words_of_a_row(rt: HostRuntime) -> Result<(), Fail> {
 fn hit_by_words<B: Owner, R: Wait + Abort>(rt: &R, alloc: Global, seed: Seed) -> Result<(), Fail>
     requires { IsNamedBy seed B.name B.parts B.shares B.room B.frames B.rows }
 {
-    let Made {
-        manager,
-        rows,
-        mut ports,
-        mut shares,
-    } = Manager::<B>::new(alloc, seed)?;
-    let mut mine = shares.pop().ok_or("a share")?;
+    let (manager, rows, mut ports, mut mine) = made::<B>(alloc, seed)?;
     let mut port = ports.remove(3);
     request_pages(rt, &manager, &rows, &mut mine, 17, &[0x1000, 0x11000]);
     assert_eq!(rt;
@@ -102,6 +81,7 @@ fn hit_by_words<B: Owner, R: Wait + Abort>(rt: &R, alloc: Global, seed: Seed) ->
     let _ = manager.call(rt, &rows, &mut mine, unmap_at(0x11000));
     assert_eq!(rt; port.hit(&rows, 0x11234, Access::Read), (None, 7));
     assert_eq!(rt; port.count(&rows), 7);
+    let mut shares = Vec::new(alloc);
     shares.push(mine)?;
     let Ok(mut history) = manager.finish(&rows, shares) else {
         return Err(Fail::from("all shares are enough"));
@@ -113,8 +93,7 @@ fn hit_by_words<B: Owner, R: Wait + Abort>(rt: &R, alloc: Global, seed: Seed) ->
 
 #[test]
 fn hit_under_lock(rt: HostRuntime) -> Result<(), Fail> {
-    let config = Config::new(64, 100, 1).ok_or("within the limits")?;
-    let seed = Seed::new(rt.alloc(), config)?;
+    let seed = seed_of(rt.alloc(), 64, 100, 1)?;
     hit_beside_the_holder::<Brand, _>(&rt, rt.alloc(), seed)
 }
 
@@ -126,13 +105,7 @@ fn hit_beside_the_holder<B: Owner + Send + Sync, R: Threads + Wait + Abort + Syn
 ) -> Result<(), Fail>
     requires { IsNamedBy seed B.name B.parts B.shares B.room B.frames B.rows }
 {
-    let Made {
-        manager,
-        rows,
-        mut ports,
-        mut shares,
-    } = Manager::<B>::new(alloc, seed)?;
-    let mut mine = shares.pop().ok_or("a share")?;
+    let (manager, rows, mut ports, mut mine) = made::<B>(alloc, seed)?;
     let port = ports.remove(3);
     request_pages(rt, &manager, &rows, &mut mine, 1, &[0x1234]);
     let held = AtomicU64::new(0);
