@@ -25,6 +25,10 @@ pub record Share : Type 0 where
   pub calls : ℕ
   pub seen : List Event
 
+-- a share by which no call was made, and that has seen nothing
+abbrev pub new_share : Share
+new_share = record { calls = 0; seen = [] }
+
 -- what a configuration says
 pub record Config : Type 0 where
   pub frames : ℕ

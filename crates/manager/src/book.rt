@@ -5,7 +5,7 @@ ghost use Rattle.dmatypes.specs.History.{event};
 ghost use Rattle.engine.specs.Steps.{Does};
 ghost use mathlib.Core.List.{IsPrefix};
 ghost use Rattle.dmatypes.specs.History.{after};
-ghost use Rattle.manager.specs.Kept.{AllSaw, Book, IsKept, IsWithinLimits, Share};
+ghost use Rattle.manager.specs.Kept.{AllSaw, Book, IsKept, IsWithinLimits, Share, new_share};
 ghost use Rattle.ports.specs.Seen.{new_desk};
 ghost use Rattle.ports.specs.Steps.{counter};
 ghost use Rattle.ports.specs.declared.known.OwnStep.TheVariants.{Loaded};
@@ -70,10 +70,10 @@ impl<B: Owner> Book<B> {
         requires config { IsWithinLimits config × (config.shares ≡ B.shares) × (config.calls ≡ B.room) × (config.frames ≡ B.frames) }
         requires blank { (blank.name ≡ B.name) × (blank.parts ≡ B.parts) × (B.shares ≡ B.parts) }
         requires desk { (desk ≡ new_desk B.rows) × (B.rows.frames ≡ B.frames) }
-        requires passes { (vec_len passes ≡ B.shares) × All (λ pass. pass.rows ≡ B.rows) passes.items }
+        requires passes { (vec_len passes ≡ B.shares) × All (λ pass. (pass.rows ≡ B.rows) × (pass.seen ≡ [])) passes.items }
         ensures book { IfOk result (λ r. r.0.history ≡ []) }
         ensures shares { IfOk result (λ r. vec_len r.1 ≡ B.shares) }
-        ensures none { IfOk result (λ r. All (λ s. s.calls ≡ 0) r.1.items) }
+        ensures fresh { IfOk result (λ r. All (λ s. s ≡ new_share) r.1.items) }
     {
         let (counted, whole) = blank.open::<B>();
         let history = Vec::with_capacity(alloc, config.calls() as usize)?;

@@ -5,7 +5,7 @@ ghost use Rattle.std.specs.Prelude.{OnOk, OnErr, All, sum_by, vec_len};
 ghost use Rattle.std.specs.Sync.Mutex.{mutex_guard_value};
 ghost use mathlib.Core.List.{IsPrefix};
 ghost use Rattle.dmatypes.specs.History.{IsLegal};
-ghost use Rattle.manager.specs.Kept.{AllSaw, Book, EndsWith, IsKept, IsNamedBy, Share};
+ghost use Rattle.manager.specs.Kept.{AllSaw, Book, EndsWith, IsKept, IsNamedBy, Share, new_share};
 ghost use Rattle.ports.specs.Seen.{ArePorts, new_port};
 ghost use Rattle.ports.specs.Steps.{counter};
 ghost use Rattle.ports.specs.declared.known.OwnStep.TheVariants.{Loaded};
@@ -80,13 +80,14 @@ impl<B: Owner> History<B> {
 }
 
 impl<B: Owner> Manager<B> {
-    /// Makes a manager with an empty history, its port words and ports, and its shares.
+    /// Makes a manager with an empty history, its port words and ports, and its shares: no call was made by one, and none of
+    /// the ports and shares has seen anything.
     pub fn new(alloc: Global, seed: Seed) -> Result<Made<B>, AllocError>
         requires { IsNamedBy seed B.name B.parts B.shares B.room B.frames B.rows }
         ensures ports { IfOk result (λ m. (vec_len m.ports ≡ 16)
             × ((k : ℕ) → k < 16 → slice_get m.ports.items k ≡ Some (new_port B.rows k))) }
         ensures shares { IfOk result (λ m. vec_len m.shares ≡ B.shares) }
-        ensures none { IfOk result (λ m. All (λ s. s.calls ≡ 0) m.shares.items) }
+        ensures fresh { IfOk result (λ m. All (λ s. s ≡ new_share) m.shares.items) }
     {
         let Seed {
             config,

@@ -1,8 +1,8 @@
 //! The right to call a manager.
 
-ghost use Rattle.std.specs.Prelude.{◌≡◌, ◌+◌, ◌≤◌, ◌<◌, All, IfOk, sum_by, vec_len};
+ghost use Rattle.std.specs.Prelude.{◌≡◌, ◌+◌, ◌≤◌, ◌<◌, [], All, IfOk, sum_by, vec_len};
 ghost use mathlib.Core.List.{IsPrefix};
-ghost use Rattle.manager.specs.Kept.{AllSaw, Share};
+ghost use Rattle.manager.specs.Kept.{AllSaw, Share, new_share};
 
 use crate::owner::Owner;
 use ports::{Desk, Pass, Rows};
@@ -47,9 +47,9 @@ pub(crate) fn cut<B: Owner>(
     requires parts { whole.parts ≡ vec_len passes }
     requires amount { whole.amount ≡ 0 }
     requires some { 1 ≤ vec_len passes }
-    requires rows { All (λ pass. pass.rows ≡ B.rows) passes.items }
+    requires passes { All (λ pass. (pass.rows ≡ B.rows) × (pass.seen ≡ [])) passes.items }
     ensures shares { IfOk result (λ v. vec_len v ≡ vec_len passes) }
-    ensures none { IfOk result (λ v. All (λ s. s.calls ≡ 0) v.items) }
+    ensures fresh { IfOk result (λ v. All (λ s. s ≡ new_share) v.items) }
 {
     let mut rest = whole;
     let mut passes = passes;

@@ -1,5 +1,6 @@
 use Rattle.std.proofs.Common.{◌≡◌, ℕ, ◌<◌, List, [], ◌∷◌, ◌++◌, get_or, length, arith, length-append, refl, sym, ap, subst, ◌∙◌}
 use Rattle.std.proofs.Math.Seq.{get_or-append_seam}
+use Rattle.manager.specs.Kept.{Share, new_share}
 use Rattle.script.proofs.Concluding.{answers_known, nothing_written, report_is_known}
 use Rattle.script.proofs.running.work_through.Goals as goal
 
@@ -16,8 +17,8 @@ none_in (x ∷ xs) e = absurd (omega (arith, e))
 
 pub answer_lines-end-requires-clause-none : goal.answer_lines-end-requires-clause-none
 answer_lines-end-requires-clause-none g c =
-    let zero : c.in-Some.mine.calls ≡ 0 = last_has (λ s. s.calls ≡ 0) c.in-Ok.field-0.shares.items c.pop.new.self.items c.in-Some.mine
-    c.in-Some.ensures.items c.in-Ok.ensures.none in
+    let zero : c.in-Some.mine.calls ≡ 0 = ap (λ (s : Share). s.calls) (last_has (λ s. s ≡ new_share) c.in-Ok.field-0.shares.items
+    c.pop.new.self.items c.in-Some.mine c.in-Some.ensures.items c.in-Ok.ensures.fresh) in
     let one : g.B.Owner.shares ≡ 1 = sym c.requires.named.shares_are ∙ c.requires.one in
     rw c.audit.ensures.same (none_in _ (c.audit.ensures.alone one ∙ zero))
 
