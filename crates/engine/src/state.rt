@@ -318,6 +318,7 @@ impl State {
     pub fn keeps(&self)
         ensures { IsWhole self.now.pool.frames self.now }
     {
+        // What a type keeps is known where something of its value is read.
         let _ = &self.calls;
     }
 }
