@@ -266,8 +266,8 @@ impl Domain {
         Record {
             range,
             mark: self.begun,
-            sent: iommu.sent(),
             cut,
+            sent: iommu.sent(),
         }
     }
 }
