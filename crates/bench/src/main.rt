@@ -4,6 +4,8 @@
 mod crowding;
 mod driver;
 mod failure;
+mod hitting;
+mod loading;
 mod managing;
 mod mapping;
 mod options;
@@ -13,6 +15,7 @@ mod scripting;
 mod subject;
 mod taking;
 mod timing;
+mod together;
 mod trouble;
 mod walking;
 

@@ -22,17 +22,19 @@ pub(crate) enum Way {
     Locking,
 }
 
-/// What each of so many rounds takes, each a map of one page into a strict domain and its unmap.
+/// What each of so many rounds takes, each a map of one page into a strict domain and its unmap. Where a device is attached
+/// to the domain, the unmap clears its row.
 pub(crate) fn time_manager<C: Clock + Wait>(
     clock: &C,
     alloc: Global,
     rounds: NonZeroU32,
     way: Way,
+    attached: bool,
 ) -> Result<Tenths, Trouble> {
-    let calls = 1 + 2 * u64::from(rounds.get());
+    let calls = 2 + 2 * u64::from(rounds.get());
     let config = Config::new(TABLE_FRAMES, calls, 1).ok_or(Trouble::TooManyCalls)?;
     let seed = Seed::new(alloc, config)?;
-    time_owned::<Brand, C>(clock, alloc, rounds, way, seed)
+    time_owned::<Brand, C>(clock, alloc, rounds, way, attached, seed)
 }
 
 // The same, over an owner that names the manager.
@@ -41,6 +43,7 @@ fn time_owned<B: Owner, C: Clock + Wait>(
     alloc: Global,
     rounds: NonZeroU32,
     way: Way,
+    attached: bool,
     seed: Seed,
 ) -> Result<Tenths, Trouble>
     requires { IsNamedBy seed B.name B.parts B.shares B.room B.frames B.rows }
@@ -53,7 +56,11 @@ fn time_owned<B: Owner, C: Clock + Wait>(
     } = Manager::<B>::new(alloc, seed)?;
     let mut mine = shares.pop().ok_or(Trouble::Wrong)?;
     let made = manager.call(clock, &rows, &mut mine, Call::Domain(Mode::Strict));
-    check(made == Ok((1, Reply::Made(1))))?;
+    check_reply(made, Reply::Made(1))?;
+    if attached {
+        let attached = manager.call(clock, &rows, &mut mine, ATTACH);
+        check_reply(attached, Reply::Done)?;
+    }
     match way {
         Way::Locking => {
             let mut pairs = Locking {
@@ -76,6 +83,11 @@ fn time_owned<B: Owner, C: Clock + Wait>(
     }
 }
 
+const ATTACH: Call = Call::Attach {
+    device: 3,
+    domain: 1,
+};
+
 // Where the one page is mapped.
 const ADDRESS: u64 = PAGE_BYTES;
 
@@ -93,8 +105,11 @@ const UNMAP: Call = Call::Unmap {
     pages: 1,
 };
 
-// Whether a call was answered as it must be.
-fn check_reply(answer: Result<(u64, Reply), HistoryFull>, wanted: Reply) -> Result<(), Trouble> {
+/// Whether a call was answered as it must be.
+pub(crate) fn check_reply(
+    answer: Result<(u64, Reply), HistoryFull>,
+    wanted: Reply,
+) -> Result<(), Trouble> {
     match answer {
         Ok((_, reply)) => check(reply == wanted),
         Err(HistoryFull) => Err(Trouble::TooManyCalls),

@@ -13,6 +13,7 @@ use std::io;
 use std::io::Write;
 use std::num::NonZeroU32;
 use std::sync::Wait;
+use std::thread::Threads;
 use std::time::Clock;
 
 // The exit statuses.
@@ -31,7 +32,7 @@ const CHECK_ROUNDS: u32 = 300;
 const HEADING: &str = "nanoseconds a round                               least      median";
 
 /// Runs the program over its words, without the program's name among them, and answers its exit status.
-pub(crate) fn program<C: Clock + Wait, W: Write + Drop, E: Write + Drop>(
+pub(crate) fn program<C: Clock + Wait + Threads + Sync, W: Write + Drop, E: Write + Drop>(
     clock: &C,
     alloc: Global,
     words: &[&str],
@@ -92,7 +93,7 @@ fn fail<E: Write>(errors: &mut E, failure: Failure) -> u8 {
 
 // Writes the table of what is asked for; with no rounds, does a few, whose answers are compared, and says that they
 // were right.
-fn run<C: Clock + Wait, W: Write>(
+fn run<C: Clock + Wait + Threads + Sync, W: Write>(
     clock: &C,
     alloc: Global,
     options: Options,
@@ -114,7 +115,7 @@ fn run<C: Clock + Wait, W: Write>(
 }
 
 // Writes a line for each subject that is asked for: its name, and what a round takes.
-fn measure_all<C: Clock + Wait, W: Write>(
+fn measure_all<C: Clock + Wait + Threads + Sync, W: Write>(
     clock: &C,
     alloc: Global,
     rounds: NonZeroU32,
@@ -135,7 +136,7 @@ fn measure_all<C: Clock + Wait, W: Write>(
 }
 
 // The least and the median of several turns of a subject.
-fn turns<C: Clock + Wait>(
+fn turns<C: Clock + Wait + Threads + Sync>(
     clock: &C,
     alloc: Global,
     rounds: NonZeroU32,

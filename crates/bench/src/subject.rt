@@ -2,6 +2,8 @@
 
 use crate::crowding::Crowded;
 use crate::driver::UNALIGNED_FRAME;
+use crate::hitting::{Hits, time_hits};
+use crate::loading::time_loads;
 use crate::managing::{Way, time_manager};
 use crate::mapping::{Deferred, Listing, Mapping, Shape, Splitting};
 use crate::request::Request;
@@ -10,9 +12,11 @@ use crate::taking::Taking;
 use crate::timing::{Tenths, time};
 use crate::trouble::Trouble;
 use crate::walking::Walking;
+use dmatypes::DEVICES;
 use std::alloc::Global;
 use std::num::NonZeroU32;
 use std::sync::Wait;
+use std::thread::Threads;
 use std::time::Clock;
 
 /// One thing that is measured, with its name in the table.
@@ -35,13 +39,20 @@ enum Kind {
     Walk,
     // Whether the unit may look in its caches.
     Request(bool),
-    Manage(Way),
+    // Whether a device is attached to the domain.
+    Manage(Way, bool),
+    // On so many threads.
+    Load(u32),
+    Hit(Hits),
     Script(Lines),
 }
 
+// A device whose port doesn't hit.
+const LAST_DEVICE: u64 = DEVICES - 1;
+
 /// All that is measured, in the table's order. The maps begin at frames behind the table frames; leaves of 2 MiB
 /// come where the frame is a multiple of a span's pages.
-pub(crate) const SUBJECTS: [Subject; 21] = [
+pub(crate) const SUBJECTS: [Subject; 42] = [
     Subject {
         name: "map and unmap 1 page",
         kind: Kind::Map(Shape {
@@ -133,11 +144,147 @@ pub(crate) const SUBJECTS: [Subject; 21] = [
     },
     Subject {
         name: "map and unmap 1 page, under one guard",
-        kind: Kind::Manage(Way::Guarded),
+        kind: Kind::Manage(Way::Guarded, false),
     },
     Subject {
         name: "map and unmap 1 page, a lock each call",
-        kind: Kind::Manage(Way::Locking),
+        kind: Kind::Manage(Way::Locking, false),
+    },
+    Subject {
+        name: "map and unmap for a device, under one guard",
+        kind: Kind::Manage(Way::Guarded, true),
+    },
+    Subject {
+        name: "map and unmap for a device, a lock each call",
+        kind: Kind::Manage(Way::Locking, true),
+    },
+    Subject {
+        name: "two loads and a comparison, 1 thread",
+        kind: Kind::Load(1),
+    },
+    Subject {
+        name: "two loads and a comparison, 2 threads",
+        kind: Kind::Load(2),
+    },
+    Subject {
+        name: "two loads and a comparison, 4 threads",
+        kind: Kind::Load(4),
+    },
+    Subject {
+        name: "hit answered, 1 thread",
+        kind: Kind::Hit(Hits::Own {
+            threads: 1,
+            stated: true,
+            beside: None,
+        }),
+    },
+    Subject {
+        name: "hit answered, 2 threads",
+        kind: Kind::Hit(Hits::Own {
+            threads: 2,
+            stated: true,
+            beside: None,
+        }),
+    },
+    Subject {
+        name: "hit answered, 4 threads",
+        kind: Kind::Hit(Hits::Own {
+            threads: 4,
+            stated: true,
+            beside: None,
+        }),
+    },
+    Subject {
+        name: "hit unanswered, 1 thread",
+        kind: Kind::Hit(Hits::Own {
+            threads: 1,
+            stated: false,
+            beside: None,
+        }),
+    },
+    Subject {
+        name: "hit unanswered, 2 threads",
+        kind: Kind::Hit(Hits::Own {
+            threads: 2,
+            stated: false,
+            beside: None,
+        }),
+    },
+    Subject {
+        name: "hit unanswered, 4 threads",
+        kind: Kind::Hit(Hits::Own {
+            threads: 4,
+            stated: false,
+            beside: None,
+        }),
+    },
+    Subject {
+        name: "hit answered, 1 thread beside calls",
+        kind: Kind::Hit(Hits::Own {
+            threads: 1,
+            stated: true,
+            beside: Some(LAST_DEVICE),
+        }),
+    },
+    Subject {
+        name: "hit answered, 2 threads beside calls",
+        kind: Kind::Hit(Hits::Own {
+            threads: 2,
+            stated: true,
+            beside: Some(LAST_DEVICE),
+        }),
+    },
+    Subject {
+        name: "hit answered, 4 threads beside calls",
+        kind: Kind::Hit(Hits::Own {
+            threads: 4,
+            stated: true,
+            beside: Some(LAST_DEVICE),
+        }),
+    },
+    Subject {
+        name: "hit unanswered, 1 thread beside calls",
+        kind: Kind::Hit(Hits::Own {
+            threads: 1,
+            stated: false,
+            beside: Some(LAST_DEVICE),
+        }),
+    },
+    Subject {
+        name: "hit unanswered, 2 threads beside calls",
+        kind: Kind::Hit(Hits::Own {
+            threads: 2,
+            stated: false,
+            beside: Some(LAST_DEVICE),
+        }),
+    },
+    Subject {
+        name: "hit unanswered, 4 threads beside calls",
+        kind: Kind::Hit(Hits::Own {
+            threads: 4,
+            stated: false,
+            beside: Some(LAST_DEVICE),
+        }),
+    },
+    Subject {
+        name: "hit answered, 1 thread beside its own fills",
+        kind: Kind::Hit(Hits::Own {
+            threads: 1,
+            stated: true,
+            beside: Some(0),
+        }),
+    },
+    Subject {
+        name: "hit behind a lock, 1 thread",
+        kind: Kind::Hit(Hits::Locked { threads: 1 }),
+    },
+    Subject {
+        name: "hit behind a lock, 2 threads",
+        kind: Kind::Hit(Hits::Locked { threads: 2 }),
+    },
+    Subject {
+        name: "hit behind a lock, 4 threads",
+        kind: Kind::Hit(Hits::Locked { threads: 4 }),
     },
     Subject {
         name: "a script's line: dma by the caches",
@@ -155,7 +302,7 @@ pub(crate) const SUBJECTS: [Subject; 21] = [
 
 impl Subject {
     /// What each of so many rounds takes by the clock. What is measured is made anew for them.
-    pub(crate) fn measure<C: Clock + Wait>(
+    pub(crate) fn measure<C: Clock + Wait + Threads + Sync>(
         &self,
         clock: &C,
         alloc: Global,
@@ -170,7 +317,9 @@ impl Subject {
             Kind::Take(live) => time(clock, rounds, &mut Taking::new(alloc, live)?),
             Kind::Walk => time(clock, rounds, &mut Walking::new(alloc)?),
             Kind::Request(look) => time(clock, rounds, &mut Request::new(alloc, look)?),
-            Kind::Manage(way) => time_manager(clock, alloc, rounds, way),
+            Kind::Manage(way, attached) => time_manager(clock, alloc, rounds, way, attached),
+            Kind::Load(threads) => time_loads(clock, alloc, rounds, threads),
+            Kind::Hit(hits) => time_hits(clock, alloc, rounds, hits),
             Kind::Script(lines) => time_script(clock, alloc, rounds, lines),
         }
     }

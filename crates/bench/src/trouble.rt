@@ -27,6 +27,9 @@ pub(crate) enum Trouble {
     /// The state takes no more calls.
     #[error("too many calls of one state")]
     TooManyCalls,
+    /// No thread could be made.
+    #[error("no thread")]
+    NoThread,
 }
 
 impl From<AllocError> for Trouble {
