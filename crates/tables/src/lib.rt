@@ -10,7 +10,8 @@ mod frames;
 pub mod laws;
 mod mapping;
 mod piece;
-mod segments;mod trees;
+mod segments;
+mod trees;
 mod unmapping;
 
 pub use cut::Cut;
