@@ -53,6 +53,27 @@ impl<B: Owner> Device<B> {
     }
 }
 
+// The driver's side: two domains, the device in the first, and the buffer there for reading.
+fn map_buffer<B: Owner, R: Wait>(
+    rt: &R,
+    manager: &Manager<B>,
+    rows: &Rows<B>,
+    mine: &mut Share<B>,
+) {
+    let attach = Call::Attach {
+        device: DEVICE,
+        domain: 1,
+    };
+    for call in [
+        Call::Domain(Mode::Strict),
+        Call::Domain(Mode::Strict),
+        attach,
+        map_of(1, FRAME, PAGES, 1),
+    ] {
+        let _ = manager.call(rt, rows, mine, call);
+    }
+}
+
 // Reads all over the buffer; whether each read came to where it lies in host memory.
 fn read_buffer<B: Owner, R: Wait>(
     rt: &R,
@@ -119,18 +140,7 @@ fn device_beside_driver<B: Owner + Send + Sync, R: Threads + Wait + Abort + Sync
         port: ports.remove(3),
         share: shares.pop().ok_or("a share")?,
     };
-    let attach = Call::Attach {
-        device: DEVICE,
-        domain: 1,
-    };
-    for call in [
-        Call::Domain(Mode::Strict),
-        Call::Domain(Mode::Strict),
-        attach,
-        map_of(1, FRAME, PAGES, 1),
-    ] {
-        let _ = manager.call(rt, &rows, &mut driver, call);
-    }
+    map_buffer(rt, &manager, &rows, &mut driver);
     let shared = &manager;
     let ((all_there, mut device), mut driver) = join(
         rt,
