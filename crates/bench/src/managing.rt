@@ -55,12 +55,7 @@ fn time_owned<B: Owner, C: Clock + Wait>(
         ..
     } = Manager::<B>::new(alloc, seed)?;
     let mut mine = shares.pop().ok_or(Trouble::Wrong)?;
-    let made = manager.call(clock, &rows, &mut mine, Call::Domain(Mode::Strict));
-    check_reply(made, Reply::Made(1))?;
-    if attached {
-        let attached = manager.call(clock, &rows, &mut mine, ATTACH);
-        check_reply(attached, Reply::Done)?;
-    }
+    make_domain(clock, &manager, &rows, &mut mine, attached)?;
     match way {
         Way::Locking => {
             let mut pairs = Locking {
@@ -81,6 +76,23 @@ fn time_owned<B: Owner, C: Clock + Wait>(
             time(clock, rounds, &mut pairs)
         }
     }
+}
+
+// A strict domain, with a device attached to it or with none.
+fn make_domain<B: Owner, C: Wait>(
+    clock: &C,
+    manager: &Manager<B>,
+    rows: &Rows<B>,
+    mine: &mut Share<B>,
+    attached: bool,
+) -> Result<(), Trouble> {
+    let made = manager.call(clock, rows, mine, Call::Domain(Mode::Strict));
+    check_reply(made, Reply::Made(1))?;
+    if attached {
+        let attached = manager.call(clock, rows, mine, ATTACH);
+        check_reply(attached, Reply::Done)?;
+    }
+    Ok(())
 }
 
 const ATTACH: Call = Call::Attach {

@@ -11,8 +11,9 @@ of them a few times, compares the answers with what they must be, and prints one
 
 const STATUS: &str = "\
 A round of a map is the map and its unmap, in a strict domain unless the line
-says otherwise; a round of a take is the take and its release. Each line is
-measured in several turns, and has the least and the median of them.
+says otherwise; a round of a take is the take and its release. A line of
+several threads has what a round takes on the slowest. Each line is measured in
+several turns, and has the least and the median of them.
 
 Exit status: 0 done; 1 output or the clock failed, or an answer is wrong; 2 a
 bad command line; 3 no memory.";
