@@ -7,6 +7,7 @@ ghost use Rattle.dmatypes.specs.History.{IsLegal, after};
 ghost use Rattle.dmatypes.specs.Page.{IsPage, page_of};
 ghost use Rattle.dmatypes.specs.Step.{IsStep, next};
 ghost use Rattle.dmatypes.specs.World.{World};
+ghost use Rattle.dmatypes.specs.declared.limits.TheConstants.{MOST_CALLS};
 ghost use Rattle.engine.specs.Hits.{Has, IsHitIn};
 ghost use Rattle.engine.specs.Quarantine.{Quarantine};
 ghost use Rattle.ports.specs.Cleared.{IsCleared, TakesAway};
@@ -16,19 +17,16 @@ ghost use Rattle.vtdbits.specs.Translation.{target};
 ghost use Rattle.dmatypes.specs.Rights.{bits_of};
 ghost use Rattle.manager.specs.Words.{AreCleared, AreFilled, IsLastAfter};
 
-use dmatypes::{Call, Event, Mode, PAGE_BYTES, Page, Reply};
+use dmatypes::{Call, Event, MOST_RECORDS, Mode, PAGE_BYTES, Page, Reply};
 use engine::{Hit, State};
 use ports::{Desk, Rows};
 use vtdbits::{PortWord, Translation, WidePage};
-
-// How many retired records an unmap releases that releases some: all that a lazy domain keeps at most (own).
-const MOST_RECORDS: u64 = 256;
 
 /// Clears the rows of the devices that an event takes pages away from, appends the event, and fills the word of a request
 /// with what it hit. The state is the one after the event.
 pub(crate) fn enter(desk: &mut Desk, rows: &Rows, state: &State, event: &Event, hit: Option<Hit>)
     requires rows { desk.old.rows ≡ rows.now }
-    requires room { length desk.old.history < 1048576 }
+    requires room { length desk.old.history < MOST_CALLS }
     requires legal { IsLegal desk.old.rows.frames (desk.old.history ++ event.now ∷ []) }
     requires lawful { AreLawful (IsLawfulAfter desk.old.rows.frames) desk.old.history desk.old.last }
     requires state { Quarantine state.now (after desk.old.rows.frames (desk.old.history ++ event.now ∷ [])) }
@@ -69,7 +67,7 @@ fn only(device: u64) -> u16
     if device < 16 { 1 << device } else { 0 }
 }
 
-// Whether an unmap in a domain of this mode took pages away, that released so many records.
+// Whether an unmap in a domain of this mode took pages away, that released so many records: in a lazy one all, or none.
 fn takes_away(mode: Option<Mode>, released: u64) -> bool
     ensures { IsTrue result ↔ IsSomeAnd mode (λ m. TakesAway m released) }
 {
