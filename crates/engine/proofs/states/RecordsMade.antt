@@ -1,5 +1,6 @@
 -- The next wait is sent after all records of a state were made, whatever call goes before it.
-use Rattle.std.proofs.Common.{◌≡◌, ℕ, zero, suc, ◌+◌, ◌-◌, ◌≤◌, inl, inr, List, [], ◌∷◌, ◌++◌, Option, Some, None, sym, ap, subst, ◌∙◌, arith}
+use Rattle.std.proofs.Common.{◌≡◌, ℕ, zero, suc, ◌+◌, ◌-◌, ◌≤◌, inl, inr, List, [], ◌∷◌, ◌++◌, Option, Some, None}
+use Rattle.std.proofs.Common.{sym, ap, subst, ◌∙◌, arith}
 use Rattle.std.proofs.Common.{slice_get, slice_set}
 use Rattle.std.specs.Option.{option_flatten}
 use Rattle.dmatypes.specs.World.{IsIn}
@@ -101,10 +102,12 @@ made_kept m t (calls.Detach device) Done (domain, root, at, sends, is) later mad
     same_made m t later made (ap (λ (x : State). x.domains) is)
 made_kept m t (calls.Detach device) _ is later made = same_made m t later made (ap (λ (x : State). x.domains) is)
 made_kept m t (calls.Map domain frame pages order rights) (Mapped address) (h, new, there, places, is) later made =
-    space_made m t later made (domain - 1) domain h new (ap (λ (x : State). x.domains) is) there (ap (λ (x : Domain). x.records) places.same)
+    space_made m t later made (domain - 1) domain h new (ap (λ (x : State). x.domains) is) there
+    (ap (λ (x : Domain). x.records) places.same)
 made_kept m t (calls.Map domain frame pages order rights) _ is later made = same_made m t later made (ap (λ (x : State). x.domains) is)
 made_kept m t (calls.MapList domain order rights segments) (Mapped address) (h, new, there, places, is) later made =
-    space_made m t later made (domain - 1) domain h new (ap (λ (x : State). x.domains) is) there (ap (λ (x : Domain). x.records) places.same)
+    space_made m t later made (domain - 1) domain h new (ap (λ (x : State). x.domains) is) there
+    (ap (λ (x : Domain). x.records) places.same)
 made_kept m t (calls.MapList domain order rights segments) _ is later made =
     same_made m t later made (ap (λ (x : State). x.domains) is)
 made_kept m t (calls.Flush domain) (Flushed released) (h, new, there, flushes, is) later made =
