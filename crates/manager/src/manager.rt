@@ -154,6 +154,7 @@ impl<B: Owner> Manager<B> {
     {
         let mut guard = self.book.lock(rt);
         let book = &mut *guard;
+        // It changes nothing: its contract tells that the history which both are told is legal.
         book.keeps();
         book.tell(rows, mine);
         book.meet(rows, port);
