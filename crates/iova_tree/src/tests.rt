@@ -1,135 +1,197 @@
-mod beside;
+//! A space beside a list: the same answers and the same pieces, call by call.
+
 mod list;
 
-use super::*;
-use dmatypes::{Page, PageRange};
-use iova::{PageState, Piece, RetireError, TakeError};
+ghost use Rattle.std.specs.Prelude.{◌≤◌, ◌<◌, IfSome};
+ghost use Rattle.dmatypes.specs.World.{IsIn};
+ghost use Rattle.iova.specs.Pieces.{piece_of};
+
+use crate::Space;
+use crate::node::NUMBERS_END;
+use dmatypes::PageRange;
+use iova::{PageState, TakeError};
+use list::List;
+use std::alloc::{AllocError, Global};
 use std::test::Fail;
 
-const LAST: u64 = 0x7FFFFFF;
+const FREE: [(u64, u64); 2] = [(1, 0xFEDFF), (0xFEF00, 0x100FFF)];
 
-fn number(taken: Result<Page, TakeError>) -> Result<u64, TakeError> {
-    taken.map(|page| page.number())
+/// Numbers by a fixed sequence.
+#[derive(Drop)]
+struct Sequence {
+    seed: u64,
 }
 
-// Pages are taken from the lowest start, a retiring joins pieces, and freeing joins the free ones.
-#[test]
-fn takes_and_frees(rt: HostRuntime) -> Result<(), Fail> {
-    let mut space = Space::new(rt.alloc(), 15)?;
-    assert_eq!(rt; number(space.take(1, 0)), Ok(1));
-    assert_eq!(rt; number(space.take(2, 1)), Ok(2));
-    assert_eq!(rt; number(space.take(1, 2)), Ok(4));
-    assert_eq!(rt; space.piece_count(), 4);
-    let range = PageRange::new(2, 3).ok_or("pages")?;
-    space.may_retire(range)?;
-    space.retire(range);
-    assert_eq!(rt; space.piece_count(), 3);
-    space.release(range);
-    assert_eq!(rt; space.piece_count(), 2);
-    let start = space.take(3, 0)?;
-    assert_eq!(rt; start.number(), 2);
-    space.undo_take(PageRange::new(start.number(), 3).unwrap());
-    assert_eq!(rt; space.piece_count(), 2);
-    let range = PageRange::new(1, 2).ok_or("pages")?;
-    assert_eq!(rt; space.may_retire(range), Err(RetireError::NotLive));
-    Ok(())
-}
-
-#[test]
-fn fills_a_small_space(rt: HostRuntime) -> Result<(), Fail> {
-    let mut space = Space::new(rt.alloc(), 15)?;
-    assert_eq!(rt; number(space.take(8, 3)), Ok(8));
-    assert_eq!(rt; number(space.take(8, 0)), Err(TakeError::NoRange));
-    assert_eq!(rt; number(space.take(7, 0)), Ok(1));
-    assert_eq!(rt; number(space.take(1, 0)), Err(TakeError::NoRange));
-    Ok(())
-}
-
-// Aligned ranges of 4,096 pages do not cross the interrupt address range.
-#[test]
-fn keeps_out_of_the_window(rt: HostRuntime) -> Result<(), Fail> {
-    let mut space = Space::new(rt.alloc(), LAST)?;
-    assert_eq!(rt; space.piece_count(), 2);
-    for count in 1..254u64 {
-        assert_eq!(rt;
-            number(space.take(4096, 9)),
-            Ok(0x200 + (count - 1) * 0x1000)
-        );
+impl Sequence {
+    /// A number below a bound.
+    fn below(&mut self, bound: u64) -> u64
+        requires { 1 ≤ bound }
+        ensures { result < bound }
+    {
+        self.seed ^= self.seed << 13;
+        self.seed ^= self.seed >> 7;
+        self.seed ^= self.seed << 17;
+        (self.seed >> 20) % bound
     }
-    assert_eq!(rt; number(space.take(4096, 9)), Ok(0xFD200));
-    assert_eq!(rt; number(space.take(4096, 9)), Ok(0xFF000));
-    Ok(())
 }
 
-#[test]
-fn refuses_a_cut_at_the_limit(rt: HostRuntime) -> Result<(), Fail> {
-    let mut space = Space::new(rt.alloc(), LAST)?;
-    for count in 1..1022u64 {
-        assert_eq!(rt; number(space.take(1, 0)), Ok(count));
-    }
-    assert_eq!(rt; number(space.take(1, 0)), Err(TakeError::TooManyPieces));
-    let range = PageRange::new(1, 1).ok_or("pages")?;
-    space.may_retire(range)?;
-    space.retire(range);
-    space.release(range);
-    assert_eq!(rt; number(space.take(1, 0)), Ok(1));
-    assert_eq!(rt; number(space.take(1, 0)), Err(TakeError::TooManyPieces));
-    Ok(())
-}
-
-// At the limit a piece can't be cut, and whole pieces are retired as ever.
-#[test]
-fn retires_whole_pieces_at_the_limit(rt: HostRuntime) -> Result<(), Fail> {
-    let mut space = Space::new(rt.alloc(), LAST)?;
-    assert_eq!(rt; number(space.take(3, 0)), Ok(1));
-    for count in 1..1021u64 {
-        assert_eq!(rt; number(space.take(1, 0)), Ok(count + 3));
-    }
-    assert_eq!(rt; number(space.take(1, 0)), Err(TakeError::TooManyPieces));
-    let page = PageRange::new(2, 1).ok_or("pages")?;
-    assert_eq!(rt; space.may_retire(page), Err(RetireError::TooManyPieces));
-    let range = PageRange::new(1, 3).ok_or("pages")?;
-    space.may_retire(range)?;
-    space.retire(range);
-    space.release(range);
-    assert_eq!(rt; number(space.take(3, 0)), Ok(1));
-    assert_eq!(rt; number(space.take(1, 0)), Err(TakeError::TooManyPieces));
-    Ok(())
-}
-
-#[test]
-fn tells_the_state_of_a_page(rt: HostRuntime) -> Result<(), Fail> {
-    let mut space = Space::new(rt.alloc(), 15)?;
-    assert_eq!(rt; number(space.take(3, 0)), Ok(1));
-    let middle = PageRange::new(2, 1).ok_or("page")?;
-    space.may_retire(middle)?;
-    space.retire(middle);
-    let states = [
-        (1, Some(PageState::Live)),
-        (2, Some(PageState::Retired)),
-        (3, Some(PageState::Live)),
-        (4, Some(PageState::Free)),
-        (16, None),
-    ];
-    for (number, state) in states {
-        let page = Page::new(number).ok_or("page")?;
-        assert_eq!(rt; space.state_of(page), state, "page {number}");
-    }
-    let live = Piece {
-        first: 3,
-        last: 3,
-        state: PageState::Live,
-    };
-    assert_eq!(rt; space.pieces().nth(2), Some(live));
-    space.reset();
-    let free = Piece {
-        first: 1,
-        last: 15,
-        state: PageState::Free,
-    };
+/// The range of the retired piece that begins at a page.
+fn retired_at(space: &Space, first: u64) -> Option<PageRange>
+    ensures { IfSome result (λ range. IsIn (piece_of range PageState.Retired) space.now.pieces) }
+{
     let mut pieces = space.pieces();
-    assert_eq!(rt; pieces.next(), Some(free));
-    assert_eq!(rt; pieces.next(), None);
-    assert!(rt; free.is_free());
+    while let Some(piece) = pieces.next() {
+        if piece.first == first {
+            if let PageState::Retired = piece.state {
+                if piece.first <= piece.last && piece.last < NUMBERS_END {
+                    return PageRange::new(piece.first, piece.last - piece.first + 1);
+                }
+            }
+        }
+    }
+    None
+}
+
+/// A space and the list beside it.
+#[derive(Drop)]
+struct Pair {
+    space: Space,
+    list: List,
+}
+
+impl Pair {
+    fn take(
+        &mut self,
+        alloc: Global,
+        pages: u64,
+        order: u64,
+    ) -> Result<Result<u64, TakeError>, Fail>
+        requires some { 1 ≤ pages }
+        requires few { pages ≤ 4096 }
+        requires order { order ≤ 9 }
+    {
+        let taken = self.space.take(pages, order).map(|page| page.number());
+        let listed = self.list.take(alloc, pages, 1 << order)?;
+        if taken != listed {
+            return Err("a take differs".into());
+        }
+        Ok(taken)
+    }
+
+    /// Takes pages and gives them back.
+    fn try_take(&mut self, pages: u64) -> Result<(), Fail>
+        requires some { 1 ≤ pages }
+        requires few { pages ≤ 4096 }
+    {
+        let before = self.space.piece_count();
+        if let Ok(page) = self.space.take(pages, 0) {
+            let range = PageRange::new(page.number(), pages).ok_or("pages")?;
+            self.space.undo_take(range);
+        }
+        if self.space.piece_count() != before {
+            return Err("an undone take stays".into());
+        }
+        Ok(())
+    }
+
+    /// Retires pages, if they are live.
+    fn retire(&mut self, alloc: Global, range: PageRange) -> Result<(), Fail> {
+        let first = range.first();
+        let last = first + (range.pages() - 1);
+        let may = self.space.may_retire(range);
+        if may != self.list.may_retire(first, last) {
+            return Err("a refusal differs".into());
+        }
+        if may.is_ok() {
+            self.space.retire(range);
+            self.list.retire(alloc, first, last)?;
+        }
+        Ok(())
+    }
+
+    /// Releases the retired piece at a page, if one begins there.
+    fn release(&mut self, alloc: Global, first: u64) -> Result<(), Fail> {
+        if let Some(range) = retired_at(&self.space, first) {
+            self.space.release(range);
+            self.list
+                .free(alloc, range.first(), range.first() + (range.pages() - 1))?;
+        }
+        Ok(())
+    }
+
+    /// The pieces are the same.
+    fn compare(&self) -> Result<(), Fail> {
+        let mut pieces = self.space.pieces();
+        for piece in self.list.pieces.iter() {
+            if pieces.next() != Some(*piece) {
+                return Err("a piece differs".into());
+            }
+        }
+        if pieces.next().is_some() || self.space.piece_count() != self.list.pieces.len() {
+            return Err("there are more pieces".into());
+        }
+        Ok(())
+    }
+
+    fn step(&mut self, alloc: Global, numbers: &mut Sequence) -> Result<(), Fail> {
+        match numbers.below(16) {
+            0..=7 => {
+                let order = numbers.below(4);
+                let pages = 1 + numbers.below(1 << order);
+                let _taken = self.take(alloc, pages, order)?;
+            }
+            8 => {
+                let _taken = self.take(alloc, 1 + numbers.below(4096), numbers.below(10))?;
+            }
+            9 => self.try_take(1 + numbers.below(8))?,
+            10 | 11 => {
+                let first = 1 + numbers.below(3000);
+                let range = PageRange::new(first, 1 + numbers.below(40)).ok_or("pages")?;
+                self.retire(alloc, range)?;
+            }
+            12 => {
+                let held = self.space.pieces().nth(numbers.below(1024) as usize);
+                if let Some(held) = held {
+                    if let Some(range) = PageRange::new(
+                        held.first,
+                        held.last.wrapping_sub(held.first).wrapping_add(1),
+                    ) {
+                        self.retire(alloc, range)?;
+                    }
+                }
+            }
+            _ => {
+                let held = self.space.pieces().nth(numbers.below(1024) as usize);
+                if let Some(held) = held {
+                    self.release(alloc, held.first)?;
+                }
+            }
+        }
+        Ok(())
+    }
+}
+
+// 20,000 calls, and the space made new now and then.
+#[test]
+fn agrees_with_a_list(rt: HostRuntime) -> Result<(), Fail> {
+    let alloc = rt.alloc();
+    let mut pair = Pair {
+        space: Space::new(alloc, 0x100FFF)?,
+        list: List::new(alloc, FREE.as_slice())?,
+    };
+    let mut numbers = Sequence {
+        seed: 0x2545F4914F6CDD1D,
+    };
+    for call in 0..20000u64 {
+        if call % 7000 == 6999 {
+            pair.space.reset();
+            pair.list = List::new(alloc, FREE.as_slice())?;
+        }
+        pair.step(alloc, &mut numbers)?;
+        if call % 50 == 0 {
+            pair.compare()?;
+        }
+    }
+    pair.compare()?;
     Ok(())
 }

@@ -1,7 +1,7 @@
 use Rattle.std.proofs.Common.{length}
 use Rattle.dmatypes.specs.World.{IsIn}
 use Rattle.iova.specs.declared.piece.Piece.{Piece}
-use Rattle.iova_tree.proofs.tests.beside.retired_at.Given as goal
+use Rattle.iova_tree.proofs.tests.retired_at.Given as goal
 
 -- the pieces that are left are pieces of the space
 abbrev pub invariant-loop-piece : goal.invariant-loop-piece

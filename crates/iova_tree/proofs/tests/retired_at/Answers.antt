@@ -4,7 +4,7 @@ use Rattle.dmatypes.specs.World.{IsIn}
 use Rattle.iova.specs.declared.piece.Piece.{Piece}
 use Rattle.iova.specs.declared.piece.PageState.TheVariants.{Retired}
 use Rattle.iova.specs.Pieces.{piece_of}
-use Rattle.iova_tree.proofs.tests.beside.retired_at.Goals as goal
+use Rattle.iova_tree.proofs.tests.retired_at.Goals as goal
 
 at : (o : Option Range) (P : Range → Type 0) (r : Range) → IfSome o (λ x. x ≡ r) → P r → IfSome o P
 at None P r e p = tt
