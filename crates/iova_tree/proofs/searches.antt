@@ -1,5 +1,0 @@
-pub mod Fit
-pub mod Found
-pub mod CutAt
-pub mod FreeEnds
-pub mod Walked
