@@ -1,7 +1,3 @@
-pub mod Push
-pub mod Starting
 pub mod Reporting
-pub mod ClearedRows
-pub mod EnteredWords
-pub mod FilledWord
-pub mod Shares
+pub mod words
+pub mod books

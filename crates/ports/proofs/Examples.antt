@@ -6,7 +6,7 @@ use Rattle.dmatypes.specs.declared.call.Mode.TheVariants.{Strict}
 use Rattle.dmatypes.specs.declared.reply.Event.{Event}
 use Rattle.dmatypes.specs.declared.reply.Reply.TheVariants.{Made, Done, Mapped}
 use Rattle.dmatypes.specs.World.{World, AreFreePages, empty, empty_domain, is_within}
-use Rattle.dmatypes.proofs.Ranges.{within_is}
+use Rattle.dmatypes.proofs.numbers.Ranges.{within_is}
 use Rattle.dmatypes.specs.Allows.{Allows}
 use Rattle.dmatypes.specs.Conditions.{IsBadMap, Stands}
 use Rattle.dmatypes.specs.Step.{Answers, IsStep, next}

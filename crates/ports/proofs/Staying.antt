@@ -14,7 +14,7 @@ use Rattle.dmatypes.specs.World.{put_off, record_of, unmapped_by, with_domain, w
 use Rattle.dmatypes.specs.Allows.{domain_of_device}
 use Rattle.dmatypes.specs.Conditions.{Stands, total_pages}
 use Rattle.dmatypes.specs.Step.{Answers, IsMapAnswer, IsStep, IsUnmapAnswer, next}
-use Rattle.dmatypes.proofs.Ranges.{within_or_not}
+use Rattle.dmatypes.proofs.numbers.Ranges.{within_or_not}
 use Rattle.vtdbits.specs.declared.port.PortWord.{PortWord}
 use Rattle.ports.specs.Lawful.{Backs, IsBacked, IsLawful}
 use Rattle.ports.specs.Cleared.{IsCleared, Keeps, TakesAway}

@@ -19,7 +19,7 @@ use Rattle.dmatypes.specs.World.{without}
 use Rattle.dmatypes.specs.Conditions.{total_pages}
 use Rattle.dmatypes.specs.Step.{Answers, IsMapAnswer, IsStep, next}
 use Rattle.dmatypes.specs.History.{after_from, IsLegal, IsLegalFrom, after}
-use Rattle.dmatypes.proofs.Ranges.{within_is, within_not, within_or_not}
+use Rattle.dmatypes.proofs.numbers.Ranges.{within_is, within_not, within_or_not}
 use Rattle.dmatypes.specs.declared.page.TheConstants.{PAGE_BYTES}
 use Rattle.ports.proofs.Maps.{put_same, put_other, same_or_not, in_either, none_is_no, some_and, from_either, second_of}
 

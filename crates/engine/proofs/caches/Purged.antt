@@ -3,7 +3,7 @@ use Rattle.std.proofs.Common.{◌≡◌, ℕ, inl, inr, false, List, [], ◌∷�
 use Rattle.dmatypes.specs.World.{IsIn}
 use Rattle.unit.specs.Caches.{Caches, CachedContext, CachedLeaf, CachedNonLeaf}
 use Rattle.unit.specs.Filters.{drops_context, drops_leaf, drops_non_leaf, left_by}
-use Rattle.unit.proofs.Members.{left_context, left_leaf, left_non_leaf}
+use Rattle.unit.proofs.caches.Members.{left_context, left_leaf, left_non_leaf}
 use Rattle.vtdbits.specs.declared.descriptor.Descriptor.{Descriptor}
 use Rattle.vtdbits.specs.declared.descriptor.Descriptor.TheVariants.{Wait}
 use Rattle.engine.specs.Ending.{left_by_all}

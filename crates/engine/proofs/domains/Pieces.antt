@@ -8,7 +8,7 @@ use Rattle.dmatypes.specs.Conditions.{total_pages}
 use Rattle.dmatypes.specs.World.{Target, AreFreePages, empty_domain, mapped, placed}
 use Rattle.dmatypes.specs.World as world
 use Rattle.dmatypes.specs.declared.call.Segment.{Segment}
-use Rattle.dmatypes.proofs.Ranges.{within_or_not}
+use Rattle.dmatypes.proofs.numbers.Ranges.{within_or_not}
 use Rattle.iova.specs.declared.piece.PageState.{PageState}
 use Rattle.iova.specs.declared.piece.PageState.TheVariants.{Free, Live, Retired}
 use Rattle.iova.specs.Changes.{Takes}

@@ -6,7 +6,7 @@ use Rattle.std.proofs.lemmas.List.Sums.{sum_by-cons}
 use Rattle.dmatypes.specs.Page.{Range, IsWithin}
 use Rattle.dmatypes.specs.World.{Retired, World, IsIn, flushed, put}
 use Rattle.dmatypes.specs.World as world
-use Rattle.dmatypes.proofs.Ranges.{within_or_not}
+use Rattle.dmatypes.proofs.numbers.Ranges.{within_or_not}
 use Rattle.iova.specs.declared.piece.PageState.TheVariants.{Free}
 use Rattle.iova.specs.declared.piece.PageState.TheVariants as pages
 use Rattle.iova.specs.declared.piece.Piece.{Piece}

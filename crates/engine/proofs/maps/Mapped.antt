@@ -8,7 +8,7 @@ use Rattle.dmatypes.specs.declared.refusal.Refusal.{Refusal}
 use Rattle.dmatypes.specs.declared.refusal.Refusal.TheVariants as refusals
 use Rattle.dmatypes.specs.World.{World, Target, AreFreePages, mapped, placed, put}
 use Rattle.dmatypes.specs.World as world
-use Rattle.dmatypes.proofs.Ranges.{within_or_not}
+use Rattle.dmatypes.proofs.numbers.Ranges.{within_or_not}
 use Rattle.dmatypes.specs.declared.call.Segment.{Segment}
 use Rattle.dmatypes.specs.Conditions.{HasNoRange, IsBadMap, Stands, total_pages}
 use Rattle.dmatypes.specs.Step.{IsStep, Answers, next}

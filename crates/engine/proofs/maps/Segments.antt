@@ -7,7 +7,7 @@ use Rattle.dmatypes.specs.Page.{IsWithin}
 use Rattle.dmatypes.specs.Rights.{AreRights}
 use Rattle.dmatypes.specs.World.{Target, placed}
 use Rattle.dmatypes.specs.declared.call.Segment.{Segment}
-use Rattle.dmatypes.proofs.Ranges.{within_is, within_not, within_or_not}
+use Rattle.dmatypes.proofs.numbers.Ranges.{within_is, within_not, within_or_not}
 use Rattle.tables.specs.Segments.{AreSegments}
 use Rattle.tables.proofs.maps.Placed.{drop_at, drop_ended, total-cons}
 use Rattle.engine.specs.Judged.{AreMappable, AreOwned}

@@ -15,7 +15,7 @@ use Rattle.dmatypes.specs.declared.reply.Reply.TheVariants.{Faulted, Host}
 use Rattle.dmatypes.specs.declared.width.Width.TheVariants.{W39}
 use Rattle.tables.specs.Pool.{memory}
 use Rattle.tables.specs.Tree.{leaf_from}
-use Rattle.unit.proofs.Members.{met_is}
+use Rattle.unit.proofs.caches.Members.{met_is}
 use Rattle.unit.specs.Answers.{Answers, AnswersWith, IsContextOf, IsRead, IsStart, Tells}
 use Rattle.unit.specs.Caches.{Caches, CachedContext, CachedLeaf, CachedNonLeaf}
 use Rattle.unit.specs.Walking.{met, IsPassed}

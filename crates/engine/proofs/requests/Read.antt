@@ -17,7 +17,7 @@ use Rattle.tables.proofs.walks.Onward.{deeper, leaf_on, leaf_zeroed, table_on, t
 use Rattle.tables.proofs.walks.Words.{zeroed_bare}
 use Rattle.tables.specs.Pool.{memory, IsZeroed}
 use Rattle.tables.specs.Tree.{Found, IsLeafAt, leaf_from, span, stated, states, table_from}
-use Rattle.unit.proofs.Members.{met_is}
+use Rattle.unit.proofs.caches.Members.{met_is}
 use Rattle.unit.specs.Answers.{IsStart}
 use Rattle.unit.specs.Caches.{CachedContext, CachedLeaf, CachedNonLeaf}
 use Rattle.unit.specs.Walking.{hold, met, met_leaf, met_non_leaf, stated_by, IsPassed}

@@ -28,7 +28,7 @@ use Rattle.dmatypes.specs.declared.call.Cache.{Cache}
 use Rattle.dmatypes.specs.declared.reply.Reply.TheVariants.{Done, Refused}
 use Rattle.dmatypes.specs.declared.refusal.Refusal.TheVariants as refusals
 use Rattle.unit.specs.Caches.{without}
-use Rattle.unit.proofs.Members.{without_leaf, without_non_leaf, without_context}
+use Rattle.unit.proofs.caches.Members.{without_leaf, without_non_leaf, without_context}
 use Rattle.engine.proofs.caches.Lawful.{fewer_lawful}
 use Rattle.engine.proofs.states.Refused.{counted, refuses}
 use Rattle.engine.proofs.requests.Allowed.{request_allowed, request_contexts, request_hit, request_keeps}

@@ -8,7 +8,7 @@ use Rattle.dmatypes.specs.declared.call.Mode.TheVariants.{Strict, Lazy}
 use Rattle.dmatypes.specs.Page.{IsPageRange}
 use Rattle.dmatypes.specs.World.{Target, World, IsIn, IsLive, IsRetired, put, put_off, record_of, unmapped}
 use Rattle.dmatypes.specs.World as world
-use Rattle.dmatypes.proofs.Ranges.{to_ends, within_or_not}
+use Rattle.dmatypes.proofs.numbers.Ranges.{to_ends, within_or_not}
 use Rattle.iova.specs.Space.{Space}
 use Rattle.tables.specs.Changes.{TreeStays}
 use Rattle.tables.specs.Pool.{Pool, memory, occurs, IsZeroed}

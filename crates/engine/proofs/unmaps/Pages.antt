@@ -4,7 +4,7 @@ use Rattle.std.proofs.Common.{subst, ◌∙◌, arith}
 use Rattle.dmatypes.specs.Page.{Range, IsPage, IsPageRange, IsWithin}
 use Rattle.dmatypes.specs.World.{Target, Retired, IsIn, flushed, put_off, record_of, restricted, unmapped, without}
 use Rattle.dmatypes.specs.World as world
-use Rattle.dmatypes.proofs.Ranges.{HasEnds, to_ends, within_is, within_not, within_or_not}
+use Rattle.dmatypes.proofs.numbers.Ranges.{HasEnds, to_ends, within_is, within_not, within_or_not}
 use Rattle.iova.specs.declared.piece.PageState.{PageState}
 use Rattle.iova.specs.declared.piece.PageState.TheVariants.{Free, Live}
 use Rattle.iova.specs.declared.piece.PageState.TheVariants as pages

@@ -11,7 +11,7 @@ use Rattle.tables.specs.declared.entries.TheConstants.{TABLE_ENTRIES}
 use Rattle.dmatypes.specs.Conditions.{total_pages}
 use Rattle.dmatypes.specs.declared.call.Segment.{Segment}
 use Rattle.dmatypes.specs.World.{placed, is_within}
-use Rattle.dmatypes.proofs.Ranges.{within_is, within_not, within_or_not}
+use Rattle.dmatypes.proofs.numbers.Ranges.{within_is, within_not, within_or_not}
 use Rattle.vtdbits.specs.Translation.{target}
 use Rattle.tables.specs.Segments.{rest_at, fills_large, is_large_at, AreSegments}
 

@@ -1,6 +1,6 @@
 use Rattle.std.proofs.Common.{◌≡◌, ◌∙◌, true, false, sym}
-use Rattle.manager.proofs.ClearedRows.{detach_cleared, flush_cleared, no_device, other_cleared, told_detach, told_flush, told_unmap}
-use Rattle.manager.proofs.ClearedRows.{unmap_cleared, unmap_keeps}
+use Rattle.manager.proofs.words.Cleared.{detach_cleared, flush_cleared, no_device, other_cleared, told_detach, told_flush, told_unmap}
+use Rattle.manager.proofs.words.Cleared.{unmap_cleared, unmap_keeps}
 use Rattle.manager.proofs.entering.cleared_at.Goals as goal
 
 pub returns-in-Detach-Done : goal.returns-in-Detach-Done

@@ -1,8 +1,8 @@
 use Rattle.std.proofs.Common.{subst}
 use Rattle.dmatypes.specs.World.{World, empty}
-use Rattle.dmatypes.proofs.Histories.{after_from-push}
+use Rattle.dmatypes.proofs.histories.Entered.{after_from-push}
 use Rattle.manager.specs.Words.{AreFilled}
-use Rattle.manager.proofs.EnteredWords.{hit_after, words_cleared, words_lawful}
+use Rattle.manager.proofs.words.Entered.{hit_after, words_cleared, words_lawful}
 use Rattle.manager.proofs.entering.enter.Goals as goal
 
 pub append-requires-clause-lawful : goal.append-requires-clause-lawful

@@ -1,6 +1,6 @@
 use Rattle.std.proofs.Common.{arith, refl}
 use Rattle.dmatypes.specs.History.{after}
-use Rattle.manager.proofs.FilledWord.{filled, hit_backed, hit_page, lawful_filled, missed_is, not_filled, other_is, reached}
+use Rattle.manager.proofs.words.Filled.{filled, hit_backed, hit_page, lawful_filled, missed_is, not_filled, other_is, reached}
 use Rattle.manager.proofs.entering.fill.Goals as goal
 
 pub returns-in_default : goal.returns-in_default

@@ -1,4 +1,4 @@
-use Rattle.manager.proofs.ClearedRows.{one_device}
+use Rattle.manager.proofs.words.Cleared.{one_device}
 use Rattle.manager.proofs.entering.only.Goals as goal
 
 pub returns-then-device-lt16 : goal.returns-then-device-lt16

@@ -1,7 +1,7 @@
 use Rattle.std.proofs.Common.{◌∙◌, arith}
 use Rattle.std.proofs.lemmas.Grind.{common_steps}
 use mathlib.Core.List.{IsPrefix}
-use Rattle.manager.proofs.Shares.{All-last}
+use Rattle.manager.proofs.books.Shares.{All-last}
 use Rattle.manager.proofs.share.merged.Goals as goal
 
 pub loop-share-init : goal.loop-share-init

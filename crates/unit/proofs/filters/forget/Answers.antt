@@ -2,7 +2,7 @@ use Rattle.std.proofs.Common.{rules, tests, not, ◌∙◌, sym}
 use Rattle.std.proofs.lemmas.Iterator.{YieldsList-from_slice}
 use Rattle.std.proofs.lemmas.Iterator.Search.{any_from_yields_List}
 use Rattle.arrayvec.proofs.ArrayVecLemmas.{filter-from_retain}
-use Rattle.unit.proofs.Kept.{kept_whole}
+use Rattle.unit.proofs.caches.Kept.{kept_whole}
 use Rattle.unit.proofs.filters.forget.Goals as goal
 
 pub returns-then-any-clause-items : goal.returns-then-any-clause-items

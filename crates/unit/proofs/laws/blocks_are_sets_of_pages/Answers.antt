@@ -1,4 +1,4 @@
-use Rattle.unit.proofs.Blocks.{holds_of_inside, inside_of_holds, meets_of_meeting, meeting_of_meets}
+use Rattle.unit.proofs.caches.Blocks.{holds_of_inside, inside_of_holds, meets_of_meeting, meeting_of_meets}
 use Rattle.unit.proofs.laws.blocks_are_sets_of_pages.Goals as goal
 
 pub returns : goal.returns

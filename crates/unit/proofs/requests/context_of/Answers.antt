@@ -2,7 +2,7 @@ use Rattle.std.proofs.Common.{◌∙◌, ◌==◌, sym, ap, inr, Some, eq-eqb}
 use Rattle.std.proofs.lemmas.Bool.{eqb-true}
 use Rattle.vtdbits.specs.declared.context.ContextEntry.{ContextEntry}
 use Rattle.unit.specs.Caches.{CachedContext}
-use Rattle.unit.proofs.Found.{find_in, find_none}
+use Rattle.unit.proofs.caches.Found.{find_in, find_none}
 use Rattle.unit.proofs.requests.context_of.Goals as goal
 use Rattle.unit.proofs.requests.context_of.Goals.{then-look+in_default, else-look}
 

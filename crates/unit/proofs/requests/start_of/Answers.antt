@@ -1,6 +1,6 @@
 use Rattle.std.proofs.Common.{◌∙◌, sym, ap}
 use Rattle.unit.specs.Caches.{CachedNonLeaf, CachedContext}
-use Rattle.unit.proofs.Starts.{start_found, none_at_level}
+use Rattle.unit.proofs.walks.Starts.{start_found, none_at_level}
 use Rattle.unit.proofs.requests.start_of.Goals as goal
 use Rattle.unit.proofs.requests.start_of.Goals.{then-look+in_default+in_default-first_table, else-look}
 

@@ -5,9 +5,9 @@ use Rattle.std.proofs.lemmas.Bool.{eqb-true}
 use Rattle.tables.specs.Pool.{memory}
 use Rattle.unit.specs.Caches.{CachedLeaf, CachedNonLeaf, CachedContext}
 use Rattle.unit.specs.Walking.{hold}
-use Rattle.unit.proofs.Found.{find_in, both}
-use Rattle.unit.proofs.Remembered.{gains_entry, remembered_in}
-use Rattle.unit.proofs.Reading.{met_domain, met_holds, read_cached, read_nothing, read_walked}
+use Rattle.unit.proofs.caches.Found.{find_in, both}
+use Rattle.unit.proofs.caches.Remembered.{gains_entry, remembered_in}
+use Rattle.unit.proofs.walks.Reading.{met_domain, met_holds, read_cached, read_nothing, read_walked}
 use Rattle.unit.proofs.requests.translation_of.Goals as goal
 
 pub translation-requires : goal.translation-requires

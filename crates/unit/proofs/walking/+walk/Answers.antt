@@ -4,8 +4,8 @@ use Rattle.tables.specs.Pool.{memory}
 use Rattle.tables.specs.Tree.{index_in}
 use Rattle.unit.specs.Caches.{CachedLeaf}
 use Rattle.unit.specs.Walking.{IsPassed}
-use Rattle.unit.proofs.Remembered.{gains_entry, gains_twice}
-use Rattle.unit.proofs.Walked.{met_absent, met_table, met_small, met_large, passed_next, passed_below}
+use Rattle.unit.proofs.caches.Remembered.{gains_entry, gains_twice}
+use Rattle.unit.proofs.walks.Walked.{met_absent, met_table, met_small, met_large, passed_next, passed_below}
 use Rattle.unit.proofs.walking.+walk.Goals as goal
 
 -- an entry that was read is the one on the page's way

@@ -4,7 +4,7 @@ use Rattle.ports.specs.Lawful.{IsLawfulAfter}
 use Rattle.ports.specs.Seen.{Desk, Rows}
 use Rattle.ports.specs.Steps.{AreLawful}
 use Rattle.manager.specs.Kept.{Book}
-use Rattle.manager.proofs.Push.{IsKept-push, push_legal}
+use Rattle.manager.proofs.books.Entering.{IsKept-push, push_legal}
 use Rattle.manager.proofs.book.Book.call.Goals as goal
 
 pub enter-requires-clause-legal : goal.enter-requires-clause-legal

@@ -1,7 +1,7 @@
 use Rattle.std.proofs.Common.{◌∙◌, rules, arith, sym, ap}
 use Rattle.engine.specs.State.{IsNew}
 use Rattle.ports.specs.Seen.{Desk}
-use Rattle.manager.proofs.Starting.{kept_new}
+use Rattle.manager.proofs.books.Starting.{kept_new}
 use Rattle.manager.proofs.book.Book.new.Goals as goal
 
 pub invariant_of-result : goal.invariant_of-result

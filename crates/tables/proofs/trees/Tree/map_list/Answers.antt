@@ -1,7 +1,7 @@
 use Rattle.std.proofs.Common.{◌+◌, ◌-◌, [], sym, subst, arith}
 use Rattle.dmatypes.specs.declared.width.TheConstants.{LEVELS}
 use Rattle.dmatypes.specs.Conditions.{total_pages}
-use Rattle.dmatypes.proofs.Ranges.{HasEnds, to_ends}
+use Rattle.dmatypes.proofs.numbers.Ranges.{HasEnds, to_ends}
 use Rattle.dmatypes.specs.Rights.{bits_of}
 use Rattle.dmatypes.specs.World.{placed}
 use Rattle.tables.specs.Tree.{IsLeafAt}

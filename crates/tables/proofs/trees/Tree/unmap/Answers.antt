@@ -1,6 +1,6 @@
 use Rattle.std.proofs.Common.{◌≡◌, ℕ, ◌+◌, ◌-◌, ◌<◌, inl, inr, true, false, sym, ◌∙◌, arith}
 use Rattle.dmatypes.specs.declared.width.TheConstants.{LEVELS}
-use Rattle.dmatypes.proofs.Ranges.{HasEnds, to_ends}
+use Rattle.dmatypes.proofs.numbers.Ranges.{HasEnds, to_ends}
 use Rattle.tables.specs.Pool.{memory}
 use Rattle.tables.specs.Lacks.{leaves_splitting}
 use Rattle.tables.proofs.unmaps.Ended.{unmap_leaves, unmap_tables, unmap_whole}

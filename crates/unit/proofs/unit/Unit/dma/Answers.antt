@@ -5,7 +5,7 @@ use Rattle.tables.specs.Pool.{memory}
 use Rattle.unit.specs.Answers.{Answers, IsContextOf, HasNoContext}
 use Rattle.unit.specs.Caches.{Caches, CachedContext, UnitState, caches}
 use Rattle.dmatypes.specs.World.{IsIn}
-use Rattle.unit.proofs.Remembered.{gains_entry, remembered_in, told_remembered}
+use Rattle.unit.proofs.caches.Remembered.{gains_entry, remembered_in, told_remembered}
 use Rattle.unit.proofs.unit.Unit.dma.Goals as goal
 
 pub returns-in_default-clause-answers : goal.returns-in_default-clause-answers

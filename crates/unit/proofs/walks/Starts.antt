@@ -6,7 +6,7 @@ use Rattle.dmatypes.specs.World.{IsIn}
 use Rattle.unit.specs.Caches.{CachedNonLeaf, CachedContext}
 use Rattle.unit.specs.Walking.{hold}
 use Rattle.unit.specs.Answers.{IsStart}
-use Rattle.unit.proofs.Found.{find_in, find_none, both}
+use Rattle.unit.proofs.caches.Found.{find_in, find_none, both}
 
 -- the table is of the level and the domain, and its span holds the page
 abbrev pub serves : ℕ → ℕ → ℕ → CachedNonLeaf → Bool

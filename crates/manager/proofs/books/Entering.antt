@@ -3,7 +3,7 @@ use Rattle.std.proofs.Common.{◌≡◌, ℕ, ◌+◌, ◌<◌, List, [], ◌∷
 use Rattle.dmatypes.specs.declared.reply.Event.{Event}
 use Rattle.dmatypes.specs.World.{empty}
 use Rattle.dmatypes.specs.History.{IsLegal, after}
-use Rattle.dmatypes.proofs.Histories.{after_from-push, IsLegalFrom-push}
+use Rattle.dmatypes.proofs.histories.Entered.{after_from-push, IsLegalFrom-push}
 use Rattle.engine.specs.Quarantine.{Quarantine}
 use Rattle.engine.specs.State.{State}
 use Rattle.engine.specs.Steps.{Does, Goes}

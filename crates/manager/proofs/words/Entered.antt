@@ -10,7 +10,7 @@ use Rattle.dmatypes.specs.declared.reply.Reply.TheVariants.{Host}
 use Rattle.dmatypes.specs.History.{IsLegal, IsLegalFrom, after, after_from}
 use Rattle.dmatypes.specs.Step.{IsStep, next}
 use Rattle.dmatypes.specs.World.{World, empty}
-use Rattle.dmatypes.proofs.Histories.{after_from-push}
+use Rattle.dmatypes.proofs.histories.Entered.{after_from-push}
 use Rattle.engine.specs.Hits.{IsHitIn}
 use Rattle.engine.specs.Quarantine.{Quarantine}
 use Rattle.engine.specs.State.{State}
@@ -21,7 +21,7 @@ use Rattle.ports.proofs.Histories.{lawful_zero}
 use Rattle.ports.proofs.Staying.{keeps}
 use Rattle.unit.specs.declared.hit.Hit.{Hit}
 use Rattle.manager.specs.Words.{AreCleared}
-use Rattle.manager.proofs.ClearedRows.{TellCleared}
+use Rattle.manager.proofs.words.Cleared.{TellCleared}
 
 -- the words of the devices of these bits are 0, and all others stay
 abbrev pub AreEmptied : ℕ → List ℕ → List ℕ → Type 0

@@ -1,0 +1,9 @@
+pub mod Splitting
+pub mod Joining
+pub mod Numerals
+pub mod Binding
+pub mod Segments
+pub mod Spelled
+pub mod Said
+pub mod Digits
+pub mod Hexadecimal

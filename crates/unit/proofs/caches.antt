@@ -1,0 +1,5 @@
+pub mod Remembered
+pub mod Found
+pub mod Members
+pub mod Blocks
+pub mod Kept

@@ -1,0 +1,4 @@
+pub mod Walked
+pub mod Starts
+pub mod Reading
+pub mod Used
