@@ -115,7 +115,7 @@ impl<B: Owner> Book<B> {
     /// The share has counted no more calls than the history has, and all of them where it is the one share.
     pub fn audit(&mut self, mine: &mut Share<B>)
         ensures same { self.new ≡ self.old }
-        ensures share { mine.new.calls ≡ mine.old.calls }
+        ensures share { mine.new ≡ mine.old }
         ensures bound { mine.old.calls ≤ length self.old.history }
         ensures alone { B.shares ≡ 1 → length self.old.history ≡ mine.old.calls }
         ensures kept { IsKept B.frames B.room self.old }

@@ -15,6 +15,7 @@ ghost use Rattle.ports.specs.Lawful.{IsLawfulAfter};
 ghost use Rattle.ports.specs.Steps.{AreLawful, place_of};
 ghost use Rattle.vtdbits.specs.Translation.{target};
 ghost use Rattle.dmatypes.specs.Rights.{bits_of};
+ghost use Rattle.manager.specs.Kept.{EndsWith};
 ghost use Rattle.manager.specs.Words.{AreCleared, AreFilled, IsLastAfter};
 
 use dmatypes::{Call, Event, MOST_RECORDS, Mode, PAGE_BYTES, Page, Reply};
@@ -94,9 +95,10 @@ fn clear(desk: &mut Desk, rows: &Rows, devices: u16)
     }
 }
 
-// Fills the word of a request with fill, where it hit.
+// Fills the word of a request with fill, where it hit, once its event is the last of the history.
 fn fill(desk: &mut Desk, rows: &Rows, event: &Event, hit: Option<Hit>)
     requires rows { desk.old.rows ≡ rows.now }
+    requires entered { EndsWith desk.old.history event.now.call event.now.reply }
     requires legal { IsLegal desk.old.rows.frames desk.old.history }
     requires hit { IsHitIn (after desk.old.rows.frames desk.old.history) event.now.call event.now.reply hit }
     requires lawful { AreLawful (IsLawfulAfter desk.old.rows.frames) desk.old.history desk.old.last }

@@ -18,6 +18,3 @@ pub use owner::Owner;
 pub use port::{Port, Rows};
 pub use report::Report;
 pub use share::Share;
-
-#[cfg(test)]
-mod tests;

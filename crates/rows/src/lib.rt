@@ -3,6 +3,8 @@
 #![tactic(auto)]
 
 #[cfg(test)]
+mod managers;
+#[cfg(test)]
 mod scripts;
 #[cfg(test)]
 mod trees;

@@ -3,8 +3,8 @@
 ghost use Rattle.std.specs.Prelude.{◌≡◌, IfOk, vec_len};
 ghost use Rattle.manager.specs.Kept.{IsNamedBy};
 
-use super::*;
 use dmatypes::{Access, Call, Fault, Mode, Refusal, Reply, Whim};
+use manager::*;
 use std::alloc::{AllocError, Global};
 use std::marker::Brand;
 use std::process::Abort;

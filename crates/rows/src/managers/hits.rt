@@ -3,8 +3,8 @@
 ghost use Rattle.manager.specs.Kept.{IsNamedBy};
 
 use super::{made, map_of, request_of, seed_of};
-use crate::*;
 use dmatypes::{Access, Call, Mode, Reply};
+use manager::*;
 use std::alloc::Global;
 use std::marker::Brand;
 use std::process::Abort;

@@ -4,8 +4,8 @@
 ghost use Rattle.manager.specs.Kept.{IsNamedBy};
 
 use super::{map_of, request_of, seed_of};
-use crate::*;
 use dmatypes::{Access, Call, Fault, Mode, PAGE_BYTES, Reply};
+use manager::*;
 use std::alloc::Global;
 use std::marker::Brand;
 use std::process::Abort;
