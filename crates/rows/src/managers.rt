@@ -13,6 +13,7 @@ use std::test::Fail;
 use std::thread::{Threads, join};
 
 mod device_thread;
+mod full;
 mod hits;
 
 // The seed of a manager of this size.

@@ -12,7 +12,9 @@ use std::process::Abort;
 use std::sync::Wait;
 use std::test::Fail;
 
+mod edges;
 mod failing;
+mod hostile;
 mod lazy_rows;
 mod rows;
 

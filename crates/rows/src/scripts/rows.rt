@@ -27,20 +27,20 @@ pub(crate) fn reported<T: Wait>(
 const EMPTY_REPORT: &[u8] =
     b"events 0\nframes 64 free 0 used 0 retired\ntickets 0 open\nring 0 pending\n";
 
-const STRICT_UNMAP: &[u8] =
+pub(crate) const STRICT_UNMAP: &[u8] =
     b"domain strict\nattach 3 1\nmap 1 0x100 1 0 rw\ndma 3 0x1234 r look fill\nunmap 1 0x1000 1\ndma 3 0x1234 r look\n";
 
-const LARGE_LEAF: &[u8] = b"domain strict\nattach 3 1\nmap 1 0x400 512 9 rw\n";
+pub(crate) const LARGE_LEAF: &[u8] = b"domain strict\nattach 3 1\nmap 1 0x400 512 9 rw\n";
 
-const SPLIT_LEAF: &[u8] =
+pub(crate) const SPLIT_LEAF: &[u8] =
     b"domain strict\nattach 3 1\nmap 1 0x400 512 9 rw\ndma 3 0x201000 r look fill\nunmap 1 0x201000 1\n\
         dma 3 0x201000 r look\ndma 3 0x202000 r look\n";
 
-const BAD_RANGES: &[u8] =
+pub(crate) const BAD_RANGES: &[u8] =
     b"domain strict\nmap 1 0xffffff 1 0 r\nmap 1 0xffffff 2 0 r\nmap 1 0x100 4097 0 r\nmap 1 0x100 0 0 r\n\
         map 1 0x3f 1 0 r\nunmap 1 0x0 1\nunmap 1 0x5000 1\n";
 
-const TWO_LEAVES_SPLIT: &[u8] =
+pub(crate) const TWO_LEAVES_SPLIT: &[u8] =
     b"domain strict\nattach 3 1\nmap 1 0x400 1024 9 rw\ndma 3 0x3ff000 r look fill\nunmap 1 0x3ff000 2\n\
         dma 3 0x3ff000 r look\ndma 3 0x401000 w look\n";
 
