@@ -157,7 +157,7 @@ impl Domain {
         ensures { UnmapsStrictly (parts_of pool.old self.old iommu.old) id range (parts_of pool.new self.new iommu.new) }
     {
         let retired = self.end(pool, iommu, range);
-        iommu.invalidate_pages(id, &retired, pool, &self.tree);
+        iommu.invalidate_pages(id, &retired, pool, &self.tree, &self.space);
         release(&mut self.space, pool, iommu, id, &retired);
     }
 

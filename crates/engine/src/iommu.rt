@@ -3,7 +3,7 @@
 ghost use Rattle.std.specs.Prelude.{◌≡◌, ℕ, ◌+◌, ◌-◌, ◌<◌, ◌≤◌, ◌^◌, ◌∷◌, [], Some, replicate, slice_get, take};
 ghost use Rattle.dmatypes.specs.declared.limits.TheConstants.{DEVICES};
 ghost use Rattle.engine.specs.Ending.{Invalidates, IsSent, left_by_all};
-ghost use Rattle.engine.specs.Ready.{IsCleared, IsReady};
+ghost use Rattle.engine.specs.Ready.{IsCleared, IsReady, IsReleasable};
 ghost use Rattle.queue.specs.Ring.{ring_of};
 ghost use Rattle.queue.specs.declared.ring.TheConstants.Ring.{CAPACITY};
 ghost use Rattle.unit.specs.Caches.{nothing, unit_state};
@@ -13,6 +13,7 @@ ghost use Rattle.vtdbits.specs.declared.descriptor.Descriptor.TheVariants.{Conte
 
 use crate::record::Record;
 use crate::sending::descriptor_of;
+use iova::Space;
 use queue::Ring;
 use tables::{Pool, Tree};
 use unit::{Contexts, Unit};
@@ -55,16 +56,20 @@ impl Iommu {
 
     /// Has the unit forget the pages of a retired record, and what it remembers of the tables that were cut with them: sends
     /// the descriptor that covers them and then a wait, and runs the unit until the wait is done. Nothing waits before, and
-    /// nothing waits then. The domain's tree states none of the pages any more: a request could bring them back before.
+    /// nothing waits then. The domain's tree states none of the pages any more: a request could bring them back before. They
+    /// are still retired in its address space, and the frames that were cut with them still neither free nor used: what comes
+    /// free comes so later.
     pub(crate) fn invalidate_pages(
         &mut self,
         domain: DomainId,
         retired: &Record,
         pool: &Pool,
         tree: &Tree,
+        space: &Space,
     )
         requires ready { IsReady self.old }
         requires cleared { IsCleared pool.now tree.now.root retired.now.range }
+        requires kept { IsReleasable pool.now space.now retired.now }
         ensures { (descriptor : Descriptor) × IsSent domain retired.now.range retired.now.cut descriptor
             × Invalidates self.old descriptor self.new }
     {
