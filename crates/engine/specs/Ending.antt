@@ -99,8 +99,9 @@ abbrev pub taken_after : List Descriptor → List Descriptor → List Descriptor
 taken_after ds taken = reverse ds ++ take (CAPACITY + 1 - length ds) taken
 
 -- what waited, then the descriptor, then a wait were taken, in this order, and nothing else was; the unit has done as many
--- as were taken, each in a step of its own, with no other step, in at most `MOST_STEPS`; the row of context entries stays
-pub record Invalidates (old : Iommu) (d : Descriptor) (new : Iommu) : Type 0 where
+-- as were taken, each in a step of its own, with no other step, in at most `MOST_STEPS`; the row of context entries stays.
+-- It was sent for so many retired records, which could still be released then
+pub record Invalidates (old : Iommu) (d : Descriptor) (records : ℕ) (new : Iommu) : Type 0 where
   pub number : new.sent ≡ old.sent + 1
   pub done : new.ring ≡ ring_of [] new.sent (taken_after (old.ring.waiting ++ d ∷ Wait new.sent ∷ []) old.ring.taken)
   pub caches : new.unit.caches ≡ left_by_all (old.ring.waiting ++ d ∷ Wait new.sent ∷ []) old.unit.caches
@@ -108,6 +109,7 @@ pub record Invalidates (old : Iommu) (d : Descriptor) (new : Iommu) : Type 0 whe
   pub each : new.unit.done ≡ old.unit.done + (length old.ring.waiting + 2)
   pub few : length old.ring.waiting + 2 ≤ MOST_STEPS
   pub contexts : new.contexts ≡ old.contexts
+  pub sent_for : new.sent_for ≡ records
 
 -- ---- what comes free
 
@@ -150,13 +152,13 @@ pub record UnmapsStrictly (old : Parts) (id : ℕ) (range : Range) (new : Parts)
   pub retires : RetiresAndUnmaps old.pool old.domain retired pool_between between
   pub made : retired.sent ≡ old.iommu.sent
   pub sent : IsSent id retired.range retired.cut descriptor
-  pub invalidates : Invalidates old.iommu descriptor new.iommu
+  pub invalidates : Invalidates old.iommu descriptor 1 new.iommu
   pub releases : Releases pool_between between.space retired new.pool new.domain.space
   pub same : new.domain ≡ record between { space = new.domain.space }
 
--- all that is remembered of the domain is invalidated, all records are released, and none is left
+-- all that is remembered of the domain is invalidated for all its records, they are released, and none is left
 pub record Flushes (old : Parts) (id : ℕ) (new : Parts) : Type 0 where
-  pub invalidates : Invalidates old.iommu (IotlbDomain id) new.iommu
+  pub invalidates : Invalidates old.iommu (IotlbDomain id) (length old.domain.records) new.iommu
   pub releases : ReleasesAll old.pool old.domain.space old.domain.records new.pool new.domain.space
   pub same : new.domain ≡ record old.domain { space = new.domain.space; records = [] }
 

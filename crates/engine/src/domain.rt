@@ -183,7 +183,7 @@ impl Domain {
 
     // Room for one more record: where there is none, all go. Answers how many went.
     fn make_room(&mut self, pool: &mut Pool, iommu: &mut Iommu, id: DomainId) -> u64
-        requires can { AreReleasable pool.old self.old.space self.old.records }
+        requires can { CanUnmap pool.old self.old }
         requires made { AreMadeBefore (iommu.old.sent + 1) self.old.records }
         requires ready { IsReady iommu.old }
         ensures room { MakesRoom (parts_of pool.old self.old iommu.old) id result (parts_of pool.new self.new iommu.new) }
@@ -198,14 +198,14 @@ impl Domain {
 
     /// Has the unit forget all that it remembers of the domain, releases all its records, and answers how many.
     pub(crate) fn flush(&mut self, pool: &mut Pool, iommu: &mut Iommu, id: DomainId) -> u64
-        requires can { AreReleasable pool.old self.old.space self.old.records }
+        requires can { CanUnmap pool.old self.old }
         requires made { AreMadeBefore (iommu.old.sent + 1) self.old.records }
         requires ready { IsReady iommu.old }
         ensures flushes { Flushes (parts_of pool.old self.old iommu.old) id (parts_of pool.new self.new iommu.new) }
         ensures count { result ≡ length self.old.records }
     {
         let released = self.records.len() as u64;
-        iommu.invalidate_domain(id);
+        iommu.invalidate_domain(id, self.records.as_slice(), pool, &self.tree, &self.space);
         release_all(&mut self.space, pool, iommu, id, &mut self.records);
         released
     }

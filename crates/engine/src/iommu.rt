@@ -1,9 +1,11 @@
 //! The row of context entries, the ring and the unit that reads both, as the manager uses them.
 
-ghost use Rattle.std.specs.Prelude.{◌≡◌, ℕ, ◌+◌, ◌-◌, ◌<◌, ◌≤◌, ◌^◌, ◌∷◌, [], Some, replicate, slice_get, take};
+ghost use Rattle.std.specs.Prelude.{◌≡◌, ℕ, ◌+◌, ◌-◌, ◌<◌, ◌≤◌, ◌^◌, ◌∷◌, [], Some, length, replicate, slice_get, take};
 ghost use Rattle.dmatypes.specs.declared.limits.TheConstants.{DEVICES};
+ghost use Rattle.dmatypes.specs.declared.width.TheConstants.{LEVELS};
+ghost use Rattle.tables.specs.Pool.{IsTree};
 ghost use Rattle.engine.specs.Ending.{Invalidates, IsSent, left_by_all};
-ghost use Rattle.engine.specs.Ready.{IsCleared, IsReady, IsReleasable};
+ghost use Rattle.engine.specs.Ready.{AreReleasable, IsCleared, IsReady, IsReleasable};
 ghost use Rattle.queue.specs.Ring.{ring_of};
 ghost use Rattle.queue.specs.declared.ring.TheConstants.Ring.{CAPACITY};
 ghost use Rattle.unit.specs.Caches.{nothing, unit_state};
@@ -19,14 +21,16 @@ use tables::{Pool, Tree};
 use unit::{Contexts, Unit};
 use vtdbits::{ContextEntry, Descriptor, DeviceNumber, DomainId};
 
-/// The row of context entries, the ring of descriptors, the unit that reads both, and the number of the last wait that
-/// was sent.
+/// The row of context entries, the ring of descriptors, the unit that reads both, the number of the last wait that
+/// was sent, and how many retired records it was sent for.
 #[derive(Drop)]
 pub(crate) struct Iommu {
     pub(crate) contexts: Contexts,
     pub(crate) ring: Ring,
     pub(crate) unit: Unit,
     sent: u32,
+    // Nothing reads it but contracts: the records that were shown at the sending can't be fewer than come free behind it.
+    sent_for: u64,
 }
 
 impl Iommu {
@@ -37,6 +41,7 @@ impl Iommu {
           ring = ring_of [] 0 [];
           unit = unit_state nothing 0 0;
           sent = 0;
+          sent_for = 0;
         } }
     {
         Iommu {
@@ -44,6 +49,7 @@ impl Iommu {
             ring: Ring::new(),
             unit: Unit::new(),
             sent: 0,
+            sent_for: 0,
         }
     }
 
@@ -71,17 +77,27 @@ impl Iommu {
         requires cleared { IsCleared pool.now tree.now.root retired.now.range }
         requires kept { IsReleasable pool.now space.now retired.now }
         ensures { (descriptor : Descriptor) × IsSent domain retired.now.range retired.now.cut descriptor
-            × Invalidates self.old descriptor self.new }
+            × Invalidates self.old descriptor 1 self.new }
     {
-        self.send(descriptor_of(domain, retired.range, &retired.cut));
+        self.send(descriptor_of(domain, retired.range, &retired.cut), 1);
     }
 
-    /// Has the unit forget all that it remembers of a domain's pages and tables in the same way.
-    pub(crate) fn invalidate_domain(&mut self, domain: DomainId)
+    /// Has the unit forget all that it remembers of a domain's pages and tables in the same way, for all these retired
+    /// records of the domain. They can still be released, and its tree still stands: what comes free comes so later.
+    pub(crate) fn invalidate_domain(
+        &mut self,
+        domain: DomainId,
+        records: &[Record],
+        pool: &Pool,
+        tree: &Tree,
+        space: &Space,
+    )
         requires ready { IsReady self.old }
-        ensures { Invalidates self.old (IotlbDomain domain) self.new }
+        requires standing { IsTree pool.now LEVELS tree.now.root }
+        requires kept { AreReleasable pool.now space.now records.now }
+        ensures { Invalidates self.old (IotlbDomain domain) (length records.now) self.new }
     {
-        self.send(Descriptor::IotlbDomain(domain));
+        self.send(Descriptor::IotlbDomain(domain), records.len() as u64);
     }
 
     /// Has the unit forget the context of a device of a domain in the same way, once the row's entry of the device is
@@ -89,19 +105,21 @@ impl Iommu {
     pub(crate) fn forget_context(&mut self, domain: DomainId, device: DeviceNumber)
         requires ready { IsReady self.old }
         requires absent { slice_get self.old.contexts device ≡ Some ContextEntry.Absent }
-        ensures { Invalidates self.old (ContextDevice domain device) self.new }
+        ensures { Invalidates self.old (ContextDevice domain device) 0 self.new }
     {
-        self.send(Descriptor::ContextDevice { domain, device });
+        self.send(Descriptor::ContextDevice { domain, device }, 0);
     }
 
-    // Sends a descriptor that is no wait and then a wait, and runs the unit until the wait is done.
+    // Sends a descriptor that is no wait and then a wait, for so many retired records, and runs the unit until the wait is
+    // done.
     #[inline(always)]
-    fn send(&mut self, descriptor: Descriptor)
+    fn send(&mut self, descriptor: Descriptor, records: u64)
         requires ready { IsReady self.old }
         requires no_wait { (status : ℕ) → status_after descriptor status ≡ status }
-        ensures { Invalidates self.old descriptor self.new }
+        ensures { Invalidates self.old descriptor records self.new }
     {
         self.sent += 1;
+        self.sent_for = records;
         work_off(&mut self.ring, &mut self.unit, self.sent, descriptor);
     }
 }

@@ -19,9 +19,9 @@ use Rattle.engine.proofs.states.RecordsMade.{made_kept}
 abbrev pub changed : State → ℕ → Pool → Option Domain → Iommu → State
 changed m i pool new x = record { pool = pool; domains = slice_set m.domains i new; iommu = x; calls = m.calls + 1 }
 
-pub whole_sends : (m t : State) (call : Call) (reply : Reply) (d : Descriptor) (row : List ContextEntry) → IsWhole m.pool.frames m
+pub whole_sends : (m t : State) (call : Call) (reply : Reply) (d : Descriptor) (row : List ContextEntry) {n : ℕ} → IsWhole m.pool.frames m
     → Does m call reply t → length t.domains ≡ length m.domains → length row ≡ length m.iommu.contexts
-    → Invalidates (record m.iommu { contexts = row }) d t.iommu → IsWhole t.pool.frames t
+    → Invalidates (record m.iommu { contexts = row }) d n t.iommu → IsWhole t.pool.frames t
 whole_sends m t call reply d row whole does domains rows sends = record {
   of_world = (next whole.of_world.0 call reply, (does.steps whole.of_world.0 whole.of_world.1).1);
   places = domains ∙ whole.places;

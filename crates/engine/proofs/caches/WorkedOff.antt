@@ -120,7 +120,7 @@ first_stage d n old ring ring' unit idle later one two =
 -- ---- what is asked of whoever releases
 
 -- what was invalidated is done
-pub done_then : (old : Iommu) (d : Descriptor) (new : Iommu) → Invalidates old d new → IsDone new.ring d new.sent
+pub done_then : (old : Iommu) (d : Descriptor) (new : Iommu) {n : ℕ} → Invalidates old d n new → IsDone new.ring d new.sent
 done_then old d new sends = record {
   later = [];
   earlier = reverse old.ring.waiting ++ take (CAPACITY + 1 - length (old.ring.waiting ++ d ∷ Wait new.sent ∷ [])) old.ring.taken;
@@ -132,8 +132,8 @@ done_then old d new sends = record {
 }
 
 -- a domain's own descriptor invalidates all of its records that were made by now
-pub all_invalidated : (old new : Iommu) (domain : ℕ) (records : List Record) → AreMadeBefore (old.sent + 1) records
-    → Invalidates old (IotlbDomain domain) new → AreInvalidated new domain records
+pub all_invalidated : (old new : Iommu) (domain : ℕ) (records : List Record) {n : ℕ} → AreMadeBefore (old.sent + 1) records
+    → Invalidates old (IotlbDomain domain) n new → AreInvalidated new domain records
 all_invalidated old new domain records made sends r inside = record {
   descriptor = IotlbDomain domain;
   covers = refl;

@@ -32,8 +32,8 @@ module _ (m t : State) (w : World) (i : ℕ) (h : Domain) (v : world.Domain) (q 
   abbrev flushed_world : World
   flushed_world = record w { domains = put (i + 1) (Some (flushed v)) w.domains }
 
-  invalidates : Invalidates m.iommu (IotlbDomain (i + 1)) t.iommu
-  invalidates = subst (λ (x : Iommu). Invalidates m.iommu (IotlbDomain (i + 1)) x) (sym closes.quiet) closes.flushes.invalidates
+  invalidates : Invalidates m.iommu (IotlbDomain (i + 1)) (length h.records) t.iommu
+  invalidates = subst (λ (x : Iommu). Invalidates m.iommu (IotlbDomain (i + 1)) (length h.records) x) (sym closes.quiet) closes.flushes.invalidates
 
   purges : Purges (IotlbDomain (i + 1)) m.iommu.unit.caches t.iommu.unit.caches
   purges = purges_sent m.iommu.ring.waiting (IotlbDomain (i + 1)) t.iommu.sent m.iommu.unit.caches t.iommu.unit.caches invalidates.caches

@@ -100,7 +100,7 @@ module _ (m : State) (domain i : ℕ) (h : Domain) (pool : Pool) (x : Iommu) (wh
 
   -- the type of the state keeps what an invalidation of the domain leaves
   sends : (new : Option Domain) {call : Call} {reply : Reply} → Does m call reply (changed m i pool new x)
-      → Invalidates m.iommu (IotlbDomain domain) x → IsWhole pool.frames (changed m i pool new x)
+      → Invalidates m.iommu (IotlbDomain domain) (length h.records) x → IsWhole pool.frames (changed m i pool new x)
   sends new {call} {reply} does invalidates =
       whole_sends m (changed m i pool new x) call reply (IotlbDomain domain) m.iommu.contexts whole does (length-set m.domains i new)
       refl invalidates
@@ -160,5 +160,5 @@ module _ (m : State) (domain i : ℕ) (h : Domain) (pool : Pool) (x : Iommu) (wh
         does = drop_does;
         whole =
             sends None drop_does
-            (subst (λ (y : Iommu). Invalidates m.iommu (IotlbDomain domain) y) (sym closes.quiet) closes.flushes.invalidates);
+            (subst (λ (y : Iommu). Invalidates m.iommu (IotlbDomain domain) (length h.records) y) (sym closes.quiet) closes.flushes.invalidates);
       }

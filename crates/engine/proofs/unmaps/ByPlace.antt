@@ -106,8 +106,8 @@ module _ (m : State) (address pages i released : ℕ) (h new : Domain) (pool : P
       let flushes = empties.flushes in
       let retires : RetiresAndUnmaps does.roomy.pool (domain_after h does.roomy.domain.space []) does.retired pool does.between =
       subst (λ (d : Domain). RetiresAndUnmaps does.roomy.pool d does.retired pool does.between) flushes.same does.retires in
-      let invalidates : Invalidates m.iommu (IotlbDomain (i + 1)) x =
-      subst (λ (y : Iommu). Invalidates m.iommu (IotlbDomain (i + 1)) y) (sym does.quiet) flushes.invalidates in
+      let invalidates : Invalidates m.iommu (IotlbDomain (i + 1)) (length h.records) x =
+      subst (λ (y : Iommu). Invalidates m.iommu (IotlbDomain (i + 1)) (length h.records) y) (sym does.quiet) flushes.invalidates in
       rw empties.all (full_steps m after i address pages h does.between does.retired many less there whole fits does.of_range
       invalidates.contexts x.sent does.roomy.pool does.roomy.domain.space lazy empties.full may.0.live invalidates.caches flushes.releases
       retires
@@ -134,14 +134,15 @@ module _ (m : State) (address pages i released : ℕ) (h new : Domain) (pool : P
   -- what the type of a state keeps
   quiet_or_sent : (mode : Mode) → ByMode mode ((released ≡ 0) × UnmapsStrictly old_parts (i + 1) (range_at address pages) new_parts)
       (PutsOff old_parts (i + 1) (range_at address pages) released new_parts)
-      → (x ≡ m.iommu) ⊎ ((d : Descriptor) × Invalidates m.iommu d x)
-  quiet_or_sent Strict does = inr (does.1.descriptor, does.1.invalidates)
+      → (x ≡ m.iommu) ⊎ ((d : Descriptor) × (n : ℕ) × Invalidates m.iommu d n x)
+  quiet_or_sent Strict does = inr (does.1.descriptor, 1, does.1.invalidates)
   quiet_or_sent Lazy does = elim does.room [
     | inl has ↦ inl (does.quiet ∙ ap (λ (p : Parts). p.iommu) has.same)
     | inr empties ↦
         inr (
           IotlbDomain (i + 1),
-          subst (λ (y : Iommu). Invalidates m.iommu (IotlbDomain (i + 1)) y) (sym does.quiet) empties.flushes.invalidates,
+          length h.records,
+          subst (λ (y : Iommu). Invalidates m.iommu (IotlbDomain (i + 1)) (length h.records) y) (sym does.quiet) empties.flushes.invalidates,
         )
   ]
 
@@ -154,7 +155,7 @@ module _ (m : State) (address pages i released : ℕ) (h new : Domain) (pool : P
         (ap (λ (y : Iommu). y.ring) quiet) (ap (λ (y : Iommu). y.sent) quiet) (ap (λ (y : Iommu). y.unit.steps) quiet)
     | inr sent ↦
         whole_sends m after (calls.Unmap (i + 1) address pages) (Unmapped released) sent.0 m.iommu.contexts is (unmap_done does)
-        (length-set m.domains i (Some new)) refl sent.1
+        (length-set m.domains i (Some new)) refl sent.2
   ]
 
 -- ---- both

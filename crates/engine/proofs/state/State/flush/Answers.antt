@@ -8,7 +8,7 @@ use Rattle.engine.specs.State.{parts_in}
 use Rattle.engine.proofs.domains.OneChanged.{no_id_no_domain}
 use Rattle.engine.proofs.domains.Found.{Finds, finds, keeps_found, keeps_rooms, put_back}
 use Rattle.engine.proofs.flushes.Steps.{Did, flush_did, flush_no_domain}
-use Rattle.engine.proofs.flushes.MayRelease.{records_releasable}
+use Rattle.engine.proofs.flushes.MayRelease.{can_unmap}
 use Rattle.engine.proofs.caches.Sent.{changed}
 use Rattle.engine.proofs.states.RecordsMade.{domain_in}
 use Rattle.engine.proofs.state.State.flush.Goals as goal
@@ -39,7 +39,7 @@ flush-requires-clause-can c =
     let found =
     finds c.self.invariant.0 c.in-Some.ensures.value c.place_of.ensures.place c.place_of.ensures.low c.index_mut.ensures.value
     c.in-Some-index_mut.is in
-    records_releasable _ c.args.domain c.in-Some-index_mut.domain c.self.invariant.0.of_world c.self.invariant.0.places found.there
+    can_unmap _ c.args.domain c.in-Some-index_mut.domain c.self.invariant.0.of_world c.self.invariant.0.places found.there
 
 pub flush-requires-clause-made : goal.flush-requires-clause-made
 flush-requires-clause-made c =
