@@ -1,7 +1,7 @@
 -- How an unmap ends a range: in the tree and the address space, by what it sends to the unit, and what then comes
 -- free.
 use Rattle.std.specs.Prelude.{◌≡◌, ◌≢◌, ◌↔◌, ℕ, ◌+◌, ◌-◌, ◌<◌, ◌≤◌, ◌⊎◌, ◌++◌, Bool, true, false, IsTrue, not, ◌&&◌, List, [], ◌∷◌, length}
-use Rattle.std.specs.Prelude.{reverse, take, Some, Result, Ok, Err}
+use Rattle.std.specs.Prelude.{reverse, take, Option, Some, Result, Ok, Err}
 use Rattle.dmatypes.specs.declared.limits.TheConstants.{MOST_RECORDS, MOST_STEPS}
 use Rattle.dmatypes.specs.Block.{Block, Holds, IsAligned}
 use Rattle.dmatypes.specs.Page.{Range, IsWithin}
@@ -31,6 +31,7 @@ use Rattle.vtdbits.specs.declared.descriptor.Descriptor.TheVariants.{IotlbDomain
 use Rattle.vtdbits.specs.declared.number.TheConstants.{MOST_BLOCK_ORDER}
 use Rattle.engine.specs.declared.record.Record.{Record}
 use Rattle.engine.specs.declared.iommu.Iommu.{Iommu}
+use Rattle.engine.specs.declared.iommu.Shown.{Shown}
 use Rattle.engine.specs.Domains.{Domain, Parts, held_in}
 
 -- ---- in the tree and the address space
@@ -98,10 +99,14 @@ left_by_all (d ∷ ds) c = left_by_all ds (left_by d c)
 abbrev pub taken_after : List Descriptor → List Descriptor → List Descriptor
 taken_after ds taken = reverse ds ++ take (CAPACITY + 1 - length ds) taken
 
+-- a tree of this root, and so many records that could be released
+abbrev pub shown_of : ℕ → ℕ → Option Shown
+shown_of root records = Some (record { root = root; records = records })
+
 -- what waited, then the descriptor, then a wait were taken, in this order, and nothing else was; the unit has done as many
 -- as were taken, each in a step of its own, with no other step, in at most `MOST_STEPS`; the row of context entries stays.
--- It was sent for so many retired records, which could still be released then
-pub record Invalidates (old : Iommu) (d : Descriptor) (records : ℕ) (new : Iommu) : Type 0 where
+-- This was shown of a domain when it was sent
+pub record Invalidates (old : Iommu) (d : Descriptor) (seen : Option Shown) (new : Iommu) : Type 0 where
   pub number : new.sent ≡ old.sent + 1
   pub done : new.ring ≡ ring_of [] new.sent (taken_after (old.ring.waiting ++ d ∷ Wait new.sent ∷ []) old.ring.taken)
   pub caches : new.unit.caches ≡ left_by_all (old.ring.waiting ++ d ∷ Wait new.sent ∷ []) old.unit.caches
@@ -109,7 +114,7 @@ pub record Invalidates (old : Iommu) (d : Descriptor) (records : ℕ) (new : Iom
   pub each : new.unit.done ≡ old.unit.done + (length old.ring.waiting + 2)
   pub few : length old.ring.waiting + 2 ≤ MOST_STEPS
   pub contexts : new.contexts ≡ old.contexts
-  pub sent_for : new.sent_for ≡ records
+  pub shown : new.shown ≡ seen
 
 -- ---- what comes free
 
@@ -152,13 +157,14 @@ pub record UnmapsStrictly (old : Parts) (id : ℕ) (range : Range) (new : Parts)
   pub retires : RetiresAndUnmaps old.pool old.domain retired pool_between between
   pub made : retired.sent ≡ old.iommu.sent
   pub sent : IsSent id retired.range retired.cut descriptor
-  pub invalidates : Invalidates old.iommu descriptor 1 new.iommu
+  pub invalidates : Invalidates old.iommu descriptor (shown_of old.domain.root 1) new.iommu
   pub releases : Releases pool_between between.space retired new.pool new.domain.space
   pub same : new.domain ≡ record between { space = new.domain.space }
 
--- all that is remembered of the domain is invalidated for all its records, they are released, and none is left
+-- all that is remembered of the domain is invalidated, with its tree and all its records shown; these are released, and
+-- none is left
 pub record Flushes (old : Parts) (id : ℕ) (new : Parts) : Type 0 where
-  pub invalidates : Invalidates old.iommu (IotlbDomain id) (length old.domain.records) new.iommu
+  pub invalidates : Invalidates old.iommu (IotlbDomain id) (shown_of old.domain.root (length old.domain.records)) new.iommu
   pub releases : ReleasesAll old.pool old.domain.space old.domain.records new.pool new.domain.space
   pub same : new.domain ≡ record old.domain { space = new.domain.space; records = [] }
 

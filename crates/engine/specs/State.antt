@@ -48,7 +48,7 @@ pub record IsNew (frames : ℕ) (m : State) : Type 0 where
   pub unit_is : m.iommu.unit ≡ unit_state nothing 0 0
   pub sent_is : m.iommu.sent ≡ 0
   pub calls_are : m.calls ≡ 0
-  pub sent_for_is : m.iommu.sent_for ≡ 0
+  pub shown_is : m.iommu.shown ≡ None
 
 -- a map takes the lowest start
 abbrev pub IsExactMap : State → ℕ → List Segment → ℕ → Reply → Type 0
@@ -133,7 +133,7 @@ Becomes m (calls.Drop domain) Done t =
     × Closes (parts_in m old) domain t.pool t.iommu × (t ≡ with_domain m domain None t)
 Becomes m (calls.Detach device) Done t =
     (domain : ℕ) × (root : ℕ) × (slice_get m.iommu.contexts device ≡ Some (Present root W39 domain))
-    × Invalidates (record m.iommu { contexts = slice_set m.iommu.contexts device Absent }) (ContextDevice domain device) 0 t.iommu
+    × Invalidates (record m.iommu { contexts = slice_set m.iommu.contexts device Absent }) (ContextDevice domain device) None t.iommu
     × (t ≡ record m { iommu = t.iommu; calls = m.calls + 1 })
 Becomes m (calls.Map domain frame pages order rights) (Mapped address) t =
     BecomesMapped m domain

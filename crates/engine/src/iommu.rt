@@ -1,10 +1,10 @@
 //! The row of context entries, the ring and the unit that reads both, as the manager uses them.
 
-ghost use Rattle.std.specs.Prelude.{◌≡◌, ℕ, ◌+◌, ◌-◌, ◌<◌, ◌≤◌, ◌^◌, ◌∷◌, [], Some, length, replicate, slice_get, take};
+ghost use Rattle.std.specs.Prelude.{◌≡◌, ℕ, ◌+◌, ◌-◌, ◌<◌, ◌≤◌, ◌^◌, ◌∷◌, [], None, Some, length, replicate, slice_get, take};
 ghost use Rattle.dmatypes.specs.declared.limits.TheConstants.{DEVICES};
 ghost use Rattle.dmatypes.specs.declared.width.TheConstants.{LEVELS};
 ghost use Rattle.tables.specs.Pool.{IsTree};
-ghost use Rattle.engine.specs.Ending.{Invalidates, IsSent, left_by_all};
+ghost use Rattle.engine.specs.Ending.{Invalidates, IsSent, left_by_all, shown_of};
 ghost use Rattle.engine.specs.Ready.{AreReleasable, IsCleared, IsReady, IsReleasable};
 ghost use Rattle.queue.specs.Ring.{ring_of};
 ghost use Rattle.queue.specs.declared.ring.TheConstants.Ring.{CAPACITY};
@@ -15,6 +15,7 @@ ghost use Rattle.vtdbits.specs.declared.descriptor.Descriptor.TheVariants.{Conte
 
 use crate::record::Record;
 use crate::sending::descriptor_of;
+use dmatypes::Frame;
 use iova::Space;
 use queue::Ring;
 use tables::{Pool, Tree};
@@ -22,15 +23,23 @@ use unit::{Contexts, Unit};
 use vtdbits::{ContextEntry, Descriptor, DeviceNumber, DomainId};
 
 /// The row of context entries, the ring of descriptors, the unit that reads both, the number of the last wait that
-/// was sent, and how many retired records it was sent for.
+/// was sent, and what was shown of a domain then.
 #[derive(Drop)]
 pub(crate) struct Iommu {
     pub(crate) contexts: Contexts,
     pub(crate) ring: Ring,
     pub(crate) unit: Unit,
     sent: u32,
-    // Nothing reads it but contracts: the records that were shown at the sending can't be fewer than come free behind it.
-    sent_for: u64,
+    // Only contracts read it: what was shown is what comes free behind the sending, and not before. Nothing is shown where
+    // a context is forgotten.
+    shown: Option<Shown>,
+}
+
+/// What is shown of a domain when it has pages and tables forgotten: the root of its tree, and how many of its records.
+#[derive(Clone, Copy)]
+pub(crate) struct Shown {
+    root: Frame,
+    records: u64,
 }
 
 impl Iommu {
@@ -41,7 +50,7 @@ impl Iommu {
           ring = ring_of [] 0 [];
           unit = unit_state nothing 0 0;
           sent = 0;
-          sent_for = 0;
+          shown = None;
         } }
     {
         Iommu {
@@ -49,7 +58,7 @@ impl Iommu {
             ring: Ring::new(),
             unit: Unit::new(),
             sent: 0,
-            sent_for: 0,
+            shown: None,
         }
     }
 
@@ -77,9 +86,16 @@ impl Iommu {
         requires cleared { IsCleared pool.now tree.now.root retired.now.range }
         requires kept { IsReleasable pool.now space.now retired.now }
         ensures { (descriptor : Descriptor) × IsSent domain retired.now.range retired.now.cut descriptor
-            × Invalidates self.old descriptor 1 self.new }
+            × Invalidates self.old descriptor (shown_of tree.now.root 1) self.new }
     {
-        self.send(descriptor_of(domain, retired.range, &retired.cut), 1);
+        let shown = Shown {
+            root: tree.root(),
+            records: 1,
+        };
+        self.send(
+            descriptor_of(domain, retired.range, &retired.cut),
+            Some(shown),
+        );
     }
 
     /// Has the unit forget all that it remembers of a domain's pages and tables in the same way, for all these retired
@@ -95,9 +111,13 @@ impl Iommu {
         requires ready { IsReady self.old }
         requires standing { IsTree pool.now LEVELS tree.now.root }
         requires kept { AreReleasable pool.now space.now records.now }
-        ensures { Invalidates self.old (IotlbDomain domain) (length records.now) self.new }
+        ensures { Invalidates self.old (IotlbDomain domain) (shown_of tree.now.root (length records.now)) self.new }
     {
-        self.send(Descriptor::IotlbDomain(domain), records.len() as u64);
+        let shown = Shown {
+            root: tree.root(),
+            records: records.len() as u64,
+        };
+        self.send(Descriptor::IotlbDomain(domain), Some(shown));
     }
 
     /// Has the unit forget the context of a device of a domain in the same way, once the row's entry of the device is
@@ -105,21 +125,20 @@ impl Iommu {
     pub(crate) fn forget_context(&mut self, domain: DomainId, device: DeviceNumber)
         requires ready { IsReady self.old }
         requires absent { slice_get self.old.contexts device ≡ Some ContextEntry.Absent }
-        ensures { Invalidates self.old (ContextDevice domain device) 0 self.new }
+        ensures { Invalidates self.old (ContextDevice domain device) None self.new }
     {
-        self.send(Descriptor::ContextDevice { domain, device }, 0);
+        self.send(Descriptor::ContextDevice { domain, device }, None);
     }
 
-    // Sends a descriptor that is no wait and then a wait, for so many retired records, and runs the unit until the wait is
-    // done.
+    // Sends a descriptor that is no wait and then a wait, and runs the unit until the wait is done.
     #[inline(always)]
-    fn send(&mut self, descriptor: Descriptor, records: u64)
+    fn send(&mut self, descriptor: Descriptor, shown: Option<Shown>)
         requires ready { IsReady self.old }
         requires no_wait { (status : ℕ) → status_after descriptor status ≡ status }
-        ensures { Invalidates self.old descriptor records self.new }
+        ensures { Invalidates self.old descriptor shown self.new }
     {
         self.sent += 1;
-        self.sent_for = records;
+        self.shown = shown;
         work_off(&mut self.ring, &mut self.unit, self.sent, descriptor);
     }
 }

@@ -9,6 +9,7 @@ use Rattle.vtdbits.specs.declared.descriptor.Descriptor.{Descriptor}
 use Rattle.engine.specs.Ending.{Invalidates}
 use Rattle.tables.specs.Pool.{Pool}
 use Rattle.engine.specs.declared.iommu.Iommu.{Iommu}
+use Rattle.engine.specs.declared.iommu.Shown.{Shown}
 use Rattle.engine.specs.Domains.{Domain}
 use Rattle.engine.specs.State.{State}
 use Rattle.engine.specs.Steps.{Does}
@@ -19,9 +20,9 @@ use Rattle.engine.proofs.states.RecordsMade.{made_kept}
 abbrev pub changed : State → ℕ → Pool → Option Domain → Iommu → State
 changed m i pool new x = record { pool = pool; domains = slice_set m.domains i new; iommu = x; calls = m.calls + 1 }
 
-pub whole_sends : (m t : State) (call : Call) (reply : Reply) (d : Descriptor) (row : List ContextEntry) {n : ℕ} → IsWhole m.pool.frames m
+pub whole_sends : (m t : State) (call : Call) (reply : Reply) (d : Descriptor) (row : List ContextEntry) {seen : Option Shown} → IsWhole m.pool.frames m
     → Does m call reply t → length t.domains ≡ length m.domains → length row ≡ length m.iommu.contexts
-    → Invalidates (record m.iommu { contexts = row }) d n t.iommu → IsWhole t.pool.frames t
+    → Invalidates (record m.iommu { contexts = row }) d seen t.iommu → IsWhole t.pool.frames t
 whole_sends m t call reply d row whole does domains rows sends = record {
   of_world = (next whole.of_world.0 call reply, (does.steps whole.of_world.0 whole.of_world.1).1);
   places = domains ∙ whole.places;

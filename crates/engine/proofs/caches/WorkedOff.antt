@@ -1,6 +1,6 @@
 -- The unit works off a descriptor and a wait, and what was ended may then be released.
 use Rattle.std.proofs.Common.{◌≡◌, ℕ, ◌+◌, ◌-◌, ◌<◌, ◌≤◌, ◌⊎◌, inl, inr, List, [], ◌∷◌, ◌++◌, length, reverse, take, refl, sym, ap, ap₂}
-use Rattle.std.proofs.Common.{lit≤, ◌∙◌, arith}
+use Rattle.std.proofs.Common.{lit≤, Option, ◌∙◌, arith}
 use Rattle.std.proofs.lemmas.List.{reverse-append, take-take}
 use Rattle.std.specs.Prelude.{Result, Ok, Err, IsErr, OnOk}
 use Rattle.queue.specs.Ring.{Ring, ring_of, with_last}
@@ -10,6 +10,7 @@ use Rattle.unit.specs.Filters.{after_first, done_after, left_by, left_by_first, 
 use Rattle.vtdbits.specs.declared.descriptor.Descriptor.{Descriptor}
 use Rattle.vtdbits.specs.declared.descriptor.Descriptor.TheVariants.{IotlbDomain, Wait}
 use Rattle.engine.specs.declared.iommu.Iommu.{Iommu}
+use Rattle.engine.specs.declared.iommu.Shown.{Shown}
 use Rattle.engine.specs.Domains.{AreMadeBefore}
 use Rattle.engine.specs.Ending.{Invalidates, IsSent, left_by_all}
 use Rattle.engine.specs.Ready.{AreInvalidated, Covers, IsDone}
@@ -120,7 +121,7 @@ first_stage d n old ring ring' unit idle later one two =
 -- ---- what is asked of whoever releases
 
 -- what was invalidated is done
-pub done_then : (old : Iommu) (d : Descriptor) (new : Iommu) {n : ℕ} → Invalidates old d n new → IsDone new.ring d new.sent
+pub done_then : (old : Iommu) (d : Descriptor) (new : Iommu) {seen : Option Shown} → Invalidates old d seen new → IsDone new.ring d new.sent
 done_then old d new sends = record {
   later = [];
   earlier = reverse old.ring.waiting ++ take (CAPACITY + 1 - length (old.ring.waiting ++ d ∷ Wait new.sent ∷ [])) old.ring.taken;
@@ -132,8 +133,8 @@ done_then old d new sends = record {
 }
 
 -- a domain's own descriptor invalidates all of its records that were made by now
-pub all_invalidated : (old new : Iommu) (domain : ℕ) (records : List Record) {n : ℕ} → AreMadeBefore (old.sent + 1) records
-    → Invalidates old (IotlbDomain domain) n new → AreInvalidated new domain records
+pub all_invalidated : (old new : Iommu) (domain : ℕ) (records : List Record) {seen : Option Shown} → AreMadeBefore (old.sent + 1) records
+    → Invalidates old (IotlbDomain domain) seen new → AreInvalidated new domain records
 all_invalidated old new domain records made sends r inside = record {
   descriptor = IotlbDomain domain;
   covers = refl;

@@ -106,7 +106,7 @@ detached m x = record m { iommu = x; calls = m.calls + 1 }
 
 pub detach_does : (m : State) (device root domain : ℕ) (x : Iommu) → device < DEVICES → length m.iommu.contexts ≡ DEVICES
     → slice_get m.iommu.contexts device ≡ Some (Present root W39 domain)
-    → Invalidates (record m.iommu { contexts = slice_set m.iommu.contexts device Absent }) (ContextDevice domain device) 0 x
+    → Invalidates (record m.iommu { contexts = slice_set m.iommu.contexts device Absent }) (ContextDevice domain device) None x
     → Does m (calls.Detach device) Done (detached m x)
 unfolding Exact Becomes IsStep Stands Answers next
 detach_does m device root domain x small many at invalidates = record {

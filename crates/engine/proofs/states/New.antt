@@ -119,7 +119,7 @@ pub new_state : ℕ → State
 new_state frames = record {
   pool = record { words = replicate (frames * TABLE_ENTRIES) 0; free = frames_up frames; frames = frames };
   domains = replicate MOST_DOMAINS None;
-  iommu = record { contexts = replicate DEVICES Absent; ring = ring_of [] 0 []; unit = unit_state nothing 0 0; sent = 0; sent_for = 0 };
+  iommu = record { contexts = replicate DEVICES Absent; ring = ring_of [] 0 []; unit = unit_state nothing 0 0; sent = 0; shown = None };
   calls = 0;
 }
 
@@ -136,6 +136,6 @@ new_is_new frames = record {
   ring_is = refl;
   unit_is = refl;
   sent_is = refl;
-  sent_for_is = refl;
+  shown_is = refl;
   calls_are = refl;
 }

@@ -12,9 +12,10 @@ use Rattle.dmatypes.specs.Conditions.{IsBadUnmap}
 use Rattle.dmatypes.specs.Page.{IsPageRange, range_at}
 use Rattle.tables.specs.Pool.{Pool}
 use Rattle.engine.specs.declared.iommu.Iommu.{Iommu}
+use Rattle.engine.specs.declared.iommu.Shown.{Shown}
 use Rattle.vtdbits.specs.declared.descriptor.Descriptor.{Descriptor}
 use Rattle.vtdbits.specs.declared.descriptor.Descriptor.TheVariants.{IotlbDomain}
-use Rattle.engine.specs.Ending.{ByMode, Invalidates, IsJudgedEnd, IsUnmapped, MakesRoom, PutsOff, RetiresAndUnmaps, UnmapsStrictly}
+use Rattle.engine.specs.Ending.{ByMode, Invalidates, IsJudgedEnd, IsUnmapped, MakesRoom, PutsOff, RetiresAndUnmaps, UnmapsStrictly, shown_of}
 use Rattle.engine.specs.Domains.{Domain, Parts, domain_at, parts_of}
 use Rattle.engine.specs.State.{Becomes, Exact, State, parts_in, unmapped_reply}
 use Rattle.engine.specs.Steps.{Does, Steps}
@@ -106,8 +107,8 @@ module _ (m : State) (address pages i released : ℕ) (h new : Domain) (pool : P
       let flushes = empties.flushes in
       let retires : RetiresAndUnmaps does.roomy.pool (domain_after h does.roomy.domain.space []) does.retired pool does.between =
       subst (λ (d : Domain). RetiresAndUnmaps does.roomy.pool d does.retired pool does.between) flushes.same does.retires in
-      let invalidates : Invalidates m.iommu (IotlbDomain (i + 1)) (length h.records) x =
-      subst (λ (y : Iommu). Invalidates m.iommu (IotlbDomain (i + 1)) (length h.records) y) (sym does.quiet) flushes.invalidates in
+      let invalidates : Invalidates m.iommu (IotlbDomain (i + 1)) (shown_of h.root (length h.records)) x =
+      subst (λ (y : Iommu). Invalidates m.iommu (IotlbDomain (i + 1)) (shown_of h.root (length h.records)) y) (sym does.quiet) flushes.invalidates in
       rw empties.all (full_steps m after i address pages h does.between does.retired many less there whole fits does.of_range
       invalidates.contexts x.sent does.roomy.pool does.roomy.domain.space lazy empties.full may.0.live invalidates.caches flushes.releases
       retires
@@ -134,15 +135,15 @@ module _ (m : State) (address pages i released : ℕ) (h new : Domain) (pool : P
   -- what the type of a state keeps
   quiet_or_sent : (mode : Mode) → ByMode mode ((released ≡ 0) × UnmapsStrictly old_parts (i + 1) (range_at address pages) new_parts)
       (PutsOff old_parts (i + 1) (range_at address pages) released new_parts)
-      → (x ≡ m.iommu) ⊎ ((d : Descriptor) × (n : ℕ) × Invalidates m.iommu d n x)
-  quiet_or_sent Strict does = inr (does.1.descriptor, 1, does.1.invalidates)
+      → (x ≡ m.iommu) ⊎ ((d : Descriptor) × (seen : Option Shown) × Invalidates m.iommu d seen x)
+  quiet_or_sent Strict does = inr (does.1.descriptor, shown_of h.root 1, does.1.invalidates)
   quiet_or_sent Lazy does = elim does.room [
     | inl has ↦ inl (does.quiet ∙ ap (λ (p : Parts). p.iommu) has.same)
     | inr empties ↦
         inr (
           IotlbDomain (i + 1),
-          length h.records,
-          subst (λ (y : Iommu). Invalidates m.iommu (IotlbDomain (i + 1)) (length h.records) y) (sym does.quiet) empties.flushes.invalidates,
+          shown_of h.root (length h.records),
+          subst (λ (y : Iommu). Invalidates m.iommu (IotlbDomain (i + 1)) (shown_of h.root (length h.records)) y) (sym does.quiet) empties.flushes.invalidates,
         )
   ]
 

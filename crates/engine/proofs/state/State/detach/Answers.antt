@@ -1,4 +1,4 @@
-use Rattle.std.proofs.Common.{arith, ◌≡◌, ◌≤◌, ◌<◌, ◌∙◌, ⊎_elim, List, Some, ap, refl, slice_get, slice_set, subst}
+use Rattle.std.proofs.Common.{arith, ◌≡◌, ◌≤◌, ◌<◌, ◌∙◌, ⊎_elim, List, None, Some, ap, refl, slice_get, slice_set, subst}
 use Rattle.std.proofs.lemmas.Bool.{cases_lt}
 use Rattle.std.proofs.lemmas.List.{length-set}
 use Rattle.dmatypes.specs.declared.call.Call.TheVariants as calls
@@ -33,10 +33,10 @@ returns-in_default-get c =
 abbrev cleared : goal.After-forget_context → Iommu
 cleared c = record c.self.inside.iommu { contexts = slice_set c.self.inside.iommu.contexts c.args.device Absent }
 
-sent : (c : goal.After-forget_context) → Invalidates (cleared c) (ContextDevice c.in-Present.domain c.args.device) 0 c.forget_context.new.self
+sent : (c : goal.After-forget_context) → Invalidates (cleared c) (ContextDevice c.in-Present.domain c.args.device) None c.forget_context.new.self
 sent c =
     subst (λ (row : List ContextEntry).
-    Invalidates (record c.self.inside.iommu { contexts = row }) (ContextDevice c.in-Present.domain c.args.device) 0
+    Invalidates (record c.self.inside.iommu { contexts = row }) (ContextDevice c.in-Present.domain c.args.device) None
     c.forget_context.new.self)
     c.clear.ensures (rw (← c.in-Some.ensures.value) c.forget_context.ensures)
 

@@ -20,7 +20,7 @@ is_new c = record {
   ring_is = ap (λ (x : Iommu). x.ring) c.new-2.ensures;
   unit_is = ap (λ (x : Iommu). x.unit) c.new-2.ensures;
   sent_is = ap (λ (x : Iommu). x.sent) c.new-2.ensures;
-  sent_for_is = ap (λ (x : Iommu). x.sent_for) c.new-2.ensures;
+  shown_is = ap (λ (x : Iommu). x.shown) c.new-2.ensures;
   calls_are = refl;
 }
 
