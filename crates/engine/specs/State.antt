@@ -1,6 +1,6 @@
 -- What contracts see of the state.
 use Rattle.std.specs.Prelude.{◌≡◌, ℕ, ◌+◌, ◌-◌, ◌/◌, ◌<◌, ◌≤◌, List, [], replicate, IsSomeAnd, Option, None, Some, length, slice_get}
-use Rattle.std.specs.Prelude.{slice_set, Result, Ok, Err}
+use Rattle.std.specs.Prelude.{slice_set, Result, Ok, Err, IfOk, IsTrue}
 use Rattle.dmatypes.specs.declared.call.Call.{Call}
 use Rattle.dmatypes.specs.declared.call.Call.TheVariants as calls
 use Rattle.dmatypes.specs.declared.refusal.Fault.{Fault}
@@ -14,7 +14,7 @@ use Rattle.dmatypes.specs.declared.width.Width.TheVariants.{W39}
 use Rattle.queue.specs.Ring.{ring_of}
 use Rattle.tables.specs.Pool.{Pool, memory, occurs, IsZeroed}
 use Rattle.tables.specs.Tree.{one_if_same}
-use Rattle.unit.specs.Answers.{Answers}
+use Rattle.unit.specs.Answers.{Answers, IsRemembered}
 use Rattle.unit.specs.Caches.{nothing, unit_state, without}
 use Rattle.unit.specs.declared.hit.Hit.{Hit}
 use Rattle.vtdbits.specs.declared.context.ContextEntry.TheVariants.{Absent, Present}
@@ -116,8 +116,8 @@ parts_in m domain = parts_of m.pool domain m.iommu
 
 -- what becomes of the state: a new domain has a whole space and an empty tree, an attached device its entry, and a
 -- detached one none; a drop, a flush and an unmap change their domain, the table frames and the IOMMU, an unmap as it ends
--- its range by the domain's mode; a request and an eviction what the unit remembers; nothing else changes, but for the
--- count of calls
+-- its range by the domain's mode; a request and an eviction what the unit remembers, and with a fill a context and a leaf
+-- that state a request's answer are remembered then; nothing else changes, but for the count of calls
 unfoldable pub Becomes : State → Call → Reply → State → Type 0
 Becomes m (calls.Domain mode) (Made d) t =
     (root : ℕ) × TakesRoot m.pool t.pool root
@@ -152,6 +152,7 @@ Becomes m (calls.Dma device address access whim) reply t =
     (answer : Result Hit Fault) × (reply ≡ reached_reply (host_in answer))
     × Answers (memory m.pool.words) m.iommu.contexts whim.look whim.fill device address access
     m.iommu.unit.caches t.iommu.unit.caches answer
+    × (IsTrue whim.fill → IfOk answer (IsRemembered t.iommu.unit.caches device address))
     × (t ≡ record m {
       iommu = record m.iommu { unit = unit_state t.iommu.unit.caches m.iommu.unit.steps m.iommu.unit.done };
       calls = m.calls + 1;

@@ -1,6 +1,6 @@
 -- A device's request is a step of the model, and keeps the quarantine.
 use Rattle.std.proofs.Common.{◌≡◌, ℕ, ◌+◌, ◌<◌, ◌≤◌, inl, inr, None, Some, refl, sym, ap, subst, arith, slice_get}
-use Rattle.std.specs.Prelude.{IfOk, Result, Ok, Err}
+use Rattle.std.specs.Prelude.{IfOk, IsTrue, Result, Ok, Err}
 use Rattle.dmatypes.specs.Allows.{Allows, AllowsTo, domain_of_device}
 use Rattle.dmatypes.specs.Conditions.{Stands}
 use Rattle.dmatypes.specs.Page.{IsInWindow}
@@ -16,7 +16,7 @@ use Rattle.dmatypes.specs.declared.refusal.Refusal.{Refusal}
 use Rattle.dmatypes.specs.declared.reply.Reply.{Reply}
 use Rattle.dmatypes.specs.declared.width.Width.TheVariants.{W39}
 use Rattle.tables.specs.Pool.{memory}
-use Rattle.unit.specs.Answers.{Answers}
+use Rattle.unit.specs.Answers.{Answers, IsRemembered}
 use Rattle.unit.specs.Caches.{Caches, CachedContext, unit_state}
 use Rattle.unit.specs.declared.hit.Hit.{Hit}
 use Rattle.vtdbits.specs.declared.context.ContextEntry.TheVariants.{Present}
@@ -72,19 +72,21 @@ exact_request m device address access whim (Err fault) = tt
 
 becomes_request : (m t : State) (device address : ℕ) (access : Access) (whim : Whim) (answer : Result Hit Fault)
     → Answers (memory m.pool.words) m.iommu.contexts whim.look whim.fill device address access m.iommu.unit.caches t.iommu.unit.caches
-    answer → t ≡ remembering m t.iommu.unit.caches m.iommu.unit.steps m.iommu.unit.done (m.calls + 1)
+    answer → (IsTrue whim.fill → IfOk answer (IsRemembered t.iommu.unit.caches device address))
+    → t ≡ remembering m t.iommu.unit.caches m.iommu.unit.steps m.iommu.unit.done (m.calls + 1)
     → Becomes m (calls.Dma device address access whim) (reached_reply (host_in answer)) t
 unfolding Becomes
-becomes_request m t device address access whim (Ok hit) answers is = (Ok hit, refl, answers, is)
-becomes_request m t device address access whim (Err fault) answers is = (Err fault, refl, answers, is)
+becomes_request m t device address access whim (Ok hit) answers filled is = (Ok hit, refl, answers, filled, is)
+becomes_request m t device address access whim (Err fault) answers filled is = (Err fault, refl, answers, filled, is)
 
 -- a request to the unit does what a request does
 pub request_does : (m t : State) (device address : ℕ) (access : Access) (whim : Whim) (answer : Result Hit Fault) → device < DEVICES
     → (IsInWindow address → ⊥)
     → Answers (memory m.pool.words) m.iommu.contexts whim.look whim.fill device address access m.iommu.unit.caches t.iommu.unit.caches
-    answer → t ≡ remembering m t.iommu.unit.caches m.iommu.unit.steps m.iommu.unit.done (m.calls + 1)
+    answer → (IsTrue whim.fill → IfOk answer (IsRemembered t.iommu.unit.caches device address))
+    → t ≡ remembering m t.iommu.unit.caches m.iommu.unit.steps m.iommu.unit.done (m.calls + 1)
     → Does m (calls.Dma device address access whim) (reached_reply (host_in answer)) t
-request_does m t device address access whim answer small outside answers is = record {
+request_does m t device address access whim answer small outside answers filled is = record {
   steps = λ w q. (
     step_of w device address access whim answer small outside
         (request_allowed m w q whim.look whim.fill device address access t.iommu.unit.caches answer answers),
@@ -95,7 +97,7 @@ request_does m t device address access whim answer small outside answers is = re
         (request_contexts m w q whim.look whim.fill device address access t.iommu.unit.caches answer answers))),
   );
   exact = exact_request m device address access whim answer;
-  becomes = becomes_request m t device address access whim answer answers is;
+  becomes = becomes_request m t device address access whim answer answers filled is;
   calls = ap (λ (s : State). s.calls) is;
 }
 

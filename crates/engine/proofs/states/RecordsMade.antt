@@ -121,7 +121,7 @@ made_kept m t (calls.Unmap domain address pages) (Unmapped released) (h, new, th
 made_kept m t (calls.Unmap domain address pages) _ is later made = same_made m t later made (ap (λ (x : State). x.domains) is)
 made_kept m t (calls.Dma device address access whim) (Refused refusal) is later made =
     same_made m t later made (ap (λ (x : State). x.domains) is)
-made_kept m t (calls.Dma device address access whim) _ (answer, reached, answers, is) later made =
+made_kept m t (calls.Dma device address access whim) _ (answer, reached, answers, filled, is) later made =
     same_made m t later made (ap (λ (x : State). x.domains) is)
 made_kept m t (calls.Evict kind place) Done is later made = same_made m t later made (ap (λ (x : State). x.domains) is)
 made_kept m t (calls.Evict kind place) _ is later made = same_made m t later made (ap (λ (x : State). x.domains) is)

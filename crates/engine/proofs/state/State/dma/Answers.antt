@@ -39,7 +39,7 @@ does c =
     λ inside. let both : true ≡ false = sym (c.is_in_window.ensures.1 inside) ∙ c.if-is_in_window.false in cc in
     request_does (the_view c.self.inside) (after c) c.args.device c.args.address c.args.access c.args.whim c.dma-answer.result
     c.if-device-ge-DEVICES.false
-    outside c.dma-answer.ensures.answers (ap₂ (λ steps done.
+    outside c.dma-answer.ensures.answers c.dma-answer.ensures.remembered (ap₂ (λ steps done.
     record (the_view c.self.inside) {
       iommu = record c.self.inside.iommu { unit = unit_state c.dma-answer.new.self.caches steps done };
       calls = c.self.inside.calls + 1;
