@@ -1,6 +1,6 @@
 -- Flushes and drops: how they are refused, and what they change.
 use Rattle.std.proofs.Common.{◌≡◌, ℕ, ◌+◌, ◌-◌, ◌<◌, inl, inr, [], ◌∷◌, ◌++◌, length, Option, Some, None, refl, sym, ap, subst, ◌∙◌, arith}
-use Rattle.std.proofs.Common.{slice_get, slice_set}
+use Rattle.std.proofs.Common.{slice_get, slice_set, IsNone}
 use Rattle.std.proofs.lemmas.List.{length-set}
 use Rattle.std.proofs.lemmas.Option.{same_Some}
 use Rattle.dmatypes.specs.declared.width.Width.TheVariants.{W39}
@@ -34,27 +34,22 @@ use Rattle.engine.proofs.unmaps.Steps.{records_count}
 
 -- ---- refused
 
+-- of a flush and of a drop alike
+no_domain : (m : State) (domain : ℕ) → domain_at m.domains domain ≡ None → (w : World) → Quarantine m w → IsNone (w.domains domain)
+no_domain m domain none w q =
+    is_none (w.domains domain) (both_absent m.pool.words (domain_at m.domains domain) (w.domains domain) (q.domains domain) none)
+
 pub flush_no_domain : (m t : State) (domain : ℕ) → t ≡ counted m → domain_at m.domains domain ≡ None
     → Does m (calls.Flush domain) (Refused refusals.NoDomain) t
 unfolding Exact IsStep Stands
-flush_no_domain m t domain is none = refuses m t (calls.Flush domain) refusals.NoDomain is tt
-    (λ w q.
-    inl (inl (
-      is_none (w.domains domain)
-          (both_absent m.pool.words (domain_at m.domains domain) (w.domains domain) (q.domains domain) none),
-      refl,
-    )))
+flush_no_domain m t domain is none =
+    refuses m t (calls.Flush domain) refusals.NoDomain is tt (λ w q. inl (inl (no_domain m domain none w q, refl)))
 
 pub drop_no_domain : (m t : State) (domain : ℕ) → t ≡ counted m → domain_at m.domains domain ≡ None
     → Does m (calls.Drop domain) (Refused refusals.NoDomain) t
 unfolding Exact IsStep Stands
-drop_no_domain m t domain is none = refuses m t (calls.Drop domain) refusals.NoDomain is tt
-    (λ w q.
-    inl (inl (
-      is_none (w.domains domain)
-          (both_absent m.pool.words (domain_at m.domains domain) (w.domains domain) (q.domains domain) none),
-      refl,
-    )))
+drop_no_domain m t domain is none =
+    refuses m t (calls.Drop domain) refusals.NoDomain is tt (λ w q. inl (inl (no_domain m domain none w q, refl)))
 
 pub drop_busy : (m t : State) (domain : ℕ) (h : Domain) → t ≡ counted m → domain_at m.domains domain ≡ Some h
     → ((v : ℕ) × (attached (slice_get m.iommu.contexts v) ≡ Some domain)) → Does m (calls.Drop domain) (Refused refusals.Busy) t
