@@ -15,7 +15,8 @@ use Rattle.engine.specs.Domains.{Domain, domain_at}
 use Rattle.engine.specs.State.{State, Exact, Becomes}
 use Rattle.engine.specs.Quarantine.{Attaches, attached}
 use Rattle.engine.specs.Steps.{Does}
-use Rattle.engine.proofs.lists.Places.{get_set, get_set_other, put_same, put_other, same_or_not, is_none, is_some, not_none, not_some}
+use Rattle.dmatypes.proofs.histories.Maps.{put_same, put_other, same_or_not}
+use Rattle.engine.proofs.lists.Places.{get_set, get_set_other, is_none, is_some, not_none, not_some}
 use Rattle.engine.proofs.domains.OneChanged.{both_absent, both_there}
 use Rattle.engine.proofs.states.Refused.{counted, refuses}
 use Rattle.dmatypes.specs.declared.limits.TheConstants.{DEVICES}

@@ -3,7 +3,7 @@ use Rattle.std.proofs.Common.{◌≡◌, ◌<◌, ◌≤◌, ◌+◌, ◌*◌, �
 use Rattle.std.specs.Int.{bit_at}
 use Rattle.std.proofs.lemmas.Nat.Bits.{bit_at_set_same, bit_at_set_other}
 use Rattle.dmatypes.specs.declared.limits.TheConstants.{DEVICES}
-use Rattle.engine.proofs.lists.Places.{same_or_not}
+use Rattle.dmatypes.proofs.histories.Maps.{same_or_not}
 
 module _ (In : ℕ → Type 0) (devices k : ℕ) where
   -- the bits of the devices before are told, and no other is set

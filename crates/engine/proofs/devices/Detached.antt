@@ -21,7 +21,8 @@ use Rattle.engine.specs.Ending.{Invalidates}
 use Rattle.engine.specs.State.{Becomes, Exact, State}
 use Rattle.engine.specs.Quarantine.{Quarantine, attached}
 use Rattle.engine.specs.Steps.{Does}
-use Rattle.engine.proofs.lists.Places.{get_set, get_set_other, is_none, not_none, put_other, put_same, same_or_not}
+use Rattle.dmatypes.proofs.histories.Maps.{put_other, put_same, same_or_not}
+use Rattle.engine.proofs.lists.Places.{get_set, get_set_other, is_none, not_none}
 use Rattle.engine.proofs.caches.Purged.{Purges, purges_sent}
 use Rattle.engine.proofs.states.Refused.{counted, refuses}
 use Rattle.dmatypes.specs.declared.limits.TheConstants.{DEVICES}

@@ -15,7 +15,7 @@ use Rattle.engine.specs.Quarantine.{Attaches, InDomain, IsLawfulLeaf, IsLawfulTa
 use Rattle.engine.proofs.frames.Owners.{apart_of, frames_move, held_out, tree_of}
 use Rattle.engine.proofs.frames.Held.{held-nil, held_stays}
 use Rattle.engine.proofs.caches.Lawful.{KeepsLawful, keeps_same}
-use Rattle.engine.proofs.lists.Places.{put_other, put_same, same_or_not}
+use Rattle.dmatypes.proofs.histories.Maps.{put_other, put_same, same_or_not}
 use Rattle.engine.proofs.domains.OneChanged.{domain_out, domain_low}
 use Rattle.dmatypes.specs.declared.limits.TheConstants.{MOST_DOMAINS}
 use Rattle.dmatypes.specs.declared.width.TheConstants.{LEVELS}

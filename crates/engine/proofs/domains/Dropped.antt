@@ -11,7 +11,7 @@ use Rattle.engine.specs.State.{State, parts_in}
 use Rattle.engine.specs.Quarantine.{Quarantine}
 use Rattle.engine.proofs.domains.Closed.{domain_gone}
 use Rattle.engine.proofs.unmaps.FullList.{put_twice, same_domains}
-use Rattle.engine.proofs.lists.Places.{put_other, put_same, same_or_not}
+use Rattle.dmatypes.proofs.histories.Maps.{put_other, put_same, same_or_not}
 use Rattle.engine.proofs.domains.OneChanged.{domain_set}
 use Rattle.engine.proofs.caches.Purged.{Purges, purges_sent}
 use Rattle.engine.proofs.flushes.OneByOne.{domain_flushed, dropped_leaf, dropped_table}

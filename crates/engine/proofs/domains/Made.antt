@@ -19,7 +19,8 @@ use Rattle.engine.specs.State.{State, Exact, Becomes, TakesRoot}
 use Rattle.engine.specs.Quarantine.{AreLawful, MirrorsIfAny, IsHeld, Quarantine, owned}
 use Rattle.engine.specs.Steps.{Does}
 use Rattle.engine.proofs.frames.Owners.{frames_move}
-use Rattle.engine.proofs.lists.Places.{is_none, not_some, put_same, put_other, same_or_not}
+use Rattle.dmatypes.proofs.histories.Maps.{put_same, put_other, same_or_not}
+use Rattle.engine.proofs.lists.Places.{is_none, not_some}
 use Rattle.engine.proofs.domains.Pieces.{pieces_new}
 use Rattle.engine.proofs.domains.OneChanged.{domain_set, both_absent, domains_put}
 use Rattle.engine.proofs.frames.Held.{held-nil}

@@ -16,7 +16,8 @@ use Rattle.engine.specs.State.{State}
 use Rattle.engine.specs.Quarantine.{MirrorsIfAny, IsOfSomeWorld, Mirrors, Quarantine}
 use Rattle.engine.specs.Placing.{CanPlace}
 use Rattle.engine.proofs.frames.Owners.{tree_of}
-use Rattle.engine.proofs.lists.Places.{get_set, get_set_other, put_same, put_other, same_or_not}
+use Rattle.dmatypes.proofs.histories.Maps.{put_same, put_other, same_or_not}
+use Rattle.engine.proofs.lists.Places.{get_set, get_set_other}
 use Rattle.dmatypes.specs.declared.limits.TheConstants.{MOST_DOMAINS}
 use Rattle.dmatypes.specs.declared.width.TheConstants.{LEVELS}
 

@@ -9,7 +9,7 @@ use Rattle.tables.specs.Tree.{sum_below, uses}
 use Rattle.tables.proofs.sums.Firsts.{sum_below_change, sum_below_part, sum_below_two}
 use Rattle.engine.specs.Domains.{Domain, held_in}
 use Rattle.engine.specs.Quarantine.{PartsFrames, owned}
-use Rattle.engine.proofs.lists.Places.{put_same, put_other, same_or_not}
+use Rattle.dmatypes.proofs.histories.Maps.{put_same, put_other, same_or_not}
 use Rattle.dmatypes.specs.declared.limits.TheConstants.{MOST_DOMAINS}
 use Rattle.dmatypes.specs.declared.width.TheConstants.{LEVELS}
 

@@ -1,10 +1,7 @@
--- Places of a list, and maps with an entry put in.
-use Rattle.std.proofs.Common.{◌≡◌, ◌≢◌, ℕ, zero, suc, ◌<◌, ◌⊎◌, inl, inr, List, [], ◌∷◌, length, Option, Some, None, refl, sym, ap, arith}
+-- Places of a list, and what stands in an `Option`.
+use Rattle.std.proofs.Common.{◌≡◌, ◌≢◌, ℕ, zero, suc, ◌<◌, List, [], ◌∷◌, length, Option, Some, None, refl, sym, ap, arith}
 use Rattle.std.proofs.Common.{slice_get, slice_set, IsNone, IsSome}
 use Rattle.std.proofs.lemmas.Option.{same_Some}
-use Rattle.std.proofs.lemmas.Bool.{ne_eqb, eq-eqb}
-use Rattle.std.proofs.lemmas.Bool.Decides.{eqb_tells}
-use Rattle.dmatypes.specs.World.{put}
 
 pub get_set : {X : Type 0} (xs : List X) (i : ℕ) (y : X) → i < length xs → slice_get (slice_set xs i y) i ≡ Some y
 get_set [] i y h = absurd (omega (arith, h))
@@ -17,15 +14,6 @@ get_set_other (z ∷ xs) zero zero y ne = absurd (ne refl)
 get_set_other (z ∷ xs) zero (suc e) y ne = refl
 get_set_other (z ∷ xs) (suc i) zero y ne = refl
 get_set_other (z ∷ xs) (suc i) (suc e) y ne = get_set_other xs i e y (λ same. ne (ap suc same))
-
-pub put_same : {A : Type 0} (key : ℕ) (entry : Option A) (map : ℕ → Option A) → put key entry map key ≡ entry
-put_same key entry map = rw (eq-eqb key key refl) refl
-
-pub put_other : {A : Type 0} (key : ℕ) (entry : Option A) (map : ℕ → Option A) (k : ℕ) → k ≢ key → put key entry map k ≡ map k
-put_other key entry map k ne = rw (ne_eqb k key ne) refl
-
-pub same_or_not : (a b : ℕ) → (a ≡ b) ⊎ (a ≢ b)
-same_or_not a b = elim (eqb_tells a b) [ inl x ↦ inl x.1 | inr x ↦ inr x.1 ]
 
 pub is_none : {A : Type 0} (o : Option A) → o ≡ None → IsNone o
 is_none None e = refl

@@ -32,7 +32,8 @@ use Rattle.engine.specs.Steps.{Does}
 use Rattle.engine.proofs.frames.Owners.{apart_of, frames_move, held_zeroed, tree_of}
 use Rattle.engine.proofs.frames.Held.{held_stays}
 use Rattle.engine.proofs.caches.Lawful.{KeepsLawful, keeps_same, stay_lawful}
-use Rattle.engine.proofs.lists.Places.{is_none, not_none, put_same, put_other, same_or_not, set_again}
+use Rattle.dmatypes.proofs.histories.Maps.{put_same, put_other, same_or_not}
+use Rattle.engine.proofs.lists.Places.{is_none, not_none, set_again}
 use Rattle.engine.proofs.domains.Pieces.{fit_of, free_pages, mapped_inside, mapped_outside, pieces_mapped}
 use Rattle.engine.proofs.domains.OneChanged.{both_absent, both_there, domain_low, domain_set, domains_put}
 use Rattle.engine.proofs.states.Refused.{counted, refuses}

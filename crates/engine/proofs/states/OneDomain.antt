@@ -13,7 +13,7 @@ use Rattle.engine.specs.Quarantine.{Attaches, InDomain, IsLawfulLeaf, IsLawfulTa
 use Rattle.engine.proofs.frames.Owners.{frames_move}
 use Rattle.engine.proofs.frames.Held.{held_stays}
 use Rattle.engine.proofs.caches.Lawful.{KeepsLawful, keeps_same}
-use Rattle.engine.proofs.lists.Places.{put_same, put_other, same_or_not}
+use Rattle.dmatypes.proofs.histories.Maps.{put_same, put_other, same_or_not}
 use Rattle.engine.proofs.domains.OneChanged.{domains_put, domain_low}
 use Rattle.dmatypes.specs.declared.limits.TheConstants.{MOST_DOMAINS}
 use Rattle.dmatypes.specs.declared.width.TheConstants.{LEVELS}

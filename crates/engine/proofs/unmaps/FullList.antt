@@ -13,7 +13,7 @@ use Rattle.engine.specs.Domains.{Domain, domain_at}
 use Rattle.engine.specs.declared.record.Record.{Record}
 use Rattle.engine.specs.State.{State}
 use Rattle.engine.specs.Quarantine.{MirrorsIfAny, Quarantine}
-use Rattle.engine.proofs.lists.Places.{put_other, put_same, same_or_not}
+use Rattle.dmatypes.proofs.histories.Maps.{put_other, put_same, same_or_not}
 use Rattle.engine.proofs.domains.OneChanged.{domain_set}
 use Rattle.engine.proofs.flushes.OneByOne.{domain_flushed}
 use Rattle.engine.proofs.unmaps.DomainAfter.{domain_after, lazy_put_off}

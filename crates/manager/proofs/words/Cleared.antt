@@ -18,7 +18,7 @@ use Rattle.engine.specs.Domains.{Domain, domain_at}
 use Rattle.engine.specs.Hits.{mode_of}
 use Rattle.engine.specs.Quarantine.{MirrorsIfAny, Quarantine, attached}
 use Rattle.engine.specs.State.{State}
-use Rattle.engine.proofs.lists.Places.{put_same, same_or_not}
+use Rattle.dmatypes.proofs.histories.Maps.{put_same, same_or_not}
 use Rattle.ports.specs.Cleared.{IsCleared, TakesAway}
 
 -- the bits are those of the devices whose rows are cleared

@@ -14,7 +14,7 @@ use Rattle.dmatypes.proofs.histories.Entered.{after_from-push}
 use Rattle.engine.specs.Hits.{IsHitIn}
 use Rattle.engine.specs.Quarantine.{Quarantine}
 use Rattle.engine.specs.State.{State}
-use Rattle.engine.proofs.lists.Places.{same_or_not}
+use Rattle.dmatypes.proofs.histories.Maps.{same_or_not}
 use Rattle.ports.specs.Lawful.{IsLawful, IsLawfulAfter}
 use Rattle.ports.specs.Steps.{AreLawful, place_of}
 use Rattle.ports.proofs.Histories.{lawful_zero}
