@@ -15,9 +15,6 @@ const MOST_PIECES: usize = 1024;
 /// How many pieces may be there where one is cut (own): a cut can make two more.
 const MOST_PIECES_TO_CUT: usize = MOST_PIECES - 2;
 
-/// The highest order of a start that is a multiple of 2^order (own).
-const MOST_ORDER: u64 = 9;
-
 /// Why no pages are taken.
 #[derive(Clone, Copy, Debug, PartialEq, Eq, Error)]
 pub enum TakeError {
@@ -64,6 +61,7 @@ impl Model for Space {
 impl Space {
     ghost use Rattle.dmatypes.specs.Page.{IsPageRange, IsWithin, Range};
     ghost use Rattle.dmatypes.specs.World.{IsIn};
+    ghost use Rattle.dmatypes.specs.declared.limits.TheConstants.{MOST_ORDER};
     ghost use Rattle.iova.specs.Pieces.{AllIn, piece_of, state_at};
     ghost use Rattle.iova.specs.Space.{Space, AllFree, IsFit, IsLowestFit, IsSpace, IsTooMany, MayRetire, new_space};
     ghost use Rattle.iova.specs.Changes.{Frees, Retires, Takes};

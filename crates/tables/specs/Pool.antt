@@ -1,6 +1,6 @@
 -- A pool of table frames: its words, the frames that are free, and how many frames it has.
 use Rattle.std.specs.Prelude.{◌≡◌, ℕ, ◌+◌, ◌*◌, ◌<◌, ◌≤◌, ◌==◌, List, length, slice_index, count_by}
-use Rattle.tables.specs.declared.frames.TheConstants.{MOST_FRAMES}
+use Rattle.dmatypes.specs.declared.limits.TheConstants.{MOST_TABLE_FRAMES}
 use Rattle.tables.specs.declared.entries.TheConstants.{TABLE_ENTRIES}
 use Rattle.vtdbits.specs.Entry.{look}
 use Rattle.tables.specs.Tree.{Memory, uses}
@@ -29,7 +29,7 @@ IsZeroed words frame = (k : ℕ) → k < TABLE_ENTRIES → word words frame k �
 -- the free frames are different frames of the pool, and zeroed
 pub record IsPool (pool : Pool) : Type 0 where
   pub fit : length pool.words ≡ pool.frames * TABLE_ENTRIES
-  pub few : pool.frames ≤ MOST_FRAMES
+  pub few : pool.frames ≤ MOST_TABLE_FRAMES
   pub once : (f : ℕ) → occurs f pool.free ≤ 1
   pub within : (f : ℕ) → pool.frames ≤ f → occurs f pool.free ≡ 0
   pub zeroed : (f : ℕ) → 0 < occurs f pool.free → IsZeroed pool.words f

@@ -2,6 +2,7 @@
 
 ghost use Rattle.std.specs.Prelude.{◌≡◌, ℕ, ◌+◌, ◌<◌, ◌≤◌, ◌^◌, length, slice_index, IfOk};
 ghost use Rattle.dmatypes.specs.Rights.{AreRights, bits_of};
+ghost use Rattle.dmatypes.specs.declared.limits.TheConstants.{LEAST_TABLE_FRAMES, MOST_TABLE_FRAMES};
 ghost use Rattle.vtdbits.specs.Entry.{look};
 ghost use Rattle.vtdbits.specs.Translation.{target};
 ghost use Rattle.tables.specs.Tree.{one_if_same};
@@ -12,12 +13,6 @@ use dmatypes::{FRAMES_END, Frame, Rights};
 use std::alloc::{AllocError, Global};
 use std::marker::Model;
 use vtdbits::SsEntry;
-
-/// The fewest frames that a pool can have (own).
-pub const FEWEST_FRAMES: u64 = 16;
-
-/// The most frames that a pool can have (own).
-pub const MOST_FRAMES: u64 = 4096;
 
 /// Frames for tables, of a word for each entry. Some of them are free, and these are zeroed; the others are of trees, or
 /// were cut from one and not given back.
@@ -45,8 +40,8 @@ impl Model for Pool {
 impl Pool {
     /// A pool of so many frames, 16 to 4,096 (own), all of them free.
     pub fn new(alloc: Global, frames: u64) -> Result<Pool, AllocError>
-        requires some { FEWEST_FRAMES ≤ frames }
-        requires few { frames ≤ MOST_FRAMES }
+        requires some { LEAST_TABLE_FRAMES ≤ frames }
+        requires few { frames ≤ MOST_TABLE_FRAMES }
         ensures pool { IfOk result (λ pool. IsPool pool) }
         ensures frames { IfOk result (λ pool. pool.frames ≡ frames) }
         ensures free { IfOk result (λ pool. (f : ℕ) → f < frames → occurs f pool.free ≡ 1) }

@@ -17,5 +17,5 @@ mod unmapping;
 pub use cut::Cut;
 pub use entries::{TABLE_ENTRIES, index_of, read_entry, span_of};
 pub use error::NoFrames;
-pub use frames::{FEWEST_FRAMES, MOST_FRAMES, Pool};
+pub use frames::Pool;
 pub use trees::Tree;
