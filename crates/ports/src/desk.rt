@@ -37,7 +37,7 @@ impl Model for Desk {
 impl Desk {
     /// Stores a word in the row of a device, at the slot of its page. The device's domain has the page live
     /// or retired, with this frame and at least these rights.
-    #[tactic(auto, using(crate::proofs::Histories::backed_word))]
+    #[tactic(auto, using(crate::proofs::histories::LawfulWords::backed_word))]
     pub fn fill(&mut self, rows: &Rows, device: u64, word: PortWord)
         requires rows { self.old.rows ≡ rows.now }
         requires device { device < DEVICES }
@@ -51,7 +51,7 @@ impl Desk {
     }
 
     /// Empties all words in the row of a device.
-    #[tactic(auto, using(crate::proofs::Histories::lawful_zero))]
+    #[tactic(auto, using(crate::proofs::histories::LawfulWords::lawful_zero))]
     pub fn clear(&mut self, rows: &Rows, device: u64)
         requires rows { self.old.rows ≡ rows.now }
         requires device { device < DEVICES }

@@ -17,8 +17,8 @@ use Rattle.engine.specs.State.{State}
 use Rattle.dmatypes.proofs.histories.Maps.{same_or_not}
 use Rattle.ports.specs.Lawful.{IsLawful, IsLawfulAfter}
 use Rattle.ports.specs.Steps.{AreLawful, place_of}
-use Rattle.ports.proofs.Histories.{lawful_zero}
-use Rattle.ports.proofs.Staying.{keeps}
+use Rattle.ports.proofs.histories.LawfulWords.{lawful_zero}
+use Rattle.ports.proofs.histories.Staying.{keeps}
 use Rattle.unit.specs.declared.hit.Hit.{Hit}
 use Rattle.manager.specs.Words.{AreCleared}
 use Rattle.manager.proofs.words.Cleared.{TellCleared}

@@ -3,8 +3,8 @@ use Rattle.dmatypes.specs.History.{IsLegal}
 use Rattle.ports.specs.Lawful.{IsLawfulAfter}
 use Rattle.ports.specs.Steps.{AreLawful}
 use Rattle.ports.specs.Seen.{Rows}
-use Rattle.ports.proofs.Histories.{legal_empty, lawful_zero}
-use Rattle.ports.proofs.Stores.{appends}
+use Rattle.ports.proofs.histories.LawfulWords.{legal_empty, lawful_zero}
+use Rattle.ports.proofs.steps.Stores.{appends}
 use Rattle.ports.proofs.desk.append_as.Goals as goal
 
 pub fetch_add-requires : goal.fetch_add-requires

@@ -3,9 +3,9 @@ use Rattle.dmatypes.specs.History.{IsLegal}
 use Rattle.ports.specs.Lawful.{IsLawfulAfter}
 use Rattle.ports.specs.Seen.{Rows}
 use Rattle.ports.specs.declared.known.View.{View}
-use Rattle.ports.proofs.Histories.{legal_empty, lawful_zero}
-use Rattle.ports.proofs.Loads.{hosts}
-use Rattle.ports.proofs.Seats.{leaves, visits, goes}
+use Rattle.ports.proofs.histories.LawfulWords.{legal_empty, lawful_zero}
+use Rattle.ports.proofs.steps.Loads.{hosts}
+use Rattle.ports.proofs.steps.Seats.{leaves, visits, goes}
 use Rattle.ports.proofs.desk.host.Goals as goal
 
 pub split_seat-guest-requires : goal.split_seat-guest-requires

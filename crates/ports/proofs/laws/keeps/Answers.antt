@@ -1,4 +1,4 @@
-use Rattle.ports.proofs.Staying as staying
+use Rattle.ports.proofs.histories.Staying as staying
 use Rattle.ports.proofs.laws.keeps.Goals as goal
 
 pub returns : goal.returns

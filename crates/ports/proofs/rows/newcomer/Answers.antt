@@ -1,8 +1,8 @@
 use Rattle.std.proofs.Common.{arith}
 use Rattle.dmatypes.specs.History.{IsLegal}
 use Rattle.ports.specs.Lawful.{IsLawfulAfter}
-use Rattle.ports.proofs.Histories.{legal_empty, lawful_zero}
-use Rattle.ports.proofs.Seats.{comes}
+use Rattle.ports.proofs.histories.LawfulWords.{legal_empty, lawful_zero}
+use Rattle.ports.proofs.steps.Seats.{comes}
 use Rattle.ports.proofs.rows.newcomer.Goals as goal
 
 pub split_seat-requires : goal.split_seat-requires

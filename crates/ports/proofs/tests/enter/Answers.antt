@@ -1,5 +1,5 @@
 use Rattle.std.proofs.Common.{[], ◌∷◌, ◌++◌}
-use Rattle.ports.proofs.Examples.{empty_lawful}
+use Rattle.ports.proofs.histories.Examples.{empty_lawful}
 use Rattle.ports.proofs.tests.enter.Goals as goal
 
 pub append-requires-clause-lawful : goal.append-requires-clause-lawful

@@ -1,6 +1,6 @@
 use Rattle.std.proofs.Common.{◌∙◌, ap}
 use Rattle.ports.specs.Seen.{Rows}
-use Rattle.ports.proofs.Examples.{backed_page}
+use Rattle.ports.proofs.histories.Examples.{backed_page}
 use Rattle.ports.proofs.tests.fill_page.Goals as goal
 
 pub fill-requires-clause-lawful : goal.fill-requires-clause-lawful

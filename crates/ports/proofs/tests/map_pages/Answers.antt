@@ -1,4 +1,4 @@
-use Rattle.ports.proofs.Examples.{legal_one, legal_two, legal_three, mapped_is}
+use Rattle.ports.proofs.histories.Examples.{legal_one, legal_two, legal_three, mapped_is}
 use Rattle.std.proofs.Common.{arith}
 use Rattle.ports.proofs.tests.map_pages.Goals as goal
 

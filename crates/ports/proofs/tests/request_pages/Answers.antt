@@ -1,4 +1,4 @@
-use Rattle.ports.proofs.Examples.{few_mapped, few_first, legal_first, legal_second, whole_is}
+use Rattle.ports.proofs.histories.Examples.{few_mapped, few_first, legal_first, legal_second, whole_is}
 use Rattle.ports.proofs.tests.request_pages.Goals as goal
 
 pub enter-requires-clause-legal : goal.enter-requires-clause-legal

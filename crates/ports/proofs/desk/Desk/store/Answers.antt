@@ -5,8 +5,8 @@ use Rattle.ports.specs.Lawful.{IsLawfulAfter}
 use Rattle.ports.specs.Seen.{Desk, Rows}
 use Rattle.ports.specs.Steps.{place_of}
 use Rattle.ports.specs.declared.known.View.{View}
-use Rattle.ports.proofs.Histories.{legal_empty, lawful_zero}
-use Rattle.ports.proofs.Stores.{fills}
+use Rattle.ports.proofs.histories.LawfulWords.{legal_empty, lawful_zero}
+use Rattle.ports.proofs.steps.Stores.{fills}
 use Rattle.ports.proofs.desk.Desk.store.Goals as goal
 
 pub store-requires : goal.store-requires

@@ -1,6 +1,6 @@
 use Rattle.std.proofs.Common.{sym, ◌∙◌, ap, arith}
 use Rattle.ports.specs.Seen.{Port, Rows}
-use Rattle.ports.proofs.Told.{counted}
+use Rattle.ports.proofs.steps.Told.{counted}
 use Rattle.ports.proofs.port.Port.count.Goals as goal
 
 pub load-requires : goal.load-requires

@@ -2,8 +2,8 @@ use Rattle.std.proofs.Common.{arith, sym, ap, ◌∙◌}
 use Rattle.ports.specs.Seen.{Port, Rows}
 use Rattle.dmatypes.specs.History.{IsLegal}
 use Rattle.ports.specs.Lawful.{IsLawfulAfter}
-use Rattle.ports.proofs.Histories.{legal_empty, lawful_zero}
-use Rattle.ports.proofs.Stores.{empties}
+use Rattle.ports.proofs.histories.LawfulWords.{legal_empty, lawful_zero}
+use Rattle.ports.proofs.steps.Stores.{empties}
 use Rattle.ports.proofs.port.Port.evict.Goals as goal
 
 pub store-requires : goal.store-requires

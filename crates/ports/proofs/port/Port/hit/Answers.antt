@@ -9,9 +9,9 @@ use Rattle.ports.specs.Seen.{Port, Rows}
 use Rattle.ports.specs.Steps.{IsSeenInRun, counter, place_of, slot_of}
 use Rattle.ports.specs.declared.known.OwnStep.{OwnStep}
 use Rattle.ports.specs.declared.known.OwnStep.TheVariants.{Loaded}
-use Rattle.ports.proofs.Maps.{some_of}
-use Rattle.ports.proofs.Told.{looked}
-use Rattle.ports.proofs.Allowed.{allowed_word, spelled_word}
+use Rattle.ports.proofs.lists.Maps.{some_of}
+use Rattle.ports.proofs.steps.Told.{looked}
+use Rattle.ports.proofs.histories.Allowed.{allowed_word, spelled_word}
 use Rattle.dmatypes.specs.declared.page.TheConstants.{PAGE_BYTES}
 use Rattle.ports.specs.declared.rule.TheConstants.{SLOTS}
 use Rattle.ports.proofs.port.Port.hit.Goals as goal

@@ -1,7 +1,7 @@
 use Rattle.dmatypes.specs.History.{IsLegal}
 use Rattle.ports.specs.Lawful.{IsLawfulAfter}
-use Rattle.ports.proofs.Histories.{legal_empty, lawful_zero}
-use Rattle.ports.proofs.Seats.{opens}
+use Rattle.ports.proofs.histories.LawfulWords.{legal_empty, lawful_zero}
+use Rattle.ports.proofs.steps.Seats.{opens}
 use Rattle.ports.proofs.rows.Rows.new.Goals as goal
 
 pub of_words-requires : goal.of_words-requires

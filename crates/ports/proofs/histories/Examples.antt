@@ -18,7 +18,7 @@ use Rattle.ports.specs.Steps.{AreLawful, place_of}
 use Rattle.ports.specs.Examples.{mapped_history, request, whole_history}
 use Rattle.dmatypes.specs.declared.limits.TheConstants.{MOST_DOMAINS}
 use Rattle.ports.specs.declared.rule.TheConstants.{ROW_WORDS}
-use Rattle.ports.proofs.Histories.{lawful_zero}
+use Rattle.ports.proofs.histories.LawfulWords.{lawful_zero}
 
 made : World
 made = next (empty 64) (calls.Domain Strict) (Made 1)

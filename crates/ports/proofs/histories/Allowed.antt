@@ -12,8 +12,8 @@ use Rattle.vtdbits.specs.Port.{IsEmptyOrSpelling, Spells, States}
 use Rattle.vtdbits.specs.declared.port.PortWord.{PortWord}
 use Rattle.vtdbits.proofs.Ports.{not_empty, one_value}
 use Rattle.ports.specs.Lawful.{Backs, IsBacked, IsLawful, IsLawfulAfter}
-use Rattle.ports.proofs.Maps.{followed, none_is_no}
-use Rattle.ports.proofs.Worlds.{IsSoundDomain, IsSoundWorld, sound_after}
+use Rattle.ports.proofs.lists.Maps.{followed, none_is_no}
+use Rattle.ports.proofs.histories.Worlds.{IsSoundDomain, IsSoundWorld, sound_after}
 
 -- a lawful word is empty or a spelling
 pub spelled_word : (frames : ℕ) (history : List Event) (device word : ℕ) → IsLawfulAfter frames history device word → IsEmptyOrSpelling word

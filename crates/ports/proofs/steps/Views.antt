@@ -13,7 +13,7 @@ use Rattle.ports.specs.declared.known.Known.{Known}
 use Rattle.ports.specs.declared.known.View.{View}
 use Rattle.ports.specs.Steps.{seen_by, shown_to}
 use Rattle.ports.specs.Rule.{nobody, left_seat, caller_view, desk_view, Truth, IsNamed, Fits}
-use Rattle.ports.proofs.Fronts.{prefix_self, prefix_nil, prefix_trans}
+use Rattle.ports.proofs.lists.Fronts.{prefix_self, prefix_nil, prefix_trans}
 
 off : {X : Type 0} → false ≡ true → X
 off e = absurd (true≢false (sym e))

@@ -12,11 +12,11 @@ use Rattle.dmatypes.specs.History.{IsLegal}
 use Rattle.ports.specs.Lawful.{IsLawfulAfter}
 use Rattle.ports.specs.Steps.{Core, PortStep, loads_word, empties_word, stores_word, adds_event, loads_counter, empty, place_of, seen_by}
 use Rattle.ports.specs.Steps.{shown_to, word_at, stepped, stepped_by, IsPortStep, IsRun, WholeRun, AreLawful, led_to}
-use Rattle.ports.proofs.Reaching.{stepped_by-append}
-use Rattle.ports.proofs.Fronts.{prefix_self, prefix_nil, prefix_more, prefix_trans}
+use Rattle.ports.proofs.runs.Reaching.{stepped_by-append}
+use Rattle.ports.proofs.lists.Fronts.{prefix_self, prefix_nil, prefix_more, prefix_trans}
 use Rattle.dmatypes.specs.declared.limits.TheConstants.{DEVICES}
 use Rattle.ports.specs.declared.rule.TheConstants.{ROW_WORDS, SLOTS}
-use Rattle.ports.proofs.Histories.{legal_empty, lawful_zero}
+use Rattle.ports.proofs.histories.LawfulWords.{legal_empty, lawful_zero}
 
 -- the history only grows
 grows_one : (c : Core) (s : PortStep) → IsPrefix c.history (stepped c s).history

@@ -6,10 +6,10 @@ use Rattle.dmatypes.specs.History.{IsLegal}
 use Rattle.ports.specs.Lawful.{IsLawfulAfter}
 use Rattle.ports.specs.Steps.{counter, place_of}
 use Rattle.ports.specs.Rule.{Sat, Table, IsKept, Counted, Looked}
-use Rattle.ports.proofs.Histories.{legal_empty, lawful_zero}
+use Rattle.ports.proofs.histories.LawfulWords.{legal_empty, lawful_zero}
 use Rattle.dmatypes.specs.declared.limits.TheConstants.{DEVICES}
 use Rattle.ports.specs.declared.rule.TheConstants.{SLOTS}
-use Rattle.ports.proofs.Loads.{counts, looks}
+use Rattle.ports.proofs.steps.Loads.{counts, looks}
 
 abbrev Holds : ℕ → ℕ → Table → Type 0
 Holds frames passes s = IsKept (IsLegal frames) (IsLawfulAfter frames) passes s

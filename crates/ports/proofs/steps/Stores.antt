@@ -15,11 +15,11 @@ use Rattle.ports.specs.declared.known.Known.{Known}
 use Rattle.ports.specs.declared.known.View.{View}
 use Rattle.ports.specs.Steps.{empties_word, stores_word, adds_event, counter, place_of, stepped, IsReached, AreLawful}
 use Rattle.ports.specs.Rule.{caller_view, desk_view, Truth, Fits, Table, Sat, IsKept, Emptied, Filled, Appended}
-use Rattle.ports.proofs.Fronts.{prefix_self, prefix_trans}
-use Rattle.ports.proofs.Reaching.{reached_more}
+use Rattle.ports.proofs.lists.Fronts.{prefix_self, prefix_trans}
+use Rattle.ports.proofs.runs.Reaching.{reached_more}
 use Rattle.dmatypes.specs.declared.limits.TheConstants.{DEVICES, MOST_CALLS}
 use Rattle.ports.specs.declared.rule.TheConstants.{COUNTER, ROW_WORDS, SLOTS}
-use Rattle.ports.proofs.Views.{Stays, caller_fits, desk_fits_as, fits_stays, desk_else, others}
+use Rattle.ports.proofs.steps.Views.{Stays, caller_fits, desk_fits_as, fits_stays, desk_else, others}
 
 module _ (legal : List Event → Type 0) (lawful : List Event → ℕ → ℕ → Type 0) (none_legal : legal [])
     (zeros : (log : List Event) (device : ℕ) → lawful log device 0) (passes : ℕ) where

@@ -13,11 +13,11 @@ use Rattle.ports.specs.declared.known.Known.{Known}
 use Rattle.ports.specs.declared.known.View.{View}
 use Rattle.ports.specs.Steps.{loads_word, loads_counter, counter, place_of, shown_to, seen_by, IsReached, IsSeenInRun}
 use Rattle.ports.specs.Rule.{caller_view, with_guest, Fits, Table, Sat, IsKept, Counted, Looked, Hosted}
-use Rattle.ports.proofs.Fronts.{prefix_self}
-use Rattle.ports.proofs.Reaching.{reached_more}
+use Rattle.ports.proofs.lists.Fronts.{prefix_self}
+use Rattle.ports.proofs.runs.Reaching.{reached_more}
 use Rattle.dmatypes.specs.declared.limits.TheConstants.{DEVICES}
 use Rattle.ports.specs.declared.rule.TheConstants.{COUNTER, ROW_WORDS, SLOTS, WORDS}
-use Rattle.ports.proofs.Views.{named_as, caller_fits, desk_fits_as, others, set_same, seeing, seeing_else}
+use Rattle.ports.proofs.steps.Views.{named_as, caller_fits, desk_fits_as, others, set_same, seeing, seeing_else}
 
 module _ (legal : List Event → Type 0) (lawful : List Event → ℕ → ℕ → Type 0) (none_legal : legal [])
     (zeros : (log : List Event) (device : ℕ) → lawful log device 0) (passes : ℕ) where

@@ -12,11 +12,11 @@ use Rattle.ports.specs.declared.known.Known.{Known}
 use Rattle.ports.specs.declared.known.View.{View}
 use Rattle.ports.specs.Steps.{empty, place_of, seen_by}
 use Rattle.ports.specs.Rule.{nobody, newcomer, left_seat, caller_view, made_desk, with_guest, one_more, Truth, IsNamed, Fits, Table, IsKept}
-use Rattle.ports.proofs.Fronts.{prefix_self, prefix_nil}
-use Rattle.ports.proofs.Views.{Stays, nobody_named, named_as, named_stays, caller_fits, left_seat_fits, desk_fits, desk_fits_as, desk_else}
+use Rattle.ports.proofs.lists.Fronts.{prefix_self, prefix_nil}
+use Rattle.ports.proofs.steps.Views.{Stays, nobody_named, named_as, named_stays, caller_fits, left_seat_fits, desk_fits, desk_fits_as}
 use Rattle.dmatypes.specs.declared.limits.TheConstants.{DEVICES}
 use Rattle.ports.specs.declared.rule.TheConstants.{ROW_WORDS, WORDS}
-use Rattle.ports.proofs.Views.{others, snoc_fits, placing, placing_else, put_at, put_here, put_else}
+use Rattle.ports.proofs.steps.Views.{desk_else, others, snoc_fits, placing, placing_else, put_at, put_here, put_else}
 
 module _ (legal : List Event → Type 0) (lawful : List Event → ℕ → ℕ → Type 0) (none_legal : legal [])
     (zeros : (log : List Event) (device : ℕ) → lawful log device 0) (passes : ℕ) where

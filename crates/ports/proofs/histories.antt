@@ -1,0 +1,5 @@
+pub mod LawfulWords
+pub mod Worlds
+pub mod Allowed
+pub mod Staying
+pub mod Examples

@@ -1,0 +1,5 @@
+pub mod Views
+pub mod Loads
+pub mod Stores
+pub mod Seats
+pub mod Told
