@@ -54,7 +54,8 @@ impl<B: Owner> Port<B> {
             × IfSome result.0 (States word address access)
             × IfNone result.0 ((host : ℕ) → States word address access host → ⊥)
             × IsSeenInRun (IsLegal B.rows.frames) (IsLawfulAfter B.rows.frames)
-            self.old.device self.new.seen (λ words. slice_index words (place_of self.old.device (slot_of (page_of address))) ≡ word) }
+            self.old.device self.new.seen self.new.did
+            (λ words. slice_index words (place_of self.old.device (slot_of (page_of address))) ≡ word) }
         ensures count { (history : List Event)
             × IsLegal B.rows.frames history × (result.1 ≡ length history)
             × IsPrefix self.old.seen history × IsPrefix history self.new.seen }
@@ -73,7 +74,7 @@ impl<B: Owner> Port<B> {
         ensures seen { IsPrefix self.old.seen self.new.seen × IsLegal B.rows.frames self.new.seen
             × (result ≡ length self.new.seen) }
         ensures run { IsSeenInRun (IsLegal B.rows.frames) (IsLawfulAfter B.rows.frames)
-            self.old.device self.new.seen (λ words. Unit {0}) }
+            self.old.device self.new.seen self.new.did (λ words. Unit {0}) }
         ensures same { self.new.device ≡ self.old.device }
     {
         self.port.count(&rows.words)

@@ -6,7 +6,8 @@ use mathlib.Core.List.{IsPrefix}
 use lib.ListN.{get_elem?}
 use Rattle.atomic_table.specs.Table.{State, Me, Step}
 use Rattle.dmatypes.specs.declared.reply.Event.{Event}
-use Rattle.ports.specs.Steps.{Core, IsReached, IsSeenInRun, AreLawful, counter, place_of, seen_by}
+use Rattle.ports.specs.Steps.{Core, PortStep, IsRun, IsSeenInRun, AreLawful, counter, empty, last_stored, led_to, own_steps, place_of}
+use Rattle.ports.specs.Steps.{seen_by}
 use Rattle.ports.specs.declared.known.OwnStep.{OwnStep}
 use Rattle.ports.specs.declared.known.OwnStep.TheVariants.{Loaded, Stored}
 use Rattle.ports.specs.declared.known.Known.{Known}
@@ -53,18 +54,20 @@ one_more v = desk_view v.frames v.mine.seen v.last (suc v.made) v.guest
 
 -- ---- the rule
 
--- What is true of the table: where a run has led to, the words that the desk last stored, the desk's seat, how many
--- callers were made, and where each one is: at which seat, and whether as the desk's guest
+-- What is true of the table: the steps that were made, where they have led to, the word that the desk last stored at each
+-- place, the desk's seat, how many callers were made, and where each one is: at which seat, and whether as the desk's guest
 pub record Truth : Type 0 where
+  pub steps : List PortStep
   pub core : Core
   pub last : List ℕ
   pub desk : ℕ
   pub made : ℕ
   pub place : ℕ → ℕ × Bool
 
--- what is known there is the caller's
+-- what is known there is the caller's: what it has seen, and its own steps among those that were made
 pub record IsNamed (t : Truth) (seat : ℕ) (as_guest : Bool) (known : Known) : Type 0 where
-  pub is : (p : ℕ) → known.who ≡ suc p → (p < t.made) × (t.place p ≡ (seat, as_guest)) × (seen_by t.core p ≡ known.seen)
+  pub is : (p : ℕ) → known.who ≡ suc p
+      → (p < t.made) × (t.place p ≡ (seat, as_guest)) × (seen_by t.core p ≡ known.seen) × (own_steps p t.steps ≡ known.did)
 
 -- the view of a seat: what was seen is a front of the history, and the desk has seen all of it
 pub record Fits (t : Truth) (seat : ℕ) (v : View) : Type 0 where
@@ -81,12 +84,19 @@ abbrev pub Sat : Type 0
 Sat = Me (Unit {0}) View
 
 module _ (legal : List Event → Type 0) (lawful : List Event → ℕ → ℕ → Type 0) where
+  -- the steps that were made are a run from the empty state, lead to this core, and these words are the desk's last in it
+  pub record IsReached (passes : ℕ) (t : Truth) : Type 0 where
+    pub is_run : IsRun legal lawful (empty passes) t.steps
+    pub leads : led_to passes t.steps ≡ t.core
+    pub last : last_stored t.steps ≡ t.last
+
   -- The steps of ports, passes and the desk have led here, and no others: the row words are those of the run, and so is
-  -- what callers have seen. The counter is the length of the desk's history, which is legal; every row word is 0 or the
-  -- one that the desk last stored there; and every one of these is lawful after the history
+  -- what callers have seen, what each of them did, and what the desk last stored at each place. The counter is the length of
+  -- the desk's history, which is legal; every row word is 0 or the one that the desk last stored there; and every one of
+  -- these is lawful after the history
   pub record IsKept (passes : ℕ) (s : Table) : Type 0 where
     pub truth : Truth
-    pub reached : IsReached legal lawful passes truth.core
+    pub reached : IsReached passes truth
     pub wide : length s.words ≡ WORDS
     pub count : slice_index s.words counter ≡ length truth.core.history
     pub is_legal : legal truth.core.history
@@ -96,7 +106,7 @@ module _ (legal : List Event → Type 0) (lawful : List Event → ℕ → ℕ �
     pub each_lawful : AreLawful lawful truth.core.history truth.last
     pub callers : length truth.core.seen ≡ DEVICES + passes
     pub made : truth.made ≤ DEVICES + passes
-    pub fresh : (p : ℕ) → truth.made ≤ p → seen_by truth.core p ≡ []
+    pub fresh : (p : ℕ) → truth.made ≤ p → (seen_by truth.core p ≡ []) × (own_steps p truth.steps ≡ [])
     pub each_seat : (j : ℕ) (v : View) → get_elem? s.views j ≡ some v → Fits truth j v
 
   -- ---- what steps tell
@@ -112,7 +122,7 @@ module _ (legal : List Event → Type 0) (lawful : List Event → ℕ → ℕ �
   abbrev pub Counted : Step (Unit {0}) → Sat → ℕ → Sat → Type 0
   Counted st m n m' =
       Learns m.0.mine m'.0.mine (Loaded st.word n) × (length m'.0.mine.seen ≡ n)
-      × ((p : ℕ) → m.0.mine.who ≡ suc p → IsSeenInRun legal lawful p m'.0.mine.seen (λ words. Unit {0}))
+      × ((p : ℕ) → m.0.mine.who ≡ suc p → IsSeenInRun legal lawful p m'.0.mine.seen m'.0.mine.did (λ words. Unit {0}))
       × (m'.0.frames ≡ m.0.frames)
 
   -- a load of a word that it is lawful after that history, and stands in such a state
@@ -120,7 +130,7 @@ module _ (legal : List Event → Type 0) (lawful : List Event → ℕ → ℕ �
   Looked st m n m' =
       Learns m.0.mine m'.0.mine (Loaded st.word n)
       × ((device slot : ℕ) → device < DEVICES → slot < SLOTS → st.word ≡ place_of device slot → lawful m'.0.mine.seen device n)
-      × ((p : ℕ) → m.0.mine.who ≡ suc p → IsSeenInRun legal lawful p m'.0.mine.seen (λ words. slice_index words st.word ≡ n))
+      × ((p : ℕ) → m.0.mine.who ≡ suc p → IsSeenInRun legal lawful p m'.0.mine.seen m'.0.mine.did (λ words. slice_index words st.word ≡ n))
       × (m'.0.frames ≡ m.0.frames)
 
 abbrev pub Emptied : Step (Unit {0}) → Sat → ℕ → Sat → Type 0

@@ -1,11 +1,14 @@
 -- The steps of ports, passes and the desk, and what runs of them lead to. Places up to ROW_WORDS are the words of the rows,
 -- SLOTS for each device, and the place behind them is the counter.
 use Rattle.std.specs.Prelude.{◌≡◌, ℕ, ◌+◌, ◌*◌, ◌%◌, ◌<◌, List, [], ◌∷◌, ◌++◌, length, replicate, slice_index, slice_index_or, slice_set}
+use Rattle.std.specs.Prelude.{◌==◌, if◌then◌else◌, flat_map, fold}
 use mathlib.Core.List.{IsPrefix}
 use Rattle.dmatypes.specs.declared.reply.Event.{Event}
 use Rattle.dmatypes.specs.History.{IsLegal}
 use Rattle.dmatypes.specs.declared.limits.TheConstants.{DEVICES}
 use Rattle.ports.specs.declared.rule.TheConstants.{COUNTER, ROW_WORDS, SLOTS}
+use Rattle.ports.specs.declared.known.OwnStep.{OwnStep}
+use Rattle.ports.specs.declared.known.OwnStep.TheVariants.{Loaded, Stored}
 use Rattle.ports.specs.Lawful.{IsLawfulAfter}
 
 -- the place of a word: its slot in the row of a device
@@ -73,6 +76,30 @@ abbrev pub stepped_by : Core → List PortStep → Core
 stepped_by c [] = c
 stepped_by c (s ∷ ss) = stepped_by (stepped c s) ss
 
+-- where they lead from the empty state
+abbrev pub led_to : ℕ → List PortStep → Core
+led_to passes steps = stepped_by (empty passes) steps
+
+-- a step as the caller's own, with its place and the value loaded or stored: none where another made it
+abbrev pub own_step : ℕ → PortStep → List OwnStep
+own_step caller (loads_word port slot word) = if port == caller then Loaded (place_of port slot) word ∷ [] else []
+own_step caller (empties_word port slot) = if port == caller then Stored (place_of port slot) 0 ∷ [] else []
+own_step caller (loads_counter other answer) = if other == caller then Loaded counter answer ∷ [] else []
+own_step caller _ = []
+
+-- the caller's own steps among these, in their order
+abbrev pub own_steps : ℕ → List PortStep → List OwnStep
+own_steps caller steps = flat_map (own_step caller) steps
+
+-- the word that the desk last stored at each place, after one step more
+abbrev pub stored_after : List ℕ → PortStep → List ℕ
+stored_after last (stores_word device slot word) = slice_set last (place_of device slot) word
+stored_after last _ = last
+
+-- the word that the desk last stored at each place, after these steps: at first 0
+abbrev pub last_stored : List PortStep → List ℕ
+last_stored steps = fold stored_after (replicate ROW_WORDS 0) steps
+
 module _ (legal : List Event → Type 0) (lawful : List Event → ℕ → ℕ → Type 0) where
   -- a port loads the word that stands there; the desk stores a lawful word; the history with the event is legal, and
   -- every word stays lawful after it; the answer of the counter is the length of the history
@@ -88,28 +115,19 @@ module _ (legal : List Event → Type 0) (lawful : List Event → ℕ → ℕ �
   IsRun c [] = Unit {0}
   IsRun c (s ∷ ss) = IsPortStep c s × IsRun (stepped c s) ss
 
-  -- a run from the empty state leads there
-  pub record IsReached (passes : ℕ) (c : Core) : Type 0 where
+  -- A run leads to this history, which the caller has seen there, and to such words; and these are the caller's own steps in it
+  pub record IsSeenInRun (caller : ℕ) (history : List Event) (own : List OwnStep) (are : List ℕ → Type 0) : Type 0 where
+    pub passes : ℕ
     pub steps : List PortStep
     pub is_run : IsRun (empty passes) steps
-    pub leads : stepped_by (empty passes) steps ≡ c
-
-  -- a run leads to this history, which the caller has seen there, and to such words
-  pub record IsSeenInRun (caller : ℕ) (history : List Event) (are : List ℕ → Type 0) : Type 0 where
-    pub passes : ℕ
-    pub core : Core
-    pub reached : IsReached passes core
-    pub history_is : core.history ≡ history
-    pub seen : seen_by core caller ≡ history
-    pub words : are core.words
+    pub history_is : (led_to passes steps).history ≡ history
+    pub seen : seen_by (led_to passes steps) caller ≡ history
+    pub did : own_steps caller steps ≡ own
+    pub words : are (led_to passes steps).words
 
 -- the run of these steps, in a world with so many table frames
 abbrev pub IsRunOf : ℕ → ℕ → List PortStep → Type 0
 IsRunOf frames passes steps = IsRun (IsLegal frames) (IsLawfulAfter frames) (empty passes) steps
-
--- where they lead
-abbrev pub led_to : ℕ → List PortStep → Core
-led_to passes steps = stepped_by (empty passes) steps
 
 -- the step is a load by the caller
 abbrev pub IsLoadBy : ℕ → PortStep → Type 0

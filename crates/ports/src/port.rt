@@ -67,7 +67,8 @@ impl Port {
             × IfSome result.0 (States word address access)
             × IfNone result.0 ((host : ℕ) → States word address access host → ⊥)
             × IsSeenInRun (IsLegal self.old.rows.frames) (IsLawfulAfter self.old.rows.frames)
-            self.old.device self.new.seen (λ words. slice_index words (place_of self.old.device (slot_of (page_of address))) ≡ word) }
+            self.old.device self.new.seen self.new.did
+            (λ words. slice_index words (place_of self.old.device (slot_of (page_of address))) ≡ word) }
         ensures count { (history : List Event)
             × IsLegal self.old.rows.frames history × (result.1 ≡ length history)
             × IsPrefix self.old.seen history × IsPrefix history self.new.seen }
@@ -90,7 +91,7 @@ impl Port {
         ensures seen { IsPrefix self.old.seen self.new.seen × IsLegal self.old.rows.frames self.new.seen
             × (result ≡ length self.new.seen) }
         ensures run { IsSeenInRun (IsLegal self.old.rows.frames) (IsLawfulAfter self.old.rows.frames)
-            self.old.device self.new.seen (λ words. Unit {0}) }
+            self.old.device self.new.seen self.new.did (λ words. Unit {0}) }
         ensures same { (self.new.rows ≡ self.old.rows) × (self.new.device ≡ self.old.device) }
     {
         rows.words.shared.load::<Counts>(&mut self.seat, COUNTER)

@@ -10,7 +10,7 @@ use Rattle.atomic_table.proofs.Lists.{at_set}
 use Rattle.dmatypes.specs.declared.reply.Event.{Event}
 use Rattle.ports.specs.declared.known.Known.{Known}
 use Rattle.ports.specs.declared.known.View.{View}
-use Rattle.ports.specs.Steps.{empty, place_of, seen_by}
+use Rattle.ports.specs.Steps.{empty, own_steps, place_of, seen_by}
 use Rattle.ports.specs.Rule.{nobody, newcomer, left_seat, caller_view, made_desk, with_guest, one_more, Truth, IsNamed, Fits, Table, IsKept}
 use Rattle.ports.proofs.lists.Fronts.{prefix_self, prefix_nil}
 use Rattle.ports.proofs.steps.Views.{Stays, nobody_named, named_as, named_stays, caller_fits, left_seat_fits, desk_fits, desk_fits_as}
@@ -30,7 +30,7 @@ module _ (legal : List Event → Type 0) (lawful : List Event → ℕ → ℕ �
   unfolding placing
   shown s r p x views fits = record {
     truth = placing r.truth p x;
-    reached = r.reached;
+    reached = record { is_run = r.reached.is_run; leads = r.reached.leads; last = r.reached.last };
     wide = r.wide;
     count = r.count;
     is_legal = r.is_legal;
@@ -46,9 +46,9 @@ module _ (legal : List Event → Type 0) (lawful : List Event → ℕ → ℕ �
 
   -- the caller p has a new place
   placed_as : (t : Truth) (p : ℕ) (j : ℕ) (b : Bool) (known : Known) → known.who ≡ suc p → p < t.made → seen_by t.core p ≡ known.seen
-      → IsNamed (placing t p (j, b)) j b known
+      → own_steps p t.steps ≡ known.did → IsNamed (placing t p (j, b)) j b known
   unfolding placing
-  placed_as t p j b known who lt seen = named_as (placing t p (j, b)) j b known p who lt (put_here t.place p (j, b)) seen
+  placed_as t p j b known who lt seen did = named_as (placing t p (j, b)) j b known p who lt (put_here t.place p (j, b)) seen did
 
   -- a caller leaves its seat for a new one
   pub leaves : (id : ℕ) (v : View) (p : ℕ) → v.mine.who ≡ suc p → Splits K id v left_seat (caller_view v.frames v.mine)
@@ -63,7 +63,7 @@ module _ (legal : List Event → Type 0) (lawful : List Event → ℕ → ℕ �
       (others (placing r.truth p x) id s.views left_seat (λ j u ne e. placing_else r.truth p id false x is.1 j u ne (r.each_seat j u e))
       (left_seat_fits (placing r.truth p x) id))
       (caller_fits (placing r.truth p x) (length left) v.frames v.mine fits.seen
-      (placed_as r.truth p (length left) false v.mine who is.0 is.2)))
+      (placed_as r.truth p (length left) false v.mine who is.0 is.2 is.3)))
 
   -- a caller comes to the desk as its guest
   pub visits : (id : ℕ) (v : View) (other : ℕ) (w : View) (p : ℕ) → v.is_desk ≡ true → w.mine.who ≡ suc p
@@ -80,7 +80,7 @@ module _ (legal : List Event → Type 0) (lawful : List Event → ℕ → ℕ �
       let t = placing r.truth p x in
       let desk =
       desk_fits_as t id v.frames v.mine.seen v.last v.made w.mine whole.1 whole.2 whole.3 whole.0 fits.seen
-      (placed_as r.truth p id true w.mine who is.0 is.2) in
+      (placed_as r.truth p id true w.mine who is.0 is.2 is.3) in
       shown s r p x (set (set s.views id (with_guest v w.mine)) other left_seat)
       (others t other (set s.views id (with_guest v w.mine)) left_seat
       (λ j u ne e. ⊎_elim
@@ -105,7 +105,7 @@ module _ (legal : List Event → Type 0) (lawful : List Event → ℕ → ℕ �
       (others t id s.views (with_guest v nobody) (λ j u ne e. placing_else r.truth p id true x is.1 j u ne (r.each_seat j u e))
       (desk_fits_as t id v.frames v.mine.seen v.last v.made nobody whole.1 whole.2 whole.3 whole.0 (prefix_nil r.truth.core.history)
       (nobody_named t id true)))
-      (caller_fits t (length left) v.frames v.guest fits.guest (placed_as r.truth p (length left) false v.guest who is.0 is.2)))
+      (caller_fits t (length left) v.frames v.guest fits.guest (placed_as r.truth p (length left) false v.guest who is.0 is.2 is.3)))
 
   -- the desk makes a caller
   pub comes : (id : ℕ) (v : View) → v.is_desk ≡ true → v.made < DEVICES + passes
@@ -119,6 +119,7 @@ module _ (legal : List Event → Type 0) (lawful : List Event → ℕ → ℕ �
       let made = whole.3 in
       let t : Truth =
       record {
+        steps = r.truth.steps;
         core = r.truth.core;
         last = r.truth.last;
         desk = r.truth.desk;
@@ -127,7 +128,7 @@ module _ (legal : List Event → Type 0) (lawful : List Event → ℕ → ℕ �
       } in
       record {
         truth = t;
-        reached = r.reached;
+        reached = record { is_run = r.reached.is_run; leads = r.reached.leads; last = r.reached.last };
         wide = r.wide;
         count = r.count;
         is_legal = r.is_legal;
@@ -142,20 +143,20 @@ module _ (legal : List Event → Type 0) (lawful : List Event → ℕ → ℕ �
             (others t id s.views (one_more v)
             (λ j u ne e.
             desk_else r.truth t id whole.0 (prefix_self r.truth.core.history) (omega arith) j
-            (λ q side lt y. (put_else r.truth.place r.truth.made x q (λ z. absurd (omega arith)), refl)) u ne (r.each_seat j u e))
+            (λ q side lt y. (put_else r.truth.place r.truth.made x q (λ z. absurd (omega arith)), refl, refl)) u ne (r.each_seat j u e))
             (desk_fits_as t id v.frames v.mine.seen v.last (suc v.made) v.guest whole.1 whole.2 (ap suc whole.3) whole.0 fits.guest
             (named_stays r.truth t id true v.guest (omega arith)
-            (λ q side lt y. (put_else r.truth.place r.truth.made x q (λ z. absurd (omega arith)), refl)) fits.guest_named)))
+            (λ q side lt y. (put_else r.truth.place r.truth.made x q (λ z. absurd (omega arith)), refl, refl)) fits.guest_named)))
             (caller_fits t (length left) v.frames (newcomer v.made) (prefix_nil r.truth.core.history)
             (named_as t (length left) false (newcomer v.made) r.truth.made (ap suc whole.3) (omega arith)
-            (put_here r.truth.place r.truth.made x) (r.fresh r.truth.made (omega arith))));
+            (put_here r.truth.place r.truth.made x) (r.fresh r.truth.made (omega arith)).0 (r.fresh r.truth.made (omega arith)).1));
       }
 
   -- the table at the start
   pub opens : (frames : ℕ) → K (opening (replicate WORDS 0) [] (made_desk frames 0))
   opens frames = record {
-    truth = record { core = empty passes; last = replicate ROW_WORDS 0; desk = 0; made = 0; place = λ _. (0, false) };
-    reached = record { steps = []; is_run = tt; leads = refl };
+    truth = record { steps = []; core = empty passes; last = replicate ROW_WORDS 0; desk = 0; made = 0; place = λ _. (0, false) };
+    reached = record { is_run = tt; leads = refl; last = refl };
     wide = refl;
     count = refl;
     is_legal = none_legal;
@@ -165,7 +166,7 @@ module _ (legal : List Event → Type 0) (lawful : List Event → ℕ → ℕ �
     each_lawful = λ device slot _ _. subst (lawful [] device) (sym (replicated 0 ROW_WORDS (place_of device slot))) (zeros [] device);
     callers = length-replicate {A = List Event} (DEVICES + passes) [];
     made = omega arith;
-    fresh = λ p _. replicated [] (DEVICES + passes) p;
+    fresh = λ p _. (replicated [] (DEVICES + passes) p, refl);
     each_seat = first;
   }
     where
@@ -175,7 +176,7 @@ module _ (legal : List Event → Type 0) (lawful : List Event → ℕ → ℕ �
       replicated x (suc n) (suc k) = replicated x n k
 
       start : Truth
-      start = record { core = empty passes; last = replicate ROW_WORDS 0; desk = 0; made = 0; place = λ _. (0, false) }
+      start = record { steps = []; core = empty passes; last = replicate ROW_WORDS 0; desk = 0; made = 0; place = λ _. (0, false) }
 
       first : (j : ℕ) (v : View) → get_elem? (made_desk frames 0 ∷ []) j ≡ some v → Fits start j v
       first zero v e =

@@ -1,7 +1,7 @@
 -- Stores and the addition of an event keep the rule.
 -- Of `legal` and `lawful` these proofs use only that the empty history is legal and 0 always lawful.
-use Rattle.std.proofs.Common.{◌≡◌, ◌≢◌, ◌⊎◌, ℕ, suc, ◌+◌, ◌%◌, ◌^◌, ◌<◌, true, List, [], ◌∷◌, ◌++◌, length, set, refl, sym, ap, ◌∙◌, subst}
-use Rattle.std.proofs.Common.{inl, inr, ⊎_elim, arith, length-set, length-append, get_or-set_same, get_or-set_other}
+use Rattle.std.proofs.Common.{◌≡◌, ◌≢◌, ◌⊎◌, ℕ, suc, ◌+◌, ◌%◌, ◌^◌, ◌<◌, ◌≤◌, false, true, List, [], ◌∷◌, ◌++◌, length, set, refl, sym, ap}
+use Rattle.std.proofs.Common.{◌∙◌, subst, inl, inr, ⊎_elim, arith, length-set, length-append, get_or-set_same, get_or-set_other}
 use Rattle.std.specs.Prelude.{slice_index, slice_set}
 use mathlib.Core.Option.{none, some}
 use mathlib.Core.Logic.{dite}
@@ -13,13 +13,14 @@ use Rattle.dmatypes.specs.declared.reply.Event.{Event}
 use Rattle.ports.specs.declared.known.OwnStep.TheVariants.{Stored}
 use Rattle.ports.specs.declared.known.Known.{Known}
 use Rattle.ports.specs.declared.known.View.{View}
-use Rattle.ports.specs.Steps.{empties_word, stores_word, adds_event, counter, place_of, stepped, IsReached, AreLawful}
-use Rattle.ports.specs.Rule.{caller_view, desk_view, Truth, Fits, Table, Sat, IsKept, Emptied, Filled, Appended}
+use Rattle.ports.specs.Steps.{PortStep, empties_word, stores_word, adds_event, counter, place_of, own_steps, AreLawful}
+use Rattle.ports.specs.Rule.{caller_view, desk_view, Truth, Fits, Table, Sat, IsKept, IsReached, Emptied, Filled, Appended}
 use Rattle.ports.proofs.lists.Fronts.{prefix_self, prefix_trans}
-use Rattle.ports.proofs.runs.Reaching.{reached_more}
+use Rattle.ports.proofs.runs.OwnSteps.{emptied_word, own_more, own_same}
+use Rattle.ports.proofs.runs.Reaching.{reached_more, with_step}
 use Rattle.dmatypes.specs.declared.limits.TheConstants.{DEVICES, MOST_CALLS}
 use Rattle.ports.specs.declared.rule.TheConstants.{COUNTER, ROW_WORDS, SLOTS}
-use Rattle.ports.proofs.steps.Views.{Stays, caller_fits, desk_fits_as, fits_stays, desk_else, others}
+use Rattle.ports.proofs.steps.Views.{Stays, apart, caller_fits, desk_fits_as, fits_stays, named_as, named_stays, desk_else, others}
 
 module _ (legal : List Event → Type 0) (lawful : List Event → ℕ → ℕ → Type 0) (none_legal : legal [])
     (zeros : (log : List Event) (device : ℕ) → lawful log device 0) (passes : ℕ) where
@@ -27,9 +28,10 @@ module _ (legal : List Event → Type 0) (lawful : List Event → ℕ → ℕ �
   K s = IsKept legal lawful passes s
 
   -- the word at a place becomes n, which is 0 or the last word that the desk stored there
-  stores : (s : Table) (r : K s) (device slot n id : ℕ) (c : List (ℕ × Unit {0})) (w : View) (last : List ℕ) (t : Truth) → device < DEVICES
-      → slot < SLOTS
+  stores : (s : Table) (r : K s) (device slot n id : ℕ) (c : List (ℕ × Unit {0})) (w : View) (last : List ℕ) (steps : List PortStep)
+      (t : Truth) → device < DEVICES → slot < SLOTS
       → t ≡ record {
+        steps = steps;
         core =
             record {
               history = r.truth.core.history;
@@ -43,13 +45,15 @@ module _ (legal : List Event → Type 0) (lawful : List Event → ℕ → ℕ �
       }
       → (n ≡ 0) ⊎ (n ≡ slice_index last (place_of device slot))
       → ((k : ℕ) → k ≢ place_of device slot → slice_index last k ≡ slice_index r.truth.last k)
-      → AreLawful lawful r.truth.core.history last → IsReached legal lawful passes t.core
+      → AreLawful lawful r.truth.core.history last → IsReached legal lawful passes t
+      → ((p : ℕ) → r.truth.made ≤ p → own_steps p steps ≡ own_steps p r.truth.steps)
       → ((j : ℕ) (v : View) → get_elem? (set s.views id w) j ≡ some v → Fits t j v)
       → K (table_after s (place_of device slot) n id c w keeps)
-  stores s r device slot n id c w last t hd hs is here there lawfuls reached fits =
+  stores s r device slot n id c w last steps t hd hs is here there lawfuls reached newer fits =
       let i : ℕ = place_of device slot in
       let now : Truth =
       record {
+        steps = steps;
         core = record { history = r.truth.core.history; words = slice_set r.truth.core.words i n; seen = r.truth.core.seen };
         last = last;
         desk = r.truth.desk;
@@ -62,7 +66,7 @@ module _ (legal : List Event → Type 0) (lawful : List Event → ℕ → ℕ �
       let ne : counter ≢ i = omega arith in
       record {
         truth = now;
-        reached = subst (λ (x : Truth). IsReached legal lawful passes x.core) is reached;
+        reached = subst (λ (x : Truth). IsReached legal lawful passes x) is reached;
         wide = length-set s.words i n ∙ r.wide;
         count = get_or-set_other s.words i COUNTER n 0 ne ∙ r.count;
         is_legal = r.is_legal;
@@ -81,7 +85,7 @@ module _ (legal : List Event → Type 0) (lawful : List Event → ℕ → ℕ �
         each_lawful = lawfuls;
         callers = r.callers;
         made = r.made;
-        fresh = r.fresh;
+        fresh = λ p h. ((r.fresh p h).0, newer p h ∙ (r.fresh p h).1);
         each_seat = λ j v e. subst (λ (x : Truth). Fits x j v) is (fits j v e);
       }
 
@@ -92,25 +96,24 @@ module _ (legal : List Event → Type 0) (lawful : List Event → ℕ → ℕ �
   empties slots id me port slot hp hs who s r _ at _ =
       let i : ℕ = place_of port slot in
       let now : Known = record { who = me.0.mine.who; seen = me.0.mine.seen; did = me.0.mine.did ++ Stored i 0 ∷ [] } in
-      let t : Truth =
-      record {
-        core = stepped r.truth.core (empties_word port slot);
-        last = r.truth.last;
-        desk = r.truth.desk;
-        made = r.truth.made;
-        place = r.truth.place;
-      } in
-      let fits = r.each_seat id me.0 at in (
+      let one = empties_word port slot in
+      let own = emptied_word port slot in
+      let t : Truth = with_step r.truth one in
+      let fits = r.each_seat id me.0 at in
+      let is = fits.mine_named.is port who in (
         caller_view me.0.frames now,
         keeps,
         tt,
-        stores s r port slot 0 id me.1 (caller_view me.0.frames now) r.truth.last t hp hs refl (inl refl) (λ k _. refl) r.each_lawful
-            (reached_more legal lawful passes r.truth.core (empties_word port slot) r.reached (hp, hs))
+        stores s r port slot 0 id me.1 (caller_view me.0.frames now) r.truth.last t.steps t hp hs refl (inl refl) (λ k _. refl)
+            r.each_lawful (reached_more legal lawful passes r.truth one r.reached (hp, hs))
+            (λ q h. own_same q r.truth.steps one (own.others q (λ e. absurd (omega arith))))
             (others t id s.views (caller_view me.0.frames now)
-            (λ j v _ e.
+            (λ j v ne e.
             fits_stays r.truth t j v (prefix_self r.truth.core.history) (omega arith) (λ _. (refl, refl, refl, refl))
-            (λ q side _ x. (refl, refl)) (r.each_seat j v e))
-            (caller_fits t id me.0.frames now fits.seen (record { is = fits.mine_named.is }))),
+            (λ q side _ x. (refl, refl, own_same q r.truth.steps one (own.others q (apart r.truth q port j id side false x is.1 ne))))
+            (r.each_seat j v e))
+            (caller_fits t id me.0.frames now fits.seen
+            (named_as t id false now port who is.0 is.1 is.2 (own_more port r.truth.steps one (Stored i 0) me.0.mine.did own is.3)))),
         refl,
       )
 
@@ -123,39 +126,35 @@ module _ (legal : List Event → Type 0) (lawful : List Event → ℕ → ℕ �
   fills slots id me device slot n d k is long may s r _ at _ =
       let i : ℕ = place_of device slot in
       let lt : i < ROW_WORDS = omega arith in
-      let lt' : i < length me.0.last = rw long lt in
       let fits = r.each_seat id me.0 at in
       let whole = fits.whole is in
-      let last = slice_set me.0.last i n in
-      let w = desk_view me.0.frames me.0.mine.seen last me.0.made me.0.guest in
+      let lt' : i < length r.truth.last = rw (sym (ap length whole.2), long) lt in
+      let last = slice_set r.truth.last i n in
+      let w = desk_view me.0.frames me.0.mine.seen (slice_set me.0.last i n) me.0.made me.0.guest in
       let may' : lawful r.truth.core.history device n = subst (λ (l : List Event). lawful l device n) whole.1 may in
-      let t : Truth =
-      record {
-        core = stepped r.truth.core (stores_word device slot n);
-        last = last;
-        desk = r.truth.desk;
-        made = r.truth.made;
-        place = r.truth.place;
-      } in (
+      let one = stores_word device slot n in
+      let t : Truth = with_step r.truth one in
+      let same = λ (q : ℕ). own_same q r.truth.steps one refl in (
         w,
         keeps,
         tt,
-        stores s r device slot n id me.1 w last t d k refl (inr (sym (get_or-set_same me.0.last i n 0 lt')))
-            (λ j ne. get_or-set_other me.0.last i j n 0 ne ∙ ap (λ (l : List ℕ). slice_index l j) whole.2)
+        stores s r device slot n id me.1 w last t.steps t d k refl (inr (sym (get_or-set_same r.truth.last i n 0 lt')))
+            (λ j ne. get_or-set_other r.truth.last i j n 0 ne)
             (λ device' slot' d' k'. dite (ℕ_discrete (place_of device' slot') i)
             (λ e. let same : device ≡ device' = omega arith in
             subst (λ (x : ℕ × ℕ). lawful r.truth.core.history x.0 x.1)
-            (λ j. (same j, sym (ap (slice_index last) e ∙ get_or-set_same me.0.last i n 0 lt') j)) may')
+            (λ j. (same j, sym (ap (slice_index last) e ∙ get_or-set_same r.truth.last i n 0 lt') j)) may')
             (λ e. subst (lawful r.truth.core.history device')
-            (sym (get_or-set_other me.0.last i (place_of device' slot') n 0 e
-            ∙ ap (λ (l : List ℕ). slice_index l (place_of device' slot')) whole.2)) (r.each_lawful device' slot' d' k')))
-            (reached_more legal lawful passes r.truth.core (stores_word device slot n) r.reached (d, k, may'))
+            (sym (get_or-set_other r.truth.last i (place_of device' slot') n 0 e)) (r.each_lawful device' slot' d' k')))
+            (reached_more legal lawful passes r.truth one r.reached (d, k, may'))
+            (λ q _. same q)
             (others t id s.views w
             (λ j v ne e.
-            desk_else r.truth t id whole.0 (prefix_self r.truth.core.history) (omega arith) j (λ q side _ x. (refl, refl)) v ne
+            desk_else r.truth t id whole.0 (prefix_self r.truth.core.history) (omega arith) j (λ q side _ x. (refl, refl, same q)) v ne
             (r.each_seat j v e))
-            (desk_fits_as t id me.0.frames me.0.mine.seen last me.0.made me.0.guest whole.1 refl whole.3 whole.0 fits.guest
-            (record { is = fits.guest_named.is }))),
+            (desk_fits_as t id me.0.frames me.0.mine.seen (slice_set me.0.last i n) me.0.made me.0.guest whole.1
+            (ap (λ (l : List ℕ). slice_set l i n) whole.2) whole.3 whole.0 fits.guest
+            (named_stays r.truth t id true me.0.guest (omega arith) (λ q side _ x. (refl, refl, same q)) fits.guest_named))),
         refl,
       )
 
@@ -179,14 +178,9 @@ module _ (legal : List Event → Type 0) (lawful : List Event → ℕ → ℕ �
       let whole = fits.whole is in
       let log = r.truth.core.history ++ event ∷ [] in
       let now : me.0.mine.seen ++ event ∷ [] ≡ log = ap (λ (l : List Event). l ++ event ∷ []) whole.1 in
-      let t : Truth =
-      record {
-        core = stepped r.truth.core (adds_event event);
-        last = r.truth.last;
-        desk = r.truth.desk;
-        made = r.truth.made;
-        place = r.truth.place;
-      } in
+      let one = adds_event event in
+      let t : Truth = with_step r.truth one in
+      let same = λ (q : ℕ). own_same q r.truth.steps one refl in
       let w = desk_view me.0.frames (me.0.mine.seen ++ event ∷ []) me.0.last me.0.made me.0.guest in
       let wide : counter < length s.words = rw r.wide (omega arith) in
       let room' : length r.truth.core.history < MOST_CALLS = subst (λ (l : List Event). length l < MOST_CALLS) whole.1 room in
@@ -201,7 +195,7 @@ module _ (legal : List Event → Type 0) (lawful : List Event → ℕ → ℕ �
         tt,
         record {
           truth = t;
-          reached = reached_more legal lawful passes r.truth.core (adds_event event) r.reached (may', words_lawful s r log lawfuls');
+          reached = reached_more legal lawful passes r.truth one r.reached (may', words_lawful s r log lawfuls');
           wide = length-set s.words counter ((n + 1) % 2 ^ 64) ∙ r.wide;
           count = get_or-set_same s.words counter ((n + 1) % 2 ^ 64) 0 wide ∙ more;
           is_legal = may';
@@ -216,12 +210,13 @@ module _ (legal : List Event → Type 0) (lawful : List Event → ℕ → ℕ �
           each_lawful = lawfuls';
           callers = r.callers;
           made = r.made;
-          fresh = r.fresh;
+          fresh = λ p h. ((r.fresh p h).0, same p ∙ (r.fresh p h).1);
           each_seat =
               others t id s.views w
-              (λ j v ne e. desk_else r.truth t id whole.0 pre (omega arith) j (λ q side _ x. (refl, refl)) v ne (r.each_seat j v e))
+              (λ j v ne e. desk_else r.truth t id whole.0 pre (omega arith) j (λ q side _ x. (refl, refl, same q)) v ne (r.each_seat j v e))
               (desk_fits_as t id me.0.frames (me.0.mine.seen ++ event ∷ []) me.0.last me.0.made me.0.guest now whole.2 whole.3 whole.0
-              (prefix_trans me.0.guest.seen r.truth.core.history log fits.guest pre) (record { is = fits.guest_named.is }));
+              (prefix_trans me.0.guest.seen r.truth.core.history log fits.guest pre)
+              (named_stays r.truth t id true me.0.guest (omega arith) (λ q side _ x. (refl, refl, same q)) fits.guest_named));
         },
         refl,
       )

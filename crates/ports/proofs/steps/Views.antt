@@ -11,9 +11,11 @@ use Rattle.atomic_table.proofs.Lists.{at_set}
 use Rattle.dmatypes.specs.declared.reply.Event.{Event}
 use Rattle.ports.specs.declared.known.Known.{Known}
 use Rattle.ports.specs.declared.known.View.{View}
-use Rattle.ports.specs.Steps.{seen_by, shown_to}
+use Rattle.ports.specs.declared.known.OwnStep.{OwnStep}
+use Rattle.ports.specs.Steps.{PortStep, seen_by, shown_to, own_steps}
 use Rattle.ports.specs.Rule.{nobody, left_seat, caller_view, desk_view, Truth, IsNamed, Fits}
 use Rattle.ports.proofs.lists.Fronts.{prefix_self, prefix_nil, prefix_trans}
+use Rattle.ports.proofs.runs.OwnSteps.{IsOwn, own_same}
 
 off : {X : Type 0} → false ≡ true → X
 off e = absurd (true≢false (sym e))
@@ -40,10 +42,11 @@ pub nobody_named : (t : Truth) (j : ℕ) (as_guest : Bool) → IsNamed t j as_gu
 nobody_named t j g = record { is = λ p e. absurd (omega arith) }
 
 pub named_as : (t : Truth) (j : ℕ) (as_guest : Bool) (known : Known) (p : ℕ) → known.who ≡ suc p → p < t.made → t.place p ≡ (j, as_guest)
-    → seen_by t.core p ≡ known.seen → IsNamed t j as_guest known
-named_as t j g known p who lt at seen = record {
-  is = λ q e. let same : p ≡ q =
-      omega arith in subst (λ (x : ℕ). (x < t.made) × (t.place x ≡ (j, g)) × (seen_by t.core x ≡ known.seen)) same (lt, at, seen);
+    → seen_by t.core p ≡ known.seen → own_steps p t.steps ≡ known.did → IsNamed t j as_guest known
+named_as t j g known p who lt at seen did = record {
+  is = λ q e. let same : p ≡ q = omega arith in
+      subst (λ (x : ℕ). (x < t.made) × (t.place x ≡ (j, g)) × (seen_by t.core x ≡ known.seen) × (own_steps x t.steps ≡ known.did)) same
+      (lt, at, seen, did);
 }
 
 pub caller_fits : (t : Truth) (j frames : ℕ) (known : Known) → IsPrefix known.seen t.core.history → IsNamed t j false known
@@ -75,13 +78,13 @@ desk_fits_as t j frames log last made guest a b c at pre named =
 -- what the callers at the seat k know stays true
 unfoldable pub Stays : Truth → Truth → ℕ → Type 0
 Stays t t' k = (q : ℕ) (as_guest : Bool) → q < t.made → t.place q ≡ (k, as_guest)
-    → (t'.place q ≡ t.place q) × (seen_by t'.core q ≡ seen_by t.core q)
+    → (t'.place q ≡ t.place q) × (seen_by t'.core q ≡ seen_by t.core q) × (own_steps q t'.steps ≡ own_steps q t.steps)
 
 pub named_stays : (t t' : Truth) (k : ℕ) (as_guest : Bool) (known : Known) → t.made ≤ t'.made → Stays t t' k → IsNamed t k as_guest known
     → IsNamed t' k as_guest known
 unfolding Stays
 named_stays t t' k g known more same n =
-    record { is = λ p e. let x = n.is p e in let y = same p g x.0 x.1 in (omega arith, y.0 ∙ x.1, y.1 ∙ x.2) }
+    record { is = λ p e. let x = n.is p e in let y = same p g x.0 x.1 in (omega arith, y.0 ∙ x.1, y.1 ∙ x.2, y.2 ∙ x.3) }
 
 pub fits_stays : (t t' : Truth) (k : ℕ) (v : View) → IsPrefix t.core.history t'.core.history → t.made ≤ t'.made
     → (k ≡ t.desk → (t.desk ≡ t'.desk) × (t.core.history ≡ t'.core.history) × (t.last ≡ t'.last) × (t.made ≡ t'.made)) → Stays t t' k
@@ -123,25 +126,29 @@ set_same ws i lt k = dite (ℕ_discrete k i)
     (λ ne. get_or-set_other ws i k (get_or ws i 0) 0 ne)
 
 -- two callers at two seats are two
-apart : (t : Truth) (q p j id : ℕ) (a b : Bool) → t.place q ≡ (j, a) → t.place p ≡ (id, b) → j ≢ id → q ≢ p
+pub apart : (t : Truth) (q p j id : ℕ) (a b : Bool) → t.place q ≡ (j, a) → t.place p ≡ (id, b) → j ≢ id → q ≢ p
 apart t q p j id a b x y ne e = ne (ap (λ (z : ℕ × Bool). z.0) (sym x ∙ ap t.place e ∙ y))
 
--- a caller sees the history
-unfoldable pub seeing : Truth → ℕ → Truth
-seeing t p = record { core = shown_to p t.core; last = t.last; desk = t.desk; made = t.made; place = t.place }
+-- a caller sees the history, by a load
+unfoldable pub seeing : Truth → ℕ → PortStep → Truth
+seeing t p s =
+    record { steps = t.steps ++ s ∷ []; core = shown_to p t.core; last = t.last; desk = t.desk; made = t.made; place = t.place }
 
-pub seeing_else : (t : Truth) (p id : ℕ) (b : Bool) → t.place p ≡ (id, b) → (j : ℕ) (v : View) → j ≢ id → Fits t j v → Fits (seeing t p) j v
+pub seeing_else : (t : Truth) (p : ℕ) (s : PortStep) (step : OwnStep) (id : ℕ) (b : Bool) → IsOwn p s step → t.place p ≡ (id, b)
+    → (j : ℕ) (v : View) → j ≢ id → Fits t j v → Fits (seeing t p s) j v
 unfolding seeing Stays
-seeing_else t p id b at j v ne f = fits_stays t (seeing t p) j v (prefix_self t.core.history) (omega arith) (λ _. (refl, refl, refl, refl))
-    (λ q side _ x. (refl, get_or-set_other t.core.seen p q t.core.history [] (apart t q p j id side b x at ne))) f
+seeing_else t p s step id b own at j v ne f =
+    fits_stays t (seeing t p s) j v (prefix_self t.core.history) (omega arith) (λ _. (refl, refl, refl, refl))
+    (λ q side _ x. let two = apart t q p j id side b x at ne in
+    (refl, get_or-set_other t.core.seen p q t.core.history [] two, own_same q t.steps s (own.others q two))) f
 
 -- a caller takes another place
 unfoldable pub placing : Truth → ℕ → ℕ × Bool → Truth
-placing t p x = record { core = t.core; last = t.last; desk = t.desk; made = t.made; place = put_at t.place p x }
+placing t p x = record { steps = t.steps; core = t.core; last = t.last; desk = t.desk; made = t.made; place = put_at t.place p x }
 
 pub placing_else : (t : Truth) (p id : ℕ) (b : Bool) (x : ℕ × Bool) → t.place p ≡ (id, b) → (j : ℕ) (v : View) → j ≢ id → Fits t j v
     → Fits (placing t p x) j v
 unfolding placing Stays
 placing_else t p id b x at j v ne f =
     fits_stays t (placing t p x) j v (prefix_self t.core.history) (omega arith) (λ _. (refl, refl, refl, refl))
-    (λ q side _ y. (put_else t.place p x q (apart t q p j id side b y at ne), refl)) f
+    (λ q side _ y. (put_else t.place p x q (apart t q p j id side b y at ne), refl, refl)) f

@@ -49,7 +49,8 @@ returns-clause-did c =
       c.host.ensures.some,
       c.host.ensures.none,
       subst (λ (x : ℕ × ℕ × ℕ).
-          IsSeenInRun (IsLegal x.0) (IsLawfulAfter x.0) x.1 c.load-word.new.seat.me.0.mine.seen (λ words. slice_index words x.2 ≡ word))
+          IsSeenInRun (IsLegal x.0) (IsLawfulAfter x.0) x.1 c.load-word.new.seat.me.0.mine.seen c.load-word.new.seat.me.0.mine.did
+          (λ words. slice_index words x.2 ≡ word))
           (λ i. (frames i, device i, place i))
           (looked.2 c.self.inside.device c.self.invariant.1),
     )
