@@ -6,8 +6,8 @@ use mathlib.Core.List.{IsPrefix}
 use lib.ListN.{get_elem?}
 use Rattle.atomic_table.specs.Table.{State, Me, Step}
 use Rattle.dmatypes.specs.declared.reply.Event.{Event}
-use Rattle.ports.specs.Steps.{Core, PortStep, IsRun, IsSeenInRun, AreLawful, counter, empty, last_stored, led_to, own_steps, place_of}
-use Rattle.ports.specs.Steps.{seen_by}
+use Rattle.ports.specs.Steps.{Core, PortStep, IsRun, IsSeenInRun, AreLawful, counter, empty, desk_stores, last_stored, led_to}
+use Rattle.ports.specs.Steps.{own_steps, place_of, seen_by}
 use Rattle.ports.specs.declared.known.OwnStep.{OwnStep}
 use Rattle.ports.specs.declared.known.OwnStep.TheVariants.{Loaded, Stored}
 use Rattle.ports.specs.declared.known.Known.{Known}
@@ -36,21 +36,28 @@ caller_view frames known = record { frames = frames; is_desk = false; made = 0; 
 abbrev pub left_seat : View
 left_seat = caller_view 0 nobody
 
-abbrev pub desk_view : ℕ → List Event → List ℕ → ℕ → Known → View
-desk_view frames history last made guest =
-    record { frames = frames; is_desk = true; made = made; mine = record { who = 0; seen = history; did = [] }; guest = guest; last = last }
+-- the view of the desk: the whole history, its own stores, and the word that it last stored at each place
+abbrev pub desk_view : ℕ → List Event → List OwnStep → List ℕ → ℕ → Known → View
+desk_view frames history did last made guest = record {
+  frames = frames;
+  is_desk = true;
+  made = made;
+  mine = record { who = 0; seen = history; did = did };
+  guest = guest;
+  last = last;
+}
 
 -- the desk of a new table that has made so many callers
 abbrev pub made_desk : ℕ → ℕ → View
-made_desk frames made = desk_view frames [] (replicate ROW_WORDS 0) made nobody
+made_desk frames made = desk_view frames [] [] (replicate ROW_WORDS 0) made nobody
 
 -- a guest sits down at the desk, or stands up
 abbrev pub with_guest : View → Known → View
-with_guest v guest = desk_view v.frames v.mine.seen v.last v.made guest
+with_guest v guest = desk_view v.frames v.mine.seen v.mine.did v.last v.made guest
 
 -- the desk makes one more caller
 abbrev pub one_more : View → View
-one_more v = desk_view v.frames v.mine.seen v.last (suc v.made) v.guest
+one_more v = desk_view v.frames v.mine.seen v.mine.did v.last (suc v.made) v.guest
 
 -- ---- the rule
 
@@ -69,11 +76,13 @@ pub record IsNamed (t : Truth) (seat : ℕ) (as_guest : Bool) (known : Known) : 
   pub is : (p : ℕ) → known.who ≡ suc p
       → (p < t.made) × (t.place p ≡ (seat, as_guest)) × (seen_by t.core p ≡ known.seen) × (own_steps p t.steps ≡ known.did)
 
--- the view of a seat: what was seen is a front of the history, and the desk has seen all of it
+-- the view of a seat: what was seen is a front of the history; the desk has seen all of it, and knows its own stores among the
+-- steps that were made
 pub record Fits (t : Truth) (seat : ℕ) (v : View) : Type 0 where
   pub seen : IsPrefix v.mine.seen t.core.history
   pub guest : IsPrefix v.guest.seen t.core.history
   pub whole : v.is_desk ≡ true → (seat ≡ t.desk) × (v.mine.seen ≡ t.core.history) × (v.last ≡ t.last) × (v.made ≡ t.made)
+      × (v.mine.did ≡ desk_stores t.steps)
   pub mine_named : IsNamed t seat false v.mine
   pub guest_named : IsNamed t seat true v.guest
 
@@ -138,10 +147,11 @@ Emptied st m n m' =
     m'.0 ≡ caller_view m.0.frames (record { who = m.0.mine.who; seen = m.0.mine.seen; did = m.0.mine.did ++ Stored st.word n ∷ [] })
 
 abbrev pub Filled : Step (Unit {0}) → Sat → ℕ → Sat → Type 0
-Filled st m n m' = m'.0 ≡ desk_view m.0.frames m.0.mine.seen (slice_set m.0.last st.word n) m.0.made m.0.guest
+Filled st m n m' =
+    m'.0 ≡ desk_view m.0.frames m.0.mine.seen (m.0.mine.did ++ Stored st.word n ∷ []) (slice_set m.0.last st.word n) m.0.made m.0.guest
 
 abbrev pub Appended : Event → Step (Unit {0}) → Sat → ℕ → Sat → Type 0
-Appended event st m n m' = m'.0 ≡ desk_view m.0.frames (m.0.mine.seen ++ event ∷ []) m.0.last m.0.made m.0.guest
+Appended event st m n m' = m'.0 ≡ desk_view m.0.frames (m.0.mine.seen ++ event ∷ []) m.0.mine.did m.0.last m.0.made m.0.guest
 
 -- the desk loads the counter for its guest, who has then seen all that the desk has
 abbrev pub Hosted : Step (Unit {0}) → Sat → ℕ → Sat → Type 0

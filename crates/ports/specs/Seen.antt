@@ -1,8 +1,10 @@
 -- What contracts see of the rows, and of the ports, passes and the desk that belong to them.
-use Rattle.std.specs.Prelude.{◌≡◌, ℕ, ◌+◌, ◌<◌, List, [], replicate, Some, slice_get}
+use Rattle.std.specs.Prelude.{◌≡◌, ℕ, zero, suc, ◌+◌, ◌<◌, List, [], ◌∷◌, ◌++◌, replicate, Some, slice_get}
 use Rattle.atomic_table.specs.Seated.{TableId}
 use Rattle.dmatypes.specs.declared.reply.Event.{Event}
 use Rattle.ports.specs.declared.known.OwnStep.{OwnStep}
+use Rattle.ports.specs.declared.known.OwnStep.TheVariants.{Stored}
+use Rattle.ports.specs.Steps.{place_of}
 use Rattle.dmatypes.specs.declared.limits.TheConstants.{DEVICES}
 use Rattle.ports.specs.declared.rule.TheConstants.{ROW_WORDS}
 use Rattle.ports.specs.declared.known.View.{View}
@@ -25,10 +27,11 @@ pub record Pass : Type 0 where
   pub caller : ℕ
   pub seen : List Event
 
--- the desk: its rows, the whole history, and the word that it last stored at each place
+-- the desk: its rows, the whole history, its own stores, and the word that it last stored at each place
 pub record Desk : Type 0 where
   pub rows : Rows
   pub history : List Event
+  pub did : List OwnStep
   pub last : List ℕ
 
 -- ---- what seats know, as that
@@ -43,7 +46,14 @@ abbrev pub pass_of : TableId → View → ℕ → Pass
 pass_of table v caller = record { rows = rows_of table v.frames; caller = caller; seen = v.mine.seen }
 
 abbrev pub desk_of : TableId → View → Desk
-desk_of table v = record { rows = rows_of table v.frames; history = v.mine.seen; last = v.last }
+desk_of table v = record { rows = rows_of table v.frames; history = v.mine.seen; did = v.mine.did; last = v.last }
+
+-- ---- what the desk does to a row
+
+-- stores of 0 in the first so many slots of a device's row
+unfoldable pub emptied_slots : ℕ → ℕ → List OwnStep
+emptied_slots device zero = []
+emptied_slots device (suc slot) = emptied_slots device slot ++ Stored (place_of device slot) 0 ∷ []
 
 -- ---- what is made with new rows
 
@@ -54,7 +64,7 @@ abbrev pub new_pass : Rows → ℕ → Pass
 new_pass rows caller = record { rows = rows; caller = caller; seen = [] }
 
 abbrev pub new_desk : Rows → Desk
-new_desk rows = record { rows = rows; history = []; last = replicate ROW_WORDS 0 }
+new_desk rows = record { rows = rows; history = []; did = []; last = replicate ROW_WORDS 0 }
 
 -- the first so many are the ports of devices 0, 1 and so on
 abbrev pub ArePorts : Rows → List Port → ℕ → Type 0

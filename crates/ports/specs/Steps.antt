@@ -91,6 +91,15 @@ own_step caller _ = []
 abbrev pub own_steps : ℕ → List PortStep → List OwnStep
 own_steps caller steps = flat_map (own_step caller) steps
 
+-- a step as a store of the desk's own: none where another made it
+abbrev pub desk_store : PortStep → List OwnStep
+desk_store (stores_word device slot word) = Stored (place_of device slot) word ∷ []
+desk_store _ = []
+
+-- the desk's own stores among these, in their order
+abbrev pub desk_stores : List PortStep → List OwnStep
+desk_stores steps = flat_map desk_store steps
+
 -- the word that the desk last stored at each place, after one step more
 abbrev pub stored_after : List ℕ → PortStep → List ℕ
 stored_after last (stores_word device slot word) = slice_set last (place_of device slot) word

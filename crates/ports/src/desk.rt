@@ -7,7 +7,8 @@ ghost use Rattle.vtdbits.specs.Port.{Spells};
 ghost use Rattle.ports.specs.Lawful.{IsBacked, IsLawfulAfter};
 ghost use Rattle.ports.specs.Steps.{AreLawful, counter, place_of, slot_of};
 ghost use Rattle.ports.specs.Rule.{desk_view, nobody, told, caller_view, with_guest};
-ghost use Rattle.ports.specs.declared.known.OwnStep.TheVariants.{Loaded};
+ghost use Rattle.ports.specs.declared.known.OwnStep.TheVariants.{Loaded, Stored};
+ghost use Rattle.ports.specs.Seen.{emptied_slots};
 
 use crate::port::{Pass, Port, place};
 use crate::rows::Rows;
@@ -16,7 +17,7 @@ use dmatypes::{DEVICES, Event, MOST_CALLS};
 use std::marker::{Brand, Model};
 use vtdbits::PortWord;
 
-/// It has seen the whole history, and knows the word that it last stored at each place.
+/// It has seen the whole history, and knows its own stores and the word that it last stored at each place.
 #[derive(Drop)]
 pub struct Desk {
     pub(crate) seat: Place,
@@ -45,19 +46,22 @@ impl Desk {
         ensures word { Spells (slice_index self.new.last (place_of device (slot_of word.page))) word }
         ensures last { self.new.last ≡ slice_set self.old.last (place_of device (slot_of word.page))
             (slice_index self.new.last (place_of device (slot_of word.page))) }
+        ensures did { self.new.did ≡ self.old.did ++ Stored (place_of device (slot_of word.page))
+            (slice_index self.new.last (place_of device (slot_of word.page))) ∷ [] }
         ensures same { (self.new.rows ≡ self.old.rows) × (self.new.history ≡ self.old.history) }
     {
         self.store(rows, device, word.page.number() % SLOTS, word.encode());
     }
 
     /// Empties all words in the row of a device.
-    #[tactic(auto, using(crate::proofs::histories::LawfulWords::lawful_zero))]
+    #[tactic(auto, using(crate::proofs::histories::LawfulWords::lawful_zero, crate::proofs::lists::Emptied::none_emptied))]
     pub fn clear(&mut self, rows: &Rows, device: u64)
         requires rows { self.old.rows ≡ rows.now }
         requires device { device < DEVICES }
         ensures cleared { (slot : ℕ) → slot < SLOTS → slice_index self.new.last (place_of device slot) ≡ 0 }
         ensures others { (k : ℕ) → (k < SLOTS * device) ⊎ (SLOTS * device + SLOTS ≤ k)
             → slice_index self.new.last k ≡ slice_index self.old.last k }
+        ensures did { self.new.did ≡ self.old.did ++ emptied_slots device SLOTS }
         ensures same { (self.new.rows ≡ self.old.rows) × (self.new.history ≡ self.old.history) }
     {
         for slot in 0..SLOTS {
@@ -72,6 +76,7 @@ impl Desk {
         requires lawful { IsLawfulAfter self.old.rows.frames self.old.history device word }
         ensures last { self.new.last ≡ slice_set self.old.last (place_of device slot) word }
         ensures stored { slice_index self.new.last (place_of device slot) ≡ word }
+        ensures did { self.new.did ≡ self.old.did ++ Stored (place_of device slot) word ∷ [] }
         ensures same { (self.new.rows ≡ self.old.rows) × (self.new.history ≡ self.old.history) }
     {
         let place = place(device, slot);
@@ -87,7 +92,7 @@ impl Desk {
         requires legal { IsLegal self.old.rows.frames (self.old.history ++ event.now ∷ []) }
         requires lawful { AreLawful (IsLawfulAfter self.old.rows.frames) (self.old.history ++ event.now ∷ []) self.old.last }
         ensures history { self.new.history ≡ self.old.history ++ event.now ∷ [] }
-        ensures same { (self.new.rows ≡ self.old.rows) × (self.new.last ≡ self.old.last) }
+        ensures same { (self.new.rows ≡ self.old.rows) × (self.new.last ≡ self.old.last) × (self.new.did ≡ self.old.did) }
     {
         append_as::<Brand>(&mut self.seat, rows, event);
     }
@@ -119,7 +124,7 @@ fn append_as<E: Told>(desk: &mut Place, rows: &Rows, event: &Event)
     requires legal { IsLegal rows.now.frames (desk.old.me.0.mine.seen ++ E.event ∷ []) }
     requires lawful { AreLawful (IsLawfulAfter rows.now.frames) (desk.old.me.0.mine.seen ++ E.event ∷ []) desk.old.me.0.last }
     ensures { (desk.new.table_id ≡ desk.old.table_id)
-        × (desk.new.me.0 ≡ desk_view desk.old.me.0.frames (desk.old.me.0.mine.seen ++ E.event ∷ [])
+        × (desk.new.me.0 ≡ desk_view desk.old.me.0.frames (desk.old.me.0.mine.seen ++ E.event ∷ []) desk.old.me.0.mine.did
         desk.old.me.0.last desk.old.me.0.made desk.old.me.0.guest) }
 {
     let _ = event;

@@ -3,7 +3,7 @@
 use dmatypes::Event;
 use std::collections::LinkedList;
 
-/// A step that a port made: its place, and the value that was loaded or stored.
+/// A step that a port, a pass or the desk made: its place, and the value that was loaded or stored.
 pub enum OwnStep {
     Loaded(u64, u64),
     Stored(u64, u64),
@@ -16,8 +16,9 @@ pub struct Known {
     pub did: LinkedList<OwnStep>,
 }
 
-/// The view of a seat: a port's, a pass's or the desk's. The desk has seen the whole history, knows how many
-/// callers were made and which word it last stored at each place, and may have a caller as its guest.
+/// The view of a seat: a port's, a pass's or the desk's. The desk has seen the whole history, knows its own
+/// stores, how many callers were made and which word it last stored at each place, and may have a caller as
+/// its guest.
 pub struct View {
     pub frames: u64,
     pub is_desk: bool,

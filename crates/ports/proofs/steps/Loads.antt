@@ -15,7 +15,7 @@ use Rattle.ports.specs.declared.known.OwnStep.{OwnStep}
 use Rattle.ports.specs.Steps.{PortStep, loads_word, loads_counter, counter, place_of, seen_by, own_steps, Core, IsSeenInRun, led_to}
 use Rattle.ports.specs.Rule.{caller_view, with_guest, Fits, Table, Sat, IsKept, IsReached, Counted, Looked, Hosted}
 use Rattle.ports.proofs.lists.Fronts.{prefix_self}
-use Rattle.ports.proofs.runs.OwnSteps.{IsOwn, loaded_word, loaded_counter, own_more, own_same}
+use Rattle.ports.proofs.runs.OwnSteps.{IsOwn, loaded_word, loaded_counter, own_more, own_same, stores_same}
 use Rattle.ports.proofs.runs.Reaching.{reached_more}
 use Rattle.dmatypes.specs.declared.limits.TheConstants.{DEVICES}
 use Rattle.ports.specs.declared.rule.TheConstants.{COUNTER, ROW_WORDS, SLOTS, WORDS}
@@ -175,7 +175,8 @@ module _ (legal : List Event → Type 0) (lawful : List Event → ℕ → ℕ �
             (reached_more legal lawful passes r.truth one r.reached (lt, r.count))
             (others now id s.views w
             (λ j u ne e. seeing_else r.truth p one (Loaded counter n) id true own is.1 j u ne (r.each_seat j u e))
-            (desk_fits_as now id me.0.frames me.0.mine.seen me.0.last me.0.made guest whole.1 whole.2 whole.3 whole.0
+            (desk_fits_as now id me.0.frames me.0.mine.seen me.0.mine.did me.0.last me.0.made guest whole.1 whole.2 whole.3
+            (whole.4 ∙ stores_same r.truth.steps one refl) whole.0
             (subst (λ (l : List Event). IsPrefix l r.truth.core.history) (sym whole.1) (prefix_self r.truth.core.history))
             (named_as now id true guest p who is.0 is.1
             (get_or-set_same r.truth.core.seen p r.truth.core.history [] lt ∙ sym whole.1)

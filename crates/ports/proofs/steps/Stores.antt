@@ -16,7 +16,7 @@ use Rattle.ports.specs.declared.known.View.{View}
 use Rattle.ports.specs.Steps.{PortStep, empties_word, stores_word, adds_event, counter, place_of, own_steps, AreLawful}
 use Rattle.ports.specs.Rule.{caller_view, desk_view, Truth, Fits, Table, Sat, IsKept, IsReached, Emptied, Filled, Appended}
 use Rattle.ports.proofs.lists.Fronts.{prefix_self, prefix_trans}
-use Rattle.ports.proofs.runs.OwnSteps.{emptied_word, own_more, own_same}
+use Rattle.ports.proofs.runs.OwnSteps.{emptied_word, own_more, own_same, stores_more, stores_same}
 use Rattle.ports.proofs.runs.Reaching.{reached_more, with_step}
 use Rattle.dmatypes.specs.declared.limits.TheConstants.{DEVICES, MOST_CALLS}
 use Rattle.ports.specs.declared.rule.TheConstants.{COUNTER, ROW_WORDS, SLOTS}
@@ -109,7 +109,7 @@ module _ (legal : List Event → Type 0) (lawful : List Event → ℕ → ℕ �
             (λ q h. own_same q r.truth.steps one (own.others q (λ e. absurd (omega arith))))
             (others t id s.views (caller_view me.0.frames now)
             (λ j v ne e.
-            fits_stays r.truth t j v (prefix_self r.truth.core.history) (omega arith) (λ _. (refl, refl, refl, refl))
+            fits_stays r.truth t j v (prefix_self r.truth.core.history) (omega arith) (λ _. (refl, refl, refl, refl, stores_same r.truth.steps one refl))
             (λ q side _ x. (refl, refl, own_same q r.truth.steps one (own.others q (apart r.truth q port j id side false x is.1 ne))))
             (r.each_seat j v e))
             (caller_fits t id me.0.frames now fits.seen
@@ -130,7 +130,8 @@ module _ (legal : List Event → Type 0) (lawful : List Event → ℕ → ℕ �
       let whole = fits.whole is in
       let lt' : i < length r.truth.last = rw (sym (ap length whole.2), long) lt in
       let last = slice_set r.truth.last i n in
-      let w = desk_view me.0.frames me.0.mine.seen (slice_set me.0.last i n) me.0.made me.0.guest in
+      let did = me.0.mine.did ++ Stored i n ∷ [] in
+      let w = desk_view me.0.frames me.0.mine.seen did (slice_set me.0.last i n) me.0.made me.0.guest in
       let may' : lawful r.truth.core.history device n = subst (λ (l : List Event). lawful l device n) whole.1 may in
       let one = stores_word device slot n in
       let t : Truth = with_step r.truth one in
@@ -152,8 +153,9 @@ module _ (legal : List Event → Type 0) (lawful : List Event → ℕ → ℕ �
             (λ j v ne e.
             desk_else r.truth t id whole.0 (prefix_self r.truth.core.history) (omega arith) j (λ q side _ x. (refl, refl, same q)) v ne
             (r.each_seat j v e))
-            (desk_fits_as t id me.0.frames me.0.mine.seen (slice_set me.0.last i n) me.0.made me.0.guest whole.1
-            (ap (λ (l : List ℕ). slice_set l i n) whole.2) whole.3 whole.0 fits.guest
+            (desk_fits_as t id me.0.frames me.0.mine.seen did (slice_set me.0.last i n) me.0.made me.0.guest whole.1
+            (ap (λ (l : List ℕ). slice_set l i n) whole.2) whole.3
+            (stores_more r.truth.steps one (Stored i n) me.0.mine.did refl whole.4) whole.0 fits.guest
             (named_stays r.truth t id true me.0.guest (omega arith) (λ q side _ x. (refl, refl, same q)) fits.guest_named))),
         refl,
       )
@@ -181,7 +183,7 @@ module _ (legal : List Event → Type 0) (lawful : List Event → ℕ → ℕ �
       let one = adds_event event in
       let t : Truth = with_step r.truth one in
       let same = λ (q : ℕ). own_same q r.truth.steps one refl in
-      let w = desk_view me.0.frames (me.0.mine.seen ++ event ∷ []) me.0.last me.0.made me.0.guest in
+      let w = desk_view me.0.frames (me.0.mine.seen ++ event ∷ []) me.0.mine.did me.0.last me.0.made me.0.guest in
       let wide : counter < length s.words = rw r.wide (omega arith) in
       let room' : length r.truth.core.history < MOST_CALLS = subst (λ (l : List Event). length l < MOST_CALLS) whole.1 room in
       let count = r.count in
@@ -214,7 +216,8 @@ module _ (legal : List Event → Type 0) (lawful : List Event → ℕ → ℕ �
           each_seat =
               others t id s.views w
               (λ j v ne e. desk_else r.truth t id whole.0 pre (omega arith) j (λ q side _ x. (refl, refl, same q)) v ne (r.each_seat j v e))
-              (desk_fits_as t id me.0.frames (me.0.mine.seen ++ event ∷ []) me.0.last me.0.made me.0.guest now whole.2 whole.3 whole.0
+              (desk_fits_as t id me.0.frames (me.0.mine.seen ++ event ∷ []) me.0.mine.did me.0.last me.0.made me.0.guest now whole.2 whole.3
+              (whole.4 ∙ stores_same r.truth.steps one refl) whole.0
               (prefix_trans me.0.guest.seen r.truth.core.history log fits.guest pre)
               (named_stays r.truth t id true me.0.guest (omega arith) (λ q side _ x. (refl, refl, same q)) fits.guest_named));
         },

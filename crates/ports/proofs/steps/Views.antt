@@ -12,10 +12,10 @@ use Rattle.dmatypes.specs.declared.reply.Event.{Event}
 use Rattle.ports.specs.declared.known.Known.{Known}
 use Rattle.ports.specs.declared.known.View.{View}
 use Rattle.ports.specs.declared.known.OwnStep.{OwnStep}
-use Rattle.ports.specs.Steps.{PortStep, seen_by, shown_to, own_steps}
+use Rattle.ports.specs.Steps.{PortStep, desk_stores, own_steps, seen_by, shown_to}
 use Rattle.ports.specs.Rule.{nobody, left_seat, caller_view, desk_view, Truth, IsNamed, Fits}
 use Rattle.ports.proofs.lists.Fronts.{prefix_self, prefix_nil, prefix_trans}
-use Rattle.ports.proofs.runs.OwnSteps.{IsOwn, own_same}
+use Rattle.ports.proofs.runs.OwnSteps.{IsOwn, own_same, stores_same}
 
 off : {X : Type 0} → false ≡ true → X
 off e = absurd (true≢false (sym e))
@@ -58,21 +58,22 @@ pub left_seat_fits : (t : Truth) (j : ℕ) → Fits t j left_seat
 left_seat_fits t j = caller_fits t j 0 nobody (prefix_nil t.core.history) (nobody_named t j false)
 
 pub desk_fits : (t : Truth) (j frames : ℕ) (guest : Known) → j ≡ t.desk → IsPrefix guest.seen t.core.history → IsNamed t j true guest
-    → Fits t j (desk_view frames t.core.history t.last t.made guest)
+    → Fits t j (desk_view frames t.core.history (desk_stores t.steps) t.last t.made guest)
 desk_fits t j frames guest at pre named = record {
   seen = prefix_self t.core.history;
   guest = pre;
-  whole = λ _. (at, refl, refl, refl);
+  whole = λ _. (at, refl, refl, refl, refl);
   mine_named = record { is = λ p e. absurd (omega arith) };
   guest_named = named;
 }
 
 -- the same, where the desk's view is known to be this
-pub desk_fits_as : (t : Truth) (j frames : ℕ) (log : List Event) (last : List ℕ) (made : ℕ) (guest : Known) → log ≡ t.core.history
-    → last ≡ t.last → made ≡ t.made
-    → j ≡ t.desk → IsPrefix guest.seen t.core.history → IsNamed t j true guest → Fits t j (desk_view frames log last made guest)
-desk_fits_as t j frames log last made guest a b c at pre named =
-    subst (λ (x : List Event × List ℕ × ℕ). Fits t j (desk_view frames x.0 x.1 x.2 guest)) (λ i. (sym a i, sym b i, sym c i))
+pub desk_fits_as : (t : Truth) (j frames : ℕ) (log : List Event) (did : List OwnStep) (last : List ℕ) (made : ℕ) (guest : Known)
+    → log ≡ t.core.history → last ≡ t.last → made ≡ t.made → did ≡ desk_stores t.steps
+    → j ≡ t.desk → IsPrefix guest.seen t.core.history → IsNamed t j true guest → Fits t j (desk_view frames log did last made guest)
+desk_fits_as t j frames log did last made guest a b c d at pre named =
+    subst (λ (x : List Event × List OwnStep × List ℕ × ℕ). Fits t j (desk_view frames x.0 x.1 x.2 x.3 guest))
+    (λ i. (sym a i, sym d i, sym b i, sym c i))
     (desk_fits t j frames guest at pre named)
 
 -- what the callers at the seat k know stays true
@@ -87,12 +88,13 @@ named_stays t t' k g known more same n =
     record { is = λ p e. let x = n.is p e in let y = same p g x.0 x.1 in (omega arith, y.0 ∙ x.1, y.1 ∙ x.2, y.2 ∙ x.3) }
 
 pub fits_stays : (t t' : Truth) (k : ℕ) (v : View) → IsPrefix t.core.history t'.core.history → t.made ≤ t'.made
-    → (k ≡ t.desk → (t.desk ≡ t'.desk) × (t.core.history ≡ t'.core.history) × (t.last ≡ t'.last) × (t.made ≡ t'.made)) → Stays t t' k
+    → (k ≡ t.desk → (t.desk ≡ t'.desk) × (t.core.history ≡ t'.core.history) × (t.last ≡ t'.last) × (t.made ≡ t'.made)
+    × (desk_stores t.steps ≡ desk_stores t'.steps)) → Stays t t' k
     → Fits t k v → Fits t' k v
 fits_stays t t' k v pre more keep same f = record {
   seen = prefix_trans v.mine.seen t.core.history t'.core.history f.seen pre;
   guest = prefix_trans v.guest.seen t.core.history t'.core.history f.guest pre;
-  whole = λ e. let w = f.whole e in let d = keep w.0 in (w.0 ∙ d.0, w.1 ∙ d.1, w.2 ∙ d.2, w.3 ∙ d.3);
+  whole = λ e. let w = f.whole e in let d = keep w.0 in (w.0 ∙ d.0, w.1 ∙ d.1, w.2 ∙ d.2, w.3 ∙ d.3, w.4 ∙ d.4);
   mine_named = named_stays t t' k false v.mine more same f.mine_named;
   guest_named = named_stays t t' k true v.guest more same f.guest_named;
 }
@@ -138,7 +140,7 @@ pub seeing_else : (t : Truth) (p : ℕ) (s : PortStep) (step : OwnStep) (id : �
     → (j : ℕ) (v : View) → j ≢ id → Fits t j v → Fits (seeing t p s) j v
 unfolding seeing Stays
 seeing_else t p s step id b own at j v ne f =
-    fits_stays t (seeing t p s) j v (prefix_self t.core.history) (omega arith) (λ _. (refl, refl, refl, refl))
+    fits_stays t (seeing t p s) j v (prefix_self t.core.history) (omega arith) (λ _. (refl, refl, refl, refl, stores_same t.steps s own.not_desk))
     (λ q side _ x. let two = apart t q p j id side b x at ne in
     (refl, get_or-set_other t.core.seen p q t.core.history [] two, own_same q t.steps s (own.others q two))) f
 
@@ -150,5 +152,5 @@ pub placing_else : (t : Truth) (p id : ℕ) (b : Bool) (x : ℕ × Bool) → t.p
     → Fits (placing t p x) j v
 unfolding placing Stays
 placing_else t p id b x at j v ne f =
-    fits_stays t (placing t p x) j v (prefix_self t.core.history) (omega arith) (λ _. (refl, refl, refl, refl))
+    fits_stays t (placing t p x) j v (prefix_self t.core.history) (omega arith) (λ _. (refl, refl, refl, refl, refl))
     (λ q side _ y. (put_else t.place p x q (apart t q p j id side b y at ne), refl, refl)) f
