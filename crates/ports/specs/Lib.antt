@@ -3,4 +3,5 @@ pub mod Cleared
 pub mod Steps
 pub mod Seen
 pub mod Rule
+pub mod Hits
 pub mod Examples

@@ -1,16 +1,8 @@
 //! Those who look at the words without a lock.
 
-ghost use Rattle.std.specs.Prelude.{◌≡◌, ℕ, ◌+◌, ◌*◌, ◌/◌, ◌%◌, ◌<◌, [], ◌∷◌, ◌++◌, List, length, IfSome, IfNone, slice_index};
-ghost use mathlib.Core.List.{IsPrefix};
-ghost use Rattle.dmatypes.specs.declared.reply.Event.{Event};
-ghost use Rattle.dmatypes.specs.declared.reply.Reply.TheVariants as replies;
-ghost use Rattle.dmatypes.specs.Allows.{Allows};
-ghost use Rattle.dmatypes.specs.History.{IsLegal, after};
-ghost use Rattle.dmatypes.specs.Page.{page_of};
-ghost use Rattle.vtdbits.specs.Port.{States};
-ghost use Rattle.ports.specs.Lawful.{IsLawfulAfter};
-ghost use Rattle.ports.specs.Steps.{IsSeenInRun, counter, place_of, slot_of};
-ghost use Rattle.ports.specs.declared.known.OwnStep.TheVariants.{Loaded, Stored};
+ghost use Rattle.std.specs.Prelude.{◌≡◌, ◌<◌};
+ghost use Rattle.ports.specs.Hits.{IsCount, IsEviction, IsHit};
+ghost use Rattle.ports.specs.Steps.{place_of};
 
 use crate::rows::Rows;
 use crate::rule::{COUNTER, Counts, Empties, Looks, Place, SLOTS};
@@ -61,20 +53,7 @@ impl Port {
     #[inline]
     pub fn hit(&mut self, rows: &Rows, address: u64, access: Access) -> (Option<u64>, u64)
         requires { self.old.rows ≡ rows.now }
-        ensures did { (word : ℕ)
-            × (self.new.did ≡ self.old.did ++ Loaded counter result.1
-            ∷ Loaded (place_of self.old.device (slot_of (page_of address))) word ∷ [])
-            × IfSome result.0 (States word address access)
-            × IfNone result.0 ((host : ℕ) → States word address access host → ⊥)
-            × IsSeenInRun (IsLegal self.old.rows.frames) (IsLawfulAfter self.old.rows.frames)
-            self.old.device self.new.seen self.new.did
-            (λ words. slice_index words (place_of self.old.device (slot_of (page_of address))) ≡ word) }
-        ensures count { (history : List Event)
-            × IsLegal self.old.rows.frames history × (result.1 ≡ length history)
-            × IsPrefix self.old.seen history × IsPrefix history self.new.seen }
-        ensures allowed { IsLegal self.old.rows.frames self.new.seen
-            × IfSome result.0 (λ host.
-            Allows (after self.old.rows.frames self.new.seen) self.old.device address access (replies.Host host)) }
+        ensures hit { IsHit self.old.rows.frames self.old self.new address access result.0 result.1 }
         ensures same { (self.new.rows ≡ self.old.rows) × (self.new.device ≡ self.old.device) }
     {
         let count = self.count(rows);
@@ -87,11 +66,7 @@ impl Port {
     #[inline]
     pub fn count(&mut self, rows: &Rows) -> u64
         requires { self.old.rows ≡ rows.now }
-        ensures did { self.new.did ≡ self.old.did ++ Loaded counter result ∷ [] }
-        ensures seen { IsPrefix self.old.seen self.new.seen × IsLegal self.old.rows.frames self.new.seen
-            × (result ≡ length self.new.seen) }
-        ensures run { IsSeenInRun (IsLegal self.old.rows.frames) (IsLawfulAfter self.old.rows.frames)
-            self.old.device self.new.seen self.new.did (λ words. Unit {0}) }
+        ensures count { IsCount self.old.rows.frames self.old self.new result }
         ensures same { (self.new.rows ≡ self.old.rows) × (self.new.device ≡ self.old.device) }
     {
         rows.words.shared.load::<Counts>(&mut self.seat, COUNTER)
@@ -101,8 +76,7 @@ impl Port {
     pub fn evict(&mut self, rows: &Rows, slot: u64)
         requires rows { self.old.rows ≡ rows.now }
         requires slot { slot < SLOTS }
-        ensures did { self.new.did ≡ self.old.did ++ Stored (place_of self.old.device slot) 0 ∷ [] }
-        ensures seen { self.new.seen ≡ self.old.seen }
+        ensures eviction { IsEviction self.old self.new slot }
         ensures same { (self.new.rows ≡ self.old.rows) × (self.new.device ≡ self.old.device) }
     {
         let place = place(self.device, slot);

@@ -103,8 +103,8 @@ module _ (legal : List Event → Type 0) (lawful : List Event → ℕ → ℕ �
       shown s r p x (left ++ caller_view v.frames v.guest ∷ [])
       (snoc_fits t left (caller_view v.frames v.guest)
       (others t id s.views (with_guest v nobody) (λ j u ne e. placing_else r.truth p id true x is.1 j u ne (r.each_seat j u e))
-      (desk_fits_as t id v.frames v.mine.seen v.mine.did v.last v.made nobody whole.1 whole.2 whole.3 whole.4 whole.0 (prefix_nil r.truth.core.history)
-      (nobody_named t id true)))
+      (desk_fits_as t id v.frames v.mine.seen v.mine.did v.last v.made nobody whole.1 whole.2 whole.3 whole.4 whole.0
+      (prefix_nil r.truth.core.history) (nobody_named t id true)))
       (caller_fits t (length left) v.frames v.guest fits.guest (placed_as r.truth p (length left) false v.guest who is.0 is.2 is.3)))
 
   -- the desk makes a caller
@@ -144,7 +144,8 @@ module _ (legal : List Event → Type 0) (lawful : List Event → ℕ → ℕ �
             (λ j u ne e.
             desk_else r.truth t id whole.0 (prefix_self r.truth.core.history) (omega arith) j
             (λ q side lt y. (put_else r.truth.place r.truth.made x q (λ z. absurd (omega arith)), refl, refl)) u ne (r.each_seat j u e))
-            (desk_fits_as t id v.frames v.mine.seen v.mine.did v.last (suc v.made) v.guest whole.1 whole.2 (ap suc whole.3) whole.4 whole.0 fits.guest
+            (desk_fits_as t id v.frames v.mine.seen v.mine.did v.last (suc v.made) v.guest whole.1 whole.2 (ap suc whole.3) whole.4
+            whole.0 fits.guest
             (named_stays r.truth t id true v.guest (omega arith)
             (λ q side lt y. (put_else r.truth.place r.truth.made x q (λ z. absurd (omega arith)), refl, refl)) fits.guest_named)))
             (caller_fits t (length left) v.frames (newcomer v.made) (prefix_nil r.truth.core.history)

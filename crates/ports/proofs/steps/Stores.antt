@@ -109,7 +109,8 @@ module _ (legal : List Event → Type 0) (lawful : List Event → ℕ → ℕ �
             (λ q h. own_same q r.truth.steps one (own.others q (λ e. absurd (omega arith))))
             (others t id s.views (caller_view me.0.frames now)
             (λ j v ne e.
-            fits_stays r.truth t j v (prefix_self r.truth.core.history) (omega arith) (λ _. (refl, refl, refl, refl, stores_same r.truth.steps one refl))
+            fits_stays r.truth t j v (prefix_self r.truth.core.history) (omega arith)
+            (λ _. (refl, refl, refl, refl, stores_same r.truth.steps one refl))
             (λ q side _ x. (refl, refl, own_same q r.truth.steps one (own.others q (apart r.truth q port j id side false x is.1 ne))))
             (r.each_seat j v e))
             (caller_fits t id me.0.frames now fits.seen

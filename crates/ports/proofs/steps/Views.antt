@@ -140,7 +140,8 @@ pub seeing_else : (t : Truth) (p : ℕ) (s : PortStep) (step : OwnStep) (id : �
     → (j : ℕ) (v : View) → j ≢ id → Fits t j v → Fits (seeing t p s) j v
 unfolding seeing Stays
 seeing_else t p s step id b own at j v ne f =
-    fits_stays t (seeing t p s) j v (prefix_self t.core.history) (omega arith) (λ _. (refl, refl, refl, refl, stores_same t.steps s own.not_desk))
+    fits_stays t (seeing t p s) j v (prefix_self t.core.history) (omega arith)
+    (λ _. (refl, refl, refl, refl, stores_same t.steps s own.not_desk))
     (λ q side _ x. let two = apart t q p j id side b x at ne in
     (refl, get_or-set_other t.core.seen p q t.core.history [] two, own_same q t.steps s (own.others q two))) f
 
