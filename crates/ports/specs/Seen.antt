@@ -26,6 +26,7 @@ pub record Pass : Type 0 where
   pub rows : Rows
   pub caller : ℕ
   pub seen : List Event
+  pub did : List OwnStep
 
 -- the desk: its rows, the whole history, its own stores, and the word that it last stored at each place
 pub record Desk : Type 0 where
@@ -43,7 +44,7 @@ abbrev pub port_of : TableId → View → ℕ → Port
 port_of table v device = record { rows = rows_of table v.frames; device = device; seen = v.mine.seen; did = v.mine.did }
 
 abbrev pub pass_of : TableId → View → ℕ → Pass
-pass_of table v caller = record { rows = rows_of table v.frames; caller = caller; seen = v.mine.seen }
+pass_of table v caller = record { rows = rows_of table v.frames; caller = caller; seen = v.mine.seen; did = v.mine.did }
 
 abbrev pub desk_of : TableId → View → Desk
 desk_of table v = record { rows = rows_of table v.frames; history = v.mine.seen; did = v.mine.did; last = v.last }
@@ -61,7 +62,7 @@ abbrev pub new_port : Rows → ℕ → Port
 new_port rows device = record { rows = rows; device = device; seen = []; did = [] }
 
 abbrev pub new_pass : Rows → ℕ → Pass
-new_pass rows caller = record { rows = rows; caller = caller; seen = [] }
+new_pass rows caller = record { rows = rows; caller = caller; seen = []; did = [] }
 
 abbrev pub new_desk : Rows → Desk
 new_desk rows = record { rows = rows; history = []; did = []; last = replicate ROW_WORDS 0 }

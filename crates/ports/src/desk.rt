@@ -111,6 +111,7 @@ impl Desk {
     pub fn tell(&mut self, rows: &Rows, pass: &mut Pass)
         requires { (self.old.rows ≡ rows.now) × (pass.old.rows ≡ rows.now) }
         ensures seen { IsPrefix pass.old.seen self.old.history × (pass.new.seen ≡ self.old.history) }
+        ensures did { pass.new.did ≡ pass.old.did ++ Loaded counter (length self.old.history) ∷ [] }
         ensures same { (self.new ≡ self.old) × (pass.new.rows ≡ pass.old.rows) × (pass.new.caller ≡ pass.old.caller) }
     {
         host(&mut self.seat, rows, &mut pass.seat, pass.caller);
