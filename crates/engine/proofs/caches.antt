@@ -5,3 +5,4 @@ pub mod Widened
 pub mod Spans
 pub mod WorkedOff
 pub mod Sent
+pub mod ReadyToSend

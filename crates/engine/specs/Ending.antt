@@ -1,6 +1,6 @@
 -- How an unmap ends a range: in the tree and the address space, by what it sends to the unit, and what then comes
 -- free.
-use Rattle.std.specs.Prelude.{◌≡◌, ◌≢◌, ◌↔◌, ℕ, ◌+◌, ◌-◌, ◌<◌, ◌≤◌, ◌⊎◌, ◌++◌, Bool, true, false, IsTrue, not, ◌&&◌, List, [], ◌∷◌, length}
+use Rattle.std.specs.Prelude.{◌≡◌, ◌≢◌, ◌↔◌, ℕ, ◌+◌, ◌-◌, ◌%◌, ◌^◌, ◌<◌, ◌≤◌, ◌⊎◌, ◌++◌, Bool, true, false, IsTrue, not, ◌&&◌, List, [], ◌∷◌, length}
 use Rattle.std.specs.Prelude.{reverse, take, Option, Some, Result, Ok, Err}
 use Rattle.dmatypes.specs.declared.limits.TheConstants.{MOST_RECORDS, MOST_STEPS}
 use Rattle.dmatypes.specs.Block.{Block, Holds, IsAligned}
@@ -103,13 +103,17 @@ taken_after ds taken = reverse ds ++ take (CAPACITY + 1 - length ds) taken
 abbrev pub shown_of : ℕ → ℕ → Option Shown
 shown_of root records = Some (record { root = root; records = records })
 
+-- what the wait of a number writes: its low 32 bits
+abbrev pub status_of : ℕ → ℕ
+status_of number = number % 2 ^ 32
+
 -- what waited, then the descriptor, then a wait were taken, in this order, and nothing else was; the unit has done as many
 -- as were taken, each in a step of its own, with no other step, in at most `MOST_STEPS`; the row of context entries stays.
 -- This was shown of a domain when it was sent
 pub record Invalidates (old : Iommu) (d : Descriptor) (seen : Option Shown) (new : Iommu) : Type 0 where
   pub number : new.sent ≡ old.sent + 1
-  pub done : new.ring ≡ ring_of [] new.sent (taken_after (old.ring.waiting ++ d ∷ Wait new.sent ∷ []) old.ring.taken)
-  pub caches : new.unit.caches ≡ left_by_all (old.ring.waiting ++ d ∷ Wait new.sent ∷ []) old.unit.caches
+  pub done : new.ring ≡ ring_of [] (status_of new.sent) (taken_after (old.ring.waiting ++ d ∷ Wait (status_of new.sent) ∷ []) old.ring.taken)
+  pub caches : new.unit.caches ≡ left_by_all (old.ring.waiting ++ d ∷ Wait (status_of new.sent) ∷ []) old.unit.caches
   pub steps : new.unit.steps ≡ old.unit.steps + (length old.ring.waiting + 2)
   pub each : new.unit.done ≡ old.unit.done + (length old.ring.waiting + 2)
   pub few : length old.ring.waiting + 2 ≤ MOST_STEPS

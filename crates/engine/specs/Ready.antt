@@ -1,9 +1,10 @@
 -- What the parts of the state ask of their callers before pages end, are released, or the unit is run. Whoever reads
 -- what the state does needs none of it: each state has it.
-use Rattle.std.specs.Prelude.{◌≡◌, ◌≢◌, ℕ, ◌+◌, ◌^◌, ◌<◌, ◌≤◌, List, [], ◌∷◌, ◌++◌, None, Some, IsSome, IsTrue}
+use Rattle.std.specs.Prelude.{◌≡◌, ◌≢◌, ℕ, ◌+◌, ◌-◌, ◌%◌, ◌^◌, ◌<◌, ◌≤◌, List, [], ◌∷◌, ◌++◌, length, None, Some, IsSome, IsTrue}
 use Rattle.dmatypes.specs.Block.{Holds, IsAligned}
 use Rattle.dmatypes.specs.Page.{Range, IsWithin}
 use Rattle.dmatypes.specs.World.{IsIn}
+use Rattle.dmatypes.specs.declared.limits.TheConstants.{MOST_STEPS}
 use Rattle.dmatypes.specs.declared.page.TheConstants.{SPAN_ORDER}
 use Rattle.dmatypes.specs.declared.width.TheConstants.{LEVELS}
 use Rattle.iova.specs.declared.piece.PageState.TheVariants.{Live, Retired}
@@ -11,13 +12,13 @@ use Rattle.iova.specs.Pieces.{piece_of, state_at}
 use Rattle.iova.specs.Space.{Space, IsSpace}
 use Rattle.tables.specs.Pool.{Pool, memory, occurs, IsTree, IsZeroed}
 use Rattle.tables.specs.Tree.{states}
-use Rattle.queue.specs.Ring.{Ring}
+use Rattle.unit.specs.Filters.{status_after}
 use Rattle.vtdbits.specs.declared.descriptor.Descriptor.{Descriptor}
 use Rattle.vtdbits.specs.declared.descriptor.Descriptor.TheVariants.{ContextDevice, ContextDomain, ContextGlobal, IotlbDomain, IotlbGlobal}
 use Rattle.vtdbits.specs.declared.descriptor.Descriptor.TheVariants.{IotlbPages, Wait}
 use Rattle.engine.specs.declared.iommu.Iommu.{Iommu}
 use Rattle.engine.specs.declared.record.Record.{Record}
-use Rattle.engine.specs.Ending.{ReleasesAll, hint_of}
+use Rattle.engine.specs.Ending.{ReleasesAll, hint_of, status_of}
 use Rattle.engine.specs.Domains.{Domain, IsMadeBefore, held_in}
 
 -- its tree is one of the pool, and maps each live page
@@ -60,12 +61,16 @@ IsOfIotlb (ContextDomain domain) = ⊥
 IsOfIotlb (ContextDevice domain device) = ⊥
 IsOfIotlb (Wait number) = ⊥
 
+-- the number of the last wait that is done: as many were sent behind it as the status is behind the last one's
+abbrev pub last_done : Iommu → ℕ
+last_done x = x.sent - (status_of x.sent + 2 ^ 32 - x.ring.status) % 2 ^ 32
+
 -- the descriptor and right behind it the wait of this number were taken, and the wait is done
-pub record IsDone (ring : Ring) (d : Descriptor) (number : ℕ) : Type 0 where
+pub record IsDone (x : Iommu) (d : Descriptor) (number : ℕ) : Type 0 where
   pub later : List Descriptor
   pub earlier : List Descriptor
-  pub taken : ring.taken ≡ later ++ Wait number ∷ d ∷ earlier
-  pub reached : number ≤ ring.status
+  pub taken : x.ring.taken ≡ later ++ Wait (status_of number) ∷ d ∷ earlier
+  pub reached : number ≤ last_done x
 
 -- once it is done, the unit can translate no page of the record for the domain any more, nor walk a table that was cut
 -- with it: it names all of the domain, or an aligned block that holds its range, of at least 512 pages where a leaf of
@@ -89,17 +94,24 @@ pub record IsInvalidated (x : Iommu) (domain : ℕ) (r : Record) : Type 0 where
   pub number : ℕ
   pub made : IsMadeBefore number r
   pub sent : number ≤ x.sent
-  pub done : IsDone x.ring descriptor number
+  pub done : IsDone x descriptor number
 
 abbrev pub AreInvalidated : Iommu → ℕ → List Record → Type 0
 AreInvalidated x domain records = (r : Record) → IsIn r records → IsInvalidated x domain r
 
--- nothing waits, what was sent is done, and numbers are left for a wait and for two steps of the unit
+-- none of the descriptors leaves this status where another one was
+unfoldable pub NoneWrites : ℕ → List Descriptor → Type 0
+NoneWrites status [] = Unit {0}
+NoneWrites status (d ∷ ds) = ((old : ℕ) → status_after d old ≡ status → old ≡ status) × NoneWrites status ds
+
+-- there is room for a descriptor and a wait, whose status is neither there nor written by what waits, and numbers are
+-- left for the wait and for all steps of the unit
 pub record IsReady (x : Iommu) : Type 0 where
-  pub idle : x.ring.waiting ≡ []
-  pub done : x.ring.status ≤ x.sent
-  pub few : x.sent + 1 < 2 ^ 32
-  pub steps : x.unit.steps + 2 ≤ 2 ^ 63
+  pub room : length x.ring.waiting + 2 ≤ MOST_STEPS
+  pub fresh : x.ring.status ≢ status_of (x.sent + 1)
+  pub others : NoneWrites (status_of (x.sent + 1)) x.ring.waiting
+  pub few : x.sent + 1 < 2 ^ 64
+  pub steps : x.unit.steps + (length x.ring.waiting + 2) ≤ 2 ^ 63
 
 -- its live pages can be cut from its tree, its records released, and then too its live pages be cut
 pub record CanUnmap (pool : Pool) (domain : Domain) : Type 0 where

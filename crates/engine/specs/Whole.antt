@@ -1,8 +1,9 @@
 -- What the type of a state keeps.
 use Rattle.std.specs.Prelude.{◌≡◌, ℕ, ◌+◌, ◌*◌, ◌≤◌, [], List, Option, None, Some, length, sum_by}
 use Rattle.dmatypes.specs.World.{IsIn}
-use Rattle.dmatypes.specs.declared.limits.TheConstants.{DEVICES, MOST_DOMAINS, MOST_STEPS}
+use Rattle.dmatypes.specs.declared.limits.TheConstants.{DEVICES, MOST_DOMAINS}
 use Rattle.engine.specs.Domains.{AreMadeBefore, Domain}
+use Rattle.engine.specs.Ending.{status_of}
 use Rattle.engine.specs.State.{State}
 use Rattle.engine.specs.Quarantine.{IsOfSomeWorld}
 
@@ -24,15 +25,16 @@ abbrev pub AllAreMade : State → Type 0
 AllAreMade m = (h : Domain) → IsIn (Some h) m.domains → AreMadeBefore (m.iommu.sent + 1) h.records
 
 -- it is a state of some world, with places for domains 1 to 15, the entries of devices 0 to 15 and so many table frames;
--- nothing waits between calls; no more waits were sent than calls made, and `MOST_STEPS` steps of the unit for each; the next wait is
--- sent after all records of all domains were made
+-- nothing waits between calls, and the last wait is done; no more waits were sent than calls made, and no more steps of the unit
+-- made than three for each: two descriptors are sent by a call at most, and one step finds none; the next wait is sent after
+-- all records of all domains were made
 pub record IsWhole (frames : ℕ) (m : State) : Type 0 where
   pub of_world : IsOfSomeWorld m
   pub places : length m.domains ≡ MOST_DOMAINS
   pub devices : length m.iommu.contexts ≡ DEVICES
   pub frames_are : frames ≡ m.pool.frames
   pub idle : m.iommu.ring.waiting ≡ []
-  pub status : m.iommu.ring.status ≤ m.iommu.sent
+  pub status : m.iommu.ring.status ≡ status_of m.iommu.sent
   pub sent : m.iommu.sent ≤ m.calls
-  pub steps : m.iommu.unit.steps ≤ MOST_STEPS * m.calls
+  pub steps : m.iommu.unit.steps ≤ 3 * m.calls
   pub made : AllAreMade m

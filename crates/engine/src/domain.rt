@@ -298,7 +298,7 @@ pub(crate) fn release(
 #[inline(always)]
 fn destroy(tree: Tree, pool: &mut Pool, iommu: &Iommu, id: DomainId)
     requires tree { IsTree pool.old LEVELS tree.root }
-    requires invalidated { IsDone iommu.now.ring (IotlbDomain id) iommu.now.sent }
+    requires invalidated { IsDone iommu.now (IotlbDomain id) iommu.now.sent }
     ensures { Destroys pool.old tree.root pool.new }
 {
     tree.destroy(pool);

@@ -1,13 +1,12 @@
 //! The row of context entries, the ring and the unit that reads both, as the manager uses them.
 
-ghost use Rattle.std.specs.Prelude.{◌≡◌, ℕ, ◌+◌, ◌-◌, ◌<◌, ◌≤◌, ◌^◌, ◌∷◌, [], None, Some, length, replicate, slice_get, take};
-ghost use Rattle.dmatypes.specs.declared.limits.TheConstants.{DEVICES};
+ghost use Rattle.std.specs.Prelude.{◌≡◌, ◌≢◌, ℕ, ◌+◌, ◌≤◌, ◌^◌, ◌++◌, ◌∷◌, [], None, Some, length, replicate, slice_get};
+ghost use Rattle.dmatypes.specs.declared.limits.TheConstants.{DEVICES, MOST_STEPS};
 ghost use Rattle.dmatypes.specs.declared.width.TheConstants.{LEVELS};
 ghost use Rattle.tables.specs.Pool.{IsTree};
-ghost use Rattle.engine.specs.Ending.{Invalidates, IsSent, left_by_all, shown_of};
-ghost use Rattle.engine.specs.Ready.{AreReleasable, IsCleared, IsReady, IsReleasable};
+ghost use Rattle.engine.specs.Ending.{Invalidates, IsSent, left_by_all, shown_of, status_of, taken_after};
+ghost use Rattle.engine.specs.Ready.{AreReleasable, IsCleared, IsReady, IsReleasable, NoneWrites};
 ghost use Rattle.queue.specs.Ring.{ring_of};
-ghost use Rattle.queue.specs.declared.ring.TheConstants.Ring.{CAPACITY};
 ghost use Rattle.unit.specs.Caches.{nothing, unit_state};
 ghost use Rattle.unit.specs.Filters.{status_after};
 ghost use Rattle.vtdbits.specs.declared.descriptor.Descriptor.{Descriptor};
@@ -22,6 +21,9 @@ use tables::{Pool, Tree};
 use unit::{Contexts, Unit};
 use vtdbits::{ContextEntry, Descriptor, DeviceNumber, DomainId};
 
+// A wait writes one of so many statuses.
+const STATUSES: u64 = 1 << 32;
+
 /// The row of context entries, the ring of descriptors, the unit that reads both, the number of the last wait that
 /// was sent, and what was shown of a domain then.
 #[derive(Drop)]
@@ -29,7 +31,7 @@ pub(crate) struct Iommu {
     pub(crate) contexts: Contexts,
     pub(crate) ring: Ring,
     pub(crate) unit: Unit,
-    sent: u32,
+    sent: u64,
     // Only contracts read it: what was shown is what comes free behind the sending, and not before. Nothing is shown where
     // a context is forgotten.
     shown: Option<Shown>,
@@ -63,7 +65,7 @@ impl Iommu {
     }
 
     /// How many waits were sent, which is the number of the last one.
-    pub(crate) fn sent(&self) -> u32
+    pub(crate) fn sent(&self) -> u64
         ensures { result ≡ self.now.sent }
     {
         self.sent
@@ -139,24 +141,37 @@ impl Iommu {
     {
         self.sent += 1;
         self.shown = shown;
-        work_off(&mut self.ring, &mut self.unit, self.sent, descriptor);
+        work_off(
+            &mut self.ring,
+            &mut self.unit,
+            status_of(self.sent),
+            descriptor,
+        );
     }
 }
 
-// The same, with a wait of this number.
-fn work_off(ring: &mut Ring, unit: &mut Unit, number: u32, descriptor: Descriptor)
-    requires idle { ring.old.waiting ≡ [] }
-    requires later { ring.old.status < number }
-    requires no_wait { (status : ℕ) → status_after descriptor status ≡ status }
-    requires steps { unit.old.steps + 2 ≤ 2 ^ 63 }
-    ensures ring { ring.new ≡ ring_of [] number (Wait number ∷ descriptor ∷ take (CAPACITY - 1) ring.old.taken) }
-    ensures caches { unit.new.caches ≡ left_by_all (descriptor ∷ Wait number ∷ []) unit.old.caches }
-    ensures steps { unit.new.steps ≡ unit.old.steps + 2 }
-    ensures each { unit.new.done ≡ unit.old.done + 2 }
+// What the wait of a number writes: its low 32 bits.
+fn status_of(number: u64) -> u32
+    ensures { result ≡ status_of number }
+{
+    (number % STATUSES) as u32
+}
+
+// The same, with a wait that writes this status. What waits writes another one.
+fn work_off(ring: &mut Ring, unit: &mut Unit, status: u32, descriptor: Descriptor)
+    requires room { length ring.old.waiting + 2 ≤ MOST_STEPS }
+    requires fresh { ring.old.status ≢ status }
+    requires others { NoneWrites status ring.old.waiting }
+    requires no_wait { (old : ℕ) → status_after descriptor old ≡ old }
+    requires steps { unit.old.steps + (length ring.old.waiting + 2) ≤ 2 ^ 63 }
+    ensures ring { ring.new ≡ ring_of [] status (taken_after (ring.old.waiting ++ descriptor ∷ Wait status ∷ []) ring.old.taken) }
+    ensures caches { unit.new.caches ≡ left_by_all (ring.old.waiting ++ descriptor ∷ Wait status ∷ []) unit.old.caches }
+    ensures steps { unit.new.steps ≡ unit.old.steps + (length ring.old.waiting + 2) }
+    ensures each { unit.new.done ≡ unit.old.done + (length ring.old.waiting + 2) }
 {
     let _ = ring.submit(descriptor);
-    let _ = ring.submit(Descriptor::Wait(number));
-    while !ring.wait_done(number) {
+    let _ = ring.submit(Descriptor::Wait(status));
+    while ring.status() != status {
         unit.step(ring);
     }
 }

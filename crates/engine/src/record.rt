@@ -12,5 +12,5 @@ pub(crate) struct Record {
     pub(crate) cut: Cut,
     // Only a wait that is sent later frees the pages: until their entries were cleared, a request could bring them back
     // behind an earlier one.
-    pub(crate) sent: u32,
+    pub(crate) sent: u64,
 }

@@ -5,7 +5,7 @@ ghost use Rattle.std.specs.Prelude.{vec_capacity, vec_len, Some, None, IsSome, I
 ghost use Rattle.dmatypes.specs.Conditions.{IsBadUnmap};
 ghost use Rattle.dmatypes.specs.Page.{IsInWindow, IsPageRange, range_at};
 ghost use Rattle.dmatypes.specs.World.{empty};
-ghost use Rattle.dmatypes.specs.declared.limits.TheConstants.{DEVICES, LEAST_TABLE_FRAMES, MOST_CALLS, MOST_DOMAINS, MOST_SEGMENTS};
+ghost use Rattle.dmatypes.specs.declared.limits.TheConstants.{CALLS_END, DEVICES, LEAST_TABLE_FRAMES, MOST_DOMAINS, MOST_SEGMENTS};
 ghost use Rattle.dmatypes.specs.declared.limits.TheConstants.{MOST_TABLE_FRAMES};
 ghost use Rattle.dmatypes.specs.declared.page.TheConstants.{PAGE_BYTES};
 ghost use Rattle.dmatypes.specs.declared.call.Call.TheVariants as calls;
@@ -89,7 +89,7 @@ impl State {
     /// Makes an empty domain, and answers its id, 1 to 15. Refuses with `TooManyDomains` where all ids are in use, else
     /// with `NoFrames` where no table frame is free.
     pub fn domain(&mut self, mode: Mode) -> Result<u64, Refusal>
-        requires { self.old.calls < MOST_CALLS }
+        requires { self.old.calls < CALLS_END }
         ensures { Does self.old (calls.Domain mode) (made_reply result) self.new }
     {
         self.calls += 1;
@@ -108,7 +108,7 @@ impl State {
     /// Attaches a device, 0 to 15, to a domain. Refuses with `NoDevice`, `NoDomain`, or `Busy` where it is attached, the
     /// first of these that stands.
     pub fn attach(&mut self, device: u64, domain: u64) -> Result<(), Refusal>
-        requires { self.old.calls < MOST_CALLS }
+        requires { self.old.calls < CALLS_END }
         ensures { Does self.old (calls.Attach device domain) (done_reply result) self.new }
     {
         self.calls += 1;
@@ -136,7 +136,7 @@ impl State {
     /// Detaches a device, 0 to 15, from its domain, and has the unit forget its context. Refuses with `NoDevice`, else
     /// with `NotAttached`.
     pub fn detach(&mut self, device: u64) -> Result<(), Refusal>
-        requires { self.old.calls < MOST_CALLS }
+        requires { self.old.calls < CALLS_END }
         ensures { Does self.old (calls.Detach device) (done_reply result) self.new }
     {
         self.calls += 1;
@@ -154,7 +154,7 @@ impl State {
     /// Ends a domain to which no device is attached, with all its pages, and gives all its table frames back. Refuses
     /// with `NoDomain`, or `Busy` where a device is attached.
     pub fn drop_domain(&mut self, domain: u64) -> Result<(), Refusal>
-        requires { self.old.calls < MOST_CALLS }
+        requires { self.old.calls < CALLS_END }
         ensures { Does self.old (calls.Drop domain) (done_reply result) self.new }
     {
         self.calls += 1;
@@ -183,7 +183,7 @@ impl State {
         order: u64,
         rights: u64,
     ) -> Result<u64, Refusal>
-        requires { self.old.calls < MOST_CALLS }
+        requires { self.old.calls < CALLS_END }
         ensures { Does self.old (calls.Map domain frame pages order rights) (mapped_reply result) self.new }
     {
         self.map_segments(domain, order, rights, &[Segment { frame, pages }])
@@ -201,7 +201,7 @@ impl State {
         rights: u64,
         segments: &ArrayVec<Segment, MOST_SEGMENTS>,
     ) -> Result<u64, Refusal>
-        requires { self.old.calls < MOST_CALLS }
+        requires { self.old.calls < CALLS_END }
         ensures { Does self.old (calls.MapList domain order rights segments.now) (mapped_reply result) self.new }
     {
         self.map_segments(domain, order, rights, segments.as_slice())
@@ -214,7 +214,7 @@ impl State {
         rights: u64,
         segments: &[Segment],
     ) -> Result<u64, Refusal>
-        requires counts { self.old.calls < MOST_CALLS }
+        requires counts { self.old.calls < CALLS_END }
         requires few { length segments.now ≤ MOST_SEGMENTS }
         ensures { Does self.old (calls.MapList domain order rights (record { items = segments.now })) (mapped_reply result) self.new }
     {
@@ -245,7 +245,7 @@ impl State {
         access: Access,
         whim: Whim,
     ) -> Result<Result<Hit, Fault>, Refusal>
-        requires { self.old.calls < MOST_CALLS }
+        requires { self.old.calls < CALLS_END }
         ensures does { Does self.old (calls.Dma device address access whim) (request_reply result) self.new }
         ensures hit { IfOk result (λ answer. IfOk answer (IsHitOf self.old device address access)) }
     {
@@ -273,7 +273,7 @@ impl State {
     /// multiple of 4,096, or a range that can't be mapped at once), `NotLive`, `TooManyPieces`, or `NoFrames` (more leaves
     /// of 2 MiB are to be split than frames are free), the first of these that stands.
     pub fn unmap(&mut self, domain: u64, address: u64, pages: u64) -> Result<u64, Refusal>
-        requires { self.old.calls < MOST_CALLS }
+        requires { self.old.calls < CALLS_END }
         ensures { Does self.old (calls.Unmap domain address pages) (unmapped_reply result) self.new }
     {
         self.calls += 1;
@@ -292,7 +292,7 @@ impl State {
     /// Releases all retired records of a domain, once the unit has forgotten what it remembers of the domain, and
     /// answers how many there were. Refuses with `NoDomain`.
     pub fn flush(&mut self, domain: u64) -> Result<u64, Refusal>
-        requires { self.old.calls < MOST_CALLS }
+        requires { self.old.calls < CALLS_END }
         ensures { Does self.old (calls.Flush domain) (flushed_reply result) self.new }
     {
         self.calls += 1;
@@ -307,7 +307,7 @@ impl State {
 
     /// The entry at a place of one of the unit's caches is forgotten, if there is one.
     pub fn evict(&mut self, kind: Cache, place: u64)
-        requires { self.old.calls < MOST_CALLS }
+        requires { self.old.calls < CALLS_END }
         ensures { Does self.old (calls.Evict kind place) Done self.new }
     {
         self.calls += 1;

@@ -1,5 +1,5 @@
 -- A call that sends a descriptor and a wait, and ends once the unit did both: what the type of a state keeps.
-use Rattle.std.proofs.Common.{◌≡◌, ℕ, ◌+◌, ◌∙◌, List, Option, length, ap, arith, refl, slice_set}
+use Rattle.std.proofs.Common.{◌≡◌, ℕ, ◌+◌, ◌∙◌, List, [], Option, length, ap, arith, refl, slice_set}
 use Rattle.dmatypes.specs.declared.call.Call.{Call}
 use Rattle.dmatypes.specs.declared.reply.Reply.{Reply}
 use Rattle.dmatypes.specs.Step.{next}
@@ -20,6 +20,9 @@ use Rattle.engine.proofs.states.RecordsMade.{made_kept}
 abbrev pub changed : State → ℕ → Pool → Option Domain → Iommu → State
 changed m i pool new x = record { pool = pool; domains = slice_set m.domains i new; iommu = x; calls = m.calls + 1 }
 
+idle_none : (ds : List Descriptor) → ds ≡ [] → length ds ≡ 0
+idle_none ds none = ap length none
+
 pub whole_sends : (m t : State) (call : Call) (reply : Reply) (d : Descriptor) (row : List ContextEntry) {seen : Option Shown} → IsWhole m.pool.frames m
     → Does m call reply t → length t.domains ≡ length m.domains → length row ≡ length m.iommu.contexts
     → Invalidates (record m.iommu { contexts = row }) d seen t.iommu → IsWhole t.pool.frames t
@@ -29,8 +32,8 @@ whole_sends m t call reply d row whole does domains rows sends = record {
   devices = ap length sends.contexts ∙ rows ∙ whole.devices;
   frames_are = refl;
   idle = ap (λ (r : Ring). r.waiting) sends.done;
-  status = (let same = ap (λ (r : Ring). r.status) sends.done in omega (arith, same));
+  status = ap (λ (r : Ring). r.status) sends.done;
   sent = omega (arith, sends.number, whole.sent, does.calls);
-  steps = omega (arith, sends.steps, sends.few, whole.steps, does.calls);
+  steps = omega (arith, sends.steps, idle_none m.iommu.ring.waiting whole.idle, whole.steps, does.calls);
   made = made_kept m t call reply does.becomes (omega (arith, sends.number)) whole.made;
 }

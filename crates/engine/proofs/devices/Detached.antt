@@ -17,7 +17,7 @@ use Rattle.vtdbits.specs.declared.context.ContextEntry.{ContextEntry}
 use Rattle.vtdbits.specs.declared.context.ContextEntry.TheVariants.{Absent, Present}
 use Rattle.vtdbits.specs.declared.descriptor.Descriptor.TheVariants.{ContextDevice}
 use Rattle.engine.specs.declared.iommu.Iommu.{Iommu}
-use Rattle.engine.specs.Ending.{Invalidates}
+use Rattle.engine.specs.Ending.{Invalidates, status_of}
 use Rattle.engine.specs.State.{Becomes, Exact, State}
 use Rattle.engine.specs.Quarantine.{Quarantine, attached}
 use Rattle.engine.specs.Steps.{Does}
@@ -117,7 +117,7 @@ detach_does m device root domain x small many at invalidates = record {
       refl,
     ),
     device_gone m (detached m x) w device domain q (omega (arith, small, many)) invalidates.contexts (
-        purges_sent m.iommu.ring.waiting (ContextDevice domain device) x.sent m.iommu.unit.caches x.unit.caches invalidates.caches) refl
+        purges_sent m.iommu.ring.waiting (ContextDevice domain device) (status_of x.sent) m.iommu.unit.caches x.unit.caches invalidates.caches) refl
         refl,
   );
   exact = tt;

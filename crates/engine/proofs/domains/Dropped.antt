@@ -4,7 +4,7 @@ use Rattle.std.proofs.lemmas.List.{length-set}
 use Rattle.dmatypes.specs.World.{World, flushed, put}
 use Rattle.dmatypes.specs.World as world
 use Rattle.vtdbits.specs.declared.descriptor.Descriptor.TheVariants.{IotlbDomain}
-use Rattle.engine.specs.Ending.{Closes, Destroys, Invalidates, shown_of}
+use Rattle.engine.specs.Ending.{Closes, Destroys, Invalidates, shown_of, status_of}
 use Rattle.engine.specs.declared.iommu.Iommu.{Iommu}
 use Rattle.engine.specs.Domains.{Domain, domain_at}
 use Rattle.engine.specs.State.{State, parts_in}
@@ -36,11 +36,11 @@ module _ (m t : State) (w : World) (i : ℕ) (h : Domain) (v : world.Domain) (q 
   invalidates = subst (λ (x : Iommu). Invalidates m.iommu (IotlbDomain (i + 1)) (shown_of h.root (length h.records)) x) (sym closes.quiet) closes.flushes.invalidates
 
   purges : Purges (IotlbDomain (i + 1)) m.iommu.unit.caches t.iommu.unit.caches
-  purges = purges_sent m.iommu.ring.waiting (IotlbDomain (i + 1)) t.iommu.sent m.iommu.unit.caches t.iommu.unit.caches invalidates.caches
+  purges = purges_sent m.iommu.ring.waiting (IotlbDomain (i + 1)) (status_of t.iommu.sent) m.iommu.unit.caches t.iommu.unit.caches invalidates.caches
 
   quarantined : Quarantine between flushed_world
   quarantined =
-      domain_flushed m between w i t.iommu.sent h v closes.flushed.domain.space q many less there here invalidates.caches
+      domain_flushed m between w i (status_of t.iommu.sent) h v closes.flushed.domain.space q many less there here invalidates.caches
       closes.flushes.releases refl invalidates.contexts
 
   destroys : Destroys closes.flushed.pool h.root t.pool

@@ -18,7 +18,7 @@ use Rattle.dmatypes.specs.World as world
 use Rattle.tables.specs.Pool.{Pool}
 use Rattle.vtdbits.specs.declared.descriptor.Descriptor.TheVariants.{IotlbDomain, Wait}
 use Rattle.engine.specs.declared.iommu.Iommu.{Iommu}
-use Rattle.engine.specs.Ending.{Closes, Flushes, Invalidates, left_by_all, shown_of}
+use Rattle.engine.specs.Ending.{Closes, Flushes, Invalidates, left_by_all, shown_of, status_of}
 use Rattle.engine.specs.Domains.{Domain, domain_at, parts_of}
 use Rattle.engine.specs.State.{Becomes, Exact, State, parts_in}
 use Rattle.engine.specs.Quarantine.{IsOfSomeWorld, Quarantine, attached}
@@ -111,12 +111,12 @@ module _ (m : State) (domain i : ℕ) (h : Domain) (pool : Pool) (x : Iommu) (wh
       steps = λ w q.
           let v = both_there m.pool.words (domain_at m.domains domain) (w.domains domain) h (q.domains domain) there in
           let there' : w.domains (i + 1) ≡ Some v.0 = sym (ap w.domains id) ∙ v.1 in
-          let caches : x.unit.caches ≡ left_by_all (m.iommu.ring.waiting ++ IotlbDomain (i + 1) ∷ Wait x.sent ∷ []) m.iommu.unit.caches =
+          let caches : x.unit.caches ≡ left_by_all (m.iommu.ring.waiting ++ IotlbDomain (i + 1) ∷ Wait (status_of x.sent) ∷ []) m.iommu.unit.caches =
           rw id at flushes.invalidates.caches in (
             ((not_none (w.domains domain) v.0 v.1, tt), rw v.1 (ap (λ (n : ℕ). Flushed n) (count ∙ records_count h v.0 v.2.ids))),
             rw v.1
                 (at_id after_flush w (Some (flushed v.0))
-                (domain_flushed m after_flush w i x.sent h v.0 new.space q whole.places less at_next
+                (domain_flushed m after_flush w i (status_of x.sent) h v.0 new.space q whole.places less at_next
                 there' caches flushes.releases (ap (λ (d : Domain). slice_set m.domains i (Some d)) flushes.same)
                 flushes.invalidates.contexts)),
           );

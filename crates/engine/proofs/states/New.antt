@@ -14,6 +14,7 @@ use Rattle.tables.specs.Tree.{sum_below}
 use Rattle.tables.proofs.pools.FreeList.{counted_up, counted_past, zero_words}
 use Rattle.tables.proofs.sums.Firsts.{sum_below-none}
 use Rattle.std.specs.Option.{option_flatten}
+use Rattle.engine.specs.Ending.{status_of}
 use Rattle.engine.specs.Domains.{Domain, domain_at}
 use Rattle.engine.specs.State.{IsNew, State}
 use Rattle.engine.specs.Whole.{IsWhole}
@@ -87,7 +88,7 @@ whole_new m frames new = record {
   devices = ap length new.contexts_are;
   frames_are = sym new.frames_are;
   idle = ap (λ (r : Ring). r.waiting) new.ring_is;
-  status = (let zero_status : m.iommu.ring.status ≡ 0 = ap (λ (r : Ring). r.status) new.ring_is in omega (arith, zero_status));
+  status = ap (λ (r : Ring). r.status) new.ring_is ∙ ap status_of (sym new.sent_is);
   sent = omega (arith, new.sent_is);
   steps = (let zero_steps : m.iommu.unit.steps ≡ 0 = ap (λ (u : UnitState). u.steps) new.unit_is in omega (arith, zero_steps));
   made = λ h inside. absurd (not_there MOST_DOMAINS h (subst (λ ds. IsIn (Some h) ds) new.domains_are inside));

@@ -7,6 +7,7 @@ use Rattle.dmatypes.specs.declared.reply.Reply.TheVariants.{Made, Done, Mapped, 
 use Rattle.dmatypes.specs.declared.refusal.Refusal.{Refusal}
 use Rattle.dmatypes.specs.World.{World}
 use Rattle.dmatypes.specs.Step.{IsStep, next}
+use Rattle.engine.specs.Ending.{status_of}
 use Rattle.engine.specs.State.{State, Exact, Becomes}
 use Rattle.engine.specs.Quarantine.{IsOfSomeWorld, Quarantine}
 use Rattle.engine.specs.Whole.{IsWhole}
@@ -99,7 +100,7 @@ whole_quiet m t call reply whole does domains row ring sent steps =
       devices = row ∙ whole.devices;
       frames_are = refl;
       idle = ap (λ (r : Ring). r.waiting) ring ∙ whole.idle;
-      status = (let same = ap (λ (r : Ring). r.status) ring in omega (arith, same, sent, whole.status));
+      status = ap (λ (r : Ring). r.status) ring ∙ whole.status ∙ ap status_of (sym sent);
       sent = omega (arith, sent, whole.sent, does.calls);
       steps = omega (arith, steps, whole.steps, does.calls);
       made = made_kept m t call reply does.becomes (omega (arith, sent)) whole.made;

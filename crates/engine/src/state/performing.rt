@@ -2,7 +2,7 @@
 
 ghost use Rattle.std.specs.Prelude.{◌≡◌, ◌<◌};
 ghost use Rattle.dmatypes.specs.World.{World};
-ghost use Rattle.dmatypes.specs.declared.limits.TheConstants.{MOST_CALLS};
+ghost use Rattle.dmatypes.specs.declared.limits.TheConstants.{CALLS_END};
 ghost use Rattle.engine.specs.Hits.{IsHitIn, IsNoRequest, hit_in};
 ghost use Rattle.engine.specs.Quarantine.{Quarantine};
 ghost use Rattle.engine.specs.State.{done_reply, flushed_reply, made_reply, mapped_reply, request_reply, unmapped_reply};
@@ -15,7 +15,7 @@ use unit::Hit;
 impl State {
     /// Makes a call.
     pub fn perform(&mut self, call: &Call) -> Answer
-        requires { self.old.calls < MOST_CALLS }
+        requires { self.old.calls < CALLS_END }
         ensures does { Does self.old call.now result.reply self.new }
         ensures hit { (w : World) → Quarantine self.old w → IsHitIn w call.now result.reply result.hit }
     {
@@ -36,7 +36,7 @@ impl State {
 
     // Makes a call that is no request.
     fn reply_to(&mut self, call: &Call) -> Reply
-        requires counts { self.old.calls < MOST_CALLS }
+        requires counts { self.old.calls < CALLS_END }
         requires other { IsNoRequest call.now }
         ensures { Does self.old call.now result self.new }
     {

@@ -13,6 +13,7 @@ use Rattle.engine.specs.Ending.{Invalidates}
 use Rattle.engine.specs.Steps.{Does}
 use Rattle.engine.proofs.devices.Detached.{detach_does, detach_no_device, detach_not_attached, detached, only_width}
 use Rattle.engine.proofs.caches.Sent.{whole_sends}
+use Rattle.engine.proofs.caches.ReadyToSend.{ready_to_send}
 use Rattle.engine.proofs.state.State.detach.Goals as goal
 use Rattle.dmatypes.specs.declared.limits.TheConstants.{DEVICES}
 
@@ -60,3 +61,6 @@ invariant_of-self-2 c = (
 
 pub returns : goal.returns
 returns c = rw (← c.self.view_is) (does c)
+
+pub forget_context-requires-clause-ready : goal.forget_context-requires-clause-ready
+forget_context-requires-clause-ready c = ready_to_send (the_view c.self.inside) _ c.self.invariant.0 (rw (← c.self.view_is) at c.requires)

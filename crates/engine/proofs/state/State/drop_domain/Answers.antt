@@ -12,6 +12,7 @@ use Rattle.engine.proofs.flushes.Steps.{Did, drop_attached, drop_did, drop_no_do
 use Rattle.engine.proofs.flushes.MayRelease.{can_unmap}
 use Rattle.engine.proofs.caches.Sent.{changed}
 use Rattle.engine.proofs.states.RecordsMade.{domain_in}
+use Rattle.engine.proofs.caches.ReadyToSend.{ready_to_send}
 use Rattle.engine.proofs.state.State.drop_domain.Goals as goal
 
 pub returns-in_default : goal.returns-in_default
@@ -86,3 +87,6 @@ invariant_of-self-2 c =
 
 pub returns : goal.returns
 returns c = rw (← c.self.view_is, c.take.ensures.after) (did c).does
+
+pub close-room-requires-clause-ready : goal.close-room-requires-clause-ready
+close-room-requires-clause-ready c = ready_to_send (the_view c.self.inside) c.self.inside.iommu.contexts c.self.invariant.0 (rw (← c.self.view_is) at c.requires)

@@ -11,6 +11,7 @@ use Rattle.engine.proofs.flushes.Steps.{Did, flush_did, flush_no_domain}
 use Rattle.engine.proofs.flushes.MayRelease.{can_unmap}
 use Rattle.engine.proofs.caches.Sent.{changed}
 use Rattle.engine.proofs.states.RecordsMade.{domain_in}
+use Rattle.engine.proofs.caches.ReadyToSend.{ready_to_send}
 use Rattle.engine.proofs.state.State.flush.Goals as goal
 
 pub returns-in_default : goal.returns-in_default
@@ -68,3 +69,6 @@ invariant_of-self-2 c = ((did c).whole, keeps_rooms (found_by c) c.flush.new.sel
 
 pub returns : goal.returns
 returns c = rw (← c.self.view_is) (did c).does
+
+pub flush-requires-clause-ready : goal.flush-requires-clause-ready
+flush-requires-clause-ready c = ready_to_send (the_view c.self.inside) c.self.inside.iommu.contexts c.self.invariant.0 (rw (← c.self.view_is) at c.requires)

@@ -10,6 +10,7 @@ use Rattle.engine.proofs.flushes.MayRelease.{can_unmap}
 use Rattle.engine.proofs.caches.Sent.{changed}
 use Rattle.engine.proofs.states.RecordsMade.{domain_in}
 use Rattle.engine.proofs.unmaps.ByPlace.{AnswersUnmap, unmap_answered, unmap_bad_range, unmap_no_domain}
+use Rattle.engine.proofs.caches.ReadyToSend.{ready_to_send}
 use Rattle.engine.proofs.state.State.unmap.Goals as goal
 
 pub returns-in_default : goal.returns-in_default
@@ -91,3 +92,6 @@ invariant_of-self-2 c = ((answered c).whole, keeps_rooms (found_by c) c.unmap.ne
 
 pub returns : goal.returns
 returns c = rw (← c.self.view_is) (answered c).does
+
+pub unmap-requires-clause-ready : goal.unmap-requires-clause-ready
+unmap-requires-clause-ready c = ready_to_send (the_view c.self.inside) c.self.inside.iommu.contexts c.self.invariant.0 (rw (← c.self.view_is) at c.requires)
