@@ -1,3 +1,3 @@
 pub mod Fronts
-pub mod Maps
+pub mod Members
 pub mod Emptied

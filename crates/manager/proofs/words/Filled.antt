@@ -19,7 +19,7 @@ use Rattle.engine.specs.Hits.{Has, IsHitIn}
 use Rattle.ports.specs.Lawful.{Backs, IsBacked, IsLawfulAfter}
 use Rattle.ports.specs.Steps.{AreLawful, place_of, slot_of}
 use Rattle.ports.proofs.histories.LawfulWords.{backed_word}
-use Rattle.ports.proofs.lists.Maps.{followed, is_of, none_is_no, of_is}
+use Rattle.ports.proofs.lists.Members.{followed, is_of, none_is_no, of_is}
 use Rattle.ports.proofs.histories.Worlds.{IsSoundDomain, sound_after}
 use Rattle.unit.specs.declared.hit.Hit.{Hit}
 use Rattle.dmatypes.specs.declared.limits.TheConstants.{DEVICES}

@@ -12,7 +12,7 @@ use Rattle.vtdbits.specs.Port.{IsEmptyOrSpelling, Spells, States}
 use Rattle.vtdbits.specs.declared.port.PortWord.{PortWord}
 use Rattle.vtdbits.proofs.Ports.{not_empty, one_value}
 use Rattle.ports.specs.Lawful.{Backs, IsBacked, IsLawful, IsLawfulAfter}
-use Rattle.ports.proofs.lists.Maps.{followed, none_is_no}
+use Rattle.ports.proofs.lists.Members.{followed, none_is_no}
 use Rattle.ports.proofs.histories.Worlds.{IsSoundDomain, IsSoundWorld, sound_after}
 
 -- a lawful word is empty or a spelling

@@ -18,8 +18,9 @@ use Rattle.dmatypes.proofs.numbers.Ranges.{within_or_not}
 use Rattle.vtdbits.specs.declared.port.PortWord.{PortWord}
 use Rattle.ports.specs.Lawful.{Backs, IsBacked, IsLawful}
 use Rattle.ports.specs.Cleared.{IsCleared, Keeps, TakesAway}
-use Rattle.ports.proofs.lists.Maps.{put_same, put_other, same_or_not, in_left, in_last, none_is_no, is_no_none, is_some, some_and}
-use Rattle.ports.proofs.lists.Maps.{second_of, followed, leads, is_of, of_is}
+use Rattle.dmatypes.proofs.histories.Maps.{put_same, put_other, same_or_not}
+use Rattle.ports.proofs.lists.Members.{in_left, in_last, none_is_no, is_no_none, is_some, some_and}
+use Rattle.ports.proofs.lists.Members.{second_of, followed, leads, is_of, of_is}
 use Rattle.dmatypes.specs.declared.limits.TheConstants.{MOST_RECORDS}
 use Rattle.dmatypes.specs.declared.page.TheConstants.{PAGE_BYTES}
 use Rattle.ports.proofs.histories.Worlds.{without_else, restricted_here, placed_within, map_start}

@@ -21,7 +21,8 @@ use Rattle.dmatypes.specs.Step.{Answers, IsMapAnswer, IsStep, next}
 use Rattle.dmatypes.specs.History.{after_from, IsLegal, IsLegalFrom, after}
 use Rattle.dmatypes.proofs.numbers.Ranges.{within_is, within_not, within_or_not}
 use Rattle.dmatypes.specs.declared.page.TheConstants.{PAGE_BYTES}
-use Rattle.ports.proofs.lists.Maps.{put_same, put_other, same_or_not, in_either, none_is_no, some_and, from_either, second_of}
+use Rattle.dmatypes.proofs.histories.Maps.{put_same, put_other, same_or_not}
+use Rattle.ports.proofs.lists.Members.{in_either, none_is_no, some_and, from_either, second_of}
 
 pub record IsSoundDomain (v : Domain) : Type 0 where
   pub live : (p : ℕ) (t : Target) → v.live p ≡ Some t → IsPage p

@@ -11,7 +11,7 @@ use Rattle.ports.specs.Seen.{Port, Rows}
 use Rattle.ports.specs.Steps.{IsSeenInRun, counter, place_of, slot_of}
 use Rattle.ports.specs.declared.known.OwnStep.{OwnStep}
 use Rattle.ports.specs.declared.known.OwnStep.TheVariants.{Loaded}
-use Rattle.ports.proofs.lists.Maps.{some_of}
+use Rattle.ports.proofs.lists.Members.{some_of}
 use Rattle.ports.proofs.steps.Told.{looked}
 use Rattle.ports.proofs.histories.Allowed.{allowed_word, spelled_word}
 use Rattle.dmatypes.specs.declared.page.TheConstants.{PAGE_BYTES}
