@@ -1,6 +1,7 @@
 -- How an unmap ends a range: in the tree and the address space, by what it sends to the unit, and what then comes
 -- free.
-use Rattle.std.specs.Prelude.{◌≡◌, ◌≢◌, ◌↔◌, ℕ, ◌+◌, ◌-◌, ◌%◌, ◌^◌, ◌<◌, ◌≤◌, ◌⊎◌, ◌++◌, Bool, true, false, IsTrue, not, ◌&&◌, List, [], ◌∷◌, length}
+use Rattle.std.specs.Prelude.{◌≡◌, ◌≢◌, ◌↔◌, ℕ, ◌+◌, ◌-◌, ◌%◌, ◌^◌, ◌<◌, ◌≤◌, ◌⊎◌, ◌++◌, Bool, true, false, IsTrue, not, ◌&&◌, List, []}
+use Rattle.std.specs.Prelude.{◌∷◌, length}
 use Rattle.std.specs.Prelude.{reverse, take, Option, Some, Result, Ok, Err}
 use Rattle.dmatypes.specs.declared.limits.TheConstants.{MOST_RECORDS, MOST_STEPS}
 use Rattle.dmatypes.specs.Block.{Block, Holds, IsAligned}
@@ -112,7 +113,8 @@ status_of number = number % 2 ^ 32
 -- This was shown of a domain when it was sent
 pub record Invalidates (old : Iommu) (d : Descriptor) (seen : Option Shown) (new : Iommu) : Type 0 where
   pub number : new.sent ≡ old.sent + 1
-  pub done : new.ring ≡ ring_of [] (status_of new.sent) (taken_after (old.ring.waiting ++ d ∷ Wait (status_of new.sent) ∷ []) old.ring.taken)
+  pub done : new.ring ≡ ring_of [] (status_of new.sent) (taken_after (old.ring.waiting ++ d ∷ Wait (status_of new.sent) ∷ [])
+      old.ring.taken)
   pub caches : new.unit.caches ≡ left_by_all (old.ring.waiting ++ d ∷ Wait (status_of new.sent) ∷ []) old.unit.caches
   pub steps : new.unit.steps ≡ old.unit.steps + (length old.ring.waiting + 2)
   pub each : new.unit.done ≡ old.unit.done + (length old.ring.waiting + 2)

@@ -23,7 +23,8 @@ changed m i pool new x = record { pool = pool; domains = slice_set m.domains i n
 idle_none : (ds : List Descriptor) → ds ≡ [] → length ds ≡ 0
 idle_none ds none = ap length none
 
-pub whole_sends : (m t : State) (call : Call) (reply : Reply) (d : Descriptor) (row : List ContextEntry) {seen : Option Shown} → IsWhole m.pool.frames m
+pub whole_sends : (m t : State) (call : Call) (reply : Reply) (d : Descriptor) (row : List ContextEntry) {seen : Option Shown}
+    → IsWhole m.pool.frames m
     → Does m call reply t → length t.domains ≡ length m.domains → length row ≡ length m.iommu.contexts
     → Invalidates (record m.iommu { contexts = row }) d seen t.iommu → IsWhole t.pool.frames t
 whole_sends m t call reply d row whole does domains rows sends = record {

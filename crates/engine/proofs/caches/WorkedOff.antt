@@ -1,5 +1,6 @@
 -- The unit works off what waits, a descriptor and a wait, and what was ended may then be released.
-use Rattle.std.proofs.Common.{◌≡◌, ◌≢◌, ℕ, ◌+◌, ◌-◌, ◌%◌, ◌^◌, ◌<◌, ◌≤◌, inl, inr, List, [], ◌∷◌, ◌++◌, length, reverse, take, refl, sym, ap, ap₂, subst}
+use Rattle.std.proofs.Common.{◌≡◌, ◌≢◌, ℕ, ◌+◌, ◌-◌, ◌%◌, ◌^◌, ◌<◌, ◌≤◌, inl, inr, List, [], ◌∷◌, ◌++◌, length, reverse, take, refl}
+use Rattle.std.proofs.Common.{sym, ap, ap₂, subst}
 use Rattle.std.proofs.Common.{Option, ◌∙◌, append_assoc, arith}
 use Rattle.std.proofs.lemmas.List.{append-nil, length-append, reverse-append, take-take}
 use Rattle.std.specs.Prelude.{Result, Ok, Err, IsErr, OnOk}
@@ -121,7 +122,8 @@ did_first ds status taken old ring ring' unit unit' ran (x ∷ xs) parts r u som
             ∙ ap (λ c. unit_state c (old.steps + length ran + 1) (old.done + length ran + 1)) (sym (left_push ran x old.caches))
             ∙ ap₂ (unit_state (left_by_all (ran ++ x ∷ []) old.caches)) steps done;
       },
-      (let less = ap (λ (q : Ring). length q.waiting) now in let was = ap (λ (ws : List Descriptor). length ws) waiting in omega (arith, less, was)),
+      (let less = ap (λ (q : Ring). length q.waiting) now in
+          let was = ap (λ (ws : List Descriptor). length ws) waiting in omega (arith, less, was)),
     )
 
 -- a step goes from one stage to the next, and fewer wait
@@ -229,7 +231,9 @@ all_done sent = omega arith
 pub done_then : (old : Iommu) (d : Descriptor) (new : Iommu) {seen : Option Shown} → Invalidates old d seen new → IsDone new d new.sent
 done_then old d new sends = record {
   later = [];
-  earlier = reverse old.ring.waiting ++ take (CAPACITY + 1 - length (old.ring.waiting ++ d ∷ Wait (status_of new.sent) ∷ [])) old.ring.taken;
+  earlier =
+      reverse old.ring.waiting
+      ++ take (CAPACITY + 1 - length (old.ring.waiting ++ d ∷ Wait (status_of new.sent) ∷ [])) old.ring.taken;
   taken =
       ap (λ (q : Ring). q.taken) sends.done
       ∙ ap (λ ds. ds ++ take (CAPACITY + 1 - length (old.ring.waiting ++ d ∷ Wait (status_of new.sent) ∷ [])) old.ring.taken)

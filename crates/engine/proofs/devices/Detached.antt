@@ -117,7 +117,8 @@ detach_does m device root domain x small many at invalidates = record {
       refl,
     ),
     device_gone m (detached m x) w device domain q (omega (arith, small, many)) invalidates.contexts (
-        purges_sent m.iommu.ring.waiting (ContextDevice domain device) (status_of x.sent) m.iommu.unit.caches x.unit.caches invalidates.caches) refl
+        purges_sent m.iommu.ring.waiting (ContextDevice domain device) (status_of x.sent) m.iommu.unit.caches x.unit.caches
+        invalidates.caches) refl
         refl,
   );
   exact = tt;

@@ -33,10 +33,13 @@ module _ (m t : State) (w : World) (i : ℕ) (h : Domain) (v : world.Domain) (q 
   flushed_world = record w { domains = put (i + 1) (Some (flushed v)) w.domains }
 
   invalidates : Invalidates m.iommu (IotlbDomain (i + 1)) (shown_of h.root (length h.records)) t.iommu
-  invalidates = subst (λ (x : Iommu). Invalidates m.iommu (IotlbDomain (i + 1)) (shown_of h.root (length h.records)) x) (sym closes.quiet) closes.flushes.invalidates
+  invalidates =
+      subst (λ (x : Iommu). Invalidates m.iommu (IotlbDomain (i + 1)) (shown_of h.root (length h.records)) x) (sym closes.quiet)
+      closes.flushes.invalidates
 
   purges : Purges (IotlbDomain (i + 1)) m.iommu.unit.caches t.iommu.unit.caches
-  purges = purges_sent m.iommu.ring.waiting (IotlbDomain (i + 1)) (status_of t.iommu.sent) m.iommu.unit.caches t.iommu.unit.caches invalidates.caches
+  purges = purges_sent m.iommu.ring.waiting (IotlbDomain (i + 1)) (status_of t.iommu.sent) m.iommu.unit.caches t.iommu.unit.caches
+      invalidates.caches
 
   quarantined : Quarantine between flushed_world
   quarantined =

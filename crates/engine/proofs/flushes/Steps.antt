@@ -111,7 +111,8 @@ module _ (m : State) (domain i : ℕ) (h : Domain) (pool : Pool) (x : Iommu) (wh
       steps = λ w q.
           let v = both_there m.pool.words (domain_at m.domains domain) (w.domains domain) h (q.domains domain) there in
           let there' : w.domains (i + 1) ≡ Some v.0 = sym (ap w.domains id) ∙ v.1 in
-          let caches : x.unit.caches ≡ left_by_all (m.iommu.ring.waiting ++ IotlbDomain (i + 1) ∷ Wait (status_of x.sent) ∷ []) m.iommu.unit.caches =
+          let caches : x.unit.caches ≡ left_by_all (m.iommu.ring.waiting ++ IotlbDomain (i + 1) ∷ Wait (status_of x.sent) ∷ [])
+          m.iommu.unit.caches =
           rw id at flushes.invalidates.caches in (
             ((not_none (w.domains domain) v.0 v.1, tt), rw v.1 (ap (λ (n : ℕ). Flushed n) (count ∙ records_count h v.0 v.2.ids))),
             rw v.1
@@ -155,5 +156,6 @@ module _ (m : State) (domain i : ℕ) (h : Domain) (pool : Pool) (x : Iommu) (wh
         does = drop_does;
         whole =
             sends None drop_does
-            (subst (λ (y : Iommu). Invalidates m.iommu (IotlbDomain domain) (shown_of h.root (length h.records)) y) (sym closes.quiet) closes.flushes.invalidates);
+            (subst (λ (y : Iommu). Invalidates m.iommu (IotlbDomain domain) (shown_of h.root (length h.records)) y) (sym closes.quiet)
+            closes.flushes.invalidates);
       }

@@ -15,7 +15,8 @@ use Rattle.engine.specs.declared.iommu.Iommu.{Iommu}
 use Rattle.engine.specs.declared.iommu.Shown.{Shown}
 use Rattle.vtdbits.specs.declared.descriptor.Descriptor.{Descriptor}
 use Rattle.vtdbits.specs.declared.descriptor.Descriptor.TheVariants.{IotlbDomain}
-use Rattle.engine.specs.Ending.{ByMode, Invalidates, IsJudgedEnd, IsUnmapped, MakesRoom, PutsOff, RetiresAndUnmaps, UnmapsStrictly, shown_of, status_of}
+use Rattle.engine.specs.Ending.{ByMode, Invalidates, IsJudgedEnd, IsUnmapped, MakesRoom, PutsOff, RetiresAndUnmaps, UnmapsStrictly}
+use Rattle.engine.specs.Ending.{shown_of, status_of}
 use Rattle.engine.specs.Domains.{Domain, Parts, domain_at, parts_of}
 use Rattle.engine.specs.State.{Becomes, Exact, State, parts_in, unmapped_reply}
 use Rattle.engine.specs.Steps.{Does, Steps}
@@ -88,7 +89,8 @@ module _ (m : State) (address pages i released : ℕ) (h new : Domain) (pool : P
       → Steps m (calls.Unmap (i + 1) address pages) (Unmapped released) after
   strictly strict none does =
       rw none (strict_steps m after i address pages h does.between does.retired many less there whole fits does.of_range
-      does.invalidates.contexts (status_of x.sent) does.descriptor does.pool_between new.space strict does.retires does.sent does.invalidates.caches
+      does.invalidates.contexts (status_of x.sent) does.descriptor does.pool_between new.space strict does.retires does.sent
+      does.invalidates.caches
       does.releases (ap (λ (d : Domain). slice_set m.domains i (Some d))
       (does.same ∙ ap (λ (d : Domain). record d { space = new.space }) does.retires.same)))
 
@@ -108,9 +110,11 @@ module _ (m : State) (address pages i released : ℕ) (h new : Domain) (pool : P
       let retires : RetiresAndUnmaps does.roomy.pool (domain_after h does.roomy.domain.space []) does.retired pool does.between =
       subst (λ (d : Domain). RetiresAndUnmaps does.roomy.pool d does.retired pool does.between) flushes.same does.retires in
       let invalidates : Invalidates m.iommu (IotlbDomain (i + 1)) (shown_of h.root (length h.records)) x =
-      subst (λ (y : Iommu). Invalidates m.iommu (IotlbDomain (i + 1)) (shown_of h.root (length h.records)) y) (sym does.quiet) flushes.invalidates in
+      subst (λ (y : Iommu). Invalidates m.iommu (IotlbDomain (i + 1)) (shown_of h.root (length h.records)) y) (sym does.quiet)
+      flushes.invalidates in
       rw empties.all (full_steps m after i address pages h does.between does.retired many less there whole fits does.of_range
-      invalidates.contexts (status_of x.sent) does.roomy.pool does.roomy.domain.space lazy empties.full may.0.live invalidates.caches flushes.releases
+      invalidates.contexts (status_of x.sent) does.roomy.pool does.roomy.domain.space lazy empties.full may.0.live invalidates.caches
+      flushes.releases
       retires
       (ap (λ (d : Domain). slice_set m.domains i (Some d))
       (does.last ∙ ap (λ (d : Domain). record d { records = d.records ++ does.retired ∷ [] }) retires.same)))
@@ -143,7 +147,8 @@ module _ (m : State) (address pages i released : ℕ) (h new : Domain) (pool : P
         inr (
           IotlbDomain (i + 1),
           shown_of h.root (length h.records),
-          subst (λ (y : Iommu). Invalidates m.iommu (IotlbDomain (i + 1)) (shown_of h.root (length h.records)) y) (sym does.quiet) empties.flushes.invalidates,
+          subst (λ (y : Iommu). Invalidates m.iommu (IotlbDomain (i + 1)) (shown_of h.root (length h.records)) y) (sym does.quiet)
+              empties.flushes.invalidates,
         )
   ]
 

@@ -34,7 +34,8 @@ returns-in_default-get c =
 abbrev cleared : goal.After-forget_context → Iommu
 cleared c = record c.self.inside.iommu { contexts = slice_set c.self.inside.iommu.contexts c.args.device Absent }
 
-sent : (c : goal.After-forget_context) → Invalidates (cleared c) (ContextDevice c.in-Present.domain c.args.device) None c.forget_context.new.self
+sent : (c : goal.After-forget_context) → Invalidates (cleared c) (ContextDevice c.in-Present.domain c.args.device) None
+    c.forget_context.new.self
 sent c =
     subst (λ (row : List ContextEntry).
     Invalidates (record c.self.inside.iommu { contexts = row }) (ContextDevice c.in-Present.domain c.args.device) None

@@ -89,4 +89,5 @@ pub returns : goal.returns
 returns c = rw (← c.self.view_is, c.take.ensures.after) (did c).does
 
 pub close-room-requires-clause-ready : goal.close-room-requires-clause-ready
-close-room-requires-clause-ready c = ready_to_send (the_view c.self.inside) c.self.inside.iommu.contexts c.self.invariant.0 (rw (← c.self.view_is) at c.requires)
+close-room-requires-clause-ready c =
+    ready_to_send (the_view c.self.inside) c.self.inside.iommu.contexts c.self.invariant.0 (rw (← c.self.view_is) at c.requires)

@@ -71,4 +71,5 @@ pub returns : goal.returns
 returns c = rw (← c.self.view_is) (did c).does
 
 pub flush-requires-clause-ready : goal.flush-requires-clause-ready
-flush-requires-clause-ready c = ready_to_send (the_view c.self.inside) c.self.inside.iommu.contexts c.self.invariant.0 (rw (← c.self.view_is) at c.requires)
+flush-requires-clause-ready c =
+    ready_to_send (the_view c.self.inside) c.self.inside.iommu.contexts c.self.invariant.0 (rw (← c.self.view_is) at c.requires)

@@ -94,4 +94,5 @@ pub returns : goal.returns
 returns c = rw (← c.self.view_is) (answered c).does
 
 pub unmap-requires-clause-ready : goal.unmap-requires-clause-ready
-unmap-requires-clause-ready c = ready_to_send (the_view c.self.inside) c.self.inside.iommu.contexts c.self.invariant.0 (rw (← c.self.view_is) at c.requires)
+unmap-requires-clause-ready c =
+    ready_to_send (the_view c.self.inside) c.self.inside.iommu.contexts c.self.invariant.0 (rw (← c.self.view_is) at c.requires)
