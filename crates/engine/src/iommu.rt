@@ -72,7 +72,7 @@ impl Iommu {
     }
 
     /// Has the unit forget the pages of a retired record, and what it remembers of the tables that were cut with them: sends
-    /// the descriptor that covers them and then a wait, and runs the unit until the wait is done. Nothing waits before, and
+    /// the descriptor that covers them and then a wait, and runs the unit until the wait is done. What waits is done before, and
     /// nothing waits then. The domain's tree states none of the pages any more: a request could bring them back before. They
     /// are still retired in its address space, and the frames that were cut with them still neither free nor used: what comes
     /// free comes so later.
