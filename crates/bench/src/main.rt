@@ -11,6 +11,7 @@ mod mapping;
 mod options;
 mod program;
 mod request;
+mod reusing;
 mod scripting;
 mod subject;
 mod taking;

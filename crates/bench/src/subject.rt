@@ -7,6 +7,7 @@ use crate::loading::time_loads;
 use crate::managing::{Way, time_manager};
 use crate::mapping::{Deferred, Listing, Mapping, Shape, Splitting};
 use crate::request::Request;
+use crate::reusing::{Bursts, Freed, Holes, Reusing, Sizes};
 use crate::scripting::{Lines, time_script};
 use crate::taking::Taking;
 use crate::timing::{Tenths, time};
@@ -36,6 +37,10 @@ enum Kind {
     MapLazily(u64),
     // Behind so many live pieces.
     Take(u32),
+    // While so many ranges are live.
+    Reuse(u32, Freed, Sizes),
+    TakeBehindHoles,
+    TakeBursts,
     Walk,
     // Whether the unit may look in its caches.
     Request(bool),
@@ -52,7 +57,7 @@ const LAST_DEVICE: u64 = DEVICES - 1;
 
 /// All that is measured, in the table's order. The maps begin at frames behind the table frames; leaves of 2 MiB
 /// come where the frame is a multiple of a span's pages.
-pub(crate) const SUBJECTS: [Subject; 42] = [
+pub(crate) const SUBJECTS: [Subject; 50] = [
     Subject {
         name: "map and unmap 1 page",
         kind: Kind::Map(Shape {
@@ -129,6 +134,38 @@ pub(crate) const SUBJECTS: [Subject; 42] = [
     Subject {
         name: "take and release behind 1000 live pieces",
         kind: Kind::Take(1000),
+    },
+    Subject {
+        name: "take, the oldest of 1 freed",
+        kind: Kind::Reuse(1, Freed::Oldest, Sizes::One),
+    },
+    Subject {
+        name: "take, the oldest of 16 freed",
+        kind: Kind::Reuse(16, Freed::Oldest, Sizes::One),
+    },
+    Subject {
+        name: "take, the oldest of 256 freed",
+        kind: Kind::Reuse(256, Freed::Oldest, Sizes::One),
+    },
+    Subject {
+        name: "take, the oldest of 1000 freed",
+        kind: Kind::Reuse(1000, Freed::Oldest, Sizes::One),
+    },
+    Subject {
+        name: "take, a random one of 1000 freed",
+        kind: Kind::Reuse(1000, Freed::Random, Sizes::One),
+    },
+    Subject {
+        name: "take 1 to 64 pages, the oldest of 256 freed",
+        kind: Kind::Reuse(256, Freed::Oldest, Sizes::Mixed),
+    },
+    Subject {
+        name: "take and release 2 pages behind 500 holes",
+        kind: Kind::TakeBehindHoles,
+    },
+    Subject {
+        name: "255 takes, then their 255 releases",
+        kind: Kind::TakeBursts,
     },
     Subject {
         name: "walk of a tree, 3 levels",
@@ -315,6 +352,12 @@ impl Subject {
             Kind::Split => time(clock, rounds, &mut Splitting::new(alloc)?),
             Kind::MapLazily(most) => time(clock, rounds, &mut Deferred::new(alloc, most)?),
             Kind::Take(live) => time(clock, rounds, &mut Taking::new(alloc, live)?),
+            Kind::Reuse(live, freed, sizes) => {
+                let mut reusing = Reusing::new(alloc, live, freed, sizes)?;
+                time(clock, rounds, &mut reusing)
+            }
+            Kind::TakeBehindHoles => time(clock, rounds, &mut Holes::new(alloc)?),
+            Kind::TakeBursts => time(clock, rounds, &mut Bursts::new(alloc)?),
             Kind::Walk => time(clock, rounds, &mut Walking::new(alloc)?),
             Kind::Request(look) => time(clock, rounds, &mut Request::new(alloc, look)?),
             Kind::Manage(way, attached) => time_manager(clock, alloc, rounds, way, attached),
