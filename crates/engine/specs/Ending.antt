@@ -33,6 +33,7 @@ use Rattle.vtdbits.specs.declared.number.TheConstants.{MOST_BLOCK_ORDER}
 use Rattle.engine.specs.declared.record.Record.{Record}
 use Rattle.engine.specs.declared.iommu.Iommu.{Iommu}
 use Rattle.engine.specs.declared.iommu.Shown.{Shown}
+use Rattle.engine.specs.declared.iommu.Shown.TheVariants.{OneRecord, Records}
 use Rattle.engine.specs.Domains.{Domain, Parts, held_in}
 
 -- ---- in the tree and the address space
@@ -100,9 +101,17 @@ left_by_all (d ∷ ds) c = left_by_all ds (left_by d c)
 abbrev pub taken_after : List Descriptor → List Descriptor → List Descriptor
 taken_after ds taken = reverse ds ++ take (CAPACITY + 1 - length ds) taken
 
--- a tree of this root, and so many records that could be released
-abbrev pub shown_of : ℕ → ℕ → Option Shown
-shown_of root records = Some (record { root = root; records = records })
+-- a tree of this root, and so many records that could be released, while so many table frames are free
+abbrev pub shown_of : ℕ → ℕ → ℕ → Option Shown
+shown_of root records free = Some (Records root records free)
+
+-- the tree and all records of a domain
+abbrev pub domain_shown : Pool → Domain → Option Shown
+domain_shown pool domain = shown_of domain.root (length domain.records) (length pool.free)
+
+-- a tree of this root that states no page of the range, and its record that could be released, while so many are free
+abbrev pub record_shown : ℕ → Range → ℕ → Option Shown
+record_shown root range free = Some (OneRecord root range free)
 
 -- what the wait of a number writes: its low 32 bits
 abbrev pub status_of : ℕ → ℕ
@@ -163,14 +172,14 @@ pub record UnmapsStrictly (old : Parts) (id : ℕ) (range : Range) (new : Parts)
   pub retires : RetiresAndUnmaps old.pool old.domain retired pool_between between
   pub made : retired.sent ≡ old.iommu.sent
   pub sent : IsSent id retired.range retired.cut descriptor
-  pub invalidates : Invalidates old.iommu descriptor (shown_of old.domain.root 1) new.iommu
+  pub invalidates : Invalidates old.iommu descriptor (record_shown old.domain.root range (length pool_between.free)) new.iommu
   pub releases : Releases pool_between between.space retired new.pool new.domain.space
   pub same : new.domain ≡ record between { space = new.domain.space }
 
 -- all that is remembered of the domain is invalidated, with its tree and all its records shown; these are released, and
 -- none is left
 pub record Flushes (old : Parts) (id : ℕ) (new : Parts) : Type 0 where
-  pub invalidates : Invalidates old.iommu (IotlbDomain id) (shown_of old.domain.root (length old.domain.records)) new.iommu
+  pub invalidates : Invalidates old.iommu (IotlbDomain id) (domain_shown old.pool old.domain) new.iommu
   pub releases : ReleasesAll old.pool old.domain.space old.domain.records new.pool new.domain.space
   pub same : new.domain ≡ record old.domain { space = new.domain.space; records = [] }
 

@@ -4,7 +4,7 @@ ghost use Rattle.std.specs.Prelude.{◌≡◌, ◌≢◌, ℕ, ◌+◌, ◌≤�
 ghost use Rattle.dmatypes.specs.declared.limits.TheConstants.{DEVICES, MOST_STEPS};
 ghost use Rattle.dmatypes.specs.declared.width.TheConstants.{LEVELS};
 ghost use Rattle.tables.specs.Pool.{IsTree};
-ghost use Rattle.engine.specs.Ending.{Invalidates, IsSent, left_by_all, shown_of, status_of, taken_after};
+ghost use Rattle.engine.specs.Ending.{Invalidates, IsSent, left_by_all, record_shown, shown_of, status_of, taken_after};
 ghost use Rattle.engine.specs.Ready.{AreReleasable, IsCleared, IsReady, IsReleasable, NoneWrites};
 ghost use Rattle.queue.specs.Ring.{ring_of};
 ghost use Rattle.unit.specs.Caches.{nothing, unit_state};
@@ -14,7 +14,7 @@ ghost use Rattle.vtdbits.specs.declared.descriptor.Descriptor.TheVariants.{Conte
 
 use crate::record::Record;
 use crate::sending::descriptor_of;
-use dmatypes::Frame;
+use dmatypes::{Frame, PageRange};
 use iova::Space;
 use queue::Ring;
 use tables::{Pool, Tree};
@@ -37,11 +37,21 @@ pub(crate) struct Iommu {
     shown: Option<Shown>,
 }
 
-/// What is shown of a domain when it has pages and tables forgotten: the root of its tree, and how many of its records.
+/// What is shown of a domain when it has pages and tables forgotten, and how many table frames are free then.
 #[derive(Clone, Copy)]
-pub(crate) struct Shown {
-    root: Frame,
-    records: u64,
+pub(crate) enum Shown {
+    /// The root of its tree, and the range of one retired record.
+    OneRecord {
+        root: Frame,
+        range: PageRange,
+        free: u64,
+    },
+    /// The root of its tree, and how many of its records.
+    Records {
+        root: Frame,
+        records: u64,
+        free: u64,
+    },
 }
 
 impl Iommu {
@@ -88,11 +98,12 @@ impl Iommu {
         requires cleared { IsCleared pool.now tree.now.root retired.now.range }
         requires kept { IsReleasable pool.now space.now retired.now }
         ensures { (descriptor : Descriptor) × IsSent domain retired.now.range retired.now.cut descriptor
-            × Invalidates self.old descriptor (shown_of tree.now.root 1) self.new }
+            × Invalidates self.old descriptor (record_shown tree.now.root retired.now.range (length pool.now.free)) self.new }
     {
-        let shown = Shown {
+        let shown = Shown::OneRecord {
             root: tree.root(),
-            records: 1,
+            range: retired.range,
+            free: pool.free_count(),
         };
         self.send(
             descriptor_of(domain, retired.range, &retired.cut),
@@ -113,11 +124,12 @@ impl Iommu {
         requires ready { IsReady self.old }
         requires standing { IsTree pool.now LEVELS tree.now.root }
         requires kept { AreReleasable pool.now space.now records.now }
-        ensures { Invalidates self.old (IotlbDomain domain) (shown_of tree.now.root (length records.now)) self.new }
+        ensures { Invalidates self.old (IotlbDomain domain) (shown_of tree.now.root (length records.now) (length pool.now.free)) self.new }
     {
-        let shown = Shown {
+        let shown = Shown::Records {
             root: tree.root(),
             records: records.len() as u64,
+            free: pool.free_count(),
         };
         self.send(Descriptor::IotlbDomain(domain), Some(shown));
     }

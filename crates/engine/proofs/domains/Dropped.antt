@@ -4,7 +4,7 @@ use Rattle.std.proofs.lemmas.List.{length-set}
 use Rattle.dmatypes.specs.World.{World, flushed, put}
 use Rattle.dmatypes.specs.World as world
 use Rattle.vtdbits.specs.declared.descriptor.Descriptor.TheVariants.{IotlbDomain}
-use Rattle.engine.specs.Ending.{Closes, Destroys, Invalidates, shown_of, status_of}
+use Rattle.engine.specs.Ending.{Closes, Destroys, Invalidates, domain_shown, status_of}
 use Rattle.engine.specs.declared.iommu.Iommu.{Iommu}
 use Rattle.engine.specs.Domains.{Domain, domain_at}
 use Rattle.engine.specs.State.{State, parts_in}
@@ -32,9 +32,9 @@ module _ (m t : State) (w : World) (i : ℕ) (h : Domain) (v : world.Domain) (q 
   abbrev flushed_world : World
   flushed_world = record w { domains = put (i + 1) (Some (flushed v)) w.domains }
 
-  invalidates : Invalidates m.iommu (IotlbDomain (i + 1)) (shown_of h.root (length h.records)) t.iommu
+  invalidates : Invalidates m.iommu (IotlbDomain (i + 1)) (domain_shown m.pool h) t.iommu
   invalidates =
-      subst (λ (x : Iommu). Invalidates m.iommu (IotlbDomain (i + 1)) (shown_of h.root (length h.records)) x) (sym closes.quiet)
+      subst (λ (x : Iommu). Invalidates m.iommu (IotlbDomain (i + 1)) (domain_shown m.pool h) x) (sym closes.quiet)
       closes.flushes.invalidates
 
   purges : Purges (IotlbDomain (i + 1)) m.iommu.unit.caches t.iommu.unit.caches

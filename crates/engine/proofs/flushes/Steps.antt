@@ -18,7 +18,7 @@ use Rattle.dmatypes.specs.World as world
 use Rattle.tables.specs.Pool.{Pool}
 use Rattle.vtdbits.specs.declared.descriptor.Descriptor.TheVariants.{IotlbDomain, Wait}
 use Rattle.engine.specs.declared.iommu.Iommu.{Iommu}
-use Rattle.engine.specs.Ending.{Closes, Flushes, Invalidates, left_by_all, shown_of, status_of}
+use Rattle.engine.specs.Ending.{Closes, Flushes, Invalidates, left_by_all, domain_shown, status_of}
 use Rattle.engine.specs.Domains.{Domain, domain_at, parts_of}
 use Rattle.engine.specs.State.{Becomes, Exact, State, parts_in}
 use Rattle.engine.specs.Quarantine.{IsOfSomeWorld, Quarantine, attached}
@@ -95,7 +95,7 @@ module _ (m : State) (domain i : ℕ) (h : Domain) (pool : Pool) (x : Iommu) (wh
 
   -- the type of the state keeps what an invalidation of the domain leaves
   sends : (new : Option Domain) {call : Call} {reply : Reply} → Does m call reply (changed m i pool new x)
-      → Invalidates m.iommu (IotlbDomain domain) (shown_of h.root (length h.records)) x → IsWhole pool.frames (changed m i pool new x)
+      → Invalidates m.iommu (IotlbDomain domain) (domain_shown m.pool h) x → IsWhole pool.frames (changed m i pool new x)
   sends new {call} {reply} does invalidates =
       whole_sends m (changed m i pool new x) call reply (IotlbDomain domain) m.iommu.contexts whole does (length-set m.domains i new)
       refl invalidates
@@ -156,6 +156,6 @@ module _ (m : State) (domain i : ℕ) (h : Domain) (pool : Pool) (x : Iommu) (wh
         does = drop_does;
         whole =
             sends None drop_does
-            (subst (λ (y : Iommu). Invalidates m.iommu (IotlbDomain domain) (shown_of h.root (length h.records)) y) (sym closes.quiet)
+            (subst (λ (y : Iommu). Invalidates m.iommu (IotlbDomain domain) (domain_shown m.pool h) y) (sym closes.quiet)
             closes.flushes.invalidates);
       }

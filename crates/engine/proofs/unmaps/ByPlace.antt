@@ -16,7 +16,7 @@ use Rattle.engine.specs.declared.iommu.Shown.{Shown}
 use Rattle.vtdbits.specs.declared.descriptor.Descriptor.{Descriptor}
 use Rattle.vtdbits.specs.declared.descriptor.Descriptor.TheVariants.{IotlbDomain}
 use Rattle.engine.specs.Ending.{ByMode, Invalidates, IsJudgedEnd, IsUnmapped, MakesRoom, PutsOff, RetiresAndUnmaps, UnmapsStrictly}
-use Rattle.engine.specs.Ending.{shown_of, status_of}
+use Rattle.engine.specs.Ending.{domain_shown, record_shown, status_of}
 use Rattle.engine.specs.Domains.{Domain, Parts, domain_at, parts_of}
 use Rattle.engine.specs.State.{Becomes, Exact, State, parts_in, unmapped_reply}
 use Rattle.engine.specs.Steps.{Does, Steps}
@@ -109,8 +109,8 @@ module _ (m : State) (address pages i released : ℕ) (h new : Domain) (pool : P
       let flushes = empties.flushes in
       let retires : RetiresAndUnmaps does.roomy.pool (domain_after h does.roomy.domain.space []) does.retired pool does.between =
       subst (λ (d : Domain). RetiresAndUnmaps does.roomy.pool d does.retired pool does.between) flushes.same does.retires in
-      let invalidates : Invalidates m.iommu (IotlbDomain (i + 1)) (shown_of h.root (length h.records)) x =
-      subst (λ (y : Iommu). Invalidates m.iommu (IotlbDomain (i + 1)) (shown_of h.root (length h.records)) y) (sym does.quiet)
+      let invalidates : Invalidates m.iommu (IotlbDomain (i + 1)) (domain_shown m.pool h) x =
+      subst (λ (y : Iommu). Invalidates m.iommu (IotlbDomain (i + 1)) (domain_shown m.pool h) y) (sym does.quiet)
       flushes.invalidates in
       rw empties.all (full_steps m after i address pages h does.between does.retired many less there whole fits does.of_range
       invalidates.contexts (status_of x.sent) does.roomy.pool does.roomy.domain.space lazy empties.full may.0.live invalidates.caches
@@ -140,14 +140,15 @@ module _ (m : State) (address pages i released : ℕ) (h new : Domain) (pool : P
   quiet_or_sent : (mode : Mode) → ByMode mode ((released ≡ 0) × UnmapsStrictly old_parts (i + 1) (range_at address pages) new_parts)
       (PutsOff old_parts (i + 1) (range_at address pages) released new_parts)
       → (x ≡ m.iommu) ⊎ ((d : Descriptor) × (seen : Option Shown) × Invalidates m.iommu d seen x)
-  quiet_or_sent Strict does = inr (does.1.descriptor, shown_of h.root 1, does.1.invalidates)
+  quiet_or_sent Strict does =
+      inr (does.1.descriptor, record_shown h.root (range_at address pages) (length does.1.pool_between.free), does.1.invalidates)
   quiet_or_sent Lazy does = elim does.room [
     | inl has ↦ inl (does.quiet ∙ ap (λ (p : Parts). p.iommu) has.same)
     | inr empties ↦
         inr (
           IotlbDomain (i + 1),
-          shown_of h.root (length h.records),
-          subst (λ (y : Iommu). Invalidates m.iommu (IotlbDomain (i + 1)) (shown_of h.root (length h.records)) y) (sym does.quiet)
+          domain_shown m.pool h,
+          subst (λ (y : Iommu). Invalidates m.iommu (IotlbDomain (i + 1)) (domain_shown m.pool h) y) (sym does.quiet)
               empties.flushes.invalidates,
         )
   ]
