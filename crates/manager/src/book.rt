@@ -27,7 +27,7 @@ use std::marker::Model;
 use std::sync::ledger;
 use std::sync::ledger::Blank;
 
-/// The history has no room left. Nothing was changed.
+/// The history has no room left. Nothing was changed, but for what the share has seen.
 #[derive(Clone, Copy, Debug, PartialEq, Eq)]
 pub struct HistoryFull;
 
