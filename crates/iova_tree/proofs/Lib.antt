@@ -1,0 +1,3 @@
+pub mod shapes
+pub mod parts
+pub mod searches

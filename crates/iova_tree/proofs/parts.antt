@@ -1,0 +1,9 @@
+pub mod Parts
+pub mod Cleared
+pub mod Kept
+pub mod KeptAbove
+pub mod Added
+pub mod Covered
+pub mod PutIn
+pub mod Replaced
+pub mod Filled

@@ -1,0 +1,5 @@
+pub mod Fit
+pub mod Found
+pub mod CutAt
+pub mod FreeEnds
+pub mod Walked

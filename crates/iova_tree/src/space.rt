@@ -1,0 +1,214 @@
+//! The address space of a domain.
+
+ghost use Rattle.std.specs.Prelude.{◌≡◌, ◌≢◌, ℕ, ◌+◌, ◌^◌, ◌<◌, ◌≤◌, ◌↔◌, length, Some, IsSome, IfOk, OnErr, IsOk, Ok, Err};
+
+use crate::node::{Node, Top};
+use crate::store;
+use crate::walk::Iter;
+use dmatypes::{MOST_PAGES, PAGES_END, Page, PageRange};
+use iova::{PageState, Piece, RetireError, TakeError};
+use slab::Slab;
+use std::alloc::{AllocError, Global};
+use std::marker::Model;
+
+/// How many pieces a space has room for (own).
+pub(crate) const MOST_PIECES: usize = 1024;
+
+/// How many pieces may be there where one is cut (own): a cut can make two more.
+const MOST_PIECES_TO_CUT: usize = MOST_PIECES - 2;
+
+/// The highest order of a start that is a multiple of 2^order (own).
+const MOST_ORDER: u64 = 9;
+
+/// The pages of a domain's addresses, as at most 1,024 pieces (own). A live piece is made by one `take`, a
+/// retired piece is one retired range, and free neighbours are one piece.
+#[derive(Drop)]
+pub struct Space {
+    last: u64,
+    root: Top,
+    nodes: Slab<Node>,
+}
+
+impl Model for Space {
+    ghost use Rattle.iova.specs.Space.{Space, IsSpace};
+    ghost use Rattle.iova_tree.specs.Stored.{IsKept, pieces_of, stored};
+
+    ghost Value = { Space };
+
+    ghost view = { λ a. stored a.last a.root.root a.nodes };
+
+    ghost invariant = { λ a. IsKept a.root a.nodes (pieces_of a.nodes a.root.root) × IsSpace (stored a.last a.root.root a.nodes) };
+}
+
+impl Space {
+    ghost use Rattle.dmatypes.specs.Page.{IsPageRange, IsWithin, Range};
+    ghost use Rattle.dmatypes.specs.World.{IsIn};
+    ghost use Rattle.iova.specs.Pieces.{AllIn, piece_of, state_at};
+    ghost use Rattle.iova.specs.Space.{Space, AllFree, IsFit, IsLowestFit, IsSpace, IsTooMany, MayRetire, new_space};
+    ghost use Rattle.iova.specs.Changes.{Frees, Retires, Takes};
+
+    /// A space of the pages up to a last one, all free. It takes the memory for all its pieces; no other call
+    /// takes any.
+    pub fn new(alloc: Global, last: u64) -> Result<Space, AllocError>
+        requires some { 1 ≤ last }
+        requires narrow { last < PAGES_END }
+        ensures new { IfOk result (λ space. space ≡ new_space last) }
+        ensures free { IfOk result AllFree }
+        ensures space { IfOk result IsSpace }
+    {
+        let mut nodes = Slab::with_capacity(alloc, MOST_PIECES)?;
+        let root = store::fill(&mut nodes, last);
+        Ok(Space { last, root, nodes })
+    }
+
+    /// Makes it new: all its pages are free.
+    pub fn reset(&mut self)
+        ensures new { self.new ≡ new_space self.old.last }
+        ensures free { AllFree self.new }
+        ensures space { IsSpace self.new }
+    {
+        self.nodes.clear();
+        self.root = store::fill(&mut self.nodes, self.last);
+    }
+
+    /// Its pieces in the order of their pages.
+    pub fn pieces(&self) -> Iter<'_>
+        ensures pieces { result ≡ self.now.pieces }
+        ensures space { IsSpace self.now }
+    {
+        Iter {
+            nodes: &self.nodes,
+            root: self.root.root,
+            page: 1,
+        }
+    }
+
+    /// How many pieces it has.
+    pub fn piece_count(&self) -> usize
+        ensures count { result ≡ length self.now.pieces }
+        ensures few { result ≤ MOST_PIECES }
+    {
+        self.nodes.len()
+    }
+
+    /// What a page is; `None` exactly where it is past the last one.
+    pub fn state_of(&self, page: Page) -> Option<PageState>
+        ensures state { result ≡ state_at self.now.pieces page }
+        ensures some { IsSome result ↔ (page ≤ self.now.last) }
+    {
+        store::state_of(&self.nodes, self.root, page.number())
+    }
+
+    /// Makes so many free pages, 1 to 4,096, one live piece, and answers the first of them: the lowest that is
+    /// a multiple of 2^order (order 0 to 9). Where it is refused, nothing has changed.
+    #[inline(always)]
+    pub fn take(&mut self, pages: u64, order: u64) -> Result<Page, TakeError>
+        requires some_pages { 1 ≤ pages }
+        requires few_pages { pages ≤ MOST_PAGES }
+        requires order { order ≤ MOST_ORDER }
+
+        // The start, and what the space then is.
+        ensures lowest { IfOk result (IsLowestFit self.old.pieces pages (2 ^ order)) }
+        ensures range { IfOk result (λ start. IsPageRange (record { first = start; pages = pages })) }
+        ensures taken { IfOk result (λ start. Takes self.old self.new (record { first = start; pages = pages })) }
+        ensures space { IsSpace self.old × IsSpace self.new }
+
+        // The refusals.
+        ensures no_range { (result ≡ Err TakeError.NoRange) ↔ ((start : ℕ) → IsFit self.old.pieces pages (2 ^ order) start → ⊥) }
+        ensures too_many { (result ≡ Err TakeError.TooManyPieces)
+            ↔ ((start : ℕ) × IsLowestFit self.old.pieces pages (2 ^ order) start
+            × IsTooMany self.old.pieces (record { first = start; pages = pages })) }
+        ensures unchanged { OnErr result (self.new ≡ self.old) }
+    {
+        let Some(start) = store::fit(&self.nodes, self.root, pages, 1 << order) else {
+            return Err(TakeError::NoRange);
+        };
+        if self.nodes.len() > MOST_PIECES_TO_CUT
+            && store::cuts_piece(&self.nodes, self.root, start, pages)
+        {
+            return Err(TakeError::TooManyPieces);
+        }
+        let piece = Piece {
+            first: start,
+            last: start + pages - 1,
+            state: PageState::Live,
+        };
+        self.root = store::store(&mut self.nodes, self.root, piece);
+        Ok(Page::new(start).unwrap())
+    }
+
+    /// Whether a range can be retired.
+    pub fn may_retire(&self, range: PageRange) -> Result<(), RetireError>
+        ensures ok { IsOk result ↔ MayRetire self.now.pieces range }
+        ensures not_live { (result ≡ Err RetireError.NotLive)
+            ↔ ((page : ℕ) × IsWithin range page × (state_at self.now.pieces page ≢ Some PageState.Live)) }
+        ensures too_many { (result ≡ Err RetireError.TooManyPieces)
+            ↔ (AllIn PageState.Live range self.now.pieces × IsTooMany self.now.pieces range) }
+    {
+        let first = range.first();
+        if store::not_live(&self.nodes, self.root, first, range.pages()).is_some() {
+            return Err(RetireError::NotLive);
+        }
+        if self.nodes.len() > MOST_PIECES_TO_CUT
+            && store::cuts_piece(&self.nodes, self.root, first, range.pages())
+        {
+            return Err(RetireError::TooManyPieces);
+        }
+        Ok(())
+    }
+
+    /// Makes a range of live pages one retired piece.
+    #[inline(always)]
+    pub fn retire(&mut self, range: PageRange)
+        requires { MayRetire self.old.pieces range }
+        ensures retired { Retires self.old self.new range }
+        ensures space { IsSpace self.old × IsSpace self.new }
+    {
+        let first = range.first();
+        let piece = Piece {
+            first,
+            last: first + range.pages() - 1,
+            state: PageState::Retired,
+        };
+        self.root = store::store(&mut self.nodes, self.root, piece);
+    }
+
+    /// Frees a range that is one live piece. After a `take` the space is as it was before it.
+    pub fn undo_take(&mut self, taken: PageRange)
+        requires { IsIn (piece_of taken PageState.Live) self.old.pieces }
+        ensures freed { Frees self.old self.new taken PageState.Live }
+        ensures undone { (before : Space) → IsSpace before → Takes before self.old taken → self.new ≡ before }
+        ensures space { IsSpace self.old × IsSpace self.new }
+    {
+        self.free(taken);
+    }
+
+    /// Frees a range that is one retired piece. What may be retired before it may be retired after it.
+    #[inline(always)]
+    pub fn release(&mut self, range: PageRange)
+        requires { IsIn (piece_of range PageState.Retired) self.old.pieces }
+        ensures freed { Frees self.old self.new range PageState.Retired }
+        ensures retirable { (other : Range) → MayRetire self.old.pieces other → MayRetire self.new.pieces other }
+        ensures space { IsSpace self.old × IsSpace self.new }
+    {
+        self.free(range);
+    }
+
+    // Frees a range that is one piece.
+    #[inline(always)]
+    fn free(&mut self, range: PageRange)
+        requires { (state : PageState) × IsIn (piece_of range state) self.old.pieces }
+        ensures freed { (state : PageState) → IsIn (piece_of range state) self.old.pieces → Frees self.old self.new range state }
+        ensures range { IsPageRange range }
+        ensures space { IsSpace self.old × IsSpace self.new }
+    {
+        let first = range.first();
+        let last = first + range.pages() - 1;
+        let piece = Piece {
+            first: store::free_from(&self.nodes, self.root, first),
+            last: store::free_to(&self.nodes, self.root, last),
+            state: PageState::Free,
+        };
+        self.root = store::store(&mut self.nodes, self.root, piece);
+    }
+}
