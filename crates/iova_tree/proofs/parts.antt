@@ -1,9 +1,10 @@
 pub mod Parts
-pub mod Cleared
-pub mod Kept
-pub mod KeptAbove
+pub mod Ends
+pub mod Trims
 pub mod Added
+pub mod Over
 pub mod Covered
 pub mod PutIn
 pub mod Replaced
+pub mod Restated
 pub mod Filled

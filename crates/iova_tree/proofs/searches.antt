@@ -2,4 +2,5 @@ pub mod Fit
 pub mod Found
 pub mod CutAt
 pub mod FreeEnds
+pub mod Narrowed
 pub mod Walked

@@ -4,4 +4,6 @@ pub mod Turned
 pub mod TurnedBack
 pub mod Joined
 pub mod JoinedBack
+pub mod Settled
+pub mod Steps
 pub mod Tall

@@ -3,10 +3,9 @@ use Rattle.std.specs.Prelude.{ℕ, zero, suc, ◌≡◌, ◌≤◌, List, [], �
 use Rattle.slab.specs.Slab.{Slab, get, slab_len}
 use Rattle.iova.specs.declared.piece.Piece.{Piece}
 use Rattle.iova_tree.specs.declared.node.Node.{Node}
-use Rattle.iova_tree.specs.declared.node.Top.{Top}
 use Rattle.iova_tree.specs.declared.space.TheConstants.{MOST_PIECES}
 use Rattle.iova.specs.Space.{Space}
-use Rattle.iova_tree.specs.Tree.{Look, Shape, IsBelow, IsTree, at_root, height_of, items, uses}
+use Rattle.iova_tree.specs.Tree.{Look, Shape, IsBelow, IsTree, at_root, height_of, items, root_of, top_of, uses}
 
 abbrev pub around : Option Node → (Option ℕ → List Piece) → List Piece
 around None below = []
@@ -26,9 +25,10 @@ abbrev pub stored : ℕ → Option ℕ → Slab Node → Space
 stored last root nodes = record { last = last; pieces = pieces_of nodes root }
 
 -- the nodes are one balanced tree with these pieces, at most 14 high, and there is room for 1,024
-pub record IsKept (top : Top) (nodes : Slab Node) (pieces : List Piece) : Type 0 where
+pub record IsKept (root : Option ℕ) (nodes : Slab Node) (pieces : List Piece) : Type 0 where
   pub shape : Shape
-  pub tree : IsTree (get nodes) top shape
+  pub here : root ≡ root_of shape
+  pub tree : IsTree (get nodes) (top_of shape) shape
   pub once : (k : ℕ) → uses shape k ≤ 1
   pub height : height_of shape ≤ 14
   pub count : slab_len nodes ≡ length pieces

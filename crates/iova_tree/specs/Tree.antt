@@ -200,13 +200,6 @@ pub record Makes (old new : Slab Node) (top : Top) (t : Shape) (pieces : List Pi
   pub len : slab_len new + length (items t) ≡ slab_len old + length pieces
   pub capacity : new.capacity ≡ old.capacity
 
-abbrev pub CanMake : Slab Node → Top → Type 0
-CanMake nodes top = (t : Shape) × (from : ℕ) × IsWhole (get nodes) top t from
-
--- it became what a function makes of its pieces, whichever tree it is
-abbrev pub IsMade : Slab Node → Slab Node → Top → Top → (List Piece → List Piece) → ℕ → Type 0
-IsMade old new from_top top f more = (t : Shape) (from : ℕ) → IsWhole (get old) from_top t from → Makes old new top t (f (items t)) more
-
 -- a tree of pieces in order lies below a root
 pub record IsBelow (look : Look) (root : Option ℕ) (t : Shape) (from : ℕ) : Type 0 where
   pub here : root ≡ root_of t
@@ -224,14 +217,39 @@ rest_below page p = if nat_lt p.first page then record p { last = page - 1 } ∷
 abbrev pub rest_above : ℕ → Piece → List Piece
 rest_above page p = if nat_lt page p.last then record p { first = page + 1 } ∷ [] else []
 
--- the tree below a root has no key in two places
-pub record IsLone (look : Look) (top : Top) (t : Shape) : Type 0 where
-  pub tree : IsTree look top t
-  pub once : (k : ℕ) → uses t k ≤ 1
-  pub low : height_of t ≤ 95
-
 -- a piece can be put over what a tree has, in the room that there is
-abbrev pub CanPut : Slab Node → Top → Piece → Type 0
-CanPut nodes top p =
-    (t : Shape) × (from : ℕ) × IsWhole (get nodes) top t from
+abbrev pub CanPut : Slab Node → Option ℕ → Piece → Type 0
+CanPut nodes root p =
+    (t : Shape) × (from : ℕ) × IsBelow (get nodes) root t from
     × (slab_len nodes + length (with_piece p (items t)) ≤ nodes.capacity + length (items t)) × IsPiece p
+
+-- ---- trees named by their roots
+
+-- the tree below a root has no key in two places
+pub record IsLow (look : Look) (root : Option ℕ) (t : Shape) : Type 0 where
+  pub here : root ≡ root_of t
+  pub tree : IsTree look (top_of t) t
+  pub once : (k : ℕ) → uses t k ≤ 1
+  pub low : height_of t ≤ 90
+
+-- the tree below the root is what the tree became
+pub record Leaves (old new : Slab Node) (root : Option ℕ) (t : Shape) (pieces : List Piece) (more : ℕ) : Type 0 where
+  pub top : Top
+  pub here : top.root ≡ root
+  pub makes : Makes old new top t pieces more
+
+-- the key names two trees, and its height and what is longest there may be out of date
+pub record IsLoose (look : Look) (key : ℕ) (node : Node) (left right : Top) (l r : Shape) : Type 0 where
+  pub here : look key ≡ Some node
+  pub before : left.root ≡ node.left
+  pub behind : right.root ≡ node.right
+  pub parts : AreParts look left key right l r
+  pub piece : IsPiece node.piece
+
+abbrev pub CanSettle : Look → ℕ → Type 0
+CanSettle look key = (node : Node) × (left : Top) × (right : Top) × (l : Shape) × (r : Shape) × IsLoose look key node left right l r
+
+-- they are one tree below the root, whichever they are
+abbrev pub IsSettled : Look → Look → Option ℕ → ℕ → Type 0
+IsSettled old new root key = (node : Node) (left right : Top) (l r : Shape) → IsLoose old key node left right l r
+    → (top : Top) × (top.root ≡ root) × Joins old new top key node.piece l r

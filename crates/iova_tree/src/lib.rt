@@ -4,11 +4,13 @@
 //! Nothing stands on it yet: it is fast where a space has many pieces, and with few of them the list is faster.
 #![tactic(auto)]
 
+mod ends;
 mod links;
 mod node;
 mod put;
 mod replace;
 mod search;
+mod settle;
 mod space;
 mod store;
 mod trims;

@@ -1,15 +1,15 @@
 //! A piece put in the place of one that has its pages: no node comes or goes, and the tree keeps its shape.
 
-ghost use Rattle.std.specs.Prelude.{◌≡◌, ℕ, IsSome, Some, max, false};
+ghost use Rattle.std.specs.Prelude.{◌≡◌, ℕ, IsSome, Some, max, false, true};
 ghost use Rattle.slab.specs.Slab.{Updates, get};
 ghost use Rattle.iova_tree.specs.declared.node.Node.{Node};
 ghost use Rattle.iova.specs.declared.piece.Piece.{Piece};
 ghost use Rattle.iova.specs.Pieces.{is_free, with_piece};
 ghost use Rattle.iova_tree.specs.Search.{TakesPlace};
-ghost use Rattle.iova_tree.specs.Tree.{IsBelow, IsPiece, KeepsCount, Makes, Shape, free_pages, height_of, items, longest_of};
+ghost use Rattle.iova_tree.specs.Tree.{CanSearch, IsBelow, IsPiece, KeepsCount, Makes, Shape, free_pages, height_of, items, longest_of, top_of};
 
-use crate::links::{free_length, longest};
 use crate::node::Node;
+use crate::settle::set_piece;
 use iova::Piece;
 use slab::Slab;
 
@@ -21,16 +21,6 @@ fn set_longest(nodes: &mut Slab<Node>, key: usize, longest: u64)
     ensures count { KeepsCount nodes.old nodes.new }
 {
     nodes[key].longest = longest;
-}
-
-/// Writes the piece at a key.
-#[inline(always)]
-fn set_piece(nodes: &mut Slab<Node>, key: usize, piece: Piece)
-    requires { IsSome (get nodes.old key) }
-    ensures updates { (n : Node) → get nodes.old key ≡ Some n → Updates nodes.old nodes.new key (Some (record n { piece = piece })) }
-    ensures count { KeepsCount nodes.old nodes.new }
-{
-    nodes[key].piece = piece;
 }
 
 /// Puts a piece, of so many free pages, in the place of one that isn't free. What is longest can only grow, on the
@@ -62,35 +52,31 @@ pub(crate) fn raise(nodes: &mut Slab<Node>, key: usize, piece: &Piece, pages: u6
     set_piece(nodes, key, *piece);
 }
 
-/// Puts a piece in the place of another, and answers what is longest now below the key.
-pub(crate) fn replace(nodes: &mut Slab<Node>, key: usize, piece: &Piece) -> u64
-    requires tree { (t : Shape) × (from : ℕ) × (there : Piece) × IsBelow (get nodes.old) (Some key) t from
-        × TakesPlace piece.now there (items t) }
+/// Puts a piece that isn't free in the place of one that isn't, if there is one: nothing else changes in the tree.
+pub(crate) fn restate(nodes: &mut Slab<Node>, root: Option<usize>, piece: &Piece) -> bool
+    requires tree { CanSearch nodes.old root }
     requires piece { IsPiece piece.now }
-    ensures { (t : Shape) (from : ℕ) (there : Piece) → IsBelow (get nodes.old) (Some key) t from → TakesPlace piece.now there (items t)
-        → Makes nodes.old nodes.new (record { root = Some key; height = height_of t; longest = result })
-        t (with_piece piece.now (items t)) 0 }
+    requires used { is_free piece.now.state ≡ false }
+    ensures done { (t : Shape) (from : ℕ) → IsBelow (get nodes.old) root t from → result ≡ true
+        → Makes nodes.old nodes.new (top_of t) t (with_piece piece.now (items t)) 0 }
+    ensures unchanged { result ≡ false → nodes.new ≡ nodes.old }
 {
+    let Some(key) = root else {
+        return false;
+    };
     let node = &nodes[key];
     let held = node.piece;
-    let left = node.left;
-    let right = node.right;
-    if piece.first < held.first {
-        let Some(before) = left else { unreachable!() };
-        let below = replace(nodes, before, piece);
-        let longest = free_length(held).max(below.max(longest(nodes, right)));
-        set_longest(nodes, key, longest);
-        return longest;
+    if piece.last < held.first {
+        let left = node.left;
+        return restate(nodes, left, piece);
     }
-    if held.first < piece.first {
-        let Some(behind) = right else { unreachable!() };
-        let below = replace(nodes, behind, piece);
-        let longest = free_length(held).max(longest(nodes, left).max(below));
-        set_longest(nodes, key, longest);
-        return longest;
+    if held.last < piece.first {
+        let right = node.right;
+        return restate(nodes, right, piece);
     }
-    let longest = free_length(*piece).max(longest(nodes, left).max(longest(nodes, right)));
+    if piece.first != held.first || piece.last != held.last || held.is_free() {
+        return false;
+    }
     set_piece(nodes, key, *piece);
-    set_longest(nodes, key, longest);
-    longest
+    true
 }

@@ -61,20 +61,21 @@ pub(crate) fn first_free(nodes: &Slab<Node>, root: Option<usize>, pages: u64) ->
     ensures none { (t : Shape) (from : ℕ) → IsBelow (get nodes.now) root t from
         → IfNone result (AllByRecursion (HasNoRoom pages 1) (items t)) }
 {
-    let Some(key) = root else {
-        return None;
-    };
-    let node = &nodes[key];
-    if node.longest < pages {
-        return None;
+    let mut at = root;
+    while let Some(key) = at {
+        let node = &nodes[key];
+        if node.longest < pages {
+            return None;
+        }
+        if longest(nodes, node.left) >= pages {
+            at = node.left;
+        } else if free_length(node.piece) >= pages {
+            return Some(node.piece.first);
+        } else {
+            at = node.right;
+        }
     }
-    if longest(nodes, node.left) >= pages {
-        return first_free(nodes, node.left, pages);
-    }
-    if free_length(node.piece) >= pages {
-        return Some(node.piece.first);
-    }
-    first_free(nodes, node.right, pages)
+    None
 }
 
 /// The first start of so many free pages that is a multiple of the unit.

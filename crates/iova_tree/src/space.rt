@@ -2,7 +2,7 @@
 
 ghost use Rattle.std.specs.Prelude.{◌≡◌, ◌≢◌, ℕ, ◌+◌, ◌^◌, ◌<◌, ◌≤◌, ◌↔◌, length, Some, IsSome, IfOk, OnErr, IsOk, Ok, Err};
 
-use crate::node::{Node, Top};
+use crate::node::Node;
 use crate::store;
 use crate::walk::Iter;
 use dmatypes::{MOST_PAGES, PAGES_END, Page, PageRange};
@@ -25,7 +25,7 @@ const MOST_ORDER: u64 = 9;
 #[derive(Drop)]
 pub struct Space {
     last: u64,
-    root: Top,
+    root: Option<usize>,
     nodes: Slab<Node>,
 }
 
@@ -35,9 +35,9 @@ impl Model for Space {
 
     ghost Value = { Space };
 
-    ghost view = { λ a. stored a.last a.root.root a.nodes };
+    ghost view = { λ a. stored a.last a.root a.nodes };
 
-    ghost invariant = { λ a. IsKept a.root a.nodes (pieces_of a.nodes a.root.root) × IsSpace (stored a.last a.root.root a.nodes) };
+    ghost invariant = { λ a. IsKept a.root a.nodes (pieces_of a.nodes a.root) × IsSpace (stored a.last a.root a.nodes) };
 }
 
 impl Space {
@@ -78,7 +78,7 @@ impl Space {
     {
         Iter {
             nodes: &self.nodes,
-            root: self.root.root,
+            root: self.root,
             page: 1,
         }
     }
@@ -170,7 +170,7 @@ impl Space {
             last: first + range.pages() - 1,
             state: PageState::Retired,
         };
-        self.root = store::store(&mut self.nodes, self.root, piece);
+        self.root = store::retire(&mut self.nodes, self.root, piece);
     }
 
     /// Frees a range that is one live piece. After a `take` the space is as it was before it.
@@ -204,11 +204,18 @@ impl Space {
     {
         let first = range.first();
         let last = first + range.pages() - 1;
+        let low = store::free_from(&self.nodes, self.root, first);
+        let high = store::free_to(&self.nodes, self.root, last);
         let piece = Piece {
-            first: store::free_from(&self.nodes, self.root, first),
-            last: store::free_to(&self.nodes, self.root, last),
+            first: low,
+            last: high,
             state: PageState::Free,
         };
-        self.root = store::store(&mut self.nodes, self.root, piece);
+        self.root = store::free(
+            &mut self.nodes,
+            self.root,
+            piece,
+            low == first && high == last,
+        );
     }
 }

@@ -1,74 +1,87 @@
 //! Trees with a part of their pieces taken out.
 
-ghost use Rattle.std.specs.Prelude.{ℕ, List, [], None};
+ghost use Rattle.std.specs.Prelude.{ℕ, [], None};
+ghost use Rattle.slab.specs.Slab.{get};
 ghost use Rattle.iova.specs.Pieces.{part_above, part_below};
-ghost use Rattle.iova_tree.specs.Tree.{CanMake, Empty, IsMade, top_of};
+ghost use Rattle.iova_tree.specs.Tree.{CanSearch, IsBelow, IsLow, Leaves, Shape, items};
 
-use crate::links::open;
-use crate::node::{NO_TREE, Node, Top};
-use crate::turns::join;
+use crate::node::Node;
+use crate::settle::{set_left, set_piece, set_right, settle};
 use iova::Piece;
 use slab::Slab;
 
 /// Takes a whole tree out.
-pub(crate) fn clear(nodes: &mut Slab<Node>, root: Top)
-    requires { CanMake nodes.old root }
-    ensures { IsMade nodes.old nodes.new root (top_of Empty) (λ _. []) 0 }
+pub(crate) fn clear(nodes: &mut Slab<Node>, root: Option<usize>)
+    requires { (t : Shape) × IsLow (get nodes.old) root t }
+    ensures { (t : Shape) → IsLow (get nodes.old) root t → Leaves nodes.old nodes.new None t [] 0 }
 {
-    if let Some(key) = root.root {
-        let node = open(nodes, key);
-        nodes.remove(key);
+    if let Some(key) = root {
+        let node = nodes.remove(key);
         clear(nodes, node.left);
         clear(nodes, node.right);
     }
 }
 
-/// Keeps what a tree has below a page, and answers its root.
-pub(crate) fn keep_below(nodes: &mut Slab<Node>, root: Top, page: u64) -> Top
-    requires { CanMake nodes.old root }
-    ensures { IsMade nodes.old nodes.new root result (part_below page) 0 }
+/// Keeps what a tree has below a page.
+pub(crate) fn keep_below(nodes: &mut Slab<Node>, root: Option<usize>, page: u64) -> Option<usize>
+    requires { CanSearch nodes.old root }
+    ensures { (t : Shape) (from : ℕ) → IsBelow (get nodes.old) root t from
+        → Leaves nodes.old nodes.new result t (part_below page (items t)) 0 }
 {
-    let Some(key) = root.root else {
-        return root;
+    let Some(key) = root else {
+        return None;
     };
-    let node = open(nodes, key);
-    if node.piece.last < page {
-        let behind = keep_below(nodes, node.right, page);
-        return join(nodes, node.left, key, node.piece, behind);
+    let node = &nodes[key];
+    let piece = node.piece;
+    let left = node.left;
+    let right = node.right;
+    if piece.last < page {
+        let behind = keep_below(nodes, right, page);
+        set_right(nodes, key, behind);
+        return settle(nodes, key);
     }
-    clear(nodes, node.right);
-    if node.piece.first < page {
+    clear(nodes, right);
+    if piece.first < page {
         let rest = Piece {
             last: page - 1,
-            ..node.piece
+            ..piece
         };
-        return join(nodes, node.left, key, rest, NO_TREE);
+        set_right(nodes, key, None);
+        set_piece(nodes, key, rest);
+        return settle(nodes, key);
     }
     nodes.remove(key);
-    keep_below(nodes, node.left, page)
+    keep_below(nodes, left, page)
 }
 
-/// Keeps what a tree has above a page, and answers its root.
-pub(crate) fn keep_above(nodes: &mut Slab<Node>, root: Top, page: u64) -> Top
-    requires { CanMake nodes.old root }
-    ensures { IsMade nodes.old nodes.new root result (part_above page) 0 }
+/// Keeps what a tree has above a page.
+pub(crate) fn keep_above(nodes: &mut Slab<Node>, root: Option<usize>, page: u64) -> Option<usize>
+    requires { CanSearch nodes.old root }
+    ensures { (t : Shape) (from : ℕ) → IsBelow (get nodes.old) root t from
+        → Leaves nodes.old nodes.new result t (part_above page (items t)) 0 }
 {
-    let Some(key) = root.root else {
-        return root;
+    let Some(key) = root else {
+        return None;
     };
-    let node = open(nodes, key);
-    if page < node.piece.first {
-        let before = keep_above(nodes, node.left, page);
-        return join(nodes, before, key, node.piece, node.right);
+    let node = &nodes[key];
+    let piece = node.piece;
+    let left = node.left;
+    let right = node.right;
+    if page < piece.first {
+        let before = keep_above(nodes, left, page);
+        set_left(nodes, key, before);
+        return settle(nodes, key);
     }
-    clear(nodes, node.left);
-    if page < node.piece.last {
+    clear(nodes, left);
+    if page < piece.last {
         let rest = Piece {
             first: page + 1,
-            ..node.piece
+            ..piece
         };
-        return join(nodes, NO_TREE, key, rest, node.right);
+        set_left(nodes, key, None);
+        set_piece(nodes, key, rest);
+        return settle(nodes, key);
     }
     nodes.remove(key);
-    keep_above(nodes, node.right, page)
+    keep_above(nodes, right, page)
 }

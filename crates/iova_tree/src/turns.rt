@@ -70,7 +70,13 @@ fn turn_right(
 }
 
 /// Joins where the heights differ by at most two.
-fn balance(nodes: &mut Slab<Node>, left: Top, key: usize, piece: Piece, right: Top) -> Top
+pub(crate) fn balance(
+    nodes: &mut Slab<Node>,
+    left: Top,
+    key: usize,
+    piece: Piece,
+    right: Top,
+) -> Top
     requires { CanBalance (get nodes.old) left key piece right }
     ensures joins { IsClosed (get nodes.old) (get nodes.new) result left key piece right }
     ensures count { KeepsCount nodes.old nodes.new }

@@ -1,136 +1,170 @@
 -- A piece put over one that it meets.
-use Rattle.std.proofs.Common.{◌≡◌, ℕ, ◌+◌, ◌≤◌, List, [], ◌∷◌, ◌++◌, length, Some, ap, sym, ◌∙◌, subst, arith, append_assoc}
-use Rattle.std.proofs.Common.{length-append}
-use Rattle.slab.specs.Slab.{Slab, get, slab_len}
+use Rattle.std.proofs.Common.{◌≡◌, ℕ, ◌+◌, ◌≤◌, List, [], ◌∷◌, ◌++◌, length, Option, Some, None, IsSome, refl, ap, sym, ◌∙◌, subst, arith}
+use Rattle.std.proofs.Common.{append_assoc, length-append}
+use Rattle.slab.specs.Slab.{Slab, Updates, get, slab_len}
 use Rattle.iova.specs.declared.piece.Piece.{Piece}
-use Rattle.iova_tree.specs.declared.node.Node.{Node}
-use Rattle.iova_tree.specs.declared.node.Top.{Top}
-use Rattle.iova_tree.specs.declared.node.Opened.{Opened}
 use Rattle.iova.specs.Pieces.{IsOrdered, part_below, part_above, with_piece}
-use Rattle.iova_tree.specs.Tree.{Shape, Fork, items, IsPiece, CanJoin, IsJoined, KeepsCount, IsWhole, IsLone, Makes, rest_below, rest_above}
-use Rattle.iova_tree.specs.Tree.{IsOpened}
-use Rattle.iova_tree.proofs.parts.Parts.{ordered_front}
+use Rattle.iova_tree.specs.declared.node.Node.{Node}
+use Rattle.iova_tree.specs.Tree.{Shape, items, IsPiece, KeepsCount, IsBelow, IsLow, Leaves, CanSettle, IsSettled, rest_below, rest_above}
+use Rattle.iova_tree.proofs.parts.Parts.{ordered_front, ordered_behind}
 use Rattle.iova_tree.proofs.parts.Added.{with_over}
-use Rattle.iova_tree.proofs.shapes.Held.{Held, held_before, held_behind, held_joined, Split, split, split_held, whole_before, whole_behind}
+use Rattle.iova_tree.proofs.parts.Replaced.{held_written}
+use Rattle.iova_tree.proofs.shapes.Held.{Held, held_before, held_behind}
+use Rattle.iova_tree.proofs.shapes.Settled.{Work, Opening, opening, opened_order, is_low, low_below, below_low, work_before, work_can, work_done}
 
-module _ (old : Slab Node) (root : Top) (key : ℕ) (node : Opened) (p : Piece) (t : Shape) (from : ℕ)
-    (w : IsWhole (get old) root t from) (e : root.root ≡ Some key) (f : IsOpened (get old) key node) (lo : p.first ≤ node.piece.last)
-    (hi : node.piece.first ≤ p.last) where
-  s : Split (get old) root key node t from
-  s = split (get old) root key node t from w e f
+pub some_of : {A : Type 0} (o : Option A) → IsSome o → (x : A) × (o ≡ Some x)
+some_of None h = absurd (cc)
+some_of (Some x) h = (x, refl)
 
-  h : Held old old node.left key node.right (Fork key node.piece s.l s.r) s.l s.r
-  h = split_held old root key node t from s
+pub same_value : {A : Type 0} (o : Option A) (x y : A) → o ≡ Some x → o ≡ Some y → x ≡ y
+same_value o x y a b = cc
 
-  whole-left : IsWhole (get old) node.left s.l from
-  whole-left = whole_before (get old) (get old) root node.left key node.piece s.l s.r from s.whole s.open.before
+module _ (old : Slab Node) (key : ℕ) (n : Node) (p : Piece) (t : Shape) (from : ℕ) (w : IsBelow (get old) (Some key) t from)
+    (f : get old key ≡ Some n) (lo : p.first ≤ n.piece.last) (hi : n.piece.first ≤ p.last) where
+  k : Opening old key n t
+  k = opening old (Some key) key n t (below_low (get old) (Some key) t from w) refl f
 
-  before : IsOrdered from (items s.l ++ node.piece ∷ [])
-  before = ordered_front from (items s.l ++ node.piece ∷ []) (items s.r)
-      (subst (λ ps. IsOrdered from ps) (sym (append_assoc (items s.l) (node.piece ∷ []) (items s.r))) s.whole.ordered)
+  order : IsOrdered from (items k.l ++ n.piece ∷ items k.r)
+  order = opened_order from key n.piece t k.l k.r k.is w.whole.ordered
 
-  pub cover-trim : (x : Shape) × (start : ℕ) × IsWhole (get old) node.left x start × IsOrdered start (items x ++ node.piece ∷ [])
-  cover-trim = (s.l, from, whole-left, before)
+  low_left : IsBelow (get old) n.left k.l from
+  low_left = low_below (get old) n.left k.l from (work_before old old key n t k.l k.r k.work (omega (arith, k.low)))
+      (ordered_front from (items k.l) (n.piece ∷ items k.r) order)
 
-  module _ (one_off : Slab Node) (b : Top)
-      (m : (x : Shape) (start : ℕ) → IsWhole (get old) node.left x start → IsOrdered start (items x ++ node.piece ∷ [])
-      → Makes old one_off b x (part_below p.first (items x)) 0) where
-    made : Makes old one_off b s.l (part_below p.first (items s.l)) 0
-    made = m s.l from whole-left before
+  front : IsOrdered from (items k.l ++ n.piece ∷ [])
+  front = ordered_front from (items k.l ++ n.piece ∷ []) (items k.r)
+      (subst (λ ps. IsOrdered from ps) (sym (append_assoc (items k.l) (n.piece ∷ []) (items k.r))) order)
 
-    first : Held old one_off b key node.right (Fork key node.piece s.l s.r) made.shape s.r
-    first = held_before old old one_off node.left key node.right b (Fork key node.piece s.l s.r) s.l s.r (part_below p.first (items s.l))
-        0 h made (omega (arith, h.parts.low))
+  pub cover-piece : IsPiece n.piece
+  cover-piece = k.piece
 
-    whole-right : IsWhole (get one_off) node.right s.r (node.piece.last + 1)
-    whole-right = whole_behind (get old) (get one_off) root node.right key node.piece s.l s.r from s.whole first.parts.behind
+  pub cover-trim : (x : Shape) × (start : ℕ) × IsBelow (get old) n.left x start × IsOrdered start (items x ++ n.piece ∷ [])
+  cover-trim = (k.l, from, low_left, front)
 
-    pub cover-trim_behind : (x : Shape) × IsWhole (get one_off) node.right x (node.piece.last + 1)
-    cover-trim_behind = (s.r, whole-right)
+  module _ (one_off : Slab Node) (b : Option ℕ)
+      (m : (x : Shape) (start : ℕ) → IsBelow (get old) n.left x start → IsOrdered start (items x ++ n.piece ∷ [])
+      → Leaves old one_off b x (part_below p.first (items x)) 0) where
+    made : Leaves old one_off b k.l (part_below p.first (items k.l)) 0
+    made = m k.l from low_left front
 
-    module _ (two_off : Slab Node) (d : Top)
-        (n : (x : Shape) → IsWhole (get one_off) node.right x (node.piece.last + 1)
-        → Makes one_off two_off d x (part_above p.last (items x)) 0) where
-      made_behind : Makes one_off two_off d s.r (part_above p.last (items s.r)) 0
-      made_behind = n s.r whole-right
+    first : Held old one_off made.top key k.work.right t made.makes.shape k.r
+    first = held_before old old one_off k.work.left key k.work.right made.top t k.l k.r (part_below p.first (items k.l)) 0 k.work.held
+        made.makes (omega (arith, k.low))
 
-      second : Held old two_off b key d (Fork key node.piece s.l s.r) made.shape made_behind.shape
-      second = held_behind old one_off two_off b key node.right d (Fork key node.piece s.l s.r) made.shape s.r
-          (part_above p.last (items s.r)) 0 first made_behind (omega (arith, h.parts.low))
+    low_right : IsBelow (get one_off) n.right k.r (n.piece.last + 1)
+    low_right = low_below (get one_off) n.right k.r (n.piece.last + 1)
+        (is_low (get one_off) k.work.right n.right k.r first.parts.behind k.work.behind (λ x. omega (arith, first.parts.once x))
+        (omega (arith, k.low))) (ordered_behind from (items k.l) n.piece (items k.r) order)
 
-      lone : IsLone (get two_off) b made.shape
-      lone = record { tree = second.parts.before; once = made.once; low = omega (arith, made.low, s.whole.low) }
+    pub cover-trim_behind : (x : Shape) × IsBelow (get one_off) n.right x (n.piece.last + 1)
+    cover-trim_behind = (k.r, low_right)
 
-      pub cover-lone : (x : Shape) × IsLone (get two_off) b x
-      cover-lone = (made.shape, lone)
+    module _ (two_off : Slab Node) (d : Option ℕ)
+        (v : (x : Shape) → IsBelow (get one_off) n.right x (n.piece.last + 1)
+        → Leaves one_off two_off d x (part_above p.last (items x)) 0) where
+      made_behind : Leaves one_off two_off d k.r (part_above p.last (items k.r)) 0
+      made_behind = v k.r low_right
 
-      pieces : with_piece p (items (Fork key node.piece s.l s.r)) ≡ (part_below p.first (items s.l) ++ rest_below p.first node.piece) ++
-          p ∷ (rest_above p.last node.piece ++ part_above p.last (items s.r))
-      pieces = with_over from (items s.l) node.piece (items s.r) p s.whole.ordered lo hi
+      second : Held old two_off made.top key made_behind.top t made.makes.shape made_behind.makes.shape
+      second = held_behind old one_off two_off made.top key k.work.right made_behind.top t made.makes.shape k.r
+          (part_above p.last (items k.r)) 0 first made_behind.makes (omega (arith, k.low))
+
+      lone : IsLow (get two_off) b made.makes.shape
+      lone = is_low (get two_off) made.top b made.makes.shape second.parts.before made.here made.makes.once
+          (omega (arith, made.makes.low, k.low))
+
+      pub cover-lone : (x : Shape) × IsLow (get two_off) b x
+      cover-lone = (made.makes.shape, lone)
+
+      pieces : with_piece p (items t) ≡ (part_below p.first (items k.l) ++ rest_below p.first n.piece) ++
+          p ∷ (rest_above p.last n.piece ++ part_above p.last (items k.r))
+      pieces = ap (λ x. with_piece p (items x)) k.is ∙ with_over from (items k.l) n.piece (items k.r) p order lo hi
 
       pub cover-room : slab_len old + length (with_piece p (items t)) ≤ old.capacity + length (items t)
-          → slab_len two_off + length (rest_below p.first node.piece) + length (rest_above p.last node.piece) ≤ two_off.capacity
+          → slab_len two_off + length (rest_below p.first n.piece) + length (rest_above p.last n.piece) ≤ two_off.capacity
       cover-room room =
-          let a : length (with_piece p (items t)) ≡ length (with_piece p (items (Fork key node.piece s.l s.r))) =
-          ap (λ x. length (with_piece p (items x))) s.is in
-          let b : length (items t) ≡ length (items (Fork key node.piece s.l s.r)) = ap (λ x. length (items x)) s.is in
           let e = ap (λ (ps : List Piece). length ps) pieces in
-          let g = ap (λ (ps : List Piece). length ps) made.all in
-          let k = ap (λ (ps : List Piece). length ps) made_behind.all in
+          let g = ap (λ (ps : List Piece). length ps) made.makes.all in
+          let h = ap (λ (ps : List Piece). length ps) made_behind.makes.all in
           omega (
             arith,
             second.len,
             second.capacity,
-            length-append (part_below p.first (items s.l)) (rest_below p.first node.piece),
-            length-append (rest_above p.last node.piece) (part_above p.last (items s.r)),
-            length-append (part_below p.first (items s.l) ++ rest_below p.first node.piece)
-                (p ∷ (rest_above p.last node.piece ++ part_above p.last (items s.r))),
+            length-append (part_below p.first (items k.l)) (rest_below p.first n.piece),
+            length-append (rest_above p.last n.piece) (part_above p.last (items k.r)),
+            length-append (part_below p.first (items k.l) ++ rest_below p.first n.piece)
+                (p ∷ (rest_above p.last n.piece ++ part_above p.last (items k.r))),
           )
 
-      module _ (three_on : Slab Node) (b2 : Top)
-          (o : (x : Shape) → IsLone (get two_off) b x → Makes two_off three_on b2 x (items x ++ rest_below p.first node.piece) 1) where
-        added : Makes two_off three_on b2 made.shape (items made.shape ++ rest_below p.first node.piece) 1
-        added = o made.shape lone
+      module _ (three_on : Slab Node) (b2 : Option ℕ)
+          (o : (x : Shape) → IsLow (get two_off) b x → Leaves two_off three_on b2 x (items x ++ rest_below p.first n.piece) 1) where
+        added : Leaves two_off three_on b2 made.makes.shape (items made.makes.shape ++ rest_below p.first n.piece) 1
+        added = o made.makes.shape lone
 
-        third : Held old three_on b2 key d (Fork key node.piece s.l s.r) added.shape made_behind.shape
-        third = held_before old two_off three_on b key d b2 (Fork key node.piece s.l s.r) made.shape made_behind.shape
-            (items made.shape ++ rest_below p.first node.piece) 1 second added (omega (arith, made.low, s.whole.low))
+        third : Held old three_on added.top key made_behind.top t added.makes.shape made_behind.makes.shape
+        third = held_before old two_off three_on made.top key made_behind.top added.top t made.makes.shape made_behind.makes.shape
+            (items made.makes.shape ++ rest_below p.first n.piece) 1 second added.makes (omega (arith, made.makes.low, k.low))
 
-        lone_behind : IsLone (get three_on) d made_behind.shape
-        lone_behind = record { tree = third.parts.behind; once = made_behind.once; low = omega (arith, made_behind.low, s.whole.low) }
+        lone_behind : IsLow (get three_on) d made_behind.makes.shape
+        lone_behind = is_low (get three_on) made_behind.top d made_behind.makes.shape third.parts.behind made_behind.here
+            made_behind.makes.once (omega (arith, made_behind.makes.low, k.low))
 
-        pub cover-lone_behind : (x : Shape) × IsLone (get three_on) d x
-        cover-lone_behind = (made_behind.shape, lone_behind)
+        pub cover-lone_behind : (x : Shape) × IsLow (get three_on) d x
+        cover-lone_behind = (made_behind.makes.shape, lone_behind)
 
         pub cover-room_behind : slab_len old + length (with_piece p (items t)) ≤ old.capacity + length (items t)
-            → slab_len three_on + length (rest_above p.last node.piece) ≤ three_on.capacity
+            → slab_len three_on + length (rest_above p.last n.piece) ≤ three_on.capacity
         cover-room_behind room =
-            omega (arith, cover-room room, added.len, added.capacity, length-append (items made.shape) (rest_below p.first node.piece))
+            omega (
+              arith,
+              cover-room room,
+              added.makes.len,
+              added.makes.capacity,
+              length-append (items made.makes.shape) (rest_below p.first n.piece),
+            )
 
-        module _ (four_on : Slab Node) (d2 : Top)
-            (v : (x : Shape) → IsLone (get three_on) d x → Makes three_on four_on d2 x (rest_above p.last node.piece ++ items x) 1) where
-          added_behind : Makes three_on four_on d2 made_behind.shape (rest_above p.last node.piece ++ items made_behind.shape) 1
-          added_behind = v made_behind.shape lone_behind
+        module _ (four_on : Slab Node) (d2 : Option ℕ)
+            (q : (x : Shape) → IsLow (get three_on) d x → Leaves three_on four_on d2 x (rest_above p.last n.piece ++ items x) 1) where
+          added_behind : Leaves three_on four_on d2 made_behind.makes.shape (rest_above p.last n.piece ++ items made_behind.makes.shape) 1
+          added_behind = q made_behind.makes.shape lone_behind
 
-          fourth : Held old four_on b2 key d2 (Fork key node.piece s.l s.r) added.shape added_behind.shape
-          fourth = held_behind old three_on four_on b2 key d d2 (Fork key node.piece s.l s.r) added.shape made_behind.shape
-              (rest_above p.last node.piece ++ items made_behind.shape) 1 third added_behind (omega (arith, made_behind.low, s.whole.low))
+          fourth : Held old four_on added.top key added_behind.top t added.makes.shape added_behind.makes.shape
+          fourth = held_behind old three_on four_on added.top key made_behind.top added_behind.top t added.makes.shape
+              made_behind.makes.shape (rest_above p.last n.piece ++ items made_behind.makes.shape) 1 third added_behind.makes
+              (omega (arith, made_behind.makes.low, k.low))
 
-          pub cover-join : IsPiece p → CanJoin (get four_on) b2 key p d2
-          cover-join i = (added.shape, added_behind.shape, fourth.parts, i)
+          pub cover-there : (x : Node) × (get four_on key ≡ Some x)
+          cover-there = some_of (get four_on key) fourth.parts.here
 
-          list : items added.shape ++ p ∷ items added_behind.shape ≡ with_piece p (items (Fork key node.piece s.l s.r))
+          list : items added.makes.shape ++ p ∷ items added_behind.makes.shape ≡ with_piece p (items t)
           list =
-              ap (λ l. l ++ p ∷ items added_behind.shape) (added.all ∙ ap (λ l. l ++ rest_below p.first node.piece) made.all)
-              ∙ ap (λ l. (part_below p.first (items s.l) ++ rest_below p.first node.piece) ++ p ∷ l)
-              (added_behind.all ∙ ap (λ l. rest_above p.last node.piece ++ l) made_behind.all)
+              ap (λ l. l ++ p ∷ items added_behind.makes.shape)
+              (added.makes.all ∙ ap (λ l. l ++ rest_below p.first n.piece) made.makes.all)
+              ∙ ap (λ l. (part_below p.first (items k.l) ++ rest_below p.first n.piece) ++ p ∷ l)
+              (added_behind.makes.all ∙ ap (λ l. rest_above p.last n.piece ++ l) made_behind.makes.all)
               ∙ sym pieces
 
-          pub cover-done : (new : Slab Node) (top : Top) → IsJoined (get four_on) (get new) top b2 key p d2 → KeepsCount four_on new
-              → Makes old new top t (with_piece p (items t)) 1
-          cover-done new top j c =
-              subst (λ x. Makes old new top x (with_piece p (items x)) 1) (sym s.is)
-              (subst (λ ps. Makes old new top (Fork key node.piece s.l s.r) ps 1) list
-              (held_joined old four_on new b2 key d2 top p (Fork key node.piece s.l s.r) added.shape added_behind.shape 1 fourth
-              (j added.shape added_behind.shape fourth.parts) c
-              (omega (arith, made.low, added.low)) (omega (arith, made_behind.low, added_behind.low))))
+          module _ (x : Node) (next : Slab Node) (u : Updates four_on next key (Some (record x { piece = p; left = b2; right = d2 })))
+              (c : KeepsCount four_on next) (i : IsPiece p) where
+            work : Work old next key (record x { piece = p; left = b2; right = d2 }) t added.makes.shape added_behind.makes.shape
+            work = record {
+              left = added.top;
+              right = added_behind.top;
+              held = held_written old four_on next added.top key added_behind.top t added.makes.shape added_behind.makes.shape
+                  (record x { piece = p; left = b2; right = d2 }) fourth k.mine u c;
+              here = u.changed;
+              before = added.here;
+              behind = added_behind.here;
+            }
+
+            pub cover-can : CanSettle (get next) key
+            cover-can = work_can old next key (record x { piece = p; left = b2; right = d2 }) t added.makes.shape
+                added_behind.makes.shape work i
+
+            pub cover-done : (new : Slab Node) (whole : Option ℕ) → IsSettled (get next) (get new) whole key → KeepsCount next new
+                → Leaves old new whole t (with_piece p (items t)) 1
+            cover-done new whole s j =
+                subst (λ ps. Leaves old new whole t ps 1) list
+                (work_done old next new key (record x { piece = p; left = b2; right = d2 }) t added.makes.shape added_behind.makes.shape
+                whole 1 work i s j (omega (arith, made.makes.low, added.makes.low, k.low))
+                (omega (arith, made_behind.makes.low, added_behind.makes.low, k.low)))

@@ -18,7 +18,7 @@ use Rattle.iova_tree.proofs.shapes.Turned.{differs}
 use Rattle.iova_tree.proofs.shapes.Held.{Held, held, held_behind, held_before, held_stays}
 use Rattle.iova_tree.proofs.searches.Found.{Passes, passes, at-nil, at-here, at-past, at_before, at_skip}
 use Rattle.iova_tree.proofs.searches.CutAt.{at_in, items_fine}
-use Rattle.iova_tree.proofs.parts.PutIn.{with_past, with_same, with_under}
+use Rattle.iova_tree.proofs.parts.Over.{with_past, with_same, with_under}
 
 -- a write at the key, which is in no tree beside it
 pub held_written : (old now next : Slab Node) (left : Top) (key : ℕ) (right : Top) (t l r : Shape) (n : Node)

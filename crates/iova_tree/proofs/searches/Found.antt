@@ -58,7 +58,7 @@ abbrev pub node_height : Option Node → ℕ
 node_height None = 0
 node_height (Some node) = node.height
 
-below_height : (look : Look) (root : Option ℕ) (t : Shape) → root ≡ root_of t → AreNodes look t
+pub below_height : (look : Look) (root : Option ℕ) (t : Shape) → root ≡ root_of t → AreNodes look t
     → node_height (at_root look root) ≡ height_of t
 below_height look root Empty e n = ap (λ o. node_height (at_root look o)) e
 below_height look root (Fork k p l r) e n = ap (λ o. node_height (at_root look o)) e ∙ ap node_height n.0
@@ -219,7 +219,7 @@ all_front : (P : Piece → Type 0) (xs : List Piece) (q : Piece) (ys : List Piec
 all_front P [] q ys a = (tt, a.0, a.1)
 all_front P (x ∷ xs) q ys a = let b = all_front P xs q ys a.1 in ((a.0, b.0), b.1, b.2)
 
-free_of : (q : Piece) (pages : ℕ) → 1 ≤ pages → pages ≤ free_pages q → IsTrue (is_free q.state)
+pub free_of : (q : Piece) (pages : ℕ) → 1 ≤ pages → pages ≤ free_pages q → IsTrue (is_free q.state)
 free_of q pages pos h = grind arith
 
 pub no_room_append : (pages unit : ℕ) (xs : List Piece) (q : Piece) (ys : List Piece) → AllByRecursion (HasNoRoom pages unit) xs
@@ -227,7 +227,7 @@ pub no_room_append : (pages unit : ℕ) (xs : List Piece) (q : Piece) (ys : List
 no_room_append pages unit [] q ys a b c = (b, c)
 no_room_append pages unit (x ∷ xs) q ys a b c = (a.0, no_room_append pages unit xs q ys a.1 b c)
 
-free_length : (p : Piece) → IsTrue (is_free p.state) → free_pages p ≡ p.last + 1 - p.first
+pub free_length : (p : Piece) → IsTrue (is_free p.state) → free_pages p ≡ p.last + 1 - p.first
 free_length p h = grind arith
 
 pub short_none : (pages unit : ℕ) (t : Shape) → longest_of t < pages → AllByRecursion (HasNoRoom pages unit) (items t)

@@ -7,8 +7,8 @@ use Rattle.iova_tree.specs.declared.node.Node.{Node}
 use Rattle.iova_tree.specs.declared.node.Top.{Top}
 use Rattle.iova.specs.Pieces.{IsOrdered, with_piece}
 use Rattle.iova_tree.specs.Search.{TakesPlace, piece_at}
-use Rattle.iova_tree.specs.Tree.{Look, Shape, Empty, Fork, items, height_of, longest_of, IsBalanced, AreNodes, IsWhole, IsBelow}
-use Rattle.iova_tree.specs.Tree.{IsPiece, CanPut, CanSearch, Makes, root_of, at_root}
+use Rattle.iova_tree.specs.Tree.{Look, Shape, Empty, Fork, items, height_of, IsBalanced, AreNodes, IsBelow}
+use Rattle.iova_tree.specs.Tree.{IsPiece, CanPut, CanSearch, Leaves, root_of, at_root}
 use Rattle.iova_tree.specs.Stored.{around, contents, pieces_of, IsKept}
 use Rattle.iova.proofs.Pieces.{order}
 
@@ -55,53 +55,44 @@ contents_is look (suc depth) root (Fork k p l r) e n h =
     ∙ ap (λ ys. items l ++ p ∷ ys) (contents_is look depth (root_of r) r refl n.2 (omega arith))
 
 -- what is kept is what is seen
-pub kept_view : (root : Top) (nodes : Slab Node) (pieces : List Piece) → IsKept root nodes pieces → pieces_of nodes root.root ≡ pieces
-kept_view root nodes pieces k = contents_is (get nodes) 14 root.root k.shape (ap (λ (v : Top). v.root) k.tree.is) k.tree.nodes k.height
-    ∙ k.all
+pub kept_view : (root : Option ℕ) (nodes : Slab Node) (pieces : List Piece) → IsKept root nodes pieces → pieces_of nodes root ≡ pieces
+kept_view root nodes pieces k = contents_is (get nodes) 14 root k.shape k.here k.tree.nodes k.height ∙ k.all
 
-pub kept_whole : (root : Top) (nodes : Slab Node) (pieces : List Piece) (k : IsKept root nodes pieces) → IsOrdered 1 pieces
-    → IsWhole (get nodes) root k.shape 1
-kept_whole root nodes pieces k o = record {
-  tree = k.tree;
-  once = k.once;
-  low = omega (arith, k.height);
-  ordered =
-      subst (λ l. IsOrdered 1 l) (sym k.all) o;
-}
-
-pub kept_below : (root : Top) (nodes : Slab Node) (pieces : List Piece) (k : IsKept root nodes pieces) → IsOrdered 1 pieces
-    → IsBelow (get nodes) root.root k.shape 1
+pub kept_below : (root : Option ℕ) (nodes : Slab Node) (pieces : List Piece) (k : IsKept root nodes pieces) → IsOrdered 1 pieces
+    → IsBelow (get nodes) root k.shape 1
 kept_below root nodes pieces k o = record {
-  here = ap (λ (v : Top). v.root) k.tree.is;
-  whole = subst (λ v. IsWhole (get nodes) v k.shape 1) k.tree.is (kept_whole root nodes pieces k o);
+  here = k.here;
+  whole = record { tree = k.tree; once = k.once; low = omega (arith, k.height); ordered = subst (λ l. IsOrdered 1 l) (sym k.all) o };
 }
 
-pub kept_can : (root : Top) (nodes : Slab Node) (pieces : List Piece) → IsKept root nodes pieces → IsOrdered 1 pieces
-    → CanSearch nodes root.root
+pub kept_can : (root : Option ℕ) (nodes : Slab Node) (pieces : List Piece) → IsKept root nodes pieces → IsOrdered 1 pieces
+    → CanSearch nodes root
 kept_can root nodes pieces k o = (k.shape, 1, kept_below root nodes pieces k o)
 
-pub kept_put : (root : Top) (nodes : Slab Node) (pieces : List Piece) (p : Piece) → IsKept root nodes pieces → IsOrdered 1 pieces
+pub kept_put : (root : Option ℕ) (nodes : Slab Node) (pieces : List Piece) (p : Piece) → IsKept root nodes pieces → IsOrdered 1 pieces
     → length (with_piece p pieces) ≤ 1024 → IsPiece p → CanPut nodes root p
 kept_put root nodes pieces p k o few i = (
   k.shape,
   1,
-  kept_whole root nodes pieces k o,
+  kept_below root nodes pieces k o,
   subst (λ l. slab_len nodes + length (with_piece p l) ≤ nodes.capacity + length l)
       (sym k.all) (omega (arith, k.count, k.room)),
   i,
 )
 
-pub kept_done : (root now : Top) (old new : Slab Node) (pieces : List Piece) (p : Piece) (k : IsKept root old pieces)
-    → length (with_piece p pieces) ≤ 1024 → Makes old new now k.shape (with_piece p (items k.shape)) 1
+pub kept_done : (root now : Option ℕ) (old new : Slab Node) (pieces : List Piece) (p : Piece) (more : ℕ) (k : IsKept root old pieces)
+    → length (with_piece p pieces) ≤ 1024 → Leaves old new now k.shape (with_piece p (items k.shape)) more
     → IsKept now new (with_piece p pieces)
-kept_done root now old new pieces p k few m =
+kept_done root now old new pieces p more k few v =
+    let m = v.makes in
     let e : items m.shape ≡ with_piece p pieces = m.all ∙ ap (λ l. with_piece p l) k.all in
     let f : length (with_piece p (items k.shape)) ≡ length (with_piece p pieces) = ap (λ l. length (with_piece p l)) k.all in
     let g : length (items m.shape) ≡ length (with_piece p pieces) = ap (λ (l : List Piece). length l) e in
     let h : length (items k.shape) ≡ length pieces = ap (λ (l : List Piece). length l) k.all in
     record {
       shape = m.shape;
-      tree = m.tree;
+      here = sym v.here ∙ ap (λ (x : Top). x.root) m.tree.is;
+      tree = record { is = refl; nodes = m.tree.nodes; balanced = m.tree.balanced; pieces = m.tree.pieces };
       once = m.once;
       height = low_tree m.shape m.tree.balanced (omega arith);
       count = omega (arith, m.len, k.count);
@@ -109,46 +100,16 @@ kept_done root now old new pieces p k few m =
       all = e;
     }
 
-pub kept_self : (root : Top) (nodes : Slab Node) (pieces : List Piece) → IsKept root nodes pieces
-    → IsKept root nodes (pieces_of nodes root.root)
+pub kept_self : (root : Option ℕ) (nodes : Slab Node) (pieces : List Piece) → IsKept root nodes pieces
+    → IsKept root nodes (pieces_of nodes root)
 kept_self root nodes pieces k = subst (λ l. IsKept root nodes l) (sym (kept_view root nodes pieces k)) k
 
 -- the piece of a page lies in the place of one with its pages
-pub kept_place : (root : Top) (nodes : Slab Node) (pieces : List Piece) (p there : Piece) (found : Option Piece)
+pub kept_place : (root : Option ℕ) (nodes : Slab Node) (pieces : List Piece) (p there : Piece) (found : Option Piece)
     (k : IsKept root nodes pieces) → found ≡ piece_at (items k.shape) p.first
     → found ≡ Some there → there.first ≡ p.first → there.last ≡ p.last → TakesPlace p there (items k.shape)
 kept_place root nodes pieces p there found k e f a b = record { at = sym e ∙ f; first = a; last = b }
 
-pub kept_at : (root : Top) (nodes : Slab Node) (pieces : List Piece) (key : ℕ) (k : IsKept root nodes pieces) → IsOrdered 1 pieces
-    → root.root ≡ Some key → IsBelow (get nodes) (Some key) k.shape 1
+pub kept_at : (root : Option ℕ) (nodes : Slab Node) (pieces : List Piece) (key : ℕ) (k : IsKept root nodes pieces) → IsOrdered 1 pieces
+    → root ≡ Some key → IsBelow (get nodes) (Some key) k.shape 1
 kept_at root nodes pieces key k o e = subst (λ r. IsBelow (get nodes) r k.shape 1) e (kept_below root nodes pieces k o)
-
-makes_more : (old new : Slab Node) (root : Top) (t : Shape) (pieces : List Piece) → Makes old new root t pieces 0
-    → Makes old new root t pieces 1
-makes_more old new root t pieces m = record {
-  shape = m.shape;
-  tree = m.tree;
-  all = m.all;
-  once = m.once;
-  apart = m.apart;
-  low = omega (arith, m.low);
-  len = m.len;
-  capacity = m.capacity;
-}
-
-pub kept_replaced : (root : Top) (old new : Slab Node) (pieces : List Piece) (p : Piece) (key longest : ℕ) (k : IsKept root old pieces)
-    → length (with_piece p pieces) ≤ 1024 → root.root ≡ Some key
-    → Makes old new (record { root = Some key; height = height_of k.shape; longest = longest }) k.shape (with_piece p (items k.shape)) 0
-    → IsKept (record { root = root.root; height = root.height; longest = longest }) new (with_piece p pieces)
-kept_replaced root old new pieces p key longest k few e m =
-    let top : record { root = Some key; height = height_of k.shape; longest = longest } ≡ record
-    { root = root.root; height = root.height; longest = longest } =
-    ap (λ x. record { root = x; height = height_of k.shape; longest = longest }) (sym e)
-    ∙ ap (λ x. record { root = root.root; height = x; longest = longest }) (sym (ap (λ (v : Top). v.height) k.tree.is)) in
-    kept_done root (record { root = root.root; height = root.height; longest = longest }) old new pieces p k few
-    (makes_more old new (record { root = root.root; height = root.height; longest = longest }) k.shape (with_piece p (items k.shape))
-    (subst (λ v. Makes old new v k.shape (with_piece p (items k.shape)) 0) top m))
-
-pub kept_longest : (root : Top) (nodes : Slab Node) (pieces : List Piece) (k : IsKept root nodes pieces)
-    → root.longest ≡ longest_of k.shape
-kept_longest root nodes pieces k = ap (λ (v : Top). v.longest) k.tree.is

@@ -8,7 +8,7 @@ use Rattle.iova_tree.proofs.store.not_live.Given as goal
 abbrev pub invariant-loop-next : goal.invariant-loop-next
 invariant-loop-next l = record {
   from : l.first ≤ l.next;
-  live : (page : ℕ) → l.first ≤ page → page < l.next → state_at (pieces_of l.nodes l.root.root) page ≡ Some Live;
+  live : (page : ℕ) → l.first ≤ page → page < l.next → state_at (pieces_of l.nodes l.root) page ≡ Some Live;
 }
 
 abbrev pub decreases-loop-next : goal.decreases-loop-next

@@ -11,91 +11,91 @@ use Rattle.iova_tree.proofs.searches.FreeEnds.{freed_piece}
 use Rattle.iova_tree.proofs.shapes.Tall.{kept_self, kept_view}
 use Rattle.iova_tree.proofs.space.Space.free.Goals as goal
 
-pub store-self-inside-requires-clause-few : goal.store-self-inside-requires-clause-few
-store-self-inside-requires-clause-few c =
-    let a : Space = stored c.self.inside.last c.self.inside.root.root c.self.inside.nodes in
+pub free-self-inside-requires-clause-few : goal.free-self-inside-requires-clause-few
+free-self-inside-requires-clause-few c =
+    let a : Space = stored c.self.inside.last c.self.inside.root c.self.inside.nodes in
     let q : Piece = piece_of c.args.range c.requires.0 in
     let there : IsIn q a.pieces = subst (λ (v : Space). IsIn q v.pieces) (sym c.self.view_is) c.requires.1 in
-    let low : c.free_from.result ≡ free_start a.pieces q.first = c.free_from.ensures
+    let low : c.free_from-low.result ≡ free_start a.pieces q.first = c.free_from-low.ensures
     ∙ ap (λ n. free_start a.pieces n) c.first-first.ensures.value in
     let end : c.first-first.result + c.pages.result - 1 ≡ q.last = omega (arith, c.first-first.ensures.value, c.pages.ensures.value) in
-    let high : c.free_to.result ≡ free_end a.pieces q.last = c.free_to.ensures ∙ ap (λ n. free_end a.pieces n) end in
-    let same : with_piece (record { first = c.free_from.result; last = c.free_to.result; state = Free }) a.pieces ≡ with_free q a.pieces =
-    ap (λ n. with_piece (record { first = n; last = c.free_to.result; state = Free }) a.pieces) low
+    let high : c.free_to-high.result ≡ free_end a.pieces q.last = c.free_to-high.ensures ∙ ap (λ n. free_end a.pieces n) end in
+    let same : with_piece (record { first = c.free_from-low.result; last = c.free_to-high.result; state = Free }) a.pieces ≡ with_free q a.pieces =
+    ap (λ n. with_piece (record { first = n; last = c.free_to-high.result; state = Free }) a.pieces) low
     ∙ ap (λ n. with_piece (record { first = free_start a.pieces q.first; last = n; state = Free }) a.pieces) high in
     let few = (space_freed a q c.self.invariant.1 there).few in
     let e = ap (λ (ps : List Piece). length ps) same in
     omega arith
 
-pub store-self-inside-requires-clause-piece : goal.store-self-inside-requires-clause-piece
-store-self-inside-requires-clause-piece c =
-    let a : Space = stored c.self.inside.last c.self.inside.root.root c.self.inside.nodes in
+pub free-self-inside-requires-clause-piece : goal.free-self-inside-requires-clause-piece
+free-self-inside-requires-clause-piece c =
+    let a : Space = stored c.self.inside.last c.self.inside.root c.self.inside.nodes in
     let q : Piece = piece_of c.args.range c.requires.0 in
     let there : IsIn q a.pieces = subst (λ (v : Space). IsIn q v.pieces) (sym c.self.view_is) c.requires.1 in
-    let low : c.free_from.result ≡ free_start a.pieces q.first = c.free_from.ensures
+    let low : c.free_from-low.result ≡ free_start a.pieces q.first = c.free_from-low.ensures
     ∙ ap (λ n. free_start a.pieces n) c.first-first.ensures.value in
     let end : c.first-first.result + c.pages.result - 1 ≡ q.last = omega (arith, c.first-first.ensures.value, c.pages.ensures.value) in
-    let high : c.free_to.result ≡ free_end a.pieces q.last = c.free_to.ensures ∙ ap (λ n. free_end a.pieces n) end in
-    let same : with_piece (record { first = c.free_from.result; last = c.free_to.result; state = Free }) a.pieces ≡ with_free q a.pieces =
-    ap (λ n. with_piece (record { first = n; last = c.free_to.result; state = Free }) a.pieces) low
+    let high : c.free_to-high.result ≡ free_end a.pieces q.last = c.free_to-high.ensures ∙ ap (λ n. free_end a.pieces n) end in
+    let same : with_piece (record { first = c.free_from-low.result; last = c.free_to-high.result; state = Free }) a.pieces ≡ with_free q a.pieces =
+    ap (λ n. with_piece (record { first = n; last = c.free_to-high.result; state = Free }) a.pieces) low
     ∙ ap (λ n. with_piece (record { first = free_start a.pieces q.first; last = n; state = Free }) a.pieces) high in
     let p = freed_piece a q c.self.invariant.1 there in
     (omega (arith, p), omega (arith, p))
 
 pub invariant_of-self : goal.invariant_of-self
 invariant_of-self c =
-    let a : Space = stored c.self.inside.last c.self.inside.root.root c.self.inside.nodes in
+    let a : Space = stored c.self.inside.last c.self.inside.root c.self.inside.nodes in
     let q : Piece = piece_of c.args.range c.requires.0 in
     let there : IsIn q a.pieces = subst (λ (v : Space). IsIn q v.pieces) (sym c.self.view_is) c.requires.1 in
-    let low : c.free_from.result ≡ free_start a.pieces q.first = c.free_from.ensures
+    let low : c.free_from-low.result ≡ free_start a.pieces q.first = c.free_from-low.ensures
     ∙ ap (λ n. free_start a.pieces n) c.first-first.ensures.value in
     let end : c.first-first.result + c.pages.result - 1 ≡ q.last = omega (arith, c.first-first.ensures.value, c.pages.ensures.value) in
-    let high : c.free_to.result ≡ free_end a.pieces q.last = c.free_to.ensures ∙ ap (λ n. free_end a.pieces n) end in
-    let same : with_piece (record { first = c.free_from.result; last = c.free_to.result; state = Free }) a.pieces ≡ with_free q a.pieces =
-    ap (λ n. with_piece (record { first = n; last = c.free_to.result; state = Free }) a.pieces) low
+    let high : c.free_to-high.result ≡ free_end a.pieces q.last = c.free_to-high.ensures ∙ ap (λ n. free_end a.pieces n) end in
+    let same : with_piece (record { first = c.free_from-low.result; last = c.free_to-high.result; state = Free }) a.pieces ≡ with_free q a.pieces =
+    ap (λ n. with_piece (record { first = n; last = c.free_to-high.result; state = Free }) a.pieces) low
     ∙ ap (λ n. with_piece (record { first = free_start a.pieces q.first; last = n; state = Free }) a.pieces) high in (
-      kept_self c.store-self-inside.result c.store-self-inside.new.nodes
-          (with_piece (record { first = c.free_from.result; last = c.free_to.result; state = Free }) a.pieces)
-          c.store-self-inside.ensures,
-      subst (λ ps. IsSpace (record a { pieces = ps })) (sym (kept_view c.store-self-inside.result c.store-self-inside.new.nodes
-          (with_piece (record { first = c.free_from.result; last = c.free_to.result; state = Free }) a.pieces)
-          c.store-self-inside.ensures ∙ same)) (space_freed a q c.self.invariant.1 there),
+      kept_self c.free-self-inside.result c.free-self-inside.new.nodes
+          (with_piece (record { first = c.free_from-low.result; last = c.free_to-high.result; state = Free }) a.pieces)
+          c.free-self-inside.ensures,
+      subst (λ ps. IsSpace (record a { pieces = ps })) (sym (kept_view c.free-self-inside.result c.free-self-inside.new.nodes
+          (with_piece (record { first = c.free_from-low.result; last = c.free_to-high.result; state = Free }) a.pieces)
+          c.free-self-inside.ensures ∙ same)) (space_freed a q c.self.invariant.1 there),
     )
 
 pub returns-clause-freed : goal.returns-clause-freed
 returns-clause-freed c state among =
-    let a : Space = stored c.self.inside.last c.self.inside.root.root c.self.inside.nodes in
+    let a : Space = stored c.self.inside.last c.self.inside.root c.self.inside.nodes in
     let q : Piece = piece_of c.args.range state in
     let there : IsIn q a.pieces = subst (λ (v : Space). IsIn q v.pieces) (sym c.self.view_is) among in
-    let low : c.free_from.result ≡ free_start a.pieces q.first = c.free_from.ensures
+    let low : c.free_from-low.result ≡ free_start a.pieces q.first = c.free_from-low.ensures
     ∙ ap (λ n. free_start a.pieces n) c.first-first.ensures.value in
     let end : c.first-first.result + c.pages.result - 1 ≡ q.last = omega (arith, c.first-first.ensures.value, c.pages.ensures.value) in
-    let high : c.free_to.result ≡ free_end a.pieces q.last = c.free_to.ensures ∙ ap (λ n. free_end a.pieces n) end in
-    let same : with_piece (record { first = c.free_from.result; last = c.free_to.result; state = Free }) a.pieces ≡ with_free q a.pieces =
-    ap (λ n. with_piece (record { first = n; last = c.free_to.result; state = Free }) a.pieces) low
+    let high : c.free_to-high.result ≡ free_end a.pieces q.last = c.free_to-high.ensures ∙ ap (λ n. free_end a.pieces n) end in
+    let same : with_piece (record { first = c.free_from-low.result; last = c.free_to-high.result; state = Free }) a.pieces ≡ with_free q a.pieces =
+    ap (λ n. with_piece (record { first = n; last = c.free_to-high.result; state = Free }) a.pieces) low
     ∙ ap (λ n. with_piece (record { first = free_start a.pieces q.first; last = n; state = Free }) a.pieces) high in
-    let new : Space = stored c.self.inside.last c.store-self-inside.result.root c.store-self-inside.new.nodes in
+    let new : Space = stored c.self.inside.last c.free-self-inside.result c.free-self-inside.new.nodes in
     subst (λ v. Frees v new c.args.range state) c.self.view_is
     (frees a new c.args.range state c.self.invariant.1 c.first-first.ensures.range.some there
-    (ap (λ ps. record a { pieces = ps }) (kept_view c.store-self-inside.result c.store-self-inside.new.nodes
-    (with_piece (record { first = c.free_from.result; last = c.free_to.result; state = Free }) a.pieces) c.store-self-inside.ensures
+    (ap (λ ps. record a { pieces = ps }) (kept_view c.free-self-inside.result c.free-self-inside.new.nodes
+    (with_piece (record { first = c.free_from-low.result; last = c.free_to-high.result; state = Free }) a.pieces) c.free-self-inside.ensures
     ∙ same)))
 
 pub returns-clause-space : goal.returns-clause-space
 returns-clause-space c =
-    let a : Space = stored c.self.inside.last c.self.inside.root.root c.self.inside.nodes in
+    let a : Space = stored c.self.inside.last c.self.inside.root c.self.inside.nodes in
     let q : Piece = piece_of c.args.range c.requires.0 in
     let there : IsIn q a.pieces = subst (λ (v : Space). IsIn q v.pieces) (sym c.self.view_is) c.requires.1 in
-    let low : c.free_from.result ≡ free_start a.pieces q.first = c.free_from.ensures
+    let low : c.free_from-low.result ≡ free_start a.pieces q.first = c.free_from-low.ensures
     ∙ ap (λ n. free_start a.pieces n) c.first-first.ensures.value in
     let end : c.first-first.result + c.pages.result - 1 ≡ q.last = omega (arith, c.first-first.ensures.value, c.pages.ensures.value) in
-    let high : c.free_to.result ≡ free_end a.pieces q.last = c.free_to.ensures ∙ ap (λ n. free_end a.pieces n) end in
-    let same : with_piece (record { first = c.free_from.result; last = c.free_to.result; state = Free }) a.pieces ≡ with_free q a.pieces =
-    ap (λ n. with_piece (record { first = n; last = c.free_to.result; state = Free }) a.pieces) low
+    let high : c.free_to-high.result ≡ free_end a.pieces q.last = c.free_to-high.ensures ∙ ap (λ n. free_end a.pieces n) end in
+    let same : with_piece (record { first = c.free_from-low.result; last = c.free_to-high.result; state = Free }) a.pieces ≡ with_free q a.pieces =
+    ap (λ n. with_piece (record { first = n; last = c.free_to-high.result; state = Free }) a.pieces) low
     ∙ ap (λ n. with_piece (record { first = free_start a.pieces q.first; last = n; state = Free }) a.pieces) high in (
       subst (λ v. IsSpace v) c.self.view_is c.self.invariant.1,
       subst (λ ps. IsSpace (record a { pieces = ps }))
-          (sym (kept_view c.store-self-inside.result c.store-self-inside.new.nodes
-          (with_piece (record { first = c.free_from.result; last = c.free_to.result; state = Free }) a.pieces) c.store-self-inside.ensures
+          (sym (kept_view c.free-self-inside.result c.free-self-inside.new.nodes
+          (with_piece (record { first = c.free_from-low.result; last = c.free_to-high.result; state = Free }) a.pieces) c.free-self-inside.ensures
           ∙ same)) (space_freed a q c.self.invariant.1 there),
     )

@@ -13,7 +13,7 @@ returns-then-is_some-clause-not_live c =
     let range : Range = record { first = c.first-first.result; pages = c.pages.result } in
     let is : range ≡ c.args.range = same_range c.first-first.result c.pages.result c.args.range c.first-first.ensures.value
     c.pages.ensures.value in
-    let w = witness c.not_live.result (IsWithin range) (λ page. state_at (pieces_of c.self.inside.nodes c.self.inside.root.root) page ≢
+    let w = witness c.not_live.result (IsWithin range) (λ page. state_at (pieces_of c.self.inside.nodes c.self.inside.root) page ≢
     Some Live) (sym c.is_some.ensures ∙ c.if-is_some.true) c.not_live.ensures.within c.not_live.ensures.state in (
       (λ e. (w.0, subst (λ k. IsWithin k w.0) is w.1, subst (λ (v : Space). state_at v.pieces w.0 ≢ Some Live) c.self.view_is w.2)),
       (λ h. refl),

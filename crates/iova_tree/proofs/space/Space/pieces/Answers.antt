@@ -6,5 +6,5 @@ use Rattle.std.proofs.Common.{ap}
 
 pub returns-clause-pieces : goal.returns-clause-pieces
 returns-clause-pieces c =
-    from_all 1 1 (pieces_of c.self.inside.nodes c.self.inside.root.root) c.self.invariant.1.ordered (omega arith)
+    from_all 1 1 (pieces_of c.self.inside.nodes c.self.inside.root) c.self.invariant.1.ordered (omega arith)
     ∙ ap (λ v. v.pieces) c.self.view_is

@@ -9,9 +9,9 @@ use Rattle.iova.proofs.Taken.{retires, same_range, space_retired}
 use Rattle.iova_tree.proofs.shapes.Tall.{kept_self, kept_view}
 use Rattle.iova_tree.proofs.space.Space.retire.Goals as goal
 
-pub store-self-inside-requires-clause-few : goal.store-self-inside-requires-clause-few
-store-self-inside-requires-clause-few c =
-    let a : Space = stored c.self.inside.last c.self.inside.root.root c.self.inside.nodes in
+pub retire-self-inside-requires-clause-few : goal.retire-self-inside-requires-clause-few
+retire-self-inside-requires-clause-few c =
+    let a : Space = stored c.self.inside.last c.self.inside.root c.self.inside.nodes in
     let range : Range = record { first = c.first-first.result; pages = c.pages.result } in
     let is : range ≡ c.args.range = same_range c.first-first.result c.pages.result c.args.range c.first-first.ensures.value
     c.pages.ensures.value in
@@ -23,7 +23,7 @@ store-self-inside-requires-clause-few c =
 
 pub invariant_of-self : goal.invariant_of-self
 invariant_of-self c =
-    let a : Space = stored c.self.inside.last c.self.inside.root.root c.self.inside.nodes in
+    let a : Space = stored c.self.inside.last c.self.inside.root c.self.inside.nodes in
     let range : Range = record { first = c.first-first.result; pages = c.pages.result } in
     let is : range ≡ c.args.range = same_range c.first-first.result c.pages.result c.args.range c.first-first.ensures.value
     c.pages.ensures.value in
@@ -31,15 +31,15 @@ invariant_of-self c =
     let may : MayRetire a.pieces range = subst (λ v. MayRetire v range) (ap (λ (v : Space). v.pieces) (sym c.self.view_is))
     (subst (λ k. MayRetire c.args.self.now.pieces k) (sym is) c.requires) in
     let space = space_retired a range c.self.invariant.1 some may in (
-      kept_self c.store-self-inside.result c.store-self-inside.new.nodes (with_piece (piece_of range Retired) a.pieces)
-          c.store-self-inside.ensures,
-      subst (λ ps. IsSpace (record a { pieces = ps })) (sym (kept_view c.store-self-inside.result c.store-self-inside.new.nodes
-          (with_piece (piece_of range Retired) a.pieces) c.store-self-inside.ensures)) space,
+      kept_self c.retire-self-inside.result c.retire-self-inside.new.nodes (with_piece (piece_of range Retired) a.pieces)
+          c.retire-self-inside.ensures,
+      subst (λ ps. IsSpace (record a { pieces = ps })) (sym (kept_view c.retire-self-inside.result c.retire-self-inside.new.nodes
+          (with_piece (piece_of range Retired) a.pieces) c.retire-self-inside.ensures)) space,
     )
 
 pub returns-clause-retired : goal.returns-clause-retired
 returns-clause-retired c =
-    let a : Space = stored c.self.inside.last c.self.inside.root.root c.self.inside.nodes in
+    let a : Space = stored c.self.inside.last c.self.inside.root c.self.inside.nodes in
     let range : Range = record { first = c.first-first.result; pages = c.pages.result } in
     let is : range ≡ c.args.range = same_range c.first-first.result c.pages.result c.args.range c.first-first.ensures.value
     c.pages.ensures.value in
@@ -47,15 +47,15 @@ returns-clause-retired c =
     let may : MayRetire a.pieces range = subst (λ v. MayRetire v range) (ap (λ (v : Space). v.pieces) (sym c.self.view_is))
     (subst (λ k. MayRetire c.args.self.now.pieces k) (sym is) c.requires) in
     let space = space_retired a range c.self.invariant.1 some may in
-    let new : Space = stored c.self.inside.last c.store-self-inside.result.root c.store-self-inside.new.nodes in
+    let new : Space = stored c.self.inside.last c.retire-self-inside.result c.retire-self-inside.new.nodes in
     subst (λ k. Retires c.args.self.now new k) is (subst (λ v. Retires v new range) c.self.view_is
     (retires a new range c.self.invariant.1 some may.live
-    (ap (λ ps. record a { pieces = ps }) (kept_view c.store-self-inside.result c.store-self-inside.new.nodes
-    (with_piece (piece_of range Retired) a.pieces) c.store-self-inside.ensures))))
+    (ap (λ ps. record a { pieces = ps }) (kept_view c.retire-self-inside.result c.retire-self-inside.new.nodes
+    (with_piece (piece_of range Retired) a.pieces) c.retire-self-inside.ensures))))
 
 pub returns-clause-space : goal.returns-clause-space
 returns-clause-space c =
-    let a : Space = stored c.self.inside.last c.self.inside.root.root c.self.inside.nodes in
+    let a : Space = stored c.self.inside.last c.self.inside.root c.self.inside.nodes in
     let range : Range = record { first = c.first-first.result; pages = c.pages.result } in
     let is : range ≡ c.args.range = same_range c.first-first.result c.pages.result c.args.range c.first-first.ensures.value
     c.pages.ensures.value in
@@ -65,6 +65,6 @@ returns-clause-space c =
     let space = space_retired a range c.self.invariant.1 some may in (
       subst (λ v. IsSpace v) c.self.view_is c.self.invariant.1,
       subst (λ ps. IsSpace (record a { pieces = ps }))
-          (sym (kept_view c.store-self-inside.result c.store-self-inside.new.nodes (with_piece (piece_of range Retired) a.pieces)
-          c.store-self-inside.ensures)) space,
+          (sym (kept_view c.retire-self-inside.result c.retire-self-inside.new.nodes (with_piece (piece_of range Retired) a.pieces)
+          c.retire-self-inside.ensures)) space,
     )

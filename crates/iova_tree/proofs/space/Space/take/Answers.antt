@@ -37,7 +37,7 @@ one_start ps pages unit start x i h j m =
 
 pub overflow_add-piece : goal.overflow_add-piece
 overflow_add-piece c =
-    let a : Space = stored c.self.inside.last c.self.inside.root.root c.self.inside.nodes in
+    let a : Space = stored c.self.inside.last c.self.inside.root c.self.inside.nodes in
     let range : Range = record { first = c.in-Some.start; pages = c.args.pages } in
     let free : AllIn Free range a.pieces = c.in-Some.ensures.lowest.fit.free in
     let narrow = ((page_range a range Free c.self.invariant.1 c.requires.some_pages c.requires.few_pages free).members c.in-Some.start
@@ -46,7 +46,7 @@ overflow_add-piece c =
 
 pub store-self-inside-requires-clause-few : goal.store-self-inside-requires-clause-few
 store-self-inside-requires-clause-few c =
-    let a : Space = stored c.self.inside.last c.self.inside.root.root c.self.inside.nodes in
+    let a : Space = stored c.self.inside.last c.self.inside.root c.self.inside.nodes in
     let range : Range = record { first = c.in-Some.start; pages = c.args.pages } in
     let free : AllIn Free range a.pieces = c.in-Some.ensures.lowest.fit.free in
     let room : IsTooMany a.pieces range → ⊥ = elim c.else-len-gt-MOST_PIECES_TO_CUT.branch [
@@ -61,7 +61,7 @@ store-self-inside-requires-clause-few c =
 
 pub store-self-inside-requires-clause-piece : goal.store-self-inside-requires-clause-piece
 store-self-inside-requires-clause-piece c =
-    let a : Space = stored c.self.inside.last c.self.inside.root.root c.self.inside.nodes in
+    let a : Space = stored c.self.inside.last c.self.inside.root c.self.inside.nodes in
     let range : Range = record { first = c.in-Some.start; pages = c.args.pages } in
     let free : AllIn Free range a.pieces = c.in-Some.ensures.lowest.fit.free in
     let narrow = ((page_range a range Free c.self.invariant.1 c.requires.some_pages c.requires.few_pages free).members c.in-Some.start
@@ -70,7 +70,7 @@ store-self-inside-requires-clause-piece c =
 
 pub unwrap-requires : goal.unwrap-requires
 unwrap-requires c =
-    let a : Space = stored c.self.inside.last c.self.inside.root.root c.self.inside.nodes in
+    let a : Space = stored c.self.inside.last c.self.inside.root c.self.inside.nodes in
     let range : Range = record { first = c.in-Some.start; pages = c.args.pages } in
     let free : AllIn Free range a.pieces = c.in-Some.ensures.lowest.fit.free in
     c.new.ensures.some.1 ((page_range a range Free c.self.invariant.1 c.requires.some_pages c.requires.few_pages free).members
@@ -78,7 +78,7 @@ unwrap-requires c =
 
 pub invariant_of-self : goal.invariant_of-self
 invariant_of-self c =
-    let a : Space = stored c.self.inside.last c.self.inside.root.root c.self.inside.nodes in
+    let a : Space = stored c.self.inside.last c.self.inside.root c.self.inside.nodes in
     let range : Range = record { first = c.in-Some.start; pages = c.args.pages } in
     let free : AllIn Free range a.pieces = c.in-Some.ensures.lowest.fit.free in
     let room : IsTooMany a.pieces range → ⊥ = elim c.else-len-gt-MOST_PIECES_TO_CUT.branch [
@@ -97,7 +97,7 @@ invariant_of-self c =
 
 pub returns-clause-range : goal.returns-clause-range
 returns-clause-range c =
-    let a : Space = stored c.self.inside.last c.self.inside.root.root c.self.inside.nodes in
+    let a : Space = stored c.self.inside.last c.self.inside.root c.self.inside.nodes in
     let range : Range = record { first = c.in-Some.start; pages = c.args.pages } in
     let free : AllIn Free range a.pieces = c.in-Some.ensures.lowest.fit.free in
     subst (λ n. IsPageRange (record { first = n; pages = c.args.pages }))
@@ -106,10 +106,10 @@ returns-clause-range c =
 
 pub returns-clause-taken : goal.returns-clause-taken
 returns-clause-taken c =
-    let a : Space = stored c.self.inside.last c.self.inside.root.root c.self.inside.nodes in
+    let a : Space = stored c.self.inside.last c.self.inside.root c.self.inside.nodes in
     let range : Range = record { first = c.in-Some.start; pages = c.args.pages } in
     let free : AllIn Free range a.pieces = c.in-Some.ensures.lowest.fit.free in
-    let new : Space = stored c.self.inside.last c.store-self-inside.result.root c.store-self-inside.new.nodes in
+    let new : Space = stored c.self.inside.last c.store-self-inside.result c.store-self-inside.new.nodes in
     subst (λ n. Takes c.args.self.now new (record { first = n; pages = c.args.pages }))
     (sym (start_is c.new.result c.unwrap.result c.in-Some.start c.unwrap.ensures c.new.ensures.value))
     (subst (λ v. Takes v new range) c.self.view_is (takes a new range c.self.invariant.1 c.requires.some_pages free
@@ -118,7 +118,7 @@ returns-clause-taken c =
 
 pub returns-clause-space : goal.returns-clause-space
 returns-clause-space c =
-    let a : Space = stored c.self.inside.last c.self.inside.root.root c.self.inside.nodes in
+    let a : Space = stored c.self.inside.last c.self.inside.root c.self.inside.nodes in
     let range : Range = record { first = c.in-Some.start; pages = c.args.pages } in
     let free : AllIn Free range a.pieces = c.in-Some.ensures.lowest.fit.free in
     let room : IsTooMany a.pieces range → ⊥ = elim c.else-len-gt-MOST_PIECES_TO_CUT.branch [
@@ -137,7 +137,7 @@ returns-clause-space c =
 
 pub returns-clause-no_range : goal.returns-clause-no_range
 returns-clause-no_range c =
-    let a : Space = stored c.self.inside.last c.self.inside.root.root c.self.inside.nodes in
+    let a : Space = stored c.self.inside.last c.self.inside.root c.self.inside.nodes in
     let range : Range = record { first = c.in-Some.start; pages = c.args.pages } in
     let free : AllIn Free range a.pieces = c.in-Some.ensures.lowest.fit.free in
     let unit = shifted c.args.order c.requires.order in
@@ -150,7 +150,7 @@ returns-clause-no_range c =
 
 pub returns-clause-too_many : goal.returns-clause-too_many
 returns-clause-too_many c =
-    let a : Space = stored c.self.inside.last c.self.inside.root.root c.self.inside.nodes in
+    let a : Space = stored c.self.inside.last c.self.inside.root c.self.inside.nodes in
     let range : Range = record { first = c.in-Some.start; pages = c.args.pages } in
     let free : AllIn Free range a.pieces = c.in-Some.ensures.lowest.fit.free in
     let room : IsTooMany a.pieces range → ⊥ = elim c.else-len-gt-MOST_PIECES_TO_CUT.branch [
