@@ -88,7 +88,6 @@ fn add_above(nodes: &mut Slab<Node>, root: Option<usize>, place: &Piece, page: u
 }
 
 /// Puts a piece over what a tree has, where it meets the piece at the tree's key.
-#[inline(always)]
 fn cover(nodes: &mut Slab<Node>, key: usize, piece: &Piece) -> Option<usize>
     requires tree { CanPut nodes.old (Some key) piece.now }
     requires meets { (n : Node) × (get nodes.old key ≡ Some n) × (piece.now.first ≤ n.piece.last) × (n.piece.first ≤ piece.now.last) }
@@ -127,6 +126,36 @@ fn cut_front(nodes: &mut Slab<Node>, key: usize, piece: &Piece) -> Option<usize>
     settle(nodes, key)
 }
 
+/// Puts a piece over the one at a tree's key and over some before it.
+#[inline(always)]
+fn reach_below(nodes: &mut Slab<Node>, key: usize, piece: &Piece) -> Option<usize>
+    requires tree { CanPut nodes.old (Some key) piece.now }
+    requires meets { (n : Node) × (get nodes.old key ≡ Some n) × (piece.now.first < n.piece.first) × (piece.now.last ≡ n.piece.last) }
+    ensures { (t : Shape) (from : ℕ) → IsBelow (get nodes.old) (Some key) t from
+        → Leaves nodes.old nodes.new result t (with_piece piece.now (items t)) 1 }
+{
+    let left = nodes[key].left;
+    let before = keep_below(nodes, left, piece.first);
+    set_left(nodes, key, before);
+    set_piece(nodes, key, *piece);
+    settle(nodes, key)
+}
+
+/// Puts a piece over the one at a tree's key and over some behind it.
+#[inline(always)]
+fn reach_above(nodes: &mut Slab<Node>, key: usize, piece: &Piece) -> Option<usize>
+    requires tree { CanPut nodes.old (Some key) piece.now }
+    requires meets { (n : Node) × (get nodes.old key ≡ Some n) × (piece.now.first ≡ n.piece.first) × (n.piece.last < piece.now.last) }
+    ensures { (t : Shape) (from : ℕ) → IsBelow (get nodes.old) (Some key) t from
+        → Leaves nodes.old nodes.new result t (with_piece piece.now (items t)) 1 }
+{
+    let right = nodes[key].right;
+    let behind = keep_above(nodes, right, piece.last);
+    set_right(nodes, key, behind);
+    set_piece(nodes, key, *piece);
+    settle(nodes, key)
+}
+
 /// Puts a piece over what a tree has.
 pub(crate) fn put(nodes: &mut Slab<Node>, root: Option<usize>, piece: &Piece) -> Option<usize>
     requires { CanPut nodes.old root piece.now }
@@ -153,6 +182,12 @@ pub(crate) fn put(nodes: &mut Slab<Node>, root: Option<usize>, piece: &Piece) ->
     }
     if piece.first == first && piece.last < last {
         return cut_front(nodes, key, piece);
+    }
+    if piece.first < first && piece.last == last {
+        return reach_below(nodes, key, piece);
+    }
+    if piece.first == first && last < piece.last {
+        return reach_above(nodes, key, piece);
     }
     cover(nodes, key, piece)
 }

@@ -11,14 +11,25 @@ use iova::Piece;
 use slab::Slab;
 
 /// Takes a whole tree out.
+#[inline(always)]
 pub(crate) fn clear(nodes: &mut Slab<Node>, root: Option<usize>)
+    requires { (t : Shape) × IsLow (get nodes.old) root t }
+    ensures { (t : Shape) → IsLow (get nodes.old) root t → Leaves nodes.old nodes.new None t [] 0 }
+{
+    if root.is_some() {
+        clear_all(nodes, root);
+    }
+}
+
+/// The same, apart: mostly there is nothing to take out.
+fn clear_all(nodes: &mut Slab<Node>, root: Option<usize>)
     requires { (t : Shape) × IsLow (get nodes.old) root t }
     ensures { (t : Shape) → IsLow (get nodes.old) root t → Leaves nodes.old nodes.new None t [] 0 }
 {
     if let Some(key) = root {
         let node = nodes.remove(key);
-        clear(nodes, node.left);
-        clear(nodes, node.right);
+        clear_all(nodes, node.left);
+        clear_all(nodes, node.right);
     }
 }
 
@@ -51,6 +62,9 @@ pub(crate) fn keep_below(nodes: &mut Slab<Node>, root: Option<usize>, page: u64)
         return settle(nodes, key);
     }
     nodes.remove(key);
+    if left.is_none() {
+        return None;
+    }
     keep_below(nodes, left, page)
 }
 
@@ -83,5 +97,8 @@ pub(crate) fn keep_above(nodes: &mut Slab<Node>, root: Option<usize>, page: u64)
         return settle(nodes, key);
     }
     nodes.remove(key);
+    if right.is_none() {
+        return None;
+    }
     keep_above(nodes, right, page)
 }

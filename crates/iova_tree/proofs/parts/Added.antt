@@ -78,3 +78,20 @@ low_stays old root t pieces more w e = record {
   here = sym w.here;
   makes = stays old (top_of t) t pieces more w.tree w.once e;
 }
+
+pub more_leaves : (old new : Slab Node) (root : Option ℕ) (t : Shape) (pieces : List Piece) → Leaves old new root t pieces 0
+    → Leaves old new root t pieces 1
+more_leaves old new root t pieces v = record {
+  top = v.top;
+  here = v.here;
+  makes = record {
+    shape = v.makes.shape;
+    tree = v.makes.tree;
+    all = v.makes.all;
+    once = v.makes.once;
+    apart = v.makes.apart;
+    low = omega (arith, v.makes.low);
+    len = v.makes.len;
+    capacity = v.makes.capacity;
+  };
+}

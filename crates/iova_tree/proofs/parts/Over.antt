@@ -43,3 +43,23 @@ with_front from xs q ys p o i a h =
     ∙ ap (λ l. xs ++ p ∷ (l ++ part_above p.last ys)) (rest_above-some p.last q h)
     ∙ ap (λ l. xs ++ p ∷ record q { first = p.last + 1 } ∷ l) (above_whole (q.last + 1) p.last ys (ordered_behind from xs q ys o) (omega arith))
     ∙ sym (append_assoc xs (p ∷ []) (record q { first = p.last + 1 } ∷ ys))
+
+-- a piece and some before it, or some behind it
+pub with_before : (from : ℕ) (xs : List Piece) (q : Piece) (ys : List Piece) (p : Piece) → IsOrdered from (xs ++ q ∷ ys) → IsPiece q
+    → p.first < q.first → p.last ≡ q.last → with_piece p (xs ++ q ∷ ys) ≡ part_below p.first xs ++ p ∷ ys
+with_before from xs q ys p o j h b =
+    with_over from xs q ys p o (omega (arith, j)) (omega (arith, j))
+    ∙ ap (λ l. (part_below p.first xs ++ l) ++ p ∷ (rest_above p.last q ++ part_above p.last ys)) (rest_below-none p.first q (omega arith))
+    ∙ ap (λ l. l ++ p ∷ (rest_above p.last q ++ part_above p.last ys)) (append-nil (part_below p.first xs))
+    ∙ ap (λ l. part_below p.first xs ++ p ∷ (l ++ part_above p.last ys)) (rest_above-none p.last q (omega arith))
+    ∙ ap (λ l. part_below p.first xs ++ p ∷ l) (above_whole (q.last + 1) p.last ys (ordered_behind from xs q ys o) (omega arith))
+
+pub with_behind : (from : ℕ) (xs : List Piece) (q : Piece) (ys : List Piece) (p : Piece) → IsOrdered from (xs ++ q ∷ ys) → IsPiece q
+    → p.first ≡ q.first → q.last < p.last → with_piece p (xs ++ q ∷ ys) ≡ xs ++ p ∷ part_above p.last ys
+with_behind from xs q ys p o j a h =
+    with_over from xs q ys p o (omega (arith, j)) (omega (arith, j))
+    ∙ ap (λ l. (l ++ rest_below p.first q) ++ p ∷ (rest_above p.last q ++ part_above p.last ys))
+    (below_whole from xs q ys p.first o (omega arith))
+    ∙ ap (λ l. (xs ++ l) ++ p ∷ (rest_above p.last q ++ part_above p.last ys)) (rest_below-none p.first q (omega arith))
+    ∙ ap (λ l. l ++ p ∷ (rest_above p.last q ++ part_above p.last ys)) (append-nil xs)
+    ∙ ap (λ l. xs ++ p ∷ (l ++ part_above p.last ys)) (rest_above-none p.last q (omega arith))

@@ -3,12 +3,12 @@ use Rattle.std.proofs.Common.{◌≡◌, ℕ, ◌+◌, ◌<◌, ◌≤◌, List,
 use Rattle.std.proofs.Common.{length-append}
 use Rattle.slab.specs.Slab.{Slab, get, slab_len}
 use Rattle.iova.specs.declared.piece.Piece.{Piece}
-use Rattle.iova.specs.Pieces.{IsOrdered, part_above, with_piece}
+use Rattle.iova.specs.Pieces.{IsOrdered, part_above, part_below, with_piece}
 use Rattle.iova.proofs.Pieces.{part_below-nil, part_above-nil}
 use Rattle.iova_tree.specs.declared.node.Node.{Node}
 use Rattle.iova_tree.specs.Tree.{Shape, Empty, items, height_of, IsPiece, IsBelow, IsLow, Leaves}
 use Rattle.iova_tree.proofs.parts.Parts.{ordered_front, ordered_behind}
-use Rattle.iova_tree.proofs.parts.Over.{with_past, with_under, with_front}
+use Rattle.iova_tree.proofs.parts.Over.{with_past, with_under, with_front, with_before, with_behind}
 use Rattle.iova_tree.proofs.parts.Ends.{low_none}
 use Rattle.iova_tree.proofs.shapes.Settled.{Opening, opening, opened_order, low_below, below_low, work_before, work_behind}
 
@@ -95,3 +95,11 @@ module _ (old : Slab Node) (root : Option ℕ) (key : ℕ) (n : Node) (p : Piece
           length-append (items k.l) (p ∷ []),
           length-append (items k.l ++ p ∷ []) (record n.piece { first = p.last + 1 } ∷ items k.r),
         )
+
+  pub reach-before : p.first < n.piece.first → p.last ≡ n.piece.last
+      → with_piece p (items t) ≡ part_below p.first (items k.l) ++ p ∷ items k.r
+  reach-before a b = ap (λ x. with_piece p (items x)) k.is ∙ with_before from (items k.l) n.piece (items k.r) p order k.piece a b
+
+  pub reach-behind : p.first ≡ n.piece.first → n.piece.last < p.last
+      → with_piece p (items t) ≡ items k.l ++ p ∷ part_above p.last (items k.r)
+  reach-behind a b = ap (λ x. with_piece p (items x)) k.is ∙ with_behind from (items k.l) n.piece (items k.r) p order k.piece a b

@@ -1,5 +1,5 @@
 -- Trees with a part of their pieces taken out.
-use Rattle.std.proofs.Common.{◌≡◌, ℕ, ◌+◌, ◌-◌, ◌<◌, ◌≤◌, List, [], ◌∷◌, ◌++◌, Option, Some, None, refl, ap, sym, ◌∙◌, subst, arith}
+use Rattle.std.proofs.Common.{◌≡◌, ℕ, ◌+◌, ◌-◌, ◌<◌, ◌≤◌, List, [], ◌∷◌, ◌++◌, Option, Some, None, refl, ap, sym, ◌∙◌, subst, arith, Bool, true, not, is_some}
 use Rattle.slab.specs.Slab.{Slab, Updates, get, slab_len}
 use Rattle.iova.specs.declared.piece.Piece.{Piece}
 use Rattle.iova.specs.Pieces.{IsOrdered, part_below, part_above}
@@ -9,6 +9,11 @@ use Rattle.iova_tree.proofs.parts.Parts.{below_past, below_within, below_before,
 use Rattle.iova_tree.proofs.parts.Ends.{low_none}
 use Rattle.iova_tree.proofs.shapes.Held.{Held, held_behind, held_before, Loose, loose, loose_step, loose_before, loose_behind}
 use Rattle.iova_tree.proofs.shapes.Settled.{Opening, opening, opened_order, is_low, low_below, below_low, work_before, work_behind}
+
+-- what is tested
+pub is_no : {A : Type 0} (o : Option A) (b : Bool) → is_some o ≡ not b → b ≡ true → o ≡ None
+is_no None b e t = refl
+is_no (Some x) b e t = absurd (cc)
 
 -- a tree without pieces
 none_leaves : (old : Slab Node) → Leaves old old None Empty [] 0

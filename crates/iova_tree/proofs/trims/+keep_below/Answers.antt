@@ -7,7 +7,7 @@ use Rattle.iova_tree.proofs.searches.Found.{search_height, search_there}
 use Rattle.iova_tree.proofs.shapes.Trees.{is_there}
 use Rattle.iova_tree.proofs.shapes.Settled.{below_low}
 use Rattle.iova_tree.proofs.shapes.Steps.{right-there, right-can, right-done, right-cut_can, right-cut_done}
-use Rattle.iova_tree.proofs.parts.Trims.{none_left, k, keep-falls, keep-piece, keep-right, keep-behind, below-past, below-within, below-before, below-gone}
+use Rattle.iova_tree.proofs.parts.Trims.{is_no, none_left, k, keep-falls, keep-piece, keep-right, keep-behind, below-past, below-within, below-before, below-gone}
 use Rattle.iova_tree.proofs.trims.+keep_below.Goals as goal
 
 pub index-node-requires : goal.index-node-requires
@@ -68,6 +68,11 @@ keep_below-requires t c =
     let high = search_height (get c.remove.new.self) c.index-node.result.now.left _ _ below in
     let all = search_height (get c.args.nodes.now) c.args.root _ _ c.requires.2 in
     (omega arith, (_, _, below))
+
+pub returns-then-is_none : goal.returns-then-is_none
+returns-then-is_none t c x from w = below-gone c.args.nodes.now c.args.root c.in-Some.key c.index-node.result.now c.args.page x from w c.in-Some.is c.index-node.ensures (omega arith) c.clear.new.nodes c.clear.ensures c.remove.new.self c.remove.ensures.updates c.remove.ensures.len c.remove.ensures.capacity (omega arith) c.remove.new.self None
+    (λ y start v. none_left c.remove.new.self c.index-node.result.now.left y (part_below c.args.page) (part_below-nil c.args.page)
+    (is_no _ _ c.is_none.ensures c.if-is_none.true) (below_low (get c.remove.new.self) c.index-node.result.now.left y start v))
 
 pub returns : goal.returns
 returns t c x from w = below-gone c.args.nodes.now c.args.root c.in-Some.key c.index-node.result.now c.args.page x from w c.in-Some.is c.index-node.ensures (omega arith) c.clear.new.nodes c.clear.ensures c.remove.new.self c.remove.ensures.updates c.remove.ensures.len c.remove.ensures.capacity (omega arith) c.keep_below.new.nodes c.keep_below.result c.keep_below.ensures
