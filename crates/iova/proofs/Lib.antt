@@ -11,3 +11,6 @@ pub mod FreeRange
 pub mod Freed
 pub mod Taken
 pub mod Same
+pub mod shapes
+pub mod parts
+pub mod searches

@@ -1,3 +1,0 @@
-pub mod shapes
-pub mod parts
-pub mod searches
