@@ -1,12 +1,8 @@
 pub mod Pieces
 pub mod Puts
-pub mod Index
 pub mod Among
-pub mod Place
 pub mod Keep
 pub mod NewSpace
-pub mod Fit
-pub mod Cut
 pub mod FreeRange
 pub mod Freed
 pub mod Taken

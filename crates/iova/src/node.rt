@@ -1,7 +1,5 @@
 //! Nodes of the tree of pieces.
 
-ghost use Rattle.std.specs.Prelude.{◌≡◌, IsTrue};
-
 use crate::piece::Piece;
 
 /// Page numbers, and counts of pages, are below it here: no sum of two of them wraps (own).
@@ -19,19 +17,6 @@ pub(crate) struct Node {
     pub(crate) longest: u64,
 }
 
-impl Node {
-    /// A node with no children, before it is linked.
-    pub(crate) fn new(piece: Piece) -> Node {
-        Node {
-            piece,
-            left: None,
-            right: None,
-            height: 0,
-            longest: 0,
-        }
-    }
-}
-
 /// A tree as it is handed on: the key of its root, and what stands there, so that no node is read twice.
 #[derive(Clone, Copy)]
 pub(crate) struct Top {
@@ -46,15 +31,6 @@ pub(crate) const NO_TREE: Top = Top {
     height: 0,
     longest: 0,
 };
-
-impl Top {
-    /// Whether it is another's.
-    pub(crate) fn is(self, other: Top) -> bool
-        ensures { IsTrue result → self ≡ other }
-    {
-        self.root == other.root && self.height == other.height && self.longest == other.longest
-    }
-}
 
 /// What lies at a key: a piece, and the trees before it and behind it.
 #[derive(Clone, Copy)]

@@ -42,9 +42,6 @@ module _ (old : Slab Node) (root : Option ℕ) (key : ℕ) (n : Node) (p : Piece
   pub put-falls : (height_of k.l < height_of t) × (height_of k.r < height_of t)
   put-falls = (k.low.0, k.low.1)
 
-  pub put-at : IsBelow (get old) (Some key) t from
-  put-at = subst (λ r. IsBelow (get old) r t from) e w
-
   pub put-right : IsBelow (get old) n.right k.r (n.piece.last + 1)
   put-right = low_below (get old) n.right k.r (n.piece.last + 1) (work_behind old old key n t k.l k.r k.work (omega (arith, k.low)))
       (ordered_behind from (items k.l) n.piece (items k.r) order)

@@ -10,7 +10,7 @@ use Rattle.iova.specs.declared.node.Top.{Top}
 use Rattle.iova.specs.Pieces.{is_free, with_piece}
 use Rattle.iova.specs.Search.{TakesPlace, piece_at}
 use Rattle.iova.specs.Tree.{Look, Shape, Empty, Fork, items, height_of, longest_of, root_of, top_of, free_pages, joint, node_of}
-use Rattle.iova.specs.Tree.{uses, AreNodes, IsPiece, IsTree, IsBelow, IsWhole, AreNear, CanRead, KeepsCount, Makes}
+use Rattle.iova.specs.Tree.{uses, IsPiece, IsTree, IsBelow, IsWhole, AreNear, KeepsCount, Makes}
 use Rattle.iova.proofs.Pieces.{order}
 use Rattle.iova.proofs.parts.Parts.{front_ends}
 use Rattle.iova.proofs.shapes.Trees.{is_there, one-same, same_tree, top_is}
@@ -123,15 +123,6 @@ module _ (old : Slab Node) (key : ℕ) (node : Node) (p there : Piece) (t : Shap
   here : TakesPlace p there (items s.l ++ node.piece ∷ items s.r)
   here = subst (λ x. TakesPlace p there (items x)) s.is k
 
-  pub replace-left_read : CanRead (get old) node.left
-  replace-left_read = (s.l, s.before.here, s.before.whole.tree.nodes)
-
-  pub replace-right_read : CanRead (get old) node.right
-  replace-right_read = (s.r, s.behind.here, s.behind.whole.tree.nodes)
-
-  pub replace-piece : IsPiece node.piece
-  replace-piece = s.piece
-
   -- before the root
   pub replace-under : p.first < node.piece.first → TakesPlace p there (items s.l)
   replace-under h = record {
@@ -205,12 +196,6 @@ module _ (old : Slab Node) (key : ℕ) (node : Node) (p there : Piece) (t : Shap
     here = sym e ∙ s.behind.here;
     whole = record { tree = i; once = s.behind.whole.once; low = s.behind.whole.low; ordered = s.behind.whole.ordered };
   }
-
-  pub replace-below_left : (child : ℕ) → node.left ≡ Some child → IsBelow (get old) (Some child) s.l from
-  replace-below_left child e = replace-before (get old) child e s.before.whole.tree
-
-  pub replace-below_right : (child : ℕ) → node.right ≡ Some child → IsBelow (get old) (Some child) s.r (node.piece.last + 1)
-  replace-below_right child e = replace-behind (get old) child e s.behind.whole.tree
 
   tall : height_of t ≡ height_of (Fork key node.piece s.l s.r)
   tall = ap height_of s.is
@@ -370,83 +355,3 @@ module _ (old : Slab Node) (key : ℕ) (node : Node) (p there : Piece) (t : Shap
         (ap (λ (x : Node). x.piece) a) (ap (λ (x : Node). x.left) a) (ap (λ (x : Node). x.right) a) (ap (λ (x : Node). x.height) a)
         (max (longest_of t) pages) (ap (λ (x : Node). x.longest) a ∙ ap (λ x. max x pages) (replace-longest ∙ sym replace-long))
         (omega (arith, replace-long))
-
-  -- what lies behind or before the root changed before a write
-  module _ (next : Slab Node) (child below : ℕ) (past : node.piece.first < p.first) (e : node.right ≡ Some child)
-      (m : (x : Shape) (start : ℕ) → IsBelow (get old) (Some child) x start → TakesPlace p there (items x)
-      → Makes old next (record { root = Some child; height = height_of x; longest = below }) x (with_piece p (items x)) 0) where
-    made_behind : Makes old next (record { root = Some child; height = height_of s.r; longest = below }) s.r (with_piece p (items s.r)) 0
-    made_behind = m s.r (node.piece.last + 1) (replace-behind (get old) child e s.behind.whole.tree) (replace-past past)
-
-    after_behind : Held old next (top_of s.l) key (record { root = Some child; height = height_of s.r; longest = below })
-        (Fork key node.piece s.l s.r) s.l made_behind.shape
-    after_behind = held_behind old old next (top_of s.l) key (top_of s.r)
-        (record { root = Some child; height = height_of s.r; longest = below }) (Fork key node.piece s.l s.r) s.l s.r
-        (with_piece p (items s.r)) 0 start made_behind (omega (arith, whole.low))
-
-    pub behind-there : get next key ≡ Some node
-    behind-there = (made_behind.apart key (let own = one-same key in omega (arith, whole.once key)) start.parts.here).0 ∙ f
-
-    pub behind-read : CanRead (get next) node.left
-    behind-read = (s.l, s.before.here, after_behind.parts.before.nodes)
-
-    pub behind-done : (new : Slab Node) (longest other : ℕ) (n : Node) → Updates next new key (Some n) → KeepsCount next new
-        → n ≡ record node { longest = longest }
-        → ((x : Shape) → node.left ≡ root_of x → AreNodes (get next) x → other ≡ longest_of x)
-        → longest ≡ max (free_pages node.piece) (max other below)
-        → Makes old new (record { root = Some key; height = height_of t; longest = longest }) t (with_piece p (items t)) 0
-    behind-done new longest other n u kc is rd l =
-        let h = held_written old next new (top_of s.l) key (record { root = Some child; height = height_of s.r; longest = below })
-        (Fork key node.piece s.l s.r) s.l made_behind.shape n after_behind (let own = one-same key in omega arith) u kc in
-        replace-done_right new child below made_behind.shape n past e h made_behind.all u.changed
-        (ap (λ (v : Node). v.piece) is) (ap (λ (v : Node). v.left) is) (ap (λ (v : Node). v.right) is) (ap (λ (v : Node). v.height) is)
-        longest (ap (λ (v : Node). v.longest) is) (l ∙ ap (λ v. max (free_pages node.piece) (max v below))
-        (rd s.l s.before.here after_behind.parts.before.nodes))
-
-  module _ (next : Slab Node) (child below : ℕ) (under : p.first < node.piece.first) (e : node.left ≡ Some child)
-      (m : (x : Shape) (start : ℕ) → IsBelow (get old) (Some child) x start → TakesPlace p there (items x)
-      → Makes old next (record { root = Some child; height = height_of x; longest = below }) x (with_piece p (items x)) 0) where
-    made_before : Makes old next (record { root = Some child; height = height_of s.l; longest = below }) s.l (with_piece p (items s.l)) 0
-    made_before = m s.l from (replace-before (get old) child e s.before.whole.tree) (replace-under under)
-
-    after_before : Held old next (record { root = Some child; height = height_of s.l; longest = below }) key (top_of s.r)
-        (Fork key node.piece s.l s.r) made_before.shape s.r
-    after_before = held_before old old next (top_of s.l) key (top_of s.r)
-        (record { root = Some child; height = height_of s.l; longest = below }) (Fork key node.piece s.l s.r) s.l s.r
-        (with_piece p (items s.l)) 0 start made_before (omega (arith, whole.low))
-
-    pub before-there : get next key ≡ Some node
-    before-there = (made_before.apart key (let own = one-same key in omega (arith, whole.once key)) start.parts.here).0 ∙ f
-
-    pub before-read : CanRead (get next) node.right
-    before-read = (s.r, s.behind.here, after_before.parts.behind.nodes)
-
-    pub before-done : (new : Slab Node) (longest other : ℕ) (n : Node) → Updates next new key (Some n) → KeepsCount next new
-        → n ≡ record node { longest = longest }
-        → ((x : Shape) → node.right ≡ root_of x → AreNodes (get next) x → other ≡ longest_of x)
-        → longest ≡ max (free_pages node.piece) (max below other)
-        → Makes old new (record { root = Some key; height = height_of t; longest = longest }) t (with_piece p (items t)) 0
-    before-done new longest other n u kc is rd l =
-        let h = held_written old next new (record { root = Some child; height = height_of s.l; longest = below }) key (top_of s.r)
-        (Fork key node.piece s.l s.r) made_before.shape s.r n after_before (let own = one-same key in omega arith) u kc in
-        replace-done_left new child below made_before.shape n under e h made_before.all u.changed
-        (ap (λ (v : Node). v.piece) is) (ap (λ (v : Node). v.left) is) (ap (λ (v : Node). v.right) is) (ap (λ (v : Node). v.height) is)
-        longest (ap (λ (v : Node). v.longest) is) (l ∙ ap (λ v. max (free_pages node.piece) (max below v))
-        (rd s.r s.behind.here after_before.parts.behind.nodes))
-
-  -- the piece of the root changed
-  pub here-done : (mid new : Slab Node) (longest low high : ℕ) (n o : Node) → p.first ≡ node.piece.first → Updates old mid key (Some n)
-      → KeepsCount old mid
-      → Updates mid new key (Some o) → KeepsCount mid new → n ≡ record node { piece = p } → o ≡ record n { longest = longest }
-      → ((x : Shape) → node.left ≡ root_of x → AreNodes (get old) x → low ≡ longest_of x)
-      → ((x : Shape) → node.right ≡ root_of x → AreNodes (get old) x → high ≡ longest_of x)
-      → longest ≡ max (free_pages p) (max low high)
-      → Makes old new (record { root = Some key; height = height_of t; longest = longest }) t (with_piece p (items t)) 0
-  here-done mid new longest low high n o same u kc v vc is on rl rr l =
-      let a : o ≡ record { piece = p; left = node.left; right = node.right; height = node.height; longest = longest } = on
-      ∙ ap (λ (x : Node). record x { longest = longest }) is in
-      replace-done_here new o same (updates_twice old mid new key n o u v) (counts_twice old mid new kc vc)
-      (ap (λ (x : Node). x.piece) a) (ap (λ (x : Node). x.left) a) (ap (λ (x : Node). x.right) a) (ap (λ (x : Node). x.height) a)
-      longest (ap (λ (x : Node). x.longest) a)
-      (l ∙ ap (λ x. max (free_pages p) (max x high)) (rl s.l s.before.here s.before.whole.tree.nodes)
-      ∙ ap (λ x. max (free_pages p) (max (longest_of s.l) x)) (rr s.r s.behind.here s.behind.whole.tree.nodes))

@@ -3,7 +3,6 @@ use Rattle.std.proofs.Common.{◌≡◌, ℕ, suc, ◌+◌, ◌*◌, ◌/◌, �
 use Rattle.std.proofs.Common.{inr}
 use Rattle.std.proofs.Common.{subst, refl, arith, IsTrue, false, drop-cons, add-one}
 use Rattle.std.proofs.Math.Nat.{div-add-mod, mul-le-mul_left, lt_of_mul-lt-mul_left}
-use Rattle.std.proofs.Math.ListN.{drop_of_length-le}
 use Rattle.iova.specs.declared.piece.PageState.{PageState}
 use Rattle.iova.specs.declared.piece.PageState.TheVariants.{Free, Live, Retired}
 use Rattle.iova.specs.declared.piece.Piece.{Piece}
@@ -108,15 +107,6 @@ ahead_more all p ps pages unit pos n a = record {
   back = λ t f. a.back t (fits_cons a.from p ps pages unit t a.ordered pos f);
 }
 
-pub ahead_here : (all : List Piece) (p : Piece) (ps : List Piece) (pages unit up : ℕ) → 1 ≤ pages → Ahead all (p ∷ ps) pages unit
-    → p.state ≡ Free → IsRoundUp p.first unit up → up + pages ≤ p.last + 1 → IsLowestFit all pages unit up
-ahead_here all p ps pages unit up pos a f r h =
-    let here : IsLowestFit (p ∷ ps) pages unit up = fits_here a.from p ps pages unit up a.ordered f r h pos in
-    record { fit = a.back up here.fit; lowest = λ other fits. here.lowest other (a.into other fits) }
-
-pub ahead_none : (all : List Piece) (pages unit : ℕ) → 1 ≤ pages → Ahead all [] pages unit → (t : ℕ) → IsFit all pages unit t → ⊥
-ahead_none all pages unit pos a t f = let g = a.into t f in none_some [] t Free (state-nil t) (g.free t (omega arith, omega arith))
-
 -- where the first aligned page doesn't leave enough pages, none does
 pub no_room : (p : Piece) (pages unit up : ℕ) → IsRoundUp p.first unit up → p.last + 1 < up + pages → HasNoRoom pages unit p
 no_room p pages unit up r h free t a b l = let k : up ≤ t = r.2 t b a in absurd (omega arith)
@@ -135,14 +125,3 @@ pub step_at : (all : List Piece) (i : ℕ) (d : Piece) (pages unit : ℕ) → i 
 step_at all i d pages unit h pos n a =
     subst (λ k. Ahead all (drop k all) pages unit) (sym (add-one i))
     (ahead_more all (get_or all i d) (drop (suc i) all) pages unit pos n (subst (λ l. Ahead all l pages unit) (drop-cons all i d h) a))
-
-pub here_at : (all : List Piece) (i : ℕ) (d : Piece) (pages unit up : ℕ) → i < length all → 1 ≤ pages → Ahead all (drop i all) pages unit
-    → (get_or all i d).state ≡ Free → IsRoundUp (get_or all i d).first unit up → up + pages ≤ (get_or all i d).last + 1
-    → IsLowestFit all pages unit up
-here_at all i d pages unit up h pos a f r m =
-    ahead_here all (get_or all i d) (drop (suc i) all) pages unit up pos (subst (λ l. Ahead all l pages unit) (drop-cons all i d h) a) f
-    r m
-
-pub none_at : (all : List Piece) (i pages unit : ℕ) → length all ≤ i → 1 ≤ pages → Ahead all (drop i all) pages unit → (t : ℕ)
-    → IsFit all pages unit t → ⊥
-none_at all i pages unit h pos a = ahead_none all pages unit pos (subst (λ l. Ahead all l pages unit) (drop_of_length-le all h) a)

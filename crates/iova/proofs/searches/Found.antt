@@ -1,5 +1,5 @@
 -- Searches down a tree.
-use Rattle.std.proofs.Common.{◌≡◌, ℕ, ◌+◌, ◌-◌, ◌%◌, ◌^◌, ◌<◌, ◌≤◌, List, [], ◌∷◌, ◌++◌, Option, Some, None, IsSome, IsTrue, IfSome}
+use Rattle.std.proofs.Common.{◌≡◌, ℕ, ◌+◌, ◌-◌, ◌%◌, ◌<◌, ◌≤◌, List, [], ◌∷◌, ◌++◌, Option, Some, None, IsSome, IsTrue, IfSome}
 use Rattle.std.proofs.Common.{IfNone, refl, ap, sym, ◌∙◌, inl, inr, subst, arith, append_assoc}
 use Rattle.std.specs.List.{AllByRecursion}
 use Rattle.std.proofs.lemmas.Bool.Decides.{nat_tests}
@@ -9,8 +9,8 @@ use Rattle.iova.specs.declared.node.Node.{Node}
 use Rattle.iova.specs.Pieces.{IsOrdered, is_free}
 use Rattle.iova.specs.Space.{IsLowestFit}
 use Rattle.iova.specs.Search.{piece_at, IsFound, HasNoRoom, IsRoundUp}
-use Rattle.iova.specs.Tree.{Look, Shape, Empty, Fork, items, height_of, longest_of, free_pages, AreNodes, ArePieces, IsPiece, IsBelow}
-use Rattle.iova.specs.Tree.{CanRead, CanSearch, node_of, root_of, at_root}
+use Rattle.iova.specs.Tree.{Look, Shape, Empty, Fork, items, height_of, longest_of, free_pages, AreNodes, IsPiece, IsBelow}
+use Rattle.iova.specs.Tree.{CanSearch, node_of, root_of, at_root}
 use Rattle.iova.proofs.Pieces.{order}
 use Rattle.iova.proofs.parts.Parts.{front_ends, some_page, ordered_front, ordered_behind}
 use Rattle.iova.proofs.searches.Fit.{fits_here, fits_tail, fits_cons, free_state}
@@ -214,11 +214,6 @@ way-end look root now page i e x start v = sym (i.same x start v ∙ ap (λ ps. 
 one_divides : (n : ℕ) → n % 1 ≡ 0
 one_divides n = omega arith
 
-all_front : (P : Piece → Type 0) (xs : List Piece) (q : Piece) (ys : List Piece) → AllByRecursion P (xs ++ q ∷ ys) → AllByRecursion P xs
-    × P q × AllByRecursion P ys
-all_front P [] q ys a = (tt, a.0, a.1)
-all_front P (x ∷ xs) q ys a = let b = all_front P xs q ys a.1 in ((a.0, b.0), b.1, b.2)
-
 pub free_of : (q : Piece) (pages : ℕ) → 1 ≤ pages → pages ≤ free_pages q → IsTrue (is_free q.state)
 free_of q pages pos h = grind arith
 
@@ -235,22 +230,6 @@ short_none pages unit Empty h = tt
 short_none pages unit (Fork k p l r) h =
     no_room_append pages unit (items l) p (items r) (short_none pages unit l (omega arith))
     (λ free t a b c. let e = free_length p free in omega arith) (short_none pages unit r (omega arith))
-
--- a tree whose greatest length is enough has room at a page of any number
-pub long_room : (pages : ℕ) (t : Shape) → 1 ≤ pages → ArePieces t → pages ≤ longest_of t → AllByRecursion (HasNoRoom pages 1) (items t)
-    → ⊥
-long_room pages Empty pos a h n = omega arith
-long_room pages (Fork k p l r) pos a h n =
-    let b = all_front (HasNoRoom pages 1) (items l) p (items r) n in
-    elim (order pages (free_pages p)) [
-      | inl x ↦
-          let free = free_of p pages pos x in
-          b.1 free p.first (omega arith) (one_divides p.first) (omega (arith, free_length p free, a.0))
-      | inr x ↦ elim (order pages (longest_of l)) [
-        | inl y ↦ long_room pages l pos a.1 y b.0
-        | inr y ↦ long_room pages r pos a.2 (omega arith) b.2
-      ]
-    ]
 
 pub own_round_up : (page : ℕ) → IsRoundUp page 1 page
 own_round_up page = (one_divides page, omega arith, λ other e h. h)
@@ -325,9 +304,6 @@ module _ (nodes : Slab Node) (root : Option ℕ) (key : ℕ) (node : Node) (page
       let d : height_of t ≡ height_of (Fork key node.piece open_at.l open_at.r) = ap height_of open_at.is in
       (omega arith, omega arith)
 
-  pub fit-piece : (node.piece.first ≤ node.piece.last) × (node.piece.last < 2 ^ 40)
-  fit-piece = open_at.piece
-
   pub fit-short : node.longest < pages → AllByRecursion (HasNoRoom pages unit) (items t)
   fit-short h = short_none pages unit t (omega (arith, open_at.longest))
 
@@ -384,66 +360,3 @@ module _ (nodes : Slab Node) (root : Option ℕ) (key : ℕ) (node : Node) (page
       subst (λ x. AllByRecursion (HasNoRoom pages unit) (items x)) (sym open_at.is)
       (no_room_append pages unit (items open_at.l) node.piece (items open_at.r) (none-left left g h) none
       (k open_at.r (node.piece.last + 1) behind))
-
-  pub fit-longest_left : (x : ℕ) → ((y : Shape) → node.left ≡ root_of y → AreNodes (get nodes) y → x ≡ longest_of y)
-      → x ≡ longest_of open_at.l
-  fit-longest_left x h = h open_at.l before.here before.whole.tree.nodes
-
-  pub fit-can_read : CanRead (get nodes) node.left
-  fit-can_read = (open_at.l, before.here, before.whole.tree.nodes)
-
-  pub fit-some_left : (result : Option ℕ) → ((x : Shape) (begin : ℕ) → IsBelow (get nodes) node.left x begin
-      → IfSome result (IsFound pages unit (items x))) → IfSome result (IsFound pages unit (items t))
-  fit-some_left None h = tt
-  fit-some_left (Some start) h = fit-left start (Some start) refl h
-
-  -- the start lies where the tree before has none
-  pub fit-here_short : (start : ℕ) → longest_of open_at.l < pages → IsTrue (is_free node.piece.state)
-      → IsRoundUp node.piece.first unit start → start + pages ≤ node.piece.last + 1 → IsFound pages unit (items t) start
-  fit-here_short start short free up room =
-      subst (λ x. IsFound pages unit (items x) start) (sym open_at.is)
-      (record {
-        before = items open_at.l;
-        piece = node.piece;
-        behind = items open_at.r;
-        parts = refl;
-        none =
-            short_none pages unit open_at.l short;
-        free = free;
-        up = up;
-        room = room;
-      })
-
-  small_none : free_pages node.piece < pages → HasNoRoom pages unit node.piece
-  small_none h free s a b c = omega (arith, free_length node.piece free)
-
-  pub fit-right_short : (right : Option ℕ) → longest_of open_at.l < pages → free_pages node.piece < pages
-      → ((x : Shape) (begin : ℕ) → IsBelow (get nodes) node.right x begin → IfSome right (IsFound pages unit (items x)))
-      → IfSome right (IsFound pages unit (items t))
-  fit-right_short None short small k = tt
-  fit-right_short (Some start) short small k =
-      subst (λ x. IsFound pages unit (items x) start) (sym open_at.is)
-      (found_behind pages unit (items open_at.l) node.piece (items open_at.r) start (short_none pages unit open_at.l short)
-      (small_none small) (k open_at.r (node.piece.last + 1) behind))
-
-  pub fit-none_short : (right : Option ℕ) → longest_of open_at.l < pages → free_pages node.piece < pages
-      → ((x : Shape) (begin : ℕ) → IsBelow (get nodes) node.right x begin
-      → IfNone right (AllByRecursion (HasNoRoom pages unit) (items x)))
-      → IfNone right (AllByRecursion (HasNoRoom pages unit) (items t))
-  fit-none_short (Some start) short small k = tt
-  fit-none_short None short small k =
-      subst (λ x. AllByRecursion (HasNoRoom pages unit) (items x)) (sym open_at.is)
-      (no_room_append pages unit (items open_at.l) node.piece (items open_at.r) (short_none pages unit open_at.l short)
-      (small_none small) (k open_at.r (node.piece.last + 1) behind))
-
-  pub fit-free : 1 ≤ pages → pages ≤ free_pages node.piece → IsTrue (is_free node.piece.state)
-      × (node.piece.first + pages ≤ node.piece.last + 1)
-  fit-free pos h = let free = free_of node.piece pages pos h in (free, omega (arith, free_length node.piece free, open_at.piece))
-
-  pub fit-none_left : (result : Option ℕ) → unit ≡ 1 → 1 ≤ pages → pages ≤ longest_of open_at.l
-      → ((x : Shape) (begin : ℕ) → IsBelow (get nodes) node.left x begin
-      → IfNone result (AllByRecursion (HasNoRoom pages unit) (items x))) → IfNone result (AllByRecursion (HasNoRoom pages unit) (items t))
-  fit-none_left (Some start) one pos long h = tt
-  fit-none_left None one pos long h =
-      absurd (long_room pages open_at.l pos before.whole.tree.pieces long
-      (subst (λ u. AllByRecursion (HasNoRoom pages u) (items open_at.l)) one (h open_at.l from before)))

@@ -7,7 +7,7 @@ use Rattle.iova.specs.declared.node.Node.{Node}
 use Rattle.iova.specs.Pieces.{IsOrdered}
 use Rattle.iova.specs.Search.{first_or, pieces_from}
 use Rattle.iova.specs.Stored.{IsListed, pieces_of}
-use Rattle.iova.specs.Tree.{Look, Shape, Fork, items, height_of, IsBelow, IsPiece, CanSearch, at_root}
+use Rattle.iova.specs.Tree.{Look, Shape, Fork, items, height_of, IsBelow, IsPiece, at_root}
 use Rattle.iova.proofs.Pieces.{order}
 use Rattle.iova.proofs.parts.Parts.{first_from}
 use Rattle.iova.proofs.searches.Found.{Passes, passes, one_tree, empty_items, node_height, search_height}
@@ -160,9 +160,6 @@ left-end look root now page found i e x start v =
 
 pub listed_is : (nodes : Slab Node) (root : Option ℕ) (i : IsListed nodes root) → pieces_of nodes root ≡ items i.shape
 listed_is nodes root i = contents_is (get nodes) 14 root i.shape i.below.here i.below.whole.tree.nodes i.height
-
-pub listed_can : (nodes : Slab Node) (root : Option ℕ) → IsListed nodes root → CanSearch nodes root
-listed_can nodes root i = (i.shape, 1, i.below)
 
 from_in : (ps : List Piece) (page : ℕ) (p : Piece) → first_or (pieces_from page ps) None ≡ Some p → IsIn p ps
 from_in [] page p e = absurd (let f : first_or (pieces_from page []) None ≡ None = ap (λ ps. first_or ps None) (from-nil page) in cc)

@@ -7,12 +7,11 @@ use Rattle.iova.specs.declared.piece.Piece.{Piece}
 use Rattle.iova.specs.declared.node.Node.{Node}
 use Rattle.iova.specs.declared.node.Top.{Top}
 use Rattle.iova.specs.declared.node.Opened.{Opened}
-use Rattle.iova.specs.Tree.{Look, Shape, Fork, items, height_of, one, uses, AreNodes, CanOpen, IsOpened, IsTree, AreParts, AreNear}
+use Rattle.iova.specs.Tree.{Look, Shape, Fork, items, height_of, one, uses, AreNodes, IsOpened, IsTree, AreParts, AreNear}
 use Rattle.iova.specs.Tree.{Joins, KeepsCount, IsWhole, Makes}
-use Rattle.iova.proofs.shapes.Trees.{is_there, one-same, one-other, has_node, same_tree, root_height, root_opens, Opens, opened}
+use Rattle.iova.proofs.shapes.Trees.{is_there, one-same, one-other, has_node, same_tree, Opens, opened}
 use Rattle.iova.proofs.shapes.Turned.{differs}
 use Rattle.iova.proofs.shapes.Joined.{link_joins}
-use Rattle.iova.proofs.parts.Parts.{ordered_front, ordered_behind}
 
 pub known : {A : Type 0} (o : Option A) → IsSome o ⊎ (o ≡ None)
 known None = inr refl
@@ -153,36 +152,6 @@ pub split : (look : Look) (root : Top) (key : ℕ) (node : Opened) (t : Shape) (
 split look root key node t from w e f =
     let o = opened look key root t node w.tree e f in
     record { l = o.0; r = o.1; is = o.2; whole = subst (λ x. IsWhole look root x from) o.2 w; «open» = o.3 }
-
-pub whole_there : (look : Look) (root : Top) (key : ℕ) (t : Shape) (from : ℕ) → IsWhole look root t from → root.root ≡ Some key
-    → CanOpen look key
-whole_there look root key t from w e = root_opens look root t key w.tree e
-
-pub whole_height : (look : Look) (root : Top) (t : Shape) (from : ℕ) → IsWhole look root t from → root.height ≡ height_of t
-whole_height look root t from w = root_height look root t w.tree
-
--- the trees below
-pub whole_before : (look now : Look) (root left : Top) (key : ℕ) (p : Piece) (l r : Shape) (from : ℕ)
-    → IsWhole look root (Fork key p l r) from → IsTree now left l → IsWhole now left l from
-whole_before look now root left key p l r from w i = record {
-  tree = i;
-  once = λ k. omega (arith, w.once k);
-  low = omega (arith, w.low);
-  ordered = ordered_front from (items l) (p ∷ items r) w.ordered;
-}
-
-pub whole_behind : (look now : Look) (root right : Top) (key : ℕ) (p : Piece) (l r : Shape) (from : ℕ)
-    → IsWhole look root (Fork key p l r) from → IsTree now right r → IsWhole now right r (p.last + 1)
-whole_behind look now root right key p l r from w i = record {
-  tree = i;
-  once = λ k. omega (arith, w.once k);
-  low = omega (arith, w.low);
-  ordered = ordered_behind from (items l) p (items r) w.ordered;
-}
-
-pub split_held : (old : Slab Node) (root : Top) (key : ℕ) (node : Opened) (t : Shape) (from : ℕ)
-    (s : Split (get old) root key node t from) → Held old old node.left key node.right (Fork key node.piece s.l s.r) s.l s.r
-split_held old root key node t from s = held old root key node.piece s.l s.r node s.whole.tree s.whole.once s.whole.low s.open
 
 -- ---- the key goes
 

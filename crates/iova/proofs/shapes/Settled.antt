@@ -1,5 +1,5 @@
 -- A key's children and piece changed one after the other, and its node brought up to date.
-use Rattle.std.proofs.Common.{◌≡◌, ℕ, ◌+◌, ◌<◌, ◌≤◌, max, List, ◌∷◌, ◌++◌, Option, Some, IsSome, refl, ap, sym, ◌∙◌, subst, arith}
+use Rattle.std.proofs.Common.{◌≡◌, ℕ, ◌+◌, ◌<◌, ◌≤◌, max, List, ◌∷◌, ◌++◌, Option, Some, refl, ap, sym, ◌∙◌, subst, arith}
 use Rattle.std.proofs.Common.{length, length-append}
 use Rattle.slab.specs.Slab.{Slab, Updates, get}
 use Rattle.iova.specs.declared.piece.Piece.{Piece}
@@ -62,9 +62,6 @@ pub record Work (old now : Slab Node) (key : ℕ) (n : Node) (t l r : Shape) : T
   pub before : left.root ≡ n.left
   pub behind : right.root ≡ n.right
 
-pub work_there : (old now : Slab Node) (key : ℕ) (n : Node) (t l r : Shape) → Work old now key n t l r → IsSome (get now key)
-work_there old now key n t l r w = is_there _ _ w.here
-
 -- the trees that it names
 pub is_low : (look : Look) (top : Top) (root : Option ℕ) (t : Shape) → IsTree look top t → top.root ≡ root → ((k : ℕ) → uses t k ≤ 1)
     → height_of t ≤ 90 → IsLow look root t
@@ -93,10 +90,6 @@ low_below look root t from w o = record {
 
 pub below_low : (look : Look) (root : Option ℕ) (t : Shape) (from : ℕ) → IsBelow look root t from → IsLow look root t
 below_low look root t from w = record { here = w.here; tree = w.whole.tree; once = w.whole.once; low = w.whole.low }
-
--- one of them changed, and the node is still as it was
-kept_node : (now mid : Slab Node) (key : ℕ) (n : Node) → get now key ≡ Some n → get mid key ≡ get now key → get mid key ≡ Some n
-kept_node now mid key n e f = f ∙ e
 
 -- the key's own node is left alone by what is done to a child
 alone_left : (now : Slab Node) (left right : Top) (key : ℕ) (l r : Shape) → AreParts (get now) left key right l r → uses l key ≡ 0

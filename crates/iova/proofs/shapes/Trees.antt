@@ -49,22 +49,9 @@ same_tree look next top t i h = record { is = i.is; nodes = same_nodes look next
 pub root_height : (look : Look) (top : Top) (t : Shape) → IsTree look top t → top.height ≡ height_of t
 root_height look top t i = ap (λ (v : Top). v.height) i.is
 
--- a tree with no root has no piece
-pub no_tree : (look : Look) (top : Top) (t : Shape) → IsTree look top t → top.root ≡ None → IsTree look top Empty
-no_tree look top Empty i e = i
-no_tree look top (Fork k p l r) i e = absurd (let x : top.root ≡ Some k = ap (λ (v : Top). v.root) i.is in cc)
-
 pub none_low : (look : Look) (top : Top) (t : Shape) → IsTree look top t → top.root ≡ None → top.height ≡ 0
 none_low look top Empty i e = ap (λ (v : Top). v.height) i.is
 none_low look top (Fork k p l r) i e = absurd (let x : top.root ≡ Some k = ap (λ (v : Top). v.root) i.is in cc)
-
--- a tree with a root has a node there
-pub root_there : (look : Look) (top : Top) (t : Shape) (key : ℕ) → IsTree look top t → top.root ≡ Some key → IsSome (look key)
-root_there look top Empty key i e = absurd (let x : top.root ≡ None = ap (λ (v : Top). v.root) i.is in cc)
-root_there look top (Fork k p l r) key i e =
-    let x : top.root ≡ Some k = ap (λ (v : Top). v.root) i.is in
-    let same : k ≡ key = cc in
-    subst (λ y. IsSome (look y)) same (is_there (look k) (node_of p l r) i.nodes.0)
 
 -- it can be opened there
 pub root_opens : (look : Look) (top : Top) (t : Shape) (key : ℕ) → IsTree look top t → top.root ≡ Some key → CanOpen look key
