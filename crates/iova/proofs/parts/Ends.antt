@@ -9,7 +9,8 @@ use Rattle.iova.specs.Tree.{CanSettle, IsSettled}
 use Rattle.iova.proofs.shapes.Trees.{one-other, is_there}
 use Rattle.iova.specs.Tree.{at_root}
 use Rattle.iova.proofs.searches.Found.{node_height, below_height}
-use Rattle.iova.proofs.shapes.Settled.{Work, Opening, opening, work_behind, work_before, right_there, left_there, work_right, work_left, work_can, work_done}
+use Rattle.iova.proofs.shapes.Settled.{Work, Opening, opening, work_behind, work_before, right_there, left_there, work_right, work_left}
+use Rattle.iova.proofs.shapes.Settled.{work_can, work_done}
 
 most_one : (key k : ℕ) → one key k ≤ 1
 most_one key k = grind arith
@@ -30,7 +31,8 @@ leaf_made old new key p longest i e none u n c = record {
     tree = record {
       is = refl;
       nodes = (
-        u.changed ∙ ap (λ x. Some (record { piece = p; left = None; right = None; height = 1; longest = x })) (e ∙ sym (max_none (free_pages p))),
+        u.changed ∙ ap (λ x. Some (record { piece = p; left = None; right = None; height = 1; longest = x })) (e ∙ sym (max_none
+            (free_pages p))),
         tt,
         tt,
       );

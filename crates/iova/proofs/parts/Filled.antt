@@ -92,6 +92,7 @@ pub one_few : (mid : Slab Node) (root : Option ℕ) (q p : Piece) → q.last < p
     → length (with_piece p (pieces_of mid root)) ≤ 1024
 one_few mid root q p a b k = let f = ap (λ (l : List Piece). length l) (with_second mid root q p a b k) in omega arith
 
-pub second_stored : (mid new : Slab Node) (root now : Option ℕ) (q p : Piece) → q.last < p.first → p.first ≤ p.last → IsKept root mid (q ∷ [])
+pub second_stored : (mid new : Slab Node) (root now : Option ℕ) (q p : Piece) → q.last < p.first → p.first ≤ p.last → IsKept root mid (q
+    ∷ [])
     → IsKept now new (with_piece p (pieces_of mid root)) → IsKept now new (q ∷ p ∷ [])
 second_stored mid new root now q p a b k n = subst (λ l. IsKept now new l) (with_second mid root q p a b k) n

@@ -41,7 +41,8 @@ with_front from xs q ys p o i a h =
     ∙ ap (λ l. (xs ++ l) ++ p ∷ (rest_above p.last q ++ part_above p.last ys)) (rest_below-none p.first q (omega arith))
     ∙ ap (λ l. l ++ p ∷ (rest_above p.last q ++ part_above p.last ys)) (append-nil xs)
     ∙ ap (λ l. xs ++ p ∷ (l ++ part_above p.last ys)) (rest_above-some p.last q h)
-    ∙ ap (λ l. xs ++ p ∷ record q { first = p.last + 1 } ∷ l) (above_whole (q.last + 1) p.last ys (ordered_behind from xs q ys o) (omega arith))
+    ∙ ap (λ l. xs ++ p ∷ record q { first = p.last + 1 } ∷ l) (above_whole (q.last + 1) p.last ys (ordered_behind from xs q ys o) (omega
+    arith))
     ∙ sym (append_assoc xs (p ∷ []) (record q { first = p.last + 1 } ∷ ys))
 
 -- a piece and some before it, or some behind it

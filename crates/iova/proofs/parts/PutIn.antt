@@ -25,7 +25,8 @@ put-none_room old root p t from w e room =
     let c : length (with_piece p []) ≡ 1 = ap (λ (x : List Piece). length x) (with_none p) in
     omega arith
 
-pub put-none : (old new : Slab Node) (root whole : Option ℕ) (p : Piece) (t : Shape) (from : ℕ) → IsBelow (get old) root t from → root ≡ None
+pub put-none : (old new : Slab Node) (root whole : Option ℕ) (p : Piece) (t : Shape) (from : ℕ) → IsBelow (get old) root t from → root ≡
+    None
     → Leaves old new whole Empty (p ∷ []) 1 → Leaves old new whole t (with_piece p (items t)) 1
 put-none old new root whole p t from w e m =
     subst (λ x. Leaves old new whole x (with_piece p (items x)) 1) (sym (low_none (get old) root t e (below_low (get old) root t from w)))

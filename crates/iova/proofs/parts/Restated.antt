@@ -5,7 +5,8 @@ use Rattle.iova.specs.declared.piece.Piece.{Piece}
 use Rattle.iova.specs.Pieces.{is_free, with_piece}
 use Rattle.iova.specs.declared.node.Node.{Node}
 use Rattle.iova.specs.declared.node.Top.{Top}
-use Rattle.iova.specs.Tree.{Shape, Fork, items, height_of, longest_of, free_pages, top_of, joint, node_of, IsPiece, KeepsCount, IsTree, IsBelow, AreNear, Makes}
+use Rattle.iova.specs.Tree.{Shape, Fork, items, height_of, longest_of, free_pages, top_of, joint, node_of, IsPiece, KeepsCount, IsTree}
+use Rattle.iova.specs.Tree.{IsBelow, AreNear, Makes}
 use Rattle.iova.proofs.parts.Over.{with_same}
 use Rattle.iova.proofs.parts.PutIn.{k, put-past, put-under}
 use Rattle.iova.proofs.parts.Replaced.{held_written, used_none}
@@ -35,7 +36,14 @@ module _ (old : Slab Node) (root : Option ℕ) (key : ℕ) (n : Node) (p : Piece
         (omega (arith, o.low)) in
         let there = (m.apart key (let own = one-same key in omega (arith, o.work.held.parts.once key)) o.work.held.parts.here).0 ∙ f in
         let high : height_of o.l ≡ height_of m.shape = ap (λ (v : Top). v.height) m.tree.is in
-        let near : AreNear m.shape o.r = (omega (arith, tree.balanced.0, tree.balanced.1), omega (arith, tree.balanced.0, tree.balanced.1)) in
+        let near : AreNear m.shape o.r = (
+          omega (arith, tree.balanced.0, tree.balanced.1),
+          omega (
+            arith,
+            tree.balanced.0,
+            tree.balanced.1,
+          ),
+        ) in
         subst (λ ps. Makes old new (top_of t) t ps 0)
         (ap (λ ps. ps ++ n.piece ∷ items o.r) m.all ∙ sym (put-under old root key n p t from w e f i under))
         (held_stays old new (top_of o.l) key o.work.right (top_of t) n.piece t m.shape o.r 0 h
@@ -57,7 +65,14 @@ module _ (old : Slab Node) (root : Option ℕ) (key : ℕ) (n : Node) (p : Piece
         (omega (arith, o.low)) in
         let there = (m.apart key (let own = one-same key in omega (arith, o.work.held.parts.once key)) o.work.held.parts.here).0 ∙ f in
         let high : height_of o.r ≡ height_of m.shape = ap (λ (v : Top). v.height) m.tree.is in
-        let near : AreNear o.l m.shape = (omega (arith, tree.balanced.0, tree.balanced.1), omega (arith, tree.balanced.0, tree.balanced.1)) in
+        let near : AreNear o.l m.shape = (
+          omega (arith, tree.balanced.0, tree.balanced.1),
+          omega (
+            arith,
+            tree.balanced.0,
+            tree.balanced.1,
+          ),
+        ) in
         subst (λ ps. Makes old new (top_of t) t ps 0)
         (ap (λ ps. items o.l ++ n.piece ∷ ps) m.all ∙ sym (put-past old root key n p t from w e f i past))
         (held_stays old new o.work.left key (top_of o.r) (top_of t) n.piece t o.l m.shape 0 h
@@ -80,7 +95,8 @@ module _ (old : Slab Node) (root : Option ℕ) (key : ℕ) (n : Node) (p : Piece
         let y : free_pages n.piece ≡ 0 = used_none n.piece was in
         let same : free_pages n.piece ≡ free_pages p = omega arith in
         let near : AreNear o.l o.r = (tree.balanced.0, tree.balanced.1) in
-        let long : max (free_pages n.piece) (max (longest_of o.l) (longest_of o.r)) ≡ max (free_pages p) (max (longest_of o.l) (longest_of o.r)) =
+        let long : max (free_pages n.piece) (max (longest_of o.l) (longest_of o.r)) ≡ max (free_pages p) (max (longest_of o.l)
+        (longest_of o.r)) =
         ap (λ z. max z (max (longest_of o.l) (longest_of o.r))) same in
         subst (λ ps. Makes old new (top_of t) t ps 0)
         (sym (ap (λ z. with_piece p (items z)) o.is ∙ with_same from (items o.l) n.piece (items o.r) p

@@ -1,11 +1,13 @@
 -- Trees with a part of their pieces taken out.
-use Rattle.std.proofs.Common.{◌≡◌, ℕ, ◌+◌, ◌-◌, ◌<◌, ◌≤◌, List, [], ◌∷◌, ◌++◌, Option, Some, None, refl, ap, sym, ◌∙◌, subst, arith, Bool, true, not, is_some}
+use Rattle.std.proofs.Common.{◌≡◌, ℕ, ◌+◌, ◌-◌, ◌<◌, ◌≤◌, List, [], ◌∷◌, ◌++◌, Option, Some, None, refl, ap, sym, ◌∙◌, subst, arith, Bool}
+use Rattle.std.proofs.Common.{true, not, is_some}
 use Rattle.slab.specs.Slab.{Slab, Updates, get, slab_len}
 use Rattle.iova.specs.declared.piece.Piece.{Piece}
 use Rattle.iova.specs.Pieces.{IsOrdered, part_below, part_above}
 use Rattle.iova.specs.declared.node.Node.{Node}
 use Rattle.iova.specs.Tree.{Shape, Empty, items, height_of, top_of, IsPiece, IsBelow, IsLow, Leaves}
-use Rattle.iova.proofs.parts.Parts.{below_past, below_within, below_before, above_past, above_within, above_before, ordered_front, ordered_behind}
+use Rattle.iova.proofs.parts.Parts.{below_past, below_within, below_before, above_past, above_within, above_before, ordered_front}
+use Rattle.iova.proofs.parts.Parts.{ordered_behind}
 use Rattle.iova.proofs.parts.Ends.{low_none}
 use Rattle.iova.proofs.shapes.Held.{Held, held_behind, held_before, Loose, loose, loose_step, loose_before, loose_behind}
 use Rattle.iova.proofs.shapes.Settled.{Opening, opening, opened_order, is_low, low_below, below_low, work_before, work_behind}
@@ -53,7 +55,10 @@ module _ (old : Slab Node) (root : Option ℕ) (key : ℕ) (n : Node) (t : Shape
   free = loose old old loosed o.work.left key o.work.right t o.l o.r o.work.held o.mine u s c
 
   pub clear-before : IsLow (get loosed) n.left o.l
-  clear-before = is_low (get loosed) o.work.left n.left o.l free.before o.work.before (λ k. omega (arith, free.once k)) (omega (arith, o.low))
+  clear-before = is_low (get loosed) o.work.left n.left o.l free.before o.work.before (λ k. omega (arith, free.once k)) (omega (
+    arith,
+    o.low,
+  ))
 
   module _ (next : Slab Node) (m : (x : Shape) → IsLow (get loosed) n.left x → Leaves loosed next None x [] 0) where
     made : Leaves loosed next None o.l [] 0
@@ -66,7 +71,8 @@ module _ (old : Slab Node) (root : Option ℕ) (key : ℕ) (n : Node) (t : Shape
     clear-behind = is_low (get next) o.work.right n.right o.r after.behind o.work.behind (λ k. omega (arith, after.once k))
         (omega (arith, o.low))
 
-    pub clear-done : (new : Slab Node) → ((x : Shape) → IsLow (get next) n.right x → Leaves next new None x [] 0) → Leaves old new None t [] 0
+    pub clear-done : (new : Slab Node) → ((x : Shape) → IsLow (get next) n.right x → Leaves next new None x [] 0) → Leaves old new None t
+        [] 0
     clear-done new v =
         let d = v o.r clear-behind in
         record {
@@ -125,7 +131,10 @@ module _ (old : Slab Node) (root : Option ℕ) (key : ℕ) (n : Node) (page : �
       cleared = m k.r keep-right
 
       rest : Held old mid k.work.left key cleared.top t k.l cleared.makes.shape
-      rest = held_behind old old mid k.work.left key k.work.right cleared.top t k.l k.r [] 0 k.work.held cleared.makes (omega (arith, k.low))
+      rest = held_behind old old mid k.work.left key k.work.right cleared.top t k.l k.r [] 0 k.work.held cleared.makes (omega (
+        arith,
+        k.low,
+      ))
 
       free_below : Loose old loosed k.work.left cleared.top t k.l cleared.makes.shape
       free_below = loose old mid loosed k.work.left key cleared.top t k.l cleared.makes.shape rest k.mine u s c

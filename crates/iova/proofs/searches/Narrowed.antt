@@ -5,8 +5,10 @@ use Rattle.std.specs.List.{AllByRecursion}
 use Rattle.iova.specs.declared.piece.Piece.{Piece}
 use Rattle.iova.specs.declared.node.Node.{Node}
 use Rattle.iova.specs.Search.{IsFound, HasNoRoom}
-use Rattle.iova.specs.Tree.{Look, Shape, Empty, Fork, items, height_of, longest_of, free_pages, root_of, at_root, AreNodes, IsPiece, IsBelow, CanRead}
-use Rattle.iova.proofs.searches.Found.{Passes, passes, one_tree, node_height, search_height, short_none, no_room_append, own_round_up, free_length, free_of}
+use Rattle.iova.specs.Tree.{Look, Shape, Empty, Fork, items, height_of, longest_of, free_pages, root_of, at_root, AreNodes, IsPiece}
+use Rattle.iova.specs.Tree.{IsBelow, CanRead}
+use Rattle.iova.proofs.searches.Found.{Passes, passes, one_tree, node_height, search_height, short_none, no_room_append, own_round_up}
+use Rattle.iova.proofs.searches.Found.{free_length, free_of}
 
 -- what lies below the place that was come to, and what of all the pieces before it has no room
 pub record Narrows (pages : ℕ) (all : List Piece) (t : Shape) : Type 0 where

@@ -43,12 +43,25 @@ settled_stays old new key found node left right l r a b height longest f i p q l
     ∙ ap (λ x. record { piece = node.piece; left = left.root; right = x; height = height; longest = longest })
     (ap (λ (n : Node). n.right) same ∙ sym i.behind)
     ∙ ap (λ x. record { piece = node.piece; left = left.root; right = right.root; height = x; longest = longest }) hj
-    ∙ ap (λ x. record { piece = node.piece; left = left.root; right = right.root; height = (joint node.piece left right).height; longest = x }) lj in
-    let top : Top = record { root = Some key; height = (joint node.piece left right).height; longest = (joint node.piece left right).longest } in (
+    ∙ ap (λ x. record {
+      piece = node.piece;
+      left = left.root;
+      right = right.root;
+      height = (joint node.piece left right).height;
+      longest
+          = x;
+    }) lj in
+    let top : Top = record {
+      root = Some key;
+      height = (joint node.piece left right).height;
+      longest = (joint node.piece left
+          right).longest;
+    } in (
       top,
       refl,
       link_joins (get old) (get new) top key node.piece l r near
-          (linked old new left right key node.piece l r i.parts i.piece near (subst (λ n. Updates old new key (Some n)) is u) top refl refl refl),
+          (linked old new left right key node.piece l r i.parts i.piece near (subst (λ n. Updates old new key (Some n)) is u) top refl
+          refl refl),
     )
 
 -- ---- a tree in the middle of its changes
@@ -82,7 +95,8 @@ pub work_behind : (old now : Slab Node) (key : ℕ) (n : Node) (t l r : Shape) �
 work_behind old now key n t l r w low = is_low (get now) w.right n.right r w.held.parts.behind w.behind
     (λ k. omega (arith, w.held.parts.once k)) low
 
-pub low_below : (look : Look) (root : Option ℕ) (t : Shape) (from : ℕ) → IsLow look root t → IsOrdered from (items t) → IsBelow look root t from
+pub low_below : (look : Look) (root : Option ℕ) (t : Shape) (from : ℕ) → IsLow look root t → IsOrdered from (items t) → IsBelow look root
+    t from
 low_below look root t from w o = record {
   here = w.here;
   whole = record { tree = w.tree; once = w.once; low = w.low; ordered = o };

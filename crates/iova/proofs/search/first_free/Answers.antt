@@ -13,29 +13,41 @@ index-node-requires c = search_there (get c.args.nodes.now) c.loop-at.at c.in-So
     c.loop-at.invariant.below c.in-Some.is
 
 pub returns-then-node-pages-clause-none : goal.returns-then-node-pages-clause-none
-returns-then-node-pages-clause-none c x from w = narrowed-short (get c.args.nodes.now) c.args.root c.loop-at.at c.args.pages c.in-Some.key c.index-node.result.now c.loop-at.invariant c.in-Some.is c.index-node.ensures c.if-node-pages.true x from w
+returns-then-node-pages-clause-none c x from w = narrowed-short (get c.args.nodes.now) c.args.root c.loop-at.at c.args.pages
+    c.in-Some.key c.index-node.result.now c.loop-at.invariant c.in-Some.is c.index-node.ensures c.if-node-pages.true x from w
 
 pub longest-requires : goal.longest-requires
-longest-requires c = narrowed-read (get c.args.nodes.now) c.args.root c.loop-at.at c.args.pages c.in-Some.key c.index-node.result.now c.loop-at.invariant c.in-Some.is c.index-node.ensures
+longest-requires c = narrowed-read (get c.args.nodes.now) c.args.root c.loop-at.at c.args.pages c.in-Some.key c.index-node.result.now
+    c.loop-at.invariant c.in-Some.is c.index-node.ensures
 
 pub loop-at-smaller-then-longest-pages : goal.loop-at-smaller-then-longest-pages
-loop-at-smaller-then-longest-pages c = (narrowed-falls (get c.args.nodes.now) c.args.root c.loop-at.at c.args.pages c.in-Some.key c.index-node.result.now c.loop-at.invariant c.in-Some.is c.index-node.ensures).0
+loop-at-smaller-then-longest-pages c = (narrowed-falls (get c.args.nodes.now) c.args.root c.loop-at.at c.args.pages c.in-Some.key
+    c.index-node.result.now c.loop-at.invariant c.in-Some.is c.index-node.ensures).0
 
 pub loop-at-preserved-then-longest-pages : goal.loop-at-preserved-then-longest-pages
-loop-at-preserved-then-longest-pages c = narrowed-left (get c.args.nodes.now) c.args.root c.loop-at.at c.args.pages c.in-Some.key c.index-node.result.now c.loop-at.invariant c.in-Some.is c.index-node.ensures c.longest.result c.longest.ensures c.if-longest-pages.true
+loop-at-preserved-then-longest-pages c = narrowed-left (get c.args.nodes.now) c.args.root c.loop-at.at c.args.pages c.in-Some.key
+    c.index-node.result.now c.loop-at.invariant c.in-Some.is c.index-node.ensures c.longest.result c.longest.ensures c.if-longest-pages.true
 
 pub free_length-requires : goal.free_length-requires
-free_length-requires c = narrowed-piece (get c.args.nodes.now) c.args.root c.loop-at.at c.args.pages c.in-Some.key c.index-node.result.now c.loop-at.invariant c.in-Some.is c.index-node.ensures
+free_length-requires c = narrowed-piece (get c.args.nodes.now) c.args.root c.loop-at.at c.args.pages c.in-Some.key
+    c.index-node.result.now c.loop-at.invariant c.in-Some.is c.index-node.ensures
 
 pub returns-then-free_length-pages-clause-found : goal.returns-then-free_length-pages-clause-found
-returns-then-free_length-pages-clause-found c x from w = narrowed-here (get c.args.nodes.now) c.args.root c.loop-at.at c.args.pages c.in-Some.key c.index-node.result.now c.loop-at.invariant c.in-Some.is c.index-node.ensures c.longest.result c.longest.ensures (omega arith)
+returns-then-free_length-pages-clause-found c x from w = narrowed-here (get c.args.nodes.now) c.args.root c.loop-at.at c.args.pages
+    c.in-Some.key c.index-node.result.now c.loop-at.invariant c.in-Some.is c.index-node.ensures c.longest.result c.longest.ensures (omega
+    arith)
     c.requires.some_pages (omega (arith, c.free_length.ensures)) x from w
 
 pub loop-at-smaller : goal.loop-at-smaller
-loop-at-smaller c = (narrowed-falls (get c.args.nodes.now) c.args.root c.loop-at.at c.args.pages c.in-Some.key c.index-node.result.now c.loop-at.invariant c.in-Some.is c.index-node.ensures).1
+loop-at-smaller c = (narrowed-falls (get c.args.nodes.now) c.args.root c.loop-at.at c.args.pages c.in-Some.key c.index-node.result.now
+    c.loop-at.invariant c.in-Some.is c.index-node.ensures).1
 
 pub loop-at-preserved : goal.loop-at-preserved
-loop-at-preserved c = narrowed-right (get c.args.nodes.now) c.args.root c.loop-at.at c.args.pages c.in-Some.key c.index-node.result.now c.loop-at.invariant c.in-Some.is c.index-node.ensures c.longest.result c.longest.ensures (omega arith) (omega (arith, c.free_length.ensures))
+loop-at-preserved c = narrowed-right (get c.args.nodes.now) c.args.root c.loop-at.at c.args.pages c.in-Some.key c.index-node.result.now
+    c.loop-at.invariant c.in-Some.is c.index-node.ensures c.longest.result c.longest.ensures (omega arith) (omega (
+      arith,
+      c.free_length.ensures,
+    ))
     (omega arith)
 
 pub returns-clause-none : goal.returns-clause-none

@@ -7,7 +7,8 @@ use Rattle.iova.specs.Pieces.{IsOrdered}
 use Rattle.engine.specs.Totals.{live_as, live_in, live_pages}
 use Rattle.engine.proofs.domain.readers.live_pages.Goals as goal
 
-first_live : (all rest : List Piece) (p : Piece) → all ≡ p ∷ rest → p.state ≡ Live → live_pages all ≡ (p.last + 1 - p.first) + live_pages rest
+first_live : (all rest : List Piece) (p : Piece) → all ≡ p ∷ rest → p.state ≡ Live → live_pages all ≡ (p.last + 1 - p.first) + live_pages
+    rest
 first_live all rest p e l = ap live_pages e ∙ sum_by-cons live_in p rest ∙ ap (λ s. live_as s (p.last + 1 - p.first) + live_pages rest) l
 
 other_state : (s : PageState) (pages : ℕ) → (s ≡ Live → ⊥) → live_as s pages ≡ 0
@@ -16,7 +17,8 @@ other_state Live pages h = absurd (h refl)
 other_state Retired pages h = refl
 
 first_other : (all rest : List Piece) (p : Piece) → all ≡ p ∷ rest → (p.state ≡ Live → ⊥) → live_pages all ≡ 0 + live_pages rest
-first_other all rest p e h = ap live_pages e ∙ sum_by-cons live_in p rest ∙ ap (λ n. n + live_pages rest) (other_state p.state (p.last + 1 - p.first) h)
+first_other all rest p e h = ap live_pages e ∙ sum_by-cons live_in p rest ∙ ap (λ n. n + live_pages rest) (other_state p.state (p.last +
+    1 - p.first) h)
 
 behind_first : (from : ℕ) (all rest : List Piece) (p : Piece) → all ≡ p ∷ rest → IsOrdered from all → IsOrdered (p.last + 1) rest
 behind_first from all rest p e o = (subst (λ ps. IsOrdered from ps) e o).3

@@ -20,7 +20,8 @@ free-self-inside-requires-clause-few c =
     ∙ ap (λ n. free_start a.pieces n) c.first-first.ensures.value in
     let end : c.first-first.result + c.pages.result - 1 ≡ q.last = omega (arith, c.first-first.ensures.value, c.pages.ensures.value) in
     let high : c.free_to-high.result ≡ free_end a.pieces q.last = c.free_to-high.ensures ∙ ap (λ n. free_end a.pieces n) end in
-    let same : with_piece (record { first = c.free_from-low.result; last = c.free_to-high.result; state = Free }) a.pieces ≡ with_free q a.pieces =
+    let same : with_piece (record { first = c.free_from-low.result; last = c.free_to-high.result; state = Free }) a.pieces ≡ with_free q
+    a.pieces =
     ap (λ n. with_piece (record { first = n; last = c.free_to-high.result; state = Free }) a.pieces) low
     ∙ ap (λ n. with_piece (record { first = free_start a.pieces q.first; last = n; state = Free }) a.pieces) high in
     let few = (space_freed a q c.self.invariant.1 there).few in
@@ -36,7 +37,8 @@ free-self-inside-requires-clause-piece c =
     ∙ ap (λ n. free_start a.pieces n) c.first-first.ensures.value in
     let end : c.first-first.result + c.pages.result - 1 ≡ q.last = omega (arith, c.first-first.ensures.value, c.pages.ensures.value) in
     let high : c.free_to-high.result ≡ free_end a.pieces q.last = c.free_to-high.ensures ∙ ap (λ n. free_end a.pieces n) end in
-    let same : with_piece (record { first = c.free_from-low.result; last = c.free_to-high.result; state = Free }) a.pieces ≡ with_free q a.pieces =
+    let same : with_piece (record { first = c.free_from-low.result; last = c.free_to-high.result; state = Free }) a.pieces ≡ with_free q
+    a.pieces =
     ap (λ n. with_piece (record { first = n; last = c.free_to-high.result; state = Free }) a.pieces) low
     ∙ ap (λ n. with_piece (record { first = free_start a.pieces q.first; last = n; state = Free }) a.pieces) high in
     let p = freed_piece a q c.self.invariant.1 there in
@@ -51,7 +53,8 @@ invariant_of-self c =
     ∙ ap (λ n. free_start a.pieces n) c.first-first.ensures.value in
     let end : c.first-first.result + c.pages.result - 1 ≡ q.last = omega (arith, c.first-first.ensures.value, c.pages.ensures.value) in
     let high : c.free_to-high.result ≡ free_end a.pieces q.last = c.free_to-high.ensures ∙ ap (λ n. free_end a.pieces n) end in
-    let same : with_piece (record { first = c.free_from-low.result; last = c.free_to-high.result; state = Free }) a.pieces ≡ with_free q a.pieces =
+    let same : with_piece (record { first = c.free_from-low.result; last = c.free_to-high.result; state = Free }) a.pieces ≡ with_free q
+    a.pieces =
     ap (λ n. with_piece (record { first = n; last = c.free_to-high.result; state = Free }) a.pieces) low
     ∙ ap (λ n. with_piece (record { first = free_start a.pieces q.first; last = n; state = Free }) a.pieces) high in (
       kept_self c.free-self-inside.result c.free-self-inside.new.nodes
@@ -71,7 +74,8 @@ returns-clause-freed c state among =
     ∙ ap (λ n. free_start a.pieces n) c.first-first.ensures.value in
     let end : c.first-first.result + c.pages.result - 1 ≡ q.last = omega (arith, c.first-first.ensures.value, c.pages.ensures.value) in
     let high : c.free_to-high.result ≡ free_end a.pieces q.last = c.free_to-high.ensures ∙ ap (λ n. free_end a.pieces n) end in
-    let same : with_piece (record { first = c.free_from-low.result; last = c.free_to-high.result; state = Free }) a.pieces ≡ with_free q a.pieces =
+    let same : with_piece (record { first = c.free_from-low.result; last = c.free_to-high.result; state = Free }) a.pieces ≡ with_free q
+    a.pieces =
     ap (λ n. with_piece (record { first = n; last = c.free_to-high.result; state = Free }) a.pieces) low
     ∙ ap (λ n. with_piece (record { first = free_start a.pieces q.first; last = n; state = Free }) a.pieces) high in
     let new : Space = stored c.self.inside.last c.free-self-inside.result c.free-self-inside.new.nodes in
@@ -90,12 +94,14 @@ returns-clause-space c =
     ∙ ap (λ n. free_start a.pieces n) c.first-first.ensures.value in
     let end : c.first-first.result + c.pages.result - 1 ≡ q.last = omega (arith, c.first-first.ensures.value, c.pages.ensures.value) in
     let high : c.free_to-high.result ≡ free_end a.pieces q.last = c.free_to-high.ensures ∙ ap (λ n. free_end a.pieces n) end in
-    let same : with_piece (record { first = c.free_from-low.result; last = c.free_to-high.result; state = Free }) a.pieces ≡ with_free q a.pieces =
+    let same : with_piece (record { first = c.free_from-low.result; last = c.free_to-high.result; state = Free }) a.pieces ≡ with_free q
+    a.pieces =
     ap (λ n. with_piece (record { first = n; last = c.free_to-high.result; state = Free }) a.pieces) low
     ∙ ap (λ n. with_piece (record { first = free_start a.pieces q.first; last = n; state = Free }) a.pieces) high in (
       subst (λ v. IsSpace v) c.self.view_is c.self.invariant.1,
       subst (λ ps. IsSpace (record a { pieces = ps }))
           (sym (kept_view c.free-self-inside.result c.free-self-inside.new.nodes
-          (with_piece (record { first = c.free_from-low.result; last = c.free_to-high.result; state = Free }) a.pieces) c.free-self-inside.ensures
+          (with_piece (record { first = c.free_from-low.result; last = c.free_to-high.result; state = Free }) a.pieces)
+          c.free-self-inside.ensures
           ∙ same)) (space_freed a q c.self.invariant.1 there),
     )
