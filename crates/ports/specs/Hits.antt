@@ -21,7 +21,7 @@ place_for port address = place_of port.device (slot_of (page_of address))
 abbrev pub IsPortInRun : ℕ → Port → (List ℕ → Type 0) → Type 0
 IsPortInRun frames port are = IsSeenInRun (IsLegal frames) (IsLawfulAfter frames) port.device port.seen port.did are
 
--- A port answers a request at an address by a host address or none, and hands back a count, in a world with so many frames
+-- In a world with so many table frames, a port answers a request at an address by a host address or none, and hands back a count
 pub record IsHit (frames : ℕ) (port port' : Port) (address : ℕ) (access : Access) (host : Option ℕ) (count : ℕ) : Type 0 where
   -- it loads the counter, whose value is the count, and then the word at the place for the address
   pub word : ℕ
@@ -29,7 +29,7 @@ pub record IsHit (frames : ℕ) (port port' : Port) (address : ℕ) (access : Ac
   -- the answer is the host address that this word states, and none exactly where it states none
   pub some : IfSome host (States word address access)
   pub none : IfNone host ((stated : ℕ) → States word address access stated → ⊥)
-  -- a run of steps has led to this word there
+  -- the word stands there where a run of steps has led, in which the port did this and has seen what it now has
   pub run : IsPortInRun frames port' (λ words. slice_index words (place_for port address) ≡ word)
   -- the count is the length of a legal history, which begins with all that the port had seen and is a front of what it has seen
   pub counted : List Event

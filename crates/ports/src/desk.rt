@@ -53,7 +53,7 @@ impl Desk {
         self.store(rows, device, word.page.number() % SLOTS, word.encode());
     }
 
-    /// Empties all words in the row of a device.
+    /// Empties all words in the row of a device, from the first slot to the last.
     #[tactic(auto, using(crate::proofs::histories::LawfulWords::lawful_zero, crate::proofs::lists::Emptied::none_emptied))]
     pub fn clear(&mut self, rows: &Rows, device: u64)
         requires rows { self.old.rows ≡ rows.now }
