@@ -62,6 +62,18 @@ pub record IsNew (frames : ℕ) (m : State) : Type 0 where
   pub calls_are : m.calls ≡ 0
   pub shown_is : m.iommu.shown ≡ None
 
+-- it is the ticket of this domain and number
+abbrev pub is_ticket : ℕ → ℕ → Ticket → Bool
+is_ticket domain number t = domain == t.domain && number == t.number
+
+-- a ticket of this domain and number is open, with the property
+abbrev pub SomeTicket : State → ℕ → ℕ → (Ticket → Type 0) → Type 0
+SomeTicket m domain number P = (t : Ticket) × IsIn t m.tickets × (t.domain ≡ domain) × (t.number ≡ number) × P t
+
+-- a domain with one flush more begun
+abbrev pub begins : Domain → Domain
+begins h = record h { begun = h.begun + 1 }
+
 -- a map takes the lowest start
 abbrev pub IsExactMap : State → ℕ → List Segment → ℕ → Reply → Type 0
 IsExactMap m domain segments order (Mapped address) =
@@ -120,18 +132,6 @@ with_domain m id new t = record m {
   iommu = t.iommu;
   calls = m.calls + 1;
 }
-
--- it is the ticket of this domain and number
-abbrev pub is_ticket : ℕ → ℕ → Ticket → Bool
-is_ticket domain number t = domain == t.domain && number == t.number
-
--- a ticket of this domain and number is open, with the property
-abbrev pub SomeTicket : State → ℕ → ℕ → (Ticket → Type 0) → Type 0
-SomeTicket m domain number P = (t : Ticket) × IsIn t m.tickets × (t.domain ≡ domain) × (t.number ≡ number) × P t
-
--- a domain with one flush more begun
-abbrev pub begins : Domain → Domain
-begins h = record h { begun = h.begun + 1 }
 
 -- a map changes its domain and the table frames alone, as it takes its range and maps it
 abbrev pub BecomesMapped : State → ℕ → Placement → State → Type 0

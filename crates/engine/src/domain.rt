@@ -319,6 +319,17 @@ pub(crate) fn release(
     ensures retirable { (other : Range) → MayRetire space.old.pieces other → MayRetire space.new.pieces other }
     ensures more { length pool.old.free ≤ length pool.new.free }
 {
+    put_back(space, pool, retired);
+}
+
+// Makes the pages of a retired record free, and gives the table frames back that were cut with them.
+#[inline(always)]
+fn put_back(space: &mut Space, pool: &mut Pool, retired: &Record)
+    requires { IsReleasable pool.old space.old retired.now }
+    ensures released { Releases pool.old space.old retired.now pool.new space.new }
+    ensures retirable { (other : Range) → MayRetire space.old.pieces other → MayRetire space.new.pieces other }
+    ensures more { length pool.old.free ≤ length pool.new.free }
+{
     space.release(retired.range);
     pool.give_back(retired.cut.frames());
 }
@@ -335,8 +346,7 @@ fn release_by(space: &mut Space, pool: &mut Pool, iommu: &Iommu, ticket: Ticket,
     ensures retirable { (other : Range) → MayRetire space.old.pieces other → MayRetire space.new.pieces other }
     ensures more { length pool.old.free ≤ length pool.new.free }
 {
-    space.release(retired.range);
-    pool.give_back(retired.cut.frames());
+    put_back(space, pool, retired);
 }
 
 // Releases those of the records that were there before the ticket's flush was begun, and answers how many.

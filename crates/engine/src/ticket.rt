@@ -10,3 +10,14 @@ pub(crate) struct Ticket {
     pub(crate) number: u64,
     pub(crate) wait: u64,
 }
+
+// A blank for the unused places of a list.
+impl Default for Ticket {
+    fn default() -> Ticket {
+        Ticket {
+            domain: DomainId::new(1).unwrap(),
+            number: 0,
+            wait: 0,
+        }
+    }
+}

@@ -1,6 +1,6 @@
 //! Flushes in two halves: begun, done by the unit step by step, and reaped.
 
-ghost use Rattle.std.specs.Prelude.{◌≡◌, ◌×◌, ◌<◌, IfNone, IfSome, IsFalse, IsTrue};
+ghost use Rattle.std.specs.Prelude.{◌≡◌, ◌<◌, IfNone, IfSome, IsFalse, IsTrue};
 ghost use Rattle.dmatypes.specs.World.{IsIn};
 ghost use Rattle.dmatypes.specs.declared.call.Call.TheVariants as calls;
 ghost use Rattle.dmatypes.specs.declared.limits.TheConstants.{CALLS_END};

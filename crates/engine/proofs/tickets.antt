@@ -1,0 +1,3 @@
+pub mod Ageing
+pub mod Stay
+pub mod EachCall
