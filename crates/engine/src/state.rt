@@ -171,7 +171,10 @@ impl State {
             return Err(Refusal::NoDomain);
         };
         // A device is attached to a domain that is there, and a ticket is of one.
-        if is_attached(&self.iommu.contexts, id) || has_ticket(self.tickets.as_slice(), id) {
+        if is_attached(&self.iommu.contexts, id) {
+            return Err(Refusal::Busy);
+        }
+        if has_ticket(self.tickets.as_slice(), id) {
             return Err(Refusal::Busy);
         }
         let Some(domain) = self.domains[place_of(id)].take() else {

@@ -49,8 +49,7 @@ no_pair_writes first next [] is few = tt
 no_pair_writes first next (t ∷ ts) (one, rest) few =
     let many = follow_length (first + 1) next ts rest in (
       λ old is. is,
-      λ old is. absurd (omega (arith, is, one, many, few)),
-      no_pair_writes (first + 1) next ts rest (omega (arith, few)),
+      (λ old is. absurd (omega (arith, is, one, many, few)), no_pair_writes (first + 1) next ts rest (omega (arith, few))),
     )
 
 half_writes : (first next : ℕ) (half ahead : List Ticket) → length half ≤ 1 → Follow first (half ++ ahead) next

@@ -110,10 +110,10 @@ whole_new m frames new = record {
   tickets = no_tickets m frames new;
   sent = omega (arith, new.sent_is);
   steps = (
-    let zero_steps : m.iommu.unit.steps ≡ 0 = ap (λ (u : UnitState). u.steps) new.unit_is in
-    let none = ap (λ (r : Ring). length r.waiting) new.ring_is in
-    omega (arith, zero_steps, none)
-  );
+      let zero_steps : m.iommu.unit.steps ≡ 0 = ap (λ (u : UnitState). u.steps) new.unit_is in
+      let none = ap (λ (r : Ring). length r.waiting) new.ring_is in
+      omega (arith, zero_steps, none)
+      );
   begun = λ h inside. absurd (not_there MOST_DOMAINS h (subst (λ ds. IsIn (Some h) ds) new.domains_are inside));
   made = λ h inside. absurd (not_there MOST_DOMAINS h (subst (λ ds. IsIn (Some h) ds) new.domains_are inside));
 }

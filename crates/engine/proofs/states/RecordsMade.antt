@@ -1,6 +1,6 @@
 -- The next wait is sent after all records of a state were made, whatever call goes before it.
 use Rattle.std.proofs.Common.{◌≡◌, ℕ, zero, suc, ◌+◌, ◌-◌, ◌≤◌, inl, inr, List, [], ◌∷◌, ◌++◌, Option, Some, None}
-use Rattle.std.proofs.Common.{sym, ap, subst, ◌∙◌, arith}
+use Rattle.std.proofs.Common.{refl, sym, ap, subst, ◌∙◌, arith}
 use Rattle.std.proofs.Common.{slice_get, slice_set, Bool, true, false, filter, not, if◌then◌else◌}
 use Rattle.std.specs.Option.{option_flatten}
 use Rattle.dmatypes.specs.World.{IsIn}
@@ -67,12 +67,13 @@ module _ (old : Parts) (id released : ℕ) (range : Range) (new : Parts) (later 
 
 in_filter : {X : Type 0} (test : X → Bool) (x : X) (xs : List X) → IsIn x (filter test xs) → IsIn x xs
 in_filter test x [] inside = inside
-in_filter test x (y ∷ ys) inside = by_test (test y) inside
+in_filter test x (y ∷ ys) inside = by_test (test y) (in_filter test x ys) inside
   where
-    by_test : (b : Bool) → IsIn x (if b then y ∷ filter test ys else filter test ys) → IsIn x (y ∷ ys)
-    by_test true (inl same) = inl same
-    by_test true (inr rest) = inr (in_filter test x ys rest)
-    by_test false rest = inr (in_filter test x ys rest)
+    by_test : (b : Bool) → (IsIn x (filter test ys) → IsIn x ys) → IsIn x (if b then y ∷ filter test ys else filter test ys)
+        → IsIn x (y ∷ ys)
+    by_test true more (inl same) = inl same
+    by_test true more (inr rest) = inr (more rest)
+    by_test false more rest = inr (more rest)
 
 -- ---- a call
 

@@ -2,6 +2,8 @@ use Rattle.std.specs.Prelude.{IsOk}
 use Rattle.std.proofs.Common.{ℕ, ◌≡◌, None, Some, arith, refl, slice_get, sym}
 use Rattle.dmatypes.specs.declared.call.Call.TheVariants as calls
 use Rattle.dmatypes.specs.declared.reply.Reply.TheVariants.{Done}
+use Rattle.dmatypes.specs.World.{IsIn}
+use Rattle.engine.specs.declared.ticket.Ticket.{Ticket}
 use Rattle.engine.specs.contracts.state.State.{the_view}
 use Rattle.engine.specs.Ending.{Closes}
 use Rattle.engine.specs.State.{parts_in}
@@ -69,8 +71,10 @@ did c =
     let closes : Closes (parts_in (the_view c.self.inside) c.in-Some-take.domain) c.args.domain c.close-room.new.pool
     c.close-room.new.iommu =
     rw (← c.in-Some.ensures.value) c.close-room.ensures in
+    let untold : (x : Ticket) → IsIn x c.self.inside.tickets.items → x.domain ≡ c.args.domain → ⊥ =
+    rw (← c.in-Some.ensures.value) (c.if-has_ticket.ensures.none refl) in
     drop_did (the_view c.self.inside) c.args.domain c.place_of.result c.in-Some-take.domain c.close-room.new.pool
-    c.close-room.new.iommu c.self.invariant.0 found.less found.id found.there nobody closes
+    c.close-room.new.iommu c.self.invariant.0 found.less found.id found.there nobody untold closes
 
 pub invariant_of-self-2 : goal.invariant_of-self-2
 invariant_of-self-2 c =
