@@ -24,9 +24,9 @@ pub record HasRooms (rooms capacity : ℕ) (domains : List (Option Domain)) : Ty
 abbrev pub AllAreMade : State → Type 0
 AllAreMade m = (h : Domain) → IsIn (Some h) m.domains → AreMadeBefore (m.iommu.sent + 1) h.records
 
--- no more flushes of a domain were begun than calls made
+-- no more flushes of a domain were begun than waits sent
 abbrev pub AllAreBegun : State → Type 0
-AllAreBegun m = (h : Domain) → IsIn (Some h) m.domains → h.begun ≤ m.calls
+AllAreBegun m = (h : Domain) → IsIn (Some h) m.domains → h.begun ≤ m.iommu.sent
 
 -- it is a state of some world, with places for domains 1 to 15, the entries of devices 0 to 15 and so many table frames;
 -- only descriptors of tickets wait between calls; no more waits were sent than calls made, and no more steps of the unit made

@@ -33,5 +33,5 @@ whole_sends m t call reply d row whole does domains rows sends = record {
   sent = omega (arith, sends.number, whole.sent, does.calls);
   steps = (let none = ap (λ (r : Ring). length r.waiting) sends.done in omega (arith, sends.steps, none, whole.steps, does.calls));
   made = made_kept m t call reply does.becomes (omega (arith, sends.number)) whole.made;
-  begun = begun_kept m t call reply does.becomes does.calls whole.begun;
+  begun = begun_kept m t call reply does.becomes (omega (arith, sends.number)) whole.begun;
 }

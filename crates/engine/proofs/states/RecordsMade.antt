@@ -160,9 +160,9 @@ ended_begun old id released range new Lazy does =
       | inr empties ↦ ap (λ (h : Domain). h.begun) empties.flushes.same
     ]
 
-module _ (m t : State) (counts : t.calls ≡ m.calls + 1) (begun : AllAreBegun m) where
-  still_begun : (h : Domain) → IsIn (Some h) m.domains → h.begun ≤ t.calls
-  still_begun h inside = omega (arith, counts, begun h inside)
+module _ (m t : State) (later : m.iommu.sent ≤ t.iommu.sent) (begun : AllAreBegun m) where
+  still_begun : (h : Domain) → IsIn (Some h) m.domains → h.begun ≤ t.iommu.sent
+  still_begun h inside = omega (arith, later, begun h inside)
 
   same_begun : t.domains ≡ m.domains → AllAreBegun t
   same_begun same h inside = still_begun h (subst (λ ds. IsIn (Some h) ds) same inside)
@@ -173,9 +173,9 @@ module _ (m t : State) (counts : t.calls ≡ m.calls + 1) (begun : AllAreBegun m
     | inr other ↦ still_begun h other
   ]
 
-  one_begun : (i : ℕ) (new : Domain) → t.domains ≡ slice_set m.domains i (Some new) → new.begun ≤ m.calls + 1 → AllAreBegun t
+  one_begun : (i : ℕ) (new : Domain) → t.domains ≡ slice_set m.domains i (Some new) → new.begun ≤ t.iommu.sent → AllAreBegun t
   one_begun i new is few h inside = elim (in_set m.domains i (Some new) (Some h) (subst (λ ds. IsIn (Some h) ds) is inside)) [
-    | inl same ↦ let this : h.begun ≡ new.begun = ap begun_in same in omega (arith, this, few, counts)
+    | inl same ↦ let this : h.begun ≡ new.begun = ap begun_in same in omega (arith, this, few)
     | inr other ↦ still_begun h other
   ] where
     begun_in : Option Domain → ℕ
@@ -183,52 +183,54 @@ module _ (m t : State) (counts : t.calls ≡ m.calls + 1) (begun : AllAreBegun m
     begun_in (Some x) = x.begun
 
   there_begun : (i d : ℕ) (h new : Domain) → t.domains ≡ slice_set m.domains i (Some new) → domain_at m.domains d ≡ Some h
-      → new.begun ≤ h.begun + 1 → AllAreBegun t
+      → new.begun ≤ h.begun → AllAreBegun t
   there_begun i d h new is there few =
-      let was = begun h (domain_in m.domains d h there) in one_begun i new is (omega (arith, was, few))
+      let was = begun h (domain_in m.domains d h there) in one_begun i new is (omega (arith, was, few, later))
 
-pub begun_kept : (m t : State) (call : Call) (reply : Reply) → Becomes m call reply t → t.calls ≡ m.calls + 1 → AllAreBegun m
+pub begun_kept : (m t : State) (call : Call) (reply : Reply) → Becomes m call reply t → m.iommu.sent ≤ t.iommu.sent → AllAreBegun m
     → AllAreBegun t
 unfolding Becomes
-begun_kept m t (calls.Domain mode) (Made d) (root, takes, is) counts begun =
-    one_begun m t counts begun (d - 1) _ (ap (λ (x : State). x.domains) is) (omega arith)
-begun_kept m t (calls.Domain mode) _ is counts begun = same_begun m t counts begun (ap (λ (x : State). x.domains) is)
-begun_kept m t (calls.Drop domain) Done (h, there, closes, is) counts begun =
-    none_begun m t counts begun (domain - 1) (ap (λ (x : State). x.domains) is)
-begun_kept m t (calls.Drop domain) _ is counts begun = same_begun m t counts begun (ap (λ (x : State). x.domains) is)
-begun_kept m t (calls.Map domain frame pages order rights) (Mapped address) (h, new, there, places, is) counts begun =
-    there_begun m t counts begun (domain - 1) domain h new (ap (λ (x : State). x.domains) is) there
+begun_kept m t (calls.Domain mode) (Made d) (root, takes, is) later begun =
+    one_begun m t later begun (d - 1) _ (ap (λ (x : State). x.domains) is) (omega arith)
+begun_kept m t (calls.Domain mode) _ is later begun = same_begun m t later begun (ap (λ (x : State). x.domains) is)
+begun_kept m t (calls.Drop domain) Done (h, there, closes, is) later begun =
+    none_begun m t later begun (domain - 1) (ap (λ (x : State). x.domains) is)
+begun_kept m t (calls.Drop domain) _ is later begun = same_begun m t later begun (ap (λ (x : State). x.domains) is)
+begun_kept m t (calls.Map domain frame pages order rights) (Mapped address) (h, new, there, places, is) later begun =
+    there_begun m t later begun (domain - 1) domain h new (ap (λ (x : State). x.domains) is) there
     (let same = ap (λ (x : Domain). x.begun) places.same in omega (arith, same))
-begun_kept m t (calls.Map domain frame pages order rights) _ is counts begun = same_begun m t counts begun (ap (λ (x : State). x.domains) is)
-begun_kept m t (calls.MapList domain order rights segments) (Mapped address) (h, new, there, places, is) counts begun =
-    there_begun m t counts begun (domain - 1) domain h new (ap (λ (x : State). x.domains) is) there
+begun_kept m t (calls.Map domain frame pages order rights) _ is later begun = same_begun m t later begun (ap (λ (x : State). x.domains) is)
+begun_kept m t (calls.MapList domain order rights segments) (Mapped address) (h, new, there, places, is) later begun =
+    there_begun m t later begun (domain - 1) domain h new (ap (λ (x : State). x.domains) is) there
     (let same = ap (λ (x : Domain). x.begun) places.same in omega (arith, same))
-begun_kept m t (calls.MapList domain order rights segments) _ is counts begun = same_begun m t counts begun (ap (λ (x : State). x.domains) is)
-begun_kept m t (calls.Flush domain) (Flushed released) (h, new, there, flushes, is) counts begun =
-    there_begun m t counts begun (domain - 1) domain h new (ap (λ (x : State). x.domains) is) there
+begun_kept m t (calls.MapList domain order rights segments) _ is later begun = same_begun m t later begun (ap (λ (x : State). x.domains) is)
+begun_kept m t (calls.Flush domain) (Flushed released) (h, new, there, flushes, is) later begun =
+    there_begun m t later begun (domain - 1) domain h new (ap (λ (x : State). x.domains) is) there
     (let same = ap (λ (x : Domain). x.begun) flushes.same in omega (arith, same))
-begun_kept m t (calls.Flush domain) _ is counts begun = same_begun m t counts begun (ap (λ (x : State). x.domains) is)
-begun_kept m t (calls.Unmap domain address pages) (Unmapped released) (h, new, there, ends, is) counts begun =
-    there_begun m t counts begun (domain - 1) domain h new (ap (λ (x : State). x.domains) is) there
+begun_kept m t (calls.Flush domain) _ is later begun = same_begun m t later begun (ap (λ (x : State). x.domains) is)
+begun_kept m t (calls.Unmap domain address pages) (Unmapped released) (h, new, there, ends, is) later begun =
+    there_begun m t later begun (domain - 1) domain h new (ap (λ (x : State). x.domains) is) there
     (let same = ended_begun (parts_in m h) domain released _ (parts_in t new) h.mode ends in omega (arith, same))
-begun_kept m t (calls.Unmap domain address pages) _ is counts begun = same_begun m t counts begun (ap (λ (x : State). x.domains) is)
-begun_kept m t (calls.Begin domain) (Reply.Ticket other number) (h, there, new, id, begins_is, is) counts begun =
-    there_begun m t counts begun (domain - 1) domain h (begins h) (ap (λ (x : State). x.domains) is) there (omega arith)
-begun_kept m t (calls.Begin domain) _ is counts begun = same_begun m t counts begun (ap (λ (x : State). x.domains) is)
-begun_kept m t (calls.Reap domain number) (Reaped released) (h, new, there, reaps, is) counts begun =
-    there_begun m t counts begun (domain - 1) domain h new (ap (λ (x : State). x.domains) is) there
+begun_kept m t (calls.Unmap domain address pages) _ is later begun = same_begun m t later begun (ap (λ (x : State). x.domains) is)
+begun_kept m t (calls.Begin domain) (Reply.Ticket other number) (h, there, new, id, begins_is, is) later begun =
+    let was = begun h (domain_in m.domains domain h there) in
+    let one : t.iommu.sent ≡ m.iommu.sent + 1 = ap (λ (x : Iommu). x.sent) begins_is in
+    one_begun m t later begun (domain - 1) (begins h) (ap (λ (x : State). x.domains) is) (omega (arith, was, one))
+begun_kept m t (calls.Begin domain) _ is later begun = same_begun m t later begun (ap (λ (x : State). x.domains) is)
+begun_kept m t (calls.Reap domain number) (Reaped released) (h, new, there, reaps, is) later begun =
+    there_begun m t later begun (domain - 1) domain h new (ap (λ (x : State). x.domains) is) there
     (let same = ap (λ (x : Domain). x.begun) reaps.same in omega (arith, same))
-begun_kept m t (calls.Reap domain number) _ is counts begun = same_begun m t counts begun (ap (λ (x : State). x.domains) is)
-begun_kept m t (calls.Attach device domain) Done (h, there, is) counts begun = same_begun m t counts begun (ap (λ (x : State). x.domains) is)
-begun_kept m t (calls.Attach device domain) _ is counts begun = same_begun m t counts begun (ap (λ (x : State). x.domains) is)
-begun_kept m t (calls.Detach device) Done (domain, root, at, sends, is) counts begun =
-    same_begun m t counts begun (ap (λ (x : State). x.domains) is)
-begun_kept m t (calls.Detach device) _ is counts begun = same_begun m t counts begun (ap (λ (x : State). x.domains) is)
-begun_kept m t calls.Unit (Stepped progress) is counts begun = same_begun m t counts begun (ap (λ (x : State). x.domains) is)
-begun_kept m t calls.Unit _ is counts begun = same_begun m t counts begun (ap (λ (x : State). x.domains) is)
-begun_kept m t (calls.Dma device address access whim) (Refused refusal) is counts begun =
-    same_begun m t counts begun (ap (λ (x : State). x.domains) is)
-begun_kept m t (calls.Dma device address access whim) _ (answer, reached, answers, filled, is) counts begun =
-    same_begun m t counts begun (ap (λ (x : State). x.domains) is)
-begun_kept m t (calls.Evict kind place) Done is counts begun = same_begun m t counts begun (ap (λ (x : State). x.domains) is)
-begun_kept m t (calls.Evict kind place) _ is counts begun = same_begun m t counts begun (ap (λ (x : State). x.domains) is)
+begun_kept m t (calls.Reap domain number) _ is later begun = same_begun m t later begun (ap (λ (x : State). x.domains) is)
+begun_kept m t (calls.Attach device domain) Done (h, there, is) later begun = same_begun m t later begun (ap (λ (x : State). x.domains) is)
+begun_kept m t (calls.Attach device domain) _ is later begun = same_begun m t later begun (ap (λ (x : State). x.domains) is)
+begun_kept m t (calls.Detach device) Done (domain, root, at, sends, is) later begun =
+    same_begun m t later begun (ap (λ (x : State). x.domains) is)
+begun_kept m t (calls.Detach device) _ is later begun = same_begun m t later begun (ap (λ (x : State). x.domains) is)
+begun_kept m t calls.Unit (Stepped progress) is later begun = same_begun m t later begun (ap (λ (x : State). x.domains) is)
+begun_kept m t calls.Unit _ is later begun = same_begun m t later begun (ap (λ (x : State). x.domains) is)
+begun_kept m t (calls.Dma device address access whim) (Refused refusal) is later begun =
+    same_begun m t later begun (ap (λ (x : State). x.domains) is)
+begun_kept m t (calls.Dma device address access whim) _ (answer, reached, answers, filled, is) later begun =
+    same_begun m t later begun (ap (λ (x : State). x.domains) is)
+begun_kept m t (calls.Evict kind place) Done is later begun = same_begun m t later begun (ap (λ (x : State). x.domains) is)
+begun_kept m t (calls.Evict kind place) _ is later begun = same_begun m t later begun (ap (λ (x : State). x.domains) is)

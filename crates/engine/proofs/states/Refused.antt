@@ -122,5 +122,5 @@ whole_quiet m t call reply whole does domains row ring sent steps =
       sent = omega (arith, sent, whole.sent, does.calls);
       steps = (let waiting = ap (λ (r : Ring). length r.waiting) ring in omega (arith, steps, waiting, whole.steps, does.calls));
       made = made_kept m t call reply does.becomes (omega (arith, sent)) whole.made;
-      begun = begun_kept m t call reply does.becomes does.calls whole.begun;
+      begun = begun_kept m t call reply does.becomes (omega (arith, sent)) whole.begun;
     }
