@@ -1,3 +1,4 @@
 pub mod Ageing
 pub mod Stay
+pub mod Begun
 pub mod EachCall

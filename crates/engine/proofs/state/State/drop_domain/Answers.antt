@@ -72,7 +72,7 @@ did c =
     c.close-room.new.iommu =
     rw (← c.in-Some.ensures.value) c.close-room.ensures in
     let untold : (x : Ticket) → IsIn x c.self.inside.tickets.items → x.domain ≡ c.args.domain → ⊥ =
-    (λ x inside same. c.if-has_ticket.ensures.none refl x inside (same ∙ sym c.in-Some.ensures.value)) in
+    (λ x inside same. c.if-has_ticket.ensures.none refl x ? (same ∙ sym c.in-Some.ensures.value)) in
     drop_did (the_view c.self.inside) c.args.domain c.place_of.result c.in-Some-take.domain c.close-room.new.pool
     c.close-room.new.iommu c.self.invariant.0 found.less found.id found.there nobody untold closes
 
