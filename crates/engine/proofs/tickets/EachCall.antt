@@ -1,6 +1,10 @@
 -- What the tickets of a state keep, call by call.
 use Rattle.std.proofs.Common.{◌≡◌, ◌≢◌, ℕ, ◌+◌, ◌-◌, ◌≤◌, ◌<◌, inl, inr, List, [], ◌∷◌, ◌++◌, Option, Some, None, length, refl, sym, ap, subst, ◌∙◌}
-use Rattle.std.proofs.Common.{arith, slice_set}
+use Rattle.std.proofs.Common.{append_assoc, arith, map, slice_set, ⊎_elim}
+use Rattle.std.proofs.lemmas.Bool.{cases_lt}
+use Rattle.std.proofs.lemmas.List.{length-map}
+use Rattle.std.proofs.lemmas.Option.{same_Some}
+use Rattle.dmatypes.proofs.histories.Maps.{put_same}
 use Rattle.dmatypes.specs.World.{World, IsIn}
 use Rattle.dmatypes.specs.Conditions.{SomeHas, Stands}
 use Rattle.dmatypes.specs.Page.{Range, range_at}
@@ -10,7 +14,7 @@ use Rattle.dmatypes.specs.declared.call.Call.{Call}
 use Rattle.dmatypes.specs.declared.call.Call.TheVariants as calls
 use Rattle.dmatypes.specs.declared.call.Mode.{Mode}
 use Rattle.dmatypes.specs.declared.call.Mode.TheVariants.{Strict, Lazy}
-use Rattle.dmatypes.specs.declared.limits.TheConstants.{MOST_DOMAINS}
+use Rattle.dmatypes.specs.declared.limits.TheConstants.{MOST_DOMAINS, MOST_TICKETS}
 use Rattle.dmatypes.specs.declared.reply.Reply.{Reply}
 use Rattle.dmatypes.specs.declared.reply.Reply.TheVariants.{Made, Done, Mapped, Unmapped, Flushed, Stepped, Reaped, Refused}
 use Rattle.dmatypes.specs.declared.reply.Reply.TheVariants as Reply
@@ -18,21 +22,22 @@ use Rattle.unit.proofs.caches.Members.{without_leaf, without_non_leaf, without_c
 use Rattle.unit.specs.Caches.{UnitState}
 use Rattle.vtdbits.specs.declared.context.ContextEntry.{ContextEntry}
 use Rattle.vtdbits.specs.declared.descriptor.Descriptor.{Descriptor}
-use Rattle.vtdbits.specs.declared.descriptor.Descriptor.TheVariants.{ContextDevice, IotlbDomain}
+use Rattle.vtdbits.specs.declared.descriptor.Descriptor.TheVariants.{ContextDevice, IotlbDomain, Wait}
 use Rattle.engine.specs.declared.iommu.Iommu.{Iommu}
 use Rattle.engine.specs.declared.iommu.Shown.{Shown}
 use Rattle.engine.specs.declared.record.Record.{Record}
 use Rattle.engine.specs.declared.ticket.Ticket.{Ticket}
 use Rattle.engine.specs.Domains.{Domain, Parts, domain_at}
-use Rattle.engine.specs.Ending.{ByMode, EndsBy, Invalidates, MakesRoom, PutsOff, UnmapsStrictly, shown_of}
-use Rattle.engine.specs.State.{Becomes, State, parts_in}
+use Rattle.engine.specs.Ending.{ByMode, EndsBy, Invalidates, MakesRoom, PutsOff, UnmapsStrictly, shown_of, status_of}
+use Rattle.engine.specs.State.{Becomes, State, begins, parts_in}
 use Rattle.engine.specs.Quarantine.{Quarantine, ticket_there}
 use Rattle.engine.specs.Tickets.{KeepsTickets}
 use Rattle.engine.proofs.caches.Purged.{IsFewer}
 use Rattle.engine.proofs.domains.OneChanged.{both_there, domain_low}
 use Rattle.engine.proofs.lists.Membership.{in_either, in_mapped}
 use Rattle.engine.proofs.lists.Places.{not_none}
-use Rattle.engine.proofs.tickets.Ageing.{AgeAll, Ages, ages_fewer, none_ages, one_ages, others_age, some_id}
+use Rattle.engine.proofs.tickets.Ageing.{AgeAll, Ages, ages_fewer, none_ages, one_ages, others_age, set_at, some_id}
+use Rattle.engine.proofs.tickets.Begun.{tickets_begun}
 use Rattle.engine.proofs.tickets.Stay.{Forgets, forgets_fewer, forgets_same, tickets_done, tickets_stay}
 
 -- ---- a domain after an unmap
@@ -165,7 +170,25 @@ module _ (m t : State) (w : World) (q : Quarantine m w) (many : length m.domains
       (one_ages m t domain h new many there (ap (λ (x : State). x.domains) is)
       (unmap_ages (parts_in m h) domain released (range_at address pages) (parts_in t new) h.mode ends)) h.mode ends
   tickets_kept (calls.Unmap domain address pages) _ step is = only_counted is
-  tickets_kept (calls.Begin domain) (Reply.Ticket other number) step (h, there, new, id, begins, is) = ?
+  tickets_kept (calls.Begin domain) (Reply.Ticket other number) step (h, there, new, id, sends, is) =
+      let one : t.iommu.sent ≡ m.iommu.sent + 1 = ap (λ (x : Iommu). x.sent) sends in
+      let domains = ap (λ (x : State). x.domains) is in
+      let ages : AgeAll m t = one_ages m t domain h (begins h) many there domains
+      (record { begun = omega arith; few = omega arith; records = λ r inside. inl inside }) in
+      let high : domain < MOST_DOMAINS + 1 = domain_low m.domains domain h many there in
+      tickets_begun m t (record { domain = domain; number = number; wait = t.iommu.sent }) k (ap (λ (x : State). x.tickets) is)
+      (ap (λ (x : Iommu). x.ring.waiting) sends ∙ append_assoc m.iommu.ring.waiting (IotlbDomain domain ∷ []) (Wait (status_of (m.iommu.sent + 1)) ∷ [])
+      ∙ ap (λ n. m.iommu.ring.waiting ++ (IotlbDomain domain ∷ Wait (status_of n) ∷ [])) (sym one))
+      (ap (λ (x : Iommu). x.ring.status) sends) (ap (λ (x : Iommu). x.unit.caches) sends) one one ages
+      (let count : length w.tickets ≡ length m.tickets = ap (λ (ts : List world.Ticket). length ts) q.tickets ∙ length-map m.tickets ticket_there in
+      ⊎_elim (λ (less : length m.tickets < MOST_TICKETS). less) (λ (full : MOST_TICKETS ≤ length m.tickets).
+      absurd (step.0.1.0 (omega (arith, full, count)))) (cases_lt (length m.tickets) MOST_TICKETS)) (
+        begins h,
+        ap (λ ds. domain_at ds domain) domains ∙ set_at m.domains domain domain (Some (begins h)) many
+            (some_id m.domains domain h there) (omega (arith, high)) ∙ put_same domain (Some (begins h)) (domain_at m.domains),
+        omega (arith, new),
+      )
+      (λ g at. let same : g.begun ≡ h.begun = ap (λ (x : Domain). x.begun) (same_Some g h (sym at ∙ there)) in omega (arith, same, new))
   tickets_kept (calls.Begin domain) _ step is = only_counted is
   tickets_kept calls.Unit (Stepped progress) step is = ?
   tickets_kept calls.Unit _ step is = only_counted is
