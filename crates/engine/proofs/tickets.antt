@@ -1,4 +1,5 @@
 pub mod Ageing
 pub mod Stay
 pub mod Begun
+pub mod Requested
 pub mod EachCall

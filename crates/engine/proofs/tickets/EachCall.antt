@@ -38,6 +38,7 @@ use Rattle.engine.proofs.lists.Membership.{in_either, in_mapped}
 use Rattle.engine.proofs.lists.Places.{not_none}
 use Rattle.engine.proofs.tickets.Ageing.{AgeAll, Ages, ages_fewer, none_ages, one_ages, others_age, set_at, some_id}
 use Rattle.engine.proofs.tickets.Begun.{tickets_begun}
+use Rattle.engine.proofs.tickets.Requested.{request_forgets}
 use Rattle.engine.proofs.tickets.Stay.{Forgets, forgets_fewer, forgets_same, tickets_done, tickets_stay}
 
 -- ---- a domain after an unmap
@@ -195,7 +196,10 @@ module _ (m t : State) (w : World) (q : Quarantine m w) (many : length m.domains
   tickets_kept (calls.Reap domain number) (Reaped released) step (h, new, there, reaps, is) = ?
   tickets_kept (calls.Reap domain number) _ step is = only_counted is
   tickets_kept (calls.Dma device address access whim) (Refused refusal) step is = only_counted is
-  tickets_kept (calls.Dma device address access whim) _ step (answer, reached, answers, filled, is) = ?
+  tickets_kept (calls.Dma device address access whim) _ step (answer, reached, answers, filled, is) =
+      tickets_stay m t k (ap (λ (x : State). x.tickets) is) (ap (λ (x : State). x.iommu.ring) is) (ap (λ (x : State). x.iommu.sent) is)
+      (none_ages m t (ap (λ (x : State). x.domains) is))
+      (request_forgets m t w q many whim.look whim.fill device address access answer answers)
   tickets_kept (calls.Evict kind place) Done step is =
       let unit : t.iommu.unit.caches ≡ _ = ap (λ (x : State). x.iommu.unit.caches) is in
       tickets_stay m t k (ap (λ (x : State). x.tickets) is) (ap (λ (x : State). x.iommu.ring) is) (ap (λ (x : State). x.iommu.sent) is)
