@@ -2,4 +2,5 @@ pub mod Ageing
 pub mod Stay
 pub mod Begun
 pub mod Requested
+pub mod UnitStep
 pub mod EachCall

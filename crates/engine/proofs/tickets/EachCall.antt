@@ -40,6 +40,7 @@ use Rattle.engine.proofs.tickets.Ageing.{AgeAll, Ages, ages_fewer, none_ages, on
 use Rattle.engine.proofs.tickets.Begun.{tickets_begun}
 use Rattle.engine.proofs.tickets.Requested.{request_forgets}
 use Rattle.engine.proofs.tickets.Stay.{Forgets, forgets_fewer, forgets_same, tickets_done, tickets_stay}
+use Rattle.engine.proofs.tickets.UnitStep.{tickets_stepped}
 
 -- ---- a domain after an unmap
 
@@ -191,7 +192,10 @@ module _ (m t : State) (w : World) (q : Quarantine m w) (many : length m.domains
       )
       (λ g at. let same : g.begun ≡ h.begun = ap (λ (x : Domain). x.begun) (same_Some g h (sym at ∙ there)) in omega (arith, same, new))
   tickets_kept (calls.Begin domain) _ step is = only_counted is
-  tickets_kept calls.Unit (Stepped progress) step is = ?
+  tickets_kept calls.Unit (Stepped progress) step is =
+      tickets_stepped m t k (ap (λ (x : State). x.tickets) is) (ap (λ (x : State). x.iommu.sent) is)
+      (none_ages m t (ap (λ (x : State). x.domains) is)) (ap (λ (x : State). x.iommu.ring) is)
+      (ap (λ (x : State). x.iommu.unit.caches) is)
   tickets_kept calls.Unit _ step is = only_counted is
   tickets_kept (calls.Reap domain number) (Reaped released) step (h, new, there, reaps, is) = ?
   tickets_kept (calls.Reap domain number) _ step is = only_counted is
