@@ -4,3 +4,4 @@ pub mod Begun
 pub mod Requested
 pub mod UnitStep
 pub mod EachCall
+pub mod UnitDoes

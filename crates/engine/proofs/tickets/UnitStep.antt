@@ -1,5 +1,5 @@
 -- What the tickets of a state keep, once the unit did the oldest descriptor.
-use Rattle.std.proofs.Common.{◌≡◌, ℕ, ◌+◌, ◌≤◌, inl, inr, List, [], ◌∷◌, ◌++◌, length, refl, sym, ap, subst, ◌∙◌, arith, append_assoc}
+use Rattle.std.proofs.Common.{◌≡◌, ◌+◌, inl, inr, List, [], ◌∷◌, ◌++◌, length, refl, sym, ap, subst, ◌∙◌, arith, append_assoc}
 use Rattle.std.proofs.lemmas.List.{append-nil}
 use Rattle.dmatypes.specs.World.{IsIn}
 use Rattle.queue.specs.Ring.{Ring, ring_of}
@@ -12,11 +12,11 @@ use Rattle.engine.specs.Ending.{left_by_all, status_of}
 use Rattle.engine.specs.State.{State}
 use Rattle.engine.specs.Tickets.{AreDifferent, Follow, IsClear, KeepsTickets, pairs_of, wait_of, waits_of}
 use Rattle.engine.proofs.caches.Purged.{IsFewer, Purges, fewer_by_all, purges_by_all}
-use Rattle.engine.proofs.lists.Membership.{in_either, in_left, in_right}
+use Rattle.engine.proofs.lists.Membership.{in_either, in_left}
 use Rattle.engine.proofs.tickets.Ageing.{AgeAll}
 use Rattle.engine.proofs.tickets.Stay.{begun_stays, clear_purged, clear_stays, forgets_fewer, of_front, tickets_stay}
 
-fewer_by_first : (ds : List Descriptor) (c : Caches) → IsFewer c (left_by_first ds c)
+pub fewer_by_first : (ds : List Descriptor) (c : Caches) → IsFewer c (left_by_first ds c)
 unfolding left_by_all
 fewer_by_first [] c = fewer_by_all [] c
 fewer_by_first (d ∷ ds) c = fewer_by_all (d ∷ []) c
