@@ -3,5 +3,6 @@ pub mod Stay
 pub mod Begun
 pub mod Requested
 pub mod UnitStep
+pub mod Closed
 pub mod EachCall
 pub mod UnitDoes

@@ -106,7 +106,7 @@ frames_kept m t call reply (w, q) does = sym q.table_frames ∙ sym (next_frames
 pub tickets_of : (m t : State) (call : Call) (reply : Reply) → IsWhole m.pool.frames m → Does m call reply t → KeepsTickets t
 tickets_of m t call reply whole does =
     tickets_kept m t whole.of_world.0 whole.of_world.1 whole.places whole.tickets call reply
-    (does.steps whole.of_world.0 whole.of_world.1).0 does.becomes
+    ((does.steps whole.of_world.0 whole.of_world.1).0, does.exact) does.becomes
 
 -- what the type of a state keeps, after a call that sends nothing
 pub whole_quiet : (m t : State) (call : Call) (reply : Reply) → IsWhole m.pool.frames m → Does m call reply t

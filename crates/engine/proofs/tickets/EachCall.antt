@@ -1,10 +1,11 @@
 -- What the tickets of a state keep, call by call.
 use Rattle.std.proofs.Common.{◌≡◌, ◌≢◌, ℕ, ◌+◌, ◌-◌, ◌≤◌, ◌<◌, inl, inr, List, [], ◌∷◌, ◌++◌, Option, Some, None, length, refl, sym, ap, subst, ◌∙◌}
-use Rattle.std.proofs.Common.{append_assoc, arith, map, slice_set, ⊎_elim}
+use Rattle.std.proofs.Common.{append_assoc, arith, map, not, slice_set, ⊎_elim}
 use Rattle.std.proofs.lemmas.Bool.{cases_lt}
 use Rattle.std.proofs.lemmas.List.{length-map}
 use Rattle.std.proofs.lemmas.Option.{same_Some}
 use Rattle.dmatypes.proofs.histories.Maps.{put_same}
+use Rattle.dmatypes.proofs.lists.Filtered.{in_filter}
 use Rattle.dmatypes.specs.World.{World, IsIn}
 use Rattle.dmatypes.specs.Conditions.{SomeHas, Stands}
 use Rattle.dmatypes.specs.Page.{Range, range_at}
@@ -28,8 +29,8 @@ use Rattle.engine.specs.declared.iommu.Shown.{Shown}
 use Rattle.engine.specs.declared.record.Record.{Record}
 use Rattle.engine.specs.declared.ticket.Ticket.{Ticket}
 use Rattle.engine.specs.Domains.{Domain, Parts, domain_at}
-use Rattle.engine.specs.Ending.{ByMode, EndsBy, Invalidates, MakesRoom, PutsOff, UnmapsStrictly, shown_of, status_of}
-use Rattle.engine.specs.State.{Becomes, State, begins, parts_in}
+use Rattle.engine.specs.Ending.{ByMode, EndsBy, Invalidates, MakesRoom, PutsOff, UnmapsStrictly, shown_of, status_of, was_before}
+use Rattle.engine.specs.State.{Becomes, Exact, State, begins, parts_in}
 use Rattle.engine.specs.Quarantine.{Quarantine, ticket_there}
 use Rattle.engine.specs.Tickets.{KeepsTickets}
 use Rattle.engine.proofs.caches.Purged.{IsFewer}
@@ -39,6 +40,7 @@ use Rattle.engine.proofs.lists.Places.{not_none}
 use Rattle.engine.proofs.tickets.Ageing.{AgeAll, Ages, ages_fewer, none_ages, one_ages, others_age, set_at, some_id}
 use Rattle.engine.proofs.tickets.Begun.{tickets_begun}
 use Rattle.engine.proofs.tickets.Requested.{request_forgets}
+use Rattle.engine.proofs.tickets.Closed.{tickets_closed}
 use Rattle.engine.proofs.tickets.Stay.{Forgets, forgets_fewer, forgets_same, tickets_done, tickets_stay}
 use Rattle.engine.proofs.tickets.UnitStep.{tickets_stepped}
 
@@ -129,11 +131,11 @@ module _ (m t : State) (w : World) (q : Quarantine m w) (many : length m.domains
   ]
 
   -- no call that is refused, and none but these, changes more than the count of calls
-  pub tickets_kept : (call : Call) (reply : Reply) → IsStep w call reply → Becomes m call reply t → KeepsTickets t
-  unfolding Becomes IsStep Stands
+  pub tickets_kept : (call : Call) (reply : Reply) → IsStep w call reply × Exact m call reply → Becomes m call reply t → KeepsTickets t
+  unfolding Becomes Exact IsStep Stands
   tickets_kept (calls.Domain mode) (Made d) step (root, takes, is) =
       calm (ap (λ (x : State). x.iommu) is) (ap (λ (x : State). x.tickets) is)
-      (made_ages mode d _ step.1 (ap (λ (x : State). x.domains) is))
+      (made_ages mode d _ step.0.1 (ap (λ (x : State). x.domains) is))
   tickets_kept (calls.Domain mode) _ step is = only_counted is
   tickets_kept (calls.Attach device domain) Done step (h, there, is) =
       tickets_stay m t k (ap (λ (x : State). x.tickets) is) (ap (λ (x : State). x.iommu.ring) is) (ap (λ (x : State). x.iommu.sent) is)
@@ -143,7 +145,7 @@ module _ (m t : State) (w : World) (q : Quarantine m w) (many : length m.domains
       tickets_done m t k m.iommu.contexts (IotlbDomain domain)
       (subst (λ (y : Iommu). Invalidates m.iommu (IotlbDomain domain) (shown_of h.root (length h.records)) y) (sym closes.quiet)
       closes.flushes.invalidates)
-      (dropped_ages domain h there (λ some. step.0.1.0 (inr some)) (ap (λ (x : State). x.domains) is)) (ap (λ (x : State). x.tickets) is)
+      (dropped_ages domain h there (λ some. step.0.0.1.0 (inr some)) (ap (λ (x : State). x.domains) is)) (ap (λ (x : State). x.tickets) is)
   tickets_kept (calls.Drop domain) _ step is = only_counted is
   tickets_kept (calls.Detach device) Done step (domain, root, at, sends, is) =
       tickets_done m t k _ (ContextDevice domain device) sends (none_ages m t (ap (λ (x : State). x.domains) is))
@@ -184,7 +186,7 @@ module _ (m t : State) (w : World) (q : Quarantine m w) (many : length m.domains
       (ap (λ (x : Iommu). x.ring.status) sends) (ap (λ (x : Iommu). x.unit.caches) sends) one one ages
       (let count : length w.tickets ≡ length m.tickets = ap (λ (ts : List world.Ticket). length ts) q.tickets ∙ length-map m.tickets ticket_there in
       ⊎_elim (λ (less : length m.tickets < MOST_TICKETS). less) (λ (full : MOST_TICKETS ≤ length m.tickets).
-      absurd (step.0.1.0 (omega (arith, full, count)))) (cases_lt (length m.tickets) MOST_TICKETS)) (
+      absurd (step.0.0.1.0 (omega (arith, full, count)))) (cases_lt (length m.tickets) MOST_TICKETS)) (
         begins h,
         ap (λ ds. domain_at ds domain) domains ∙ set_at m.domains domain domain (Some (begins h)) many
             (some_id m.domains domain h there) (omega (arith, high)) ∙ put_same domain (Some (begins h)) (domain_at m.domains),
@@ -197,7 +199,12 @@ module _ (m t : State) (w : World) (q : Quarantine m w) (many : length m.domains
       (none_ages m t (ap (λ (x : State). x.domains) is)) (ap (λ (x : State). x.iommu.ring) is)
       (ap (λ (x : State). x.iommu.unit.caches) is)
   tickets_kept calls.Unit _ step is = only_counted is
-  tickets_kept (calls.Reap domain number) (Reaped released) step (h, new, there, reaps, is) = ?
+  tickets_kept (calls.Reap domain number) (Reaped released) step (h, new, there, reaps, is) =
+      tickets_closed m t domain number k step.1 (ap (λ (x : State). x.tickets) is) (ap (λ (x : State). x.iommu) is)
+      (one_ages m t domain h new many there (ap (λ (x : State). x.domains) is)
+      (ages_fewer h new (ap (λ (x : Domain). x.begun) reaps.same)
+      (λ r inside. (in_filter (λ x. not (was_before number x)) r h.records
+      (subst (IsIn r) (ap (λ (x : Domain). x.records) reaps.same) inside)).0)))
   tickets_kept (calls.Reap domain number) _ step is = only_counted is
   tickets_kept (calls.Dma device address access whim) (Refused refusal) step is = only_counted is
   tickets_kept (calls.Dma device address access whim) _ step (answer, reached, answers, filled, is) =
