@@ -233,7 +233,7 @@ impl Domain {
             &mut self.space,
             pool,
             iommu,
-            ticket,
+            &ticket,
             self.records.as_slice(),
         );
         self.records.retain(|record| record.mark >= ticket.number);
@@ -338,10 +338,10 @@ fn put_back(space: &mut Space, pool: &mut Pool, retired: &Record)
 /// cut with them, in the same way. Its wait is done: before it the unit forgot all that it remembered of the domain, and it
 /// can't have met what is retired since.
 #[inline(always)]
-fn release_by(space: &mut Space, pool: &mut Pool, iommu: &Iommu, ticket: Ticket, retired: &Record)
+fn release_by(space: &mut Space, pool: &mut Pool, iommu: &Iommu, ticket: &Ticket, retired: &Record)
     requires can { IsReleasable pool.old space.old retired.now }
-    requires before { retired.now.mark < ticket.number }
-    requires done { ticket.wait ≤ last_done iommu.now }
+    requires before { retired.now.mark < ticket.now.number }
+    requires done { ticket.now.wait ≤ last_done iommu.now }
     ensures released { Releases pool.old space.old retired.now pool.new space.new }
     ensures retirable { (other : Range) → MayRetire space.old.pieces other → MayRetire space.new.pieces other }
     ensures more { length pool.old.free ≤ length pool.new.free }
@@ -354,13 +354,13 @@ fn release_before(
     space: &mut Space,
     pool: &mut Pool,
     iommu: &Iommu,
-    ticket: Ticket,
+    ticket: &Ticket,
     records: &[Record],
 ) -> u64
     requires can { AreReleasable pool.old space.old records.now }
-    requires done { ticket.wait ≤ last_done iommu.now }
-    ensures released { ReleasesAll pool.old space.old (filter (was_before ticket.number) records.now) pool.new space.new }
-    ensures count { result ≡ length (filter (was_before ticket.number) records.now) }
+    requires done { ticket.now.wait ≤ last_done iommu.now }
+    ensures released { ReleasesAll pool.old space.old (filter (was_before ticket.now.number) records.now) pool.new space.new }
+    ensures count { result ≡ length (filter (was_before ticket.now.number) records.now) }
 {
     let mut released = 0;
     for record in records {
