@@ -1,3 +1,4 @@
 pub mod OneByOne
 pub mod MayRelease
+pub mod ReleasedBefore
 pub mod Steps

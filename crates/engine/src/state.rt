@@ -21,10 +21,11 @@ use crate::domain::Domain;
 use crate::iommu::Iommu;
 use crate::request::judge;
 use crate::room::Room;
+use crate::ticket::Ticket;
 use arrayvec::ArrayVec;
 use dmatypes::{
-    Access, Cache, DEVICES, Fault, MOST_DOMAINS, MOST_SEGMENTS, Mode, PAGE_BYTES, PageRange,
-    Refusal, Reply, Segment, WINDOW_FIRST, WINDOW_LAST, Whim, Width,
+    Access, Cache, DEVICES, Fault, MOST_DOMAINS, MOST_SEGMENTS, MOST_TICKETS, Mode, PAGE_BYTES,
+    PageRange, Refusal, Reply, Segment, WINDOW_FIRST, WINDOW_LAST, Whim, Width,
 };
 use std::alloc::{AllocError, Global};
 use std::marker::Model;
@@ -33,10 +34,15 @@ use unit::{Contexts, Hit};
 use vtdbits::{ContextEntry, DeviceNumber, DomainId};
 
 mod attachments;
+mod flushing;
 mod performing;
 mod totals;
 
+use flushing::has_ticket;
 pub use totals::{DomainTotals, Totals};
+
+// The places for tickets.
+const TICKETS: usize = MOST_TICKETS as usize;
 
 /// What a call answers: its reply, and what a request that reached a host address was answered.
 #[derive(Clone, Copy, Debug, PartialEq, Eq)]
@@ -53,6 +59,7 @@ pub struct State {
     domains: Vec<Option<Domain>>,
     rooms: Vec<Room>,
     iommu: Iommu,
+    tickets: ArrayVec<Ticket, TICKETS>,
     calls: u64,
 }
 
@@ -63,9 +70,10 @@ impl Model for State {
 
     ghost Value = { State };
 
-    ghost view = { λ s. record { pool = s.pool; domains = s.domains.items; iommu = s.iommu; calls = s.calls } };
+    ghost view = { λ s. record { pool = s.pool; domains = s.domains.items; iommu = s.iommu; tickets = s.tickets.items; calls = s.calls } };
 
-    ghost invariant = { λ s. IsWhole s.pool.frames (record { pool = s.pool; domains = s.domains.items; iommu = s.iommu; calls = s.calls })
+    ghost invariant = { λ s. IsWhole s.pool.frames
+        (record { pool = s.pool; domains = s.domains.items; iommu = s.iommu; tickets = s.tickets.items; calls = s.calls })
         × HasRooms (vec_len s.rooms) (vec_capacity s.rooms) s.domains.items };
 }
 
@@ -82,6 +90,7 @@ impl State {
             domains: no_domains(alloc)?,
             rooms: all_rooms(alloc)?,
             iommu: Iommu::new(),
+            tickets: ArrayVec::new(),
             calls: 0,
         })
     }
@@ -151,8 +160,8 @@ impl State {
         Ok(())
     }
 
-    /// Ends a domain to which no device is attached, with all its pages, and gives all its table frames back. Refuses
-    /// with `NoDomain`, or `Busy` where a device is attached.
+    /// Ends a domain to which no device is attached and of which no ticket is open, with all its pages, and gives all its
+    /// table frames back. Refuses with `NoDomain`, or `Busy` where a device is attached or a ticket open.
     pub fn drop_domain(&mut self, domain: u64) -> Result<(), Refusal>
         requires { self.old.calls < CALLS_END }
         ensures { Does self.old (calls.Drop domain) (done_reply result) self.new }
@@ -161,8 +170,11 @@ impl State {
         let Some(id) = DomainId::new(domain) else {
             return Err(Refusal::NoDomain);
         };
-        // A device is attached to a domain that is there.
+        // A device is attached to a domain that is there, and a ticket is of one.
         if is_attached(&self.iommu.contexts, id) {
+            return Err(Refusal::Busy);
+        }
+        if has_ticket(self.tickets.as_slice(), id) {
             return Err(Refusal::Busy);
         }
         let Some(domain) = self.domains[place_of(id)].take() else {

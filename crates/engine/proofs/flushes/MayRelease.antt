@@ -172,6 +172,18 @@ first_released pool pool1 space space1 r rest are went =
     others_releasable pool pool1 space space1 (r ∷ rest) rest r are went (λ x i. inr i) (λ x i same. differ.0 x i (sym same)) differ.1
     (λ f. held-first r rest f)
 
+-- the others, where it stays
+pub rest_releasable : (pool : Pool) (space : Space) (r : Record) (rest : List Record) → AreReleasable pool space (r ∷ rest)
+    → AreReleasable pool space rest
+rest_releasable pool space r rest are = record {
+  is_space = are.is_space;
+  pieces = λ x i. are.pieces x (inr i);
+  differ = (differ_first r rest are.differ).1;
+  once = λ f. omega (arith, are.once f, held-first r rest f);
+  within = λ f some. are.within f (omega (arith, some, held-first r rest f));
+  zeroed = λ f some. are.zeroed f (omega (arith, some, held-first r rest f));
+}
+
 -- the last one
 differ_last : (rest : List Record) (r : Record) → AllDiffer (rest ++ r ∷ [])
     → ((x : Record) → IsIn x rest → piece_of x.range pages.Retired ≢ piece_of r.range pages.Retired) × AllDiffer rest
