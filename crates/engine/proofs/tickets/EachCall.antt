@@ -29,7 +29,7 @@ use Rattle.engine.specs.declared.iommu.Shown.{Shown}
 use Rattle.engine.specs.declared.record.Record.{Record}
 use Rattle.engine.specs.declared.ticket.Ticket.{Ticket}
 use Rattle.engine.specs.Domains.{Domain, Parts, domain_at}
-use Rattle.engine.specs.Ending.{ByMode, EndsBy, Invalidates, MakesRoom, PutsOff, UnmapsStrictly, shown_of, status_of, was_before}
+use Rattle.engine.specs.Ending.{ByMode, EndsBy, Invalidates, MakesRoom, PutsOff, UnmapsStrictly, domain_shown, status_of, was_before}
 use Rattle.engine.specs.State.{Becomes, Exact, State, begins, parts_in}
 use Rattle.engine.specs.Quarantine.{Quarantine, ticket_there}
 use Rattle.engine.specs.Tickets.{KeepsTickets}
@@ -126,7 +126,7 @@ module _ (m t : State) (w : World) (q : Quarantine m w) (many : length m.domains
     | inl has ↦ calm (does.quiet ∙ ap (λ (p : Parts). p.iommu) has.same) tickets ages
     | inr empties ↦
         tickets_done m t k m.iommu.contexts (IotlbDomain domain)
-        (subst (λ (y : Iommu). Invalidates m.iommu (IotlbDomain domain) (shown_of h.root (length h.records)) y) (sym does.quiet)
+        (subst (λ (y : Iommu). Invalidates m.iommu (IotlbDomain domain) (domain_shown m.pool h) y) (sym does.quiet)
         empties.flushes.invalidates) ages tickets
   ]
 
@@ -143,7 +143,7 @@ module _ (m t : State) (w : World) (q : Quarantine m w) (many : length m.domains
   tickets_kept (calls.Attach device domain) _ step is = only_counted is
   tickets_kept (calls.Drop domain) Done step (h, there, closes, is) =
       tickets_done m t k m.iommu.contexts (IotlbDomain domain)
-      (subst (λ (y : Iommu). Invalidates m.iommu (IotlbDomain domain) (shown_of h.root (length h.records)) y) (sym closes.quiet)
+      (subst (λ (y : Iommu). Invalidates m.iommu (IotlbDomain domain) (domain_shown m.pool h) y) (sym closes.quiet)
       closes.flushes.invalidates)
       (dropped_ages domain h there (λ some. step.0.0.1.0 (inr some)) (ap (λ (x : State). x.domains) is)) (ap (λ (x : State). x.tickets) is)
   tickets_kept (calls.Drop domain) _ step is = only_counted is
