@@ -1,6 +1,7 @@
 pub mod Ageing
 pub mod Stay
 pub mod Begun
+pub mod BeginDoes
 pub mod Requested
 pub mod UnitStep
 pub mod Closed
