@@ -76,6 +76,26 @@ impl Iommu {
         }
     }
 
+    // The same, as after so many waits that are all done.
+    #[cfg(test)]
+    pub(crate) fn after(waits: u64) -> Iommu
+        ensures { result ≡ record {
+          contexts = replicate DEVICES ContextEntry.Absent;
+          ring = ring_of [] (status_of waits) [];
+          unit = unit_state nothing 0 0;
+          sent = waits;
+          shown = None;
+        } }
+    {
+        let mut ring = Ring::new();
+        ring.complete(status_of(waits));
+        Iommu {
+            ring,
+            sent: waits,
+            ..Iommu::new()
+        }
+    }
+
     /// How many waits were sent, which is the number of the last one.
     pub(crate) fn sent(&self) -> u64
         ensures { result ≡ self.now.sent }

@@ -36,6 +36,8 @@ use vtdbits::{ContextEntry, DeviceNumber, DomainId};
 mod attachments;
 mod flushing;
 mod performing;
+#[cfg(test)]
+mod tests;
 mod totals;
 
 use flushing::has_ticket;
