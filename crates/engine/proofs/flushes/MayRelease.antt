@@ -33,7 +33,7 @@ use Rattle.dmatypes.specs.declared.width.TheConstants.{LEVELS}
 -- ---- pieces
 
 -- a piece has a page
-piece_some : (from : ℕ) (q : Piece) (ps : List Piece) → IsOrdered from ps → IsIn q ps → (from ≤ q.first) × (q.first ≤ q.last)
+pub piece_some : (from : ℕ) (q : Piece) (ps : List Piece) → IsOrdered from ps → IsIn q ps → (from ≤ q.first) × (q.first ≤ q.last)
 piece_some from q [] ordered inside = absurd inside
 piece_some from q (p ∷ ps) ordered (inl same) =
     subst (λ (x : Piece). (from ≤ x.first) × (x.first ≤ x.last)) (sym same) (ordered.0, ordered.1)
@@ -41,7 +41,7 @@ piece_some from q (p ∷ ps) ordered (inr rest) =
     let k = piece_some (p.last + 1) q ps ordered.3 rest in (omega (arith, k.0, ordered.0, ordered.1), k.1)
 
 -- ranges that are apart are of different pieces
-pieces_differ : (a b : Range) → 1 ≤ a.first → a.first ≤ a.first + a.pages - 1 → b.first ≤ b.first + b.pages - 1 → AreApart a b
+pub pieces_differ : (a b : Range) → 1 ≤ a.first → a.first ≤ a.first + a.pages - 1 → b.first ≤ b.first + b.pages - 1 → AreApart a b
     → piece_of a pages.Retired ≢ piece_of b pages.Retired
 pieces_differ a b positive some_a some_b apart same =
     let first : a.first ≡ b.first = ap (λ (x : Piece). x.first) same in

@@ -61,7 +61,7 @@ last_is first last many sum few = omega (arith, sum, few)
 -- ---- a ticket is closed
 
 module _ (m : State) (k : KeepsTickets m) where
-  last_done_is : last_done m.iommu ≡ k.reached
+  pub last_done_is : last_done m.iommu ≡ k.reached
   last_done_is =
       let many = follow_length k.reached m.iommu.sent (k.half ++ k.ahead) k.sent in
       let split = ap length k.split in
