@@ -16,7 +16,7 @@ pub returns-in-Reap-Reaped : goal.returns-in-Reap-Reaped
 returns-in-Reap-Reaped c w q =
     let r = c.in-Reap-Reaped in
     rw (r.is-0, r.is-1)
-    (told_reap c.args.state.now w r.domain r.number-0 r.field-0-1 _ (rw (r.is-0, r.is-1) at q) c.devices_of-2.ensures)
+    (told_reap c.args.state.now w r.domain r.number-0 r.field-0-1 _ (rw (r.is-0, r.is-1) at q) c.devices_of-in-Reap-Reaped.ensures)
 
 pub returns-then-takes_away : goal.returns-then-takes_away
 returns-then-takes_away c w q =
