@@ -187,7 +187,8 @@ pub domain_flushed : (m t : State) (w : World) (i n : ℕ) (h : Domain) (v : wor
     → length m.domains ≡ MOST_DOMAINS → i < length m.domains → domain_at m.domains (i + 1) ≡ Some h → w.domains (i + 1) ≡ Some v
     → t.iommu.unit.caches ≡ left_by_all (m.iommu.ring.waiting ++ IotlbDomain (i + 1) ∷ Wait n ∷ []) m.iommu.unit.caches
     → ReleasesAll m.pool h.space h.records t.pool space → t.domains ≡ slice_set m.domains i (Some (domain_after h space []))
-    → t.iommu.contexts ≡ m.iommu.contexts → t.tickets ≡ m.tickets → Quarantine t (record w { domains = put (i + 1) (Some (flushed v)) w.domains })
+    → t.iommu.contexts ≡ m.iommu.contexts → t.tickets ≡ m.tickets
+    → Quarantine t (record w { domains = put (i + 1) (Some (flushed v)) w.domains })
 domain_flushed m t w i n h v space q many less there here caches all domains row tickets =
     changes_domain m t w (i + 1) h (domain_after h space []) v (flushed v) q many there here
     (flush_changes m t w i h v space q many less there (mirrors_of m w (i + 1) h v q there here)

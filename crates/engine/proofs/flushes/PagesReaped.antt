@@ -1,5 +1,5 @@
 -- Pages of a domain, once some of its retired records come free and the others are left.
-use Rattle.std.proofs.Common.{◌≡◌, ◌≢◌, ℕ, ◌-◌, inl, inr, Bool, not, List, filter, Option, Some, None, IsSome, sym, ◌∙◌}
+use Rattle.std.proofs.Common.{◌≡◌, ℕ, inl, inr, Bool, not, List, filter, IsSome, Some, sym, ◌∙◌}
 use Rattle.dmatypes.specs.World.{Retired, IsIn}
 use Rattle.dmatypes.specs.World as world
 use Rattle.dmatypes.proofs.lists.Filtered.{in_filter}
@@ -26,6 +26,9 @@ module _ (space space' : Space) (v : world.Domain) (test : Retired → Bool) (pa
   was_retired : (p : ℕ) → HasPage gone p → state_at space.pieces p ≡ Some pages.Retired
   was_retired p some = (parts.retired p).1 (some.0, (in_filter test some.0 v.retired some.1).0, some.2)
 
+  not_live : (p : ℕ) → HasPage gone p → IsSome (v.live p) → ⊥
+  not_live p some live = live_not_retired (state_at space.pieces p) ((parts.live p).1 live) (was_retired p some)
+
   not_left : (p : ℕ) → HasPage gone p → HasPage left p → ⊥
   not_left p some other = parts_apart test v.retired some.0 other.0 parts.apart some.1 other.1 p some.2 other.2
 
@@ -49,7 +52,7 @@ module _ (space space' : Space) (v : world.Domain) (test : Retired → Bool) (pa
         λ e. (
           is_page space p pages.Retired parts.is_space (was_retired p some),
           record {
-            not_live = not_some (v.live p) (λ live. live_not_retired (state_at space.pieces p) ((parts.live p).1 live) (was_retired p some));
+            not_live = not_some (v.live p) (not_live p some);
             not_retired = λ r i in_record. not_left p some (r, i, in_record);
           },
         ),
@@ -75,7 +78,7 @@ module _ (space space' : Space) (v : world.Domain) (test : Retired → Bool) (pa
     live = λ p. elim (has_or_not gone p) [
       | inl some ↦ (
         λ e. absurd (free_not_live (state_at space'.pieces p) (inside p some) e),
-        λ live. absurd (live_not_retired (state_at space.pieces p) ((parts.live p).1 live) (was_retired p some)),
+        λ live. absurd (not_live p some live),
       )
       | inr none ↦ (λ e. (parts.live p).0 (sym (outside p none) ∙ e), λ live. outside p none ∙ (parts.live p).1 live)
     ];

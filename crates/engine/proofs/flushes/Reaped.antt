@@ -1,6 +1,6 @@
 -- A domain and its world, once a done flush that was begun is reaped: what it releases, the unit has forgotten.
-use Rattle.std.proofs.Common.{◌≡◌, ◌≢◌, ℕ, ◌+◌, ◌<◌, ◌≤◌, inl, inr, true, false, cond, not, List, [], ◌∷◌, ◌++◌, Bool, filter, length, map, Some, refl}
-use Rattle.std.proofs.Common.{sym, ap, subst, ◌∙◌, arith, slice_set}
+use Rattle.std.proofs.Common.{◌≡◌, ℕ, ◌+◌, ◌<◌, ◌≤◌, inl, inr, true, false, cond, not, List, [], ◌∷◌, ◌++◌, Bool}
+use Rattle.std.proofs.Common.{filter, length, map, Some, refl, sym, ap, subst, ◌∙◌, arith, slice_set}
 use Rattle.std.proofs.lemmas.Bool.{ltb-true}
 use Rattle.dmatypes.specs.Page.{Range, IsWithin}
 use Rattle.dmatypes.specs.World.{Retired, World, IsIn, is_before, put, reaped, without_ticket}
@@ -9,7 +9,7 @@ use Rattle.dmatypes.proofs.lists.Filtered.{in_filter}
 use Rattle.iova.specs.declared.piece.PageState.TheVariants as pages
 use Rattle.iova.specs.Pieces.{piece_of}
 use Rattle.iova.specs.Space.{Space}
-use Rattle.tables.specs.Pool.{Pool, memory, occurs, IsZeroed}
+use Rattle.tables.specs.Pool.{Pool, memory, IsZeroed}
 use Rattle.tables.specs.Tree.{IsLeafAt, IsTableAt, states, uses}
 use Rattle.unit.specs.Caches.{Caches, CachedLeaf, CachedNonLeaf}
 use Rattle.engine.specs.declared.record.Record.{Record}
@@ -70,17 +70,20 @@ module _ (pool pool' : Pool) (space' : Space) (h : Domain) (v : world.Domain) (n
       → IsIn (piece_of r.range pages.Retired) space'.pieces
   piece_left r inside =
       let was = (in_filter (λ x. not (is_before number x)) r v.retired inside).0 in
-      (all.in_use (piece_of r.range pages.Retired) (λ e. cc)).1 (mirrors.pieces.ranges r was, λ k goes same.
-          let other = gone_there k goes in
-          let its = (in_filter (is_before number) other.0 v.retired other.1).0 in
-          let mine_some =
-          piece_some 1 (piece_of r.range pages.Retired) h.space.pieces mirrors.pieces.is_space.ordered (mirrors.pieces.ranges r was) in
-          let its_some =
-          piece_some 1 (piece_of other.0.range pages.Retired) h.space.pieces mirrors.pieces.is_space.ordered
-          (mirrors.pieces.ranges other.0 its) in
-          pieces_differ r.range other.0.range mine_some.0 mine_some.1 its_some.1
-          (λ p in_r in_other. parts_apart (is_before number) v.retired other.0 r mirrors.pieces.apart other.1 inside p in_other in_r)
-          (same ∙ ap (λ (x : Range). piece_of x pages.Retired) other.2))
+      (all.in_use (piece_of r.range pages.Retired) (λ e. cc)).1 (
+        mirrors.pieces.ranges r was,
+        λ k goes same.
+            let other = gone_there k goes in
+            let its = (in_filter (is_before number) other.0 v.retired other.1).0 in
+            let mine_some =
+            piece_some 1 (piece_of r.range pages.Retired) h.space.pieces mirrors.pieces.is_space.ordered (mirrors.pieces.ranges r was) in
+            let its_some =
+            piece_some 1 (piece_of other.0.range pages.Retired) h.space.pieces mirrors.pieces.is_space.ordered
+            (mirrors.pieces.ranges other.0 its) in
+            pieces_differ r.range other.0.range mine_some.0 mine_some.1 its_some.1
+            (λ p in_r in_other. parts_apart (is_before number) v.retired other.0 r mirrors.pieces.apart other.1 inside p in_other in_r)
+            (same ∙ ap (λ (x : Range). piece_of x pages.Retired) other.2),
+      )
 
   mirrors_reaped : Mirrors pool'.words (domain_after h space' (left_by_reap number h)) (reaped number v)
   mirrors_reaped = record {
@@ -106,7 +109,7 @@ module _ (words words' : List ℕ) (space' : Space) (h : Domain) (v : world.Doma
   forgotten : (k : Record) → IsIn k (filter (was_before number) h.records) → IsForgotten c d k
   forgotten k goes = let was = in_filter (was_before number) k h.records goes in clear k was.0 (ltb-true k.mark number was.1)
 
-  pub leaf_reaped : (l : CachedLeaf) → IsIn l c.leaves → l.domain ≡ d → IsLawfulLeaf words l h v
+  leaf_reaped : (l : CachedLeaf) → IsIn l c.leaves → l.domain ≡ d → IsLawfulLeaf words l h v
       → IsLawfulLeaf words' l (domain_after h space' (left_by_reap number h)) (reaped number v)
   leaf_reaped l inside own lawful = record {
     stated = λ p low high. elim (lawful.stated p low high) [
@@ -124,7 +127,7 @@ module _ (words words' : List ℕ) (space' : Space) (h : Domain) (v : world.Doma
         subst (λ ws. IsLeafAt (memory ws) LEVELS h.root l.first l.pages l.frame l.rights) (sym same) (lawful.entry strict);
   }
 
-  pub table_reaped : (i : CachedNonLeaf) → IsIn i c.non_leaves → i.domain ≡ d → IsLawfulTable words i h v
+  table_reaped : (i : CachedNonLeaf) → IsIn i c.non_leaves → i.domain ≡ d → IsLawfulTable words i h v
       → IsLawfulTable words' i (domain_after h space' (left_by_reap number h)) (reaped number v)
   table_reaped i inside own lawful = record {
     span = lawful.span;
@@ -198,17 +201,21 @@ module _ (m : State) (w : World) (q : Quarantine m w) (many : length m.domains �
 
 -- ---- the ticket
 
-tickets_there : (domain number : ℕ) (ts : List Ticket)
-    → filter (λ x. not (world.is_ticket (record { domain = domain; number = number }) x)) (map ticket_there ts)
-    ≡ map ticket_there (filter (λ x. not (is_ticket domain number x)) ts)
-tickets_there domain number [] = refl
-tickets_there domain number (t ∷ ts) = by_test (not (is_ticket domain number t)) (tickets_there domain number ts)
+-- the other tickets of the state, and those of the world
+abbrev others_here : ℕ → ℕ → List Ticket → List Ticket
+others_here domain number ts = filter (λ x. not (is_ticket domain number x)) ts
+
+abbrev others_there : ℕ → ℕ → List world.Ticket → List world.Ticket
+others_there domain number ts = filter (λ x. not (world.is_ticket (record { domain = domain; number = number }) x)) ts
+
+same_others : (domain number : ℕ) (ts : List Ticket)
+    → others_there domain number (map ticket_there ts) ≡ map ticket_there (others_here domain number ts)
+same_others domain number [] = refl
+same_others domain number (t ∷ ts) = by_test (not (is_ticket domain number t)) (same_others domain number ts)
   where
-    by_test : (b : Bool) → filter (λ x. not (world.is_ticket (record { domain = domain; number = number }) x)) (map ticket_there ts)
-        ≡ map ticket_there (filter (λ x. not (is_ticket domain number x)) ts)
-        → cond b (ticket_there t ∷ filter (λ x. not (world.is_ticket (record { domain = domain; number = number }) x)) (map ticket_there ts))
-        (filter (λ x. not (world.is_ticket (record { domain = domain; number = number }) x)) (map ticket_there ts))
-        ≡ map ticket_there (cond b (t ∷ filter (λ x. not (is_ticket domain number x)) ts) (filter (λ x. not (is_ticket domain number x)) ts))
+    by_test : (b : Bool) → others_there domain number (map ticket_there ts) ≡ map ticket_there (others_here domain number ts)
+        → cond b (ticket_there t ∷ others_there domain number (map ticket_there ts)) (others_there domain number (map ticket_there ts))
+        ≡ map ticket_there (cond b (t ∷ others_here domain number ts) (others_here domain number ts))
     by_test true rest = ap (λ xs. ticket_there t ∷ xs) rest
     by_test false rest = rest
 
@@ -222,7 +229,5 @@ quarantine_closed m w domain number q = record {
   caches = record { leaves = q.caches.leaves; tables = q.caches.tables };
   contexts = record { devices = q.contexts.devices; roots = q.contexts.roots; cached = q.contexts.cached };
   frames = q.frames;
-  tickets =
-      ap (filter (λ x. not (world.is_ticket (record { domain = domain; number = number }) x))) q.tickets
-      ∙ tickets_there domain number m.tickets;
+  tickets = ap (others_there domain number) q.tickets ∙ same_others domain number m.tickets;
 }

@@ -42,7 +42,8 @@ reap-released-requires-clause-can c =
     c.in-Some-index_mut.is in
     can_unmap _ c.in-Some.ticket.domain c.in-Some-index_mut.domain c.self.invariant.0.of_world c.self.invariant.0.places found.there
 
-found_by : (c : goal.After-retain) → Finds (the_view c.self.inside) c.in-Some.ticket.domain c.place_of.result (Some c.in-Some-index_mut.domain)
+found_by : (c : goal.After-retain) → Finds (the_view c.self.inside) c.in-Some.ticket.domain c.place_of.result
+    (Some c.in-Some-index_mut.domain)
 found_by c =
     finds c.self.invariant.0 refl c.place_of.ensures.place c.place_of.ensures.low c.index_mut.ensures.value
     c.in-Some-index_mut.is
