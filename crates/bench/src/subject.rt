@@ -5,7 +5,7 @@ use crate::driver::UNALIGNED_FRAME;
 use crate::hitting::{Hits, time_hits};
 use crate::loading::time_loads;
 use crate::managing::{Way, time_manager};
-use crate::mapping::{Deferred, Listing, Mapping, Shape, Splitting};
+use crate::mapping::{Deferred, Flushing, Listing, Mapping, Shape, Splitting};
 use crate::request::Request;
 use crate::reusing::{Bursts, Freed, Holes, Reusing, Sizes};
 use crate::scripting::{Lines, time_script};
@@ -34,7 +34,7 @@ enum Kind {
     MapCrowded,
     Split,
     // With a flush after so many rounds.
-    MapLazily(u64),
+    MapLazily(u64, Flushing),
     // Behind so many live pieces.
     Take(u32),
     // While so many ranges are live.
@@ -57,7 +57,7 @@ const LAST_DEVICE: u64 = DEVICES - 1;
 
 /// All that is measured, in the table's order. The maps begin at frames behind the table frames; leaves of 2 MiB
 /// come where the frame is a multiple of a span's pages.
-pub(crate) const SUBJECTS: [Subject; 50] = [
+pub(crate) const SUBJECTS: [Subject; 51] = [
     Subject {
         name: "map and unmap 1 page",
         kind: Kind::Map(Shape {
@@ -117,11 +117,15 @@ pub(crate) const SUBJECTS: [Subject; 50] = [
     },
     Subject {
         name: "map and unmap lazily, 256 a flush",
-        kind: Kind::MapLazily(256),
+        kind: Kind::MapLazily(256, Flushing::AtOnce),
+    },
+    Subject {
+        name: "map and unmap lazily, 256 a flush in two halves",
+        kind: Kind::MapLazily(256, Flushing::InTwoHalves),
     },
     Subject {
         name: "map and unmap lazily, 16 a flush",
-        kind: Kind::MapLazily(16),
+        kind: Kind::MapLazily(16, Flushing::AtOnce),
     },
     Subject {
         name: "take and release behind 16 live pieces",
@@ -350,7 +354,9 @@ impl Subject {
             Kind::MapList => time(clock, rounds, &mut Listing::new(alloc)?),
             Kind::MapCrowded => time(clock, rounds, &mut Crowded::new(alloc)?),
             Kind::Split => time(clock, rounds, &mut Splitting::new(alloc)?),
-            Kind::MapLazily(most) => time(clock, rounds, &mut Deferred::new(alloc, most)?),
+            Kind::MapLazily(most, flushing) => {
+                time(clock, rounds, &mut Deferred::new(alloc, most, flushing)?)
+            }
             Kind::Take(live) => time(clock, rounds, &mut Taking::new(alloc, live)?),
             Kind::Reuse(live, freed, sizes) => {
                 let mut reusing = Reusing::new(alloc, live, freed, sizes)?;
