@@ -238,7 +238,8 @@ with_map : (m t : State) (w : World) (i : ℕ) (h h1 : Domain) (v : world.Domain
     → w.domains (i + 1) ≡ Some v
     → Mirrors m.pool.words h v → Places m.pool h (placement segments order rights first) t.pool h1 → 1 ≤ total_pages segments
     → t.domains ≡ slice_set m.domains i (Some (domain_mapped h h1.space)) → t.iommu.contexts ≡ m.iommu.contexts
-    → t.iommu.unit ≡ m.iommu.unit → t.tickets ≡ m.tickets → Quarantine t (record w { domains = put (i + 1) (Some (mapped segments first rights v)) w.domains })
+    → t.iommu.unit ≡ m.iommu.unit → t.tickets ≡ m.tickets
+    → Quarantine t (record w { domains = put (i + 1) (Some (mapped segments first rights v)) w.domains })
 with_map m t w i h h1 v segments first order rights q many less there here mirrors places some domains row unit tickets = record {
   table_frames = q.table_frames ∙ sym places.moves.frames;
   domains =

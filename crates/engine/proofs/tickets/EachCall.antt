@@ -1,6 +1,6 @@
 -- What the tickets of a state keep, call by call.
-use Rattle.std.proofs.Common.{◌≡◌, ◌≢◌, ℕ, ◌+◌, ◌-◌, ◌≤◌, ◌<◌, inl, inr, List, [], ◌∷◌, ◌++◌, Option, Some, None, length, refl, sym, ap, subst, ◌∙◌}
-use Rattle.std.proofs.Common.{append_assoc, arith, map, not, slice_set, ⊎_elim}
+use Rattle.std.proofs.Common.{◌≡◌, ◌≢◌, ℕ, ◌+◌, ◌-◌, ◌≤◌, ◌<◌, inl, inr, List, [], ◌∷◌, ◌++◌, Option, Some, None, length}
+use Rattle.std.proofs.Common.{refl, sym, ap, subst, ◌∙◌, append_assoc, arith, map, not, slice_set, ⊎_elim}
 use Rattle.std.proofs.lemmas.Bool.{cases_lt}
 use Rattle.std.proofs.lemmas.List.{length-map}
 use Rattle.std.proofs.lemmas.Option.{same_Some}
@@ -181,10 +181,12 @@ module _ (m t : State) (w : World) (q : Quarantine m w) (many : length m.domains
       (record { begun = omega arith; few = omega arith; records = λ r inside. inl inside }) in
       let high : domain < MOST_DOMAINS + 1 = domain_low m.domains domain h many there in
       tickets_begun m t (record { domain = domain; number = number; wait = t.iommu.sent }) k (ap (λ (x : State). x.tickets) is)
-      (ap (λ (x : Iommu). x.ring.waiting) sends ∙ append_assoc m.iommu.ring.waiting (IotlbDomain domain ∷ []) (Wait (status_of (m.iommu.sent + 1)) ∷ [])
+      (ap (λ (x : Iommu). x.ring.waiting) sends
+      ∙ append_assoc m.iommu.ring.waiting (IotlbDomain domain ∷ []) (Wait (status_of (m.iommu.sent + 1)) ∷ [])
       ∙ ap (λ n. m.iommu.ring.waiting ++ (IotlbDomain domain ∷ Wait (status_of n) ∷ [])) (sym one))
       (ap (λ (x : Iommu). x.ring.status) sends) (ap (λ (x : Iommu). x.unit.caches) sends) one one ages
-      (let count : length w.tickets ≡ length m.tickets = ap (λ (ts : List world.Ticket). length ts) q.tickets ∙ length-map m.tickets ticket_there in
+      (let count : length w.tickets ≡ length m.tickets =
+      ap (λ (ts : List world.Ticket). length ts) q.tickets ∙ length-map m.tickets ticket_there in
       ⊎_elim (λ (less : length m.tickets < MOST_TICKETS). less) (λ (full : MOST_TICKETS ≤ length m.tickets).
       absurd (step.0.0.1.0 (omega (arith, full, count)))) (cases_lt (length m.tickets) MOST_TICKETS)) (
         begins h,

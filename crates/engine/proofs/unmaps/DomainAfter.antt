@@ -302,10 +302,11 @@ pub strict_unmapped : (m t : State) (w : World) (i n : ℕ) (h h1 : Domain) (v :
     → w.domains (i + 1) ≡ Some v → v.mode ≡ Strict → IsPageRange r.range → RetiresAndUnmaps m.pool h r pool1 h1
     → IsSent (i + 1) r.range r.cut x → t.iommu.unit.caches ≡ left_by_all (m.iommu.ring.waiting ++ x ∷ Wait n ∷ []) m.iommu.unit.caches
     → Releases pool1 h1.space r t.pool space2 → t.domains ≡ slice_set m.domains i (Some (domain_after h space2 h.records))
-    → t.iommu.contexts ≡ m.iommu.contexts → t.tickets ≡ m.tickets → Quarantine t (record w { domains = put (i + 1) (Some (unmapped r.range v)) w.domains })
+    → t.iommu.contexts ≡ m.iommu.contexts → t.tickets ≡ m.tickets
+    → Quarantine t (record w { domains = put (i + 1) (Some (unmapped r.range v)) w.domains })
 strict_unmapped m t w i n h h1 v r x pool1 space2 q many less there here strict fits cuts sent caches releases domains row tickets =
-    strict_keeps m t w i h h1 v r pool1 q many less there here (mirrors_of m w (i + 1) h v q there here) fits cuts row tickets releases.words
-    n x space2 strict sent caches releases domains
+    strict_keeps m t w i h h1 v r pool1 q many less there here (mirrors_of m w (i + 1) h v q there here) fits cuts row tickets
+    releases.words n x space2 strict sent caches releases domains
 
 -- an unmap of a lazy domain that has room for one more record
 pub lazy_put_off : (m t : State) (w : World) (i : ℕ) (h h1 : Domain) (v : world.Domain) (r : Record)

@@ -77,7 +77,8 @@ module _ (m t : State) (w : World) (i n : ℕ) (h : Domain) (v : world.Domain) (
 
   emptied_then : (h2 : Domain) (r : Record) → v.mode ≡ Lazy → IsPageRange r.range → RetiresAndUnmaps pool1 emptied r t.pool h2
       → t.domains ≡ slice_set m.domains i (Some (domain_after h h2.space (r ∷ []))) → t.iommu.contexts ≡ m.iommu.contexts
-      → t.tickets ≡ m.tickets → Quarantine t (record w { domains = put (i + 1) (Some (put_off r.range (flushed v))) (put (i + 1) (Some (flushed v)) w.domains) })
+      → t.tickets ≡ m.tickets
+      → Quarantine t (record w { domains = put (i + 1) (Some (put_off r.range (flushed v))) (put (i + 1) (Some (flushed v)) w.domains) })
   emptied_then h2 r lazy fits cuts domains row tickets =
       lazy_put_off between t flushed_world i emptied h2 (flushed v) r flushed_first (set_length m.domains i (Some emptied) ∙ many)
       (rw (set_length m.domains i (Some emptied)) less) there_between (put_same (i + 1) (Some (flushed v)) w.domains) lazy fits cuts refl

@@ -152,7 +152,8 @@ module _ (m t : State) (i address pages : ℕ) (h h1 : Domain) (r : Record) (man
         rw (next_unmapped w (i + 1) address pages MOST_RECORDS both.0 (put_off (range_at address pages) (flushed both.0)) both.1
             (full_after (range_at address pages) both.0 lazy most))
             (of_call w (λ (x : Range). put_off x (flushed both.0))
-            (full_put_off m t w i n h h1 both.0 r pool1 space1 q many less there both.1 lazy fits_record caches all cuts domains row tickets)),
+            (full_put_off m t w i n h h1 both.0 r pool1 space1 q many less there both.1 lazy fits_record caches all cuts domains row
+            tickets)),
       )
 
 -- ---- refusals

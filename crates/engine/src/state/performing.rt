@@ -5,7 +5,8 @@ ghost use Rattle.dmatypes.specs.World.{World};
 ghost use Rattle.dmatypes.specs.declared.limits.TheConstants.{CALLS_END};
 ghost use Rattle.engine.specs.Hits.{IsHitIn, IsNoRequest, hit_in};
 ghost use Rattle.engine.specs.Quarantine.{Quarantine};
-ghost use Rattle.engine.specs.State.{begun_reply, done_reply, flushed_reply, reaped_reply, made_reply, mapped_reply, request_reply, unmapped_reply};
+ghost use Rattle.engine.specs.State.{begun_reply, done_reply, flushed_reply, made_reply, mapped_reply, reaped_reply, request_reply};
+ghost use Rattle.engine.specs.State.{unmapped_reply};
 ghost use Rattle.engine.specs.Steps.{Does};
 
 use super::{Answer, State};

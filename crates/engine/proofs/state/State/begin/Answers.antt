@@ -83,7 +83,8 @@ did : (c : goal.After-push) → Did (the_view c.self.inside) (calls.Begin c.args
 did c =
     let found = found_by c in
     let room : length c.self.inside.tickets.items < MOST_TICKETS = omega (arith, c.len.ensures.value, c.if-len-ge-TICKETS.false) in
-    let sends : Begins c.self.inside.iommu c.args.domain c.begin-wait.new.self = rw (← c.in-Some.ensures.value) c.begin-wait.ensures.begins in
+    let sends : Begins c.self.inside.iommu c.args.domain c.begin-wait.new.self =
+    rw (← c.in-Some.ensures.value) c.begin-wait.ensures.begins in
     begins_flush (the_view c.self.inside) c.args.domain c.place_of.result c.begin-number.result c.in-Some.id c.begin-wait.result
     c.in-Some-index_mut.domain c.begin-number.new.self c.begin-wait.new.self c.push.new.self.items c.self.invariant.0 found.less found.id
     found.there room sends c.begin-number.ensures.begins c.begin-number.ensures.number c.in-Some.ensures.value c.begin-wait.ensures.number

@@ -6,7 +6,13 @@ use Rattle.engine.proofs.states.New.{of_empty_world, whole_new}
 use Rattle.engine.proofs.state.State.new.Goals as goal
 
 abbrev made : goal.After-new-3 → State
-made c = record { pool = c.in_ok-new.field-0; domains = c.in_ok-no_domains.field-0.items; iommu = c.new-2.result; tickets = c.new-3.result.items; calls = 0 }
+made c = record {
+  pool = c.in_ok-new.field-0;
+  domains = c.in_ok-no_domains.field-0.items;
+  iommu = c.new-2.result;
+  tickets = c.new-3.result.items;
+  calls = 0;
+}
 
 is_new : (c : goal.After-new-3) → IsNew c.args.frames (made c)
 is_new c = record {
