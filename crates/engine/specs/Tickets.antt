@@ -1,5 +1,5 @@
 -- Tickets: flushes that were begun, how far each is, and what the unit has forgotten by then.
-use Rattle.std.specs.Prelude.{◌≡◌, ℕ, ◌+◌, ◌<◌, ◌≤◌, ◌==◌, ◌&&◌, Bool, not, List, [], ◌∷◌, ◌++◌, filter, length, map, Option, Some}
+use Rattle.std.specs.Prelude.{◌≡◌, ℕ, ◌+◌, ◌<◌, ◌≤◌, List, [], ◌∷◌, ◌++◌, length, map, Option, Some}
 use Rattle.dmatypes.specs.Page.{IsWithin}
 use Rattle.dmatypes.specs.World.{IsIn}
 use Rattle.dmatypes.specs.declared.limits.TheConstants.{MOST_TICKETS}

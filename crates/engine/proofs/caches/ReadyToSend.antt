@@ -1,10 +1,8 @@
 -- A state whose calls aren't used up is ready to send.
-use Rattle.std.proofs.Common.{◌≡◌, ◌≢◌, ℕ, ◌+◌, ◌*◌, ◌%◌, ◌^◌, ◌<◌, ◌≤◌, inl, inr, List, [], ◌∷◌, ◌++◌, ap, arith, length, map, subst, sym}
+use Rattle.std.proofs.Common.{◌≡◌, ℕ, ◌+◌, ◌*◌, ◌<◌, ◌≤◌, List, [], ◌∷◌, ◌++◌, ap, arith, length, subst, sym}
 use Rattle.std.proofs.lemmas.List.{length-append}
 use Rattle.dmatypes.specs.declared.limits.TheConstants.{CALLS_END, MOST_TICKETS}
-use Rattle.unit.specs.Filters.{status_after}
 use Rattle.vtdbits.specs.declared.context.ContextEntry.{ContextEntry}
-use Rattle.vtdbits.specs.declared.descriptor.Descriptor.{Descriptor}
 use Rattle.engine.specs.declared.ticket.Ticket.{Ticket}
 use Rattle.engine.specs.Ending.{status_of}
 use Rattle.engine.specs.Ready.{IsReady, NoneWrites}

@@ -1,5 +1,5 @@
 -- A call that sends a descriptor and a wait, and ends once the unit did both: what the type of a state keeps.
-use Rattle.std.proofs.Common.{◌≡◌, ℕ, ◌+◌, ◌∙◌, List, [], Option, length, ap, arith, refl, slice_set}
+use Rattle.std.proofs.Common.{◌≡◌, ℕ, ◌+◌, ◌∙◌, List, Option, length, ap, arith, refl, slice_set}
 use Rattle.dmatypes.specs.declared.call.Call.{Call}
 use Rattle.dmatypes.specs.declared.reply.Reply.{Reply}
 use Rattle.dmatypes.specs.Step.{next}

@@ -168,8 +168,17 @@ module _ (m : State) (domain i : ℕ) (h : Domain) (pool : Pool) (x : Iommu) (wh
             let closes' : Closes (parts_in m h) (i + 1) pool x = rw id at closes in
             let alone : (k : ℕ) → w.devices k ≡ Some domain → ⊥ = (λ k to. nobody k (sym (q.contexts.devices k) ∙ to)) in
             let alone' : (k : ℕ) → w.devices k ≡ Some (i + 1) → ⊥ = rw id at alone in (
-              ((not_none (w.domains domain) v.0 v.1, (⊎_elim (λ some. alone some.0 some.1)
-              (λ some. none_open m domain untold w.tickets (q.tickets) some), tt)), refl),
+              (
+                (
+                  not_none (w.domains domain) v.0 v.1,
+                  (
+                    ⊎_elim (λ some. alone some.0 some.1)
+                        (λ some. none_open m domain untold w.tickets (q.tickets) some),
+                    tt,
+                  ),
+                ),
+                refl,
+              ),
               at_id after_drop w None (domain_dropped m after_drop w i h v.0 q whole.places less at_next there' alone' closes' refl refl),
             );
         exact = tt;

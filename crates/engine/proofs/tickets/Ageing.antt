@@ -1,6 +1,6 @@
 -- How a domain changes while tickets of it are open: its records either were there, or came later than all its begun flushes.
-use Rattle.std.proofs.Common.{◌≡◌, ◌≢◌, ℕ, zero, suc, ◌+◌, ◌-◌, ◌<◌, ◌≤◌, ◌⊎◌, inl, inr, List, Option, Some, None, length}
-use Rattle.std.proofs.Common.{refl, sym, ap, subst, ◌∙◌, arith, slice_set}
+use Rattle.std.proofs.Common.{◌≡◌, ◌≢◌, ℕ, zero, suc, ◌+◌, ◌-◌, ◌<◌, ◌≤◌, ◌⊎◌, inl, inr, List, Option, Some, length}
+use Rattle.std.proofs.Common.{sym, ap, subst, ◌∙◌, arith, slice_set}
 use Rattle.std.proofs.lemmas.Option.{same_Some}
 use Rattle.dmatypes.specs.World.{IsIn, put}
 use Rattle.dmatypes.specs.declared.limits.TheConstants.{MOST_DOMAINS}
@@ -53,7 +53,7 @@ pub others_age : (m t : State) (d : ℕ) (o : Option Domain) → length m.domain
 others_age m t d o many low high is x ne h there = (
   h,
   ap (λ ds. domain_at ds x.domain) is ∙ set_at m.domains d x.domain o many low high
-  ∙ put_other d o (domain_at m.domains) x.domain ne ∙ there,
+      ∙ put_other d o (domain_at m.domains) x.domain ne ∙ there,
   ages_same h,
 )
 

@@ -1,9 +1,9 @@
 -- A begun flush is a step of the model, and keeps the quarantine and what the type of a state keeps; how it is refused.
-use Rattle.std.proofs.Common.{◌≡◌, ℕ, ◌+◌, ◌-◌, ◌<◌, ◌≤◌, ◌∙◌, inl, inr, List, [], ◌∷◌, ◌++◌, Option, Some, None, length}
+use Rattle.std.proofs.Common.{◌≡◌, ℕ, ◌+◌, ◌-◌, ◌<◌, ◌≤◌, ◌∙◌, inl, inr, List, [], ◌∷◌, ◌++◌, Some, None, length}
 use Rattle.std.proofs.Common.{map, refl, sym, ap, subst, arith, slice_set}
 use Rattle.std.proofs.lemmas.List.{length-append, length-map, length-set, map-append}
 use Rattle.dmatypes.specs.declared.call.Call.TheVariants as calls
-use Rattle.dmatypes.specs.declared.limits.TheConstants.{MOST_DOMAINS, MOST_TICKETS}
+use Rattle.dmatypes.specs.declared.limits.TheConstants.{MOST_TICKETS}
 use Rattle.dmatypes.specs.declared.refusal.Refusal.TheVariants as refusals
 use Rattle.dmatypes.specs.declared.reply.Reply.TheVariants.{Refused}
 use Rattle.dmatypes.specs.declared.reply.Reply.TheVariants as Reply
@@ -11,8 +11,6 @@ use Rattle.dmatypes.specs.Conditions.{Stands}
 use Rattle.dmatypes.specs.Step.{Answers, IsStep, next}
 use Rattle.dmatypes.specs.World.{World, begun_once_more, put}
 use Rattle.dmatypes.specs.World as world
-use Rattle.queue.specs.Ring.{with_last}
-use Rattle.vtdbits.specs.declared.descriptor.Descriptor.{Descriptor}
 use Rattle.vtdbits.specs.declared.descriptor.Descriptor.TheVariants.{IotlbDomain, Wait}
 use Rattle.engine.specs.declared.iommu.Iommu.{Iommu}
 use Rattle.engine.specs.declared.ticket.Ticket.{Ticket}
@@ -37,8 +35,11 @@ pub begin_no_domain : (m t : State) (domain : ℕ) → t ≡ counted m → domai
 unfolding Exact IsStep Stands
 begin_no_domain m t domain is none =
     refuses m t (calls.Begin domain) refusals.NoDomain is tt (λ w q.
-    inl (inl (is_none (w.domains domain)
-    (both_absent m.pool.words (domain_at m.domains domain) (w.domains domain) (q.domains domain) none), refl)))
+    inl (inl (
+      is_none (w.domains domain)
+          (both_absent m.pool.words (domain_at m.domains domain) (w.domains domain) (q.domains domain) none),
+      refl,
+    )))
 
 -- as many tickets are open in the world
 tickets_there : (m : State) (w : World) → Quarantine m w → length w.tickets ≡ length m.tickets
@@ -147,7 +148,7 @@ module _ (m : State) (domain i : ℕ) (h : Domain) (x : Iommu) (whole : IsWhole 
             rw v.1 (ap (λ (n : ℕ). Reply.Ticket domain n) (omega (arith, mirrors.ids.begun))),
           ),
           rw v.1 (opens (record w { domains = put domain (Some (begun_once_more v.0)) w.domains })
-          (changes_domain m half_way w domain h (begins h) v.0 (begun_once_more v.0) q whole.places there v.1 (begin_changes w v.0 q v.1))),
+              (changes_domain m half_way w domain h (begins h) v.0 (begun_once_more v.0) q whole.places there v.1 (begin_changes w v.0 q v.1))),
         );
     exact = tt;
     becomes = (h, there, refl, refl, sends, ap (λ j. record after_begin { domains = slice_set m.domains j (Some (begins h)) }) place);

@@ -1,8 +1,7 @@
 -- What the tickets of a state keep, once one more is open.
-use Rattle.std.proofs.Common.{◌≡◌, ℕ, ◌+◌, ◌<◌, ◌≤◌, inl, inr, List, [], ◌∷◌, ◌++◌, Some, length, refl, sym, ap, subst, ◌∙◌}
+use Rattle.std.proofs.Common.{◌≡◌, ◌+◌, ◌<◌, inl, inr, List, [], ◌∷◌, ◌++◌, Some, length, refl, sym, ap, subst, ◌∙◌}
 use Rattle.std.proofs.Common.{append_assoc, arith}
 use Rattle.std.proofs.lemmas.List.{length-append}
-use Rattle.std.proofs.lemmas.Option.{same_Some}
 use Rattle.dmatypes.specs.World.{IsIn}
 use Rattle.dmatypes.specs.declared.limits.TheConstants.{MOST_TICKETS}
 use Rattle.vtdbits.specs.declared.descriptor.Descriptor.{Descriptor}
@@ -13,7 +12,7 @@ use Rattle.engine.specs.State.{State}
 use Rattle.engine.specs.Tickets.{AreDifferent, Follow, IsBegun, KeepsTickets, pairs_of, wait_of, waits_of}
 use Rattle.engine.proofs.lists.Membership.{in_either}
 use Rattle.engine.proofs.tickets.Ageing.{AgeAll}
-use Rattle.engine.proofs.tickets.Stay.{Forgets, begun_stays, clear_stays, follow_push, forgets_same, of_front}
+use Rattle.engine.proofs.tickets.Stay.{begun_stays, clear_stays, follow_push, forgets_same, of_front}
 
 pairs_push : (ts : List Ticket) (t : Ticket) → pairs_of (ts ++ t ∷ []) ≡ pairs_of ts ++ (IotlbDomain t.domain ∷ wait_of t ∷ [])
 unfolding pairs_of

@@ -1,6 +1,6 @@
 -- What the tickets of a state keep, call by call.
-use Rattle.std.proofs.Common.{◌≡◌, ◌≢◌, ℕ, ◌+◌, ◌-◌, ◌≤◌, ◌<◌, inl, inr, List, [], ◌∷◌, ◌++◌, Option, Some, None, length}
-use Rattle.std.proofs.Common.{refl, sym, ap, subst, ◌∙◌, append_assoc, arith, map, not, slice_set, ⊎_elim}
+use Rattle.std.proofs.Common.{◌≡◌, ℕ, ◌+◌, ◌-◌, ◌≤◌, ◌<◌, inl, inr, List, [], ◌∷◌, ◌++◌, Some, None, length}
+use Rattle.std.proofs.Common.{sym, ap, subst, ◌∙◌, append_assoc, arith, map, not, slice_set, ⊎_elim}
 use Rattle.std.proofs.lemmas.Bool.{cases_lt}
 use Rattle.std.proofs.lemmas.List.{length-map}
 use Rattle.std.proofs.lemmas.Option.{same_Some}
@@ -20,16 +20,12 @@ use Rattle.dmatypes.specs.declared.reply.Reply.{Reply}
 use Rattle.dmatypes.specs.declared.reply.Reply.TheVariants.{Made, Done, Mapped, Unmapped, Flushed, Stepped, Reaped, Refused}
 use Rattle.dmatypes.specs.declared.reply.Reply.TheVariants as Reply
 use Rattle.unit.proofs.caches.Members.{without_leaf, without_non_leaf, without_context}
-use Rattle.unit.specs.Caches.{UnitState}
-use Rattle.vtdbits.specs.declared.context.ContextEntry.{ContextEntry}
-use Rattle.vtdbits.specs.declared.descriptor.Descriptor.{Descriptor}
 use Rattle.vtdbits.specs.declared.descriptor.Descriptor.TheVariants.{ContextDevice, IotlbDomain, Wait}
 use Rattle.engine.specs.declared.iommu.Iommu.{Iommu}
-use Rattle.engine.specs.declared.iommu.Shown.{Shown}
 use Rattle.engine.specs.declared.record.Record.{Record}
 use Rattle.engine.specs.declared.ticket.Ticket.{Ticket}
 use Rattle.engine.specs.Domains.{Domain, Parts, domain_at}
-use Rattle.engine.specs.Ending.{ByMode, EndsBy, Invalidates, MakesRoom, PutsOff, UnmapsStrictly, domain_shown, status_of, was_before}
+use Rattle.engine.specs.Ending.{ByMode, Invalidates, MakesRoom, PutsOff, UnmapsStrictly, domain_shown, status_of, was_before}
 use Rattle.engine.specs.State.{Becomes, Exact, State, begins, parts_in}
 use Rattle.engine.specs.Quarantine.{Quarantine, ticket_there}
 use Rattle.engine.specs.Tickets.{KeepsTickets}
@@ -41,7 +37,7 @@ use Rattle.engine.proofs.tickets.Ageing.{AgeAll, Ages, ages_fewer, none_ages, on
 use Rattle.engine.proofs.tickets.Begun.{tickets_begun}
 use Rattle.engine.proofs.tickets.Requested.{request_forgets}
 use Rattle.engine.proofs.tickets.Closed.{tickets_closed}
-use Rattle.engine.proofs.tickets.Stay.{Forgets, forgets_fewer, forgets_same, tickets_done, tickets_stay}
+use Rattle.engine.proofs.tickets.Stay.{forgets_fewer, forgets_same, tickets_done, tickets_stay}
 use Rattle.engine.proofs.tickets.UnitStep.{tickets_stepped}
 
 -- ---- a domain after an unmap

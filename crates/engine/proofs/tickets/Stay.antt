@@ -13,7 +13,7 @@ use Rattle.engine.specs.declared.iommu.Shown.{Shown}
 use Rattle.engine.specs.declared.record.Record.{Record}
 use Rattle.engine.specs.declared.ticket.Ticket.{Ticket}
 use Rattle.engine.specs.Domains.{Domain, domain_at}
-use Rattle.engine.specs.Ending.{Invalidates, left_by_all, status_of}
+use Rattle.engine.specs.Ending.{Invalidates, status_of}
 use Rattle.engine.specs.State.{State}
 use Rattle.engine.specs.Tickets.{AreDifferent, Follow, IsBegun, IsClear, IsForgotten, KeepsTickets, pairs_of, waits_of}
 use Rattle.engine.proofs.caches.Purged.{IsFewer, Purges, fewer_by_all, purges_by_all}

@@ -1,4 +1,4 @@
-use Rattle.std.proofs.Common.{◌≡◌, ℕ, ◌+◌, ◌*◌, ◌≤◌, ◌∙◌, [], None, length, ap, arith, refl, replicate, subst, sym}
+use Rattle.std.proofs.Common.{ℕ, [], None, arith, refl, replicate, subst, sym}
 use Rattle.dmatypes.specs.World.{empty}
 use Rattle.dmatypes.specs.declared.limits.TheConstants.{DEVICES}
 use Rattle.queue.specs.Ring.{ring_of}
