@@ -10,7 +10,6 @@ use Rattle.dmatypes.specs.declared.refusal.Refusal.TheVariants as refusals
 use Rattle.dmatypes.specs.declared.reply.Reply.{Reply}
 use Rattle.dmatypes.specs.declared.reply.Reply.TheVariants.{Made, Done, Mapped, Unmapped, Flushed, Host, Faulted, Refused}
 use Rattle.dmatypes.specs.declared.reply.Reply.TheVariants.{Pending, Reaped, Stepped}
-use Rattle.dmatypes.specs.declared.reply.Reply.TheVariants as Reply
 use Rattle.dmatypes.specs.declared.reply.Progress.TheVariants.{Did, Idle}
 use Rattle.dmatypes.specs.World.{IsIn}
 use Rattle.dmatypes.specs.declared.limits.TheConstants.{DEVICES, MOST_DOMAINS}

@@ -1,6 +1,6 @@
 -- A begun flush is a step of the model, and keeps the quarantine and what the type of a state keeps; how it is refused.
 use Rattle.std.proofs.Common.{◌≡◌, ℕ, ◌+◌, ◌-◌, ◌<◌, ◌≤◌, ◌∙◌, inl, inr, List, [], ◌∷◌, ◌++◌, Some, None, length}
-use Rattle.std.proofs.Common.{map, refl, sym, ap, subst, arith, slice_set}
+use Rattle.std.proofs.Common.{refl, sym, ap, subst, arith, slice_set}
 use Rattle.std.proofs.lemmas.List.{length-append, length-map, length-set, map-append}
 use Rattle.dmatypes.specs.declared.call.Call.TheVariants as calls
 use Rattle.dmatypes.specs.declared.limits.TheConstants.{MOST_TICKETS}

@@ -1,6 +1,6 @@
 -- What the tickets of a state keep, call by call.
 use Rattle.std.proofs.Common.{◌≡◌, ℕ, ◌+◌, ◌-◌, ◌≤◌, ◌<◌, inl, inr, List, [], ◌∷◌, ◌++◌, Some, None, length}
-use Rattle.std.proofs.Common.{sym, ap, subst, ◌∙◌, append_assoc, arith, map, not, slice_set, ⊎_elim}
+use Rattle.std.proofs.Common.{sym, ap, subst, ◌∙◌, append_assoc, arith, not, slice_set, ⊎_elim}
 use Rattle.std.proofs.lemmas.Bool.{cases_lt}
 use Rattle.std.proofs.lemmas.List.{length-map}
 use Rattle.std.proofs.lemmas.Option.{same_Some}
@@ -18,12 +18,10 @@ use Rattle.dmatypes.specs.declared.call.Mode.TheVariants.{Strict, Lazy}
 use Rattle.dmatypes.specs.declared.limits.TheConstants.{MOST_DOMAINS, MOST_TICKETS}
 use Rattle.dmatypes.specs.declared.reply.Reply.{Reply}
 use Rattle.dmatypes.specs.declared.reply.Reply.TheVariants.{Made, Done, Mapped, Unmapped, Flushed, Stepped, Reaped, Refused}
-use Rattle.dmatypes.specs.declared.reply.Reply.TheVariants as Reply
 use Rattle.unit.proofs.caches.Members.{without_leaf, without_non_leaf, without_context}
 use Rattle.vtdbits.specs.declared.descriptor.Descriptor.TheVariants.{ContextDevice, IotlbDomain, Wait}
 use Rattle.engine.specs.declared.iommu.Iommu.{Iommu}
 use Rattle.engine.specs.declared.record.Record.{Record}
-use Rattle.engine.specs.declared.ticket.Ticket.{Ticket}
 use Rattle.engine.specs.Domains.{Domain, Parts, domain_at}
 use Rattle.engine.specs.Ending.{ByMode, Invalidates, MakesRoom, PutsOff, UnmapsStrictly, domain_shown, status_of, was_before}
 use Rattle.engine.specs.State.{Becomes, Exact, State, begins, parts_in}
