@@ -148,7 +148,8 @@ module _ (m : State) (domain i : ℕ) (h : Domain) (x : Iommu) (whole : IsWhole 
             rw v.1 (ap (λ (n : ℕ). Reply.Ticket domain n) (omega (arith, mirrors.ids.begun))),
           ),
           rw v.1 (opens (record w { domains = put domain (Some (begun_once_more v.0)) w.domains })
-              (changes_domain m half_way w domain h (begins h) v.0 (begun_once_more v.0) q whole.places there v.1 (begin_changes w v.0 q v.1))),
+              (changes_domain m half_way w domain h (begins h) v.0 (begun_once_more v.0) q whole.places there v.1
+              (begin_changes w v.0 q v.1))),
         );
     exact = tt;
     becomes = (h, there, refl, refl, sends, ap (λ j. record after_begin { domains = slice_set m.domains j (Some (begins h)) }) place);
