@@ -49,8 +49,13 @@ pub(crate) fn run_all<B: Owner + Send + Sync, G: Gate, R: Threads + Wait + Sync>
         thread::scope_env(),
         rt,
         |scope| -> Result<Returned<B>, StormError>
-            requires { All (λ w. w.share.calls ≡ 0) workers.items }
-            ensures len { IfOk result (λ r. vec_len r.shares ≡ vec_len workers.entry) }
+            requires fresh { All (λ w. w.share.calls ≡ 0) workers.items }
+            requires running { (vec_len running ≡ 0) × (vec_len workers ≤ vec_capacity running) }
+            requires shares { (vec_len returned.shares ≡ 0) × (vec_len workers < vec_capacity returned.shares) }
+            requires ports { (vec_len returned.ports ≡ 0) × (vec_len workers ≤ vec_capacity returned.ports) }
+            ensures len { IfOk result (λ r. vec_len r.shares ≡ vec_len workers) }
+            ensures room { IfOk result (λ r. vec_len r.shares < vec_capacity r.shares) }
+            ensures made { IfOk result (λ r. All (HasMade B.room site.entry.now.calls) r.shares.items) }
         {
             match start_all(scope, rt, site, workers, running) {
                 Ok(running) => Ok(join_all(rt, running, returned)),
@@ -79,7 +84,12 @@ fn start_all<'s, E, B: Owner + Send + Sync, G: Gate, R: Threads + Wait + Sync>(
 {
     let mut running = running;
     for worker in workers {
-        match scope.spawn_with(Stint(site.calls), move || work(rt, site, worker)) {
+        match scope.spawn_with(
+            Stint(site.calls),
+            move ||
+                requires { worker.share.calls ≡ 0 }
+            { work(rt, site, worker) },
+        ) {
             Ok(handle) => running.push_reserved(handle),
             Err(_) => return Err(running),
         }

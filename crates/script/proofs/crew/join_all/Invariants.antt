@@ -11,5 +11,5 @@ invariant-loop-handle g l =
     × (vec_capacity l.returned.shares ≡ vec_capacity l.fn.returned.shares)
     × (vec_capacity l.returned.ports ≡ vec_capacity l.fn.returned.ports)
     × ((calls : ℕ) → All (λ h. h.promise.0 ≡ calls) l.fn.running.items
-        → All (λ h. h.promise.0 ≡ calls) (into_iter_items l.handle-iterator)
-        × All (HasMade g.B.Owner.room calls) l.returned.shares.items)
+    → All (λ h. h.promise.0 ≡ calls) (into_iter_items l.handle-iterator)
+    × All (HasMade g.B.Owner.room calls) l.returned.shares.items)
