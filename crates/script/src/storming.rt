@@ -151,18 +151,22 @@ fn history_of<B: Owner + Send + Sync, G: Gate, R: Threads + Wait + Sync>(
         gate,
         calls: plan.calls,
     };
-    let Returned {
-        mut shares,
-        mut ports,
-    } = run_all(rt, alloc, &site, workers)?;
+    let Returned { mut shares, ports } = run_all(rt, alloc, &site, workers)?;
     shares.push_reserved(first);
     let Ok(mut history) = manager.finish(&rows, shares) else {
         unreachable!()
     };
-    for port in &mut ports {
-        history.meet(&rows, port);
-    }
+    meet_all(&mut history, &rows, ports);
     Ok(history)
+}
+
+// Tells the ports the whole history.
+fn meet_all<B: Owner>(history: &mut History<B>, rows: &Rows<B>, ports: Vec<Port<B>>)
+    ensures { history.new ≡ history.old }
+{
+    for mut port in ports {
+        history.meet(rows, &mut port);
+    }
 }
 
 // Makes two domains, and attaches the devices.
