@@ -22,19 +22,19 @@ counted : (room calls : ℕ) (history : List Event) (s : Share) → IsPrefix s.s
 counted room calls history s saw (inl all) = inl all
 counted room calls history s saw (inr long) = inr (omega (arith, long, prefix_length s.seen history saw))
 
-one_more : {R : Type 0} (a b n calls : ℕ) → (a ≡ calls) ⊎ R → (b ≡ n * calls) ⊎ R → (a + b ≡ suc n * calls) ⊎ R
-one_more a b n calls (inr r) other = inr r
-one_more a b n calls (inl e) (inr r) = inr r
-one_more a b n calls (inl e) (inl f) = inl (grind (arith, e, f))
+one_more : {R : Type 0} (a b n m calls : ℕ) → m ≡ n + 1 → (a ≡ calls) ⊎ R → (b ≡ n * calls) ⊎ R → (a + b ≡ m * calls) ⊎ R
+one_more a b n m calls next (inr r) other = inr r
+one_more a b n m calls next (inl e) (inr r) = inr r
+one_more a b n m calls next (inl e) (inl f) = inl (rw (next, e, f) (grind arith))
 
 -- all made their calls, or the history is as long as the room
 all_counted : (room calls : ℕ) (history : List Event) (shares : List Share) → AllSaw history shares → All (HasMade room calls) shares
     → (sum_by (λ (s : Share). s.calls) shares ≡ length shares * calls) ⊎ (room ≤ length history)
-all_counted room calls history [] saw made = inl refl
+all_counted room calls history [] saw made = inl (grind arith)
 all_counted room calls history (s ∷ rest) saw made =
     let P : Share → Type 0 = λ s. IsPrefix s.seen history in
     rw (sum_by-cons (λ (s : Share). s.calls) s rest)
-    (one_more s.calls (sum_by (λ (s : Share). s.calls) rest) (length rest) calls
+    (one_more s.calls (sum_by (λ (s : Share). s.calls) rest) (length rest) (length (s ∷ rest)) calls (omega arith)
     (counted room calls history s (All-head P s rest saw) (All-head (HasMade room calls) s rest made))
     (all_counted room calls history rest (All-tail P s rest saw) (All-tail (HasMade room calls) s rest made)))
 
