@@ -102,3 +102,19 @@ Examples:
 
   printf 'domain lazy\\nattach 3 1\\n' | vtdm report
   vtdm report --calls 100 < script";
+
+pub(crate) const STORM: &str = "\
+Drivers, devices and the unit call one manager, each in a thread of its own. No
+script is read. Domain 1 is strict and domain 2 lazy, and the devices are
+attached to them by turns. Then, each making so many calls:
+
+  a driver              maps a page of its domain, and unmaps it
+  a device              reads at one of 16 pages, at first without the lock
+  the unit              works on what the calls leave to it
+
+At the end it prints how many calls there were, those of the beginning too:
+
+  storm drivers 2 devices 2 calls 10 events 54
+
+Exit status: 0 done; 1 output failed; 2 a bad command line; 3 no memory or no
+thread.";
