@@ -9,6 +9,7 @@ use crate::mapping::{Deferred, Flushing, Listing, Mapping, Shape, Splitting};
 use crate::request::Request;
 use crate::reusing::{Bursts, Freed, Holes, Reusing, Sizes};
 use crate::scripting::{Lines, time_script};
+use crate::storming::time_storm;
 use crate::taking::Taking;
 use crate::timing::{Tenths, time};
 use crate::trouble::Trouble;
@@ -50,6 +51,8 @@ enum Kind {
     Load(u32),
     Hit(Hits),
     Script(Lines),
+    // Of so many drivers, and as many devices.
+    Storm(u64),
 }
 
 // A device whose port doesn't hit.
@@ -57,7 +60,7 @@ const LAST_DEVICE: u64 = DEVICES - 1;
 
 /// All that is measured, in the table's order. The maps begin at frames behind the table frames; leaves of 2 MiB
 /// come where the frame is a multiple of a span's pages.
-pub(crate) const SUBJECTS: [Subject; 51] = [
+pub(crate) const SUBJECTS: [Subject; 55] = [
     Subject {
         name: "map and unmap 1 page",
         kind: Kind::Map(Shape {
@@ -339,6 +342,22 @@ pub(crate) const SUBJECTS: [Subject; 51] = [
         name: "a script's line: lazy, 4 pairs a flush",
         kind: Kind::Script(Lines::LazyPairs),
     },
+    Subject {
+        name: "a storm's call: 1 driver, 1 device",
+        kind: Kind::Storm(1),
+    },
+    Subject {
+        name: "a storm's call: 2 drivers, 2 devices",
+        kind: Kind::Storm(2),
+    },
+    Subject {
+        name: "a storm's call: 4 drivers, 4 devices",
+        kind: Kind::Storm(4),
+    },
+    Subject {
+        name: "a storm's call: 8 drivers, 8 devices",
+        kind: Kind::Storm(8),
+    },
 ];
 
 impl Subject {
@@ -370,6 +389,7 @@ impl Subject {
             Kind::Load(threads) => time_loads(clock, alloc, rounds, threads),
             Kind::Hit(hits) => time_hits(clock, alloc, rounds, hits),
             Kind::Script(lines) => time_script(clock, alloc, rounds, lines),
+            Kind::Storm(drivers) => time_storm(clock, alloc, rounds, drivers),
         }
     }
 }

@@ -217,19 +217,25 @@ fn storms_of_the_program(rt: HostRuntime) -> Result<(), Fail> {
         );
         assert_eq!(rt; written.as_slice(), line);
         assert_eq!(rt; told.as_slice(), b"".as_slice());
-        let mut full: [u8; 8] = [0; 8];
-        assert_eq!(rt;
-            program(
-                &rt,
-                rt.alloc(),
-                words,
-                Closed,
-                full.as_mut_slice(),
-                &mut told
-            ),
-            1
-        );
-        assert_eq!(rt; told.as_slice(), b"output failed\n".as_slice());
     }
     Ok(())
+}
+
+#[test]
+fn the_line_of_a_storm_fails(rt: HostRuntime) {
+    let words = ["storm", "--drivers", "2", "--devices", "1", "--calls", "3"];
+    let mut told = Vec::new(rt.alloc());
+    let mut full: [u8; 8] = [0; 8];
+    assert_eq!(rt;
+        program(
+            &rt,
+            rt.alloc(),
+            words.as_slice(),
+            Closed,
+            full.as_mut_slice(),
+            &mut told
+        ),
+        1
+    );
+    assert_eq!(rt; told.as_slice(), b"output failed\n".as_slice());
 }
