@@ -4,7 +4,7 @@ ghost use Rattle.std.specs.Prelude.{◌≡◌, ◌+◌, ℕ};
 ghost use Rattle.script.specs.Storms.{HasMade};
 
 use crate::gate::Gate;
-use dmatypes::{Access, Cache, Call, PAGE_BYTES, Reply, Whim};
+use dmatypes::{Access, Call, PAGE_BYTES, Reply, Whim};
 use manager::{Manager, Owner, Port, Rows, Share};
 use std::sync::Wait;
 
@@ -193,14 +193,6 @@ fn step<B: Owner, G: Gate, R: Wait>(rt: &R, site: &Site<'_, B, G>, caller: &mut 
     ensures { HasMade B.room site.now.calls caller.new.share }
 {
     for made in 0..site.calls {
-        let _ = caller.make(rt, site, made + 1, unit_call());
-    }
-}
-
-// One step of the unit.
-fn unit_call() -> Call {
-    Call::Evict {
-        kind: Cache::Leaf,
-        place: 0,
+        let _ = caller.make(rt, site, made + 1, Call::Unit);
     }
 }
