@@ -361,6 +361,16 @@ pub(crate) const SUBJECTS: [Subject; 55] = [
 ];
 
 impl Subject {
+    /// For a storm whose calls take so much each: how many calls a second they are, and how many hits its devices make in it.
+    pub(crate) fn in_a_second(&self, call: Tenths) -> Option<(u128, u128)> {
+        let Kind::Storm(drivers) = self.kind else {
+            return None;
+        };
+        let calls = call.in_a_second()?;
+        let devices = u128::from(drivers);
+        Some((calls, calls * devices / (2 * devices + 1)))
+    }
+
     /// What each of so many rounds takes by the clock. What is measured is made anew for them.
     pub(crate) fn measure<C: Clock + Wait + Threads + Sync>(
         &self,
