@@ -1,21 +1,27 @@
-// Preloaded into a program, refuses one request for memory: the one whose number, from 1, stands in REFUSE. At the program's
-// end it writes into the file that REFUSE_LOG names how many requests there were and how many blocks weren't given back.
+// Preloaded into a program, refuses one request for memory: the one whose number, from 1, stands in REFUSE. Likewise it refuses
+// the thread whose number stands in REFUSE_THREAD. At the program's end it writes into the file that REFUSE_LOG names how
+// many requests for memory there were and how many blocks weren't given back.
 #define _GNU_SOURCE
 #include <dlfcn.h>
 #include <errno.h>
 #include <fcntl.h>
+#include <pthread.h>
 #include <stdatomic.h>
 #include <stddef.h>
 #include <stdio.h>
 #include <stdlib.h>
 #include <unistd.h>
 
-static atomic_long asked, held;
+static atomic_long asked, held, threads;
 
-// Whether this request is the one.
+// Whether this request, which is counted, is the one.
+static int is_the_one(atomic_long *count, const char *name) {
+    const char *number = getenv(name);
+    return atomic_fetch_add(count, 1) + 1 == (number ? atol(number) : 0);
+}
+
 static int is_refused(void) {
-    const char *number = getenv("REFUSE");
-    if (atomic_fetch_add(&asked, 1) + 1 != (number ? atol(number) : 0))
+    if (!is_the_one(&asked, "REFUSE"))
         return 0;
     errno = ENOMEM;
     return 1;
@@ -48,6 +54,14 @@ void free(void *block) {
     if (block)
         atomic_fetch_sub(&held, 1);
     next(block);
+}
+
+int pthread_create(pthread_t *thread, const pthread_attr_t *attributes, void *(*start)(void *), void *argument) {
+    typedef int create(pthread_t *, const pthread_attr_t *, void *(*)(void *), void *);
+    static create *next;
+    if (!next)
+        next = (create *)dlsym(RTLD_NEXT, "pthread_create");
+    return is_the_one(&threads, "REFUSE_THREAD") ? EAGAIN : next(thread, attributes, start, argument);
 }
 
 __attribute__((destructor)) static void tell(void) {

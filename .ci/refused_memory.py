@@ -1,5 +1,6 @@
 #!/usr/bin/env python3
 """Refuses each request for memory of the programs in turn, as LLVM built them: what they then answer, and that nothing leaks.
+Likewise each thread of a storm.
 
 Of `vtdm` the answer is `no memory` with status 3, and what was written is a beginning of what ample memory gives (of a report
 nothing), or all is as with ample memory. Of `memory` one thing lacks memory, and the others are answered as ever. Where a
@@ -14,16 +15,19 @@ TOP = os.path.dirname(os.path.dirname(os.path.abspath(__file__)))
 VTDM = f"{TOP}/crates/vtdm/out/vtdm"
 MEMORY = f"{TOP}/crates/memory/out/memory"
 SMALL = ["--frames", "16", "--calls", "100"]
+STORM = [VTDM, "storm", "--drivers", "2", "--devices", "2", "--calls", "3"]
+STORM_THREADS = 5
 SCRIPT = b"domain strict\nattach 3 1\nmap 1 0x400 512 9 rw\nunmap 1 0x201000 1\ndma 3 0x202000 r look fill\n"
 NO_MEMORY = (3, b"no memory\n")
+NO_THREAD = (3, b"no thread\n")
 
 
 class Run:
     """One run of a program: its output, what it said on standard error, its status, its requests and what it held at the end."""
 
-    def __init__(self, room, words, given, number):
+    def __init__(self, room, words, given, number, what="REFUSE"):
         log = f"{room}/log"
-        env = {"LD_PRELOAD": f"{room}/refuse.so", "REFUSE": str(number), "REFUSE_LOG": log}
+        env = {"LD_PRELOAD": f"{room}/refuse.so", what: str(number), "REFUSE_LOG": log}
         ran = subprocess.run(words, input=given, capture_output=True, env=env, timeout=60)
         self.output, self.said, self.status = ran.stdout, ran.stderr, ran.returncode
         with open(log, encoding="ascii") as file:
@@ -42,6 +46,10 @@ def stops(run, ample):
 
 def writes_nothing(run, ample):
     return (run.status, run.said) == NO_MEMORY and not run.output
+
+
+def is_no_storm(run, ample):
+    return (run.status, run.said) in (NO_MEMORY, NO_THREAD) and not run.output
 
 
 def lacks_one(run, ample):
@@ -66,6 +74,7 @@ CASES = [
     ("report", [VTDM, "report", *SMALL], SCRIPT, writes_nothing),
     ("help", [VTDM, "run", "--help"], b"", writes_nothing),
     ("bad command line", [VTDM, "run", "--frames", "15"], b"", writes_nothing),
+    ("storm", STORM, b"", is_no_storm),
     ("each thing that takes memory", [MEMORY], b"", lacks_one),
 ]
 
@@ -82,6 +91,16 @@ def fault_of(room, words, given, fits):
     return None if ample.asked else "it asks for no memory"
 
 
+def fault_of_threads(room):
+    """Why a storm with a refused thread goes wrong, if it does: the others run to their end, and nothing leaks."""
+    ample = Run(room, STORM, b"", 0)
+    for number in range(1, STORM_THREADS + 1):
+        run = Run(room, STORM, b"", number, "REFUSE_THREAD")
+        if (run.status, run.said) != NO_THREAD or run.output or run.held > ample.held:
+            return f"thread {number}: status {run.status}, {run.said!r}, {run.output!r}, {run.held} blocks held"
+    return None if is_same(Run(room, STORM, b"", STORM_THREADS + 1, "REFUSE_THREAD"), ample) else "there are more threads"
+
+
 def main():
     failed = 0
     with tempfile.TemporaryDirectory() as room:
@@ -96,7 +115,10 @@ def main():
             fault = fault_of(room, words, given, fits)
             failed += fault is not None
             print(f"refused memory, {name}: {fault or 'ok'}", flush=True)
-    print(f"{len(CASES) - failed} passed, {failed} failed")
+        fault = fault_of_threads(room)
+        failed += fault is not None
+        print(f"refused threads: {fault or 'ok'}", flush=True)
+    print(f"{len(CASES) + 1 - failed} passed, {failed} failed")
     return 1 if failed else 0
 
 
