@@ -367,7 +367,7 @@ impl Subject {
             return None;
         };
         let calls = call.in_a_second()?;
-        let devices = u128::from(drivers);
+        let devices = drivers as u128;
         Some((calls, calls * devices / (2 * devices + 1)))
     }
 

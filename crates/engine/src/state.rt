@@ -54,7 +54,7 @@ pub struct Answer {
 }
 
 /// Table frames, domains and the rooms of those that aren't there, the row of context entries with the ring and the unit,
-/// and the number of calls made. Its type keeps that it is a state of some world.
+/// the tickets of begun flushes, and the number of calls made. Its type keeps that it is a state of some world.
 #[derive(Drop)]
 pub struct State {
     pool: Pool,

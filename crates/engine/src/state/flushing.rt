@@ -40,7 +40,7 @@ impl State {
         Ok(number)
     }
 
-    /// Lets the unit make one step: it does the oldest descriptor that waits.
+    /// Lets the unit make one step: it does the oldest descriptor that waits, or is idle where none does.
     pub fn unit_step(&mut self) -> Progress
         requires { self.old.calls < CALLS_END }
         ensures { Does self.old calls.Unit (Stepped result) self.new }

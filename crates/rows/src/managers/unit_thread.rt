@@ -54,10 +54,11 @@ fn steps<B: Owner>(
     let mut mine = mine;
     let mut good = true;
     for _ in 0..CALLS {
-        good = good && matches!(
-            manager.call(rt, rows, &mut mine, Call::Unit),
-            Ok((_, Reply::Stepped(_)))
-        );
+        good = good
+            && matches!(
+                manager.call(rt, rows, &mut mine, Call::Unit),
+                Ok((_, Reply::Stepped(_)))
+            );
     }
     (mine, good)
 }
