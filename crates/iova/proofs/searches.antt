@@ -1,0 +1,6 @@
+pub mod Fit
+pub mod Found
+pub mod CutAt
+pub mod FreeEnds
+pub mod Narrowed
+pub mod Walked
