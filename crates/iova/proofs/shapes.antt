@@ -7,3 +7,4 @@ pub mod JoinedBack
 pub mod Settled
 pub mod Steps
 pub mod Tall
+pub mod Ways

@@ -14,6 +14,7 @@ mod store;
 mod trims;
 mod turns;
 mod walk;
+mod way;
 
 pub use piece::{PageState, Piece};
 pub use space::{RetireError, Space, TakeError};

@@ -1,0 +1,16 @@
+use Rattle.std.proofs.Common.{arith}
+use Rattle.slab.specs.Slab.{get}
+use Rattle.iova.proofs.shapes.Ways.{behind-linked, eq_true}
+use Rattle.iova.proofs.way.hang_behind.Goals as goal
+
+pub returns-then-top-height-clause-hung : goal.returns-then-top-height-clause-hung
+returns-then-top-height-clause-hung c =
+    behind-linked (get c.args.nodes.now) (get c.link-top.new.nodes) c.args.key c.index-node.result.now c.args.right c.read-left.result c.link-top.result _
+    c.index-node.ensures c.read-left.ensures c.link-top.ensures.links (omega arith) (omega arith)
+    (λ s. (c.if-top-height.true, eq_true c.link-top.result.longest c.index-node.result.now.longest s))
+
+pub returns-else-top-height-clause-hung : goal.returns-else-top-height-clause-hung
+returns-else-top-height-clause-hung c =
+    behind-linked (get c.args.nodes.now) (get c.link-top.new.nodes) c.args.key c.index-node.result.now c.args.right c.read-left.result c.link-top.result _
+    c.index-node.ensures c.read-left.ensures c.link-top.ensures.links (omega arith) (omega arith)
+    (λ s. absurd (c.if-top-height.false (eq_true c.link-top.result.height c.index-node.result.now.height s)))
