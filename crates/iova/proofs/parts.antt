@@ -5,6 +5,7 @@ pub mod Added
 pub mod Over
 pub mod Covered
 pub mod PutIn
+pub mod PutUp
 pub mod Replaced
 pub mod Restated
 pub mod Filled

@@ -4,3 +4,4 @@ pub mod CutAt
 pub mod FreeEnds
 pub mod Narrowed
 pub mod Walked
+pub mod Walk

@@ -1,16 +1,19 @@
 //! A piece put over what a tree has.
 
-ghost use Rattle.std.specs.Prelude.{◌≡◌, ℕ, ◌+◌, ◌<◌, ◌≤◌, length, [], ◌∷◌, ◌++◌, Some};
+ghost use Rattle.std.specs.Prelude.{◌≡◌, ℕ, ◌+◌, ◌<◌, ◌≤◌, length, [], ◌∷◌, ◌++◌, Some, IfSome};
 ghost use Rattle.slab.specs.Slab.{get, slab_len};
 ghost use Rattle.iova.specs.Pieces.{IsOrdered, part_above, part_below, with_piece};
 ghost use Rattle.iova.specs.declared.node.Node.{Node};
+ghost use Rattle.iova.specs.Way.{CanWalk, Meets};
 ghost use Rattle.iova.specs.Tree.{CanPut, IsBelow, IsLow, IsPiece, Leaves, Shape, items, rest_above, rest_below};
 
 use crate::ends::{add_first, add_last, leaf};
+use crate::links::read;
 use crate::node::Node;
 use crate::piece::Piece;
 use crate::settle::{set_all, set_left, set_piece, set_right, settle};
 use crate::trims::{keep_above, keep_below};
+use crate::way::{MOST_HEIGHT, NO_STEP, mend, walk};
 use slab::Slab;
 
 /// Keeps what a tree has below a page, where the tree lies before a place.
@@ -156,30 +159,19 @@ fn reach_above(nodes: &mut Slab<Node>, key: usize, piece: &Piece) -> Option<usiz
     settle(nodes, key)
 }
 
-/// Puts a piece over what a tree has.
-pub(crate) fn put(nodes: &mut Slab<Node>, root: Option<usize>, piece: &Piece) -> Option<usize>
-    requires { CanPut nodes.old root piece.now }
-    ensures { (t : Shape) (from : ℕ) → IsBelow (get nodes.old) root t from
+/// Puts a piece over what a tree has, where it meets the piece at the tree's key.
+fn put_at(nodes: &mut Slab<Node>, at: Option<usize>, piece: &Piece) -> Option<usize>
+    requires tree { CanPut nodes.old at piece.now }
+    requires meets { IfSome at (λ key. (n : Node) × (get nodes.old key ≡ Some n) × Meets piece.now n.piece) }
+    ensures { (t : Shape) (from : ℕ) → IsBelow (get nodes.old) at t from
         → Leaves nodes.old nodes.new result t (with_piece piece.now (items t)) 1 }
 {
-    let Some(key) = root else {
+    let Some(key) = at else {
         return leaf(nodes, piece);
     };
     let node = &nodes[key];
     let first = node.piece.first;
     let last = node.piece.last;
-    let left = node.left;
-    let right = node.right;
-    if last < piece.first {
-        let behind = put(nodes, right, piece);
-        set_right(nodes, key, behind);
-        return settle(nodes, key);
-    }
-    if piece.last < first {
-        let before = put(nodes, left, piece);
-        set_left(nodes, key, before);
-        return settle(nodes, key);
-    }
     if piece.first == first && piece.last < last {
         return cut_front(nodes, key, piece);
     }
@@ -190,4 +182,18 @@ pub(crate) fn put(nodes: &mut Slab<Node>, root: Option<usize>, piece: &Piece) ->
         return reach_above(nodes, key, piece);
     }
     cover(nodes, key, piece)
+}
+
+/// Puts a piece over what a tree has.
+pub(crate) fn put(nodes: &mut Slab<Node>, root: Option<usize>, piece: &Piece) -> Option<usize>
+    requires tree { CanPut nodes.old root piece.now }
+    requires low { CanWalk (get nodes.old) root }
+    ensures { (t : Shape) (from : ℕ) → IsBelow (get nodes.old) root t from
+        → Leaves nodes.old nodes.new result t (with_piece piece.now (items t)) 1 }
+{
+    let mut way = [NO_STEP; MOST_HEIGHT];
+    let place = walk(nodes, root, piece, &mut way);
+    let end = put_at(nodes, place.at, piece);
+    let top = read(nodes, end);
+    mend(nodes, &way, place.depth, root, top)
 }
