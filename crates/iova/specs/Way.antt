@@ -104,6 +104,15 @@ abbrev pub CanHangBehind : Look → ℕ → Top → Type 0
 CanHangBehind look key right = (node : Node) × (left : Top) × (l : Shape) × (r : Shape) × (look key ≡ Some node)
     × (left.root ≡ node.left) × AreParts look left key right l r × IsPiece node.piece
 
+-- it is, and they were joined
+abbrev pub JoinsBefore : Look → Look → ℕ → Top → Top → Type 0
+JoinsBefore old new key left top = (node : Node) (right : Top) (l r : Shape) → old key ≡ Some node → right.root ≡ node.right
+    → AreParts old left key right l r → IsPiece node.piece → Joins old new top key node.piece l r
+
+abbrev pub JoinsBehind : Look → Look → ℕ → Top → Top → Type 0
+JoinsBehind old new key right top = (node : Node) (left : Top) (l r : Shape) → old key ≡ Some node → left.root ≡ node.left
+    → AreParts old left key right l r → IsPiece node.piece → Joins old new top key node.piece l r
+
 -- it is, and what the key shows is as before
 abbrev pub ShowsSame : ℕ → Node → Hung → Type 0
 ShowsSame key node hung = hung.same ≡ true → hung.top ≡ record { root = Some key; height = node.height; longest = node.longest }

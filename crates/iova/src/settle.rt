@@ -75,6 +75,46 @@ fn set_reach(nodes: &mut Slab<Node>, key: usize, height: u8, longest: u64)
     node.longest = longest;
 }
 
+/// Writes the child behind a key, and how high and how long it is below it.
+#[inline(always)]
+pub(crate) fn set_right_reach(
+    nodes: &mut Slab<Node>,
+    key: usize,
+    root: Option<usize>,
+    height: u8,
+    longest: u64,
+)
+    requires { IsSome (get nodes.old key) }
+    ensures updates { (n : Node) → get nodes.old key ≡ Some n
+        → Updates nodes.old nodes.new key (Some (record n { right = root; height = height; longest = longest })) }
+    ensures count { KeepsCount nodes.old nodes.new }
+{
+    let node = &mut nodes[key];
+    node.right = root;
+    node.height = height;
+    node.longest = longest;
+}
+
+/// Writes the child before a key, and how high and how long it is below it.
+#[inline(always)]
+pub(crate) fn set_left_reach(
+    nodes: &mut Slab<Node>,
+    key: usize,
+    root: Option<usize>,
+    height: u8,
+    longest: u64,
+)
+    requires { IsSome (get nodes.old key) }
+    ensures updates { (n : Node) → get nodes.old key ≡ Some n
+        → Updates nodes.old nodes.new key (Some (record n { left = root; height = height; longest = longest })) }
+    ensures count { KeepsCount nodes.old nodes.new }
+{
+    let node = &mut nodes[key];
+    node.left = root;
+    node.height = height;
+    node.longest = longest;
+}
+
 /// Joins what lies below a key anew, where its children's heights differ by more than one.
 fn rejoin(nodes: &mut Slab<Node>, key: usize) -> Option<usize>
     requires { CanSettle (get nodes.old) key }

@@ -5,11 +5,12 @@ ghost use Rattle.slab.specs.Slab.{get};
 ghost use Rattle.iova.specs.declared.node.Node.{Node};
 ghost use Rattle.iova.specs.Tree.{IsPiece, KeepsCount, Shape};
 ghost use Rattle.iova.specs.Way.{Above, CanHangBefore, CanHangBehind, CanMend, CanWalk, Mends, Walks};
-ghost use Rattle.iova.specs.Way.{IsHungBefore, IsHungBehind};
+ghost use Rattle.iova.specs.Way.{IsHungBefore, IsHungBehind, JoinsBefore, JoinsBehind};
 
-use crate::links::{link, read};
+use crate::links::{free_length, read};
 use crate::node::{Node, Top};
 use crate::piece::Piece;
+use crate::settle::{set_left_reach, set_right_reach};
 use crate::turns::join;
 use slab::Slab;
 
@@ -73,45 +74,97 @@ pub(crate) fn walk(
     Place { at, depth }
 }
 
+/// Joins at a key with a tree before it, where the heights differ by more than one: mostly they don't.
+#[inline(never)]
+fn join_before(nodes: &mut Slab<Node>, key: usize, root: Option<usize>, height: u8, longest: u64) -> Top
+    requires { CanHangBefore (get nodes.old) key (record { root = root; height = height; longest = longest }) }
+    ensures joins { JoinsBefore (get nodes.old) (get nodes.new) key (record { root = root; height = height; longest = longest }) result }
+    ensures count { KeepsCount nodes.old nodes.new }
+{
+    let tree = Top {
+        root,
+        height,
+        longest,
+    };
+    let node = &nodes[key];
+    let piece = node.piece;
+    let other = read(nodes, node.right);
+    join(nodes, tree, key, piece, other)
+}
+
 /// Hangs a tree before a key.
 #[inline(always)]
-fn hang_before(nodes: &mut Slab<Node>, key: usize, left: Top) -> Hung
-    requires { CanHangBefore (get nodes.old) key left }
-    ensures hung { IsHungBefore (get nodes.old) (get nodes.new) key left result }
+fn hang_before(nodes: &mut Slab<Node>, key: usize, tree: Top) -> Hung
+    requires { CanHangBefore (get nodes.old) key tree }
+    ensures hung { IsHungBefore (get nodes.old) (get nodes.new) key tree result }
     ensures count { KeepsCount nodes.old nodes.new }
 {
     let node = &nodes[key];
-    let piece = node.piece;
-    let height = node.height;
-    let longest = node.longest;
-    let right = read(nodes, node.right);
-    if left.height > right.height + 1 || right.height > left.height + 1 {
-        let top = join(nodes, left, key, piece, right);
+    let was_height = node.height;
+    let was_longest = node.longest;
+    let own = free_length(node.piece);
+    let other = read(nodes, node.right);
+    if tree.height > other.height + 1 || other.height > tree.height + 1 {
+        let top = join_before(nodes, key, tree.root, tree.height, tree.longest);
         return Hung { top, same: false };
     }
-    let top = link(nodes, left, key, piece, right);
-    let same = top.height == height && top.longest == longest;
+    let height = 1 + tree.height.max(other.height);
+    let below = tree.longest.max(other.longest);
+    let longest = own.max(below);
+    set_left_reach(nodes, key, tree.root, height, longest);
+    let top = Top {
+        root: Some(key),
+        height,
+        longest,
+    };
+    let same = height == was_height && longest == was_longest;
     Hung { top, same }
+}
+
+/// Joins at a key with a tree behind it, where the heights differ by more than one: mostly they don't.
+#[inline(never)]
+fn join_behind(nodes: &mut Slab<Node>, key: usize, root: Option<usize>, height: u8, longest: u64) -> Top
+    requires { CanHangBehind (get nodes.old) key (record { root = root; height = height; longest = longest }) }
+    ensures joins { JoinsBehind (get nodes.old) (get nodes.new) key (record { root = root; height = height; longest = longest }) result }
+    ensures count { KeepsCount nodes.old nodes.new }
+{
+    let tree = Top {
+        root,
+        height,
+        longest,
+    };
+    let node = &nodes[key];
+    let piece = node.piece;
+    let other = read(nodes, node.left);
+    join(nodes, other, key, piece, tree)
 }
 
 /// Hangs a tree behind a key.
 #[inline(always)]
-fn hang_behind(nodes: &mut Slab<Node>, key: usize, right: Top) -> Hung
-    requires { CanHangBehind (get nodes.old) key right }
-    ensures hung { IsHungBehind (get nodes.old) (get nodes.new) key right result }
+fn hang_behind(nodes: &mut Slab<Node>, key: usize, tree: Top) -> Hung
+    requires { CanHangBehind (get nodes.old) key tree }
+    ensures hung { IsHungBehind (get nodes.old) (get nodes.new) key tree result }
     ensures count { KeepsCount nodes.old nodes.new }
 {
     let node = &nodes[key];
-    let piece = node.piece;
-    let height = node.height;
-    let longest = node.longest;
-    let left = read(nodes, node.left);
-    if left.height > right.height + 1 || right.height > left.height + 1 {
-        let top = join(nodes, left, key, piece, right);
+    let was_height = node.height;
+    let was_longest = node.longest;
+    let own = free_length(node.piece);
+    let other = read(nodes, node.left);
+    if tree.height > other.height + 1 || other.height > tree.height + 1 {
+        let top = join_behind(nodes, key, tree.root, tree.height, tree.longest);
         return Hung { top, same: false };
     }
-    let top = link(nodes, left, key, piece, right);
-    let same = top.height == height && top.longest == longest;
+    let height = 1 + other.height.max(tree.height);
+    let below = other.longest.max(tree.longest);
+    let longest = own.max(below);
+    set_right_reach(nodes, key, tree.root, height, longest);
+    let top = Top {
+        root: Some(key),
+        height,
+        longest,
+    };
+    let same = height == was_height && longest == was_longest;
     Hung { top, same }
 }
 

@@ -2,17 +2,17 @@
 use Rattle.std.proofs.Common.{◌≡◌, ℕ, ◌+◌, ◌-◌, ◌<◌, ◌≤◌, max, Bool, true, false, nat_eq, List, ◌∷◌, ◌++◌, length, Option, Some, None, IsSome, refl, ap, sym, ◌∙◌, inl, inr}
 use Rattle.std.proofs.Common.{subst, arith, length-append}
 use Rattle.std.proofs.lemmas.Bool.Decides.{nat_tests}
-use Rattle.slab.specs.Slab.{Slab, get}
+use Rattle.slab.specs.Slab.{Slab, Updates, get}
 use Rattle.iova.specs.declared.piece.Piece.{Piece}
 use Rattle.iova.specs.declared.node.Node.{Node}
 use Rattle.iova.specs.declared.node.Top.{Top}
 use Rattle.iova.specs.declared.way.Hung.{Hung}
 use Rattle.iova.specs.declared.way.Step.{Step}
 use Rattle.iova.specs.Tree.{Look, Shape, Fork, items, height_of, longest_of, free_pages, root_of, top_of, joint, node_of, one, uses, IsPiece}
-use Rattle.iova.specs.Tree.{AreNodes, IsRead, CanRead, AreParts, AreNear, CanJoin, IsTree, IsLinked, Joins, KeepsCount}
+use Rattle.iova.specs.Tree.{AreNodes, IsRead, CanRead, AreParts, AreNear, CanJoin, IsTree, Joins, KeepsCount}
 use Rattle.iova.specs.Way.{Above, Whole, Before, Behind, plug, among, uses_above, AreAbove, AreFine, step_at, AreSteps, CanMend, Mends}
 use Rattle.iova.specs.Way.{CanHangBefore, CanHangBehind, IsHungBefore, IsHungBehind}
-use Rattle.iova.proofs.shapes.Trees.{is_there, one-same, same_nodes, top_is, root_height}
+use Rattle.iova.proofs.shapes.Trees.{is_there, one-same, same_nodes, top_is, root_height, linked}
 use Rattle.iova.proofs.shapes.Joined.{link_joins}
 
 -- ---- a tree hung below a key
@@ -94,33 +94,59 @@ shown look key found node top f e a b c =
     top_is top (Some key) node.height node.longest a (b ∙ sym (ap (λ (n : Node). n.height) same))
     (c ∙ sym (ap (λ (n : Node). n.longest) same))
 
--- linked there
-pub before-linked : (old new : Look) (key : ℕ) (found : Node) (left a top : Top) (same : Bool) → old key ≡ Some found → IsRead old found.right a
-    → IsLinked old new top left key found.piece a → left.height ≤ a.height + 1 → a.height ≤ left.height + 1
-    → (same ≡ true → (top.height ≡ found.height) × (top.longest ≡ found.longest))
-    → IsHungBefore old new key left (record { top = top; same = same })
-before-linked old new key found left a top same f p linked lo hi shows node right l r e i parts piece =
-    let own = read_right old key found node left right a l r f e i parts p in
-    let hl = root_height old left l own.before in
-    let hr = root_height old a r own.behind in
+-- written there
+pub before-written : (old new : Slab Node) (key : ℕ) (found : Node) (left a : Top) (height longest : ℕ) (same : Bool)
+    → get old key ≡ Some found → IsRead (get old) found.right a
+    → Updates old new key (Some (record found { left = left.root; height = height; longest = longest }))
+    → height ≡ (joint found.piece left a).height → longest ≡ (joint found.piece left a).longest
+    → left.height ≤ a.height + 1 → a.height ≤ left.height + 1
+    → (same ≡ true → (height ≡ found.height) × (longest ≡ found.longest))
+    → IsHungBefore (get old) (get new) key left (record { top = record { root = Some key; height = height; longest = longest }; same = same })
+before-written old new key found left a height longest same f p u hj lj lo hi shows node right l r e i parts piece =
+    let own = read_right (get old) key found node left right a l r f e i parts p in
+    let q = same_piece (get old) key found node f e in
+    let same_node : node ≡ found = cc in
+    let fr : found.right ≡ a.root =
+    sym (ap (λ (n : Node). n.right) same_node) ∙ sym i ∙ ap (λ (v : Top). v.root) (parts.behind.is ∙ sym own.behind.is) in
+    let is : record found { left = left.root; height = height; longest = longest } ≡ joint found.piece left a =
+    ap (λ x. record { piece = found.piece; left = left.root; right = x; height = height; longest = longest }) fr
+    ∙ ap (λ x. record { piece = found.piece; left = left.root; right = a.root; height = x; longest = longest }) hj
+    ∙ ap (λ x. record { piece = found.piece; left = left.root; right = a.root; height = (joint found.piece left a).height; longest = x }) lj in
+    let hl = root_height (get old) left l own.before in
+    let hr = root_height (get old) a r own.behind in
     let near : AreNear l r = (omega arith, omega arith) in
-    let u = linked l r own near in (
-      subst (λ q. Joins old new top key q l r) (sym (same_piece old key found node f e)) (link_joins old new top key found.piece l r near u),
-      (λ s. shown old key found node top f e (ap (λ (v : Top). v.root) u.tree.is) (shows s).0 (shows s).1),
+    let top : Top = record { root = Some key; height = height; longest = longest } in
+    let v = linked old new left a key found.piece l r own (subst (λ x. IsPiece x) q piece) near
+    (subst (λ n. Updates old new key (Some n)) is u) top refl hj lj in (
+      subst (λ x. Joins (get old) (get new) top key x l r) (sym q) (link_joins (get old) (get new) top key found.piece l r near v),
+      (λ s. shown (get old) key found node top f e refl (shows s).0 (shows s).1),
     )
 
-pub behind-linked : (old new : Look) (key : ℕ) (found : Node) (right a top : Top) (same : Bool) → old key ≡ Some found → IsRead old found.left a
-    → IsLinked old new top a key found.piece right → a.height ≤ right.height + 1 → right.height ≤ a.height + 1
-    → (same ≡ true → (top.height ≡ found.height) × (top.longest ≡ found.longest))
-    → IsHungBehind old new key right (record { top = top; same = same })
-behind-linked old new key found right a top same f p linked lo hi shows node left l r e i parts piece =
-    let own = read_left old key found node left right a l r f e i parts p in
-    let hl = root_height old a l own.before in
-    let hr = root_height old right r own.behind in
+pub behind-written : (old new : Slab Node) (key : ℕ) (found : Node) (right a : Top) (height longest : ℕ) (same : Bool)
+    → get old key ≡ Some found → IsRead (get old) found.left a
+    → Updates old new key (Some (record found { right = right.root; height = height; longest = longest }))
+    → height ≡ (joint found.piece a right).height → longest ≡ (joint found.piece a right).longest
+    → a.height ≤ right.height + 1 → right.height ≤ a.height + 1
+    → (same ≡ true → (height ≡ found.height) × (longest ≡ found.longest))
+    → IsHungBehind (get old) (get new) key right (record { top = record { root = Some key; height = height; longest = longest }; same = same })
+behind-written old new key found right a height longest same f p u hj lj lo hi shows node left l r e i parts piece =
+    let own = read_left (get old) key found node left right a l r f e i parts p in
+    let q = same_piece (get old) key found node f e in
+    let same_node : node ≡ found = cc in
+    let fl : found.left ≡ a.root =
+    sym (ap (λ (n : Node). n.left) same_node) ∙ sym i ∙ ap (λ (v : Top). v.root) (parts.before.is ∙ sym own.before.is) in
+    let is : record found { right = right.root; height = height; longest = longest } ≡ joint found.piece a right =
+    ap (λ x. record { piece = found.piece; left = x; right = right.root; height = height; longest = longest }) fl
+    ∙ ap (λ x. record { piece = found.piece; left = a.root; right = right.root; height = x; longest = longest }) hj
+    ∙ ap (λ x. record { piece = found.piece; left = a.root; right = right.root; height = (joint found.piece a right).height; longest = x }) lj in
+    let hl = root_height (get old) a l own.before in
+    let hr = root_height (get old) right r own.behind in
     let near : AreNear l r = (omega arith, omega arith) in
-    let u = linked l r own near in (
-      subst (λ q. Joins old new top key q l r) (sym (same_piece old key found node f e)) (link_joins old new top key found.piece l r near u),
-      (λ s. shown old key found node top f e (ap (λ (v : Top). v.root) u.tree.is) (shows s).0 (shows s).1),
+    let top : Top = record { root = Some key; height = height; longest = longest } in
+    let v = linked old new a right key found.piece l r own (subst (λ x. IsPiece x) q piece) near
+    (subst (λ n. Updates old new key (Some n)) is u) top refl hj lj in (
+      subst (λ x. Joins (get old) (get new) top key x l r) (sym q) (link_joins (get old) (get new) top key found.piece l r near v),
+      (λ s. shown (get old) key found node top f e refl (shows s).0 (shows s).1),
     )
 
 pub eq_true : (x y : ℕ) → nat_eq x y ≡ true → x ≡ y

@@ -1,16 +1,28 @@
-use Rattle.std.proofs.Common.{arith}
+use Rattle.std.proofs.Common.{arith, ap, max, ◌∙◌, ◌+◌}
+use Rattle.std.proofs.lemmas.Bool.{false≢true}
 use Rattle.slab.specs.Slab.{get}
-use Rattle.iova.proofs.shapes.Ways.{behind-linked, eq_true}
+use Rattle.iova.specs.Tree.{free_pages}
+use Rattle.iova.proofs.shapes.Ways.{behind-written, eq_true}
 use Rattle.iova.proofs.way.hang_behind.Goals as goal
 
-pub returns-then-top-height-clause-hung : goal.returns-then-top-height-clause-hung
-returns-then-top-height-clause-hung c =
-    behind-linked (get c.args.nodes.now) (get c.link-top.new.nodes) c.args.key c.index-node.result.now c.args.right c.read-left.result c.link-top.result _
-    c.index-node.ensures c.read-left.ensures c.link-top.ensures.links (omega arith) (omega arith)
-    (λ s. (c.if-top-height.true, eq_true c.link-top.result.longest c.index-node.result.now.longest s))
+pub returns-then-height-was_height-clause-hung : goal.returns-then-height-was_height-clause-hung
+returns-then-height-was_height-clause-hung c =
+    behind-written c.args.nodes.now c.set_right_reach.new.nodes c.args.key c.index-node.result.now c.args.tree c.read-other.result _ _ _
+    c.index-node.ensures c.read-other.ensures (c.set_right_reach.ensures.updates c.index-node.result.now c.index-node.ensures)
+    (ap (λ v. 1 + v) c.max-height.ensures)
+    (c.max-longest.ensures ∙ ap (λ v. max v c.max-below.result) c.free_length-own.ensures
+    ∙ ap (λ v. max (free_pages c.index-node.result.now.piece) v) c.max-below.ensures) (omega arith) (omega arith)
+    (λ s. (c.if-height-was_height.true, eq_true _ _ s))
 
-pub returns-else-top-height-clause-hung : goal.returns-else-top-height-clause-hung
-returns-else-top-height-clause-hung c =
-    behind-linked (get c.args.nodes.now) (get c.link-top.new.nodes) c.args.key c.index-node.result.now c.args.right c.read-left.result c.link-top.result _
-    c.index-node.ensures c.read-left.ensures c.link-top.ensures.links (omega arith) (omega arith)
-    (λ s. absurd (c.if-top-height.false (eq_true c.link-top.result.height c.index-node.result.now.height s)))
+pub returns-else-height-was_height-clause-hung : goal.returns-else-height-was_height-clause-hung
+returns-else-height-was_height-clause-hung c =
+    behind-written c.args.nodes.now c.set_right_reach.new.nodes c.args.key c.index-node.result.now c.args.tree c.read-other.result _ _ _
+    c.index-node.ensures c.read-other.ensures (c.set_right_reach.ensures.updates c.index-node.result.now c.index-node.ensures)
+    (ap (λ v. 1 + v) c.max-height.ensures)
+    (c.max-longest.ensures ∙ ap (λ v. max v c.max-below.result) c.free_length-own.ensures
+    ∙ ap (λ v. max (free_pages c.index-node.result.now.piece) v) c.max-below.ensures) (omega arith) (omega arith)
+    (λ s. absurd (c.if-height-was_height.false (eq_true _ _ s)))
+
+pub returns-then-tree-other-clause-hung : goal.returns-then-tree-other-clause-hung
+returns-then-tree-other-clause-hung c node left l r e i parts piece =
+    (c.join_behind-top.ensures.joins node left l r e i parts piece, (λ s. absurd (false≢true s)))
