@@ -28,8 +28,22 @@ pub(crate) fn leaf(nodes: &mut Slab<Node>, piece: &Piece) -> Option<usize>
     Some(key)
 }
 
-/// Adds a piece behind a tree.
+/// Adds a piece behind a tree: mostly there is none.
+#[inline(always)]
 pub(crate) fn add_last(nodes: &mut Slab<Node>, root: Option<usize>, piece: &Piece) -> Option<usize>
+    requires tree { (t : Shape) × IsLow (get nodes.old) root t }
+    requires piece { IsPiece piece.now }
+    requires room { slab_len nodes.old < nodes.old.capacity }
+    ensures { (t : Shape) → IsLow (get nodes.old) root t → Leaves nodes.old nodes.new result t (items t ++ piece.now ∷ []) 1 }
+{
+    if root.is_none() {
+        return leaf(nodes, piece);
+    }
+    add_last_below(nodes, root, piece)
+}
+
+/// Adds a piece behind a tree, apart.
+fn add_last_below(nodes: &mut Slab<Node>, root: Option<usize>, piece: &Piece) -> Option<usize>
     requires tree { (t : Shape) × IsLow (get nodes.old) root t }
     requires piece { IsPiece piece.now }
     requires room { slab_len nodes.old < nodes.old.capacity }
@@ -39,13 +53,27 @@ pub(crate) fn add_last(nodes: &mut Slab<Node>, root: Option<usize>, piece: &Piec
         return leaf(nodes, piece);
     };
     let right = nodes[key].right;
-    let behind = add_last(nodes, right, piece);
+    let behind = add_last_below(nodes, right, piece);
     set_right(nodes, key, behind);
     settle(nodes, key)
 }
 
-/// Adds a piece before a tree.
+/// Adds a piece before a tree: mostly there is none.
+#[inline(always)]
 pub(crate) fn add_first(nodes: &mut Slab<Node>, root: Option<usize>, piece: &Piece) -> Option<usize>
+    requires tree { (t : Shape) × IsLow (get nodes.old) root t }
+    requires piece { IsPiece piece.now }
+    requires room { slab_len nodes.old < nodes.old.capacity }
+    ensures { (t : Shape) → IsLow (get nodes.old) root t → Leaves nodes.old nodes.new result t (piece.now ∷ items t) 1 }
+{
+    if root.is_none() {
+        return leaf(nodes, piece);
+    }
+    add_first_below(nodes, root, piece)
+}
+
+/// Adds a piece before a tree, apart.
+fn add_first_below(nodes: &mut Slab<Node>, root: Option<usize>, piece: &Piece) -> Option<usize>
     requires tree { (t : Shape) × IsLow (get nodes.old) root t }
     requires piece { IsPiece piece.now }
     requires room { slab_len nodes.old < nodes.old.capacity }
@@ -55,7 +83,7 @@ pub(crate) fn add_first(nodes: &mut Slab<Node>, root: Option<usize>, piece: &Pie
         return leaf(nodes, piece);
     };
     let left = nodes[key].left;
-    let before = add_first(nodes, left, piece);
+    let before = add_first_below(nodes, left, piece);
     set_left(nodes, key, before);
     settle(nodes, key)
 }

@@ -1,6 +1,6 @@
 //! A piece put over what a tree has.
 
-ghost use Rattle.std.specs.Prelude.{◌≡◌, ℕ, ◌+◌, ◌<◌, ◌≤◌, length, [], ◌∷◌, ◌++◌, Some, IfSome};
+ghost use Rattle.std.specs.Prelude.{◌≡◌, ℕ, ◌+◌, ◌<◌, ◌≤◌, length, [], ◌∷◌, ◌++◌, Some, IfSome, true};
 ghost use Rattle.slab.specs.Slab.{get, slab_len};
 ghost use Rattle.iova.specs.Pieces.{IsOrdered, part_above, part_below, with_piece};
 ghost use Rattle.iova.specs.declared.node.Node.{Node};
@@ -184,8 +184,21 @@ fn put_at(nodes: &mut Slab<Node>, at: Option<usize>, piece: &Piece) -> Option<us
     cover(nodes, key, piece)
 }
 
-/// Puts a piece over what a tree has.
-pub(crate) fn put(nodes: &mut Slab<Node>, root: Option<usize>, piece: &Piece) -> Option<usize>
+/// Whether a piece meets the one at a tree's key, or there is no tree.
+#[inline(always)]
+fn meets(nodes: &Slab<Node>, at: Option<usize>, piece: &Piece) -> bool
+    requires { CanWalk (get nodes.now) at }
+    ensures { result ≡ true → IfSome at (λ key. (n : Node) × (get nodes.now key ≡ Some n) × Meets piece.now n.piece) }
+{
+    let Some(key) = at else {
+        return true;
+    };
+    let node = &nodes[key];
+    piece.first <= node.piece.last && node.piece.first <= piece.last
+}
+
+/// Puts a piece over what a tree has, below its key.
+fn put_below(nodes: &mut Slab<Node>, root: Option<usize>, piece: &Piece) -> Option<usize>
     requires tree { CanPut nodes.old root piece.now }
     requires low { CanWalk (get nodes.old) root }
     ensures { (t : Shape) (from : ℕ) → IsBelow (get nodes.old) root t from
@@ -196,4 +209,17 @@ pub(crate) fn put(nodes: &mut Slab<Node>, root: Option<usize>, piece: &Piece) ->
     let end = put_at(nodes, place.at, piece);
     let top = read(nodes, end);
     mend(nodes, &way, place.depth, root, top)
+}
+
+/// Puts a piece over what a tree has.
+pub(crate) fn put(nodes: &mut Slab<Node>, root: Option<usize>, piece: &Piece) -> Option<usize>
+    requires tree { CanPut nodes.old root piece.now }
+    requires low { CanWalk (get nodes.old) root }
+    ensures { (t : Shape) (from : ℕ) → IsBelow (get nodes.old) root t from
+        → Leaves nodes.old nodes.new result t (with_piece piece.now (items t)) 1 }
+{
+    if meets(nodes, root, piece) {
+        return put_at(nodes, root, piece);
+    }
+    put_below(nodes, root, piece)
 }

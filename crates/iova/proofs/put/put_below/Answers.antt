@@ -1,6 +1,6 @@
 use Rattle.slab.specs.Slab.{get}
 use Rattle.iova.proofs.parts.PutUp.{lows, up-room, up-read, up-can, up-done}
-use Rattle.iova.proofs.put.put.Goals as goal
+use Rattle.iova.proofs.put.put_below.Goals as goal
 
 pub put_at-end-requires-clause-tree : goal.put_at-end-requires-clause-tree
 put_at-end-requires-clause-tree c =

@@ -1,7 +1,0 @@
-use Rattle.slab.specs.Slab.{get}
-use Rattle.iova.specs.Tree.{at_root}
-use Rattle.iova.proofs.searches.Found.{node_height}
-use Rattle.iova.proofs.ends.+add_last.Given as goal
-
-abbrev pub decreases-add_last : goal.decreases-add_last
-decreases-add_last l = node_height (at_root (get l.nodes.now) l.root)
