@@ -198,6 +198,7 @@ fn meets(nodes: &Slab<Node>, at: Option<usize>, piece: &Piece) -> bool
 }
 
 /// Puts a piece over what a tree has, below its key.
+#[inline(never)]
 fn put_below(nodes: &mut Slab<Node>, root: Option<usize>, piece: &Piece) -> Option<usize>
     requires tree { CanPut nodes.old root piece.now }
     requires low { CanWalk (get nodes.old) root }
@@ -212,6 +213,7 @@ fn put_below(nodes: &mut Slab<Node>, root: Option<usize>, piece: &Piece) -> Opti
 }
 
 /// Puts a piece over what a tree has.
+#[inline(always)]
 pub(crate) fn put(nodes: &mut Slab<Node>, root: Option<usize>, piece: &Piece) -> Option<usize>
     requires tree { CanPut nodes.old root piece.now }
     requires low { CanWalk (get nodes.old) root }

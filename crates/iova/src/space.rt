@@ -1,6 +1,6 @@
 //! The address space of a domain.
 
-ghost use Rattle.std.specs.Prelude.{◌≡◌, ◌≢◌, ℕ, ◌+◌, ◌^◌, ◌<◌, ◌≤◌, ◌↔◌, length, Some, IsSome, IfOk, OnErr, IsOk, Ok, Err};
+ghost use Rattle.std.specs.Prelude.{◌≡◌, ◌≢◌, ℕ, ◌+◌, ◌^◌, ◌<◌, ◌≤◌, ◌↔◌, length, Some, IsSome, IfOk, OnErr, IsOk, Ok, Err, false};
 
 use crate::node::Node;
 use crate::piece::{PageState, Piece};
@@ -64,7 +64,7 @@ impl Space {
     ghost use Rattle.dmatypes.specs.Page.{IsPageRange, IsWithin, Range};
     ghost use Rattle.dmatypes.specs.World.{IsIn};
     ghost use Rattle.dmatypes.specs.declared.limits.TheConstants.{MOST_ORDER};
-    ghost use Rattle.iova.specs.Pieces.{AllIn, piece_of, state_at};
+    ghost use Rattle.iova.specs.Pieces.{AllIn, is_free, piece_of, state_at};
     ghost use Rattle.iova.specs.Space.{Space, AllFree, IsFit, IsLowestFit, IsSpace, IsTooMany, MayRetire, new_space};
     ghost use Rattle.iova.specs.Changes.{Frees, Retires, Takes};
 
@@ -218,7 +218,7 @@ impl Space {
     // Frees a range that is one piece.
     #[inline(always)]
     fn free(&mut self, range: PageRange)
-        requires { (state : PageState) × IsIn (piece_of range state) self.old.pieces }
+        requires { (state : PageState) × IsIn (piece_of range state) self.old.pieces × (is_free state ≡ false) }
         ensures freed { (state : PageState) → IsIn (piece_of range state) self.old.pieces → Frees self.old self.new range state }
         ensures range { IsPageRange range }
         ensures space { IsSpace self.old × IsSpace self.new }

@@ -1,9 +1,11 @@
 //! The pieces of a space in a tree.
 
-ghost use Rattle.std.specs.Prelude.{◌≡◌, ◌≢◌, Some, ℕ, ◌+◌, ◌^◌, ◌<◌, ◌≤◌, ◌↔◌, [], false, length, IsTrue, IsSome, IfSome, IfNone};
+ghost use Rattle.std.specs.Prelude.{◌≡◌, ◌≢◌, Some, ℕ, ◌+◌, ◌^◌, ◌<◌, ◌≤◌, ◌↔◌, [], false, true, length, IsTrue, IsSome, IfSome, IfNone};
 ghost use Rattle.dmatypes.specs.Page.{IsWithin};
 ghost use Rattle.slab.specs.Slab.{get, slab_len};
 ghost use Rattle.iova.specs.Pieces.{AllIn, IsOrdered, free_end, free_start, is_free, state_at, with_piece};
+ghost use Rattle.iova.specs.declared.piece.Piece.{Piece};
+ghost use Rattle.iova.specs.Search.{TakesPlace};
 ghost use Rattle.iova.specs.Space.{CutsPiece, IsFit, IsLowestFit, new_space};
 ghost use Rattle.iova.specs.Stored.{IsKept, pieces_of};
 ghost use Rattle.iova.specs.Tree.{IsPiece};
@@ -35,29 +37,7 @@ pub(crate) fn store(nodes: &mut Slab<Node>, root: Option<usize>, piece: Piece) -
     put(nodes, root, &piece)
 }
 
-/// Puts a piece over those that are there, mostly over one that has its pages and isn't free.
-fn overwrite(nodes: &mut Slab<Node>, root: Option<usize>, piece: Piece) -> Option<usize>
-    requires kept { IsKept root nodes.old (pieces_of nodes.old root) }
-    requires ordered { IsOrdered 1 (pieces_of nodes.old root) }
-    requires few { length (with_piece piece (pieces_of nodes.old root)) ≤ MOST_PIECES }
-    requires piece { IsPiece piece }
-    ensures { IsKept result nodes.new (with_piece piece (pieces_of nodes.old root)) }
-{
-    let (Some(key), Some(held)) = (root, find(nodes, root, piece.first)) else {
-        return store(nodes, root, piece);
-    };
-    if held.first != piece.first || held.last != piece.last {
-        return store(nodes, root, piece);
-    }
-    if held.is_free() {
-        return store(nodes, root, piece);
-    }
-    let pages = free_length(piece);
-    raise(nodes, key, &piece, pages);
-    root
-}
-
-/// Puts a free piece over those that are there: over one that has its pages, or over more.
+/// Puts a free piece over those that are there: where it is `one`, over one that has its pages and isn't free.
 #[inline(always)]
 pub(crate) fn free(
     nodes: &mut Slab<Node>,
@@ -69,12 +49,16 @@ pub(crate) fn free(
     requires ordered { IsOrdered 1 (pieces_of nodes.old root) }
     requires few { length (with_piece piece (pieces_of nodes.old root)) ≤ MOST_PIECES }
     requires piece { IsPiece piece }
+    requires place { one ≡ true → (there : Piece) × TakesPlace piece there (pieces_of nodes.old root) × (is_free there.state ≡ false) }
     ensures { IsKept result nodes.new (with_piece piece (pieces_of nodes.old root)) }
 {
-    if one {
-        return overwrite(nodes, root, piece);
+    if !one {
+        return store(nodes, root, piece);
     }
-    store(nodes, root, piece)
+    let Some(key) = root else { unreachable!() };
+    let pages = free_length(piece);
+    raise(nodes, key, &piece, pages);
+    root
 }
 
 /// Puts a piece that isn't free over those that are there, mostly over one that has its pages and isn't free.

@@ -11,6 +11,7 @@ use Rattle.iova.specs.Pieces.{is_free, with_piece}
 use Rattle.iova.specs.Search.{TakesPlace, piece_at}
 use Rattle.iova.specs.Tree.{Look, Shape, Empty, Fork, items, height_of, longest_of, root_of, top_of, free_pages, joint, node_of}
 use Rattle.iova.specs.Tree.{uses, IsPiece, IsTree, IsBelow, IsWhole, AreNear, KeepsCount, Makes}
+use Rattle.iova.specs.Stored.{IsKept}
 use Rattle.iova.proofs.Pieces.{order}
 use Rattle.iova.proofs.parts.Parts.{front_ends}
 use Rattle.iova.proofs.shapes.Trees.{is_there, one-same, same_tree, top_is}
@@ -80,6 +81,15 @@ used_none q h = grind arith
 pub place_none : (x : Shape) (p q : Piece) → root_of x ≡ None → TakesPlace p q (items x) → ⊥
 place_none Empty p there z k = let a = k.at in let b = at-nil p.first in cc
 place_none (Fork key q l r) p there z k = cc
+
+-- a piece that is there
+pub kept_takes : (root : Option ℕ) (nodes : Slab Node) (pieces : List Piece) (p there : Piece) (k : IsKept root nodes pieces)
+    → TakesPlace p there pieces → TakesPlace p there (items k.shape)
+kept_takes root nodes pieces p there k h = subst (λ ps. TakesPlace p there ps) (sym k.all) h
+
+pub kept_there : (root : Option ℕ) (nodes : Slab Node) (pieces : List Piece) (p there : Piece) → IsKept root nodes pieces
+    → TakesPlace p there pieces → root ≡ None → ⊥
+kept_there root nodes pieces p there k h e = place_none k.shape p there (sym k.here ∙ e) (kept_takes root nodes pieces p there k h)
 
 node_fields : (n : Node) (piece : Piece) (left right : Option ℕ) (height longest : ℕ) → n.piece ≡ piece → n.left ≡ left → n.right ≡ right
     → n.height ≡ height

@@ -92,6 +92,15 @@ end_other from last (p ∷ ps) o h =
           ∙ end_other (p.last + 1) last ps o.3 (λ q e. h q (at-under p ps (last + 1) k ∙ e))
     ]
 
+-- a piece that is there is the piece of its pages
+pub at_of : (from : ℕ) (q : Piece) (ps : List Piece) (page : ℕ) → IsOrdered from ps → IsIn q ps → q.first ≤ page → page ≤ q.last
+    → piece_at ps page ≡ Some q
+at_of from q [] page o m l h = absurd m
+at_of from q (p ∷ ps) page o m l h = elim m [
+  | inl e ↦ at-here p ps page (subst (λ r. r.first ≤ page) e l) (subst (λ r. page ≤ r.last) e h) ∙ ap (λ r. Some r) (sym e)
+  | inr n ↦ let r = in_le (p.last + 1) q ps o.3 n in at-past p ps page (omega (arith, r.0)) ∙ at_of (p.last + 1) q ps page o.3 n l h
+]
+
 -- the piece that a freed one becomes
 pub freed_piece : (a : Space) (q : Piece) → IsSpace a → IsIn q a.pieces
     → IsPiece (record { first = free_start a.pieces q.first; last = free_end a.pieces q.last; state = Free })

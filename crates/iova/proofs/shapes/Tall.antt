@@ -6,7 +6,6 @@ use Rattle.iova.specs.declared.piece.Piece.{Piece}
 use Rattle.iova.specs.declared.node.Node.{Node}
 use Rattle.iova.specs.declared.node.Top.{Top}
 use Rattle.iova.specs.Pieces.{IsOrdered, with_piece}
-use Rattle.iova.specs.Search.{TakesPlace, piece_at}
 use Rattle.iova.specs.Tree.{Look, Shape, Empty, Fork, items, height_of, IsBalanced, AreNodes, IsBelow}
 use Rattle.iova.specs.Tree.{IsPiece, CanPut, CanSearch, Leaves, root_of, at_root}
 use Rattle.iova.specs.Stored.{around, contents, pieces_of, IsKept}
@@ -103,12 +102,6 @@ kept_done root now old new pieces p more k few v =
 pub kept_self : (root : Option ℕ) (nodes : Slab Node) (pieces : List Piece) → IsKept root nodes pieces
     → IsKept root nodes (pieces_of nodes root)
 kept_self root nodes pieces k = subst (λ l. IsKept root nodes l) (sym (kept_view root nodes pieces k)) k
-
--- the piece of a page lies in the place of one with its pages
-pub kept_place : (root : Option ℕ) (nodes : Slab Node) (pieces : List Piece) (p there : Piece) (found : Option Piece)
-    (k : IsKept root nodes pieces) → found ≡ piece_at (items k.shape) p.first
-    → found ≡ Some there → there.first ≡ p.first → there.last ≡ p.last → TakesPlace p there (items k.shape)
-kept_place root nodes pieces p there found k e f a b = record { at = sym e ∙ f; first = a; last = b }
 
 pub kept_at : (root : Option ℕ) (nodes : Slab Node) (pieces : List Piece) (key : ℕ) (k : IsKept root nodes pieces) → IsOrdered 1 pieces
     → root ≡ Some key → IsBelow (get nodes) (Some key) k.shape 1

@@ -7,9 +7,12 @@ use Rattle.iova.specs.Space.{Space, IsSpace}
 use Rattle.iova.specs.Changes.{Frees}
 use Rattle.iova.specs.Stored.{stored}
 use Rattle.iova.proofs.Freed.{frees, space_freed}
-use Rattle.iova.proofs.searches.FreeEnds.{freed_piece}
+use Rattle.iova.proofs.Among.{in_le}
+use Rattle.iova.proofs.searches.FreeEnds.{at_of, freed_piece}
+use Rattle.iova.proofs.shapes.Ways.{eq_true}
 use Rattle.iova.proofs.shapes.Tall.{kept_self, kept_view}
 use Rattle.iova.proofs.space.Space.free.Goals as goal
+use Rattle.iova.proofs.space.Space.free.Goals.{then-low-first, else-low-first}
 
 pub free-self-inside-requires-clause-few : goal.free-self-inside-requires-clause-few
 free-self-inside-requires-clause-few c =
@@ -105,3 +108,25 @@ returns-clause-space c =
           c.free-self-inside.ensures
           ∙ same)) (space_freed a q c.self.invariant.1 there),
     )
+
+pub free-self-inside-requires-clause-place : goal.free-self-inside-requires-clause-place
+free-self-inside-requires-clause-place c one =
+    let a : Space = stored c.self.inside.last c.self.inside.root c.self.inside.nodes in
+    let q : Piece = piece_of c.args.range c.requires.0 in
+    let there : IsIn q a.pieces = subst (λ (v : Space). IsIn q v.pieces) (sym c.self.view_is) c.requires.1 in
+    let end : c.first-first.result + c.pages.result - 1 ≡ q.last = omega (arith, c.first-first.ensures.value, c.pages.ensures.value) in
+    let has = in_le 1 q a.pieces c.self.invariant.1.ordered there in
+    elim c.if-low-first.branch [
+    | then-low-first w ↦
+        let low : c.free_from-low.result ≡ q.first = w.if-low-first.true ∙ c.first-first.ensures.value in
+        let high : c.free_to-high.result ≡ q.last = eq_true _ _ (sym w.free-is ∙ one) ∙ end in (
+          q,
+          record {
+            at = at_of 1 q a.pieces c.free_from-low.result c.self.invariant.1.ordered there (omega arith) (omega (arith, has));
+            first = sym low;
+            last = sym high;
+          },
+          c.requires.2,
+        )
+    | else-low-first w ↦ absurd (w.if-low-first.false (eq_true _ _ (sym w.free-is ∙ one)))
+    ]
