@@ -5,3 +5,4 @@ pub mod FreeEnds
 pub mod Narrowed
 pub mod Walked
 pub mod Walk
+pub mod Beside

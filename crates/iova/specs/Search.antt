@@ -1,5 +1,5 @@
 -- What a search in pieces finds.
-use Rattle.std.specs.Prelude.{ℕ, ◌≡◌, ◌+◌, ◌%◌, ◌≤◌, ◌&&◌, nat_le, IsTrue, if◌then◌else◌, List, [], ◌∷◌, ◌++◌, Option, Some, None}
+use Rattle.std.specs.Prelude.{ℕ, ◌≡◌, ◌+◌, ◌%◌, ◌≤◌, ◌&&◌, nat_eq, nat_le, nat_lt, IsTrue, if◌then◌else◌, List, [], ◌∷◌, ◌++◌, Option, Some, None}
 use Rattle.std.specs.List.{AllByRecursion}
 use Rattle.iova.specs.declared.piece.Piece.{Piece}
 use Rattle.iova.specs.Pieces.{is_free}
@@ -43,3 +43,21 @@ pub record IsFound (pages unit : ℕ) (pieces : List Piece) (start : ℕ) : Type
   pub free : IsTrue (is_free piece.state)
   pub up : IsRoundUp piece.first unit start
   pub room : start + pages ≤ piece.last + 1
+
+-- where a free piece that ends just before a page begins, or that page
+abbrev pub start_by : Piece → ℕ → ℕ
+start_by p first = if is_free p.state && nat_eq (p.last + 1) first then p.first else first
+
+-- where a free piece that begins just after a page ends, or that page
+abbrev pub end_by : Piece → ℕ → ℕ
+end_by p last = if is_free p.state && nat_eq p.first (last + 1) then p.last else last
+
+-- what the last piece below a page says of it, or this where there is none
+unfoldable pub start_below : List Piece → ℕ → ℕ → ℕ
+start_below [] first other = other
+start_below (p ∷ ps) first other = if nat_lt p.last first then start_below ps first (start_by p first) else other
+
+-- what the first piece above a page says of it, or this where there is none
+unfoldable pub end_above : List Piece → ℕ → ℕ → ℕ
+end_above [] last other = other
+end_above (p ∷ ps) last other = if nat_lt last p.first then end_by p last else end_above ps last other

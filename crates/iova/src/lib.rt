@@ -1,6 +1,7 @@
 //! The address space of a domain: pieces, each a run of pages of one state, in a balanced tree.
 #![tactic(auto)]
 
+mod beside;
 mod ends;
 mod links;
 mod node;

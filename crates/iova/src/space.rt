@@ -2,6 +2,7 @@
 
 ghost use Rattle.std.specs.Prelude.{◌≡◌, ◌≢◌, ℕ, ◌+◌, ◌^◌, ◌<◌, ◌≤◌, ◌↔◌, length, Some, IsSome, IfOk, OnErr, IsOk, Ok, Err, false};
 
+use crate::beside::Ends;
 use crate::node::Node;
 use crate::piece::{PageState, Piece};
 use crate::store;
@@ -225,18 +226,17 @@ impl Space {
     {
         let first = range.first();
         let last = first + range.pages() - 1;
-        let low = store::free_from(&self.nodes, self.root, first);
-        let high = store::free_to(&self.nodes, self.root, last);
+        let ends = store::with_free_ends(&self.nodes, self.root, Ends { first, last });
         let piece = Piece {
-            first: low,
-            last: high,
+            first: ends.first,
+            last: ends.last,
             state: PageState::Free,
         };
         self.root = store::free(
             &mut self.nodes,
             self.root,
             piece,
-            low == first && high == last,
+            ends.first == first && ends.last == last,
         );
     }
 }

@@ -10,6 +10,7 @@ ghost use Rattle.iova.specs.Space.{CutsPiece, IsFit, IsLowestFit, new_space};
 ghost use Rattle.iova.specs.Stored.{IsKept, pieces_of};
 ghost use Rattle.iova.specs.Tree.{IsPiece};
 
+use crate::beside::{Ends, with_free};
 use crate::links::free_length;
 use crate::node::{NUMBERS_END, Node};
 use crate::piece::{PageState, Piece};
@@ -147,30 +148,18 @@ pub(crate) fn cuts_piece(nodes: &Slab<Node>, root: Option<usize>, first: u64, pa
     low.first < first || last < high.last
 }
 
-/// The first page of the free piece that ends just before a page, or that page.
-pub(crate) fn free_from(nodes: &Slab<Node>, root: Option<usize>, first: u64) -> u64
+/// The pages from the first of the free piece that ends just before some pages to the last of the one that begins
+/// just after them.
+#[inline(always)]
+pub(crate) fn with_free_ends(nodes: &Slab<Node>, root: Option<usize>, pages: Ends) -> Ends
     requires kept { IsKept root nodes.now (pieces_of nodes.now root) }
     requires ordered { IsOrdered 1 (pieces_of nodes.now root) }
-    requires some { 1 ≤ first }
-    ensures { result ≡ free_start (pieces_of nodes.now root) first }
+    requires some { pages.first ≤ pages.last }
+    requires narrow { pages.last < NUMBERS_END }
+    ensures first { result.first ≡ free_start (pieces_of nodes.now root) pages.first }
+    ensures last { result.last ≡ free_end (pieces_of nodes.now root) pages.last }
 {
-    match find(nodes, root, first - 1) {
-        Some(piece) if piece.is_free() && piece.last == first - 1 => piece.first,
-        _ => first,
-    }
-}
-
-/// The last page of the free piece that begins just after a page, or that page.
-pub(crate) fn free_to(nodes: &Slab<Node>, root: Option<usize>, last: u64) -> u64
-    requires kept { IsKept root nodes.now (pieces_of nodes.now root) }
-    requires ordered { IsOrdered 1 (pieces_of nodes.now root) }
-    requires narrow { last < NUMBERS_END }
-    ensures { result ≡ free_end (pieces_of nodes.now root) last }
-{
-    match find(nodes, root, last + 1) {
-        Some(piece) if piece.is_free() && piece.first == last + 1 => piece.last,
-        _ => last,
-    }
+    with_free(nodes, root, pages)
 }
 
 /// A page of a range that isn't live, if there is one.

@@ -16,12 +16,12 @@ use Rattle.iova.proofs.FreeRange.{free_start_le, free_end_ge}
 use Rattle.iova.proofs.Freed.{space_freed}
 use Rattle.iova.proofs.searches.Found.{at-nil, at-here, at-under, at-past}
 
-start_none : (from first : ℕ) (ps : List Piece) → IsOrdered from ps → first ≤ from → free_start ps first ≡ first
+pub start_none : (from first : ℕ) (ps : List Piece) → IsOrdered from ps → first ≤ from → free_start ps first ≡ first
 start_none from first [] o h = free_start-nil first
 start_none from first (p ∷ ps) o h = free_start-other p ps first (inr (λ e. omega (arith, o.0, o.1)))
     ∙ start_none (p.last + 1) first ps o.3 (omega (arith, o.0, o.1))
 
-end_none : (from last : ℕ) (ps : List Piece) → IsOrdered from ps → last + 1 < from → free_end ps last ≡ last
+pub end_none : (from last : ℕ) (ps : List Piece) → IsOrdered from ps → last + 1 < from → free_end ps last ≡ last
 end_none from last [] o h = free_end-nil last
 end_none from last (p ∷ ps) o h = free_end-other p ps last (inr (λ e. omega (arith, o.0)))
     ∙ end_none (p.last + 1) last ps o.3 (omega (arith, o.0, o.1))
