@@ -12,7 +12,7 @@ pub(crate) struct Node {
     pub(crate) left: Option<usize>,
     pub(crate) right: Option<usize>,
     /// How many nodes lie on the longest way down from here.
-    pub(crate) height: u8,
+    pub(crate) height: u64,
     /// The greatest length of a free piece from here down.
     pub(crate) longest: u64,
 }
@@ -21,7 +21,7 @@ pub(crate) struct Node {
 #[derive(Clone, Copy)]
 pub(crate) struct Top {
     pub(crate) root: Option<usize>,
-    pub(crate) height: u8,
+    pub(crate) height: u64,
     pub(crate) longest: u64,
 }
 

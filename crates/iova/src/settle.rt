@@ -64,7 +64,7 @@ pub(crate) fn set_all(
 
 /// Writes how high and how long it is below a key.
 #[inline(always)]
-fn set_reach(nodes: &mut Slab<Node>, key: usize, height: u8, longest: u64)
+fn set_reach(nodes: &mut Slab<Node>, key: usize, height: u64, longest: u64)
     requires { IsSome (get nodes.old key) }
     ensures updates { (n : Node) → get nodes.old key ≡ Some n
         → Updates nodes.old nodes.new key (Some (record n { height = height; longest = longest })) }
@@ -81,7 +81,7 @@ pub(crate) fn set_right_reach(
     nodes: &mut Slab<Node>,
     key: usize,
     root: Option<usize>,
-    height: u8,
+    height: u64,
     longest: u64,
 )
     requires { IsSome (get nodes.old key) }
@@ -101,7 +101,7 @@ pub(crate) fn set_left_reach(
     nodes: &mut Slab<Node>,
     key: usize,
     root: Option<usize>,
-    height: u8,
+    height: u64,
     longest: u64,
 )
     requires { IsSome (get nodes.old key) }
