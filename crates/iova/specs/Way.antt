@@ -1,5 +1,5 @@
 -- Ways down a tree: what lies above a place in it.
-use Rattle.std.specs.Prelude.{ℕ, ◌≡◌, ◌+◌, ◌≤◌, Bool, true, false, if◌then◌else◌, List, ◌∷◌, ◌++◌, Option, Some, None, IfSome, slice_index_or}
+use Rattle.std.specs.Prelude.{ℕ, ◌≡◌, ◌+◌, ◌≤◌, true, false, List, ◌∷◌, ◌++◌, Option, Some, IfSome, slice_index_or}
 use Rattle.iova.specs.declared.piece.Piece.{Piece}
 use Rattle.iova.specs.declared.node.Node.{Node}
 use Rattle.iova.specs.declared.node.Top.{Top}
@@ -9,7 +9,7 @@ use Rattle.iova.specs.declared.way.Step.{Step}
 use Rattle.iova.specs.declared.way.TheConstants.{MOST_HEIGHT}
 use Rattle.iova.specs.Pieces.{with_piece}
 use Rattle.iova.specs.Tree.{Look, Shape, Fork, items, height_of, root_of, node_of, one, uses, IsPiece, IsBalanced, ArePieces, AreNodes, IsTree}
-use Rattle.iova.specs.Tree.{AreParts, AreNear, IsBelow, Joins, top_of}
+use Rattle.iova.specs.Tree.{AreParts, AreNear, IsBelow, Joins}
 
 -- nothing, or a key above a place, which lies before it or behind it, with its piece and the tree on its other side
 pub data Above : Type 0 where

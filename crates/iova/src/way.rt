@@ -76,7 +76,13 @@ pub(crate) fn walk(
 
 /// Joins at a key with a tree before it, where the heights differ by more than one: mostly they don't.
 #[inline(never)]
-fn join_before(nodes: &mut Slab<Node>, key: usize, root: Option<usize>, height: u64, longest: u64) -> Top
+fn join_before(
+    nodes: &mut Slab<Node>,
+    key: usize,
+    root: Option<usize>,
+    height: u64,
+    longest: u64,
+) -> Top
     requires { CanHangBefore (get nodes.old) key (record { root = root; height = height; longest = longest }) }
     ensures joins { JoinsBefore (get nodes.old) (get nodes.new) key (record { root = root; height = height; longest = longest }) result }
     ensures count { KeepsCount nodes.old nodes.new }
@@ -123,7 +129,13 @@ fn hang_before(nodes: &mut Slab<Node>, key: usize, tree: Top) -> Hung
 
 /// Joins at a key with a tree behind it, where the heights differ by more than one: mostly they don't.
 #[inline(never)]
-fn join_behind(nodes: &mut Slab<Node>, key: usize, root: Option<usize>, height: u64, longest: u64) -> Top
+fn join_behind(
+    nodes: &mut Slab<Node>,
+    key: usize,
+    root: Option<usize>,
+    height: u64,
+    longest: u64,
+) -> Top
     requires { CanHangBehind (get nodes.old) key (record { root = root; height = height; longest = longest }) }
     ensures joins { JoinsBehind (get nodes.old) (get nodes.new) key (record { root = root; height = height; longest = longest }) result }
     ensures count { KeepsCount nodes.old nodes.new }

@@ -55,23 +55,9 @@ module _ (old : Slab Node) (root : Option ℕ) (key : ℕ) (n : Node) (p : Piece
     pub put-past : with_piece p (items t) ≡ items k.l ++ n.piece ∷ with_piece p (items k.r)
     put-past = ap (λ x. with_piece p (items x)) k.is ∙ with_past from (items k.l) n.piece (items k.r) p order i past
 
-    pub put-room_right : slab_len old + length (with_piece p (items t)) ≤ old.capacity + length (items t)
-        → slab_len old + length (with_piece p (items k.r)) ≤ old.capacity + length (items k.r)
-    put-room_right room =
-        let a = ap (λ (ps : List Piece). length ps) put-past in
-        let b : length (items t) ≡ length (items k.l ++ n.piece ∷ items k.r) = ap (λ x. length (items x)) k.is in
-        omega (arith, length-append (items k.l) (n.piece ∷ items k.r), length-append (items k.l) (n.piece ∷ with_piece p (items k.r)))
-
   module _ (under : p.last < n.piece.first) where
     pub put-under : with_piece p (items t) ≡ with_piece p (items k.l) ++ n.piece ∷ items k.r
     put-under = ap (λ x. with_piece p (items x)) k.is ∙ with_under (items k.l) n.piece (items k.r) p k.piece i under
-
-    pub put-room_left : slab_len old + length (with_piece p (items t)) ≤ old.capacity + length (items t)
-        → slab_len old + length (with_piece p (items k.l)) ≤ old.capacity + length (items k.l)
-    put-room_left room =
-        let a = ap (λ (ps : List Piece). length ps) put-under in
-        let b : length (items t) ≡ length (items k.l ++ n.piece ∷ items k.r) = ap (λ x. length (items x)) k.is in
-        omega (arith, length-append (items k.l) (n.piece ∷ items k.r), length-append (with_piece p (items k.l)) (n.piece ∷ items k.r))
 
   module _ (a : p.first ≡ n.piece.first) (b : p.last < n.piece.last) where
     pub front-low : IsLow (get old) n.left k.l

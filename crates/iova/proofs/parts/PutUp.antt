@@ -1,5 +1,5 @@
 -- A piece put at the end of a way, and the tree brought up to date.
-use Rattle.std.proofs.Common.{◌≡◌, ℕ, ◌+◌, ◌<◌, ◌≤◌, List, ◌∷◌, ◌++◌, length, Option, Some, IsSome, refl, ap, sym, ◌∙◌, inl, inr, subst}
+use Rattle.std.proofs.Common.{◌≡◌, ℕ, ◌+◌, ◌≤◌, List, ◌∷◌, ◌++◌, length, Option, ap, sym, ◌∙◌, inl, inr}
 use Rattle.std.proofs.Common.{arith, length-append}
 use Rattle.std.proofs.lemmas.Bool.{cases_eq}
 use Rattle.slab.specs.Slab.{Slab, get, slab_len}
@@ -8,9 +8,9 @@ use Rattle.iova.specs.declared.node.Node.{Node}
 use Rattle.iova.specs.declared.node.Top.{Top}
 use Rattle.iova.specs.declared.way.Step.{Step}
 use Rattle.iova.specs.Pieces.{with_piece}
-use Rattle.iova.specs.Tree.{Look, Shape, Fork, items, height_of, root_of, top_of, uses, IsPiece, IsRead, CanRead, IsBelow, CanPut, Leaves}
-use Rattle.iova.specs.Tree.{KeepsCount, IsTree, at_root}
-use Rattle.iova.specs.Way.{Above, Whole, Before, Behind, plug, among, uses_above, AreAbove, CanWalk, IsLowBelow, IsPlace, CanMend, Mends}
+use Rattle.iova.specs.Tree.{Look, Shape, items, height_of, root_of, top_of, uses, IsRead, CanRead, IsBelow, Leaves}
+use Rattle.iova.specs.Tree.{KeepsCount}
+use Rattle.iova.specs.Way.{Above, Whole, Before, Behind, plug, among, uses_above, CanWalk, IsLowBelow, IsPlace, CanMend, Mends}
 use Rattle.iova.proofs.searches.Found.{search_height}
 use Rattle.iova.proofs.shapes.Trees.{has_node}
 use Rattle.iova.proofs.shapes.Held.{known, unused}

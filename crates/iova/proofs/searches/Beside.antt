@@ -6,10 +6,9 @@ use Rattle.iova.specs.declared.piece.Piece.{Piece}
 use Rattle.iova.specs.declared.node.Node.{Node}
 use Rattle.iova.specs.Pieces.{IsOrdered, free_end, free_start, is_free}
 use Rattle.iova.specs.Search.{end_above, end_by, start_below, start_by}
-use Rattle.iova.specs.Tree.{Look, Shape, items, height_of, at_root, IsBelow}
+use Rattle.iova.specs.Tree.{Look, Shape, items, IsBelow}
 use Rattle.iova.proofs.Pieces.{order}
-use Rattle.iova.proofs.parts.Parts.{ordered_behind}
-use Rattle.iova.proofs.searches.Found.{Passes, passes, one_tree, empty_items, node_height, search_height}
+use Rattle.iova.proofs.searches.Found.{Passes, passes, one_tree, empty_items}
 use Rattle.iova.proofs.FreeRange.{free_cases, free_start-here, free_start-other, free_start-nil, free_end-here, free_end-other, free_end-nil}
 use Rattle.iova.proofs.searches.FreeEnds.{start_none, end_none}
 
@@ -155,16 +154,6 @@ saying_end look root now say known found i e n x start v =
     sym (i.same x start v ∙ ap (λ ps. say ps found) (empty_items now i.t i.below.here e) ∙ n)
 
 module _ (look : Look) (root now : Option ℕ) (key : ℕ) (n : Node) (e : now ≡ Some key) (f : look key ≡ Some n) where
-  pub saying-falls : (say : List Piece → ℕ → ℕ) (known found : ℕ) → IsSaying look root now say known found
-      → (node_height (at_root look n.left) < node_height (at_root look now)) × (node_height (at_root look n.right) < node_height (at_root look now))
-  saying-falls say known found i =
-      let s = passes look now key n i.t i.from i.below e f in
-      let a = search_height look n.left s.l i.from s.before in
-      let b = search_height look n.right s.r (n.piece.last + 1) s.behind in
-      let c = search_height look now i.t i.from i.below in
-      let d = ap height_of s.is in
-      (omega arith, omega arith)
-
   module _ (first known found : ℕ) (i : IsSaying look root now (λ ps. start_below ps first) known found) where
     abbrev s : Passes look key n i.t i.from
     s = passes look now key n i.t i.from i.below e f

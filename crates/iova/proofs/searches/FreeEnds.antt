@@ -1,20 +1,19 @@
 -- The free pieces beside a range, by the pieces of the pages beside it.
-use Rattle.std.proofs.Common.{◌≡◌, ◌≢◌, ℕ, ◌+◌, ◌-◌, ◌<◌, ◌≤◌, ◌⊎◌, List, [], ◌∷◌, Some, IsTrue, false, ap, sym, ◌∙◌, inl, inr, subst}
+use Rattle.std.proofs.Common.{◌≡◌, ℕ, ◌+◌, ◌<◌, ◌≤◌, List, [], ◌∷◌, Some, ap, sym, ◌∙◌, inl, inr, subst}
 use Rattle.std.proofs.Common.{arith}
 use Rattle.dmatypes.specs.World.{IsIn}
 use Rattle.iova.specs.declared.piece.Piece.{Piece}
 use Rattle.iova.specs.declared.piece.PageState.TheVariants.{Free}
-use Rattle.iova.specs.Pieces.{is_free, IsOrdered, free_start, free_end, with_free}
+use Rattle.iova.specs.Pieces.{IsOrdered, free_start, free_end, with_free}
 use Rattle.iova.specs.Space.{Space, IsSpace}
 use Rattle.iova.specs.Search.{piece_at}
 use Rattle.iova.specs.Tree.{IsPiece}
-use Rattle.iova.proofs.Pieces.{order}
 use Rattle.iova.proofs.Keep.{is_some}
 use Rattle.iova.proofs.Among.{in_le, in_state, put_piece}
-use Rattle.iova.proofs.FreeRange.{free_start-here, free_start-other, free_start-nil, free_end-here, free_end-other, free_end-nil}
+use Rattle.iova.proofs.FreeRange.{free_start-other, free_start-nil, free_end-other, free_end-nil}
 use Rattle.iova.proofs.FreeRange.{free_start_le, free_end_ge}
 use Rattle.iova.proofs.Freed.{space_freed}
-use Rattle.iova.proofs.searches.Found.{at-nil, at-here, at-under, at-past}
+use Rattle.iova.proofs.searches.Found.{at-here, at-past}
 
 pub start_none : (from first : ℕ) (ps : List Piece) → IsOrdered from ps → first ≤ from → free_start ps first ≡ first
 start_none from first [] o h = free_start-nil first
@@ -25,72 +24,6 @@ pub end_none : (from last : ℕ) (ps : List Piece) → IsOrdered from ps → las
 end_none from last [] o h = free_end-nil last
 end_none from last (p ∷ ps) o h = free_end-other p ps last (inr (λ e. omega (arith, o.0)))
     ∙ end_none (p.last + 1) last ps o.3 (omega (arith, o.0, o.1))
-
--- a free piece that ends before the page
-pub start_here : (from first : ℕ) (ps : List Piece) (q : Piece) → IsOrdered from ps → 1 ≤ first → piece_at ps (first - 1) ≡ Some q
-    → IsTrue (is_free q.state) → q.last + 1 ≡ first → free_start ps first ≡ q.first
-start_here from first [] q o pos e f l = absurd (let g = at-nil (first - 1) in cc)
-start_here from first (p ∷ ps) q o pos e f l =
-    elim (order p.first (first - 1)) [
-      | inl k ↦ elim (order (first - 1) p.last) [
-        | inl m ↦
-            let g = at-here p ps (first - 1) k m in
-            let same : q ≡ p = cc in
-            free_start-here p ps first (subst (λ z. IsTrue (is_free z.state)) same f, subst (λ z. z.last + 1 ≡ first) same l)
-            ∙ ap (λ (z : Piece). z.first) (sym same)
-        | inr m ↦ free_start-other p ps first (inr (λ x. omega arith))
-            ∙ start_here (p.last + 1) first ps q o.3 pos (sym (at-past p ps (first - 1) m) ∙ e) f l
-      ]
-      | inr k ↦ free_start-other p ps first (inr (λ x. omega (arith, o.1)))
-          ∙ start_here (p.last + 1) first ps q o.3 pos (sym (at-under p ps (first - 1) k) ∙ e) f l
-    ]
-
--- there is none
-pub start_other : (from first : ℕ) (ps : List Piece) → IsOrdered from ps → 1 ≤ first
-    → ((q : Piece) → piece_at ps (first - 1) ≡ Some q → (is_free q.state ≡ false) ⊎ (q.last + 1 ≢ first)) → free_start ps first ≡ first
-start_other from first [] o pos h = free_start-nil first
-start_other from first (p ∷ ps) o pos h =
-    elim (order p.first (first - 1)) [
-      | inl k ↦ elim (order (first - 1) p.last) [
-        | inl m ↦ free_start-other p ps first (h p (at-here p ps (first - 1) k m)) ∙ start_none (p.last + 1) first ps o.3 (omega arith)
-        | inr m ↦ free_start-other p ps first (inr (λ x. omega arith))
-            ∙ start_other (p.last + 1) first ps o.3 pos (λ q e. h q (at-past p ps (first - 1) m ∙ e))
-      ]
-      | inr k ↦ free_start-other p ps first (inr (λ x. omega (arith, o.1)))
-          ∙ start_other (p.last + 1) first ps o.3 pos (λ q e. h q (at-under p ps (first - 1) k ∙ e))
-    ]
-
-pub end_here : (from last : ℕ) (ps : List Piece) (q : Piece) → IsOrdered from ps → piece_at ps (last + 1) ≡ Some q
-    → IsTrue (is_free q.state) → q.first ≡ last + 1 → free_end ps last ≡ q.last
-end_here from last [] q o e f l = absurd (let g = at-nil (last + 1) in cc)
-end_here from last (p ∷ ps) q o e f l =
-    elim (order p.first (last + 1)) [
-      | inl k ↦ elim (order (last + 1) p.last) [
-        | inl m ↦
-            let g = at-here p ps (last + 1) k m in
-            let same : q ≡ p = cc in
-            free_end-here p ps last (subst (λ z. IsTrue (is_free z.state)) same f, subst (λ z. z.first ≡ last + 1) same l)
-            ∙ ap (λ (z : Piece). z.last) (sym same)
-        | inr m ↦ free_end-other p ps last (inr (λ x. omega (arith, o.1)))
-            ∙ end_here (p.last + 1) last ps q o.3 (sym (at-past p ps (last + 1) m) ∙ e) f l
-      ]
-      | inr k ↦ free_end-other p ps last (inr (λ x. omega arith))
-          ∙ end_here (p.last + 1) last ps q o.3 (sym (at-under p ps (last + 1) k) ∙ e) f l
-    ]
-
-pub end_other : (from last : ℕ) (ps : List Piece) → IsOrdered from ps
-    → ((q : Piece) → piece_at ps (last + 1) ≡ Some q → (is_free q.state ≡ false) ⊎ (q.first ≢ last + 1)) → free_end ps last ≡ last
-end_other from last [] o h = free_end-nil last
-end_other from last (p ∷ ps) o h =
-    elim (order p.first (last + 1)) [
-      | inl k ↦ elim (order (last + 1) p.last) [
-        | inl m ↦ free_end-other p ps last (h p (at-here p ps (last + 1) k m)) ∙ end_none (p.last + 1) last ps o.3 (omega arith)
-        | inr m ↦ free_end-other p ps last (inr (λ x. omega (arith, o.1)))
-            ∙ end_other (p.last + 1) last ps o.3 (λ q e. h q (at-past p ps (last + 1) m ∙ e))
-      ]
-      | inr k ↦ free_end-other p ps last (inr (λ x. omega arith))
-          ∙ end_other (p.last + 1) last ps o.3 (λ q e. h q (at-under p ps (last + 1) k ∙ e))
-    ]
 
 -- a piece that is there is the piece of its pages
 pub at_of : (from : ℕ) (q : Piece) (ps : List Piece) (page : ℕ) → IsOrdered from ps → IsIn q ps → q.first ≤ page → page ≤ q.last

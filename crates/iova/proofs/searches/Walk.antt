@@ -1,14 +1,12 @@
 -- A way down a tree to where a piece meets others.
-use Rattle.std.proofs.Common.{◌≡◌, ℕ, ◌+◌, ◌<◌, ◌≤◌, true, false, List, ◌∷◌, ◌++◌, length, Option, Some, None, refl, ap, sym, ◌∙◌, subst, arith}
+use Rattle.std.proofs.Common.{◌≡◌, ℕ, ◌+◌, ◌<◌, ◌≤◌, true, false, List, length, Option, Some, refl, ap, sym, ◌∙◌, subst, arith}
 use Rattle.std.proofs.Common.{length-set, get_or-set_same, get_or-set_other, slice_set}
 use Rattle.slab.specs.Slab.{Slab, get}
 use Rattle.iova.specs.declared.piece.Piece.{Piece}
 use Rattle.iova.specs.declared.node.Node.{Node}
 use Rattle.iova.specs.declared.way.Step.{Step}
-use Rattle.iova.specs.Pieces.{with_piece}
-use Rattle.iova.specs.Tree.{Look, Shape, Empty, Fork, items, height_of, root_of, IsPiece, IsBelow}
+use Rattle.iova.specs.Tree.{Look, Shape, Empty, Fork, height_of, root_of, IsPiece, IsBelow}
 use Rattle.iova.specs.Way.{Above, Whole, Before, Behind, plug, among, AreAbove, AreFine, AreSteps, IsLowBelow, IsPlace}
-use Rattle.iova.proofs.searches.Found.{search_there}
 use Rattle.iova.proofs.shapes.Ways.{steps_few}
 use Rattle.iova.proofs.parts.PutIn.{k, put-right, put-left, put-past, put-under}
 

@@ -1,6 +1,6 @@
 -- Ways down a tree, and back up.
-use Rattle.std.proofs.Common.{◌≡◌, ℕ, ◌+◌, ◌-◌, ◌<◌, ◌≤◌, max, Bool, true, false, nat_eq, List, ◌∷◌, ◌++◌, length, Option, Some, None, IsSome, refl, ap, sym, ◌∙◌, inl, inr}
-use Rattle.std.proofs.Common.{subst, arith, length-append}
+use Rattle.std.proofs.Common.{◌≡◌, ℕ, ◌+◌, ◌-◌, ◌<◌, ◌≤◌, max, Bool, true, false, nat_eq, List, Option, Some, refl, ap, sym, ◌∙◌}
+use Rattle.std.proofs.Common.{subst, arith}
 use Rattle.std.proofs.lemmas.Bool.Decides.{nat_tests}
 use Rattle.slab.specs.Slab.{Slab, Updates, get}
 use Rattle.iova.specs.declared.piece.Piece.{Piece}
@@ -8,8 +8,8 @@ use Rattle.iova.specs.declared.node.Node.{Node}
 use Rattle.iova.specs.declared.node.Top.{Top}
 use Rattle.iova.specs.declared.way.Hung.{Hung}
 use Rattle.iova.specs.declared.way.Step.{Step}
-use Rattle.iova.specs.Tree.{Look, Shape, Fork, items, height_of, longest_of, free_pages, root_of, top_of, joint, node_of, one, uses, IsPiece}
-use Rattle.iova.specs.Tree.{AreNodes, IsRead, CanRead, AreParts, AreNear, CanJoin, IsTree, Joins, KeepsCount}
+use Rattle.iova.specs.Tree.{Look, Shape, Fork, items, height_of, longest_of, free_pages, root_of, top_of, joint, node_of, uses, IsPiece}
+use Rattle.iova.specs.Tree.{IsRead, AreParts, AreNear, IsTree, Joins, KeepsCount}
 use Rattle.iova.specs.Way.{Above, Whole, Before, Behind, plug, among, uses_above, AreAbove, AreFine, step_at, AreSteps, CanMend, Mends}
 use Rattle.iova.specs.Way.{CanHangBefore, CanHangBehind, IsHungBefore, IsHungBehind}
 use Rattle.iova.proofs.shapes.Trees.{is_there, one-same, same_nodes, top_is, root_height, linked}
@@ -35,57 +35,7 @@ read_left look key found node left right a l r f e i parts p =
 same_piece : (look : Look) (key : ℕ) (found node : Node) → look key ≡ Some found → look key ≡ Some node → node.piece ≡ found.piece
 same_piece look key found node f e = let same : node ≡ found = cc in ap (λ (n : Node). n.piece) same
 
-module _ (look : Look) (key : ℕ) (found : Node) (left : Top) (can : CanHangBefore look key left) (f : look key ≡ Some found) where
-  pub before-read : CanRead look found.right
-  before-read =
-      let same : can.0 ≡ found = cc in (
-        can.3,
-        sym (ap (λ (n : Node). n.right) same) ∙ sym can.5 ∙ ap (λ (v : Top). v.root) can.6.behind.is,
-        can.6.behind.nodes,
-      )
-
-  pub before-join : (a : Top) → IsRead look found.right a → CanJoin look left key found.piece a
-  before-join a p = (
-    can.2,
-    can.3,
-    read_right look key found can.0 left can.1 a can.2 can.3 f can.4 can.5 can.6 p,
-    subst (λ q. IsPiece q) (same_piece look key found can.0 f can.4) can.7,
-  )
-
-module _ (look : Look) (key : ℕ) (found : Node) (right : Top) (can : CanHangBehind look key right) (f : look key ≡ Some found) where
-  pub behind-read : CanRead look found.left
-  behind-read =
-      let same : can.0 ≡ found = cc in (
-        can.2,
-        sym (ap (λ (n : Node). n.left) same) ∙ sym can.5 ∙ ap (λ (v : Top). v.root) can.6.before.is,
-        can.6.before.nodes,
-      )
-
-  pub behind-join : (a : Top) → IsRead look found.left a → CanJoin look a key found.piece right
-  behind-join a p = (
-    can.2,
-    can.3,
-    read_left look key found can.0 can.1 right a can.2 can.3 f can.4 can.5 can.6 p,
-    subst (λ q. IsPiece q) (same_piece look key found can.0 f can.4) can.7,
-  )
-
--- joined there, and what the key shows
-pub before-joins : (old new : Look) (key : ℕ) (found : Node) (left a top : Top) → old key ≡ Some found → IsRead old found.right a
-    → ((l r : Shape) → AreParts old left key a l r → Joins old new top key found.piece l r)
-    → (node : Node) (right : Top) (l r : Shape) → old key ≡ Some node → right.root ≡ node.right → AreParts old left key right l r
-    → Joins old new top key node.piece l r
-before-joins old new key found left a top f p joins node right l r e i parts =
-    subst (λ q. Joins old new top key q l r) (sym (same_piece old key found node f e))
-    (joins l r (read_right old key found node left right a l r f e i parts p))
-
-pub behind-joins : (old new : Look) (key : ℕ) (found : Node) (right a top : Top) → old key ≡ Some found → IsRead old found.left a
-    → ((l r : Shape) → AreParts old a key right l r → Joins old new top key found.piece l r)
-    → (node : Node) (left : Top) (l r : Shape) → old key ≡ Some node → left.root ≡ node.left → AreParts old left key right l r
-    → Joins old new top key node.piece l r
-behind-joins old new key found right a top f p joins node left l r e i parts =
-    subst (λ q. Joins old new top key q l r) (sym (same_piece old key found node f e))
-    (joins l r (read_left old key found node left right a l r f e i parts p))
-
+-- what a key shows
 pub shown : (look : Look) (key : ℕ) (found node : Node) (top : Top) → look key ≡ Some found → look key ≡ Some node
     → top.root ≡ Some key → top.height ≡ found.height → top.longest ≡ found.longest
     → top ≡ record { root = Some key; height = node.height; longest = node.longest }

@@ -1,4 +1,3 @@
-use Rattle.slab.specs.Slab.{get}
 use Rattle.iova.proofs.parts.Ends.{leaf_first}
 use Rattle.iova.proofs.parts.Trims.{is_no}
 use Rattle.iova.proofs.ends.add_first.Goals as goal

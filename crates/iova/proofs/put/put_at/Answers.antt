@@ -1,4 +1,3 @@
-use Rattle.std.proofs.Common.{arith, sym, subst}
 use Rattle.slab.specs.Slab.{get}
 use Rattle.iova.proofs.searches.Found.{search_there}
 use Rattle.iova.proofs.parts.PutIn.{put-none_room, put-none}

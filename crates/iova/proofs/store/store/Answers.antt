@@ -8,9 +8,14 @@ put-requires-clause-tree c = kept_put c.args.root c.args.nodes.now (pieces_of c.
 
 pub put-requires-clause-low : goal.put-requires-clause-low
 put-requires-clause-low c =
-    let k = c.requires.kept in
-    (k.shape, 1, record { below = kept_below c.args.root c.args.nodes.now (pieces_of c.args.nodes.now c.args.root) k c.requires.ordered;
-      low = k.height })
+    let k = c.requires.kept in (
+      k.shape,
+      1,
+      record {
+        below = kept_below c.args.root c.args.nodes.now (pieces_of c.args.nodes.now c.args.root) k c.requires.ordered;
+        low = k.height;
+      },
+    )
 
 pub returns : goal.returns
 returns c =

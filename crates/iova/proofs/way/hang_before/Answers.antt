@@ -1,6 +1,5 @@
 use Rattle.std.proofs.Common.{arith, ap, max, ◌∙◌, ◌+◌}
 use Rattle.std.proofs.lemmas.Bool.{false≢true}
-use Rattle.slab.specs.Slab.{get}
 use Rattle.iova.specs.Tree.{free_pages}
 use Rattle.iova.proofs.shapes.Ways.{before-written, eq_true}
 use Rattle.iova.proofs.way.hang_before.Goals as goal

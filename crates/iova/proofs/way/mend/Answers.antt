@@ -1,6 +1,5 @@
 use Rattle.std.proofs.Common.{arith, ap, sym, subst, ◌∙◌, ◌-◌}
-use Rattle.slab.specs.Slab.{Slab, get}
-use Rattle.iova.specs.declared.node.Top.{Top}
+use Rattle.slab.specs.Slab.{get}
 use Rattle.iova.specs.declared.way.Hung.{Hung}
 use Rattle.iova.specs.Tree.{KeepsCount}
 use Rattle.iova.specs.Way.{Mends}
@@ -44,11 +43,11 @@ returns-then-hung-clause-mended c path t new can =
     let m = c.loop-depth.invariant path t new can in
     elim c.if-step.branch [
       | then-step w ↦ subst (λ n. Mends (get c.args.nodes.now) (get n) c.args.root path t new) (sym (w.nodes-is))
-      (mending-stops_before c.args.nodes.now c.loop-depth.nodes c.args.way.now c.loop-depth.depth c.args.root c.loop-depth.top path t new m c.loop-depth-test.true w.if-step.true w.hang_before-hung.new.nodes w.hang_before-hung.result w.hang_before-hung.ensures.hung
-      w.hang_before-hung.ensures.count (ap (λ (x : Hung). x.same) (sym w.hung-is) ∙ c.if-hung.true))
+          (mending-stops_before c.args.nodes.now c.loop-depth.nodes c.args.way.now c.loop-depth.depth c.args.root c.loop-depth.top path t new m c.loop-depth-test.true w.if-step.true w.hang_before-hung.new.nodes w.hang_before-hung.result w.hang_before-hung.ensures.hung
+          w.hang_before-hung.ensures.count (ap (λ (x : Hung). x.same) (sym w.hung-is) ∙ c.if-hung.true))
       | else-step w ↦ subst (λ n. Mends (get c.args.nodes.now) (get n) c.args.root path t new) (sym (w.nodes-is))
-      (mending-stops_behind c.args.nodes.now c.loop-depth.nodes c.args.way.now c.loop-depth.depth c.args.root c.loop-depth.top path t new m c.loop-depth-test.true w.if-step.false w.hang_behind-hung.new.nodes w.hang_behind-hung.result w.hang_behind-hung.ensures.hung
-      w.hang_behind-hung.ensures.count (ap (λ (x : Hung). x.same) (sym w.hung-is) ∙ c.if-hung.true))
+          (mending-stops_behind c.args.nodes.now c.loop-depth.nodes c.args.way.now c.loop-depth.depth c.args.root c.loop-depth.top path t new m c.loop-depth-test.true w.if-step.false w.hang_behind-hung.new.nodes w.hang_behind-hung.result w.hang_behind-hung.ensures.hung
+          w.hang_behind-hung.ensures.count (ap (λ (x : Hung). x.same) (sym w.hung-is) ∙ c.if-hung.true))
     ]
 
 pub loop-depth-preserved : goal.loop-depth-preserved
@@ -56,11 +55,11 @@ loop-depth-preserved c path t new can =
     let m = c.loop-depth.invariant path t new can in
     elim c.if-step.branch [
       | then-step w ↦ subst (λ n. Mending c.args.nodes.now n c.args.way.now (c.loop-depth.depth - 1) c.args.root c.if-step.hung.top path t new) (sym (w.nodes-is))
-      (subst (λ (h : Hung). Mending c.args.nodes.now w.hang_before-hung.new.nodes c.args.way.now (c.loop-depth.depth - 1) c.args.root h.top path t new) (sym w.hung-is) (mending-before c.args.nodes.now c.loop-depth.nodes c.args.way.now c.loop-depth.depth c.args.root c.loop-depth.top path t new m c.loop-depth-test.true w.if-step.true w.hang_before-hung.new.nodes w.hang_before-hung.result w.hang_before-hung.ensures.hung
-      w.hang_before-hung.ensures.count))
+          (subst (λ (h : Hung). Mending c.args.nodes.now w.hang_before-hung.new.nodes c.args.way.now (c.loop-depth.depth - 1) c.args.root h.top path t new) (sym w.hung-is) (mending-before c.args.nodes.now c.loop-depth.nodes c.args.way.now c.loop-depth.depth c.args.root c.loop-depth.top path t new m c.loop-depth-test.true w.if-step.true w.hang_before-hung.new.nodes w.hang_before-hung.result w.hang_before-hung.ensures.hung
+          w.hang_before-hung.ensures.count))
       | else-step w ↦ subst (λ n. Mending c.args.nodes.now n c.args.way.now (c.loop-depth.depth - 1) c.args.root c.if-step.hung.top path t new) (sym (w.nodes-is))
-      (subst (λ (h : Hung). Mending c.args.nodes.now w.hang_behind-hung.new.nodes c.args.way.now (c.loop-depth.depth - 1) c.args.root h.top path t new) (sym w.hung-is) (mending-behind c.args.nodes.now c.loop-depth.nodes c.args.way.now c.loop-depth.depth c.args.root c.loop-depth.top path t new m c.loop-depth-test.true w.if-step.false w.hang_behind-hung.new.nodes w.hang_behind-hung.result w.hang_behind-hung.ensures.hung
-      w.hang_behind-hung.ensures.count))
+          (subst (λ (h : Hung). Mending c.args.nodes.now w.hang_behind-hung.new.nodes c.args.way.now (c.loop-depth.depth - 1) c.args.root h.top path t new) (sym w.hung-is) (mending-behind c.args.nodes.now c.loop-depth.nodes c.args.way.now c.loop-depth.depth c.args.root c.loop-depth.top path t new m c.loop-depth-test.true w.if-step.false w.hang_behind-hung.new.nodes w.hang_behind-hung.result w.hang_behind-hung.ensures.hung
+          w.hang_behind-hung.ensures.count))
     ]
 
 pub returns-clause-mended : goal.returns-clause-mended
@@ -75,8 +74,8 @@ returns-then-hung-clause-count c =
     let q = c.requires in
     let m = (c.loop-depth.invariant q.0 q.1 q.2 q.3).count in
     elim c.if-step.branch [
-    | then-step w ↦ subst (λ n. KeepsCount c.args.nodes.now n) (sym (w.nodes-is)) (counts_twice c.args.nodes.now c.loop-depth.nodes
-      w.hang_before-hung.new.nodes m w.hang_before-hung.ensures.count)
-    | else-step w ↦ subst (λ n. KeepsCount c.args.nodes.now n) (sym (w.nodes-is)) (counts_twice c.args.nodes.now c.loop-depth.nodes
-      w.hang_behind-hung.new.nodes m w.hang_behind-hung.ensures.count)
+      | then-step w ↦ subst (λ n. KeepsCount c.args.nodes.now n) (sym (w.nodes-is)) (counts_twice c.args.nodes.now c.loop-depth.nodes
+          w.hang_before-hung.new.nodes m w.hang_before-hung.ensures.count)
+      | else-step w ↦ subst (λ n. KeepsCount c.args.nodes.now n) (sym (w.nodes-is)) (counts_twice c.args.nodes.now c.loop-depth.nodes
+          w.hang_behind-hung.new.nodes m w.hang_behind-hung.ensures.count)
     ]

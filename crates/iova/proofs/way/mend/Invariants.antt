@@ -1,4 +1,3 @@
-use Rattle.slab.specs.Slab.{get}
 use Rattle.iova.proofs.shapes.Ways.{IsMending}
 use Rattle.iova.proofs.way.mend.Given as goal
 

@@ -46,14 +46,14 @@ loop-at-preserved c =
     let h = walk_few (get c.args.nodes.now) c.args.root c.args.piece.now c.loop-at.way c.loop-at.at c.loop-at.depth c.in-Some.key q.0 q.1
     c.loop-at.invariant q.2 c.in-Some.is in
     elim c.if-node-piece.branch [
-    | then-node-piece w ↦ subst (λ at. IsWalking (get c.args.nodes.now) c.args.root c.args.piece.now c.if-node-piece.way' at
-      (c.loop-at.depth + 1)) (sym w.at-is) (subst (λ way. IsWalking (get c.args.nodes.now) c.args.root c.args.piece.now way
-      c.index-node.result.now.right (c.loop-at.depth + 1)) (sym w.way'-is) (walk-behind c.args.nodes.now c.args.root c.args.piece.now
-      c.loop-at.way c.loop-at.at c.loop-at.depth c.in-Some.key c.index-node.result.now c.loop-at.invariant c.in-Some.is
-      c.index-node.ensures c.requires.piece h w.if-node-piece.true))
-    | else-node-piece+then-piece-node w ↦ subst (λ at. IsWalking (get c.args.nodes.now) c.args.root c.args.piece.now c.if-node-piece.way'
-      at (c.loop-at.depth + 1)) (sym w.at-is) (subst (λ way. IsWalking (get c.args.nodes.now) c.args.root c.args.piece.now way
-      c.index-node.result.now.left (c.loop-at.depth + 1)) (sym w.way'-is) (walk-before c.args.nodes.now c.args.root c.args.piece.now
-      c.loop-at.way c.loop-at.at c.loop-at.depth c.in-Some.key c.index-node.result.now c.loop-at.invariant c.in-Some.is
-      c.index-node.ensures c.requires.piece h w.if-piece-node.true))
+      | then-node-piece w ↦ subst (λ at. IsWalking (get c.args.nodes.now) c.args.root c.args.piece.now c.if-node-piece.way' at
+          (c.loop-at.depth + 1)) (sym w.at-is) (subst (λ way. IsWalking (get c.args.nodes.now) c.args.root c.args.piece.now way
+          c.index-node.result.now.right (c.loop-at.depth + 1)) (sym w.way'-is) (walk-behind c.args.nodes.now c.args.root c.args.piece.now
+          c.loop-at.way c.loop-at.at c.loop-at.depth c.in-Some.key c.index-node.result.now c.loop-at.invariant c.in-Some.is
+          c.index-node.ensures c.requires.piece h w.if-node-piece.true))
+      | else-node-piece+then-piece-node w ↦ subst (λ at. IsWalking (get c.args.nodes.now) c.args.root c.args.piece.now c.if-node-piece.way'
+          at (c.loop-at.depth + 1)) (sym w.at-is) (subst (λ way. IsWalking (get c.args.nodes.now) c.args.root c.args.piece.now way
+          c.index-node.result.now.left (c.loop-at.depth + 1)) (sym w.way'-is) (walk-before c.args.nodes.now c.args.root c.args.piece.now
+          c.loop-at.way c.loop-at.at c.loop-at.depth c.in-Some.key c.index-node.result.now c.loop-at.invariant c.in-Some.is
+          c.index-node.ensures c.requires.piece h w.if-piece-node.true))
     ]

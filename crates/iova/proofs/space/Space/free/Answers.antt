@@ -117,16 +117,16 @@ free-self-inside-requires-clause-place c one =
     let end : c.first-first.result + c.pages.result - 1 ≡ q.last = omega (arith, c.first-first.ensures.value, c.pages.ensures.value) in
     let has = in_le 1 q a.pieces c.self.invariant.1.ordered there in
     elim c.if-ends-first.branch [
-    | then-ends-first w ↦
-        let low : c.with_free_ends-ends.result.first ≡ q.first = w.if-ends-first.true ∙ c.first-first.ensures.value in
-        let high : c.with_free_ends-ends.result.last ≡ q.last = eq_true _ _ (sym w.free-is ∙ one) ∙ end in (
-          q,
-          record {
-            at = at_of 1 q a.pieces c.with_free_ends-ends.result.first c.self.invariant.1.ordered there (omega arith) (omega (arith, has));
-            first = sym low;
-            last = sym high;
-          },
-          c.requires.2,
-        )
-    | else-ends-first w ↦ absurd (w.if-ends-first.false (eq_true _ _ (sym w.free-is ∙ one)))
+      | then-ends-first w ↦
+          let low : c.with_free_ends-ends.result.first ≡ q.first = w.if-ends-first.true ∙ c.first-first.ensures.value in
+          let high : c.with_free_ends-ends.result.last ≡ q.last = eq_true _ _ (sym w.free-is ∙ one) ∙ end in (
+            q,
+            record {
+              at = at_of 1 q a.pieces c.with_free_ends-ends.result.first c.self.invariant.1.ordered there (omega arith) (omega (arith, has));
+              first = sym low;
+              last = sym high;
+            },
+            c.requires.2,
+          )
+      | else-ends-first w ↦ absurd (w.if-ends-first.false (eq_true _ _ (sym w.free-is ∙ one)))
     ]
