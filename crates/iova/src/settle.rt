@@ -9,7 +9,7 @@ ghost use Rattle.iova.specs.Tree.{CanSettle, IsSettled, KeepsCount};
 use crate::links::{free_length, read};
 use crate::node::Node;
 use crate::piece::Piece;
-use crate::turns::join;
+use crate::turns::join_close;
 use slab::Slab;
 
 /// Writes the child before a key.
@@ -124,7 +124,7 @@ fn rejoin(nodes: &mut Slab<Node>, key: usize) -> Option<usize>
     let node = nodes[key];
     let left = read(nodes, node.left);
     let right = read(nodes, node.right);
-    join(nodes, left, key, node.piece, right).root
+    join_close(nodes, left, key, node.piece, right).root
 }
 
 /// Makes one tree of a key's piece and its children, and answers its root.

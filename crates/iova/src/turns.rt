@@ -116,3 +116,21 @@ pub(crate) fn join(nodes: &mut Slab<Node>, left: Top, key: usize, piece: Piece, 
     }
     link(nodes, left, key, piece, right)
 }
+
+/// The same, where mostly the heights differ by at most two.
+pub(crate) fn join_close(
+    nodes: &mut Slab<Node>,
+    left: Top,
+    key: usize,
+    piece: Piece,
+    right: Top,
+) -> Top
+    requires { CanJoin (get nodes.old) left key piece right }
+    ensures joins { IsJoined (get nodes.old) (get nodes.new) result left key piece right }
+    ensures count { KeepsCount nodes.old nodes.new }
+{
+    if left.height <= right.height + 2 && right.height <= left.height + 2 {
+        return balance(nodes, left, key, piece, right);
+    }
+    join(nodes, left, key, piece, right)
+}

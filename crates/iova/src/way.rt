@@ -11,7 +11,7 @@ use crate::links::{free_length, read};
 use crate::node::{Node, Top};
 use crate::piece::Piece;
 use crate::settle::{set_left_reach, set_right_reach};
-use crate::turns::join;
+use crate::turns::join_close;
 use slab::Slab;
 
 /// The greatest height of a tree, and so the most steps of a way down.
@@ -95,7 +95,7 @@ fn join_before(
     let node = &nodes[key];
     let piece = node.piece;
     let other = read(nodes, node.right);
-    join(nodes, tree, key, piece, other)
+    join_close(nodes, tree, key, piece, other)
 }
 
 /// Hangs a tree before a key.
@@ -148,7 +148,7 @@ fn join_behind(
     let node = &nodes[key];
     let piece = node.piece;
     let other = read(nodes, node.left);
-    join(nodes, other, key, piece, tree)
+    join_close(nodes, other, key, piece, tree)
 }
 
 /// Hangs a tree behind a key.
