@@ -13,7 +13,6 @@ mod program;
 mod request;
 mod reusing;
 mod scripting;
-mod storming;
 mod subject;
 mod taking;
 mod timing;

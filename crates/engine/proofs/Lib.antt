@@ -8,4 +8,3 @@ pub mod caches
 pub mod maps
 pub mod unmaps
 pub mod flushes
-pub mod tickets

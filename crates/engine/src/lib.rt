@@ -9,7 +9,6 @@ mod request;
 mod room;
 mod sending;
 mod state;
-mod ticket;
 mod wanted;
 
 pub use state::{Answer, DomainTotals, State, Totals};

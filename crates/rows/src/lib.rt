@@ -7,6 +7,4 @@ mod managers;
 #[cfg(test)]
 mod scripts;
 #[cfg(test)]
-mod storms;
-#[cfg(test)]
 mod trees;

@@ -5,7 +5,6 @@ mod help;
 mod options;
 mod program;
 mod status;
-mod storming;
 mod words;
 
 use std::alloc::AllocError;

@@ -4,24 +4,14 @@ ghost use Rattle.std.specs.Prelude.{◌≡◌, ◌↔◌, IsSome, IfSome};
 ghost use Rattle.manager.specs.Kept.{IsWithinLimits};
 
 use crate::help::{ABOUT, REPORT, SCRIPT, VERSION};
-use crate::storming::{StormSize, storm_command, storm_of};
 use clap::{Arg, ArgMatches, Command, value_parser};
 use dmatypes::{LEAST_TABLE_FRAMES, MOST_CALLS, MOST_TABLE_FRAMES};
 use manager::Config;
 use std::alloc::{AllocError, Global};
 
-/// What the program is to do.
+/// What the program is to do with a script.
 #[derive(Clone, Copy, Debug, PartialEq, Eq)]
 pub(crate) enum Task {
-    /// Make the calls of a script.
-    Script(Answering, Options),
-    /// Make calls by many threads.
-    Storm(StormSize),
-}
-
-/// What the program is to write for a script.
-#[derive(Clone, Copy, Debug, PartialEq, Eq)]
-pub(crate) enum Answering {
     /// Answer each of its lines.
     Run,
     /// Tell at its end what the manager holds.
@@ -60,8 +50,7 @@ pub(crate) fn command<'a>(alloc: Global) -> Result<Command<'a>, AllocError> {
         .no_binary_name(true)
         .subcommand_required(true)
         .subcommand(run)?
-        .subcommand(report)?
-        .subcommand(storm_command(alloc)?)
+        .subcommand(report)
 }
 
 fn frames<'a>(alloc: Global) -> Arg<'a> {
@@ -85,22 +74,18 @@ fn calls<'a>(alloc: Global) -> Arg<'a> {
 }
 
 /// What is asked for on the command line, where a command was given.
-pub(crate) fn task_of(matches: &ArgMatches) -> Option<Task> {
+pub(crate) fn task_of(matches: &ArgMatches) -> Option<(Task, Options)> {
     let (name, given) = matches.subcommand()?;
-    match name {
-        "run" => Some(Task::Script(Answering::Run, options_of(given)?)),
-        "report" => Some(Task::Script(Answering::Report, options_of(given)?)),
-        "storm" => Some(Task::Storm(storm_of(given)?)),
-        _ => None,
-    }
-}
-
-// The options of a script's manager.
-fn options_of(given: &ArgMatches) -> Option<Options> {
-    Some(Options {
+    let task = match name {
+        "run" => Task::Run,
+        "report" => Task::Report,
+        _ => return None,
+    };
+    let options = Options {
         frames: given.get_one::<u64>("frames")?,
         calls: given.get_one::<u64>("calls")?,
-    })
+    };
+    Some((task, options))
 }
 
 /// The configuration of a manager with one share; `None` exactly where a number is outside its limits.

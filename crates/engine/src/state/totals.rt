@@ -42,7 +42,8 @@ impl State {
             free,
             used: self.pool.frames().saturating_sub(free).saturating_sub(held),
             held,
-            tickets: self.tickets.len() as u64,
+            // No call opens a ticket yet.
+            tickets: 0,
             pending: self.iommu.ring.pending(),
         }
     }
