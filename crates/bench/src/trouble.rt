@@ -4,6 +4,7 @@ ghost use Rattle.std.specs.Prelude.{◌↔◌, IsOk, IsTrue};
 
 use dmatypes::Refusal;
 use iova::{RetireError, TakeError};
+use script::StormError;
 use std::alloc::AllocError;
 use std::io;
 use tables::NoFrames;
@@ -60,6 +61,15 @@ impl From<TakeError> for Trouble {
 impl From<RetireError> for Trouble {
     fn from(_: RetireError) -> Trouble {
         Trouble::Refused
+    }
+}
+
+impl From<StormError> for Trouble {
+    fn from(error: StormError) -> Trouble {
+        match error {
+            StormError::NoMemory => Trouble::NoMemory,
+            StormError::NoThread => Trouble::NoThread,
+        }
     }
 }
 

@@ -7,4 +7,6 @@ mod managers;
 #[cfg(test)]
 mod scripts;
 #[cfg(test)]
+mod storms;
+#[cfg(test)]
 mod trees;

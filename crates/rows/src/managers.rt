@@ -15,6 +15,7 @@ use std::thread::{Threads, join};
 mod device_thread;
 mod full;
 mod hits;
+mod unit_thread;
 
 // The seed of a manager of this size.
 fn seed_of(alloc: Global, frames: u64, calls: u64, shares: u64) -> Result<Seed, Fail> {

@@ -2,3 +2,4 @@ pub mod Judged
 pub mod Bytes
 pub mod Run
 pub mod Reported
+pub mod Storms

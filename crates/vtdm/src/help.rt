@@ -12,8 +12,8 @@ there. Lines, and what they are answered by:
 
   domain strict         makes a domain: 'domain D'
   domain lazy
-  drop D                ends domain D, to which no device is attached, with all
-                        its pages: 'ok'
+  drop D                ends domain D, to which no device is attached and of
+                        which no ticket is open, with all its pages: 'ok'
   attach V D            attaches device V to domain D: 'ok'
   detach V              detaches device V from its domain: 'ok'
   map D F N O R         maps N pages of domain D to host frames from F on, where
@@ -23,6 +23,13 @@ there. Lines, and what they are answered by:
                         'unmapped C'
   flush D               has the unit forget domain D, and releases what was
                         unmapped lazily: 'flushed C'
+  begin D               begins a flush of domain D, and doesn't wait for the
+                        unit: 'ticket D T'
+  unit                  the unit makes a step: 'unit did', or 'unit idle' where
+                        nothing waits
+  reap D T              ends a begun flush: releases what was unmapped before it
+                        was begun, 'reaped C', or, where the unit isn't that far
+                        yet, changes nothing: 'pending'
   dma V A X [look] [fill]
                         device V reads or writes at address A: 'host H' or
                         'fault E'; with look the unit answers from its caches
@@ -40,8 +47,9 @@ In these:
      lowest that is free, of the first page
   X  r or w                        K  leaf, nonleaf or context
   H  a host's byte address
-  C  unmaps of a lazy domain that are released: all at a flush, and where 256
-     wait all at the next unmap; else 0
+  T  the number of a begun flush of its domain, from 1
+  C  unmaps of a lazy domain that are released: all at a flush, those before the
+     ticket at a reap, and where 256 wait all at the next unmap; else 0
   E  2 not attached, 4 beyond 39 bits of address, 5 a write or 6 a read that the
      page doesn't permit, or of a page that isn't there
 
@@ -53,9 +61,9 @@ A call that can't be done is 'refused', with one of these numbers:
 
    1 no such domain      6 frame of a table     11 interrupt window
    2 no such device      7 no free range        12 too many domains
-   3 busy                8 no table frames      15 the history is full
-   4 not attached        9 too many pieces
-   5 bad range          10 not live
+   3 busy                8 no table frames      13 no such ticket
+   4 not attached        9 too many pieces      14 64 tickets are open
+   5 bad range          10 not live             15 the history is full
 
 Numbers are decimal with no leading zero, or 0x and 1 to 16 digits 0 to 9 and a
 to f. One space stands between two fields, and none at an end of a line. A line
@@ -94,3 +102,19 @@ Examples:
 
   printf 'domain lazy\\nattach 3 1\\n' | vtdm report
   vtdm report --calls 100 < script";
+
+pub(crate) const STORM: &str = "\
+Drivers, devices and the unit call one manager, each in a thread of its own. No
+script is read. Domain 1 is strict and domain 2 lazy, and the devices are
+attached to them by turns. Then, each making so many calls:
+
+  a driver              maps a page of its domain, and unmaps it
+  a device              reads at one of 16 pages, at first without the lock
+  the unit              works on what the calls leave to it
+
+At the end it prints how many calls there were, those of the beginning too:
+
+  storm drivers 2 devices 2 calls 10 events 54
+
+Exit status: 0 done; 1 output failed; 2 a bad command line; 3 no memory or no
+thread.";

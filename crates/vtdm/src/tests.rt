@@ -66,7 +66,7 @@ fn statuses(rt: HostRuntime) -> Result<(), Fail> {
 #[test]
 fn command_lines(rt: HostRuntime) -> Result<(), Fail> {
     let long = "run-with-a-word-of-more-than-sixty-four-bytes-that-asks-for-nothing-at-all";
-    let rows: [(&[&str], u8); 17] = [
+    let rows: [(&[&str], u8); 24] = [
         (&["run", "--frames", "15"], 2),
         (&["run", "--frames", "4097"], 2),
         (&["run", "--calls", "0"], 2),
@@ -75,10 +75,37 @@ fn command_lines(rt: HostRuntime) -> Result<(), Fail> {
         (&["run", "--call", "1"], 2),
         (&["report", "--frames", "15"], 2),
         (&["reports"], 2),
+        (&["storm"], 2),
+        (&["storm", "--drivers", "1", "--devices", "1"], 2),
+        (
+            &["storm", "--drivers", "0", "--devices", "1", "--calls", "1"],
+            2,
+        ),
+        (
+            &["storm", "--drivers", "9", "--devices", "1", "--calls", "1"],
+            2,
+        ),
+        (
+            &["storm", "--drivers", "1", "--devices", "9", "--calls", "1"],
+            2,
+        ),
+        (
+            &[
+                "storm",
+                "--drivers",
+                "1",
+                "--devices",
+                "1",
+                "--calls",
+                "10001",
+            ],
+            2,
+        ),
         (&[], 2),
         (&["--help"], 0),
         (&["run", "--help"], 0),
         (&["report", "--help"], 0),
+        (&["storm", "--help"], 0),
         (&["--version"], 0),
         (&["run", "--version"], 0),
         (&["\u{1b}[31mrun"], 2),
@@ -162,4 +189,53 @@ fn reports_of_the_program(rt: HostRuntime) -> Result<(), Fail> {
         assert_eq!(rt; told.as_slice(), errors);
     }
     Ok(())
+}
+
+// Storms read nothing, and their line is output.
+#[test]
+fn storms_of_the_program(rt: HostRuntime) -> Result<(), Fail> {
+    let rows: [(&[&str], &[u8]); 3] = [
+        (
+            &["storm", "--drivers", "1", "--devices", "1", "--calls", "1"],
+            b"storm drivers 1 devices 1 calls 1 events 6\n",
+        ),
+        (
+            &["storm", "--drivers", "2", "--devices", "2", "--calls", "10"],
+            b"storm drivers 2 devices 2 calls 10 events 54\n",
+        ),
+        (
+            &["storm", "--drivers=8", "--devices=8", "--calls=10000"],
+            b"storm drivers 8 devices 8 calls 10000 events 170010\n",
+        ),
+    ];
+    for (words, line) in rows {
+        let mut written = Vec::new(rt.alloc());
+        let mut told = Vec::new(rt.alloc());
+        assert_eq!(rt;
+            program(&rt, rt.alloc(), words, Closed, &mut written, &mut told),
+            0
+        );
+        assert_eq!(rt; written.as_slice(), line);
+        assert_eq!(rt; told.as_slice(), b"".as_slice());
+    }
+    Ok(())
+}
+
+#[test]
+fn the_line_of_a_storm_fails(rt: HostRuntime) {
+    let words = ["storm", "--drivers", "2", "--devices", "1", "--calls", "3"];
+    let mut told = Vec::new(rt.alloc());
+    let mut full: [u8; 8] = [0; 8];
+    assert_eq!(rt;
+        program(
+            &rt,
+            rt.alloc(),
+            words.as_slice(),
+            Closed,
+            full.as_mut_slice(),
+            &mut told
+        ),
+        1
+    );
+    assert_eq!(rt; told.as_slice(), b"output failed\n".as_slice());
 }

@@ -1,10 +1,10 @@
-use Rattle.engine.proofs.domain.release.Goals as goal
+use Rattle.engine.proofs.domain.put_back.Goals as goal
 
 pub give_back-requires-clause-once : goal.give_back-requires-clause-once
-give_back-requires-clause-once c = rw (c.frames.ensures.all) c.requires.can.once
+give_back-requires-clause-once c = rw (c.frames.ensures.all) c.requires.once
 
 pub give_back-requires-clause-within : goal.give_back-requires-clause-within
-give_back-requires-clause-within c = rw (c.frames.ensures.all) c.requires.can.within
+give_back-requires-clause-within c = rw (c.frames.ensures.all) c.requires.within
 
 pub returns-clause-released : goal.returns-clause-released
 returns-clause-released c = record {
