@@ -4,7 +4,7 @@ ghost use Rattle.std.specs.Prelude.{◌≡◌};
 
 use crate::timing::{Tenths, each};
 use crate::trouble::{Trouble, check};
-use script::{MOST_DEVICES, MOST_DRIVERS, MOST_WORKER_CALLS, OpenGate, storm};
+use storm::{MOST_DEVICES, MOST_DRIVERS, MOST_WORKER_CALLS, OpenGate, storm};
 use std::alloc::Global;
 use std::num::NonZeroU32;
 use std::sync::Wait;

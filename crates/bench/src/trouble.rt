@@ -4,7 +4,7 @@ ghost use Rattle.std.specs.Prelude.{◌↔◌, IsOk, IsTrue};
 
 use dmatypes::Refusal;
 use iova::{RetireError, TakeError};
-use script::StormError;
+use storm::StormError;
 use std::alloc::AllocError;
 use std::io;
 use tables::NoFrames;

@@ -2,4 +2,3 @@ pub mod Judged
 pub mod Bytes
 pub mod Run
 pub mod Reported
-pub mod Storms

@@ -3,7 +3,8 @@
 ghost use Rattle.std.specs.Prelude.{◌≡◌};
 ghost use Rattle.vtdm.specs.Statuses.{end_of, status_of};
 
-use script::{RunError, StormError};
+use script::RunError;
+use storm::StormError;
 
 // The exit statuses.
 const DONE: u8 = 0;

@@ -3,11 +3,12 @@
 use crate::help::STORM;
 use crate::status::End;
 use clap::{Arg, ArgMatches, Command, value_parser};
-use script::{MOST_DEVICES, MOST_DRIVERS, MOST_WORKER_CALLS, OpenGate, RunError, storm};
+use script::RunError;
 use std::alloc::{AllocError, Global};
 use std::io::Write;
 use std::sync::Wait;
 use std::thread::Threads;
+use storm::{MOST_DEVICES, MOST_DRIVERS, MOST_WORKER_CALLS, OpenGate, storm};
 
 /// How large a storm is to be.
 #[derive(Clone, Copy, Debug, PartialEq, Eq)]

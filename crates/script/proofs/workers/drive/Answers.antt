@@ -1,4 +1,0 @@
-use Rattle.script.proofs.workers.drive.Goals as goal
-
-pub loop-made-preserved : goal.loop-made-preserved
-loop-made-preserved g c = c.make.ensures c.loop-made.made c.loop-made.invariant
