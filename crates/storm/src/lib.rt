@@ -4,10 +4,9 @@
 mod crew;
 mod gate;
 mod storming;
-mod workers;
-
 #[cfg(test)]
 mod tests;
+mod workers;
 
 pub use gate::{Gate, OpenGate};
 pub use storming::{MOST_DEVICES, MOST_DRIVERS, MOST_WORKER_CALLS, StormError, storm};

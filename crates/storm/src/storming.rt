@@ -1,8 +1,9 @@
 //! A storm: drivers, devices and the unit, in threads of their own, on one manager.
 
 ghost use Rattle.std.specs.Prelude.{◌≡◌, ◌+◌, ◌*◌, ◌≤◌, ◌<◌, [], ℕ, All, IfOk, length, vec_len};
+ghost use Rattle.std.specs.Vec.Iter.{into_iter_items};
 ghost use Rattle.manager.specs.Kept.{IsNamedBy, new_share};
-ghost use Rattle.storm.specs.Storms.{HasMade, HasMet, IsFresh};
+ghost use Rattle.storm.specs.Storms.{HasMade, HasMet, HasNewPort, IsFresh};
 
 use crate::crew::{Returned, run_all};
 use crate::gate::Gate;
@@ -13,6 +14,7 @@ use std::alloc::{AllocError, Global};
 use std::marker::Brand;
 use std::sync::Wait;
 use std::thread::Threads;
+use std::vec::IntoIter;
 use thiserror::Error;
 
 /// The most drivers of a storm (own).
@@ -222,15 +224,11 @@ fn workers_of<B: Owner>(
     ensures len { IfOk result (λ v. vec_len v ≡ vec_len shares) }
     ensures fresh { IfOk result (λ v. All IsFresh v.items) }
 {
-    let mut ports = ports.into_iter().take(plan.devices as usize);
+    let mut ports = ports.into_iter();
     let mut workers = Vec::with_capacity(alloc, shares.len())?;
     for share in shares {
         let number = workers.len() as u64;
-        let role = if number < plan.drivers {
-            driver_of(number)
-        } else {
-            device_or_unit(number - plan.drivers, ports.next())
-        };
+        let role = role_of(plan, number, &mut ports);
         workers.push(Worker {
             number,
             share,
@@ -240,19 +238,23 @@ fn workers_of<B: Owner>(
     Ok(workers)
 }
 
-// The driver of this number.
-fn driver_of<B: Owner>(number: u64) -> Role<B>
-    requires { number < MOST_DRIVERS }
+// What the worker of this number does: a device takes the next of the ports.
+fn role_of<B: Owner>(plan: Plan, number: u64, ports: &mut IntoIter<Port<B>>) -> Role<B>
+    requires { All (λ p. p.did ≡ []) (into_iter_items ports.old) }
+    ensures role { HasNewPort result }
+    ensures ports { All (λ p. p.did ≡ []) (into_iter_items ports.new) }
 {
-    Role::Driver {
-        domain: domain_of(number),
-        frame: FIRST_FRAME + number,
+    if number < plan.drivers {
+        return Role::Driver {
+            domain: domain_of(number),
+            frame: FIRST_FRAME + number,
+        };
     }
-}
-
-// The device of this number and port, or the unit where there is no further port.
-fn device_or_unit<B: Owner>(device: u64, port: Option<Port<B>>) -> Role<B> {
-    match port {
+    let device = number - plan.drivers;
+    if device >= plan.devices {
+        return Role::Unit;
+    }
+    match ports.next() {
         Some(port) => Role::Device { device, port },
         None => Role::Unit,
     }

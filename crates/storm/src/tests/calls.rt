@@ -16,6 +16,7 @@ use std::thread::Threads;
 
 // The host frame of the first driver, and the pages that a device reads.
 const FIRST_FRAME: u64 = 0x1000;
+
 const PAGES_READ: u64 = 16;
 
 #[test]
@@ -44,7 +45,8 @@ fn made_by_each<B: Owner + Send + Sync, R: Threads + Wait + Abort + Sync>(
     requires room { seed.room ≡ 2 + plan.devices + plan.calls * (plan.drivers + plan.devices + 1) }
     requires shares { seed.shares ≡ plan.drivers + plan.devices + 2 }
 {
-    let Ok(Outcome { history, ports }) = outcome_of::<B, _, R>(rt, alloc, seed, plan, &OpenGate) else {
+    let Ok(Outcome { history, ports }) = outcome_of::<B, _, R>(rt, alloc, seed, plan, &OpenGate)
+    else {
         return Err(Fail::from("memory and threads"));
     };
     assert_eq!(rt; ports.len() as u64, plan.devices);
@@ -64,8 +66,12 @@ fn times(events: &[Event], call: &Call) -> u64 {
 // A strict domain, a lazy one, and the devices attached to them by turns.
 fn are_set_up(events: &[Event], devices: u64) -> bool {
     let mut first = events.iter();
-    let begun = first.next().is_some_and(|event| event.call == Call::Domain(Mode::Strict))
-        && first.next().is_some_and(|event| event.call == Call::Domain(Mode::Lazy));
+    let begun = first
+        .next()
+        .is_some_and(|event| event.call == Call::Domain(Mode::Strict))
+        && first
+            .next()
+            .is_some_and(|event| event.call == Call::Domain(Mode::Lazy));
     begun
         && first.zip(0..devices).all(|(event, device)| {
             let domain = 1 + device % 2;
@@ -124,7 +130,9 @@ fn are_read(events: &[Event], device: u64, calls: u64) -> bool {
                 fill: true,
             },
         };
-        let wanted = (1..=calls).filter(|call| 1 + call % PAGES_READ == page).count() as u64;
+        let wanted = (1..=calls)
+            .filter(|call| 1 + call % PAGES_READ == page)
+            .count() as u64;
         times(events, &read) == wanted
     })
 }
