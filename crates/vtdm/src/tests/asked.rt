@@ -86,7 +86,8 @@ fn command_lines(rt: HostRuntime) {
         );
         assert!(rt; told.len() < 400);
         assert!(rt;
-            written.as_slice()
+            written
+                .as_slice()
                 .split(|byte| *byte == b'\n')
                 .all(|line| line.len() <= COLUMNS)
         );
@@ -101,36 +102,32 @@ fn asked<'a>(alloc: Global, words: &'a [&'a str]) -> Result<Option<Task>, Fail> 
     }
 }
 
+fn sized(answering: Answering, frames: u64, calls: u64) -> Option<Task> {
+    Some(Task::Script(answering, Options { frames, calls }))
+}
+
 // An option's least and greatest values are taken, and the numbers beside them are bad; without it there is a usual value.
 #[test]
 fn options_at_their_limits(rt: HostRuntime) -> Result<(), Fail> {
-    let usual = Options {
-        frames: 64,
-        calls: 65536,
-    };
-    let rows: [(&str, &str, Option<Options>); 10] = [
-        ("--frames", "64", Some(usual)),
-        ("--frames", "15", None),
-        ("--frames", "16", Some(Options { frames: 16, ..usual })),
-        ("--frames", "4096", Some(Options { frames: 4096, ..usual })),
-        ("--frames", "4097", None),
-        ("--calls", "65536", Some(usual)),
-        ("--calls", "0", None),
-        ("--calls", "1", Some(Options { calls: 1, ..usual })),
-        ("--calls", "1048576", Some(Options { calls: 1048576, ..usual })),
-        ("--calls", "1048577", None),
-    ];
     for (name, answering) in [("run", Answering::Run), ("report", Answering::Report)] {
-        let plain = [name];
-        assert_eq!(rt;
-            asked(rt.alloc(), plain.as_slice())?,
-            Some(Task::Script(answering, usual))
-        );
-        for (option, value, options) in rows {
-            let words = [name, option, value];
-            let wanted = options.map(|options| Task::Script(answering, options));
+        let rows: [(&str, Option<Task>); 9] = [
+            ("--frames=64", sized(answering, 64, 65536)),
+            ("--frames=15", None),
+            ("--frames=16", sized(answering, 16, 65536)),
+            ("--frames=4096", sized(answering, 4096, 65536)),
+            ("--frames=4097", None),
+            ("--calls=0", None),
+            ("--calls=1", sized(answering, 64, 1)),
+            ("--calls=1048576", sized(answering, 64, 1048576)),
+            ("--calls=1048577", None),
+        ];
+        for (option, wanted) in rows {
+            let words = [name, option];
             assert_eq!(rt; asked(rt.alloc(), words.as_slice())?, wanted);
         }
+        let plain = [name];
+        let wanted = sized(answering, 64, 65536);
+        assert_eq!(rt; asked(rt.alloc(), plain.as_slice())?, wanted);
     }
     Ok(())
 }
@@ -157,7 +154,14 @@ fn the_program_at_its_limits(rt: HostRuntime) {
         let mut told = Vec::new(rt.alloc());
         let words = ["report", option];
         assert_eq!(rt;
-            program(&rt, rt.alloc(), words.as_slice(), &mut input, &mut written, &mut told),
+            program(
+                &rt,
+                rt.alloc(),
+                words.as_slice(),
+                &mut input,
+                &mut written,
+                &mut told
+            ),
             status
         );
         assert_eq!(rt; input.reads == 0, status == 2);

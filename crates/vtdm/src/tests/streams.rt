@@ -102,7 +102,13 @@ fn check_output<T: Wait + Threads + Sync + Abort>(
         let ended = outcome_of(rt, alloc, task, hitch, bad, 0);
         assert_eq!(rt; ended.status, 1);
         assert_eq!(rt; ended.output.writes, bad);
-        assert!(rt; ample.output.held.as_slice().starts_with(ended.output.held.as_slice()));
+        assert!(rt;
+            ample
+                .output
+                .held
+                .as_slice()
+                .starts_with(ended.output.held.as_slice())
+        );
         assert_eq!(rt; ended.errors.held.as_slice(), b"output failed\n".as_slice());
     }
 }
@@ -120,7 +126,13 @@ fn check_errors<T: Wait + Threads + Sync + Abort>(
         assert_eq!(rt; ended.status, ample.status);
         assert_eq!(rt; ended.output.held.as_slice(), ample.output.held.as_slice());
         assert_eq!(rt; ended.errors.writes, bad);
-        assert!(rt; ample.errors.held.as_slice().starts_with(ended.errors.held.as_slice()));
+        assert!(rt;
+            ample
+                .errors
+                .held
+                .as_slice()
+                .starts_with(ended.errors.held.as_slice())
+        );
     }
 }
 
