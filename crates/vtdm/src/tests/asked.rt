@@ -10,6 +10,9 @@ use std::io;
 use std::io::Read;
 use std::test::Fail;
 
+const LONG_WORD: &str =
+    "run-with-a-word-of-more-than-sixty-four-bytes-that-asks-for-nothing-at-all";
+
 // The most columns of a line of help.
 const COLUMNS: usize = 80;
 
@@ -32,7 +35,6 @@ impl Read for Counting<'_> {
 // A bad command line is told on standard error, help is output, and neither reads anything.
 #[test]
 fn command_lines(rt: HostRuntime) {
-    let long = "run-with-a-word-of-more-than-sixty-four-bytes-that-asks-for-nothing-at-all";
     let rows: [(&[&str], u8); 31] = [
         (&[], 2),
         (&["reports"], 2),
@@ -59,7 +61,7 @@ fn command_lines(rt: HostRuntime) {
         (&["storm", "--drivers=1", "--devices=1", "--calls=0"], 2),
         (&["storm", "--drivers=1", "--devices=1", "--calls=10001"], 2),
         (&["\u{1b}[31mrun"], 2),
-        (&[long], 2),
+        (&[LONG_WORD], 2),
         (&["--help"], 0),
         (&["run", "--help"], 0),
         (&["report", "--help"], 0),
