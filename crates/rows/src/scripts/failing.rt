@@ -15,10 +15,12 @@ use std::test::Fail;
 
 const FIRST_ANSWERS: &[u8] = b"domain 1\nok\nmap 0x1000\nhost 0x100234\n";
 
-const FIRST_REPORT: &[u8] = b"events 4\nframes 61 free 3 used 0 retired\ntickets 0 open\nring 0 pending\n\
+const FIRST_REPORT: &[u8] =
+    b"events 4\nframes 61 free 3 used 0 retired\ntickets 0 open\nring 0 pending\n\
     domain 1 strict live 1 retired 0 pieces 3\ndevice 3 domain 1\n";
 
-const DOMAIN_REPORT: &[u8] = b"events 1\nframes 63 free 1 used 0 retired\ntickets 0 open\nring 0 pending\n\
+const DOMAIN_REPORT: &[u8] =
+    b"events 1\nframes 63 free 1 used 0 retired\ntickets 0 open\nring 0 pending\n\
     domain 1 strict live 0 retired 0 pieces 2\n";
 
 // How a call goes wrong.
