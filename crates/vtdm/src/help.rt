@@ -5,10 +5,15 @@ pub(crate) const VERSION: &str = "0.1.0";
 pub(crate) const ABOUT: &str =
     "Keeps DMA address domains of a simulated VT-d unit, as a script of calls asks.";
 
+pub(crate) const USAGE: &str = "\
+vtdm run [OPTIONS] < SCRIPT
+       vtdm report [OPTIONS] < SCRIPT
+       vtdm storm --drivers <DRIVERS> --devices <DEVICES> --calls <CALLS>";
+
 pub(crate) const SCRIPT: &str = "\
 A script is read from standard input, one call a line. 'run' answers each line
 by a line on standard output, 'report' answers none and tells at the end what is
-there. Lines, and what they are answered by:
+there; 'storm' reads no script. Lines, and what they are answered by:
 
   domain strict         makes a domain: 'domain D'
   domain lazy
@@ -72,8 +77,9 @@ empty, and none is a comment. At the first line that isn't so the work stops:
 standard error says 'line K', and the lines before it are done.
 
 Exit status: 0 done; 1 input or output failed; 2 a bad line or a bad command
-line; 3 no memory. A call takes about 300 bytes of memory, for the history.
-The table frames are host frames 0 and on, and can't be mapped.
+line; 3 no memory, or, for a storm, no thread. A call takes about 300 bytes of
+memory, for the history. The table frames are host frames 0 and on, and can't be
+mapped.
 
 Examples:
 

@@ -3,7 +3,7 @@
 ghost use Rattle.std.specs.Prelude.{◌≡◌, ◌↔◌, IsSome, IfSome};
 ghost use Rattle.manager.specs.Kept.{IsWithinLimits};
 
-use crate::help::{ABOUT, REPORT, SCRIPT, VERSION};
+use crate::help::{ABOUT, REPORT, SCRIPT, USAGE, VERSION};
 use crate::storming::{StormSize, storm_command, storm_of};
 use clap::{Arg, ArgMatches, Command, value_parser};
 use dmatypes::{LEAST_TABLE_FRAMES, MOST_CALLS, MOST_TABLE_FRAMES};
@@ -55,7 +55,7 @@ pub(crate) fn command<'a>(alloc: Global) -> Result<Command<'a>, AllocError> {
         .version(VERSION)
         .propagate_version(true)
         .about(ABOUT)
-        .override_usage("vtdm <COMMAND> [OPTIONS] < SCRIPT")
+        .override_usage(USAGE)
         .after_help(SCRIPT)
         .no_binary_name(true)
         .subcommand_required(true)
