@@ -4,12 +4,12 @@ ghost use Rattle.std.specs.Prelude.{◌≡◌};
 
 use crate::timing::{Tenths, each};
 use crate::trouble::{Trouble, check};
-use storm::{MOST_DEVICES, MOST_DRIVERS, MOST_WORKER_CALLS, OpenGate, storm};
 use std::alloc::Global;
 use std::num::NonZeroU32;
 use std::sync::Wait;
 use std::thread::Threads;
 use std::time::{Clock, Instant};
+use storm::{MOST_DEVICES, MOST_DRIVERS, MOST_WORKER_CALLS, OpenGate, storm};
 
 /// What each call takes of a storm of so many drivers, as many devices, and the unit: all the time of the storm, over its
 /// events. Each worker makes so many calls as there are rounds, or the most that a storm's worker makes. The manager and the

@@ -4,9 +4,9 @@ ghost use Rattle.std.specs.Prelude.{◌↔◌, IsOk, IsTrue};
 
 use dmatypes::Refusal;
 use iova::{RetireError, TakeError};
-use storm::StormError;
 use std::alloc::AllocError;
 use std::io;
+use storm::StormError;
 use tables::NoFrames;
 use thiserror::Error;
 

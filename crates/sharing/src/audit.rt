@@ -12,8 +12,13 @@ use std::sync::Wait;
 use std::test::Fail;
 use std::thread::{Threads, join};
 
-// How many rounds each thread goes.
+// How many rounds a device goes, and how many calls a driver makes.
 const ROUNDS: u64 = 400;
+
+const DRIVEN: u64 = 1000;
+
+// The frame that a driver maps first.
+const FIRST_FRAME: u64 = 0x1000;
 
 // The pages that a device reads, 1 to 4: the first stays mapped, the others are the driver's.
 const PAGES: u64 = 4;
@@ -119,32 +124,46 @@ fn drive<B: Owner, R: Wait>(
     mut mine: Share<B>,
     domain: u64,
 ) -> Share<B> {
-    for round in 0..ROUNDS {
-        let map = map_of(domain, 0x1000 + round);
-        if let Ok((_, Reply::Mapped(address))) = manager.call(rt, rows, &mut mine, map) {
-            let unmap = Call::Unmap {
-                domain,
-                address,
-                pages: 1,
-            };
-            let _ = manager.call(rt, rows, &mut mine, unmap);
-        }
-        if round % 3 == 2 {
-            let _ = manager.call(rt, rows, &mut mine, Call::Flush { domain });
-        }
+    let mut mapped = None;
+    for turn in 0..DRIVEN {
+        let call = driver_call(domain, turn, mapped);
+        mapped = match manager.call(rt, rows, &mut mine, call) {
+            Ok((_, Reply::Mapped(address))) => Some(address),
+            _ => None,
+        };
     }
     mine
 }
 
-// A device's thread: what it owns, and whether memory sufficed for what it noted.
+// What is mapped is unmapped; else a page is mapped, or the domain flushed.
+fn driver_call(domain: u64, turn: u64, mapped: Option<u64>) -> Call {
+    match mapped {
+        Some(address) => Call::Unmap {
+            domain,
+            address,
+            pages: 1,
+        },
+        None if turn % 7 == 4 => Call::Flush { domain },
+        None => map_of(domain, FIRST_FRAME.saturating_add(turn)),
+    }
+}
+
+// What a device's thread hands back: what it owns, and whether memory sufficed for what it noted.
+#[derive(Drop)]
+struct Noted<B: Owner> {
+    device: Device<B>,
+    memory: Result<(), AllocError>,
+}
+
+// A device's thread.
 fn read_beside<B: Owner, R: Wait>(
     rt: &R,
     manager: &Manager<B>,
     rows: &Rows<B>,
     mut device: Device<B>,
-) -> (Device<B>, Result<(), AllocError>) {
-    let noted = device.read_all(rt, manager, rows);
-    (device, noted)
+) -> Noted<B> {
+    let memory = device.read_all(rt, manager, rows);
+    Noted { device, memory }
 }
 
 #[test]
@@ -173,39 +192,71 @@ fn audited<B: Owner + Send + Sync, R: Threads + Wait + Abort + Sync>(
     lazy.begin(rt, &manager, &rows, Mode::Lazy, 2)?;
     let one = shares.pop().ok_or("a share")?;
     let two = shares.pop().ok_or("a share")?;
-    let shared = &manager;
-    let ((one, two), ((strict, noted), (lazy, also_noted))) = join(
-        rt,
-        || {
-            join(
-                rt,
-                || drive(rt, shared, &rows, one, 1),
-                || drive(rt, shared, &rows, two, 2),
-            )
-        },
-        || {
-            join(
-                rt,
-                || read_beside(rt, shared, &rows, strict),
-                || read_beside(rt, shared, &rows, lazy),
-            )
-        },
-    );
-    noted?;
-    also_noted?;
+    let (driven, read) = all_at_once(rt, &manager, &rows, (one, two), (strict, lazy));
+    let (strict, lazy) = (device_in(read.0)?, device_in(read.1)?);
     let mut all = Vec::new(alloc);
-    all.push(one)?;
-    all.push(two)?;
+    all.push(driven.0)?;
+    all.push(driven.1)?;
     all.push(strict.share)?;
     all.push(lazy.share)?;
     let Ok(history) = manager.finish(&rows, all) else {
         return Err(Fail::from("all shares are enough"));
     };
     for (number, hits) in [(0, &strict.hits), (1, &lazy.hits)] {
-        assert!(rt; hits.iter().any(|hit| hit.host.is_some()));
+        // The first hit came before the threads.
+        assert!(rt; hits.iter().skip(1).any(|hit| hit.host.is_some()));
         assert!(rt; are_allowed(alloc, history.events(), number, hits.as_slice())?);
     }
     Ok(())
+}
+
+// The drivers' threads beside those of the devices.
+fn all_at_once<B: Owner + Send + Sync, R: Threads + Wait + Sync>(
+    rt: &R,
+    manager: &Manager<B>,
+    rows: &Rows<B>,
+    drivers: (Share<B>, Share<B>),
+    devices: (Device<B>, Device<B>),
+) -> ((Share<B>, Share<B>), (Noted<B>, Noted<B>)) {
+    join(
+        rt,
+        || drive_both(rt, manager, rows, drivers),
+        || read_both(rt, manager, rows, devices),
+    )
+}
+
+// Two drivers, in a thread each.
+fn drive_both<B: Owner + Send + Sync, R: Threads + Wait + Sync>(
+    rt: &R,
+    manager: &Manager<B>,
+    rows: &Rows<B>,
+    (one, two): (Share<B>, Share<B>),
+) -> (Share<B>, Share<B>) {
+    join(
+        rt,
+        || drive(rt, manager, rows, one, 1),
+        || drive(rt, manager, rows, two, 2),
+    )
+}
+
+// Two devices, in a thread each.
+fn read_both<B: Owner + Send + Sync, R: Threads + Wait + Sync>(
+    rt: &R,
+    manager: &Manager<B>,
+    rows: &Rows<B>,
+    (strict, lazy): (Device<B>, Device<B>),
+) -> (Noted<B>, Noted<B>) {
+    join(
+        rt,
+        || read_beside(rt, manager, rows, strict),
+        || read_beside(rt, manager, rows, lazy),
+    )
+}
+
+// The device, where memory sufficed for what its thread noted.
+fn device_in<B: Owner>(noted: Noted<B>) -> Result<Device<B>, AllocError> {
+    noted.memory?;
+    Ok(noted.device)
 }
 
 // A device with the port of its number and a share.

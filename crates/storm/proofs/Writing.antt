@@ -1,5 +1,6 @@
 -- Each element of a list is written in turn, and so comes to be in a relation to what it was.
-use Rattle.std.proofs.Common.{◌≡◌, ◌≢◌, ◌+◌, ◌<◌, ◌≤◌, ℕ, List, ◌++◌, arith, below_more, get_or, get_or-set_other, get_or-set_same, length, set, subst, sym, take, drop, ◌∙◌}
+use Rattle.std.proofs.Common.{◌≡◌, ◌≢◌, ◌+◌, ◌<◌, ◌≤◌, ℕ, List, ◌++◌, arith, below_more}
+use Rattle.std.proofs.Common.{get_or, get_or-set_other, get_or-set_same, length, set, subst, sym, take, drop, ◌∙◌}
 use Rattle.std.proofs.lemmas.List.{append-nil, get_or_default}
 use Rattle.std.proofs.Math.ListN.{drop_of_length-le}
 use Rattle.std.proofs.Math.Seq.{take-length}
@@ -25,7 +26,8 @@ module _ {A : Type 0} (R : A → A → Type 0) (old new : List A) (i : ℕ) (x y
   left_next rest k above d = let other : k ≢ i = omega arith in get_or-set_other new i k y d other ∙ rest k (omega (arith, above)) d
 
 -- the whole of a list that stands in the place of the first elements of another
-pub whole_of : {A : Type 0} (list old : List A) (len : ℕ) → length list ≡ len → length old ≤ len → take len (list ++ drop (length list) old) ≡ list
+pub whole_of : {A : Type 0} (list old : List A) (len : ℕ) → length list ≡ len → length old ≤ len
+    → take len (list ++ drop (length list) old) ≡ list
 whole_of list old len is few =
     subst (λ n. take n (list ++ drop (length list) old) ≡ list) is
     (subst (λ l. take (length list) (list ++ l) ≡ list) (sym (drop_of_length-le old (omega (arith, is, few))))

@@ -3,8 +3,8 @@
 use dmatypes::{Access, Frame, Page, Rights, Width};
 use std::process::Abort;
 use vtdbits::{
-    ContextEntry, Descriptor, DeviceNumber, DomainId, LargeTranslation, PageBlock, PortWord, SsEntry,
-    Translation, WidePage, Words,
+    ContextEntry, Descriptor, DeviceNumber, DomainId, LargeTranslation, PageBlock, PortWord,
+    SsEntry, Translation, WidePage, Words,
 };
 
 fn frame_of(rt: &impl Abort, number: u64) -> Frame {
