@@ -1,9 +1,11 @@
 -- The answers that say replies, and what C's numbers name.
-use Rattle.std.specs.Prelude.{ℕ, ◌+◌, Bool, true, false, Option, None, Some}
+use Rattle.std.specs.Prelude.{ℕ, ◌+◌, ◌==◌, if◌then◌else◌, Bool, true, false, Option, None, Some}
 use Rattle.dmatypes.specs.declared.call.Mode.{Mode}
 use Rattle.dmatypes.specs.declared.call.Mode.TheVariants.{Strict, Lazy}
 use Rattle.dmatypes.specs.declared.call.Access.{Access}
 use Rattle.dmatypes.specs.declared.call.Access.TheVariants.{Read, Write}
+use Rattle.dmatypes.specs.declared.call.Cache.{Cache}
+use Rattle.dmatypes.specs.declared.call.Cache.TheVariants.{Context, Leaf, NonLeaf}
 use Rattle.dmatypes.specs.Numbers.{fault_number, refusal_number}
 use Rattle.dmatypes.specs.declared.reply.Progress.TheVariants.{Did, Idle}
 use Rattle.dmatypes.specs.declared.reply.Reply.{Reply}
@@ -46,12 +48,11 @@ abbrev pub mode_named : Bool → Mode
 mode_named true = Lazy
 mode_named false = Strict
 
--- the number of a mode
-abbrev pub number_of_mode : Mode → ℕ
-number_of_mode Strict = 0
-number_of_mode Lazy = 1
-
 -- the access that C names
 abbrev pub access_named : Bool → Access
 access_named true = Write
 access_named false = Read
+
+-- the cache of a number, if there is one
+abbrev pub cache_numbered : ℕ → Option Cache
+cache_numbered n = if n == 0 then Some Leaf else (if n == 1 then Some NonLeaf else (if n == 2 then Some Context else None))

@@ -4,7 +4,7 @@ ghost use Rattle.std.specs.Prelude.{◌≡◌, Option};
 ghost use Rattle.engine.specs.State.{begun_reply, done_reply, flushed_reply, made_reply, mapped_reply, reaped_reply, request_reply};
 ghost use Rattle.engine.specs.State.{unmapped_reply};
 ghost use Rattle.dmatypes.specs.declared.reply.Reply.TheVariants.{Stepped};
-ghost use Rattle.vtdm_c.specs.Answers.{answer_of, found, lone};
+ghost use Rattle.vtdm_c.specs.Answers.{answer_of, found, lone, told};
 
 use dmatypes::{Fault, Progress, Refusal};
 use engine::Hit;
@@ -55,15 +55,22 @@ impl Answer {
         Answer { status, value: 0 }
     }
 
+    /// Done, with a number.
+    pub(crate) fn told(value: u64) -> Answer
+        ensures { result ≡ told value }
+    {
+        Answer {
+            status: Answer::OK,
+            value,
+        }
+    }
+
     /// What was found, or the status of what wasn't.
     pub(crate) fn found(value: Option<u64>, status: u64) -> Answer
         ensures { result ≡ found value status }
     {
         match value {
-            Some(value) => Answer {
-                status: Answer::OK,
-                value,
-            },
+            Some(value) => Answer::told(value),
             None => Answer::lone(status),
         }
     }
@@ -76,10 +83,7 @@ impl Answer {
         ensures flushed { result ≡ answer_of (flushed_reply answer) }
     {
         match answer {
-            Ok(value) => Answer {
-                status: Answer::OK,
-                value,
-            },
+            Ok(value) => Answer::told(value),
             Err(refusal) => Answer::lone(refusal.number()),
         }
     }
@@ -109,10 +113,7 @@ impl Answer {
             Progress::Did => 1,
             Progress::Idle => 0,
         };
-        Answer {
-            status: Answer::OK,
-            value,
-        }
+        Answer::told(value)
     }
 
     /// The answer of a reap.
@@ -130,10 +131,7 @@ impl Answer {
         ensures { result ≡ answer_of (request_reply answer) }
     {
         match answer {
-            Ok(Ok(hit)) => Answer {
-                status: Answer::OK,
-                value: hit.host,
-            },
+            Ok(Ok(hit)) => Answer::told(hit.host),
             Ok(Err(fault)) => Answer::lone(Answer::FAULTS + fault.number()),
             Err(refusal) => Answer::lone(refusal.number()),
         }

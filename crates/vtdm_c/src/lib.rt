@@ -3,11 +3,21 @@
 #![tactic(auto)]
 
 mod answer;
+mod domains;
+mod flushes;
 mod handle;
+mod life;
 mod loose;
+mod pages;
+mod readers;
+mod requests;
+mod segments;
 mod session;
 mod slot;
+mod told;
 
 pub use answer::Answer;
 pub use handle::Handle;
+pub use segments::Segment;
 pub use slot::Slot;
+pub use told::{Context, DomainTotals, Totals};

@@ -9,6 +9,8 @@ use arrayvec::ArrayVec;
 use dmatypes::{Access, CALLS_END, Cache, MOST_SEGMENTS, Mode, Segment, Whim};
 use engine::State;
 
+mod reading;
+
 /// A state, with the number of calls that it has answered. Each method is refused exactly where the state has answered all that
 /// it can, and then changes nothing.
 #[derive(Drop)]
@@ -27,13 +29,6 @@ impl Session {
         ensures { result.state ≡ state }
     {
         Session { state, calls: 0 }
-    }
-
-    /// The state.
-    pub(crate) fn state(&self) -> &State
-        ensures { result.now ≡ self.now.state }
-    {
-        &self.state
     }
 
     // Whether the state has answered all calls that it can.
