@@ -5,6 +5,8 @@ use Rattle.dmatypes.specs.declared.call.Mode.TheVariants.{Strict, Lazy}
 use Rattle.dmatypes.specs.declared.call.Access.{Access}
 use Rattle.dmatypes.specs.declared.call.Access.TheVariants.{Read, Write}
 use Rattle.dmatypes.specs.declared.call.Cache.{Cache}
+use Rattle.dmatypes.specs.declared.call.Call.{Call}
+use Rattle.dmatypes.specs.declared.call.Call.TheVariants as calls
 use Rattle.dmatypes.specs.declared.call.Cache.TheVariants.{Context, Leaf, NonLeaf}
 use Rattle.dmatypes.specs.Numbers.{fault_number, refusal_number}
 use Rattle.dmatypes.specs.declared.reply.Progress.TheVariants.{Did, Idle}
@@ -52,6 +54,11 @@ mode_named false = Strict
 abbrev pub access_named : Bool → Access
 access_named true = Write
 access_named false = Read
+
+-- the request that C names
+abbrev pub request_named : ℕ → ℕ → Bool → Bool → Bool → Call
+request_named device address write look fill =
+    calls.Dma device address (access_named write) (record { look = look; fill = fill })
 
 -- the cache of a number, if there is one
 abbrev pub cache_numbered : ℕ → Option Cache

@@ -38,6 +38,20 @@ impl Handle {
         Some(slot.into_loose(alloc).into_box())
     }
 
+    /// Lets the session go, if there is one, and frees its memory. What isn't freed here can't be let go: a slot that holds a
+    /// session is neither dropped nor discarded.
+    pub(crate) fn end(&mut self, alloc: Global)
+        ensures { self.new.slot.held ≡ None }
+    {
+        let slot = mem::replace(&mut self.slot, Slot::none());
+        if !self.live {
+            slot.discard();
+            return;
+        }
+        self.live = false;
+        drop(slot.into_loose(alloc).into_box());
+    }
+
     /// Puts a session in.
     pub(crate) fn put(&mut self, session: Box<Session>)
         requires { IsNone self.old.slot.held }

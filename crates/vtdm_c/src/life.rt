@@ -48,6 +48,5 @@ fn new_session(alloc: Global, frames: u64) -> Result<Box<Session>, AllocError>
 pub extern "C" fn vtdm_destroy(alloc: Global, handle: &mut Handle)
     ensures { handle.new.slot.held ≡ None }
 {
-    let session = handle.take(alloc);
-    drop(session);
+    handle.end(alloc);
 }

@@ -1,8 +1,7 @@
 //! Requests of devices, and what the unit's caches lose.
 
 ghost use Rattle.std.specs.Prelude.{◌≡◌};
-ghost use Rattle.dmatypes.specs.declared.call.Call.TheVariants as calls;
-ghost use Rattle.vtdm_c.specs.Answers.{access_named, cache_numbered};
+ghost use Rattle.vtdm_c.specs.Answers.{access_named, cache_numbered, request_named};
 ghost use Rattle.vtdm_c.specs.Called.{Calls, Evicts};
 
 use crate::answer::Answer;
@@ -22,7 +21,7 @@ pub extern "C" fn vtdm_dma(
     look: bool,
     fill: bool,
 ) -> Answer
-    ensures { Calls handle.old.slot.held (calls.Dma device address (access_named write) (record { look = look; fill = fill })) result handle.new.slot.held }
+    ensures { Calls handle.old.slot.held (request_named device address write look fill) result handle.new.slot.held }
 {
     let Some(mut session) = handle.take(alloc) else {
         return Answer::lone(Answer::ABSENT);
