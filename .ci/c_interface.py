@@ -26,6 +26,7 @@ PROGRAMS = {
     "walk": (["walk.c"], []),
     "memory": (["memory.c"], ["-Wl,--wrap=malloc,--wrap=realloc,--wrap=free"]),
     "threads": (["threads.c"], ["-pthread"]),
+    "owner in C++": (["owner.cpp"], ["-pthread"]),
 }
 
 
@@ -50,8 +51,9 @@ def ran(words, seconds=300):
 
 
 def compile_words(room, out, sources, more):
+    compiler = ["c++", "-std=c++17"] if sources[0].endswith(".cpp") else ["cc", "-std=c11", "-D_POSIX_C_SOURCE=200809L"]
     library = [f"-I{room}/include", *sources, f"-L{room}/lib", "-lvtdm"]
-    return ["cc", "-std=c11", "-D_POSIX_C_SOURCE=200809L", *WARNINGS, "-g", "-O2", *more, "-o", out, *library]
+    return [*compiler, *WARNINGS, "-g", "-O2", *more, "-o", out, *library]
 
 
 def sanitizers_of(room):
@@ -100,7 +102,7 @@ def run_tests(steps, room):
     flavours = [("plain", []), *sanitizers_of(room)]
     for name, (sources, more) in PROGRAMS.items():
         for flavour, words in flavours:
-            out = f"{room}/{name}"
+            out = f"{room}/test"
             fault = ran(compile_words(room, out, [f"{TESTS}/{it}" for it in sources], [*words, *more])) or ran([out])
             steps.tell(f"{name}, {flavour}", fault)
 
