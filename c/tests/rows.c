@@ -142,6 +142,7 @@ static void pieces_full(void) {
     for (uint64_t k = 1; k <= 1021; k++)
         ANSWERS(vtdm_map(&manager, 1, 0x100, 1, 0, VTDM_READ), VTDM_OK, k * 0x1000);
     expect(&manager, "map 1 0x100 1 0 r", "refused 9");
+    ANSWERS(vtdm_map(&manager, 1, 0x100, 1, 0, VTDM_READ), VTDM_TOO_MANY_PIECES, 0);
     expect(&manager, "unmap 1 0x1000 1", "unmapped 0");
     expect(&manager, "map 1 0x100 1 0 r", "map 0x1000");
     expect(&manager, "map 1 0x100 1 0 r", "refused 9");

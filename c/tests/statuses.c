@@ -53,6 +53,50 @@ static void check_limits(struct vtdm *manager) {
     ANSWERS(vtdm_evict(manager, UINT64_MAX, 0), VTDM_BAD_CACHE, 0);
 }
 
+/* Refusals and faults by their names. The limit on pieces has a row of its own, and keeps a range from ever lacking. */
+static void check_names(void) {
+    struct vtdm manager = VTDM_INIT;
+    CHECK(vtdm_create(&manager, 17) == VTDM_OK);
+    for (uint64_t domain = 1; domain <= 15; domain++)
+        ANSWERS(vtdm_domain(&manager, domain == 2), VTDM_OK, domain);
+    ANSWERS(vtdm_domain(&manager, false), VTDM_TOO_MANY_DOMAINS, 0);
+    ANSWERS(vtdm_attach(&manager, 0, 1), VTDM_OK, 0);
+    ANSWERS(vtdm_attach(&manager, 0, 2), VTDM_BUSY, 0);
+    ANSWERS(vtdm_drop(&manager, 1), VTDM_BUSY, 0);
+    ANSWERS(vtdm_map(&manager, 1, 16, 1, 0, VTDM_READ), VTDM_FRAME_OWNED, 0);
+    ANSWERS(vtdm_map(&manager, 1, 17, 1, 0, VTDM_READ), VTDM_OK, 0x1000);
+    ANSWERS(vtdm_map(&manager, 2, 17, 1, 0, VTDM_READ), VTDM_NO_FRAMES, 0);
+    ANSWERS(vtdm_unmap(&manager, 1, 0x2000, 1), VTDM_NOT_LIVE, 0);
+    ANSWERS(vtdm_dma(&manager, 0, 0xfee00000, false, true, true), VTDM_WINDOW, 0);
+    ANSWERS(vtdm_dma(&manager, 1, 0x1000, false, true, true), VTDM_FAULT_NOT_ATTACHED, 0);
+    ANSWERS(vtdm_dma(&manager, 0, UINT64_C(1) << 39, false, true, true), VTDM_FAULT_BEYOND_WIDTH, 0);
+    ANSWERS(vtdm_dma(&manager, 0, 0x1000, true, true, true), VTDM_FAULT_WRITE, 0);
+    ANSWERS(vtdm_dma(&manager, 0, 0x2000, false, true, true), VTDM_FAULT_READ, 0);
+    for (uint64_t ticket = 1; ticket <= 64; ticket++)
+        ANSWERS(vtdm_begin(&manager, 2), VTDM_OK, ticket);
+    ANSWERS(vtdm_begin(&manager, 2), VTDM_TOO_MANY_TICKETS, 0);
+    ANSWERS(vtdm_reap(&manager, 2, 1), VTDM_PENDING, 0);
+    CHECK(vtdm_totals(&manager).tickets == 64 && vtdm_totals(&manager).pending == 128);
+    vtdm_destroy(&manager);
+}
+
+/* A page of a lazy domain is reached behind its unmap until the cache of leaves loses it. */
+static void check_caches(void) {
+    struct vtdm manager = VTDM_INIT;
+    CHECK(vtdm_create(&manager, 16) == VTDM_OK);
+    ANSWERS(vtdm_domain(&manager, true), VTDM_OK, 1);
+    ANSWERS(vtdm_attach(&manager, 4, 1), VTDM_OK, 0);
+    ANSWERS(vtdm_map(&manager, 1, 0x100, 1, 0, VTDM_READ), VTDM_OK, 0x1000);
+    ANSWERS(vtdm_dma(&manager, 4, 0x1234, false, true, true), VTDM_OK, 0x100234);
+    ANSWERS(vtdm_unmap(&manager, 1, 0x1000, 1), VTDM_OK, 0);
+    ANSWERS(vtdm_evict(&manager, VTDM_CACHE_NON_LEAF, 0), VTDM_OK, 0);
+    ANSWERS(vtdm_evict(&manager, VTDM_CACHE_CONTEXT, 0), VTDM_OK, 0);
+    ANSWERS(vtdm_dma(&manager, 4, 0x1234, false, true, false), VTDM_OK, 0x100234);
+    ANSWERS(vtdm_evict(&manager, VTDM_CACHE_LEAF, 0), VTDM_OK, 0);
+    ANSWERS(vtdm_dma(&manager, 4, 0x1234, false, true, false), VTDM_FAULT_READ, 0);
+    vtdm_destroy(&manager);
+}
+
 static void check_readers(struct vtdm *manager) {
     ANSWERS(vtdm_attach(manager, 15, 2), VTDM_OK, 0);
     ANSWERS(vtdm_attach(manager, 2, 2), VTDM_OK, 0);
@@ -90,6 +134,8 @@ int main(void) {
     CHECK(vtdm_create(&manager, 64) == VTDM_PRESENT);
     CHECK(vtdm_create(&manager, 0) == VTDM_PRESENT);
     CHECK(vtdm_create(&other, 4096) == VTDM_OK);
+    check_names();
+    check_caches();
     check_limits(&manager);
     check_readers(&manager);
     CHECK(vtdm_totals(&other).free == 4096);
