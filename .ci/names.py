@@ -47,7 +47,7 @@ def lacks_contract(row):
     crate, *kind, function = name.split("::")
     texts = sources(crate).values()
     places = [impl_of(it, kind[0]) for it in texts] if kind else list(texts)
-    found = [re.search(rf"pub fn {function}\b(.*?)\n\s*\{{(?:\n|\}})", it, re.S) for it in places]
+    found = [re.search(rf"pub (?:extern \"C\" )?fn {function}\b(.*?)\n\s*\{{(?:\n|\}})", it, re.S) for it in places]
     found = [it.group(1) for it in found if it]
     if len(found) != 1:
         return [name]

@@ -10,3 +10,4 @@ pub mod Tickets
 pub mod Whole
 pub mod Steps
 pub mod Totals
+pub mod Walkable

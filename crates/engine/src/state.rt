@@ -39,6 +39,7 @@ mod performing;
 #[cfg(test)]
 mod tests;
 mod totals;
+mod walkable;
 
 use flushing::has_ticket;
 pub use totals::{DomainTotals, Totals};
