@@ -4,6 +4,7 @@ use crate::{OpenGate, storm};
 
 mod calls;
 mod gates;
+mod turns;
 
 #[test]
 fn events_of_storms(rt: HostRuntime) {

@@ -15,7 +15,7 @@ use std::io::{Read, Write};
 use std::sync::Wait;
 use std::thread::Threads;
 
-// The bytes of the longest word that is told back (own): every word that asks for something is shorter.
+// The bytes of the longest word that is told back (own).
 const LONGEST_WORD: usize = 64;
 
 const NOT_PLAIN: &str =
@@ -73,22 +73,25 @@ fn perform<T: Wait + Threads + Sync, R: Read + Drop, W: Write + Drop, E: Write>(
     let Ok(mut command) = command(alloc) else {
         return End::Stopped(RunError::NoMemory);
     };
-    if !words.iter().all(|word| is_plain(word)) {
-        return match command.error(ErrorKind::InvalidValue, NOT_PLAIN) {
-            Ok(error) => explain(&error, output, errors),
-            Err(_) => End::Stopped(RunError::NoMemory),
-        };
+    let error = match command.try_get_matches_from(words) {
+        Ok(matches) => {
+            return match task_of(&matches) {
+                Some(task) => run_task(rt, alloc, task, input, output),
+                None => End::BadCommandLine,
+            };
+        }
+        Err(error) => error,
+    };
+    if error.kind() == ErrorKind::OutOfMemory || words.iter().all(|word| is_plain(word)) {
+        return explain(&error, output, errors);
     }
-    match command.try_get_matches_from(words) {
-        Ok(matches) => match task_of(&matches) {
-            Some(task) => run_task(rt, alloc, task, input, output),
-            None => End::BadCommandLine,
-        },
-        Err(error) => explain(&error, output, errors),
+    match command.error(ErrorKind::InvalidValue, NOT_PLAIN) {
+        Ok(error) => explain(&error, output, errors),
+        Err(_) => End::Stopped(RunError::NoMemory),
     }
 }
 
-// Whether a word may be shown on a terminal as it is: no other word asks for anything.
+// Whether a word may be shown on a terminal as it is. An error tells words back.
 fn is_plain(word: &str) -> bool {
     word.len() <= LONGEST_WORD && word.bytes().all(|byte| matches!(byte, b' '..=b'~'))
 }

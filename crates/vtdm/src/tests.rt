@@ -130,7 +130,7 @@ fn reports_of_the_program(rt: HostRuntime) {
 // Storms read nothing, and their line is output.
 #[test]
 fn storms_of_the_program(rt: HostRuntime) -> Result<(), Fail> {
-    let rows: [(&[&str], &[u8]); 3] = [
+    let rows: [(&[&str], &[u8]); 5] = [
         (
             &["storm", "--drivers", "1", "--devices", "1", "--calls", "1"],
             b"storm drivers 1 devices 1 calls 1 events 6\n",
@@ -138,6 +138,14 @@ fn storms_of_the_program(rt: HostRuntime) -> Result<(), Fail> {
         (
             &["storm", "--drivers", "2", "--devices", "2", "--calls", "10"],
             b"storm drivers 2 devices 2 calls 10 events 54\n",
+        ),
+        (
+            &["storm", "--drivers=3", "--devices=1", "--calls=5"],
+            b"storm drivers 3 devices 1 calls 5 events 28\n",
+        ),
+        (
+            &["storm", "--drivers=1", "--devices=3", "--calls=5"],
+            b"storm drivers 1 devices 3 calls 5 events 30\n",
         ),
         (
             &["storm", "--drivers=8", "--devices=8", "--calls=10000"],

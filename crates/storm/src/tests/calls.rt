@@ -15,9 +15,9 @@ use std::test::Fail;
 use std::thread::Threads;
 
 // The host frame of the first driver, and the pages that a device reads.
-const FIRST_FRAME: u64 = 0x1000;
+pub(super) const FIRST_FRAME: u64 = 0x1000;
 
-const PAGES_READ: u64 = 16;
+pub(super) const PAGES_READ: u64 = 16;
 
 #[test]
 fn calls_of_each_worker(rt: HostRuntime) -> Result<(), Fail> {
