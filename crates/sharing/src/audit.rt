@@ -295,6 +295,9 @@ fn are_allowed(
             Some(next) => next.count,
             None => events.len() as u64,
         };
+        if hit.count > events.len() as u64 {
+            return Ok(false);
+        }
         front.go_to(hit.count)?;
         if let Some(host) = hit.host {
             if !front.comes_to(device, hit.address, host, most)? {
@@ -341,4 +344,79 @@ impl Front<'_> {
         }
         Ok(false)
     }
+}
+
+// A read of page 1 that came to a host frame, or to nothing, and the count that came with it.
+fn read_at(frame: Option<u64>, count: u64) -> Hit {
+    Hit {
+        address: PAGE_BYTES + 0x234,
+        host: frame.map(|frame| PAGE_BYTES.saturating_mul(frame).saturating_add(0x234)),
+        count,
+    }
+}
+
+// A domain with page 1 mapped to frame 0x800 at the third event, and unmapped at the fourth; the fifth flushes it.
+fn short_history(alloc: Global, mode: Mode) -> Result<Vec<Event>, AllocError> {
+    let mut events = Vec::new(alloc);
+    let attach = Call::Attach {
+        device: 3,
+        domain: 1,
+    };
+    let unmap = Call::Unmap {
+        domain: 1,
+        address: PAGE_BYTES,
+        pages: 1,
+    };
+    for (call, reply) in [
+        (Call::Domain(mode), Reply::Made(1)),
+        (attach, Reply::Done),
+        (map_of(1, 0x800), Reply::Mapped(PAGE_BYTES)),
+        (unmap, Reply::Unmapped(0)),
+        (Call::Flush { domain: 1 }, Reply::Flushed(0)),
+    ] {
+        events.push(Event { call, reply })?;
+    }
+    Ok(events)
+}
+
+// Hits that the history doesn't allow, beside such that it does.
+#[test]
+fn hits_are_judged(rt: HostRuntime) -> Result<(), Fail> {
+    let there = Some(0x800);
+    let rows: [(Mode, u64, &[Hit], bool); 11] = [
+        (Mode::Strict, 3, &[read_at(there, 3)], true),
+        (Mode::Strict, 3, &[read_at(there, 0)], true),
+        (Mode::Strict, 3, &[read_at(Some(0x801), 0)], false),
+        (Mode::Strict, 2, &[read_at(there, 3)], false),
+        (Mode::Strict, 3, &[read_at(there, 4)], false),
+        (
+            Mode::Strict,
+            3,
+            &[read_at(None, 5), read_at(there, 5)],
+            false,
+        ),
+        (
+            Mode::Strict,
+            3,
+            &[read_at(None, 4), read_at(there, 3)],
+            false,
+        ),
+        (
+            Mode::Strict,
+            3,
+            &[read_at(there, 0), read_at(None, 2)],
+            false,
+        ),
+        (Mode::Strict, 3, &[read_at(None, 6)], false),
+        (Mode::Lazy, 3, &[read_at(there, 4)], true),
+        (Mode::Lazy, 3, &[read_at(there, 5)], false),
+    ];
+    for (mode, device, hits, allowed) in rows {
+        let events = short_history(rt.alloc(), mode)?;
+        assert_eq!(rt;
+            are_allowed(rt.alloc(), events.as_slice(), device, hits)?,
+            allowed
+        );
+    }
+    Ok(())
 }
