@@ -70,20 +70,22 @@ A call that can't be done is 'refused', with one of these numbers:
    4 not attached        9 too many pieces      14 64 tickets are open
    5 bad range          10 not live             15 the history is full
 
-Numbers are decimal with no leading zero, or 0x and 1 to 16 digits 0 to 9 and a
-to f. One space stands between two fields, and none at an end of a line. A line
-has at most 512 bytes and ends with a newline, the last one too. No line is
-empty, and none is a comment. At the first line that isn't so the work stops:
-standard error says 'line K', and the lines before it are done.
+Numbers are decimal with no leading zero, or 0x and 1 to 16 hexadecimal digits,
+0 to 9 and a to f and no capitals. One space stands between two fields, and none
+at an end of a line. A line has at most 512 bytes and ends with a newline, the
+last one too, with no carriage return before it. No line is empty, and none is a
+comment. At the first line that isn't so the work stops: standard error says
+'line L', the line's number from 1, and the lines before it are done.
 
 Exit status: 0 done; 1 input or output failed; 2 a bad line or a bad command
-line; 3 no memory, or, for a storm, no thread. A call takes about 300 bytes of
-memory, for the history. The table frames are host frames 0 and on, and can't be
-mapped.
+line; 3 no memory, or, for a storm, no thread. The history takes about 300 bytes
+of memory for each call that it has room for, at the start. The table frames are
+host frames 0 and on, and can't be mapped.
 
 Examples:
 
   printf 'domain strict\\nmap 1 0x100 1 0 rw\\n' | vtdm run
+  vtdm run < examples/first-map.script
   vtdm run --frames 256 < script";
 
 pub(crate) const REPORT: &str = "\
@@ -102,7 +104,7 @@ and no line is answered. At its end, or at its first bad line, the report says:
   device 3 domain 1     an attached device
 
 Exit status: 0 done; 1 input or output failed; 2 a bad line (standard error says
-'line K') or a bad command line; 3 no memory.
+'line L', its number) or a bad command line; 3 no memory.
 
 Examples:
 

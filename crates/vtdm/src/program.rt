@@ -70,10 +70,10 @@ fn perform<T: Wait + Threads + Sync, R: Read + Drop, W: Write + Drop, E: Write>(
     output: W,
     errors: &mut E,
 ) -> End {
-    let Ok(mut command) = command(alloc) else {
+    let Ok(asked) = command(alloc) else {
         return End::Stopped(RunError::NoMemory);
     };
-    let error = match command.try_get_matches_from(words) {
+    let error = match asked.try_get_matches_from(words) {
         Ok(matches) => {
             return match task_of(&matches) {
                 Some(task) => run_task(rt, alloc, task, input, output),
@@ -85,7 +85,10 @@ fn perform<T: Wait + Threads + Sync, R: Read + Drop, W: Write + Drop, E: Write>(
     if error.kind() == ErrorKind::OutOfMemory || words.iter().all(|word| is_plain(word)) {
         return explain(&error, output, errors);
     }
-    match command.error(ErrorKind::InvalidValue, NOT_PLAIN) {
+    let Ok(mut telling) = command(alloc) else {
+        return End::Stopped(RunError::NoMemory);
+    };
+    match telling.error(ErrorKind::InvalidValue, NOT_PLAIN) {
         Ok(error) => explain(&error, output, errors),
         Err(_) => End::Stopped(RunError::NoMemory),
     }

@@ -13,6 +13,10 @@ use std::test::Fail;
 const LONG_WORD: &str =
     "run-with-a-word-of-more-than-sixty-four-bytes-that-asks-for-nothing-at-all";
 
+// 64, with more zeros before it than a word has bytes that is told back.
+const LONG_NUMBER: &str =
+    "--frames=000000000000000000000000000000000000000000000000000000000000000000000064";
+
 // The most columns of a line of help.
 const COLUMNS: usize = 80;
 
@@ -137,7 +141,8 @@ fn options_at_their_limits(rt: HostRuntime) -> Result<(), Fail> {
 // The same of the program: it reads its script, and has as many table frames; or it reads nothing.
 #[test]
 fn the_program_at_its_limits(rt: HostRuntime) {
-    let rows: [(&str, u8, &[u8]); 8] = [
+    let rows: [(&str, u8, &[u8]); 9] = [
+        (LONG_NUMBER, 0, b"events 1\nframes 63 free 1 used"),
         ("--frames=15", 2, b""),
         ("--frames=16", 0, b"events 1\nframes 15 free 1 used"),
         ("--frames=4096", 0, b"events 1\nframes 4095 free 1 used"),
