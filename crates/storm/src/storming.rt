@@ -26,8 +26,8 @@ pub const MOST_DEVICES: u64 = 8;
 /// The most calls that each worker of a storm makes (own).
 pub const MOST_WORKER_CALLS: u64 = 10_000;
 
-// The table frames of a storm's manager.
-const TABLE_FRAMES: u64 = 64;
+/// The table frames of a storm's manager.
+pub(crate) const TABLE_FRAMES: u64 = 64;
 
 // The frame that the first driver maps; each further one maps the frame behind.
 const FIRST_FRAME: u64 = 0x1000;
@@ -117,6 +117,7 @@ fn storm_on<B: Owner + Send + Sync, G: Gate, R: Threads + Wait + Sync>(
     requires named { IsNamedBy seed B.name B.parts B.shares B.room B.frames B.rows }
     requires room { seed.room ≡ 2 + plan.devices + plan.calls * (plan.drivers + plan.devices + 1) }
     requires shares { seed.shares ≡ plan.drivers + plan.devices + 2 }
+    requires frames { seed.frames ≡ TABLE_FRAMES }
     ensures { IfOk result (λ events. events ≡ seed.room) }
 {
     let outcome = outcome_of::<B, G, R>(rt, alloc, seed, plan, gate)?;
@@ -142,6 +143,7 @@ pub(crate) fn outcome_of<B: Owner + Send + Sync, G: Gate, R: Threads + Wait + Sy
     requires named { IsNamedBy seed B.name B.parts B.shares B.room B.frames B.rows }
     requires room { seed.room ≡ 2 + plan.devices + plan.calls * (plan.drivers + plan.devices + 1) }
     requires shares { seed.shares ≡ plan.drivers + plan.devices + 2 }
+    requires frames { seed.frames ≡ TABLE_FRAMES }
     ensures room { IfOk result (λ p. length p.history.history ≡ seed.room) }
     ensures met { IfOk result (λ p. All (HasMet plan.calls p.history.history) p.ports.items) }
 {

@@ -4,7 +4,7 @@ ghost use Rattle.std.specs.Prelude.{◌≡◌, ◌+◌, ◌*◌};
 ghost use Rattle.manager.specs.Kept.{IsNamedBy};
 
 use crate::OpenGate;
-use crate::storming::{Outcome, Plan, outcome_of};
+use crate::storming::{Outcome, Plan, TABLE_FRAMES, outcome_of};
 use dmatypes::{Access, Call, Event, Mode, PAGE_BYTES, Reply, Whim};
 use manager::{Config, Owner, Seed};
 use std::alloc::Global;
@@ -27,7 +27,9 @@ fn calls_of_each_worker(rt: HostRuntime) -> Result<(), Fail> {
             devices,
             calls,
         };
-        let config = Config::new(64, plan.events(), plan.workers() + 1).ok_or("within the limits")?;
+        let config = Config::new(TABLE_FRAMES, plan.events(), plan.workers() + 1).ok_or(
+            "within the limits",
+        )?;
         let seed = Seed::new(rt.alloc(), config)?;
         made_by_each::<Brand, _>(&rt, rt.alloc(), seed, plan)?;
     }
@@ -44,6 +46,7 @@ fn made_by_each<B: Owner + Send + Sync, R: Threads + Wait + Abort + Sync>(
     requires named { IsNamedBy seed B.name B.parts B.shares B.room B.frames B.rows }
     requires room { seed.room ≡ 2 + plan.devices + plan.calls * (plan.drivers + plan.devices + 1) }
     requires shares { seed.shares ≡ plan.drivers + plan.devices + 2 }
+    requires frames { seed.frames ≡ TABLE_FRAMES }
 {
     let Ok(Outcome { history, ports }) = outcome_of::<B, _, R>(rt, alloc, seed, plan, &OpenGate)
     else {
