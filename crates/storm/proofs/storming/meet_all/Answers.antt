@@ -12,8 +12,10 @@ pub returns-clause-met : goal.returns-clause-met
 returns-clause-met g c hits checked_in =
     let i = c.loop-port.invariant in
     let all = c.deref_mut-port-items.ensures in
-    let whole = whole_of c.loop-port.port-items c.args.ports.now.items c.args.ports.now.len (omega (arith, c.loop-port.auto.port-items, all.len))
-    (omega (arith, ap length all.value, all.len)) in
+    let items = c.loop-port.port-items in
+    let ports = c.args.ports.now in
+    let few : length items ≡ ports.len = omega (arith, c.loop-port.auto.port-items, all.len) in
+    let whole = whole_of items ports.items ports.len few (omega (arith, ap length all.value, all.len)) in
     subst (λ l. All (HasMet hits c.args.history.now.history) l) (sym whole)
     (λ k d within.
     let met = i.1 k (omega (arith, within, c.loop-port.auto.port-items, c.loop-port-test.false)) d in
@@ -27,10 +29,13 @@ loop-port-preserved g c =
     let R : Port → Port → Type 0 = λ p q. (length q.did ≡ length p.did + 1) × (q.seen ≡ history) in
     let old = get_or c.loop-port.port-items c.loop-port.port-index c.port-item.result in
     let more : length c.meet.new.port.did ≡ length old.did + 1 =
-    length_after c.meet.new.port.did old.did (Loaded counter (length c.loop-port.history.history) ∷ []) c.meet.ensures.did in (
+    length_after c.meet.new.port.did old.did (Loaded counter (length c.loop-port.history.history) ∷ []) c.meet.ensures.did in
+    let longer : length c.meet.new.port.did ≡ length c.port-item.result.did + 1 =
+    omega (arith, more, ap (λ (p : Port). length p.did) c.port-item.is) in
+    let seen = c.meet.ensures.seen.1 ∙ ap (λ (b : Book). b.history) i.0 in (
       c.meet.ensures.same.0 ∙ i.0,
       written_next R c.args.ports.now.items c.loop-port.port-items c.loop-port.port-index c.port-item.result c.meet.new.port
           (omega (arith, c.loop-port-test.true, c.loop-port.auto.port-items)) c.port-item.is
-          (omega (arith, more, ap (λ (p : Port). length p.did) c.port-item.is), c.meet.ensures.seen.1 ∙ ap (λ (b : Book). b.history) i.0) i.1 i.2,
+          (longer, seen) i.1 i.2,
       left_next R c.args.ports.now.items c.loop-port.port-items c.loop-port.port-index c.port-item.result c.meet.new.port i.2,
     )
