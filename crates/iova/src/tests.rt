@@ -1,3 +1,6 @@
+mod agreeing;
+mod list;
+
 use super::*;
 use dmatypes::{Page, PageRange};
 use std::test::Fail;
@@ -116,14 +119,16 @@ fn tells_the_state_of_a_page(rt: HostRuntime) -> Result<(), Fail> {
         last: 3,
         state: PageState::Live,
     };
-    assert_eq!(rt; space.pieces().get(2).copied(), Some(live));
+    assert_eq!(rt; space.pieces().nth(2), Some(live));
     space.reset();
     let free = Piece {
         first: 1,
         last: 15,
         state: PageState::Free,
     };
-    assert_eq!(rt; space.pieces(), [free].as_slice());
+    let mut pieces = space.pieces();
+    assert_eq!(rt; pieces.next(), Some(free));
+    assert_eq!(rt; pieces.next(), None);
     assert!(rt; free.is_free());
     Ok(())
 }
