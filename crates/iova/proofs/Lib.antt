@@ -4,6 +4,7 @@ pub mod Among
 pub mod Keep
 pub mod NewSpace
 pub mod FreeRange
+pub mod FreedRun
 pub mod Freed
 pub mod Taken
 pub mod Same

@@ -65,9 +65,9 @@ impl Space {
     ghost use Rattle.dmatypes.specs.Page.{IsPageRange, IsWithin, Range};
     ghost use Rattle.dmatypes.specs.World.{IsIn};
     ghost use Rattle.dmatypes.specs.declared.limits.TheConstants.{MOST_ORDER};
-    ghost use Rattle.iova.specs.Pieces.{AllIn, is_free, piece_of, state_at};
+    ghost use Rattle.iova.specs.Pieces.{AllIn, IsRun, is_free, piece_of, state_at};
     ghost use Rattle.iova.specs.Space.{Space, AllFree, IsFit, IsLowestFit, IsSpace, IsTooMany, MayRetire, new_space};
-    ghost use Rattle.iova.specs.Changes.{Frees, Retires, Takes};
+    ghost use Rattle.iova.specs.Changes.{Frees, FreesRun, Retires, Takes};
 
     /// A space of the pages up to a last one, all free. It takes the memory for all its pieces; no other call
     /// takes any.
@@ -214,6 +214,24 @@ impl Space {
         ensures space { IsSpace self.old × IsSpace self.new }
     {
         self.free(range);
+    }
+
+    /// Frees a range that is made of whole retired pieces, one after the other, as one release for each of them would.
+    pub fn release_run(&mut self, range: PageRange)
+        requires { IsRun (piece_of range PageState.Retired) self.old.pieces }
+        ensures freed { FreesRun self.old self.new range PageState.Retired }
+        ensures retirable { (other : Range) → MayRetire self.old.pieces other → MayRetire self.new.pieces other }
+        ensures space { IsSpace self.old × IsSpace self.new }
+    {
+        let first = range.first();
+        let last = first + range.pages() - 1;
+        let whole = store::with_free_ends(&self.nodes, self.root, Ends { first, last });
+        let piece = Piece {
+            first: whole.first,
+            last: whole.last,
+            state: PageState::Free,
+        };
+        self.root = store::store(&mut self.nodes, self.root, piece);
     }
 
     // Frees a range that is one piece.

@@ -34,6 +34,27 @@ fn takes_and_frees(rt: HostRuntime) -> Result<(), Fail> {
     Ok(())
 }
 
+// Retired pieces that lie side by side are one free piece after one release, with the free one beside them.
+#[test]
+fn releases_a_run(rt: HostRuntime) -> Result<(), Fail> {
+    let mut space = Space::new(rt.alloc(), 15)?;
+    assert_eq!(rt; number(space.take(1, 0)), Ok(1));
+    assert_eq!(rt; number(space.take(1, 0)), Ok(2));
+    assert_eq!(rt; number(space.take(3, 0)), Ok(3));
+    let low = PageRange::new(2, 1).ok_or("page")?;
+    let high = PageRange::new(3, 3).ok_or("pages")?;
+    let run = PageRange::new(2, 4).ok_or("pages")?;
+    space.may_retire(low)?;
+    space.retire(low);
+    space.may_retire(high)?;
+    space.retire(high);
+    assert_eq!(rt; space.piece_count(), 4);
+    space.release_run(run);
+    assert_eq!(rt; space.piece_count(), 2);
+    assert_eq!(rt; number(space.take(14, 0)), Ok(2));
+    Ok(())
+}
+
 #[test]
 fn fills_a_small_space(rt: HostRuntime) -> Result<(), Fail> {
     let mut space = Space::new(rt.alloc(), 15)?;

@@ -4,15 +4,14 @@ use Rattle.std.proofs.Common.{arith}
 use Rattle.dmatypes.specs.World.{IsIn}
 use Rattle.iova.specs.declared.piece.Piece.{Piece}
 use Rattle.iova.specs.declared.piece.PageState.TheVariants.{Free}
-use Rattle.iova.specs.Pieces.{IsOrdered, free_start, free_end, with_free}
+use Rattle.iova.specs.Pieces.{IsOrdered, free_start, free_end}
 use Rattle.iova.specs.Space.{Space, IsSpace}
 use Rattle.iova.specs.Search.{piece_at}
 use Rattle.iova.specs.Tree.{IsPiece}
-use Rattle.iova.proofs.Keep.{is_some}
-use Rattle.iova.proofs.Among.{in_le, in_state, put_piece}
+use Rattle.iova.proofs.Among.{in_le}
 use Rattle.iova.proofs.FreeRange.{free_start-other, free_start-nil, free_end-other, free_end-nil}
-use Rattle.iova.proofs.FreeRange.{free_start_le, free_end_ge}
-use Rattle.iova.proofs.Freed.{space_freed}
+use Rattle.iova.proofs.Freed.{one_run}
+use Rattle.iova.proofs.FreedRun as run
 use Rattle.iova.proofs.searches.Found.{at-here, at-past}
 
 pub start_none : (from first : ℕ) (ps : List Piece) → IsOrdered from ps → first ≤ from → free_start ps first ≡ first
@@ -37,13 +36,4 @@ at_of from q (p ∷ ps) page o m l h = elim m [
 -- the piece that a freed one becomes
 pub freed_piece : (a : Space) (q : Piece) → IsSpace a → IsIn q a.pieces
     → IsPiece (record { first = free_start a.pieces q.first; last = free_end a.pieces q.last; state = Free })
-freed_piece a q sp i =
-    let w = in_le 1 q a.pieces sp.ordered i in
-    let l = free_start_le 1 q.first a.pieces sp.ordered w.0 in
-    let h = free_end_ge 1 q.last a.pieces sp.ordered in
-    let n = space_freed a q sp i in
-    let there = put_piece (free_start a.pieces q.first) (free_end a.pieces q.last) Free a.pieces in
-    let state = in_state 1 (record { first = free_start a.pieces q.first; last = free_end a.pieces q.last; state = Free })
-    (with_free q a.pieces) (free_end a.pieces q.last) n.ordered there (omega arith) (omega arith) in
-    let page = n.others (free_end a.pieces q.last) (is_some (with_free q a.pieces) (free_end a.pieces q.last) Free state) in
-    (omega arith, omega (arith, page.1, sp.narrow))
+freed_piece a q sp i = run.freed_piece a q sp (in_le 1 q a.pieces sp.ordered i).1 (one_run q a.pieces i)
