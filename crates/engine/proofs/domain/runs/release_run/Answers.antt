@@ -1,0 +1,17 @@
+use Rattle.engine.proofs.flushes.Together.{released_run, run_of}
+use Rattle.engine.proofs.domain.runs.release_run.Goals as goal
+
+pub release_run-requires : goal.release_run-requires
+release_run-requires c =
+    run_of c.args.pool.now c.args.space.now c.args.records.now c.args.range c.requires.can c.requires.some c.requires.range
+
+pub returns : goal.returns
+returns c =
+    released_run c.args.pool.now c.give_back_all.new.pool c.args.space.now c.release_run.new.self c.args.records.now c.args.range
+    c.requires.can c.requires.some c.requires.range c.release_run.ensures.space.1 c.release_run.ensures.freed c.release_run.ensures.retirable
+    (record {
+      free = c.give_back_all.ensures.free;
+      more = c.give_back_all.ensures.more;
+      words = c.give_back_all.ensures.words;
+      frames = c.give_back_all.ensures.frames;
+    })
