@@ -1,4 +1,4 @@
-use Rattle.std.proofs.Common.{◌≡◌, ◌-◌, ◌∙◌, List, length, take, drop, ap, subst, sym}
+use Rattle.std.proofs.Common.{◌∙◌, List, take, drop, ap, subst, sym}
 use Rattle.std.proofs.lemmas.List.{take-append-drop}
 use Rattle.dmatypes.specs.World.{IsIn}
 use Rattle.engine.specs.declared.record.Record.{Record}
