@@ -2,9 +2,11 @@
 
 ghost use Rattle.std.specs.Prelude.{◌≡◌, ◌+◌, ◌<◌, OnOk, OnErr};
 
-use crate::trouble::Trouble;
+use crate::trouble::{Trouble, check};
 use arrayvec::ArrayVec;
-use dmatypes::{Access, Fault, LEAST_TABLE_FRAMES, MOST_CALLS, MOST_SEGMENTS, Mode, Segment, Whim};
+use dmatypes::{
+    Access, Fault, LEAST_TABLE_FRAMES, MOST_CALLS, MOST_SEGMENTS, Mode, Progress, Segment, Whim,
+};
 use engine::State;
 use std::alloc::Global;
 
@@ -69,6 +71,21 @@ impl Driver {
     pub(crate) fn flush(&mut self) -> Result<u64, Trouble> {
         count(&mut self.made)?;
         Ok(self.state.flush(self.domain)?)
+    }
+
+    /// Begins a flush of the domain, lets the unit do its two descriptors, and reaps it: how many retired records there were.
+    pub(crate) fn flush_in_two_halves(&mut self) -> Result<u64, Trouble> {
+        count(&mut self.made)?;
+        let number = self.state.begin(self.domain)?;
+        count(&mut self.made)?;
+        check(self.state.unit_step() == Progress::Did)?;
+        count(&mut self.made)?;
+        check(self.state.unit_step() == Progress::Did)?;
+        count(&mut self.made)?;
+        match self.state.reap(self.domain, number)? {
+            Some(released) => Ok(released),
+            None => Err(Trouble::Wrong),
+        }
     }
 
     /// Unmaps so many pages from a byte address on, and answers how many retired records went for it.

@@ -13,6 +13,7 @@ mod program;
 mod request;
 mod reusing;
 mod scripting;
+mod storming;
 mod subject;
 mod taking;
 mod timing;

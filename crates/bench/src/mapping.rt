@@ -118,11 +118,21 @@ impl Work for Splitting {
     }
 }
 
+/// How a lazy domain is flushed.
+#[derive(Clone, Copy)]
+pub(crate) enum Flushing {
+    /// By one call, which runs the unit.
+    AtOnce,
+    /// Begun, done by two steps of the unit, and reaped.
+    InTwoHalves,
+}
+
 /// Maps one page into a lazy domain and unmaps it, and flushes once so many pages are put off. No page is handed out
 /// again before that.
 #[derive(Drop)]
 pub(crate) struct Deferred {
     driver: Driver,
+    flushing: Flushing,
     put_off: u64,
     most: u64,
     ghost few: { put_off < MOST_RECORDS },
@@ -130,9 +140,10 @@ pub(crate) struct Deferred {
 
 impl Deferred {
     /// So many pages are put off before a flush: at least one, and at most as many as a domain keeps.
-    pub(crate) fn new(alloc: Global, most: u64) -> Result<Deferred, Trouble> {
+    pub(crate) fn new(alloc: Global, most: u64, flushing: Flushing) -> Result<Deferred, Trouble> {
         Ok(Deferred {
             driver: Driver::new(alloc, Mode::Lazy)?,
+            flushing,
             put_off: 0,
             most,
         })
@@ -151,6 +162,10 @@ impl Work for Deferred {
         }
         let put_off = self.put_off + 1;
         self.put_off = 0;
-        check(self.driver.flush()? == put_off)
+        let released = match self.flushing {
+            Flushing::AtOnce => self.driver.flush()?,
+            Flushing::InTwoHalves => self.driver.flush_in_two_halves()?,
+        };
+        check(released == put_off)
     }
 }

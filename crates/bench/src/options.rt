@@ -18,7 +18,7 @@ several turns, and has the least and the median of them.
 Exit status: 0 done; 1 output or the clock failed, or an answer is wrong; 2 a
 bad command line; 3 no memory.";
 
-/// The most rounds: a state takes 1,048,576 calls, and a round makes four at most.
+/// The most rounds: a history has room for 1,048,576 calls, and a round makes four at most.
 const MOST_ROUNDS: i64 = 250_000;
 
 /// The most turns of a line.

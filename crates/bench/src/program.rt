@@ -128,7 +128,12 @@ fn measure_all<C: Clock + Wait + Threads + Sync, W: Write>(
             continue;
         }
         match turns(clock, alloc, rounds, options.turns, subject) {
-            Ok((least, median)) => write_row(output, subject.name, least, median)?,
+            Ok((least, median)) => {
+                write_row(output, subject.name, least, median)?;
+                if let Some((calls, hits)) = subject.in_a_second(least) {
+                    writeln!(output, "    in a second: {calls} calls, {hits} hits")?;
+                }
+            }
             Err(trouble) => return Err(Failure::Subject(subject.name, trouble)),
         }
     }

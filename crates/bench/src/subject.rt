@@ -5,10 +5,11 @@ use crate::driver::UNALIGNED_FRAME;
 use crate::hitting::{Hits, time_hits};
 use crate::loading::time_loads;
 use crate::managing::{Way, time_manager};
-use crate::mapping::{Deferred, Listing, Mapping, Shape, Splitting};
+use crate::mapping::{Deferred, Flushing, Listing, Mapping, Shape, Splitting};
 use crate::request::Request;
 use crate::reusing::{Bursts, Freed, Holes, Reusing, Sizes};
 use crate::scripting::{Lines, time_script};
+use crate::storming::time_storm;
 use crate::taking::Taking;
 use crate::timing::{Tenths, time};
 use crate::trouble::Trouble;
@@ -34,7 +35,7 @@ enum Kind {
     MapCrowded,
     Split,
     // With a flush after so many rounds.
-    MapLazily(u64),
+    MapLazily(u64, Flushing),
     // Behind so many live pieces.
     Take(u32),
     // While so many ranges are live.
@@ -50,6 +51,8 @@ enum Kind {
     Load(u32),
     Hit(Hits),
     Script(Lines),
+    // Of so many drivers, and as many devices.
+    Storm(u64),
 }
 
 // A device whose port doesn't hit.
@@ -57,7 +60,7 @@ const LAST_DEVICE: u64 = DEVICES - 1;
 
 /// All that is measured, in the table's order. The maps begin at frames behind the table frames; leaves of 2 MiB
 /// come where the frame is a multiple of a span's pages.
-pub(crate) const SUBJECTS: [Subject; 50] = [
+pub(crate) const SUBJECTS: [Subject; 55] = [
     Subject {
         name: "map and unmap 1 page",
         kind: Kind::Map(Shape {
@@ -117,11 +120,15 @@ pub(crate) const SUBJECTS: [Subject; 50] = [
     },
     Subject {
         name: "map and unmap lazily, 256 a flush",
-        kind: Kind::MapLazily(256),
+        kind: Kind::MapLazily(256, Flushing::AtOnce),
+    },
+    Subject {
+        name: "map and unmap lazily, 256 a flush in two halves",
+        kind: Kind::MapLazily(256, Flushing::InTwoHalves),
     },
     Subject {
         name: "map and unmap lazily, 16 a flush",
-        kind: Kind::MapLazily(16),
+        kind: Kind::MapLazily(16, Flushing::AtOnce),
     },
     Subject {
         name: "take and release behind 16 live pieces",
@@ -335,9 +342,35 @@ pub(crate) const SUBJECTS: [Subject; 50] = [
         name: "a script's line: lazy, 4 pairs a flush",
         kind: Kind::Script(Lines::LazyPairs),
     },
+    Subject {
+        name: "a storm's call: 1 driver, 1 device",
+        kind: Kind::Storm(1),
+    },
+    Subject {
+        name: "a storm's call: 2 drivers, 2 devices",
+        kind: Kind::Storm(2),
+    },
+    Subject {
+        name: "a storm's call: 4 drivers, 4 devices",
+        kind: Kind::Storm(4),
+    },
+    Subject {
+        name: "a storm's call: 8 drivers, 8 devices",
+        kind: Kind::Storm(8),
+    },
 ];
 
 impl Subject {
+    /// For a storm whose calls take so much each: how many calls a second they are, and how many hits its devices make in it.
+    pub(crate) fn in_a_second(&self, call: Tenths) -> Option<(u128, u128)> {
+        let Kind::Storm(drivers) = self.kind else {
+            return None;
+        };
+        let calls = call.in_a_second()?;
+        let devices = drivers as u128;
+        Some((calls, calls * devices / (2 * devices + 1)))
+    }
+
     /// What each of so many rounds takes by the clock. What is measured is made anew for them.
     pub(crate) fn measure<C: Clock + Wait + Threads + Sync>(
         &self,
@@ -350,7 +383,9 @@ impl Subject {
             Kind::MapList => time(clock, rounds, &mut Listing::new(alloc)?),
             Kind::MapCrowded => time(clock, rounds, &mut Crowded::new(alloc)?),
             Kind::Split => time(clock, rounds, &mut Splitting::new(alloc)?),
-            Kind::MapLazily(most) => time(clock, rounds, &mut Deferred::new(alloc, most)?),
+            Kind::MapLazily(most, flushing) => {
+                time(clock, rounds, &mut Deferred::new(alloc, most, flushing)?)
+            }
             Kind::Take(live) => time(clock, rounds, &mut Taking::new(alloc, live)?),
             Kind::Reuse(live, freed, sizes) => {
                 let mut reusing = Reusing::new(alloc, live, freed, sizes)?;
@@ -364,6 +399,7 @@ impl Subject {
             Kind::Load(threads) => time_loads(clock, alloc, rounds, threads),
             Kind::Hit(hits) => time_hits(clock, alloc, rounds, hits),
             Kind::Script(lines) => time_script(clock, alloc, rounds, lines),
+            Kind::Storm(drivers) => time_storm(clock, alloc, rounds, drivers),
         }
     }
 }

@@ -1,6 +1,6 @@
 //! Time: what is done again and again, and what each round of it takes.
 
-ghost use Rattle.std.specs.Prelude.{◌≡◌, ◌*◌, ◌/◌};
+ghost use Rattle.std.specs.Prelude.{◌≡◌, ◌≤◌, ◌*◌, ◌/◌, IfSome};
 ghost use Rattle.std.specs.Duration.{as_nanos};
 ghost use Rattle.std.specs.NonZero.{non_zero_u32_get};
 
@@ -13,6 +13,9 @@ pub(crate) trait Work {
     /// Does it once. An answer that isn't what it must be is an error.
     fn once(&mut self) -> Result<(), Trouble>;
 }
+
+// A second, in tenths of a nanosecond.
+const SECOND: u128 = 10_000_000_000;
 
 /// What a round takes, in tenths of a nanosecond, rounded down.
 #[derive(Clone, Copy, Debug, Default, PartialEq, Eq, PartialOrd, Ord)]
@@ -27,6 +30,16 @@ impl Tenths {
     /// The tenths beyond them, 0 to 9.
     pub(crate) fn rest(self) -> u128 {
         self.0 % 10
+    }
+
+    /// How many such rounds a second has; none where a round takes less than a tenth of a nanosecond.
+    pub(crate) fn in_a_second(self) -> Option<u128>
+        ensures { IfSome result (λ rounds. rounds ≤ SECOND) }
+    {
+        if self.0 == 0 {
+            return None;
+        }
+        Some(SECOND / self.0)
     }
 }
 

@@ -6,6 +6,7 @@ use dmatypes::Refusal;
 use iova::{RetireError, TakeError};
 use std::alloc::AllocError;
 use std::io;
+use storm::StormError;
 use tables::NoFrames;
 use thiserror::Error;
 
@@ -60,6 +61,15 @@ impl From<TakeError> for Trouble {
 impl From<RetireError> for Trouble {
     fn from(_: RetireError) -> Trouble {
         Trouble::Refused
+    }
+}
+
+impl From<StormError> for Trouble {
+    fn from(error: StormError) -> Trouble {
+        match error {
+            StormError::NoMemory => Trouble::NoMemory,
+            StormError::NoThread => Trouble::NoThread,
+        }
     }
 }
 

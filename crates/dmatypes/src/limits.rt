@@ -15,6 +15,9 @@ pub const MOST_SEGMENTS: usize = 16;
 /// The most retired records of a domain.
 pub const MOST_RECORDS: u64 = 256;
 
+/// The most tickets that are open, over all domains.
+pub const MOST_TICKETS: u64 = 64;
+
 /// The most bytes of a script's line, its newline left out.
 pub const LONGEST_LINE: usize = 512;
 

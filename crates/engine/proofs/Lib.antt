@@ -8,3 +8,4 @@ pub mod caches
 pub mod maps
 pub mod unmaps
 pub mod flushes
+pub mod tickets

@@ -2,7 +2,7 @@
 -- free.
 use Rattle.std.specs.Prelude.{◌≡◌, ◌≢◌, ◌↔◌, ℕ, ◌+◌, ◌-◌, ◌%◌, ◌^◌, ◌<◌, ◌≤◌, ◌⊎◌, ◌++◌, Bool, true, false, IsTrue, not, ◌&&◌, List, []}
 use Rattle.std.specs.Prelude.{◌∷◌, length}
-use Rattle.std.specs.Prelude.{reverse, take, Option, Some, Result, Ok, Err}
+use Rattle.std.specs.Prelude.{filter, nat_lt, reverse, take, Option, None, Some, Result, Ok, Err}
 use Rattle.dmatypes.specs.declared.limits.TheConstants.{MOST_RECORDS, MOST_STEPS}
 use Rattle.dmatypes.specs.Block.{Block, Holds, IsAligned}
 use Rattle.dmatypes.specs.Page.{Range, IsWithin}
@@ -18,7 +18,7 @@ use Rattle.iova.specs.declared.piece.PageState.TheVariants.{Free, Live, Retired}
 use Rattle.iova.specs.declared.piece.Piece.{Piece}
 use Rattle.iova.specs.Pieces.{AllIn, piece_of, state_at}
 use Rattle.iova.specs.Space.{Space, IsSpace, IsTooMany, MayRetire}
-use Rattle.queue.specs.Ring.{ring_of}
+use Rattle.queue.specs.Ring.{ring_of, with_last}
 use Rattle.queue.specs.declared.ring.TheConstants.Ring.{CAPACITY}
 use Rattle.tables.specs.Changes.{IsApart, TakesAndGivesFrames, TreeStays, UnmapsPages}
 use Rattle.tables.specs.Lacks.{leaves_splitting}
@@ -131,6 +131,16 @@ pub record Invalidates (old : Iommu) (d : Descriptor) (seen : Option Shown) (new
   pub contexts : new.contexts ≡ old.contexts
   pub shown : new.shown ≡ seen
 
+-- a descriptor that names the domain and then a wait wait last, and nothing is taken. Nothing is shown of the domain: nothing
+-- comes free by it alone
+abbrev pub Begins : Iommu → ℕ → Iommu → Type 0
+Begins old domain new =
+    new ≡ record old {
+      ring = with_last (Wait (status_of (old.sent + 1))) (with_last (IotlbDomain domain) old.ring);
+      sent = old.sent + 1;
+      shown = None;
+    }
+
 -- ---- what comes free
 
 -- the pages of a record, and the table frames that were cut with them
@@ -182,6 +192,15 @@ pub record Flushes (old : Parts) (id : ℕ) (new : Parts) : Type 0 where
   pub invalidates : Invalidates old.iommu (IotlbDomain id) (domain_shown old.pool old.domain) new.iommu
   pub releases : ReleasesAll old.pool old.domain.space old.domain.records new.pool new.domain.space
   pub same : new.domain ≡ record old.domain { space = new.domain.space; records = [] }
+
+-- a record was there before the flush of this number was begun
+abbrev pub was_before : ℕ → Record → Bool
+was_before number r = nat_lt r.mark number
+
+-- the records that were there before the flush of this number was begun are released; the others are left
+pub record Reaps (pool : Pool) (old : Domain) (number : ℕ) (pool' : Pool) (new : Domain) : Type 0 where
+  pub releases : ReleasesAll pool old.space (filter (was_before number) old.records) pool' new.space
+  pub same : new ≡ record old { space = new.space; records = filter (λ r. not (was_before number r)) old.records }
 
 -- the tree of a root is gone: its frames are free and zeroed, and no other tree changed
 pub record Destroys (pool : Pool) (root : ℕ) (pool' : Pool) : Type 0 where

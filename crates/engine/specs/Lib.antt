@@ -6,6 +6,8 @@ pub mod Ready
 pub mod State
 pub mod Hits
 pub mod Quarantine
+pub mod Tickets
 pub mod Whole
 pub mod Steps
 pub mod Totals
+pub mod Walkable

@@ -19,6 +19,7 @@ use Rattle.vtdbits.specs.declared.context.ContextEntry.TheVariants.{Absent, Pres
 use Rattle.unit.specs.Caches.{Caches, CachedContext, CachedLeaf, CachedNonLeaf}
 use Rattle.unit.specs.Walking.{stated_by}
 use Rattle.engine.specs.declared.record.Record.{Record}
+use Rattle.engine.specs.declared.ticket.Ticket.{Ticket}
 use Rattle.engine.specs.Domains.{Domain, held_in, domain_at}
 use Rattle.engine.specs.State.{State}
 
@@ -149,6 +150,12 @@ pub record PartsFrames (pool : Pool) (domains : ℕ → Option Domain) : Type 0 
   pub zeroed : (f : ℕ) → 0 < occurs f pool.free → IsZeroed pool.words f
   pub held : (d f : ℕ) (h : Domain) → domains d ≡ Some h → 0 < held_in h.records f → IsZeroed pool.words f
 
+-- ---- tickets
+
+-- a ticket as the world has it: its domain and number
+abbrev pub ticket_there : Ticket → world.Ticket
+ticket_there t = record { domain = t.domain; number = t.number }
+
 -- ---- all parts
 
 pub record Quarantine (m : State) (w : World) : Type 0 where
@@ -157,7 +164,7 @@ pub record Quarantine (m : State) (w : World) : Type 0 where
   pub caches : AreLawful m w m.iommu.unit.caches
   pub contexts : Attaches m w
   pub frames : PartsFrames m.pool (domain_at m.domains)
-  pub tickets : w.tickets ≡ []
+  pub tickets : w.tickets ≡ map ticket_there m.tickets
 
 -- it is the state of some world
 abbrev pub IsOfSomeWorld : State → Type 0

@@ -1,4 +1,5 @@
 -- What contracts see of the state.
+use Rattle.std.specs.Prelude.{◌≢◌, ◌==◌, ◌&&◌, ◌++◌, ◌∷◌, Bool, filter, not}
 use Rattle.std.specs.Prelude.{◌≡◌, ℕ, ◌+◌, ◌-◌, ◌/◌, ◌<◌, ◌≤◌, List, [], replicate, IsSomeAnd, Option, None, Some, length, slice_get}
 use Rattle.std.specs.Prelude.{slice_set, Result, Ok, Err, IfOk, IsTrue}
 use Rattle.dmatypes.specs.declared.call.Call.{Call}
@@ -8,6 +9,9 @@ use Rattle.dmatypes.specs.declared.refusal.Refusal.{Refusal}
 use Rattle.dmatypes.specs.declared.refusal.Refusal.TheVariants as refusals
 use Rattle.dmatypes.specs.declared.reply.Reply.{Reply}
 use Rattle.dmatypes.specs.declared.reply.Reply.TheVariants.{Made, Done, Mapped, Unmapped, Flushed, Host, Faulted, Refused}
+use Rattle.dmatypes.specs.declared.reply.Reply.TheVariants.{Pending, Reaped, Stepped}
+use Rattle.dmatypes.specs.declared.reply.Progress.TheVariants.{Did, Idle}
+use Rattle.dmatypes.specs.World.{IsIn}
 use Rattle.dmatypes.specs.declared.limits.TheConstants.{DEVICES, MOST_DOMAINS}
 use Rattle.dmatypes.specs.declared.page.TheConstants.{PAGE_BYTES}
 use Rattle.dmatypes.specs.declared.width.Width.TheVariants.{W39}
@@ -16,6 +20,7 @@ use Rattle.tables.specs.Pool.{Pool, memory, occurs, IsZeroed}
 use Rattle.tables.specs.Tree.{one_if_same}
 use Rattle.unit.specs.Answers.{Answers, IsRemembered}
 use Rattle.unit.specs.Caches.{nothing, unit_state, without}
+use Rattle.unit.specs.Filters.{after_first, done_after, left_by_first}
 use Rattle.unit.specs.declared.hit.Hit.{Hit}
 use Rattle.vtdbits.specs.declared.context.ContextEntry.TheVariants.{Absent, Present}
 use Rattle.dmatypes.specs.Conditions.{total_pages}
@@ -24,15 +29,20 @@ use Rattle.dmatypes.specs.declared.call.Segment.{Segment}
 use Rattle.tables.specs.Segments.{one_segment}
 use Rattle.vtdbits.specs.declared.descriptor.Descriptor.TheVariants.{ContextDevice}
 use Rattle.engine.specs.declared.iommu.Iommu.{Iommu}
-use Rattle.engine.specs.Ending.{Closes, EndsBy, Flushes, Invalidates, IsJudgedEnd}
+use Rattle.engine.specs.declared.ticket.Ticket.{Ticket}
+use Rattle.engine.specs.Ending.{Begins, Closes, EndsBy, Flushes, Invalidates, IsJudgedEnd, Reaps}
+use Rattle.engine.specs.Ready.{last_done}
 use Rattle.engine.specs.Domains.{Domain, Parts, domain_at, new_domain, parts_of}
 use Rattle.engine.specs.Placing.{IsCrowded, IsShort, IsTaken, Placement, Places, frames_taken}
 
--- the table frames, domains 1 to 15, the row of context entries with the ring and the unit, and how many calls were made
+-- the table frames, domains 1 to 15, the row of context entries with the ring and the unit, the flushes that were begun and
+-- not reaped, and how many calls were made. The world has a `Ticket` too, without the number of its wait: where a file
+-- speaks of both, that one is `world.Ticket`
 pub record State : Type 0 where
   pub pool : Pool
   pub domains : List (Option Domain)
   pub iommu : Iommu
+  pub tickets : List Ticket
   pub calls : ℕ
 
 -- all table frames are free and zeroed; there is no domain and no device, nothing waits and nothing is remembered
@@ -47,8 +57,21 @@ pub record IsNew (frames : ℕ) (m : State) : Type 0 where
   pub ring_is : m.iommu.ring ≡ ring_of [] 0 []
   pub unit_is : m.iommu.unit ≡ unit_state nothing 0 0
   pub sent_is : m.iommu.sent ≡ 0
+  pub tickets_are : m.tickets ≡ []
   pub calls_are : m.calls ≡ 0
   pub shown_is : m.iommu.shown ≡ None
+
+-- it is the ticket of this domain and number
+abbrev pub is_ticket : ℕ → ℕ → Ticket → Bool
+is_ticket domain number t = domain == t.domain && number == t.number
+
+-- a ticket of this domain and number is open, with the property
+abbrev pub SomeTicket : State → ℕ → ℕ → (Ticket → Type 0) → Type 0
+SomeTicket m domain number P = (t : Ticket) × IsIn t m.tickets × (t.domain ≡ domain) × (t.number ≡ number) × P t
+
+-- a domain with one flush more begun
+abbrev pub begins : Domain → Domain
+begins h = record h { begun = h.begun + 1 }
 
 -- a map takes the lowest start
 abbrev pub IsExactMap : State → ℕ → List Segment → ℕ → Reply → Type 0
@@ -64,7 +87,8 @@ IsExactMap m domain segments order reply = Unit {0}
 -- what the model leaves open: a domain is refused for its root exactly where no frame is free; a map, which takes
 -- the lowest start, is refused for its pieces exactly where the range there cuts a piece and there are more than
 -- 1,022, and else for its frames exactly where more tables are lacking than frames are free; an unmap likewise, for
--- its frames where more leaves of 2 MiB are to be split
+-- its frames where more leaves of 2 MiB are to be split; a step of the unit finds nothing exactly where nothing waits, and a
+-- reap is answered that it is pending exactly where the ticket's wait isn't done
 unfoldable pub Exact : State → Call → Reply → Type 0
 Exact m (calls.Domain mode) (Made d) = 0 < length m.pool.free
 Exact m (calls.Domain mode) (Refused refusals.NoFrames) = length m.pool.free ≡ 0
@@ -76,6 +100,10 @@ Exact m (calls.Unmap domain address pages) (Refused refusals.TooManyPieces) =
     IsSomeAnd (domain_at m.domains domain) (λ h. IsJudgedEnd m.pool h (range_at address pages) (Err refusals.TooManyPieces))
 Exact m (calls.Unmap domain address pages) (Refused refusals.NoFrames) =
     IsSomeAnd (domain_at m.domains domain) (λ h. IsJudgedEnd m.pool h (range_at address pages) (Err refusals.NoFrames))
+Exact m calls.Unit (Stepped Idle) = m.iommu.ring.waiting ≡ []
+Exact m calls.Unit (Stepped Did) = m.iommu.ring.waiting ≢ []
+Exact m (calls.Reap domain number) Pending = SomeTicket m domain number (λ t. last_done m.iommu < t.wait)
+Exact m (calls.Reap domain number) (Reaped released) = SomeTicket m domain number (λ t. t.wait ≤ last_done m.iommu)
 Exact m call (Refused refusals.NoFrames) = ⊥
 Exact m call reply = Unit {0}
 
@@ -117,7 +145,9 @@ parts_in m domain = parts_of m.pool domain m.iommu
 -- what becomes of the state: a new domain has a whole space and an empty tree, an attached device its entry, and a
 -- detached one none; a drop, a flush and an unmap change their domain, the table frames and the IOMMU, an unmap as it ends
 -- its range by the domain's mode; a request and an eviction what the unit remembers, and with a fill a context and a leaf
--- that state a request's answer are remembered then; nothing else changes, but for the count of calls
+-- that state a request's answer are remembered then; a begun flush sends its descriptor and its wait, and opens its ticket; a
+-- step of the unit does the oldest descriptor; a reap releases the records of its domain that were there when its flush was
+-- begun, and closes its ticket; nothing else changes, but for the count of calls
 unfoldable pub Becomes : State → Call → Reply → State → Type 0
 Becomes m (calls.Domain mode) (Made d) t =
     (root : ℕ) × TakesRoot m.pool t.pool root
@@ -162,6 +192,29 @@ Becomes m (calls.Evict kind place) Done t =
       iommu = record m.iommu { unit = unit_state (without kind place m.iommu.unit.caches) m.iommu.unit.steps m.iommu.unit.done };
       calls = m.calls + 1;
     }
+Becomes m (calls.Begin domain) (Reply.Ticket other number) t =
+    (h : Domain) × (domain_at m.domains domain ≡ Some h) × (number ≡ h.begun + 1) × (other ≡ domain) × Begins m.iommu domain t.iommu
+    × (t ≡ record (with_domain m domain (Some (begins h)) (record m { iommu = t.iommu })) {
+      tickets = m.tickets ++ record { domain = domain; number = number; wait = t.iommu.sent } ∷ [];
+    })
+Becomes m calls.Unit (Stepped progress) t =
+    t ≡ record m {
+      iommu = record m.iommu {
+        ring = after_first m.iommu.ring.waiting m.iommu.ring.status m.iommu.ring.taken;
+        unit = unit_state (left_by_first m.iommu.ring.waiting m.iommu.unit.caches) (m.iommu.unit.steps + 1)
+            (done_after m.iommu.ring.waiting m.iommu.unit.done);
+      };
+      calls = m.calls + 1;
+    }
+Becomes m (calls.Reap domain number) (Reaped released) t =
+    (old : Domain) × (new : Domain) × (domain_at m.domains domain ≡ Some old)
+    × Reaps m.pool old number t.pool new
+    × (t ≡ record m {
+      pool = t.pool;
+      domains = slice_set m.domains (domain - 1) (Some new);
+      tickets = filter (λ x. not (is_ticket domain number x)) m.tickets;
+      calls = m.calls + 1;
+    })
 Becomes m call reply t = t ≡ record m { calls = m.calls + 1 }
 
 -- ---- the methods' answers, as replies
@@ -185,6 +238,16 @@ unmapped_reply (Err r) = Refused r
 abbrev pub flushed_reply : Result ℕ Refusal → Reply
 flushed_reply (Ok n) = Flushed n
 flushed_reply (Err r) = Refused r
+
+abbrev pub begun_reply : ℕ → Result ℕ Refusal → Reply
+begun_reply domain (Ok number) = Reply.Ticket domain number
+begun_reply domain (Err r) = Refused r
+
+-- `None` where the ticket's wait isn't done
+abbrev pub reaped_reply : Result (Option ℕ) Refusal → Reply
+reaped_reply (Ok (Some n)) = Reaped n
+reaped_reply (Ok None) = Pending
+reaped_reply (Err r) = Refused r
 
 abbrev pub request_reply : Result (Result Hit Fault) Refusal → Reply
 request_reply (Ok answer) = reached_reply (host_in answer)

@@ -34,13 +34,13 @@ held_by_any (Some domain) = held_by domain.records
 abbrev pub held_by_all : List (Option Domain) → ℕ
 held_by_all domains = sum_by held_by_any domains
 
--- the table frames that are free, and that records hold; the others are used. No call opens a ticket yet
+-- the table frames that are free, and that records hold; the others are used
 abbrev pub totals_of : State → Totals
 totals_of m = record {
   free = length m.pool.free;
   used = m.pool.frames - length m.pool.free - held_by_all m.domains;
   held = held_by_all m.domains;
-  tickets = 0;
+  tickets = length m.tickets;
   pending = length m.iommu.ring.waiting;
 }
 

@@ -1,11 +1,11 @@
 -- What the type of a state keeps.
-use Rattle.std.specs.Prelude.{◌≡◌, ℕ, ◌+◌, ◌*◌, ◌≤◌, [], List, Option, None, Some, length, sum_by}
+use Rattle.std.specs.Prelude.{◌≡◌, ℕ, ◌+◌, ◌*◌, ◌≤◌, List, Option, None, Some, length, sum_by}
 use Rattle.dmatypes.specs.World.{IsIn}
 use Rattle.dmatypes.specs.declared.limits.TheConstants.{DEVICES, MOST_DOMAINS}
 use Rattle.engine.specs.Domains.{AreMadeBefore, Domain}
-use Rattle.engine.specs.Ending.{status_of}
 use Rattle.engine.specs.State.{State}
 use Rattle.engine.specs.Quarantine.{IsOfSomeWorld}
+use Rattle.engine.specs.Tickets.{KeepsTickets}
 
 -- how many domains there are
 abbrev pub one_if_there : Option Domain → ℕ
@@ -24,17 +24,21 @@ pub record HasRooms (rooms capacity : ℕ) (domains : List (Option Domain)) : Ty
 abbrev pub AllAreMade : State → Type 0
 AllAreMade m = (h : Domain) → IsIn (Some h) m.domains → AreMadeBefore (m.iommu.sent + 1) h.records
 
+-- no more flushes of a domain were begun than waits sent
+abbrev pub AllAreBegun : State → Type 0
+AllAreBegun m = (h : Domain) → IsIn (Some h) m.domains → h.begun ≤ m.iommu.sent
+
 -- it is a state of some world, with places for domains 1 to 15, the entries of devices 0 to 15 and so many table frames;
--- nothing waits between calls, and the last wait is done; no more waits were sent than calls made, and no more steps of the unit
--- made than three for each: two descriptors are sent by a call at most, and one step finds none; the next wait is sent after
--- all records of all domains were made
+-- only descriptors of tickets wait between calls; no more waits were sent than calls made, and no more steps of the unit made
+-- and left to make than three for each: two descriptors are sent by a call at most, and one step finds none; the next wait is
+-- sent after all records of all domains were made
 pub record IsWhole (frames : ℕ) (m : State) : Type 0 where
   pub of_world : IsOfSomeWorld m
   pub places : length m.domains ≡ MOST_DOMAINS
   pub devices : length m.iommu.contexts ≡ DEVICES
   pub frames_are : frames ≡ m.pool.frames
-  pub idle : m.iommu.ring.waiting ≡ []
-  pub status : m.iommu.ring.status ≡ status_of m.iommu.sent
+  pub tickets : KeepsTickets m
   pub sent : m.iommu.sent ≤ m.calls
-  pub steps : m.iommu.unit.steps ≤ 3 * m.calls
+  pub steps : m.iommu.unit.steps + length m.iommu.ring.waiting ≤ 3 * m.calls
+  pub begun : AllAreBegun m
   pub made : AllAreMade m

@@ -1,6 +1,6 @@
 //! A domain: its tree, its address space and its retired records.
 
-ghost use Rattle.std.specs.Prelude.{◌≡◌, ◌<◌, ◌≤◌, ◌+◌, ◌++◌, ◌∷◌, length, IfOk, IfErr, OnErr, Ok, [], vec_capacity};
+ghost use Rattle.std.specs.Prelude.{◌≡◌, ◌<◌, ◌≤◌, ◌+◌, ◌^◌, ◌++◌, ◌∷◌, filter, length, IfOk, IfErr, OnErr, Ok, [], vec_capacity};
 ghost use Rattle.dmatypes.specs.Conditions.{total_pages};
 ghost use Rattle.dmatypes.specs.Page.{Range};
 ghost use Rattle.dmatypes.specs.Rights.{bits_of};
@@ -11,14 +11,17 @@ ghost use Rattle.tables.specs.Pool.{IsTree};
 ghost use Rattle.vtdbits.specs.declared.descriptor.Descriptor.TheVariants.{IotlbDomain};
 ghost use Rattle.engine.specs.Domains.{AreMadeBefore, new_domain, parts_of};
 ghost use Rattle.engine.specs.Ending.{Closes, Destroys, Flushes, IsJudgedEnd, IsUnmapped, MakesRoom, PutsOff, Releases, ReleasesAll};
-ghost use Rattle.engine.specs.Ending.{RetiresAndUnmaps, UnmapsStrictly};
+ghost use Rattle.engine.specs.Ending.{Reaps, RetiresAndUnmaps, UnmapsStrictly, was_before};
+ghost use Rattle.engine.specs.State.{begins};
 ghost use Rattle.engine.specs.Judged.{AreMappable};
 ghost use Rattle.engine.specs.Placing.{CanPlace, IsUnplaced, Places};
 ghost use Rattle.engine.specs.Ready.{AreInvalidated, AreReleasable, CanCut, CanUnmap, IsDone, IsInvalidated, IsReady, IsReleasable};
+ghost use Rattle.engine.specs.Ready.{last_done};
 
 use crate::iommu::Iommu;
 use crate::record::Record;
 use crate::room::Room;
+use crate::ticket::Ticket;
 use crate::wanted::Wanted;
 use dmatypes::{Frame, MOST_RECORDS, Mode, PageRange, Refusal, Segment};
 use iova::{RetireError, Space, TakeError};
@@ -210,6 +213,34 @@ impl Domain {
         released
     }
 
+    /// Counts one begun flush more, and answers how many there are then.
+    pub(crate) fn begin(&mut self) -> u64
+        requires { self.old.begun + 1 < 2 ^ 64 }
+        ensures begins { self.new ≡ begins self.old }
+        ensures number { result ≡ self.old.begun + 1 }
+    {
+        self.begun += 1;
+        self.begun
+    }
+
+    /// Releases the records that were there before the ticket's flush was begun, and answers how many. Its wait is done.
+    pub(crate) fn reap(&mut self, pool: &mut Pool, iommu: &Iommu, ticket: Ticket) -> u64
+        requires can { CanUnmap pool.old self.old }
+        requires done { ticket.wait ≤ last_done iommu.now }
+        ensures reaps { Reaps pool.old self.old ticket.number pool.new self.new }
+        ensures count { result ≡ length (filter (was_before ticket.number) self.old.records) }
+    {
+        let released = release_before(
+            &mut self.space,
+            pool,
+            iommu,
+            &ticket,
+            self.records.as_slice(),
+        );
+        self.records.retain(|record| record.mark >= ticket.number);
+        released
+    }
+
     /// Ends the domain with all its pages, gives all its table frames back, and leaves its room.
     pub(crate) fn close(mut self, pool: &mut Pool, iommu: &mut Iommu, id: DomainId) -> Room
         requires can { CanUnmap pool.old self }
@@ -289,8 +320,57 @@ pub(crate) fn release(
     ensures retirable { (other : Range) → MayRetire space.old.pieces other → MayRetire space.new.pieces other }
     ensures more { length pool.old.free ≤ length pool.new.free }
 {
+    put_back(space, pool, retired);
+}
+
+// Makes the pages of a retired record free, and gives the table frames back that were cut with them.
+#[inline(always)]
+fn put_back(space: &mut Space, pool: &mut Pool, retired: &Record)
+    requires { IsReleasable pool.old space.old retired.now }
+    ensures released { Releases pool.old space.old retired.now pool.new space.new }
+    ensures retirable { (other : Range) → MayRetire space.old.pieces other → MayRetire space.new.pieces other }
+    ensures more { length pool.old.free ≤ length pool.new.free }
+{
     space.release(retired.range);
     pool.give_back(retired.cut.frames());
+}
+
+/// Releases the pages of a retired record that was there before the ticket's flush was begun, and the table frames that were
+/// cut with them, in the same way. Its wait is done: before it the unit forgot all that it remembered of the domain, and it
+/// can't have met what is retired since.
+#[inline(always)]
+fn release_by(space: &mut Space, pool: &mut Pool, iommu: &Iommu, ticket: &Ticket, retired: &Record)
+    requires can { IsReleasable pool.old space.old retired.now }
+    requires before { retired.now.mark < ticket.now.number }
+    requires done { ticket.now.wait ≤ last_done iommu.now }
+    ensures released { Releases pool.old space.old retired.now pool.new space.new }
+    ensures retirable { (other : Range) → MayRetire space.old.pieces other → MayRetire space.new.pieces other }
+    ensures more { length pool.old.free ≤ length pool.new.free }
+{
+    put_back(space, pool, retired);
+}
+
+// Releases those of the records that were there before the ticket's flush was begun, and answers how many.
+fn release_before(
+    space: &mut Space,
+    pool: &mut Pool,
+    iommu: &Iommu,
+    ticket: &Ticket,
+    records: &[Record],
+) -> u64
+    requires can { AreReleasable pool.old space.old records.now }
+    requires done { ticket.now.wait ≤ last_done iommu.now }
+    ensures released { ReleasesAll pool.old space.old (filter (was_before ticket.now.number) records.now) pool.new space.new }
+    ensures count { result ≡ length (filter (was_before ticket.now.number) records.now) }
+{
+    let mut released = 0;
+    for record in records {
+        if record.mark < ticket.number {
+            release_by(space, pool, iommu, ticket, record);
+            released += 1;
+        }
+    }
+    released
 }
 
 /// Destroys the tree of a domain: its table frames are given back. The unit has done the last wait, and before it the

@@ -1,20 +1,22 @@
 //! The row of context entries, the ring and the unit that reads both, as the manager uses them.
 
-ghost use Rattle.std.specs.Prelude.{◌≡◌, ◌≢◌, ℕ, ◌+◌, ◌≤◌, ◌^◌, ◌++◌, ◌∷◌, [], None, Some, length, replicate, slice_get};
+ghost use Rattle.std.specs.Prelude.{◌≡◌, ◌≢◌, ◌↔◌, ℕ, ◌+◌, ◌<◌, ◌≤◌, ◌^◌, ◌++◌, ◌∷◌, [], None, Some, length, replicate, slice_get};
 ghost use Rattle.dmatypes.specs.declared.limits.TheConstants.{DEVICES, MOST_STEPS};
 ghost use Rattle.dmatypes.specs.declared.width.TheConstants.{LEVELS};
 ghost use Rattle.tables.specs.Pool.{IsTree};
-ghost use Rattle.engine.specs.Ending.{Invalidates, IsSent, left_by_all, record_shown, shown_of, status_of, taken_after};
-ghost use Rattle.engine.specs.Ready.{AreReleasable, IsCleared, IsReady, IsReleasable, NoneWrites};
+ghost use Rattle.dmatypes.specs.declared.reply.Progress.{Progress};
+ghost use Rattle.queue.specs.declared.ring.TheConstants.Ring.{CAPACITY};
+ghost use Rattle.engine.specs.Ending.{Begins, Invalidates, IsSent, left_by_all, record_shown, shown_of, status_of, taken_after};
+ghost use Rattle.engine.specs.Ready.{AreReleasable, IsCleared, IsReady, IsReleasable, NoneWrites, last_done};
 ghost use Rattle.queue.specs.Ring.{ring_of};
 ghost use Rattle.unit.specs.Caches.{nothing, unit_state};
-ghost use Rattle.unit.specs.Filters.{status_after};
+ghost use Rattle.unit.specs.Filters.{after_first, done_after, left_by_first, status_after};
 ghost use Rattle.vtdbits.specs.declared.descriptor.Descriptor.{Descriptor};
 ghost use Rattle.vtdbits.specs.declared.descriptor.Descriptor.TheVariants.{ContextDevice, IotlbDomain, Wait};
 
 use crate::record::Record;
 use crate::sending::descriptor_of;
-use dmatypes::{Frame, PageRange};
+use dmatypes::{Frame, PageRange, Progress};
 use iova::Space;
 use queue::Ring;
 use tables::{Pool, Tree};
@@ -71,6 +73,26 @@ impl Iommu {
             unit: Unit::new(),
             sent: 0,
             shown: None,
+        }
+    }
+
+    // The same, as after so many waits that are all done.
+    #[cfg(test)]
+    pub(crate) fn after(waits: u64) -> Iommu
+        ensures { result ≡ record {
+          contexts = replicate DEVICES ContextEntry.Absent;
+          ring = ring_of [] (status_of waits) [];
+          unit = unit_state nothing 0 0;
+          sent = waits;
+          shown = None;
+        } }
+    {
+        let mut ring = Ring::new();
+        ring.complete(status_of(waits));
+        Iommu {
+            ring,
+            sent: waits,
+            ..Iommu::new()
         }
     }
 
@@ -142,6 +164,42 @@ impl Iommu {
         ensures { Invalidates self.old (ContextDevice domain device) None self.new }
     {
         self.send(Descriptor::ContextDevice { domain, device }, None);
+    }
+
+    /// Begins to have the unit forget all that it remembers of a domain: sends the descriptor and then a wait, whose number it
+    /// answers, and doesn't run the unit.
+    pub(crate) fn begin(&mut self, domain: DomainId) -> u64
+        requires room { length self.old.ring.waiting + 2 ≤ CAPACITY }
+        requires few { self.old.sent + 1 < 2 ^ 64 }
+        ensures begins { Begins self.old domain self.new }
+        ensures number { result ≡ self.new.sent }
+    {
+        self.sent += 1;
+        self.shown = None;
+        let _ = self.ring.submit(Descriptor::IotlbDomain(domain));
+        let _ = self.ring.submit(Descriptor::Wait(status_of(self.sent)));
+        self.sent
+    }
+
+    /// Lets the unit make one step.
+    pub(crate) fn step(&mut self) -> Progress
+        requires { self.old.unit.steps < 2 ^ 63 }
+        ensures idle { (result ≡ Progress.Idle) ↔ (self.old.ring.waiting ≡ []) }
+        ensures steps { self.new ≡ record self.old {
+          ring = after_first self.old.ring.waiting self.old.ring.status self.old.ring.taken;
+          unit = unit_state (left_by_first self.old.ring.waiting self.old.unit.caches) (self.old.unit.steps + 1)
+              (done_after self.old.ring.waiting self.old.unit.done);
+        } }
+    {
+        self.unit.step(&mut self.ring)
+    }
+
+    /// The number of the last wait that is done: as many were sent behind it as the status is behind the last one's.
+    pub(crate) fn last_done(&self) -> u64
+        ensures { result ≡ last_done self.now }
+    {
+        let behind = self.sent % STATUSES + STATUSES - self.ring.status() as u64;
+        self.sent.saturating_sub(behind % STATUSES)
     }
 
     // Sends a descriptor that is no wait and then a wait, and runs the unit until the wait is done.

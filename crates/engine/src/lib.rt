@@ -9,6 +9,7 @@ mod request;
 mod room;
 mod sending;
 mod state;
+mod ticket;
 mod wanted;
 
 pub use state::{Answer, DomainTotals, State, Totals};

@@ -1,6 +1,6 @@
 //! Which descriptor an unmap sends.
 
-ghost use Rattle.std.specs.Prelude.{◌≡◌, ◌<◌, ◌^◌};
+ghost use Rattle.std.specs.Prelude.{◌≡◌, ◌<◌};
 ghost use Rattle.dmatypes.specs.Block.{block};
 ghost use Rattle.vtdbits.specs.declared.number.TheConstants.{WIDE_PAGES_END};
 ghost use Rattle.engine.specs.Ending.{IsBlockOf, IsSent, hint_of};

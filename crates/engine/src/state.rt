@@ -1,6 +1,6 @@
 //! The sequential manager, one method a call.
 
-ghost use Rattle.std.specs.Prelude.{◌≡◌, ◌+◌, ◌%◌, ◌<◌, ◌≤◌, ◌^◌, ◌==◌, ℕ, IfOk, IfSome, IfNone, IsSomeAnd, length, slice_get, replicate};
+ghost use Rattle.std.specs.Prelude.{◌≡◌, ◌+◌, ◌%◌, ◌<◌, ◌≤◌, ◌==◌, ℕ, IfOk, IfSome, IfNone, length, slice_get, replicate};
 ghost use Rattle.std.specs.Prelude.{vec_capacity, vec_len, Some, None, IsSome, IsFalse, IsTrue, ◌↔◌};
 ghost use Rattle.dmatypes.specs.Conditions.{IsBadUnmap};
 ghost use Rattle.dmatypes.specs.Page.{IsInWindow, IsPageRange, range_at};
@@ -21,10 +21,11 @@ use crate::domain::Domain;
 use crate::iommu::Iommu;
 use crate::request::judge;
 use crate::room::Room;
+use crate::ticket::Ticket;
 use arrayvec::ArrayVec;
 use dmatypes::{
-    Access, Cache, DEVICES, Fault, MOST_DOMAINS, MOST_SEGMENTS, Mode, PAGE_BYTES, PageRange,
-    Refusal, Reply, Segment, WINDOW_FIRST, WINDOW_LAST, Whim, Width,
+    Access, Cache, DEVICES, Fault, MOST_DOMAINS, MOST_SEGMENTS, MOST_TICKETS, Mode, PAGE_BYTES,
+    PageRange, Refusal, Reply, Segment, WINDOW_FIRST, WINDOW_LAST, Whim, Width,
 };
 use std::alloc::{AllocError, Global};
 use std::marker::Model;
@@ -33,10 +34,18 @@ use unit::{Contexts, Hit};
 use vtdbits::{ContextEntry, DeviceNumber, DomainId};
 
 mod attachments;
+mod flushing;
 mod performing;
+#[cfg(test)]
+mod tests;
 mod totals;
+mod walkable;
 
+use flushing::has_ticket;
 pub use totals::{DomainTotals, Totals};
+
+// The places for tickets.
+const TICKETS: usize = MOST_TICKETS as usize;
 
 /// What a call answers: its reply, and what a request that reached a host address was answered.
 #[derive(Clone, Copy, Debug, PartialEq, Eq)]
@@ -46,13 +55,14 @@ pub struct Answer {
 }
 
 /// Table frames, domains and the rooms of those that aren't there, the row of context entries with the ring and the unit,
-/// and the number of calls made. Its type keeps that it is a state of some world.
+/// the tickets of begun flushes, and the number of calls made. Its type keeps that it is a state of some world.
 #[derive(Drop)]
 pub struct State {
     pool: Pool,
     domains: Vec<Option<Domain>>,
     rooms: Vec<Room>,
     iommu: Iommu,
+    tickets: ArrayVec<Ticket, TICKETS>,
     calls: u64,
 }
 
@@ -63,9 +73,10 @@ impl Model for State {
 
     ghost Value = { State };
 
-    ghost view = { λ s. record { pool = s.pool; domains = s.domains.items; iommu = s.iommu; calls = s.calls } };
+    ghost view = { λ s. record { pool = s.pool; domains = s.domains.items; iommu = s.iommu; tickets = s.tickets.items; calls = s.calls } };
 
-    ghost invariant = { λ s. IsWhole s.pool.frames (record { pool = s.pool; domains = s.domains.items; iommu = s.iommu; calls = s.calls })
+    ghost invariant = { λ s. IsWhole s.pool.frames
+        (record { pool = s.pool; domains = s.domains.items; iommu = s.iommu; tickets = s.tickets.items; calls = s.calls })
         × HasRooms (vec_len s.rooms) (vec_capacity s.rooms) s.domains.items };
 }
 
@@ -82,6 +93,7 @@ impl State {
             domains: no_domains(alloc)?,
             rooms: all_rooms(alloc)?,
             iommu: Iommu::new(),
+            tickets: ArrayVec::new(),
             calls: 0,
         })
     }
@@ -151,8 +163,8 @@ impl State {
         Ok(())
     }
 
-    /// Ends a domain to which no device is attached, with all its pages, and gives all its table frames back. Refuses
-    /// with `NoDomain`, or `Busy` where a device is attached.
+    /// Ends a domain to which no device is attached and of which no ticket is open, with all its pages, and gives all its
+    /// table frames back. Refuses with `NoDomain`, or `Busy` where a device is attached or a ticket open.
     pub fn drop_domain(&mut self, domain: u64) -> Result<(), Refusal>
         requires { self.old.calls < CALLS_END }
         ensures { Does self.old (calls.Drop domain) (done_reply result) self.new }
@@ -161,8 +173,11 @@ impl State {
         let Some(id) = DomainId::new(domain) else {
             return Err(Refusal::NoDomain);
         };
-        // A device is attached to a domain that is there.
+        // A device is attached to a domain that is there, and a ticket is of one.
         if is_attached(&self.iommu.contexts, id) {
+            return Err(Refusal::Busy);
+        }
+        if has_ticket(self.tickets.as_slice(), id) {
             return Err(Refusal::Busy);
         }
         let Some(domain) = self.domains[place_of(id)].take() else {

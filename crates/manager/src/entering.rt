@@ -50,6 +50,7 @@ fn cleared_at(state: &State, event: &Event) -> u16
     match (&event.call, event.reply) {
         (Call::Detach { device }, Reply::Done) => only(*device),
         (Call::Flush { domain }, Reply::Flushed(_)) => state.devices_of(*domain),
+        (Call::Reap { domain, .. }, Reply::Reaped(_)) => state.devices_of(*domain),
         (Call::Unmap { domain, .. }, Reply::Unmapped(released)) => {
             if takes_away(state.mode_of(*domain), released) {
                 state.devices_of(*domain)

@@ -5,7 +5,7 @@ use Rattle.dmatypes.specs.declared.call.Call.TheVariants as calls
 use Rattle.dmatypes.specs.declared.call.Mode.{Mode}
 use Rattle.dmatypes.specs.declared.call.Mode.TheVariants as modes
 use Rattle.dmatypes.specs.declared.reply.Reply.{Reply}
-use Rattle.dmatypes.specs.declared.reply.Reply.TheVariants.{Done, Unmapped, Flushed}
+use Rattle.dmatypes.specs.declared.reply.Reply.TheVariants.{Done, Unmapped, Flushed, Reaped}
 use Rattle.dmatypes.specs.World.{World}
 use Rattle.dmatypes.specs.Step.{IsStep, next}
 use Rattle.dmatypes.specs.declared.limits.TheConstants.{MOST_RECORDS}
@@ -21,12 +21,14 @@ TakesAway modes.Strict released = Unit {0}
 TakesAway modes.Lazy released = released ≡ MOST_RECORDS
 
 -- at this call and this reply the row of the device is cleared: at a detach it is the device's; at an unmap that takes
--- pages away and at a flush those of all devices attached to the domain; else none, nor at a refused call
+-- pages away, at a flush, and at a reap that isn't pending those of all devices attached to the domain; else none, nor at a
+-- refused call
 unfoldable pub IsCleared : World → Call → Reply → ℕ → Type 0
 IsCleared w (calls.Detach device) Done other = other ≡ device
 IsCleared w (calls.Unmap domain address pages) (Unmapped released) other =
     IsAttachedTo w other domain × IsSomeAnd (w.domains domain) (λ v. TakesAway v.mode released)
 IsCleared w (calls.Flush domain) (Flushed released) other = IsAttachedTo w other domain
+IsCleared w (calls.Reap domain number) (Reaped released) other = IsAttachedTo w other domain
 IsCleared w call reply other = ⊥
 
 -- a step leaves each lawful word lawful, but in the rows that are cleared at it

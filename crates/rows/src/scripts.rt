@@ -17,6 +17,7 @@ mod failing;
 mod hostile;
 mod lazy_rows;
 mod rows;
+mod tickets;
 
 // A manager of 64 table frames, with room for so many calls.
 fn config(calls: u64) -> Option<Config>
@@ -161,7 +162,7 @@ fn bad_lines_stop(rt: HostRuntime) -> Result<(), Fail> {
         (b"domain lazily\n", 1),
         (b"domain  strict\n", 1),
         (b"domain strict \n", 1),
-        (b"begin 1\n", 1),
+        (b"reap 1\n", 1),
         (
             b"domain strict\nmaplist 1 0 r 1:1 1:1 1:1 1:1 1:1 1:1 1:1 1:1 1:1 1:1 1:1 1:1 1:1 1:1 1:1 1:1 1:1\n",
             2,

@@ -23,7 +23,7 @@ use dmatypes::{Frame, Rights, SPAN_PAGES, Segment};
 use vtdbits::{LargeTranslation, SsEntry};
 
 /// Writes the leaves of a piece in a table of level 1.
-pub fn write_run(pool: &mut Pool, table: Frame, piece: Piece)
+pub(crate) fn write_run(pool: &mut Pool, table: Frame, piece: Piece)
     requires table { table < pool.old.frames }
     requires taken { occurs table pool.old.free ≡ 0 }
     ensures run { WritesEntries pool.old.words pool.new.words table piece.from piece.to (leaf_at piece) }
@@ -63,7 +63,7 @@ fn grow(pool: &mut Pool, level: u64, table: Frame, index: u64) -> Frame
 }
 
 /// Maps a piece: one walk down, with the tables that it lacks, and one run of words or one leaf of 512 pages.
-pub fn map_piece(pool: &mut Pool, level: u64, table: Frame, piece: &Piece)
+pub(crate) fn map_piece(pool: &mut Pool, level: u64, table: Frame, piece: &Piece)
     requires low { 1 ≤ level }
     requires high { level ≤ MOST_LEVELS }
     requires tree { IsTree pool.old level table }
@@ -252,7 +252,7 @@ fn map_pieces(
 
 /// Maps the pages from a first one on to segments, one after the other, all or none.
 #[inline(always)]
-pub fn map_segments(
+pub(crate) fn map_segments(
     pool: &mut Pool,
     level: u64,
     root: Frame,

@@ -32,7 +32,7 @@ impl Piece {
 
     /// The piece that begins at a page of the segments, which follow one another from a first page on: up to
     /// the end of the page's segment or of its span.
-    pub fn at(segments: &[Segment], first: u64, page: u64, rights: Rights) -> Option<Piece>
+    pub(crate) fn at(segments: &[Segment], first: u64, page: u64, rights: Rights) -> Option<Piece>
         requires segments { AreSegments segments.now }
         requires within { first + total_pages segments.now ≤ WIDEST_PAGES_END }
         requires after { first ≤ page }
@@ -57,7 +57,7 @@ impl Piece {
     }
 
     /// Whether it can be one leaf of 512 pages.
-    pub fn is_large(self) -> bool
+    pub(crate) fn is_large(self) -> bool
         ensures { result ≡ is_large self }
     {
         self.from % SPAN_PAGES == 0

@@ -9,7 +9,7 @@ use dmatypes::{SPAN_PAGES, Segment};
 
 /// What is left of a page's segment from that page on, where the segments follow one another from a first
 /// page on.
-pub fn rest_at(segments: &[Segment], first: u64, page: u64) -> Option<Segment>
+pub(crate) fn rest_at(segments: &[Segment], first: u64, page: u64) -> Option<Segment>
     requires segments { AreSegments segments.now }
     requires within { first + total_pages segments.now ≤ WIDEST_PAGES_END }
     ensures { result ≡ rest_at segments.now first page }
@@ -29,7 +29,7 @@ pub fn rest_at(segments: &[Segment], first: u64, page: u64) -> Option<Segment>
 }
 
 /// Whether a leaf of 512 pages begins at the page, where no table is there.
-pub fn is_large_at(segments: &[Segment], first: u64, page: u64) -> bool
+pub(crate) fn is_large_at(segments: &[Segment], first: u64, page: u64) -> bool
     requires segments { AreSegments segments.now }
     requires within { first + total_pages segments.now ≤ WIDEST_PAGES_END }
     ensures { result ≡ is_large_at segments.now first page }

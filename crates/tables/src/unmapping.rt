@@ -159,7 +159,7 @@ fn clear_piece(pool: &mut Pool, level: u64, table: Frame, from: u64, to: u64) ->
 
 /// Unmaps pages that are there, where no frame is lacking.
 #[inline(always)]
-pub fn unmap_pieces(pool: &mut Pool, level: u64, root: Frame, from: u64, to: u64) -> Cut
+pub(crate) fn unmap_pieces(pool: &mut Pool, level: u64, root: Frame, from: u64, to: u64) -> Cut
     requires low { 2 ≤ level }
     requires high { level ≤ MOST_LEVELS }
     requires tree { IsTree pool.old level root }
@@ -201,7 +201,7 @@ fn splits_leaf(pool: &Pool, level: u64, root: Frame, from: u64, to: u64, page: u
 }
 
 /// How many large leaves meet the pages and aren't covered by them.
-pub fn leaves_splitting(pool: &Pool, level: u64, root: Frame, from: u64, to: u64) -> u64
+pub(crate) fn leaves_splitting(pool: &Pool, level: u64, root: Frame, from: u64, to: u64) -> u64
     requires low { 1 ≤ level }
     requires high { level ≤ MOST_LEVELS }
     requires tree { IsTree pool.now level root }
@@ -220,7 +220,7 @@ pub fn leaves_splitting(pool: &Pool, level: u64, root: Frame, from: u64, to: u64
 }
 
 /// How many spans of 512 pages the pages meet: no fewer than the large leaves that meet them and aren't covered.
-pub fn spans_met(from: u64, to: u64) -> u64
+pub(crate) fn spans_met(from: u64, to: u64) -> u64
     requires some { from < to }
     requires within { to ≤ WIDEST_PAGES_END }
     ensures { (m : Memory) (level root : ℕ) → leaves_splitting m level root from to ≤ result }
@@ -230,7 +230,7 @@ pub fn spans_met(from: u64, to: u64) -> u64
 
 /// Gives back the frames of a table and of all tables below it.
 #[cycle(releasing)]
-pub fn release(pool: &mut Pool, level: u64, table: Frame)
+pub(crate) fn release(pool: &mut Pool, level: u64, table: Frame)
     requires low { 1 ≤ level }
     requires high { level ≤ MOST_LEVELS }
     requires tree { IsTree pool.old level table }

@@ -17,4 +17,4 @@ mod walking;
 
 pub use contexts::Contexts;
 pub use hit::Hit;
-pub use unit::{Progress, Unit};
+pub use unit::Unit;

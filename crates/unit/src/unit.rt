@@ -16,7 +16,7 @@ use crate::telling::tell;
 use crate::walking::NON_LEAVES;
 use arrayvec::ArrayVec;
 use dmatypes::{
-    ADDRESSES_END, Access, Cache, DEVICES, Fault, MOST_CACHED_CONTEXTS, PAGE_BYTES, Whim,
+    ADDRESSES_END, Access, Cache, DEVICES, Fault, MOST_CACHED_CONTEXTS, PAGE_BYTES, Progress, Whim,
 };
 use queue::Ring;
 use std::marker::Model;
@@ -30,15 +30,6 @@ mod tests;
 
 // The places for contexts.
 const CONTEXTS: usize = MOST_CACHED_CONTEXTS;
-
-/// Whether a step of the unit did a descriptor.
-#[derive(Clone, Copy, Debug, PartialEq, Eq)]
-pub enum Progress {
-    /// It took the oldest descriptor and did it.
-    Did,
-    /// No descriptor waited.
-    Idle,
-}
 
 /// A unit: what it remembers of contexts, tables and leaves, oldest first, how many descriptors it did, and in how many
 /// steps none waited.

@@ -10,8 +10,6 @@ mod entry;
 mod number;
 mod port;
 mod spellings;
-#[cfg(test)]
-mod tests;
 mod translation;
 mod words;
 

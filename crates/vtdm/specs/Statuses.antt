@@ -3,7 +3,7 @@ use Rattle.std.specs.Prelude.{ℕ, Result, Ok, Err}
 use Rattle.script.specs.declared.error.RunError.{RunError}
 use Rattle.script.specs.declared.error.RunError.TheVariants.{BadLine, Read, Write, NoMemory}
 use Rattle.vtdm.specs.declared.status.End.{End}
-use Rattle.vtdm.specs.declared.status.End.TheVariants.{Done, BadCommandLine, Stopped}
+use Rattle.vtdm.specs.declared.status.End.TheVariants.{Done, BadCommandLine, NoStorm, Stopped}
 
 abbrev pub status_of : End → ℕ
 status_of Done = 0
@@ -12,6 +12,7 @@ status_of (Stopped Write) = 1
 status_of (Stopped (BadLine number)) = 2
 status_of BadCommandLine = 2
 status_of (Stopped NoMemory) = 3
+status_of (NoStorm error) = 3
 
 -- how a task ended
 abbrev pub end_of : {U : Type 0} → Result U RunError → End

@@ -5,15 +5,20 @@ pub(crate) const VERSION: &str = "0.1.0";
 pub(crate) const ABOUT: &str =
     "Keeps DMA address domains of a simulated VT-d unit, as a script of calls asks.";
 
+pub(crate) const USAGE: &str = "\
+vtdm run [OPTIONS] < SCRIPT
+       vtdm report [OPTIONS] < SCRIPT
+       vtdm storm --drivers <DRIVERS> --devices <DEVICES> --calls <CALLS>";
+
 pub(crate) const SCRIPT: &str = "\
 A script is read from standard input, one call a line. 'run' answers each line
 by a line on standard output, 'report' answers none and tells at the end what is
-there. Lines, and what they are answered by:
+there; 'storm' reads no script. Lines, and what they are answered by:
 
   domain strict         makes a domain: 'domain D'
   domain lazy
-  drop D                ends domain D, to which no device is attached, with all
-                        its pages: 'ok'
+  drop D                ends domain D, to which no device is attached and of
+                        which no ticket is open, with all its pages: 'ok'
   attach V D            attaches device V to domain D: 'ok'
   detach V              detaches device V from its domain: 'ok'
   map D F N O R         maps N pages of domain D to host frames from F on, where
@@ -23,6 +28,13 @@ there. Lines, and what they are answered by:
                         'unmapped C'
   flush D               has the unit forget domain D, and releases what was
                         unmapped lazily: 'flushed C'
+  begin D               begins a flush of domain D, and doesn't wait for the
+                        unit: 'ticket D T'
+  unit                  the unit makes a step: 'unit did', or 'unit idle' where
+                        nothing waits
+  reap D T              ends a begun flush: releases what was unmapped before it
+                        was begun, 'reaped C', or, where the unit isn't that far
+                        yet, changes nothing: 'pending'
   dma V A X [look] [fill]
                         device V reads or writes at address A: 'host H' or
                         'fault E'; with look the unit answers from its caches
@@ -40,8 +52,9 @@ In these:
      lowest that is free, of the first page
   X  r or w                        K  leaf, nonleaf or context
   H  a host's byte address
-  C  unmaps of a lazy domain that are released: all at a flush, and where 256
-     wait all at the next unmap; else 0
+  T  the number of a begun flush of its domain, from 1
+  C  unmaps of a lazy domain that are released: all at a flush, those before the
+     ticket at a reap, and where 256 wait all at the next unmap; else 0
   E  2 not attached, 4 beyond 39 bits of address, 5 a write or 6 a read that the
      page doesn't permit, or of a page that isn't there
 
@@ -53,23 +66,26 @@ A call that can't be done is 'refused', with one of these numbers:
 
    1 no such domain      6 frame of a table     11 interrupt window
    2 no such device      7 no free range        12 too many domains
-   3 busy                8 no table frames      15 the history is full
-   4 not attached        9 too many pieces
-   5 bad range          10 not live
+   3 busy                8 no table frames      13 no such ticket
+   4 not attached        9 too many pieces      14 64 tickets are open
+   5 bad range          10 not live             15 the history is full
 
-Numbers are decimal with no leading zero, or 0x and 1 to 16 digits 0 to 9 and a
-to f. One space stands between two fields, and none at an end of a line. A line
-has at most 512 bytes and ends with a newline, the last one too. No line is
-empty, and none is a comment. At the first line that isn't so the work stops:
-standard error says 'line K', and the lines before it are done.
+Numbers are decimal with no leading zero, or 0x and 1 to 16 hexadecimal digits,
+0 to 9 and a to f and no capitals. One space stands between two fields, and none
+at an end of a line. A line has at most 512 bytes and ends with a newline, the
+last one too, with no carriage return before it. No line is empty, and none is a
+comment. At the first line that isn't so the work stops: standard error says
+'line L', the line's number from 1, and the lines before it are done.
 
 Exit status: 0 done; 1 input or output failed; 2 a bad line or a bad command
-line; 3 no memory. A call takes about 300 bytes of memory, for the history.
-The table frames are host frames 0 and on, and can't be mapped.
+line; 3 no memory, or, for a storm, no thread. The history takes about 300 bytes
+of memory for each call that it has room for, at the start. The table frames are
+host frames 0 and on, and can't be mapped.
 
 Examples:
 
   printf 'domain strict\\nmap 1 0x100 1 0 rw\\n' | vtdm run
+  vtdm run < examples/first-map.script
   vtdm run --frames 256 < script";
 
 pub(crate) const REPORT: &str = "\
@@ -88,9 +104,25 @@ and no line is answered. At its end, or at its first bad line, the report says:
   device 3 domain 1     an attached device
 
 Exit status: 0 done; 1 input or output failed; 2 a bad line (standard error says
-'line K') or a bad command line; 3 no memory.
+'line L', its number) or a bad command line; 3 no memory.
 
 Examples:
 
   printf 'domain lazy\\nattach 3 1\\n' | vtdm report
   vtdm report --calls 100 < script";
+
+pub(crate) const STORM: &str = "\
+Drivers, devices and the unit call one manager, each in a thread of its own. No
+script is read. Domain 1 is strict and domain 2 lazy, and the devices are
+attached to them by turns. Then, each making so many calls:
+
+  a driver              maps a page of its domain, and unmaps it
+  a device              reads at one of 16 pages, at first without the lock
+  the unit              works on what the calls leave to it
+
+At the end it prints how many calls there were, those of the beginning too:
+
+  storm drivers 2 devices 2 calls 10 events 54
+
+Exit status: 0 done; 1 output failed; 2 a bad command line; 3 no memory or no
+thread.";

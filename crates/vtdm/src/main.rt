@@ -5,6 +5,7 @@ mod help;
 mod options;
 mod program;
 mod status;
+mod storming;
 mod words;
 
 use std::alloc::AllocError;

@@ -3,15 +3,25 @@
 ghost use Rattle.std.specs.Prelude.{◌≡◌, ◌↔◌, IsSome, IfSome};
 ghost use Rattle.manager.specs.Kept.{IsWithinLimits};
 
-use crate::help::{ABOUT, REPORT, SCRIPT, VERSION};
+use crate::help::{ABOUT, REPORT, SCRIPT, USAGE, VERSION};
+use crate::storming::{StormSize, storm_command, storm_of};
 use clap::{Arg, ArgMatches, Command, value_parser};
 use dmatypes::{LEAST_TABLE_FRAMES, MOST_CALLS, MOST_TABLE_FRAMES};
 use manager::Config;
 use std::alloc::{AllocError, Global};
 
-/// What the program is to do with a script.
+/// What the program is to do.
 #[derive(Clone, Copy, Debug, PartialEq, Eq)]
 pub(crate) enum Task {
+    /// Make the calls of a script.
+    Script(Answering, Options),
+    /// Make calls by many threads.
+    Storm(StormSize),
+}
+
+/// What the program is to write for a script.
+#[derive(Clone, Copy, Debug, PartialEq, Eq)]
+pub(crate) enum Answering {
     /// Answer each of its lines.
     Run,
     /// Tell at its end what the manager holds.
@@ -45,12 +55,13 @@ pub(crate) fn command<'a>(alloc: Global) -> Result<Command<'a>, AllocError> {
         .version(VERSION)
         .propagate_version(true)
         .about(ABOUT)
-        .override_usage("vtdm <COMMAND> [OPTIONS] < SCRIPT")
+        .override_usage(USAGE)
         .after_help(SCRIPT)
         .no_binary_name(true)
         .subcommand_required(true)
         .subcommand(run)?
-        .subcommand(report)
+        .subcommand(report)?
+        .subcommand(storm_command(alloc)?)
 }
 
 fn frames<'a>(alloc: Global) -> Arg<'a> {
@@ -74,18 +85,22 @@ fn calls<'a>(alloc: Global) -> Arg<'a> {
 }
 
 /// What is asked for on the command line, where a command was given.
-pub(crate) fn task_of(matches: &ArgMatches) -> Option<(Task, Options)> {
+pub(crate) fn task_of(matches: &ArgMatches) -> Option<Task> {
     let (name, given) = matches.subcommand()?;
-    let task = match name {
-        "run" => Task::Run,
-        "report" => Task::Report,
-        _ => return None,
-    };
-    let options = Options {
+    match name {
+        "run" => Some(Task::Script(Answering::Run, options_of(given)?)),
+        "report" => Some(Task::Script(Answering::Report, options_of(given)?)),
+        "storm" => Some(Task::Storm(storm_of(given)?)),
+        _ => None,
+    }
+}
+
+// The options of a script's manager.
+fn options_of(given: &ArgMatches) -> Option<Options> {
+    Some(Options {
         frames: given.get_one::<u64>("frames")?,
         calls: given.get_one::<u64>("calls")?,
-    };
-    Some((task, options))
+    })
 }
 
 /// The configuration of a manager with one share; `None` exactly where a number is outside its limits.

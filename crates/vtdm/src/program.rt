@@ -4,16 +4,18 @@ ghost use Rattle.std.specs.Prelude.{◌≡◌};
 ghost use Rattle.vtdm.specs.Statuses.{status_of};
 ghost use Rattle.vtdm.specs.declared.status.End.{End};
 
-use crate::options::{Options, Task, command, config_of, task_of};
+use crate::options::{Answering, Options, Task, command, config_of, task_of};
 use crate::status::{End, end_of};
+use crate::storming::make_storm;
 use clap::error::ErrorKind;
 use script::{Counted, RunError, report, run};
 use std::alloc::Global;
 use std::io;
 use std::io::{Read, Write};
 use std::sync::Wait;
+use std::thread::Threads;
 
-// The bytes of the longest word that is told back (own): every word that asks for something is shorter.
+// The bytes of the longest word that is told back (own).
 const LONGEST_WORD: usize = 64;
 
 const NOT_PLAIN: &str =
@@ -21,7 +23,7 @@ const NOT_PLAIN: &str =
 
 /// Runs the program over its words, without the program's name among them, and answers its exit status.
 /// The words are judged before anything is read.
-pub fn program<T: Wait, R: Read + Drop, W: Write + Drop, E: Write + Drop>(
+pub fn program<T: Wait + Threads + Sync, R: Read + Drop, W: Write + Drop, E: Write + Drop>(
     rt: &T,
     alloc: Global,
     words: &[&str],
@@ -51,14 +53,16 @@ pub fn without_words<E: Write + Drop>(mut errors: E, kind: io::ErrorKind) -> u8
 fn tell<E: Write>(errors: &mut E, end: End) -> u8
     ensures { result ≡ status_of end }
 {
-    if let End::Stopped(error) = end {
-        let _ = writeln!(errors, "{error}");
-    }
+    let _ = match end {
+        End::Stopped(error) => writeln!(errors, "{error}"),
+        End::NoStorm(error) => writeln!(errors, "{error}"),
+        End::Done | End::BadCommandLine => Ok(()),
+    };
     end.status()
 }
 
 // What the words ask for, to its end.
-fn perform<T: Wait, R: Read + Drop, W: Write + Drop, E: Write>(
+fn perform<T: Wait + Threads + Sync, R: Read + Drop, W: Write + Drop, E: Write>(
     rt: &T,
     alloc: Global,
     words: &[&str],
@@ -66,25 +70,31 @@ fn perform<T: Wait, R: Read + Drop, W: Write + Drop, E: Write>(
     output: W,
     errors: &mut E,
 ) -> End {
-    let Ok(mut command) = command(alloc) else {
+    let Ok(asked) = command(alloc) else {
         return End::Stopped(RunError::NoMemory);
     };
-    if !words.iter().all(|word| is_plain(word)) {
-        return match command.error(ErrorKind::InvalidValue, NOT_PLAIN) {
-            Ok(error) => explain(&error, output, errors),
-            Err(_) => End::Stopped(RunError::NoMemory),
-        };
+    let error = match asked.try_get_matches_from(words) {
+        Ok(matches) => {
+            return match task_of(&matches) {
+                Some(task) => run_task(rt, alloc, task, input, output),
+                None => End::BadCommandLine,
+            };
+        }
+        Err(error) => error,
+    };
+    if error.kind() == ErrorKind::OutOfMemory || words.iter().all(|word| is_plain(word)) {
+        return explain(&error, output, errors);
     }
-    match command.try_get_matches_from(words) {
-        Ok(matches) => match task_of(&matches) {
-            Some((task, options)) => run_task(rt, alloc, task, options, input, output),
-            None => End::BadCommandLine,
-        },
-        Err(error) => explain(&error, output, errors),
+    let Ok(mut telling) = command(alloc) else {
+        return End::Stopped(RunError::NoMemory);
+    };
+    match telling.error(ErrorKind::InvalidValue, NOT_PLAIN) {
+        Ok(error) => explain(&error, output, errors),
+        Err(_) => End::Stopped(RunError::NoMemory),
     }
 }
 
-// Whether a word may be shown on a terminal as it is: no other word asks for anything.
+// Whether a word may be shown on a terminal as it is. An error tells words back.
 fn is_plain(word: &str) -> bool {
     word.len() <= LONGEST_WORD && word.bytes().all(|byte| matches!(byte, b' '..=b'~'))
 }
@@ -104,10 +114,25 @@ fn explain<W: Write + Drop, E: Write>(error: &clap::Error, mut output: W, errors
     }
 }
 
-fn run_task<T: Wait, R: Read + Drop, W: Write + Drop>(
+fn run_task<T: Wait + Threads + Sync, R: Read + Drop, W: Write + Drop>(
     rt: &T,
     alloc: Global,
     task: Task,
+    input: R,
+    mut output: W,
+) -> End {
+    match task {
+        Task::Script(answering, options) => {
+            run_script(rt, alloc, answering, options, input, output)
+        }
+        Task::Storm(size) => make_storm(rt, alloc, size, &mut output),
+    }
+}
+
+fn run_script<T: Wait, R: Read + Drop, W: Write + Drop>(
+    rt: &T,
+    alloc: Global,
+    answering: Answering,
     options: Options,
     input: R,
     output: W,
@@ -117,8 +142,8 @@ fn run_task<T: Wait, R: Read + Drop, W: Write + Drop>(
     };
     let mut reader = Counted::new(input);
     let mut writer = Counted::new(output);
-    end_of(match task {
-        Task::Run => run(rt, alloc, &mut reader, &mut writer, config),
-        Task::Report => report(rt, alloc, &mut reader, &mut writer, config),
+    end_of(match answering {
+        Answering::Run => run(rt, alloc, &mut reader, &mut writer, config),
+        Answering::Report => report(rt, alloc, &mut reader, &mut writer, config),
     })
 }

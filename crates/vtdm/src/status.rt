@@ -4,6 +4,7 @@ ghost use Rattle.std.specs.Prelude.{◌≡◌};
 ghost use Rattle.vtdm.specs.Statuses.{end_of, status_of};
 
 use script::RunError;
+use storm::StormError;
 
 // The exit statuses.
 const DONE: u8 = 0;
@@ -12,7 +13,7 @@ const FAILED: u8 = 1;
 
 const BAD: u8 = 2;
 
-const NO_MEMORY: u8 = 3;
+const WANTING: u8 = 3;
 
 /// How the program ends.
 #[derive(Clone, Copy, Debug, PartialEq, Eq)]
@@ -23,10 +24,13 @@ pub(crate) enum End {
     BadCommandLine,
     /// The task stopped before its end.
     Stopped(RunError),
+    /// There was no memory for a storm, or no thread.
+    NoStorm(StormError),
 }
 
 impl End {
-    /// The exit status: 0 done, 1 input or output failed, 2 a bad line or a bad command line, 3 no memory.
+    /// The exit status: 0 done, 1 input or output failed, 2 a bad line or a bad command line, 3 no memory or no
+    /// thread.
     pub(crate) fn status(self) -> u8
         ensures { result ≡ status_of self }
     {
@@ -34,7 +38,7 @@ impl End {
             End::Done => DONE,
             End::Stopped(RunError::Read | RunError::Write) => FAILED,
             End::Stopped(RunError::BadLine(_)) | End::BadCommandLine => BAD,
-            End::Stopped(RunError::NoMemory) => NO_MEMORY,
+            End::Stopped(RunError::NoMemory) | End::NoStorm(_) => WANTING,
         }
     }
 }

@@ -3,9 +3,17 @@
 ghost use Rattle.std.specs.Prelude.{None};
 
 use crate::program::program;
+use std::alloc::Global;
 use std::io;
 use std::io::Read;
+use std::process::Abort;
+use std::sync::Wait;
 use std::test::Fail;
+use std::thread::Threads;
+
+mod asked;
+mod hostile;
+mod streams;
 
 const FIRST_MAP: &[u8] =
     b"domain strict\nattach 3 1\nmap 1 0x100 1 0 rw\ndma 3 0x1234 r look fill\n";
@@ -25,13 +33,29 @@ impl Read for Closed {
     }
 }
 
+// The program over these words and this script answers this status, writes this and says this on standard error.
+type Row<'a> = (&'a [&'a str], &'a [u8], u8, &'a [u8], &'a [u8]);
+
+fn check_rows<T: Wait + Threads + Sync + Abort>(rt: &T, alloc: Global, rows: &[Row<'_>]) {
+    for (words, script, status, output, errors) in rows {
+        let mut written = Vec::new(alloc);
+        let mut told = Vec::new(alloc);
+        assert_eq!(rt;
+            program(rt, alloc, *words, *script, &mut written, &mut told),
+            *status
+        );
+        assert_eq!(rt; written.as_slice(), *output);
+        assert_eq!(rt; told.as_slice(), *errors);
+    }
+}
+
 #[test]
-fn statuses(rt: HostRuntime) -> Result<(), Fail> {
+fn statuses(rt: HostRuntime) {
     let first_answers: &[u8] = b"domain 1\nok\nmap 0x1000\nhost 0x100234\n";
     let two_domains: &[u8] = b"domain strict\ndomain strict\n";
     let two_maps: &[u8] = b"domain strict\nmap 1 0xff 1 0 r\nmap 1 0x100 1 0 r\n";
     let cut: &[u8] = b"domain strict\nattach 3 1";
-    let rows: [(&[&str], &[u8], u8, &[u8], &[u8]); 4] = [
+    let rows: [Row<'_>; 4] = [
         (&["run"], FIRST_MAP, 0, first_answers, b""),
         (&["run"], cut, 2, b"domain 1\n", b"line 2\n"),
         (
@@ -49,58 +73,7 @@ fn statuses(rt: HostRuntime) -> Result<(), Fail> {
             b"",
         ),
     ];
-    for (words, script, status, output, errors) in rows {
-        let mut written = Vec::new(rt.alloc());
-        let mut told = Vec::new(rt.alloc());
-        assert_eq!(rt;
-            program(&rt, rt.alloc(), words, script, &mut written, &mut told),
-            status
-        );
-        assert_eq!(rt; written.as_slice(), output);
-        assert_eq!(rt; told.as_slice(), errors);
-    }
-    Ok(())
-}
-
-// A bad command line is told on standard error and reads nothing; help is output.
-#[test]
-fn command_lines(rt: HostRuntime) -> Result<(), Fail> {
-    let long = "run-with-a-word-of-more-than-sixty-four-bytes-that-asks-for-nothing-at-all";
-    let rows: [(&[&str], u8); 17] = [
-        (&["run", "--frames", "15"], 2),
-        (&["run", "--frames", "4097"], 2),
-        (&["run", "--calls", "0"], 2),
-        (&["run", "--calls", "1048577"], 2),
-        (&["run", "--calls", "x"], 2),
-        (&["run", "--call", "1"], 2),
-        (&["report", "--frames", "15"], 2),
-        (&["reports"], 2),
-        (&[], 2),
-        (&["--help"], 0),
-        (&["run", "--help"], 0),
-        (&["report", "--help"], 0),
-        (&["--version"], 0),
-        (&["run", "--version"], 0),
-        (&["\u{1b}[31mrun"], 2),
-        (&["run", "--frames", "6\n4"], 2),
-        (&[long], 2),
-    ];
-    for (words, status) in rows {
-        let mut written = Vec::new(rt.alloc());
-        let mut told = Vec::new(rt.alloc());
-        assert_eq!(rt;
-            program(&rt, rt.alloc(), words, FIRST_MAP, &mut written, &mut told),
-            status
-        );
-        assert_eq!(rt; written.is_empty(), status == 2);
-        assert_eq!(rt; told.is_empty(), status == 0);
-        assert!(rt;
-            told.iter()
-                .all(|byte| *byte == b'\n' || matches!(*byte, b' '..=b'~'))
-        );
-        assert!(rt; told.len() < 400);
-    }
-    Ok(())
+    check_rows(&rt, rt.alloc(), rows.as_slice());
 }
 
 // Input and output that fail, as the statuses tell them.
@@ -131,8 +104,8 @@ fn failing_ends(rt: HostRuntime) -> Result<(), Fail> {
 }
 
 #[test]
-fn reports_of_the_program(rt: HostRuntime) -> Result<(), Fail> {
-    let rows: [(&[&str], &[u8], u8, &[u8], &[u8]); 3] = [
+fn reports_of_the_program(rt: HostRuntime) {
+    let rows: [Row<'_>; 3] = [
         (&["report"], b"", 0, EMPTY_REPORT, b""),
         (
             &["report", "--calls", "3"],
@@ -151,15 +124,62 @@ fn reports_of_the_program(rt: HostRuntime) -> Result<(), Fail> {
             b"line 2\n",
         ),
     ];
-    for (words, script, status, output, errors) in rows {
+    check_rows(&rt, rt.alloc(), rows.as_slice());
+}
+
+// Storms read nothing, and their line is output.
+#[test]
+fn storms_of_the_program(rt: HostRuntime) -> Result<(), Fail> {
+    let rows: [(&[&str], &[u8]); 5] = [
+        (
+            &["storm", "--drivers", "1", "--devices", "1", "--calls", "1"],
+            b"storm drivers 1 devices 1 calls 1 events 6\n",
+        ),
+        (
+            &["storm", "--drivers", "2", "--devices", "2", "--calls", "10"],
+            b"storm drivers 2 devices 2 calls 10 events 54\n",
+        ),
+        (
+            &["storm", "--drivers=3", "--devices=1", "--calls=5"],
+            b"storm drivers 3 devices 1 calls 5 events 28\n",
+        ),
+        (
+            &["storm", "--drivers=1", "--devices=3", "--calls=5"],
+            b"storm drivers 1 devices 3 calls 5 events 30\n",
+        ),
+        (
+            &["storm", "--drivers=8", "--devices=8", "--calls=10000"],
+            b"storm drivers 8 devices 8 calls 10000 events 170010\n",
+        ),
+    ];
+    for (words, line) in rows {
         let mut written = Vec::new(rt.alloc());
         let mut told = Vec::new(rt.alloc());
         assert_eq!(rt;
-            program(&rt, rt.alloc(), words, script, &mut written, &mut told),
-            status
+            program(&rt, rt.alloc(), words, Closed, &mut written, &mut told),
+            0
         );
-        assert_eq!(rt; written.as_slice(), output);
-        assert_eq!(rt; told.as_slice(), errors);
+        assert_eq!(rt; written.as_slice(), line);
+        assert_eq!(rt; told.as_slice(), b"".as_slice());
     }
     Ok(())
+}
+
+#[test]
+fn the_line_of_a_storm_fails(rt: HostRuntime) {
+    let words = ["storm", "--drivers", "2", "--devices", "1", "--calls", "3"];
+    let mut told = Vec::new(rt.alloc());
+    let mut full: [u8; 8] = [0; 8];
+    assert_eq!(rt;
+        program(
+            &rt,
+            rt.alloc(),
+            words.as_slice(),
+            Closed,
+            full.as_mut_slice(),
+            &mut told
+        ),
+        1
+    );
+    assert_eq!(rt; told.as_slice(), b"output failed\n".as_slice());
 }

@@ -1,5 +1,5 @@
 -- A device is detached, and its context is forgotten.
-use Rattle.std.proofs.Common.{◌≡◌, ◌≢◌, ℕ, ◌+◌, ◌<◌, ◌≤◌, inl, inr, false, arith, length, Some, None, refl, sym, ap, ◌∙◌, slice_get}
+use Rattle.std.proofs.Common.{map, ◌≡◌, ◌≢◌, ℕ, ◌+◌, ◌<◌, ◌≤◌, inl, inr, false, arith, length, Some, None, refl, sym, ap, ◌∙◌, slice_get}
 use Rattle.std.proofs.Common.{slice_set}
 use Rattle.std.proofs.lemmas.Bool.Decides.{nat_tests}
 use Rattle.dmatypes.specs.declared.call.Call.TheVariants as calls
@@ -19,7 +19,7 @@ use Rattle.vtdbits.specs.declared.descriptor.Descriptor.TheVariants.{ContextDevi
 use Rattle.engine.specs.declared.iommu.Iommu.{Iommu}
 use Rattle.engine.specs.Ending.{Invalidates, status_of}
 use Rattle.engine.specs.State.{Becomes, Exact, State}
-use Rattle.engine.specs.Quarantine.{Quarantine, attached}
+use Rattle.engine.specs.Quarantine.{Quarantine, attached, ticket_there}
 use Rattle.engine.specs.Steps.{Does}
 use Rattle.dmatypes.proofs.histories.Maps.{put_other, put_same, same_or_not}
 use Rattle.engine.proofs.lists.Places.{get_set, get_set_other, is_none, not_none}
@@ -33,7 +33,8 @@ dropped_context domain device x same left = grind (arith, nat_tests)
 module _ (m t : State) (w : World) (device domain : ℕ) (q : Quarantine m w) (small : device < length m.iommu.contexts)
     (row : t.iommu.contexts ≡ slice_set m.iommu.contexts device Absent)
     (purges : Purges (ContextDevice domain device) m.iommu.unit.caches t.iommu.unit.caches)
-    (domains : t.domains ≡ m.domains) (pool : t.pool ≡ m.pool) where
+    (domains : t.domains ≡ m.domains) (pool : t.pool ≡ m.pool)
+    (tickets : t.tickets ≡ m.tickets) where
   entry_then : (x : ℕ) → x ≢ device → slice_get t.iommu.contexts x ≡ slice_get m.iommu.contexts x
   entry_then x ne = ap (λ r. slice_get r x) row ∙ get_set_other m.iommu.contexts device x Absent ne
 
@@ -76,7 +77,7 @@ module _ (m t : State) (w : World) (device domain : ℕ) (q : Quarantine m w) (s
           entry_then x.device (λ same. dropped_context domain device x same left.1) ∙ q.contexts.cached x left.0;
     };
     frames = rw (domains, pool) q.frames;
-    tickets = q.tickets;
+    tickets = q.tickets ∙ ap (map ticket_there) (sym tickets);
   }
 
 -- ---- the call
@@ -119,7 +120,7 @@ detach_does m device root domain x small many at invalidates = record {
     device_gone m (detached m x) w device domain q (omega (arith, small, many)) invalidates.contexts (
         purges_sent m.iommu.ring.waiting (ContextDevice domain device) (status_of x.sent) m.iommu.unit.caches x.unit.caches
         invalidates.caches) refl
-        refl,
+        refl refl,
   );
   exact = tt;
   becomes = (domain, root, at, invalidates, refl);

@@ -1,5 +1,5 @@
 -- A domain ends, to which no device is attached.
-use Rattle.std.proofs.Common.{◌≡◌, ◌≢◌, ℕ, ◌+◌, ◌<◌, inl, inr, [], length, Option, Some, None, refl, sym, ap, ◌∙◌, arith, slice_get}
+use Rattle.std.proofs.Common.{map, ◌≡◌, ◌≢◌, ℕ, ◌+◌, ◌<◌, inl, inr, [], length, Option, Some, None, refl, sym, ap, ◌∙◌, arith, slice_get}
 use Rattle.std.proofs.lemmas.Option.{none-some}
 use Rattle.dmatypes.specs.declared.width.Width.TheVariants.{W39}
 use Rattle.dmatypes.specs.World.{World, IsIn, put}
@@ -11,7 +11,7 @@ use Rattle.vtdbits.specs.declared.context.ContextEntry.TheVariants.{Present}
 use Rattle.engine.specs.Ending.{Destroys}
 use Rattle.engine.specs.Domains.{Domain, held_in, domain_at}
 use Rattle.engine.specs.State.{State}
-use Rattle.engine.specs.Quarantine.{Attaches, InDomain, IsLawfulLeaf, IsLawfulTable, Quarantine, attached, owned}
+use Rattle.engine.specs.Quarantine.{Attaches, InDomain, IsLawfulLeaf, IsLawfulTable, Quarantine, attached, owned, ticket_there}
 use Rattle.engine.proofs.frames.Owners.{apart_of, frames_move, held_out, tree_of}
 use Rattle.engine.proofs.frames.Held.{held-nil, held_stays}
 use Rattle.engine.proofs.caches.Lawful.{KeepsLawful, keeps_same}
@@ -26,7 +26,7 @@ module _ (m t : State) (w : World) (d : ℕ) (h : Domain) (q : Quarantine m w) (
     (nobody : (x : ℕ) → w.devices x ≡ Some d → ⊥) (no_leaf : (l : CachedLeaf) → IsIn l m.iommu.unit.caches.leaves → l.domain ≡ d → ⊥)
     (no_table : (i : CachedNonLeaf) → IsIn i m.iommu.unit.caches.non_leaves → i.domain ≡ d → ⊥)
     (domains : (e : ℕ) → domain_at t.domains e ≡ put d None (domain_at m.domains) e) (row : t.iommu.contexts ≡ m.iommu.contexts)
-    (unit : t.iommu.unit ≡ m.iommu.unit) (destroys : Destroys m.pool h.root t.pool) where
+    (unit : t.iommu.unit ≡ m.iommu.unit) (tickets : t.tickets ≡ m.tickets) (destroys : Destroys m.pool h.root t.pool) where
   low : d < MOST_DOMAINS + 1
   low = domain_low m.domains d h many there
 
@@ -109,5 +109,5 @@ module _ (m t : State) (w : World) (d : ℕ) (h : Domain) (q : Quarantine m w) (
     frames =
         frames_move m.pool t.pool (domain_at m.domains) (domain_at t.domains) d None q.frames low domains destroys.frames moves stay
         destroys.is_pool.zeroed held;
-    tickets = q.tickets;
+    tickets = q.tickets ∙ ap (map ticket_there) (sym tickets);
   }

@@ -21,7 +21,8 @@ use Rattle.dmatypes.specs.declared.limits.TheConstants.{MOST_DOMAINS}
 module _ (m t : State) (w : World) (i : ℕ) (h : Domain) (v : world.Domain) (q : Quarantine m w) (many : length m.domains ≡ MOST_DOMAINS)
     (less : i < length m.domains)
     (there : domain_at m.domains (i + 1) ≡ Some h) (here : w.domains (i + 1) ≡ Some v) (nobody : (x : ℕ) → w.devices x ≡ Some (i + 1) → ⊥)
-    (closes : Closes (parts_in m h) (i + 1) t.pool t.iommu) (domains : t.domains ≡ slice_set m.domains i None) where
+    (closes : Closes (parts_in m h) (i + 1) t.pool t.iommu) (domains : t.domains ≡ slice_set m.domains i None)
+    (tickets : t.tickets ≡ m.tickets) where
   -- the domain and the state once the records went
   abbrev emptied : Domain
   emptied = domain_after h closes.flushed.domain.space []
@@ -44,7 +45,7 @@ module _ (m t : State) (w : World) (i : ℕ) (h : Domain) (v : world.Domain) (q 
   quarantined : Quarantine between flushed_world
   quarantined =
       domain_flushed m between w i (status_of t.iommu.sent) h v closes.flushed.domain.space q many less there here invalidates.caches
-      closes.flushes.releases refl invalidates.contexts
+      closes.flushes.releases refl invalidates.contexts refl
 
   destroys : Destroys closes.flushed.pool h.root t.pool
   destroys =
@@ -70,4 +71,4 @@ module _ (m t : State) (w : World) (i : ℕ) (h : Domain) (v : world.Domain) (q 
       (domains_between (i + 1) ∙ put_same (i + 1) (Some emptied) (domain_at m.domains)) refl nobody
       (λ l inside same. dropped_leaf (i + 1) l same (purges.leaves l inside).1)
       (λ k inside same. dropped_table (i + 1) k same (purges.tables k inside).1)
-      domains_then refl refl destroys)
+      domains_then refl refl tickets destroys)

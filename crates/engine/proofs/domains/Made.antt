@@ -1,6 +1,6 @@
 -- A domain is made.
-use Rattle.std.proofs.Common.{◌≡◌, ◌≢◌, ℕ, ◌+◌, ◌-◌, ◌<◌, ◌≤◌, inl, inr, List, length, Option, Some, None, refl, sym, ap, subst, ◌∙◌, arith}
-use Rattle.std.proofs.Common.{slice_set, IsSome}
+use Rattle.std.proofs.Common.{map, ◌≡◌, ◌≢◌, ℕ, ◌+◌, ◌-◌, ◌<◌, ◌≤◌, inl, inr, List, length, Option, Some, None, refl, sym, ap, subst, ◌∙◌}
+use Rattle.std.proofs.Common.{arith, slice_set, IsSome}
 use Rattle.std.proofs.lemmas.Option.{none-some, same_Some}
 use Rattle.dmatypes.specs.declared.call.Call.TheVariants as calls
 use Rattle.dmatypes.specs.declared.call.Mode.{Mode}
@@ -16,7 +16,7 @@ use Rattle.tables.specs.Pool.{Pool, memory, occurs, IsPool, IsZeroed}
 use Rattle.tables.specs.Tree.{one_if_same, leaf_from, stated, table_from, uses}
 use Rattle.engine.specs.Domains.{Domain, domain_at, held_in, new_domain}
 use Rattle.engine.specs.State.{State, Exact, Becomes, TakesRoot}
-use Rattle.engine.specs.Quarantine.{AreLawful, MirrorsIfAny, IsHeld, Quarantine, owned}
+use Rattle.engine.specs.Quarantine.{AreLawful, MirrorsIfAny, IsHeld, Quarantine, owned, ticket_there}
 use Rattle.engine.specs.Steps.{Does}
 use Rattle.engine.proofs.frames.Owners.{frames_move}
 use Rattle.dmatypes.proofs.histories.Maps.{put_same, put_other, same_or_not}
@@ -72,8 +72,8 @@ with_new : (m t : State) (w : World) (mode : Mode) (i : ℕ) (root : ℕ) → Qu
     → domain_at m.domains (i + 1) ≡ None → IsEmptyTree m.pool t.pool root → IsSpace (new_space (PAGES_END - 1))
     → AllFree (new_space (PAGES_END - 1)) → t.domains ≡ slice_set m.domains i (Some (new_domain mode root))
     → t.iommu.contexts ≡ m.iommu.contexts → t.iommu.unit ≡ m.iommu.unit
-    → Quarantine t (record w { domains = put (i + 1) (Some (empty_domain mode)) w.domains })
-with_new m t w mode i root q many less free grown is_space all domains row unit = record {
+    → t.tickets ≡ m.tickets → Quarantine t (record w { domains = put (i + 1) (Some (empty_domain mode)) w.domains })
+with_new m t w mode i root q many less free grown is_space all domains row unit tickets = record {
   table_frames = q.table_frames ∙ sym grown.roots.frames;
   domains = domains_put m t w (i + 1) (new_domain mode root) (empty_domain mode) q domains_are
       (record {
@@ -103,7 +103,7 @@ with_new m t w mode i root q many less free grown is_space all domains row unit 
       frames_move m.pool t.pool (domain_at m.domains) (domain_at t.domains) (i + 1) (Some (new_domain mode root)) q.frames
       (omega (arith, less, many)) domains_are grown.roots.frames moves
       (λ e f ne. ap (λ ws. owned (memory ws) (domain_at m.domains e) f) grown.roots.words) grown.pool.zeroed held;
-  tickets = q.tickets;
+  tickets = q.tickets ∙ ap (map ticket_there) (sym tickets);
 } where
   domains_are : (e : ℕ) → domain_at t.domains e ≡ put (i + 1) (Some (new_domain mode root)) (domain_at m.domains) e
   domains_are e = ap (λ hs. domain_at hs e) domains ∙ domain_set m.domains i (Some (new_domain mode root)) less e
@@ -151,7 +151,8 @@ makes m t mode i root many less free grown is_space all is =
               (i + 1, (omega arith, omega (arith, less, many), is_none (w.domains (i + 1)) absent), refl),
             ),
             with_new m t w mode i root q many less free grown is_space all (ap (λ (x : State). x.domains) is)
-                (ap (λ (x : State). x.iommu.contexts) is) (ap (λ (x : State). x.iommu.unit) is),
+                (ap (λ (x : State). x.iommu.contexts) is) (ap (λ (x : State). x.iommu.unit) is)
+                (ap (λ (x : State). x.tickets) is),
           );
       exact = omega (arith, grown.roots.count);
       becomes = let place : i + 1 - 1 ≡ i = omega arith in (root, grown.roots, rw place is);

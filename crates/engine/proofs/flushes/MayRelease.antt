@@ -33,7 +33,7 @@ use Rattle.dmatypes.specs.declared.width.TheConstants.{LEVELS}
 -- ---- pieces
 
 -- a piece has a page
-piece_some : (from : ℕ) (q : Piece) (ps : List Piece) → IsOrdered from ps → IsIn q ps → (from ≤ q.first) × (q.first ≤ q.last)
+pub piece_some : (from : ℕ) (q : Piece) (ps : List Piece) → IsOrdered from ps → IsIn q ps → (from ≤ q.first) × (q.first ≤ q.last)
 piece_some from q [] ordered inside = absurd inside
 piece_some from q (p ∷ ps) ordered (inl same) =
     subst (λ (x : Piece). (from ≤ x.first) × (x.first ≤ x.last)) (sym same) (ordered.0, ordered.1)
@@ -41,7 +41,7 @@ piece_some from q (p ∷ ps) ordered (inr rest) =
     let k = piece_some (p.last + 1) q ps ordered.3 rest in (omega (arith, k.0, ordered.0, ordered.1), k.1)
 
 -- ranges that are apart are of different pieces
-pieces_differ : (a b : Range) → 1 ≤ a.first → a.first ≤ a.first + a.pages - 1 → b.first ≤ b.first + b.pages - 1 → AreApart a b
+pub pieces_differ : (a b : Range) → 1 ≤ a.first → a.first ≤ a.first + a.pages - 1 → b.first ≤ b.first + b.pages - 1 → AreApart a b
     → piece_of a pages.Retired ≢ piece_of b pages.Retired
 pieces_differ a b positive some_a some_b apart same =
     let first : a.first ≡ b.first = ap (λ (x : Piece). x.first) same in
@@ -171,6 +171,18 @@ first_released pool pool1 space space1 r rest are went =
     let differ = differ_first r rest are.differ in
     others_releasable pool pool1 space space1 (r ∷ rest) rest r are went (λ x i. inr i) (λ x i same. differ.0 x i (sym same)) differ.1
     (λ f. held-first r rest f)
+
+-- the others, where it stays
+pub rest_releasable : (pool : Pool) (space : Space) (r : Record) (rest : List Record) → AreReleasable pool space (r ∷ rest)
+    → AreReleasable pool space rest
+rest_releasable pool space r rest are = record {
+  is_space = are.is_space;
+  pieces = λ x i. are.pieces x (inr i);
+  differ = (differ_first r rest are.differ).1;
+  once = λ f. omega (arith, are.once f, held-first r rest f);
+  within = λ f some. are.within f (omega (arith, some, held-first r rest f));
+  zeroed = λ f some. are.zeroed f (omega (arith, some, held-first r rest f));
+}
 
 -- the last one
 differ_last : (rest : List Record) (r : Record) → AllDiffer (rest ++ r ∷ [])

@@ -22,7 +22,7 @@ use Rattle.engine.specs.Ending.{Releases, ReleasesAll, left_by_all}
 use Rattle.engine.specs.Ready.{AreReleasable}
 use Rattle.engine.specs.Domains.{Domain, domain_at, held_in}
 use Rattle.engine.specs.State.{State}
-use Rattle.engine.specs.Quarantine.{IsOfDomain, Marked, Mirrors, Quarantine, marked_here, marked_there}
+use Rattle.engine.specs.Quarantine.{Marked, Mirrors, Quarantine, marked_here, marked_there}
 use Rattle.engine.proofs.states.OneDomain.{ChangesDomain, changes_domain, same_tree}
 use Rattle.engine.proofs.frames.Held.{held-nil}
 use Rattle.engine.proofs.domains.OneChanged.{domain_set}
@@ -118,12 +118,12 @@ releases_first pool pool1 pool2 space space1 space2 done r so_far next retirable
 -- ---- a flush
 
 -- the state's records are the world's
-in_records : (h : Domain) (v : world.Domain) → IsOfDomain h v → (r : Retired) → IsIn r v.retired
-    → (k : Record) × IsIn k h.records × (r.range ≡ k.range)
-in_records h v ids r inside =
-    let there : IsIn (marked_there r) (map marked_here h.records) =
-    subst (λ (xs : List Marked). IsIn (marked_there r) xs) (sym ids.records) (in_mapped marked_there r v.retired inside) in
-    let k = of_mapped marked_here (marked_there r) h.records there in
+pub matched : (ks : List Record) (rs : List Retired) → map marked_here ks ≡ map marked_there rs → (r : Retired) → IsIn r rs
+    → (k : Record) × IsIn k ks × (r.range ≡ k.range)
+matched ks rs same r inside =
+    let there : IsIn (marked_there r) (map marked_here ks) =
+    subst (λ (xs : List Marked). IsIn (marked_there r) xs) (sym same) (in_mapped marked_there r rs inside) in
+    let k = of_mapped marked_here (marked_there r) ks there in
     (k.0, k.1, ap (λ (x : Marked). x.range) k.2)
 
 pub matching : (ks : List Record) (rs : List Retired) → map marked_here ks ≡ map marked_there rs → (k : Record) → IsIn k ks
@@ -140,7 +140,9 @@ mirrors_flushed pool pool' space' h v mirrors all = record {
   ids = record { mode = mirrors.ids.mode; begun = mirrors.ids.begun; records = refl };
   tree = λ p low. ap (λ ws. states (memory ws) LEVELS h.root p) all.words ∙ mirrors.tree p low;
   pieces = pieces_flushed h.space space' v mirrors.pieces all.is_space all.last
-      (λ p some. let k = in_records h v mirrors.ids some.0 some.1 in all.inside k.0 k.1 p (subst (λ (x : Range). IsWithin x p) k.2 some.2))
+      (λ p some.
+      let k = matched h.records v.retired mirrors.ids.records some.0 some.1 in
+      all.inside k.0 k.1 p (subst (λ (x : Range). IsWithin x p) k.2 some.2))
       (λ p none.
       all.outside p (λ k i within.
       let r = matching h.records v.retired mirrors.ids.records k i in none (r.0, r.1, subst (λ (x : Range). IsWithin x p) r.2 within)));
@@ -157,11 +159,12 @@ flush_changes : (m t : State) (w : World) (i : ℕ) (h : Domain) (v : world.Doma
     → length m.domains ≡ MOST_DOMAINS
     → i < length m.domains → domain_at m.domains (i + 1) ≡ Some h → Mirrors m.pool.words h v
     → Purges (IotlbDomain (i + 1)) m.iommu.unit.caches t.iommu.unit.caches → ReleasesAll m.pool h.space h.records t.pool space
-    → t.domains ≡ slice_set m.domains i (Some (domain_after h space [])) → t.iommu.contexts ≡ m.iommu.contexts
+    → t.domains ≡ slice_set m.domains i (Some (domain_after h space [])) → t.iommu.contexts ≡ m.iommu.contexts → t.tickets ≡ m.tickets
     → ChangesDomain m t (i + 1) h (domain_after h space []) v (flushed v)
-flush_changes m t w i h v space q many less there mirrors purges all domains row = record {
+flush_changes m t w i h v space q many less there mirrors purges all domains row tickets = record {
   domains = λ e. ap (λ hs. domain_at hs e) domains ∙ domain_set m.domains i (Some (domain_after h space [])) less e;
   row = row;
+  tickets = tickets;
   root = refl;
   frames = all.frames;
   mirrors = mirrors_flushed m.pool t.pool space h v mirrors all;
@@ -184,8 +187,9 @@ pub domain_flushed : (m t : State) (w : World) (i n : ℕ) (h : Domain) (v : wor
     → length m.domains ≡ MOST_DOMAINS → i < length m.domains → domain_at m.domains (i + 1) ≡ Some h → w.domains (i + 1) ≡ Some v
     → t.iommu.unit.caches ≡ left_by_all (m.iommu.ring.waiting ++ IotlbDomain (i + 1) ∷ Wait n ∷ []) m.iommu.unit.caches
     → ReleasesAll m.pool h.space h.records t.pool space → t.domains ≡ slice_set m.domains i (Some (domain_after h space []))
-    → t.iommu.contexts ≡ m.iommu.contexts → Quarantine t (record w { domains = put (i + 1) (Some (flushed v)) w.domains })
-domain_flushed m t w i n h v space q many less there here caches all domains row =
+    → t.iommu.contexts ≡ m.iommu.contexts → t.tickets ≡ m.tickets
+    → Quarantine t (record w { domains = put (i + 1) (Some (flushed v)) w.domains })
+domain_flushed m t w i n h v space q many less there here caches all domains row tickets =
     changes_domain m t w (i + 1) h (domain_after h space []) v (flushed v) q many there here
     (flush_changes m t w i h v space q many less there (mirrors_of m w (i + 1) h v q there here)
-    (purges_sent m.iommu.ring.waiting (IotlbDomain (i + 1)) n m.iommu.unit.caches t.iommu.unit.caches caches) all domains row)
+    (purges_sent m.iommu.ring.waiting (IotlbDomain (i + 1)) n m.iommu.unit.caches t.iommu.unit.caches caches) all domains row tickets)

@@ -1,6 +1,6 @@
 -- Flushes and drops: how they are refused, and what they change.
-use Rattle.std.proofs.Common.{◌≡◌, ℕ, ◌+◌, ◌-◌, ◌<◌, inl, inr, [], ◌∷◌, ◌++◌, length, Option, Some, None, refl, sym, ap, subst, ◌∙◌, arith}
-use Rattle.std.proofs.Common.{slice_get, slice_set, IsNone}
+use Rattle.std.proofs.Common.{◌≡◌, ℕ, ◌+◌, ◌-◌, ◌<◌, inl, inr, ⊎_elim, List, map, [], ◌∷◌, ◌++◌, length, Option, Some, None}
+use Rattle.std.proofs.Common.{refl, sym, ap, subst, ◌∙◌, arith, slice_get, slice_set, IsNone}
 use Rattle.std.proofs.lemmas.List.{length-set}
 use Rattle.std.proofs.lemmas.Option.{same_Some}
 use Rattle.dmatypes.specs.declared.width.Width.TheVariants.{W39}
@@ -11,9 +11,9 @@ use Rattle.dmatypes.specs.declared.reply.Reply.{Reply}
 use Rattle.dmatypes.specs.declared.call.Call.TheVariants as calls
 use Rattle.dmatypes.specs.declared.refusal.Refusal.TheVariants as refusals
 use Rattle.dmatypes.specs.declared.reply.Reply.TheVariants.{Done, Flushed, Refused}
-use Rattle.dmatypes.specs.Conditions.{Stands}
+use Rattle.dmatypes.specs.Conditions.{SomeHas, Stands}
 use Rattle.dmatypes.specs.Step.{Answers, IsStep, next}
-use Rattle.dmatypes.specs.World.{World, flushed, put}
+use Rattle.dmatypes.specs.World.{World, IsIn, flushed, put}
 use Rattle.dmatypes.specs.World as world
 use Rattle.tables.specs.Pool.{Pool}
 use Rattle.vtdbits.specs.declared.descriptor.Descriptor.TheVariants.{IotlbDomain, Wait}
@@ -21,7 +21,8 @@ use Rattle.engine.specs.declared.iommu.Iommu.{Iommu}
 use Rattle.engine.specs.Ending.{Closes, Flushes, Invalidates, left_by_all, domain_shown, status_of}
 use Rattle.engine.specs.Domains.{Domain, domain_at, parts_of}
 use Rattle.engine.specs.State.{Becomes, Exact, State, parts_in}
-use Rattle.engine.specs.Quarantine.{IsOfSomeWorld, Quarantine, attached}
+use Rattle.engine.specs.Quarantine.{IsOfSomeWorld, Quarantine, attached, ticket_there}
+use Rattle.engine.specs.declared.ticket.Ticket.{Ticket}
 use Rattle.engine.specs.Steps.{Does}
 use Rattle.engine.specs.Whole.{IsWhole}
 use Rattle.engine.proofs.domains.Dropped.{domain_dropped}
@@ -57,7 +58,7 @@ unfolding Exact IsStep Stands
 drop_busy m t domain h is there (v, at) = refuses m t (calls.Drop domain) refusals.Busy is tt
     (λ w q.
     let both = both_there m.pool.words (domain_at m.domains domain) (w.domains domain) h (q.domains domain) there in
-    inl (inr (not_none (w.domains domain) both.0 both.1, inl ((v, q.contexts.devices v ∙ at), refl))))
+    inl (inr (not_none (w.domains domain) both.0 both.1, inl (inl (v, q.contexts.devices v ∙ at), refl))))
 
 -- a device is attached to a domain that is there
 pub drop_attached : (m t : State) (domain : ℕ) → IsOfSomeWorld m → t ≡ counted m
@@ -71,6 +72,29 @@ drop_attached m t domain (w, q) is (v, to) = by_entry (slice_get m.iommu.context
         let same : named ≡ domain = same_Some named domain (sym (ap attached at) ∙ to) in
         let h = q.contexts.roots v root named at in
         drop_busy m t domain h.0 is (ap (domain_at m.domains) (sym same) ∙ h.1) (v, to)
+
+-- a ticket of the domain is open
+told_there : (m : State) (domain : ℕ) (ts : List Ticket) → SomeHas (λ t. t.domain ≡ domain) (map ticket_there ts)
+    → (x : Ticket) × IsIn x ts × (x.domain ≡ domain)
+told_there m domain [] none = absurd none
+told_there m domain (x ∷ xs) (inl same) = (x, inl refl, same)
+told_there m domain (x ∷ xs) (inr rest) = let k = told_there m domain xs rest in (k.0, inr k.1, k.2)
+
+none_open : (m : State) (domain : ℕ) → ((x : Ticket) → IsIn x m.tickets → x.domain ≡ domain → ⊥) → (ts : List world.Ticket)
+    → ts ≡ map ticket_there m.tickets → SomeHas (λ t. t.domain ≡ domain) ts → ⊥
+none_open m domain none ts is some =
+    let k = told_there m domain m.tickets (subst (SomeHas (λ t. t.domain ≡ domain)) is some) in none k.0 k.1 k.2
+
+pub drop_open : (m t : State) (domain : ℕ) (h : Domain) → t ≡ counted m → domain_at m.domains domain ≡ Some h
+    → SomeHas (λ t. t.domain ≡ domain) (map ticket_there m.tickets) → Does m (calls.Drop domain) (Refused refusals.Busy) t
+unfolding Exact IsStep Stands
+drop_open m t domain h is there told = refuses m t (calls.Drop domain) refusals.Busy is tt
+    (λ w q.
+    let both = both_there m.pool.words (domain_at m.domains domain) (w.domains domain) h (q.domains domain) there in
+    inl (inr (
+      not_none (w.domains domain) both.0 both.1,
+      inl (inr (subst (SomeHas (λ t. t.domain ≡ domain)) (sym q.tickets) told), refl),
+    )))
 
 -- ---- done
 
@@ -119,7 +143,7 @@ module _ (m : State) (domain i : ℕ) (h : Domain) (pool : Pool) (x : Iommu) (wh
                 (at_id after_flush w (Some (flushed v.0))
                 (domain_flushed m after_flush w i (status_of x.sent) h v.0 new.space q whole.places less at_next
                 there' caches flushes.releases (ap (λ (d : Domain). slice_set m.domains i (Some d)) flushes.same)
-                flushes.invalidates.contexts)),
+                flushes.invalidates.contexts refl)),
           );
       exact = tt;
       becomes = (h, new, there, flushes, rw place refl);
@@ -129,7 +153,8 @@ module _ (m : State) (domain i : ℕ) (h : Domain) (pool : Pool) (x : Iommu) (wh
     pub flush_did : Did m (calls.Flush domain) (Flushed released) after_flush
     flush_did = record { does = flush_does; whole = sends (Some new) flush_does flushes.invalidates }
 
-  module _ (nobody : (v : ℕ) → attached (slice_get m.iommu.contexts v) ≡ Some domain → ⊥) (closes : Closes (parts_in m h) domain pool x)
+  module _ (nobody : (v : ℕ) → attached (slice_get m.iommu.contexts v) ≡ Some domain → ⊥)
+      (untold : (x : Ticket) → IsIn x m.tickets → x.domain ≡ domain → ⊥) (closes : Closes (parts_in m h) domain pool x)
     where
       abbrev after_drop : State
       after_drop = changed m i pool None x
@@ -143,8 +168,18 @@ module _ (m : State) (domain i : ℕ) (h : Domain) (pool : Pool) (x : Iommu) (wh
             let closes' : Closes (parts_in m h) (i + 1) pool x = rw id at closes in
             let alone : (k : ℕ) → w.devices k ≡ Some domain → ⊥ = (λ k to. nobody k (sym (q.contexts.devices k) ∙ to)) in
             let alone' : (k : ℕ) → w.devices k ≡ Some (i + 1) → ⊥ = rw id at alone in (
-              ((not_none (w.domains domain) v.0 v.1, (λ some. alone some.0 some.1, tt)), refl),
-              at_id after_drop w None (domain_dropped m after_drop w i h v.0 q whole.places less at_next there' alone' closes' refl),
+              (
+                (
+                  not_none (w.domains domain) v.0 v.1,
+                  (
+                    ⊎_elim (λ some. alone some.0 some.1)
+                        (λ some. none_open m domain untold w.tickets (q.tickets) some),
+                    tt,
+                  ),
+                ),
+                refl,
+              ),
+              at_id after_drop w None (domain_dropped m after_drop w i h v.0 q whole.places less at_next there' alone' closes' refl refl),
             );
         exact = tt;
         becomes = (h, there, closes, rw place refl);

@@ -1,5 +1,6 @@
 -- Membership in lists that are joined or mapped.
-use Rattle.std.proofs.Common.{◌≡◌, ◌⊎◌, ℕ, zero, suc, inl, inr, List, [], ◌∷◌, ◌++◌, map, refl, ap, slice_set}
+use Rattle.std.proofs.Common.{◌≡◌, ◌⊎◌, ℕ, zero, suc, ◌<◌, inl, inr, List, [], ◌∷◌, ◌++◌, map}
+use Rattle.std.proofs.Common.{refl, ap, arith, length, slice_index_or, slice_set}
 use Rattle.dmatypes.specs.World.{IsIn}
 
 pub in_left : {X : Type 0} (x : X) (xs ys : List X) → IsIn x xs → IsIn x (xs ++ ys)
@@ -21,6 +22,12 @@ in_either x y (z ∷ xs) (inr rest) = elim (in_either x y xs rest) [ inl old ↦
 -- its last element
 pub in_last : {X : Type 0} (x : X) (xs : List X) → IsIn x (xs ++ x ∷ [])
 in_last x xs = in_right x xs (x ∷ []) (inl refl)
+
+-- an element at a place
+pub in_at : {X : Type 0} (xs : List X) (i : ℕ) (d : X) → i < length xs → IsIn (slice_index_or xs i d) xs
+in_at [] i d less = absurd (omega (arith, less))
+in_at (x ∷ xs) zero d less = inl refl
+in_at (x ∷ xs) (suc i) d less = inr (in_at xs i d (omega (arith, less)))
 
 pub in_mapped : {X Y : Type 0} (f : X → Y) (x : X) (xs : List X) → IsIn x xs → IsIn (f x) (map f xs)
 in_mapped f x [] inside = absurd inside

@@ -1,5 +1,5 @@
 -- A map: how it is refused, and what it changes.
-use Rattle.std.proofs.Common.{◌≡◌, ◌≢◌, ℕ, ◌+◌, ◌-◌, ◌*◌, ◌/◌, ◌%◌, ◌^◌, ◌<◌, ◌≤◌, ◌⊎◌, inl, inr, List, [], length, Option, Some, None}
+use Rattle.std.proofs.Common.{map, ◌≡◌, ◌≢◌, ℕ, ◌+◌, ◌-◌, ◌*◌, ◌/◌, ◌%◌, ◌^◌, ◌<◌, ◌≤◌, ◌⊎◌, inl, inr, List, [], length, Option, Some, None}
 use Rattle.std.proofs.Common.{Result, Ok, Err, refl, sym, ap, subst, ◌∙◌, arith, slice_get, slice_set}
 use Rattle.std.proofs.lemmas.Option.{none-some, same_Some}
 use Rattle.dmatypes.specs.declared.call.Call.TheVariants as calls
@@ -27,7 +27,7 @@ use Rattle.engine.specs.Domains.{Domain, domain_at, held_in}
 use Rattle.engine.specs.Judged.{AreMappable, AreOwned, IsJudged, Wants}
 use Rattle.engine.specs.State.{State, Exact, Becomes, mapped_reply}
 use Rattle.engine.specs.Placing.{IsCrowded, IsShort, IsUnplaced, Placement, Places}
-use Rattle.engine.specs.Quarantine.{AreLawful, Mirrors, PartsPages, Quarantine, owned}
+use Rattle.engine.specs.Quarantine.{AreLawful, Mirrors, PartsPages, Quarantine, owned, ticket_there}
 use Rattle.engine.specs.Steps.{Does}
 use Rattle.engine.proofs.frames.Owners.{apart_of, frames_move, held_zeroed, tree_of}
 use Rattle.engine.proofs.frames.Held.{held_stays}
@@ -238,8 +238,9 @@ with_map : (m t : State) (w : World) (i : ℕ) (h h1 : Domain) (v : world.Domain
     → w.domains (i + 1) ≡ Some v
     → Mirrors m.pool.words h v → Places m.pool h (placement segments order rights first) t.pool h1 → 1 ≤ total_pages segments
     → t.domains ≡ slice_set m.domains i (Some (domain_mapped h h1.space)) → t.iommu.contexts ≡ m.iommu.contexts
-    → t.iommu.unit ≡ m.iommu.unit → Quarantine t (record w { domains = put (i + 1) (Some (mapped segments first rights v)) w.domains })
-with_map m t w i h h1 v segments first order rights q many less there here mirrors places some domains row unit = record {
+    → t.iommu.unit ≡ m.iommu.unit → t.tickets ≡ m.tickets
+    → Quarantine t (record w { domains = put (i + 1) (Some (mapped segments first rights v)) w.domains })
+with_map m t w i h h1 v segments first order rights q many less there here mirrors places some domains row unit tickets = record {
   table_frames = q.table_frames ∙ sym places.moves.frames;
   domains =
       domains_put m t w (i + 1) (domain_mapped h h1.space) (mapped segments first rights v) q domains_are
@@ -260,7 +261,7 @@ with_map m t w i h h1 v segments first order rights q many less there here mirro
   frames =
       frames_move m.pool t.pool (domain_at m.domains) (domain_at t.domains) (i + 1) (Some (domain_mapped h h1.space)) q.frames low
       domains_are places.moves.frames moves stay places.is_pool.zeroed held;
-  tickets = q.tickets;
+  tickets = q.tickets ∙ ap (map ticket_there) (sym tickets);
 } where
   low : i + 1 < MOST_DOMAINS + 1
   low = domain_low m.domains (i + 1) h many there
@@ -371,7 +372,7 @@ maps m t order rights i first segments h h1 many less there good high are places
             rw (v.1, page)
                 (with_map m t w i h h1 v.0 segments.items first order rights q many less there v.1 v.2 places (some_page segments.items are)
                 (ap (λ (x : State). x.domains) is ∙ ap (λ (d : Domain). slice_set m.domains i (Some d)) places.same)
-                (ap (λ (x : State). x.iommu.contexts) is) (ap (λ (x : State). x.iommu.unit) is)),
+                (ap (λ (x : State). x.iommu.contexts) is) (ap (λ (x : State). x.iommu.unit) is) (ap (λ (x : State). x.tickets) is)),
           );
       exact = rw (there, page) (places.taken, omega (arith, places.count));
       becomes = let place : i + 1 - 1 ≡ i = omega arith in (h, h1, there, rw page places, rw place is);

@@ -81,7 +81,7 @@ as_domain m w P d e h v here there same has =
     let v_is : has.1 ≡ v = same_Some has.1 v (sym has.3 ∙ ap w.domains same ∙ there) in
     subst (P h) v_is (subst (λ k. P k has.1) h_is has.4)
 
-within : (address : ℕ) → (IsBeyond address → ⊥) → page_of address < PAGES_END
+pub within : (address : ℕ) → (IsBeyond address → ⊥) → page_of address < PAGES_END
 within address near = omega arith
 
 -- no domain for a device without one
@@ -94,7 +94,7 @@ of_some w device d v is there = ap (option_and_then w.domains) is ∙ there
 
 module _ (m : State) (w : World) (quarantine : Quarantine m w) where
   -- a context of the row or the cache is the row's
-  of_row : (look : Bool) (device : ℕ) (x : CachedContext) → IsContextOf m.iommu.contexts m.iommu.unit.caches.contexts look device x
+  pub of_row : (look : Bool) (device : ℕ) (x : CachedContext) → IsContextOf m.iommu.contexts m.iommu.unit.caches.contexts look device x
       → slice_get m.iommu.contexts x.device ≡ Some (Present x.root W39 x.domain)
   of_row look device x is = elim is.1 [
     | inl row ↦ ap (slice_get m.iommu.contexts) is.0 ∙ row
@@ -102,7 +102,7 @@ module _ (m : State) (w : World) (quarantine : Quarantine m w) where
   ]
 
   -- it names the domain that its device is attached to, and that domain's root
-  of_context : (x : CachedContext) → slice_get m.iommu.contexts x.device ≡ Some (Present x.root W39 x.domain)
+  pub of_context : (x : CachedContext) → slice_get m.iommu.contexts x.device ≡ Some (Present x.root W39 x.domain)
       → (h : Domain) × (v : world.Domain) × (domain_at m.domains x.domain ≡ Some h) × (w.domains x.domain ≡ Some v) × (h.root ≡ x.root)
       × Mirrors m.pool.words h v × (domain_of_device w x.device ≡ Some v)
   of_context x row =
@@ -124,7 +124,7 @@ module _ (m : State) (w : World) (lawful : AreLawful m w m.iommu.unit.caches) (x
     (here : domain_at m.domains x.domain ≡ Some h) (there : w.domains x.domain ≡ Some v) (root : h.root ≡ x.root)
     (mirrors : Mirrors m.pool.words h v)
     (look fill : Bool) (p : ℕ) (low : p < PAGES_END) (leaves' : List CachedLeaf) (tables' : List CachedNonLeaf) (t : Option Target) where
-  begun : (level table : ℕ) → IsStart m.iommu.unit.caches.non_leaves look x p level table
+  pub begun : (level table : ℕ) → IsStart m.iommu.unit.caches.non_leaves look x p level table
       → IsOnWay m.pool.words h.root p level table ⊎ MeetsNothing m.pool.words v p level table
   begun level table start =
       from_start m.pool.words h v mirrors m.iommu.unit.caches.non_leaves look x p level table root

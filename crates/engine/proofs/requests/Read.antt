@@ -43,7 +43,7 @@ of_map f y (x ∷ xs) (inl same) = (x, inl refl, same)
 of_map f y (x ∷ xs) (inr h) = let k = of_map f y xs h in (k.0, inr k.1, k.2)
 
 -- a page in a record of the state is in one of the world
-of_record : (h : Domain) (v : world.Domain) (r : Record) (p : ℕ) → IsOfDomain h v → IsIn r h.records → r.range.first ≤ p
+pub of_record : (h : Domain) (v : world.Domain) (r : Record) (p : ℕ) → IsOfDomain h v → IsIn r h.records → r.range.first ≤ p
     → p < r.range.first + r.range.pages → IsInRecord v p
 of_record h v r p ids inside low high =
     let there : IsIn (marked_here r) (map marked_there v.retired) =
@@ -55,7 +55,7 @@ of_record h v r p ids inside low high =
     (found.0, found.1, (omega arith, omega arith))
 
 -- and it isn't live
-retired_none : (space : Space) (v : world.Domain) (p : ℕ) → PartsPages space v → IsInRecord v p → v.live p ≡ None
+pub retired_none : (space : Space) (v : world.Domain) (p : ℕ) → PartsPages space v → IsInRecord v p → v.live p ≡ None
 retired_none space v p parts inside = by_live (v.live p) refl
   where
     by_live : (o : Option Target) → v.live p ≡ o → v.live p ≡ None
@@ -144,7 +144,7 @@ module _ (words : List ℕ) (h : Domain) (v : world.Domain) (mirrors : Mirrors w
   )
 
   -- and each of its pages is live, as the leaf states it
-  met_stated : (p q : ℕ) (y : Found) → p < PAGES_END → leaf_from (memory words) LEVELS h.root p ≡ Some y → p - p % span y.size ≤ q
+  pub met_stated : (p q : ℕ) (y : Found) → p < PAGES_END → leaf_from (memory words) LEVELS h.root p ≡ Some y → p - p % span y.size ≤ q
       → q < p - p % span y.size + span y.size → v.live q ≡ Some (target (y.frame + (q - (p - p % span y.size))) y.rights)
   met_stated p q y low there above below =
       let pos : 0 < span y.size = span_pos y.size in

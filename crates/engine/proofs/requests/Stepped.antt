@@ -138,6 +138,9 @@ no_hit w (calls.Map domain frame pages order rights) reply other = refl
 no_hit w (calls.MapList domain order rights segments) reply other = refl
 no_hit w (calls.Unmap domain address pages) reply other = refl
 no_hit w (calls.Flush domain) reply other = refl
+no_hit w (calls.Begin domain) reply other = refl
+no_hit w calls.Unit reply other = refl
+no_hit w (calls.Reap domain number) reply other = refl
 no_hit w (calls.Dma device address access whim) reply other = absurd (other device address access whim refl)
 no_hit w (calls.Evict kind place) reply other = refl
 

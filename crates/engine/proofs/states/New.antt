@@ -1,7 +1,6 @@
 -- A new state is one of the empty world.
-use Rattle.std.proofs.Common.{◌≡◌, ℕ, zero, suc, ◌+◌, ◌*◌, ◌<◌, ◌≤◌, ⊎_elim, inl, inr, List, [], ◌∷◌, ◌++◌, length, length-append, Option}
-use Rattle.std.proofs.Common.{Some, None}
-use Rattle.std.proofs.Common.{refl, sym, ap, subst, ◌∙◌, arith, replicate, slice_get}
+use Rattle.std.proofs.Common.{map, ◌≡◌, ℕ, zero, suc, ◌+◌, ◌*◌, ◌<◌, ◌≤◌, ⊎_elim, inl, inr, List, [], ◌∷◌, ◌++◌, length, length-append}
+use Rattle.std.proofs.Common.{Option, Some, None, refl, sym, ap, subst, ◌∙◌, arith, replicate, slice_get}
 use Rattle.std.proofs.lemmas.Bool.{cases_lt}
 use Rattle.dmatypes.specs.World.{World, IsIn, empty}
 use Rattle.dmatypes.specs.declared.width.Width.TheVariants.{W39}
@@ -14,11 +13,11 @@ use Rattle.tables.specs.Tree.{sum_below}
 use Rattle.tables.proofs.pools.FreeList.{counted_up, counted_past, zero_words}
 use Rattle.tables.proofs.sums.Firsts.{sum_below-none}
 use Rattle.std.specs.Option.{option_flatten}
-use Rattle.engine.specs.Ending.{status_of}
+use Rattle.engine.specs.Tickets.{AreDifferent, Follow, KeepsTickets, pairs_of}
 use Rattle.engine.specs.Domains.{Domain, domain_at}
 use Rattle.engine.specs.State.{IsNew, State}
 use Rattle.engine.specs.Whole.{IsWhole}
-use Rattle.engine.specs.Quarantine.{AreLawful, Quarantine, attached, owned}
+use Rattle.engine.specs.Quarantine.{AreLawful, Quarantine, attached, owned, ticket_there}
 use Rattle.engine.proofs.domains.OneChanged.{domain_of_place}
 use Rattle.dmatypes.specs.declared.limits.TheConstants.{DEVICES, MOST_DOMAINS}
 use Rattle.tables.specs.declared.entries.TheConstants.{TABLE_ENTRIES}
@@ -74,12 +73,32 @@ of_empty_world m frames new = record {
         (cases_lt f frames);
     held = λ d f h there some. absurd (none-some h (sym (no_domain m.domains d new.domains_are) ∙ there));
   };
-  tickets = refl;
+  tickets = sym (ap (map ticket_there) new.tickets_are);
 } where
   none : (f : ℕ) → sum_below (λ d. owned (memory m.pool.words) (domain_at m.domains d) f) (MOST_DOMAINS + 1) ≡ 0
   none f =
       sum_below-none (λ d. owned (memory m.pool.words) (domain_at m.domains d) f) (MOST_DOMAINS + 1)
       (λ d less. ap (λ (o : Option Domain). owned (memory m.pool.words) o f) (no_domain m.domains d new.domains_are))
+
+-- no ticket is open
+no_tickets : (m : State) (frames : ℕ) → IsNew frames m → KeepsTickets m
+unfolding pairs_of Follow AreDifferent
+no_tickets m frames new = record {
+  done = [];
+  half = [];
+  ahead = [];
+  reached = 0;
+  split = new.tickets_are;
+  one = omega arith;
+  ring = ap (λ (r : Ring). r.waiting) new.ring_is;
+  status = ap (λ (r : Ring). r.status) new.ring_is;
+  sent = sym new.sent_is;
+  past = λ t none. absurd none;
+  clear = λ t none. absurd none;
+  different = subst AreDifferent (sym new.tickets_are) tt;
+  begun = λ t inside. absurd (subst (IsIn t) new.tickets_are inside);
+  few = let none = ap length new.tickets_are in omega (arith, none);
+}
 
 pub whole_new : (m : State) (frames : ℕ) → IsNew frames m → IsWhole frames m
 whole_new m frames new = record {
@@ -87,10 +106,14 @@ whole_new m frames new = record {
   places = ap length new.domains_are;
   devices = ap length new.contexts_are;
   frames_are = sym new.frames_are;
-  idle = ap (λ (r : Ring). r.waiting) new.ring_is;
-  status = ap (λ (r : Ring). r.status) new.ring_is ∙ ap status_of (sym new.sent_is);
+  tickets = no_tickets m frames new;
   sent = omega (arith, new.sent_is);
-  steps = (let zero_steps : m.iommu.unit.steps ≡ 0 = ap (λ (u : UnitState). u.steps) new.unit_is in omega (arith, zero_steps));
+  steps = (
+      let zero_steps : m.iommu.unit.steps ≡ 0 = ap (λ (u : UnitState). u.steps) new.unit_is in
+      let none = ap (λ (r : Ring). length r.waiting) new.ring_is in
+      omega (arith, zero_steps, none)
+      );
+  begun = λ h inside. absurd (not_there MOST_DOMAINS h (subst (λ ds. IsIn (Some h) ds) new.domains_are inside));
   made = λ h inside. absurd (not_there MOST_DOMAINS h (subst (λ ds. IsIn (Some h) ds) new.domains_are inside));
 }
 
@@ -121,6 +144,7 @@ new_state frames = record {
   pool = record { words = replicate (frames * TABLE_ENTRIES) 0; free = frames_up frames; frames = frames };
   domains = replicate MOST_DOMAINS None;
   iommu = record { contexts = replicate DEVICES Absent; ring = ring_of [] 0 []; unit = unit_state nothing 0 0; sent = 0; shown = None };
+  tickets = [];
   calls = 0;
 }
 
@@ -138,5 +162,6 @@ new_is_new frames = record {
   unit_is = refl;
   sent_is = refl;
   shown_is = refl;
+  tickets_are = refl;
   calls_are = refl;
 }

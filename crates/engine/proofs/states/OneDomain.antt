@@ -1,5 +1,5 @@
 -- A call that changes one domain, with free frames, and leaves no entry in the caches that isn't lawful then.
-use Rattle.std.proofs.Common.{◌≡◌, ◌≢◌, ℕ, ◌+◌, ◌<◌, ◌⊎◌, inl, inr, List, length, Option, Some, None, refl, sym, ap, subst, ◌∙◌, arith}
+use Rattle.std.proofs.Common.{◌≡◌, ◌≢◌, ℕ, ◌+◌, ◌<◌, ◌⊎◌, inl, inr, List, length, map, Option, Some, None, refl, sym, ap, subst, ◌∙◌, arith}
 use Rattle.std.proofs.lemmas.Option.{same_Some}
 use Rattle.dmatypes.specs.World.{World, IsIn, put}
 use Rattle.dmatypes.specs.World as world
@@ -9,7 +9,7 @@ use Rattle.tables.specs.Tree.{leaf_from, table_from, uses}
 use Rattle.unit.specs.Caches.{CachedContext, CachedLeaf, CachedNonLeaf}
 use Rattle.engine.specs.Domains.{Domain, held_in, domain_at}
 use Rattle.engine.specs.State.{State}
-use Rattle.engine.specs.Quarantine.{Attaches, InDomain, IsLawfulLeaf, IsLawfulTable, Mirrors, Quarantine, owned}
+use Rattle.engine.specs.Quarantine.{Attaches, InDomain, IsLawfulLeaf, IsLawfulTable, Mirrors, Quarantine, owned, ticket_there}
 use Rattle.engine.proofs.frames.Owners.{frames_move}
 use Rattle.engine.proofs.frames.Held.{held_stays}
 use Rattle.engine.proofs.caches.Lawful.{KeepsLawful, keeps_same}
@@ -38,6 +38,7 @@ tree_stays old new words root stays same =
 pub record ChangesDomain (m t : State) (d : ℕ) (h h' : Domain) (v v' : world.Domain) : Type 0 where
   pub domains : (e : ℕ) → domain_at t.domains e ≡ put d (Some h') (domain_at m.domains) e
   pub row : t.iommu.contexts ≡ m.iommu.contexts
+  pub tickets : t.tickets ≡ m.tickets
   pub root : h'.root ≡ h.root
   pub frames : t.pool.frames ≡ m.pool.frames
   pub mirrors : Mirrors t.pool.words h' v'
@@ -169,5 +170,5 @@ module _ (m t : State) (w : World) (d : ℕ) (h h' : Domain) (v v' : world.Domai
     frames =
         frames_move m.pool t.pool (domain_at m.domains) (domain_at t.domains) d (Some h') q.frames low c.domains c.frames moves stay
         c.zeroed held;
-    tickets = q.tickets;
+    tickets = q.tickets ∙ ap (map ticket_there) (sym c.tickets);
   }

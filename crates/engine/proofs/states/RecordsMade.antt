@@ -1,7 +1,7 @@
 -- The next wait is sent after all records of a state were made, whatever call goes before it.
 use Rattle.std.proofs.Common.{◌≡◌, ℕ, zero, suc, ◌+◌, ◌-◌, ◌≤◌, inl, inr, List, [], ◌∷◌, ◌++◌, Option, Some, None}
-use Rattle.std.proofs.Common.{sym, ap, subst, ◌∙◌, arith}
-use Rattle.std.proofs.Common.{slice_get, slice_set}
+use Rattle.std.proofs.Common.{refl, sym, ap, subst, ◌∙◌, arith}
+use Rattle.std.proofs.Common.{slice_get, slice_set, Bool, true, false, filter, not, if◌then◌else◌}
 use Rattle.std.specs.Option.{option_flatten}
 use Rattle.dmatypes.specs.World.{IsIn}
 use Rattle.dmatypes.specs.declared.call.Call.{Call}
@@ -9,14 +9,14 @@ use Rattle.dmatypes.specs.declared.call.Call.TheVariants as calls
 use Rattle.dmatypes.specs.declared.call.Mode.{Mode}
 use Rattle.dmatypes.specs.declared.call.Mode.TheVariants.{Strict, Lazy}
 use Rattle.dmatypes.specs.declared.reply.Reply.{Reply}
-use Rattle.dmatypes.specs.declared.reply.Reply.TheVariants.{Made, Done, Mapped, Unmapped, Flushed, Refused}
+use Rattle.dmatypes.specs.declared.reply.Reply.TheVariants.{Made, Done, Mapped, Unmapped, Flushed, Reaped, Refused, Stepped}
 use Rattle.dmatypes.specs.Page.{Range}
 use Rattle.engine.specs.declared.iommu.Iommu.{Iommu}
 use Rattle.engine.specs.declared.record.Record.{Record}
 use Rattle.engine.specs.Domains.{AreMadeBefore, Domain, Parts, domain_at}
-use Rattle.engine.specs.Ending.{ByMode, MakesRoom, PutsOff, UnmapsStrictly}
-use Rattle.engine.specs.State.{Becomes, State, parts_in}
-use Rattle.engine.specs.Whole.{AllAreMade}
+use Rattle.engine.specs.Ending.{ByMode, MakesRoom, PutsOff, UnmapsStrictly, was_before}
+use Rattle.engine.specs.State.{Becomes, State, begins, parts_in}
+use Rattle.engine.specs.Whole.{AllAreBegun, AllAreMade}
 use Rattle.engine.proofs.domains.OneChanged.{domain_of_place}
 use Rattle.engine.proofs.lists.Membership.{in_either, in_set}
 
@@ -63,6 +63,16 @@ module _ (old : Parts) (id released : ℕ) (range : Range) (new : Parts) (later 
             let quiet = ap (λ (x : Iommu). x.sent) does.quiet in
             omega (arith, stamp, quiet)
       ])
+
+in_filter : {X : Type 0} (test : X → Bool) (x : X) (xs : List X) → IsIn x (filter test xs) → IsIn x xs
+in_filter test x [] inside = inside
+in_filter test x (y ∷ ys) inside = by_test (test y) (in_filter test x ys) inside
+  where
+    by_test : (b : Bool) → (IsIn x (filter test ys) → IsIn x ys) → IsIn x (if b then y ∷ filter test ys else filter test ys)
+        → IsIn x (y ∷ ys)
+    by_test true more (inl same) = inl same
+    by_test true more (inr rest) = inr (more rest)
+    by_test false more rest = inr (more rest)
 
 -- ---- a call
 
@@ -123,5 +133,103 @@ made_kept m t (calls.Dma device address access whim) (Refused refusal) is later 
     same_made m t later made (ap (λ (x : State). x.domains) is)
 made_kept m t (calls.Dma device address access whim) _ (answer, reached, answers, filled, is) later made =
     same_made m t later made (ap (λ (x : State). x.domains) is)
+made_kept m t (calls.Begin domain) (Reply.Ticket other number) (h, there, new, id, begins_is, is) later made =
+    space_made m t later made (domain - 1) domain h (begins h) (ap (λ (x : State). x.domains) is) there refl
+made_kept m t (calls.Begin domain) _ is later made = same_made m t later made (ap (λ (x : State). x.domains) is)
+made_kept m t calls.Unit (Stepped progress) is later made = same_made m t later made (ap (λ (x : State). x.domains) is)
+made_kept m t calls.Unit _ is later made = same_made m t later made (ap (λ (x : State). x.domains) is)
+made_kept m t (calls.Reap domain number) (Reaped released) (h, new, there, reaps, is) later made =
+    one_made m t later made (domain - 1) (Some new) (ap (λ (x : State). x.domains) is)
+    (λ r inside. still_made m t later made h (domain_in m.domains domain h there) r
+    (in_filter (λ x. not (was_before number x)) r h.records (subst (IsIn r) (ap (λ (x : Domain). x.records) reaps.same) inside)))
+made_kept m t (calls.Reap domain number) _ is later made = same_made m t later made (ap (λ (x : State). x.domains) is)
 made_kept m t (calls.Evict kind place) Done is later made = same_made m t later made (ap (λ (x : State). x.domains) is)
 made_kept m t (calls.Evict kind place) _ is later made = same_made m t later made (ap (λ (x : State). x.domains) is)
+
+-- ---- the flushes that were begun
+
+ended_begun : (old : Parts) (id released : ℕ) (range : Range) (new : Parts) (mode : Mode)
+    → ByMode mode ((released ≡ 0) × UnmapsStrictly old id range new) (PutsOff old id range released new)
+    → new.domain.begun ≡ old.domain.begun
+ended_begun old id released range new Strict does =
+    ap (λ (h : Domain). h.begun) does.1.same ∙ ap (λ (h : Domain). h.begun) does.1.retires.same
+ended_begun old id released range new Lazy does =
+    ap (λ (h : Domain). h.begun) does.last ∙ ap (λ (h : Domain). h.begun) does.retires.same ∙ elim does.room [
+      | inl has ↦ ap (λ (p : Parts). p.domain.begun) has.same
+      | inr empties ↦ ap (λ (h : Domain). h.begun) empties.flushes.same
+    ]
+
+module _ (m t : State) (later : m.iommu.sent ≤ t.iommu.sent) (begun : AllAreBegun m) where
+  still_begun : (h : Domain) → IsIn (Some h) m.domains → h.begun ≤ t.iommu.sent
+  still_begun h inside = omega (arith, later, begun h inside)
+
+  same_begun : t.domains ≡ m.domains → AllAreBegun t
+  same_begun same h inside = still_begun h (subst (λ ds. IsIn (Some h) ds) same inside)
+
+  none_begun : (i : ℕ) → t.domains ≡ slice_set m.domains i None → AllAreBegun t
+  none_begun i is h inside = elim (in_set m.domains i None (Some h) (subst (λ ds. IsIn (Some h) ds) is inside)) [
+    | inl same ↦ absurd cc
+    | inr other ↦ still_begun h other
+  ]
+
+  one_begun : (i : ℕ) (new : Domain) → t.domains ≡ slice_set m.domains i (Some new) → new.begun ≤ t.iommu.sent → AllAreBegun t
+  one_begun i new is few h inside = elim (in_set m.domains i (Some new) (Some h) (subst (λ ds. IsIn (Some h) ds) is inside)) [
+    | inl same ↦ let this : h.begun ≡ new.begun = ap begun_in same in omega (arith, this, few)
+    | inr other ↦ still_begun h other
+  ] where
+    begun_in : Option Domain → ℕ
+    begun_in None = 0
+    begun_in (Some x) = x.begun
+
+  there_begun : (i d : ℕ) (h new : Domain) → t.domains ≡ slice_set m.domains i (Some new) → domain_at m.domains d ≡ Some h
+      → new.begun ≤ h.begun → AllAreBegun t
+  there_begun i d h new is there few =
+      let was = begun h (domain_in m.domains d h there) in one_begun i new is (omega (arith, was, few, later))
+
+pub begun_kept : (m t : State) (call : Call) (reply : Reply) → Becomes m call reply t → m.iommu.sent ≤ t.iommu.sent → AllAreBegun m
+    → AllAreBegun t
+unfolding Becomes
+begun_kept m t (calls.Domain mode) (Made d) (root, takes, is) later begun =
+    one_begun m t later begun (d - 1) _ (ap (λ (x : State). x.domains) is) (omega arith)
+begun_kept m t (calls.Domain mode) _ is later begun = same_begun m t later begun (ap (λ (x : State). x.domains) is)
+begun_kept m t (calls.Drop domain) Done (h, there, closes, is) later begun =
+    none_begun m t later begun (domain - 1) (ap (λ (x : State). x.domains) is)
+begun_kept m t (calls.Drop domain) _ is later begun = same_begun m t later begun (ap (λ (x : State). x.domains) is)
+begun_kept m t (calls.Map domain frame pages order rights) (Mapped address) (h, new, there, places, is) later begun =
+    there_begun m t later begun (domain - 1) domain h new (ap (λ (x : State). x.domains) is) there
+    (let same = ap (λ (x : Domain). x.begun) places.same in omega (arith, same))
+begun_kept m t (calls.Map domain frame pages order rights) _ is later begun = same_begun m t later begun (ap (λ (x : State). x.domains) is)
+begun_kept m t (calls.MapList domain order rights segments) (Mapped address) (h, new, there, places, is) later begun =
+    there_begun m t later begun (domain - 1) domain h new (ap (λ (x : State). x.domains) is) there
+    (let same = ap (λ (x : Domain). x.begun) places.same in omega (arith, same))
+begun_kept m t (calls.MapList domain order rights segments) _ is later begun = same_begun m t later begun (ap (λ (x : State). x.domains) is)
+begun_kept m t (calls.Flush domain) (Flushed released) (h, new, there, flushes, is) later begun =
+    there_begun m t later begun (domain - 1) domain h new (ap (λ (x : State). x.domains) is) there
+    (let same = ap (λ (x : Domain). x.begun) flushes.same in omega (arith, same))
+begun_kept m t (calls.Flush domain) _ is later begun = same_begun m t later begun (ap (λ (x : State). x.domains) is)
+begun_kept m t (calls.Unmap domain address pages) (Unmapped released) (h, new, there, ends, is) later begun =
+    there_begun m t later begun (domain - 1) domain h new (ap (λ (x : State). x.domains) is) there
+    (let same = ended_begun (parts_in m h) domain released _ (parts_in t new) h.mode ends in omega (arith, same))
+begun_kept m t (calls.Unmap domain address pages) _ is later begun = same_begun m t later begun (ap (λ (x : State). x.domains) is)
+begun_kept m t (calls.Begin domain) (Reply.Ticket other number) (h, there, new, id, begins_is, is) later begun =
+    let was = begun h (domain_in m.domains domain h there) in
+    let one : t.iommu.sent ≡ m.iommu.sent + 1 = ap (λ (x : Iommu). x.sent) begins_is in
+    one_begun m t later begun (domain - 1) (begins h) (ap (λ (x : State). x.domains) is) (omega (arith, was, one))
+begun_kept m t (calls.Begin domain) _ is later begun = same_begun m t later begun (ap (λ (x : State). x.domains) is)
+begun_kept m t (calls.Reap domain number) (Reaped released) (h, new, there, reaps, is) later begun =
+    there_begun m t later begun (domain - 1) domain h new (ap (λ (x : State). x.domains) is) there
+    (let same = ap (λ (x : Domain). x.begun) reaps.same in omega (arith, same))
+begun_kept m t (calls.Reap domain number) _ is later begun = same_begun m t later begun (ap (λ (x : State). x.domains) is)
+begun_kept m t (calls.Attach device domain) Done (h, there, is) later begun = same_begun m t later begun (ap (λ (x : State). x.domains) is)
+begun_kept m t (calls.Attach device domain) _ is later begun = same_begun m t later begun (ap (λ (x : State). x.domains) is)
+begun_kept m t (calls.Detach device) Done (domain, root, at, sends, is) later begun =
+    same_begun m t later begun (ap (λ (x : State). x.domains) is)
+begun_kept m t (calls.Detach device) _ is later begun = same_begun m t later begun (ap (λ (x : State). x.domains) is)
+begun_kept m t calls.Unit (Stepped progress) is later begun = same_begun m t later begun (ap (λ (x : State). x.domains) is)
+begun_kept m t calls.Unit _ is later begun = same_begun m t later begun (ap (λ (x : State). x.domains) is)
+begun_kept m t (calls.Dma device address access whim) (Refused refusal) is later begun =
+    same_begun m t later begun (ap (λ (x : State). x.domains) is)
+begun_kept m t (calls.Dma device address access whim) _ (answer, reached, answers, filled, is) later begun =
+    same_begun m t later begun (ap (λ (x : State). x.domains) is)
+begun_kept m t (calls.Evict kind place) Done is later begun = same_begun m t later begun (ap (λ (x : State). x.domains) is)
+begun_kept m t (calls.Evict kind place) _ is later begun = same_begun m t later begun (ap (λ (x : State). x.domains) is)

@@ -3,17 +3,18 @@ use Rattle.std.proofs.Common.{◌≡◌, ◌+◌, ◌∙◌, length, refl, sym, 
 use Rattle.dmatypes.specs.declared.call.Call.{Call}
 use Rattle.dmatypes.specs.declared.call.Call.TheVariants as calls
 use Rattle.dmatypes.specs.declared.reply.Reply.{Reply}
-use Rattle.dmatypes.specs.declared.reply.Reply.TheVariants.{Made, Done, Mapped, Unmapped, Flushed, Refused}
+use Rattle.dmatypes.specs.declared.reply.Reply.TheVariants.{Made, Done, Mapped, Unmapped, Flushed, Reaped, Refused}
 use Rattle.dmatypes.specs.declared.refusal.Refusal.{Refusal}
 use Rattle.dmatypes.specs.World.{World}
 use Rattle.dmatypes.specs.Step.{IsStep, next}
-use Rattle.engine.specs.Ending.{status_of}
 use Rattle.engine.specs.State.{State, Exact, Becomes}
 use Rattle.engine.specs.Quarantine.{IsOfSomeWorld, Quarantine}
+use Rattle.engine.specs.Tickets.{KeepsTickets}
 use Rattle.engine.specs.Whole.{IsWhole}
 use Rattle.queue.specs.Ring.{Ring}
 use Rattle.engine.specs.Steps.{Does}
-use Rattle.engine.proofs.states.RecordsMade.{made_kept}
+use Rattle.engine.proofs.states.RecordsMade.{begun_kept, made_kept}
+use Rattle.engine.proofs.tickets.EachCall.{tickets_kept}
 
 -- the same state, with one call more counted
 abbrev pub counted : State → State
@@ -40,6 +41,9 @@ next_refused w (calls.Flush domain) refusal = refl
 next_refused w (calls.Map domain frame pages order rights) refusal = refl
 next_refused w (calls.Dma device address access whim) refusal = refl
 next_refused w (calls.Unmap domain address pages) refusal = refl
+next_refused w (calls.Begin domain) refusal = refl
+next_refused w calls.Unit refusal = refl
+next_refused w (calls.Reap domain number) refusal = refl
 next_refused w (calls.Evict kind place) refusal = refl
 
 becomes_counted : (m t : State) (call : Call) (refusal : Refusal) → t ≡ counted m → Becomes m call (Refused refusal) t
@@ -53,6 +57,9 @@ becomes_counted m t (calls.Flush domain) refusal is = is
 becomes_counted m t (calls.Map domain frame pages order rights) refusal is = is
 becomes_counted m t (calls.Dma device address access whim) refusal is = is
 becomes_counted m t (calls.Unmap domain address pages) refusal is = is
+becomes_counted m t (calls.Begin domain) refusal is = is
+becomes_counted m t calls.Unit refusal is = is
+becomes_counted m t (calls.Reap domain number) refusal is = is
 becomes_counted m t (calls.Evict kind place) refusal is = is
 
 pub refuses : (m t : State) (call : Call) (refusal : Refusal) → t ≡ counted m → Exact m call (Refused refusal)
@@ -83,11 +90,22 @@ next_frames w (calls.Map domain frame pages order rights) _ = refl
 next_frames w (calls.Dma device address access whim) reply = refl
 next_frames w (calls.Unmap domain address pages) (Unmapped released) = refl
 next_frames w (calls.Unmap domain address pages) _ = refl
+next_frames w (calls.Begin domain) (Reply.Ticket other number) = refl
+next_frames w (calls.Begin domain) _ = refl
+next_frames w calls.Unit reply = refl
+next_frames w (calls.Reap domain number) (Reaped released) = refl
+next_frames w (calls.Reap domain number) _ = refl
 next_frames w (calls.Evict kind place) reply = refl
 
 -- there are as many table frames as before
 pub frames_kept : (m t : State) (call : Call) (reply : Reply) → IsOfSomeWorld m → Does m call reply t → m.pool.frames ≡ t.pool.frames
 frames_kept m t call reply (w, q) does = sym q.table_frames ∙ sym (next_frames w call reply) ∙ (does.steps w q).1.table_frames
+
+-- what its tickets keep, after any call
+pub tickets_of : (m t : State) (call : Call) (reply : Reply) → IsWhole m.pool.frames m → Does m call reply t → KeepsTickets t
+tickets_of m t call reply whole does =
+    tickets_kept m t whole.of_world.0 whole.of_world.1 whole.places whole.tickets call reply
+    ((does.steps whole.of_world.0 whole.of_world.1).0, does.exact) does.becomes
 
 -- what the type of a state keeps, after a call that sends nothing
 pub whole_quiet : (m t : State) (call : Call) (reply : Reply) → IsWhole m.pool.frames m → Does m call reply t
@@ -99,9 +117,9 @@ whole_quiet m t call reply whole does domains row ring sent steps =
       places = domains ∙ whole.places;
       devices = row ∙ whole.devices;
       frames_are = refl;
-      idle = ap (λ (r : Ring). r.waiting) ring ∙ whole.idle;
-      status = ap (λ (r : Ring). r.status) ring ∙ whole.status ∙ ap status_of (sym sent);
+      tickets = tickets_of m t call reply whole does;
       sent = omega (arith, sent, whole.sent, does.calls);
-      steps = omega (arith, steps, whole.steps, does.calls);
+      steps = (let waiting = ap (λ (r : Ring). length r.waiting) ring in omega (arith, steps, waiting, whole.steps, does.calls));
       made = made_kept m t call reply does.becomes (omega (arith, sent)) whole.made;
+      begun = begun_kept m t call reply does.becomes (omega (arith, sent)) whole.begun;
     }

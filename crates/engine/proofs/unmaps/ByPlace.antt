@@ -89,7 +89,7 @@ module _ (m : State) (address pages i released : ℕ) (h new : Domain) (pool : P
       → Steps m (calls.Unmap (i + 1) address pages) (Unmapped released) after
   strictly strict none does =
       rw none (strict_steps m after i address pages h does.between does.retired many less there whole fits does.of_range
-      does.invalidates.contexts (status_of x.sent) does.descriptor does.pool_between new.space strict does.retires does.sent
+      does.invalidates.contexts refl (status_of x.sent) does.descriptor does.pool_between new.space strict does.retires does.sent
       does.invalidates.caches
       does.releases (ap (λ (d : Domain). slice_set m.domains i (Some d))
       (does.same ∙ ap (λ (d : Domain). record d { space = new.space }) does.retires.same)))
@@ -102,7 +102,7 @@ module _ (m : State) (address pages i released : ℕ) (h new : Domain) (pool : P
       subst (λ (p : Parts). RetiresAndUnmaps p.pool p.domain does.retired pool does.between) has.same does.retires in
       let quiet : x ≡ m.iommu = does.quiet ∙ ap (λ (p : Parts). p.iommu) has.same in
       rw has.none (room_steps m after i address pages h does.between does.retired many less there whole fits does.of_range
-      (ap (λ (y : Iommu). y.contexts) quiet) lazy has.some retires (ap (λ (y : Iommu). y.unit) quiet)
+      (ap (λ (y : Iommu). y.contexts) quiet) refl lazy has.some retires (ap (λ (y : Iommu). y.unit) quiet)
       (ap (λ (d : Domain). slice_set m.domains i (Some d))
       (does.last ∙ ap (λ (d : Domain). record d { records = d.records ++ does.retired ∷ [] }) retires.same)))
   lazily lazy may does (inr empties) =
@@ -113,7 +113,7 @@ module _ (m : State) (address pages i released : ℕ) (h new : Domain) (pool : P
       subst (λ (y : Iommu). Invalidates m.iommu (IotlbDomain (i + 1)) (domain_shown m.pool h) y) (sym does.quiet)
       flushes.invalidates in
       rw empties.all (full_steps m after i address pages h does.between does.retired many less there whole fits does.of_range
-      invalidates.contexts (status_of x.sent) does.roomy.pool does.roomy.domain.space lazy empties.full may.0.live invalidates.caches
+      invalidates.contexts refl (status_of x.sent) does.roomy.pool does.roomy.domain.space lazy empties.full may.0.live invalidates.caches
       flushes.releases
       retires
       (ap (λ (d : Domain). slice_set m.domains i (Some d))

@@ -171,7 +171,8 @@ module _ (m t : State) (w : World) (i : ℕ) (h h1 : Domain) (v : world.Domain) 
     (there : domain_at m.domains (i + 1) ≡ Some h)
     (here : w.domains (i + 1) ≡ Some v)
     (mirrors : Mirrors m.pool.words h v) (fits : IsPageRange r.range) (cuts : RetiresAndUnmaps m.pool h r pool1 h1)
-    (row : t.iommu.contexts ≡ m.iommu.contexts) (words : t.pool.words ≡ pool1.words) where
+    (row : t.iommu.contexts ≡ m.iommu.contexts)
+    (tickets : t.tickets ≡ m.tickets) (words : t.pool.words ≡ pool1.words) where
   low : i + 1 < MOST_DOMAINS + 1
   low = domain_low m.domains (i + 1) h many there
 
@@ -213,6 +214,7 @@ module _ (m t : State) (w : World) (i : ℕ) (h h1 : Domain) (v : world.Domain) 
     strict_changes = record {
       domains = domains_then (domain_after h space2 h.records) domains;
       row = row;
+      tickets = tickets;
       root = refl;
       frames = releases.frames ∙ cuts.moves.frames;
       mirrors =
@@ -258,6 +260,7 @@ module _ (m t : State) (w : World) (i : ℕ) (h h1 : Domain) (v : world.Domain) 
     lazy_changes = record {
       domains = domains_then (domain_after h h1.space records1) domains;
       row = row;
+      tickets = tickets;
       root = refl;
       frames = ap (λ (p : Pool). p.frames) same_pool ∙ cuts.moves.frames;
       mirrors =
@@ -299,10 +302,11 @@ pub strict_unmapped : (m t : State) (w : World) (i n : ℕ) (h h1 : Domain) (v :
     → w.domains (i + 1) ≡ Some v → v.mode ≡ Strict → IsPageRange r.range → RetiresAndUnmaps m.pool h r pool1 h1
     → IsSent (i + 1) r.range r.cut x → t.iommu.unit.caches ≡ left_by_all (m.iommu.ring.waiting ++ x ∷ Wait n ∷ []) m.iommu.unit.caches
     → Releases pool1 h1.space r t.pool space2 → t.domains ≡ slice_set m.domains i (Some (domain_after h space2 h.records))
-    → t.iommu.contexts ≡ m.iommu.contexts → Quarantine t (record w { domains = put (i + 1) (Some (unmapped r.range v)) w.domains })
-strict_unmapped m t w i n h h1 v r x pool1 space2 q many less there here strict fits cuts sent caches releases domains row =
-    strict_keeps m t w i h h1 v r pool1 q many less there here (mirrors_of m w (i + 1) h v q there here) fits cuts row releases.words
-    n x space2 strict sent caches releases domains
+    → t.iommu.contexts ≡ m.iommu.contexts → t.tickets ≡ m.tickets
+    → Quarantine t (record w { domains = put (i + 1) (Some (unmapped r.range v)) w.domains })
+strict_unmapped m t w i n h h1 v r x pool1 space2 q many less there here strict fits cuts sent caches releases domains row tickets =
+    strict_keeps m t w i h h1 v r pool1 q many less there here (mirrors_of m w (i + 1) h v q there here) fits cuts row tickets
+    releases.words n x space2 strict sent caches releases domains
 
 -- an unmap of a lazy domain that has room for one more record
 pub lazy_put_off : (m t : State) (w : World) (i : ℕ) (h h1 : Domain) (v : world.Domain) (r : Record)
@@ -310,7 +314,7 @@ pub lazy_put_off : (m t : State) (w : World) (i : ℕ) (h h1 : Domain) (v : worl
     → w.domains (i + 1) ≡ Some v
     → v.mode ≡ Lazy → IsPageRange r.range → RetiresAndUnmaps m.pool h r t.pool h1 → t.iommu.unit ≡ m.iommu.unit
     → t.domains ≡ slice_set m.domains i (Some (domain_after h h1.space (h.records ++ r ∷ []))) → t.iommu.contexts ≡ m.iommu.contexts
-    → Quarantine t (record w { domains = put (i + 1) (Some (put_off r.range v)) w.domains })
-lazy_put_off m t w i h h1 v r q many less there here lazy fits cuts unit domains row =
-    lazy_keeps m t w i h h1 v r t.pool q many less there here (mirrors_of m w (i + 1) h v q there here) fits cuts row refl
+    → t.tickets ≡ m.tickets → Quarantine t (record w { domains = put (i + 1) (Some (put_off r.range v)) w.domains })
+lazy_put_off m t w i h h1 v r q many less there here lazy fits cuts unit domains row tickets =
+    lazy_keeps m t w i h h1 v r t.pool q many less there here (mirrors_of m w (i + 1) h v q there here) fits cuts row tickets refl
     lazy refl unit domains

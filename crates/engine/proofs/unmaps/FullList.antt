@@ -70,18 +70,19 @@ module _ (m t : State) (w : World) (i n : ℕ) (h : Domain) (v : world.Domain) (
   flushed_world = record w { domains = put (i + 1) (Some (flushed v)) w.domains }
 
   flushed_first : Quarantine between flushed_world
-  flushed_first = domain_flushed m between w i n h v space1 q many less there here caches all refl refl
+  flushed_first = domain_flushed m between w i n h v space1 q many less there here caches all refl refl refl
 
   there_between : domain_at between.domains (i + 1) ≡ Some emptied
   there_between = domain_set m.domains i (Some emptied) less (i + 1) ∙ put_same (i + 1) (Some emptied) (domain_at m.domains)
 
   emptied_then : (h2 : Domain) (r : Record) → v.mode ≡ Lazy → IsPageRange r.range → RetiresAndUnmaps pool1 emptied r t.pool h2
       → t.domains ≡ slice_set m.domains i (Some (domain_after h h2.space (r ∷ []))) → t.iommu.contexts ≡ m.iommu.contexts
+      → t.tickets ≡ m.tickets
       → Quarantine t (record w { domains = put (i + 1) (Some (put_off r.range (flushed v))) (put (i + 1) (Some (flushed v)) w.domains) })
-  emptied_then h2 r lazy fits cuts domains row =
+  emptied_then h2 r lazy fits cuts domains row tickets =
       lazy_put_off between t flushed_world i emptied h2 (flushed v) r flushed_first (set_length m.domains i (Some emptied) ∙ many)
       (rw (set_length m.domains i (Some emptied)) less) there_between (put_same (i + 1) (Some (flushed v)) w.domains) lazy fits cuts refl
-      (domains ∙ sym (set_twice m.domains i (Some emptied) (Some (domain_after h h2.space (r ∷ []))))) row
+      (domains ∙ sym (set_twice m.domains i (Some emptied) (Some (domain_after h h2.space (r ∷ []))))) row tickets
 
 -- all records of the domain went, and then the pages of the range were put off
 pub full_put_off : (m t : State) (w : World) (i n : ℕ) (h h2 : Domain) (v : world.Domain) (r : Record) (pool1 : Pool) (space1 : Space)
@@ -91,9 +92,9 @@ pub full_put_off : (m t : State) (w : World) (i n : ℕ) (h h2 : Domain) (v : wo
     → t.iommu.unit.caches ≡ left_by_all (m.iommu.ring.waiting ++ IotlbDomain (i + 1) ∷ Wait n ∷ []) m.iommu.unit.caches
     → ReleasesAll m.pool h.space h.records pool1 space1 → RetiresAndUnmaps pool1 (domain_after h space1 []) r t.pool h2
     → t.domains ≡ slice_set m.domains i (Some (domain_after h h2.space (r ∷ []))) → t.iommu.contexts ≡ m.iommu.contexts
-    → Quarantine t (record w { domains = put (i + 1) (Some (put_off r.range (flushed v))) w.domains })
-full_put_off m t w i n h h2 v r pool1 space1 q many less there here lazy fits caches all cuts domains row =
+    → t.tickets ≡ m.tickets → Quarantine t (record w { domains = put (i + 1) (Some (put_off r.range (flushed v))) w.domains })
+full_put_off m t w i n h h2 v r pool1 space1 q many less there here lazy fits caches all cuts domains row tickets =
     same_domains t (record w { domains = put (i + 1) (Some (put_off r.range (flushed v))) (put (i + 1) (Some (flushed v)) w.domains) })
     (put (i + 1) (Some (put_off r.range (flushed v))) w.domains)
     (λ d. put_twice (i + 1) (Some (flushed v)) (Some (put_off r.range (flushed v))) w.domains d)
-    (emptied_then m t w i n h v pool1 space1 q many less there here caches all h2 r lazy fits cuts domains row)
+    (emptied_then m t w i n h v pool1 space1 q many less there here caches all h2 r lazy fits cuts domains row tickets)

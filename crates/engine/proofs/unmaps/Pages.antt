@@ -32,13 +32,13 @@ not_within r p (inl before) inside = omega (arith, before, inside.0)
 not_within r p (inr behind) inside = omega (arith, behind, inside.1)
 
 -- a page has one state
-free_not_live : (o : Option PageState) → o ≡ Some Free → o ≡ Some Live → ⊥
+pub free_not_live : (o : Option PageState) → o ≡ Some Free → o ≡ Some Live → ⊥
 free_not_live o free live = let no : Some Free ≡ Some Live = sym free ∙ live in cc
 
-free_not_retired : (o : Option PageState) → o ≡ Some Free → o ≡ Some pages.Retired → ⊥
+pub free_not_retired : (o : Option PageState) → o ≡ Some Free → o ≡ Some pages.Retired → ⊥
 free_not_retired o free retired = let no : Some Free ≡ Some pages.Retired = sym free ∙ retired in cc
 
-live_not_retired : (o : Option PageState) → o ≡ Some Live → o ≡ Some pages.Retired → ⊥
+pub live_not_retired : (o : Option PageState) → o ≡ Some Live → o ≡ Some pages.Retired → ⊥
 live_not_retired o live retired = let no : Some Live ≡ Some pages.Retired = sym live ∙ retired in cc
 
 -- a page with a state is a page
@@ -225,7 +225,7 @@ by_state (Some Free) = inr (λ e. cc)
 by_state (Some Live) = inr (λ e. cc)
 by_state (Some pages.Retired) = inl refl
 
-not_some : (o : Option Target) → (IsSome o → ⊥) → o ≡ None
+pub not_some : (o : Option Target) → (IsSome o → ⊥) → o ≡ None
 not_some None never = refl
 not_some (Some x) never = absurd (never refl)
 

@@ -90,7 +90,8 @@ answered w d address pages released v here none answer = (none, rw here answer)
 module _ (m t : State) (i address pages : ℕ) (h h1 : Domain) (r : Record) (many : length m.domains ≡ MOST_DOMAINS)
     (less : i < length m.domains)
     (there : domain_at m.domains (i + 1) ≡ Some h) (whole : address % PAGE_BYTES ≡ 0) (fits : IsPageRange (range_at address pages))
-    (of_range : r.range ≡ range_at address pages) (row : t.iommu.contexts ≡ m.iommu.contexts) where
+    (of_range : r.range ≡ range_at address pages) (row : t.iommu.contexts ≡ m.iommu.contexts)
+    (tickets : t.tickets ≡ m.tickets) where
   fits_record : IsPageRange r.range
   fits_record = subst IsPageRange (sym of_range) fits
 
@@ -116,7 +117,7 @@ module _ (m t : State) (i address pages : ℕ) (h h1 : Domain) (r : Record) (man
             (strict_after (range_at address pages) both.0 strict))
             (of_call w (λ (x : Range). unmapped x both.0)
             (strict_unmapped m t w i n h h1 both.0 r x pool1 space2 q many less there both.1 strict fits_record cuts sent caches releases
-            domains row)),
+            domains row tickets)),
       )
 
   pub room_steps : h.mode ≡ Lazy → length h.records ≢ MOST_RECORDS → RetiresAndUnmaps m.pool h r t.pool h1 → t.iommu.unit ≡ m.iommu.unit
@@ -132,7 +133,7 @@ module _ (m t : State) (i address pages : ℕ) (h h1 : Domain) (r : Record) (man
         rw (next_unmapped w (i + 1) address pages 0 both.0 (put_off (range_at address pages) both.0) both.1
             (room_after (range_at address pages) both.0 lazy few))
             (of_call w (λ (x : Range). put_off x both.0)
-            (lazy_put_off m t w i h h1 both.0 r q many less there both.1 lazy fits_record cuts unit domains row)),
+            (lazy_put_off m t w i h h1 both.0 r q many less there both.1 lazy fits_record cuts unit domains row tickets)),
       )
 
   -- the pages may be retired before the flush, and so after it
@@ -151,7 +152,8 @@ module _ (m t : State) (i address pages : ℕ) (h h1 : Domain) (r : Record) (man
         rw (next_unmapped w (i + 1) address pages MOST_RECORDS both.0 (put_off (range_at address pages) (flushed both.0)) both.1
             (full_after (range_at address pages) both.0 lazy most))
             (of_call w (λ (x : Range). put_off x (flushed both.0))
-            (full_put_off m t w i n h h1 both.0 r pool1 space1 q many less there both.1 lazy fits_record caches all cuts domains row)),
+            (full_put_off m t w i n h h1 both.0 r pool1 space1 q many less there both.1 lazy fits_record caches all cuts domains row
+            tickets)),
       )
 
 -- ---- refusals

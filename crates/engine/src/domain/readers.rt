@@ -3,7 +3,7 @@
 ghost use Rattle.std.specs.Prelude.{◌≡◌, ◌*◌, ◌<◌, ◌≤◌, ◌^◌, All, length};
 ghost use Rattle.dmatypes.specs.declared.limits.TheConstants.{MOST_RECORDS};
 ghost use Rattle.iova.specs.Pieces.{IsOrdered};
-ghost use Rattle.engine.specs.Totals.{held_by, live_in, live_pages, totals_of_domain};
+ghost use Rattle.engine.specs.Totals.{held_by, live_pages, totals_of_domain};
 
 use super::Domain;
 use crate::record::Record;

@@ -5,7 +5,8 @@ ghost use Rattle.dmatypes.specs.World.{World};
 ghost use Rattle.dmatypes.specs.declared.limits.TheConstants.{CALLS_END};
 ghost use Rattle.engine.specs.Hits.{IsHitIn, IsNoRequest, hit_in};
 ghost use Rattle.engine.specs.Quarantine.{Quarantine};
-ghost use Rattle.engine.specs.State.{done_reply, flushed_reply, made_reply, mapped_reply, request_reply, unmapped_reply};
+ghost use Rattle.engine.specs.State.{begun_reply, done_reply, flushed_reply, made_reply, mapped_reply, reaped_reply, request_reply};
+ghost use Rattle.engine.specs.State.{unmapped_reply};
 ghost use Rattle.engine.specs.Steps.{Does};
 
 use super::{Answer, State};
@@ -64,6 +65,9 @@ impl State {
                 pages,
             } => unmapped(self.unmap(*domain, *address, *pages)),
             Call::Flush { domain } => flushed(self.flush(*domain)),
+            Call::Begin { domain } => begun(*domain, self.begin(*domain)),
+            Call::Unit => Reply::Stepped(self.unit_step()),
+            Call::Reap { domain, number } => reaped(self.reap(*domain, *number)),
             Call::Dma { .. } => unreachable!(),
             Call::Evict { kind, place } => {
                 self.evict(*kind, *place);
@@ -114,6 +118,25 @@ fn flushed(answer: Result<u64, Refusal>) -> Reply
 {
     match answer {
         Ok(released) => Reply::Flushed(released),
+        Err(refusal) => Reply::Refused(refusal),
+    }
+}
+
+fn begun(domain: u64, answer: Result<u64, Refusal>) -> Reply
+    ensures { result ≡ begun_reply domain answer }
+{
+    match answer {
+        Ok(number) => Reply::Ticket { domain, number },
+        Err(refusal) => Reply::Refused(refusal),
+    }
+}
+
+fn reaped(answer: Result<Option<u64>, Refusal>) -> Reply
+    ensures { result ≡ reaped_reply answer }
+{
+    match answer {
+        Ok(Some(released)) => Reply::Reaped(released),
+        Ok(None) => Reply::Pending,
         Err(refusal) => Reply::Refused(refusal),
     }
 }

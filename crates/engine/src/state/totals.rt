@@ -42,8 +42,7 @@ impl State {
             free,
             used: self.pool.frames().saturating_sub(free).saturating_sub(held),
             held,
-            // No call opens a ticket yet.
-            tickets: 0,
+            tickets: self.tickets.len() as u64,
             pending: self.iommu.ring.pending(),
         }
     }

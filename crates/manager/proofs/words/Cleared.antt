@@ -9,7 +9,7 @@ use Rattle.dmatypes.specs.declared.call.Call.TheVariants as calls
 use Rattle.dmatypes.specs.declared.call.Mode.{Mode}
 use Rattle.dmatypes.specs.declared.call.Mode.TheVariants as modes
 use Rattle.dmatypes.specs.declared.reply.Reply.{Reply}
-use Rattle.dmatypes.specs.declared.reply.Reply.TheVariants.{Done, Flushed, Unmapped}
+use Rattle.dmatypes.specs.declared.reply.Reply.TheVariants.{Done, Flushed, Reaped, Unmapped}
 use Rattle.dmatypes.specs.Page.{Range, range_at}
 use Rattle.dmatypes.specs.Step.{next}
 use Rattle.dmatypes.specs.World.{World, change_of, flushed, is_full, unmapped_by}
@@ -73,6 +73,22 @@ pub flush_cleared : (w : World) (domain : ℕ) (reply : Reply) (other : ℕ) →
 unfolding IsCleared
 flush_cleared w domain (Flushed n) other is = (n, refl)
 flush_cleared w domain _ other is = absurd is
+
+-- ---- at a reap
+
+pub told_reap : (m : State) (w : World) (domain number n bits : ℕ) → Quarantine m (next w (calls.Reap domain number) (Reaped n))
+    → ((v : ℕ) → v < 16 → (bit_at bits v ≡ 1) ↔ (attached (slice_get m.iommu.contexts v) ≡ Some domain))
+    → TellCleared w (calls.Reap domain number) (Reaped n) bits
+unfolding IsCleared next
+told_reap m w domain number n bits q is device low =
+    let same : w.devices device ≡ attached (slice_get m.iommu.contexts device) = q.contexts.devices device in
+    (λ one. same ∙ (is device low).0 one, λ there. (is device low).1 (sym same ∙ there))
+
+pub reap_cleared : (w : World) (domain number : ℕ) (reply : Reply) (other : ℕ) → IsCleared w (calls.Reap domain number) reply other
+    → (n : ℕ) × (reply ≡ Reaped n)
+unfolding IsCleared
+reap_cleared w domain number (Reaped n) other is = (n, refl)
+reap_cleared w domain number _ other is = absurd is
 
 -- ---- at an unmap
 
@@ -148,9 +164,10 @@ unmap_cleared w domain address pages _ other is = absurd is
 
 pub other_cleared : (w : World) (call : Call) (reply : Reply) (device : ℕ)
     → ((v : ℕ) → call ≡ calls.Detach v → ⊥) → ((d a p : ℕ) → call ≡ calls.Unmap d a p → ⊥) → ((d : ℕ) → call ≡ calls.Flush d → ⊥)
-    → IsCleared w call reply device → ⊥
+    → ((d t : ℕ) → call ≡ calls.Reap d t → ⊥) → IsCleared w call reply device → ⊥
 unfolding IsCleared
-other_cleared w (calls.Detach v) reply device detach unmap flush is = detach v refl
-other_cleared w (calls.Unmap d a p) reply device detach unmap flush is = unmap d a p refl
-other_cleared w (calls.Flush d) reply device detach unmap flush is = flush d refl
-other_cleared w _ reply device detach unmap flush is = is
+other_cleared w (calls.Detach v) reply device detach unmap flush reap is = detach v refl
+other_cleared w (calls.Unmap d a p) reply device detach unmap flush reap is = unmap d a p refl
+other_cleared w (calls.Flush d) reply device detach unmap flush reap is = flush d refl
+other_cleared w (calls.Reap d t) reply device detach unmap flush reap is = reap d t refl
+other_cleared w _ reply device detach unmap flush reap is = is

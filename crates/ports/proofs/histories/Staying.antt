@@ -7,9 +7,10 @@ use Rattle.dmatypes.specs.declared.call.Mode.{Mode}
 use Rattle.dmatypes.specs.declared.call.Mode.TheVariants as modes
 use Rattle.dmatypes.specs.declared.call.Segment.{Segment}
 use Rattle.dmatypes.specs.declared.reply.Reply.{Reply}
-use Rattle.dmatypes.specs.declared.reply.Reply.TheVariants.{Made, Done, Mapped, Unmapped, Flushed}
+use Rattle.dmatypes.specs.declared.reply.Reply.TheVariants.{Made, Done, Mapped, Unmapped, Flushed, Ticket, Reaped}
 use Rattle.dmatypes.specs.Page.{Range, range_at}
 use Rattle.dmatypes.specs.World.{Domain, World, AreFreePages, IsLive, IsRetired, change_of, empty_domain, flushed, mapped, placed, put}
+use Rattle.dmatypes.specs.World.{begun_once_more, reaped}
 use Rattle.dmatypes.specs.World.{put_off, record_of, unmapped_by, with_domain, with_room}
 use Rattle.dmatypes.specs.Allows.{domain_of_device}
 use Rattle.dmatypes.specs.Conditions.{Stands, total_pages}
@@ -135,7 +136,7 @@ keeps_backed w (calls.Domain mode) (Made made) device p d v step keeps b =
     with_put w device p d v made (Some (empty_domain mode)) b
     (λ same. is_no_none (w.domains step.1.0) v step.1.1.2 (ap w.domains (sym (same ∙ is)) ∙ b.there))
 keeps_backed w (calls.Drop domain) Done device p d v step keeps b =
-    with_put w device p d v domain None b (λ same. step.0.1.0 (device, b.attached ∙ ap Some same))
+    with_put w device p d v domain None b (λ same. step.0.1.0 (inl (device, b.attached ∙ ap Some same)))
 keeps_backed w (calls.Attach other domain) Done device p d v step keeps b =
     with_device w device p d v other (Some domain) b
     (λ same. step.0.1.1.0 (is_some (w.devices other) d (ap w.devices (sym same) ∙ b.attached)))
@@ -152,6 +153,10 @@ keeps_backed w (calls.Unmap domain address pages) (Unmapped released) device p d
     (some_and (w.domains domain) v (λ u. IsUnmapAnswer u.mode u.retired (Unmapped released)) there step.1) b.backs)
 keeps_backed w (calls.Flush domain) (Flushed released) device p d v step keeps b =
     with_change w device p d v domain flushed b (λ attached there. absurd (keeps attached))
+keeps_backed w (calls.Begin domain) (Ticket other number) device p d v step keeps b =
+    with_change w device p d v domain begun_once_more b (λ attached there. b.backs)
+keeps_backed w (calls.Reap domain number) (Reaped released) device p d v step keeps b =
+    with_change w device p d v domain (reaped number) b (λ attached there. absurd (keeps attached))
 keeps_backed w call _ device p d v step keeps b = backed_in w device p d v b
 
 pub keeps : Keeps

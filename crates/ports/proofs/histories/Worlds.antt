@@ -2,7 +2,7 @@
 use Rattle.std.proofs.Common.{◌≡◌, ◌⊎◌, ℕ, ◌+◌, ◌/◌, ◌<◌, ◌≤◌, inl, inr, Bool, true, false, List, [], ◌∷◌, Option, Some, None, refl, sym}
 use Rattle.std.proofs.Common.{ap, subst, ◌∙◌, arith}
 use Rattle.std.proofs.lemmas.List.Sums.{sum_by-cons}
-use Rattle.std.specs.Prelude.{if◌then◌else◌}
+use Rattle.std.specs.Prelude.{if◌then◌else◌, not}
 use Rattle.std.proofs.lemmas.Option.{same_Some}
 use Rattle.dmatypes.specs.declared.call.Call.{Call}
 use Rattle.dmatypes.specs.declared.call.Call.TheVariants as calls
@@ -11,9 +11,10 @@ use Rattle.dmatypes.specs.declared.call.Mode.TheVariants as modes
 use Rattle.dmatypes.specs.declared.call.Segment.{Segment}
 use Rattle.dmatypes.specs.declared.reply.Event.{Event}
 use Rattle.dmatypes.specs.declared.reply.Reply.{Reply}
-use Rattle.dmatypes.specs.declared.reply.Reply.TheVariants.{Made, Done, Mapped, Unmapped, Flushed}
+use Rattle.dmatypes.specs.declared.reply.Reply.TheVariants.{Made, Done, Mapped, Unmapped, Flushed, Ticket, Reaped}
 use Rattle.dmatypes.specs.Page.{Range, IsPage, IsWithin, byte_address, range_at}
 use Rattle.dmatypes.specs.World.{Target, Retired, Domain, World, AreFreePages, IsIn, change_of, empty, empty_domain, flushed, is_full}
+use Rattle.dmatypes.specs.World.{begun_once_more, is_before, reaped}
 use Rattle.dmatypes.specs.World.{mapped, placed, put, put_off, record_of, restricted, unmapped, unmapped_by, with_domain, with_room}
 use Rattle.dmatypes.specs.World.{without}
 use Rattle.dmatypes.specs.Conditions.{total_pages}
@@ -21,6 +22,7 @@ use Rattle.dmatypes.specs.Step.{Answers, IsMapAnswer, IsStep, next}
 use Rattle.dmatypes.specs.History.{after_from, IsLegal, IsLegalFrom, after}
 use Rattle.dmatypes.proofs.numbers.Ranges.{within_is, within_not, within_or_not}
 use Rattle.dmatypes.specs.declared.page.TheConstants.{PAGE_BYTES}
+use Rattle.dmatypes.proofs.lists.Filtered.{in_filter}
 use Rattle.dmatypes.proofs.histories.Maps.{put_same, put_other, same_or_not}
 use Rattle.ports.proofs.lists.Members.{in_either, none_is_no, some_and, from_either, second_of}
 
@@ -97,6 +99,16 @@ sound_mapped v ss first rights free s = record {
 
 sound_flushed : (v : Domain) → IsSoundDomain v → IsSoundDomain (flushed v)
 sound_flushed v s = record { live = s.live; retired = λ r p t i e. absurd i; apart = λ r p i h. absurd i }
+
+sound_begun : (v : Domain) → IsSoundDomain v → IsSoundDomain (begun_once_more v)
+sound_begun v s = record { live = s.live; retired = s.retired; apart = s.apart }
+
+sound_reaped : (number : ℕ) (v : Domain) → IsSoundDomain v → IsSoundDomain (reaped number v)
+sound_reaped number v s = record {
+  live = s.live;
+  retired = λ r p t i e. s.retired r p t (in_filter (λ r. not (is_before number r)) r v.retired i).0 e;
+  apart = λ r p i h. s.apart r p (in_filter (λ r. not (is_before number r)) r v.retired i).0 h;
+}
 
 sound_unmapped : (range : Range) (v : Domain) → IsSoundDomain v → IsSoundDomain (unmapped range v)
 sound_unmapped range v s = record {
@@ -178,6 +190,10 @@ sound_next w (calls.Unmap domain address pages) (Unmapped released) s step =
     sound_with w domain (λ v. unmapped_by v.mode (range_at address pages) v) s
     (λ v there. sound_unmapped_by v.mode (range_at address pages) v (s domain v there))
 sound_next w (calls.Flush domain) (Flushed released) s step = sound_with w domain flushed s (λ v there. sound_flushed v (s domain v there))
+sound_next w (calls.Begin domain) (Ticket other number) s step =
+    sound_with w domain begun_once_more s (λ v there. sound_begun v (s domain v there))
+sound_next w (calls.Reap domain number) (Reaped released) s step =
+    sound_with w domain (reaped number) s (λ v there. sound_reaped number v (s domain v there))
 sound_next w call _ s step = s
 
 sound_from : (w : World) (history : List Event) → IsSoundWorld w → IsLegalFrom w history → IsSoundWorld (after_from w history)

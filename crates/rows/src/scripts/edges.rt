@@ -1,6 +1,6 @@
 //! Capacities at their edges, and evictions between all lines.
 
-use super::rows::{BAD_RANGES, LARGE_LEAF, SPLIT_LEAF, STRICT_UNMAP, TWO_LEAVES_SPLIT};
+use super::rows::{BAD_RANGES, LARGE_LEAF, SPLIT_LEAF, STRICT_UNMAP, TWO_LEAVES_SPLIT, reported};
 use super::{FIRST_MAP, answers};
 use manager::Config;
 use script::{Counted, run};
@@ -146,5 +146,40 @@ fn an_unmap_cuts_no_piece_too_many(rt: HostRuntime) -> Result<(), Fail> {
             b"map 0x3ff000\nrefused 9\nrefused 9\nunmapped 0\nmap 0x1000\nrefused 9\n"
         )
     );
+    Ok(())
+}
+
+// 1,022 pieces, two of them of three pages: an unmap inside one of these makes 1,024, and then neither a map nor another such
+// unmap has room, but an unmap of a whole piece has.
+#[test]
+fn as_many_pieces_as_there_can_be(rt: HostRuntime) -> Result<(), Fail> {
+    let mut script = Vec::from_slice(rt.alloc(), b"domain lazy\n".as_slice())?;
+    script.extend_from_slice(b"map 1 0x100 3 0 r\nmap 1 0x100 3 0 r\n".as_slice())?;
+    let maps = repeated(rt.alloc(), b"map 1 0x100 1 0 r\n", 1018)?;
+    script.extend_from_slice(maps.as_slice())?;
+    let crowded = script.clone()?;
+    script.extend_from_slice(b"unmap 1 0x2000 1\nmap 1 0x100 1 0 r\n".as_slice())?;
+    script.extend_from_slice(b"unmap 1 0x5000 1\nunmap 1 0x7000 1\n".as_slice())?;
+    let (result, written) = answers(&rt, rt.alloc(), script.as_slice(), 65536)?;
+    assert_eq!(rt; result, Ok(()));
+    assert!(rt;
+        written.as_slice().ends_with(
+            b"map 0x400000\nunmapped 0\nrefused 9\nrefused 9\nunmapped 0\n"
+        )
+    );
+    for (script, line) in [
+        (
+            crowded.as_slice(),
+            b"live 1024 retired 0 pieces 1022\n".as_slice(),
+        ),
+        (
+            script.as_slice(),
+            b"live 1022 retired 2 pieces 1024\n".as_slice(),
+        ),
+    ] {
+        let (result, report) = reported(&rt, rt.alloc(), script)?;
+        assert_eq!(rt; result, Ok(()));
+        assert!(rt; report.as_slice().ends_with(line));
+    }
     Ok(())
 }

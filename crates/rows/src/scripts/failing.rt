@@ -2,14 +2,26 @@
 
 ghost use Rattle.std.specs.Prelude.{Some};
 
+use super::rows::EMPTY_REPORT;
 use super::{FIRST_MAP, answers, config};
 use script::{Counted, RunError, report, run};
+use std::alloc::Global;
 use std::cell::Cell;
 use std::io;
 use std::io::{Read, Write};
+use std::process::Abort;
+use std::sync::Wait;
 use std::test::Fail;
 
 const FIRST_ANSWERS: &[u8] = b"domain 1\nok\nmap 0x1000\nhost 0x100234\n";
+
+const FIRST_REPORT: &[u8] =
+    b"events 4\nframes 61 free 3 used 0 retired\ntickets 0 open\nring 0 pending\n\
+    domain 1 strict live 1 retired 0 pieces 3\ndevice 3 domain 1\n";
+
+const DOMAIN_REPORT: &[u8] =
+    b"events 1\nframes 63 free 1 used 0 retired\ntickets 0 open\nring 0 pending\n\
+    domain 1 strict live 0 retired 0 pieces 2\n";
 
 // How a call goes wrong.
 #[derive(Clone, Copy, Debug, PartialEq, Eq)]
@@ -175,43 +187,64 @@ fn a_write_goes_wrong_once(rt: HostRuntime) -> Result<(), Fail> {
     Ok(())
 }
 
-// A report is written after a read that failed once; a write of it that goes wrong once is the last.
+// A report where this read fails (0: none), and this write goes wrong.
+fn check_report<T: Wait + Abort>(
+    rt: &T,
+    alloc: Global,
+    (script, bad_read): (&[u8], u64),
+    (bad_write, hitch): (u64, Hitch),
+    (wanted, whole): (Result<(), RunError>, &[u8]),
+) -> Result<(), Fail> {
+    let (reads, writes) = (Watch::new(), Watch::new());
+    let mut input = Input {
+        rest: script,
+        bad: bad_read,
+        calls: 0,
+        watch: &reads,
+    };
+    let mut output = Output {
+        held: Vec::new(alloc),
+        bad: bad_write,
+        hitch,
+        calls: 0,
+        watch: &writes,
+    };
+    let mut reader = Counted::new(&mut input);
+    let mut writer = Counted::new(&mut output);
+    let config = config(9).ok_or("within the limits")?;
+    assert_eq!(rt; report(rt, alloc, &mut reader, &mut writer, config), wanted);
+    assert_eq!(rt; reader.failed(), bad_read != 0);
+    assert_eq!(rt; writer.failed(), wanted == Err(RunError::Write));
+    drop(reader);
+    drop(writer);
+    assert!(rt; !reads.late.get());
+    assert!(rt; !writes.late.get());
+    assert_eq!(rt; output.held.as_slice(), whole);
+    Ok(())
+}
+
+// The report of the whole lines that were read is written; what was taken of it before a write that goes wrong stays, and
+// nothing is written after.
 #[test]
 fn a_report_fails_once(rt: HostRuntime) -> Result<(), Fail> {
-    for (bad_read, bad_write, wanted) in [
-        (0, 0, Ok(())),
-        (5, 0, Err(RunError::Read)),
-        (0, 1, Err(RunError::Write)),
-        (0, 7, Err(RunError::Write)),
-        (5, 2, Err(RunError::Write)),
-    ] {
-        let watch = Watch::new();
-        let other = Watch::new();
-        let mut input = Input {
-            rest: FIRST_MAP,
-            bad: bad_read,
-            calls: 0,
-            watch: &other,
-        };
-        let mut output = Output {
-            held: Vec::new(rt.alloc()),
-            bad: bad_write,
-            hitch: Hitch::Failure,
-            calls: 0,
-            watch: &watch,
-        };
-        let mut reader = Counted::new(&mut input);
-        let mut writer = Counted::new(&mut output);
-        let config = config(9).ok_or("within the limits")?;
-        let result = report(&rt, rt.alloc(), &mut reader, &mut writer, config);
-        assert_eq!(rt; result, wanted);
-        assert_eq!(rt; reader.failed(), bad_read != 0);
-        assert_eq!(rt; writer.failed(), bad_write != 0);
-        drop(reader);
-        drop(writer);
-        assert!(rt; !watch.late.get());
-        assert!(rt; !other.late.get());
-        assert_eq!(rt; output.held.as_slice().ends_with(b"\n"), bad_write == 0);
+    let bad_line = b"domain strict\nreport\nattach 3 1\n".as_slice();
+    let rows: [(&[u8], u64, Result<(), RunError>, &[u8]); 4] = [
+        (FIRST_MAP, 0, Ok(()), FIRST_REPORT),
+        (FIRST_MAP, 5, Err(RunError::Read), EMPTY_REPORT),
+        (FIRST_MAP, 6, Err(RunError::Read), DOMAIN_REPORT),
+        (bad_line, 0, Err(RunError::BadLine(2)), DOMAIN_REPORT),
+    ];
+    for (script, bad_read, end, whole) in rows {
+        for hitch in [Hitch::Failure, Hitch::Nothing] {
+            let task = (script, bad_read);
+            for write in 0..whole.len().div_ceil(3) {
+                let taken = &whole[..whole.len().min(write.saturating_mul(3))];
+                let bad_write = (write as u64).saturating_add(1);
+                let stopped = (Err(RunError::Write), taken);
+                check_report(&rt, rt.alloc(), task, (bad_write, hitch), stopped)?;
+            }
+            check_report(&rt, rt.alloc(), task, (0, hitch), (end, whole))?;
+        }
     }
     Ok(())
 }

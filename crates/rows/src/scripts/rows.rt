@@ -24,7 +24,7 @@ pub(crate) fn reported<T: Wait>(
     Ok((result, written))
 }
 
-const EMPTY_REPORT: &[u8] =
+pub(crate) const EMPTY_REPORT: &[u8] =
     b"events 0\nframes 64 free 0 used 0 retired\ntickets 0 open\nring 0 pending\n";
 
 pub(crate) const STRICT_UNMAP: &[u8] =

@@ -3,6 +3,7 @@ use Rattle.std.proofs.Common.{◌≡◌, ℕ, zero, suc, inl, inr, Bool, true, f
 use Rattle.std.proofs.Common.{refl, sym, ap, ◌∙◌, cond}
 use Rattle.std.proofs.lemmas.Option.{same_Some}
 use Rattle.dmatypes.specs.World.{IsIn}
+use Rattle.dmatypes.proofs.lists.Filtered.{in_filter}
 use Rattle.dmatypes.specs.declared.call.Cache.{Cache}
 use Rattle.dmatypes.specs.declared.call.Cache.TheVariants as kinds
 use Rattle.vtdbits.specs.declared.descriptor.Descriptor.{Descriptor}
@@ -12,17 +13,6 @@ use Rattle.unit.specs.Filters.{drops_leaf, drops_non_leaf, drops_context, left_b
 use Rattle.unit.specs.Walking.{met, met_leaf}
 
 -- ---- lists
-
-by_test : {A : Type 0} (p : A → Bool) (y x : A) (ys : List A) (b : Bool) → p x ≡ b → (IsIn y (filter p ys) → IsIn y ys × (p y ≡ true))
-    → IsIn y (cond b (x ∷ filter p ys) (filter p ys)) → IsIn y (x ∷ ys) × (p y ≡ true)
-by_test p y x ys true e later (inl same) = (inl same, ap p same ∙ e)
-by_test p y x ys true e later (inr h) = let k = later h in (inr k.0, k.1)
-by_test p y x ys false e later h = let k = later h in (inr k.0, k.1)
-
--- what passes a filter was there, and passes its test
-pub in_filter : {A : Type 0} (p : A → Bool) (y : A) (xs : List A) → IsIn y (filter p xs) → IsIn y xs × (p y ≡ true)
-in_filter p y [] h = absurd h
-in_filter p y (x ∷ xs) h = by_test p y x xs (p x) refl (λ k. in_filter p y xs k) h
 
 -- what a list has without the element at a place was there
 pub in_remove : {A : Type 0} (y : A) (xs : List A) (place : ℕ) → IsIn y (remove xs place) → IsIn y xs

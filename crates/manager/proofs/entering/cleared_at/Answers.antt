@@ -1,6 +1,6 @@
 use Rattle.std.proofs.Common.{◌≡◌, ◌∙◌, true, false, sym}
-use Rattle.manager.proofs.words.Cleared.{detach_cleared, flush_cleared, no_device, other_cleared, told_detach, told_flush, told_unmap}
-use Rattle.manager.proofs.words.Cleared.{unmap_cleared, unmap_keeps}
+use Rattle.manager.proofs.words.Cleared.{detach_cleared, flush_cleared, no_device, other_cleared, reap_cleared, told_detach, told_flush}
+use Rattle.manager.proofs.words.Cleared.{told_reap, told_unmap, unmap_cleared, unmap_keeps}
 use Rattle.manager.proofs.entering.cleared_at.Goals as goal
 
 pub returns-in-Detach-Done : goal.returns-in-Detach-Done
@@ -11,6 +11,12 @@ returns-in-Flush-Flushed c w q =
     rw (c.in-Flush-Flushed.is-0, c.in-Flush-Flushed.is-1)
     (told_flush c.args.state.now w c.in-Flush-Flushed.domain c.in-Flush-Flushed.field-0-1 _
     (rw (c.in-Flush-Flushed.is-0, c.in-Flush-Flushed.is-1) at q) c.devices_of.ensures)
+
+pub returns-in-Reap-Reaped : goal.returns-in-Reap-Reaped
+returns-in-Reap-Reaped c w q =
+    let r = c.in-Reap-Reaped in
+    rw (r.is-0, r.is-1)
+    (told_reap c.args.state.now w r.domain r.number-0 r.field-0-1 _ (rw (r.is-0, r.is-1) at q) c.devices_of-in-Reap-Reaped.ensures)
 
 pub returns-then-takes_away : goal.returns-then-takes_away
 returns-then-takes_away c w q =
@@ -38,10 +44,15 @@ returns-in_default-2 c w q =
 pub returns-in_default-3 : goal.returns-in_default-3
 returns-in_default-3 c w q =
     rw (c.in_default.is-0) (no_device w _ _ (λ other is.
-    let n = unmap_cleared w c.in_default.field-0-0 c.in_default.field-1-0 c.in_default.field-2-0 _ other is in
-    c.in_default.not-Unmapped-1 n.0 n.1))
+    let n = reap_cleared w c.in_default.field-0-0 c.in_default.field-1-0 _ other is in c.in_default.not-Reaped-1 n.0 n.1))
 
 pub returns-in_default-4 : goal.returns-in_default-4
 returns-in_default-4 c w q =
+    rw (c.in_default.is-0) (no_device w _ _ (λ other is.
+    let n = unmap_cleared w c.in_default.field-0-0 c.in_default.field-1-0 c.in_default.field-2-0 _ other is in
+    c.in_default.not-Unmapped-1 n.0 n.1))
+
+pub returns-in_default-5 : goal.returns-in_default-5
+returns-in_default-5 c w q =
     no_device w _ _ (λ other is.
-    other_cleared w _ _ other c.in_default.not-Detach-0 c.in_default.not-Unmap-0 c.in_default.not-Flush-0 is)
+    other_cleared w _ _ other c.in_default.not-Detach-0 c.in_default.not-Unmap-0 c.in_default.not-Flush-0 c.in_default.not-Reap-0 is)

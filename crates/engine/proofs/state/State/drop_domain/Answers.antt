@@ -1,14 +1,18 @@
 use Rattle.std.specs.Prelude.{IsOk}
-use Rattle.std.proofs.Common.{ℕ, ◌≡◌, None, Some, arith, refl, slice_get, sym}
+use Rattle.std.proofs.Common.{◌∙◌, ℕ, ◌≡◌, List, [], ◌∷◌, None, Some, ap, arith, inl, inr, map, refl, slice_get, sym}
 use Rattle.dmatypes.specs.declared.call.Call.TheVariants as calls
 use Rattle.dmatypes.specs.declared.reply.Reply.TheVariants.{Done}
+use Rattle.dmatypes.specs.Conditions.{SomeHas}
+use Rattle.dmatypes.specs.World.{IsIn}
+use Rattle.engine.specs.declared.ticket.Ticket.{Ticket}
 use Rattle.engine.specs.contracts.state.State.{the_view}
 use Rattle.engine.specs.Ending.{Closes}
 use Rattle.engine.specs.State.{parts_in}
-use Rattle.engine.specs.Quarantine.{attached}
+use Rattle.engine.specs.Domains.{domain_at}
+use Rattle.engine.specs.Quarantine.{attached, ticket_there}
 use Rattle.engine.proofs.domains.OneChanged.{count_set, no_id_no_domain}
 use Rattle.engine.proofs.domains.Found.{Finds, finds, keeps_found, put_back}
-use Rattle.engine.proofs.flushes.Steps.{Did, drop_attached, drop_did, drop_no_domain}
+use Rattle.engine.proofs.flushes.Steps.{Did, drop_attached, drop_did, drop_no_domain, drop_open}
 use Rattle.engine.proofs.flushes.MayRelease.{can_unmap}
 use Rattle.engine.proofs.caches.Sent.{changed}
 use Rattle.engine.proofs.states.RecordsMade.{domain_in}
@@ -69,8 +73,10 @@ did c =
     let closes : Closes (parts_in (the_view c.self.inside) c.in-Some-take.domain) c.args.domain c.close-room.new.pool
     c.close-room.new.iommu =
     rw (← c.in-Some.ensures.value) c.close-room.ensures in
+    let untold : (x : Ticket) → IsIn x c.self.inside.tickets.items → x.domain ≡ c.args.domain → ⊥ =
+    (λ x inside same. c.if-has_ticket.ensures.none refl x (rw c.as_slice.ensures.value inside) (same ∙ sym c.in-Some.ensures.value)) in
     drop_did (the_view c.self.inside) c.args.domain c.place_of.result c.in-Some-take.domain c.close-room.new.pool
-    c.close-room.new.iommu c.self.invariant.0 found.less found.id found.there nobody closes
+    c.close-room.new.iommu c.self.invariant.0 found.less found.id found.there nobody untold closes
 
 pub invariant_of-self-2 : goal.invariant_of-self-2
 invariant_of-self-2 c =
@@ -91,3 +97,17 @@ returns c = rw (← c.self.view_is, c.take.ensures.after) (did c).does
 pub close-room-requires-clause-ready : goal.close-room-requires-clause-ready
 close-room-requires-clause-ready c =
     ready_to_send (the_view c.self.inside) c.self.inside.iommu.contexts c.self.invariant.0 (rw (← c.self.view_is) at c.requires)
+
+told_of : (x : Ticket) (d : ℕ) (ts : List Ticket) → IsIn x ts → x.domain ≡ d → SomeHas (λ t. t.domain ≡ d) (map ticket_there ts)
+told_of x d [] inside same = absurd inside
+told_of x d (y ∷ ts) (inl is) same = inl (sym (ap (λ (z : Ticket). z.domain) is) ∙ same)
+told_of x d (y ∷ ts) (inr rest) same = inr (told_of x d ts rest same)
+
+pub returns-then-has_ticket : goal.returns-then-has_ticket
+returns-then-has_ticket c =
+    let told = c.if-has_ticket.ensures.some refl in
+    let inside : IsIn told.0 c.self.inside.tickets.items = rw (← c.as_slice.ensures.value) told.1 in
+    let same : told.0.domain ≡ c.args.domain = told.2 ∙ c.in-Some.ensures.value in
+    let begun = c.self.invariant.0.tickets.begun told.0 inside in
+    rw (← c.self.view_is) (drop_open _ _ c.args.domain begun.0 refl (ap (domain_at c.self.inside.domains.items) (sym same) ∙ begun.1)
+    (told_of told.0 c.args.domain c.self.inside.tickets.items inside same))

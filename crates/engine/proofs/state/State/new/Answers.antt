@@ -5,10 +5,16 @@ use Rattle.engine.specs.Whole.{IsWhole, domain_count}
 use Rattle.engine.proofs.states.New.{of_empty_world, whole_new}
 use Rattle.engine.proofs.state.State.new.Goals as goal
 
-abbrev made : goal.After-new-2 → State
-made c = record { pool = c.in_ok-new.field-0; domains = c.in_ok-no_domains.field-0.items; iommu = c.new-2.result; calls = 0 }
+abbrev made : goal.After-new-3 → State
+made c = record {
+  pool = c.in_ok-new.field-0;
+  domains = c.in_ok-no_domains.field-0.items;
+  iommu = c.new-2.result;
+  tickets = c.new-3.result.items;
+  calls = 0;
+}
 
-is_new : (c : goal.After-new-2) → IsNew c.args.frames (made c)
+is_new : (c : goal.After-new-3) → IsNew c.args.frames (made c)
 is_new c = record {
   frames_are = c.in_ok-new.ensures.frames;
   free = c.in_ok-new.ensures.free;
@@ -21,6 +27,7 @@ is_new c = record {
   unit_is = ap (λ (x : Iommu). x.unit) c.new-2.ensures;
   sent_is = ap (λ (x : Iommu). x.sent) c.new-2.ensures;
   shown_is = ap (λ (x : Iommu). x.shown) c.new-2.ensures;
+  tickets_are = c.new-3.ensures;
   calls_are = refl;
 }
 

@@ -1,0 +1,149 @@
+/* What the functions themselves refuse, and what readers tell: with no manager, with one, and behind its end. */
+#include "check.h"
+#include "vtdm.h"
+
+enum { MOST_SEGMENTS = 16 };
+
+static void check_absent(struct vtdm *manager) {
+    struct vtdm_segment segments[MOST_SEGMENTS + 1] = {{0x100, 1}};
+    ANSWERS(vtdm_domain(manager, true), VTDM_ABSENT, 0);
+    ANSWERS(vtdm_drop(manager, 1), VTDM_ABSENT, 0);
+    ANSWERS(vtdm_attach(manager, 0, 1), VTDM_ABSENT, 0);
+    ANSWERS(vtdm_detach(manager, 0), VTDM_ABSENT, 0);
+    ANSWERS(vtdm_map(manager, 1, 0x100, 1, 0, VTDM_READ), VTDM_ABSENT, 0);
+    ANSWERS(vtdm_map_list(manager, 1, 0, VTDM_READ, segments, 1), VTDM_ABSENT, 0);
+    ANSWERS(vtdm_map_list(manager, 1, 0, VTDM_READ, segments, MOST_SEGMENTS + 1), VTDM_ABSENT, 0);
+    ANSWERS(vtdm_unmap(manager, 1, 0x1000, 1), VTDM_ABSENT, 0);
+    ANSWERS(vtdm_flush(manager, 1), VTDM_ABSENT, 0);
+    ANSWERS(vtdm_begin(manager, 1), VTDM_ABSENT, 0);
+    ANSWERS(vtdm_unit(manager), VTDM_ABSENT, 0);
+    ANSWERS(vtdm_reap(manager, 1, 1), VTDM_ABSENT, 0);
+    ANSWERS(vtdm_dma(manager, 0, 0x1000, false, true, true), VTDM_ABSENT, 0);
+    ANSWERS(vtdm_evict(manager, VTDM_CACHE_LEAF, 0), VTDM_ABSENT, 0);
+    ANSWERS(vtdm_evict(manager, 3, 0), VTDM_ABSENT, 0);
+    ANSWERS(vtdm_domain_of(manager, 0), VTDM_ABSENT, 0);
+    ANSWERS(vtdm_devices_of(manager, 1), VTDM_ABSENT, 0);
+    ANSWERS(vtdm_mode_of(manager, 1), VTDM_ABSENT, 0);
+    ANSWERS(vtdm_root_of(manager, 1), VTDM_ABSENT, 0);
+    ANSWERS(vtdm_table_word(manager, 0, 0), VTDM_ABSENT, 0);
+    CHECK(vtdm_totals(manager).status == VTDM_ABSENT);
+    CHECK(vtdm_domain_totals(manager, 1).status == VTDM_ABSENT);
+    CHECK(vtdm_context(manager, 0).status == VTDM_ABSENT);
+}
+
+static void check_limits(struct vtdm *manager) {
+    struct vtdm_segment segments[MOST_SEGMENTS + 1];
+    for (uint64_t i = 0; i <= MOST_SEGMENTS; i++)
+        segments[i] = (struct vtdm_segment){0x100 + 2 * i, 1};
+    ANSWERS(vtdm_domain(manager, false), VTDM_OK, 1);
+    ANSWERS(vtdm_domain(manager, true), VTDM_OK, 2);
+    ANSWERS(vtdm_map_list(manager, 1, 0, VTDM_READ, segments, 0), VTDM_BAD_RANGE, 0);
+    ANSWERS(vtdm_map_list(manager, 1, 0, VTDM_READ, segments, MOST_SEGMENTS + 1), VTDM_MANY_SEGMENTS, 0);
+    ANSWERS(vtdm_map_list(manager, 1, 0, VTDM_READ, segments, MOST_SEGMENTS), VTDM_OK, 0x1000);
+    ANSWERS(vtdm_map(manager, 1, UINT64_MAX, UINT64_MAX, UINT64_MAX, UINT64_MAX), VTDM_BAD_RANGE, 0);
+    ANSWERS(vtdm_map(manager, UINT64_MAX, 0x100, 1, 0, VTDM_READ), VTDM_NO_DOMAIN, 0);
+    ANSWERS(vtdm_unmap(manager, 1, UINT64_MAX, UINT64_MAX), VTDM_BAD_RANGE, 0);
+    ANSWERS(vtdm_reap(manager, UINT64_MAX, UINT64_MAX), VTDM_BAD_TICKET, 0);
+    ANSWERS(vtdm_attach(manager, UINT64_MAX, 1), VTDM_NO_DEVICE, 0);
+    ANSWERS(vtdm_detach(manager, 16), VTDM_NO_DEVICE, 0);
+    ANSWERS(vtdm_detach(manager, 15), VTDM_NOT_ATTACHED, 0);
+    ANSWERS(vtdm_dma(manager, 15, UINT64_MAX, true, true, true), VTDM_FAULT_NOT_ATTACHED, 0);
+    ANSWERS(vtdm_evict(manager, VTDM_CACHE_CONTEXT, UINT64_MAX), VTDM_OK, 0);
+    ANSWERS(vtdm_evict(manager, 3, 0), VTDM_BAD_CACHE, 0);
+    ANSWERS(vtdm_evict(manager, UINT64_MAX, 0), VTDM_BAD_CACHE, 0);
+}
+
+/* Refusals and faults by their names. The limit on pieces has a row of its own, and keeps a range from ever lacking. */
+static void check_names(void) {
+    struct vtdm manager = VTDM_INIT;
+    CHECK(vtdm_create(&manager, 17) == VTDM_OK);
+    for (uint64_t domain = 1; domain <= 15; domain++)
+        ANSWERS(vtdm_domain(&manager, domain == 2), VTDM_OK, domain);
+    ANSWERS(vtdm_domain(&manager, false), VTDM_TOO_MANY_DOMAINS, 0);
+    ANSWERS(vtdm_attach(&manager, 0, 1), VTDM_OK, 0);
+    ANSWERS(vtdm_attach(&manager, 0, 2), VTDM_BUSY, 0);
+    ANSWERS(vtdm_drop(&manager, 1), VTDM_BUSY, 0);
+    ANSWERS(vtdm_map(&manager, 1, 16, 1, 0, VTDM_READ), VTDM_FRAME_OWNED, 0);
+    ANSWERS(vtdm_map(&manager, 1, 17, 1, 0, VTDM_READ), VTDM_OK, 0x1000);
+    ANSWERS(vtdm_map(&manager, 2, 17, 1, 0, VTDM_READ), VTDM_NO_FRAMES, 0);
+    ANSWERS(vtdm_unmap(&manager, 1, 0x2000, 1), VTDM_NOT_LIVE, 0);
+    ANSWERS(vtdm_dma(&manager, 0, 0xfee00000, false, true, true), VTDM_WINDOW, 0);
+    ANSWERS(vtdm_dma(&manager, 1, 0x1000, false, true, true), VTDM_FAULT_NOT_ATTACHED, 0);
+    ANSWERS(vtdm_dma(&manager, 0, UINT64_C(1) << 39, false, true, true), VTDM_FAULT_BEYOND_WIDTH, 0);
+    ANSWERS(vtdm_dma(&manager, 0, 0x1000, true, true, true), VTDM_FAULT_WRITE, 0);
+    ANSWERS(vtdm_dma(&manager, 0, 0x2000, false, true, true), VTDM_FAULT_READ, 0);
+    for (uint64_t ticket = 1; ticket <= 64; ticket++)
+        ANSWERS(vtdm_begin(&manager, 2), VTDM_OK, ticket);
+    ANSWERS(vtdm_begin(&manager, 2), VTDM_TOO_MANY_TICKETS, 0);
+    ANSWERS(vtdm_reap(&manager, 2, 1), VTDM_PENDING, 0);
+    CHECK(vtdm_totals(&manager).tickets == 64 && vtdm_totals(&manager).pending == 128);
+    vtdm_destroy(&manager);
+}
+
+/* A page of a lazy domain is reached behind its unmap until the cache of leaves loses it. */
+static void check_caches(void) {
+    struct vtdm manager = VTDM_INIT;
+    CHECK(vtdm_create(&manager, 16) == VTDM_OK);
+    ANSWERS(vtdm_domain(&manager, true), VTDM_OK, 1);
+    ANSWERS(vtdm_attach(&manager, 4, 1), VTDM_OK, 0);
+    ANSWERS(vtdm_map(&manager, 1, 0x100, 1, 0, VTDM_READ), VTDM_OK, 0x1000);
+    ANSWERS(vtdm_dma(&manager, 4, 0x1234, false, true, true), VTDM_OK, 0x100234);
+    ANSWERS(vtdm_unmap(&manager, 1, 0x1000, 1), VTDM_OK, 0);
+    ANSWERS(vtdm_evict(&manager, VTDM_CACHE_NON_LEAF, 0), VTDM_OK, 0);
+    ANSWERS(vtdm_evict(&manager, VTDM_CACHE_CONTEXT, 0), VTDM_OK, 0);
+    ANSWERS(vtdm_dma(&manager, 4, 0x1234, false, true, false), VTDM_OK, 0x100234);
+    ANSWERS(vtdm_evict(&manager, VTDM_CACHE_LEAF, 0), VTDM_OK, 0);
+    ANSWERS(vtdm_dma(&manager, 4, 0x1234, false, true, false), VTDM_FAULT_READ, 0);
+    vtdm_destroy(&manager);
+}
+
+static void check_readers(struct vtdm *manager) {
+    ANSWERS(vtdm_attach(manager, 15, 2), VTDM_OK, 0);
+    ANSWERS(vtdm_attach(manager, 2, 2), VTDM_OK, 0);
+    ANSWERS(vtdm_domain_of(manager, 15), VTDM_OK, 2);
+    ANSWERS(vtdm_domain_of(manager, 3), VTDM_NOT_ATTACHED, 0);
+    ANSWERS(vtdm_domain_of(manager, 16), VTDM_NO_DEVICE, 0);
+    ANSWERS(vtdm_devices_of(manager, 2), VTDM_OK, 0x8004);
+    ANSWERS(vtdm_devices_of(manager, 1), VTDM_OK, 0);
+    ANSWERS(vtdm_devices_of(manager, 0), VTDM_NO_DOMAIN, 0);
+    ANSWERS(vtdm_devices_of(manager, 16), VTDM_NO_DOMAIN, 0);
+    ANSWERS(vtdm_mode_of(manager, 1), VTDM_OK, VTDM_STRICT);
+    ANSWERS(vtdm_mode_of(manager, 2), VTDM_OK, VTDM_LAZY);
+    ANSWERS(vtdm_mode_of(manager, 3), VTDM_NO_DOMAIN, 0);
+    ANSWERS(vtdm_root_of(manager, 3), VTDM_NO_DOMAIN, 0);
+    ANSWERS(vtdm_table_word(manager, 63, 511), VTDM_OK, vtdm_table_word(manager, 63, 511).value);
+    ANSWERS(vtdm_table_word(manager, 64, 0), VTDM_NO_WORD, 0);
+    ANSWERS(vtdm_table_word(manager, 0, 512), VTDM_NO_WORD, 0);
+    ANSWERS(vtdm_table_word(manager, UINT64_MAX, UINT64_MAX), VTDM_NO_WORD, 0);
+    CHECK(vtdm_domain_totals(manager, 3).status == VTDM_NO_DOMAIN);
+    CHECK(vtdm_context(manager, 16).status == VTDM_NO_DEVICE);
+    struct vtdm_totals_answer all = vtdm_totals(manager);
+    CHECK(all.status == VTDM_OK && all.free == 60 && all.used == 4 && all.held == 0 && all.tickets == 0 && all.pending == 0);
+    struct vtdm_domain_totals_answer one = vtdm_domain_totals(manager, 1);
+    CHECK(one.status == VTDM_OK && one.mode == VTDM_STRICT && one.live == 16 && one.retired == 0 && one.pieces == 3);
+}
+
+int main(void) {
+    struct vtdm manager = VTDM_INIT, other = VTDM_INIT;
+    check_absent(&manager);
+    CHECK(vtdm_create(&manager, 15) == VTDM_BAD_FRAMES);
+    CHECK(vtdm_create(&manager, 4097) == VTDM_BAD_FRAMES);
+    CHECK(vtdm_create(&manager, UINT64_MAX) == VTDM_BAD_FRAMES);
+    check_absent(&manager);
+    CHECK(vtdm_create(&manager, 64) == VTDM_OK);
+    CHECK(vtdm_create(&manager, 64) == VTDM_PRESENT);
+    CHECK(vtdm_create(&manager, 0) == VTDM_PRESENT);
+    CHECK(vtdm_create(&other, 4096) == VTDM_OK);
+    check_names();
+    check_caches();
+    check_limits(&manager);
+    check_readers(&manager);
+    CHECK(vtdm_totals(&other).free == 4096);
+    vtdm_destroy(&manager);
+    check_absent(&manager);
+    vtdm_destroy(&manager);
+    CHECK(vtdm_create(&manager, 16) == VTDM_OK && vtdm_totals(&manager).free == 16);
+    vtdm_destroy(&manager);
+    vtdm_destroy(&other);
+    return check_end();
+}

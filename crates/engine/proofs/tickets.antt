@@ -1,0 +1,9 @@
+pub mod Ageing
+pub mod Stay
+pub mod Begun
+pub mod BeginDoes
+pub mod Requested
+pub mod UnitStep
+pub mod Closed
+pub mod EachCall
+pub mod UnitDoes

@@ -1,0 +1,422 @@
+//! The hits of two ports while two drivers map and unmap, compared with the history that is handed out.
+
+ghost use Rattle.manager.specs.Kept.{IsNamedBy};
+
+use crate::judge::Judge;
+use dmatypes::{Access, Call, Event, Mode, PAGE_BYTES, Reply, Whim};
+use manager::*;
+use std::alloc::{AllocError, Global};
+use std::marker::Brand;
+use std::process::Abort;
+use std::sync::Wait;
+use std::test::Fail;
+use std::thread::{Threads, join};
+
+// How many rounds a device goes, and how many calls a driver makes.
+const ROUNDS: u64 = 400;
+
+const DRIVEN: u64 = 1000;
+
+// The frame that a driver maps first.
+const FIRST_FRAME: u64 = 0x1000;
+
+// The pages that a device reads, 1 to 4: the first stays mapped, the others are the driver's.
+const PAGES: u64 = 4;
+
+// What a port answered to a read.
+#[derive(Clone, Copy)]
+struct Hit {
+    address: u64,
+    host: Option<u64>,
+    count: u64,
+}
+
+// What a device's thread owns: its port, a share for its requests, and what the port answered.
+#[derive(Drop)]
+struct Device<B: Owner> {
+    number: u64,
+    port: Port<B>,
+    share: Share<B>,
+    hits: Vec<Hit>,
+}
+
+impl<B: Owner> Device<B> {
+    // Attaches the device to a domain with one page, and has the port answer a read of it.
+    fn begin<R: Wait>(
+        &mut self,
+        rt: &R,
+        manager: &Manager<B>,
+        rows: &Rows<B>,
+        mode: Mode,
+        domain: u64,
+    ) -> Result<(), AllocError> {
+        let attach = Call::Attach {
+            device: self.number,
+            domain,
+        };
+        let _ = manager.call(rt, rows, &mut self.share, Call::Domain(mode));
+        let _ = manager.call(rt, rows, &mut self.share, attach);
+        let _ = manager.call(rt, rows, &mut self.share, map_of(domain, 0x800));
+        self.request(rt, manager, rows, PAGE_BYTES);
+        self.hit(rows, PAGE_BYTES)
+    }
+
+    // One read by the port.
+    fn hit(&mut self, rows: &Rows<B>, address: u64) -> Result<(), AllocError> {
+        let (host, count) = self.port.hit(rows, address, Access::Read);
+        Ok(
+            self.hits.push(Hit {
+                address,
+                host,
+                count,
+            })?,
+        )
+    }
+
+    // One read through the unit's caches, which is remembered.
+    fn request<R: Wait>(&mut self, rt: &R, manager: &Manager<B>, rows: &Rows<B>, address: u64) {
+        let request = Call::Dma {
+            device: self.number,
+            address,
+            access: Access::Read,
+            whim: Whim {
+                look: true,
+                fill: true,
+            },
+        };
+        let _ = manager.call(rt, rows, &mut self.share, request);
+    }
+
+    // Reads the pages by turns, by the port before and behind each request.
+    fn read_all<R: Wait>(
+        &mut self,
+        rt: &R,
+        manager: &Manager<B>,
+        rows: &Rows<B>,
+    ) -> Result<(), AllocError> {
+        for round in 0..ROUNDS {
+            let address = PAGE_BYTES * (1 + round % PAGES) + round;
+            self.hit(rows, address)?;
+            self.request(rt, manager, rows, address);
+            self.hit(rows, address)?;
+        }
+        manager.check_in(rt, rows, &mut self.share, &mut self.port);
+        Ok(())
+    }
+}
+
+// One page for reading and writing.
+fn map_of(domain: u64, frame: u64) -> Call {
+    Call::Map {
+        domain,
+        frame,
+        pages: 1,
+        order: 0,
+        rights: 3,
+    }
+}
+
+// Maps and unmaps a page by turns, each time to another frame, and now and then flushes the domain.
+fn drive<B: Owner, R: Wait>(
+    rt: &R,
+    manager: &Manager<B>,
+    rows: &Rows<B>,
+    mut mine: Share<B>,
+    domain: u64,
+) -> Share<B> {
+    let mut mapped = None;
+    for turn in 0..DRIVEN {
+        let call = driver_call(domain, turn, mapped);
+        mapped = match manager.call(rt, rows, &mut mine, call) {
+            Ok((_, Reply::Mapped(address))) => Some(address),
+            _ => None,
+        };
+    }
+    mine
+}
+
+// What is mapped is unmapped; else a page is mapped, or the domain flushed.
+fn driver_call(domain: u64, turn: u64, mapped: Option<u64>) -> Call {
+    match mapped {
+        Some(address) => Call::Unmap {
+            domain,
+            address,
+            pages: 1,
+        },
+        None if turn % 7 == 4 => Call::Flush { domain },
+        None => map_of(domain, FIRST_FRAME.saturating_add(turn)),
+    }
+}
+
+// What a device's thread hands back: what it owns, and whether memory sufficed for what it noted.
+#[derive(Drop)]
+struct Noted<B: Owner> {
+    device: Device<B>,
+    memory: Result<(), AllocError>,
+}
+
+// A device's thread.
+fn read_beside<B: Owner, R: Wait>(
+    rt: &R,
+    manager: &Manager<B>,
+    rows: &Rows<B>,
+    mut device: Device<B>,
+) -> Noted<B> {
+    let memory = device.read_all(rt, manager, rows);
+    Noted { device, memory }
+}
+
+#[test]
+fn hits_stand_in_the_history(rt: HostRuntime) -> Result<(), Fail> {
+    let config = Config::new(64, 8 * ROUNDS, 4).ok_or("within the limits")?;
+    let seed = Seed::new(rt.alloc(), config)?;
+    audited::<Brand, _>(&rt, rt.alloc(), seed)
+}
+
+fn audited<B: Owner + Send + Sync, R: Threads + Wait + Abort + Sync>(
+    rt: &R,
+    alloc: Global,
+    seed: Seed,
+) -> Result<(), Fail>
+    requires { IsNamedBy seed B.name B.parts B.shares B.room B.frames B.rows }
+{
+    let Made {
+        manager,
+        rows,
+        mut ports,
+        mut shares,
+    } = Manager::<B>::new(alloc, seed)?;
+    let mut strict = device_of(alloc, 0, &mut ports, &mut shares)?;
+    let mut lazy = device_of(alloc, 1, &mut ports, &mut shares)?;
+    strict.begin(rt, &manager, &rows, Mode::Strict, 1)?;
+    lazy.begin(rt, &manager, &rows, Mode::Lazy, 2)?;
+    let one = shares.pop().ok_or("a share")?;
+    let two = shares.pop().ok_or("a share")?;
+    let (driven, read) = all_at_once(rt, &manager, &rows, (one, two), (strict, lazy));
+    let (strict, lazy) = (device_in(read.0)?, device_in(read.1)?);
+    let mut all = Vec::new(alloc);
+    all.push(driven.0)?;
+    all.push(driven.1)?;
+    all.push(strict.share)?;
+    all.push(lazy.share)?;
+    let Ok(history) = manager.finish(&rows, all) else {
+        return Err(Fail::from("all shares are enough"));
+    };
+    for (number, hits) in [(0, &strict.hits), (1, &lazy.hits)] {
+        // The first hit came before the threads.
+        assert!(rt; hits.iter().skip(1).any(|hit| hit.host.is_some()));
+        assert!(rt; are_allowed(alloc, history.events(), number, hits.as_slice())?);
+    }
+    Ok(())
+}
+
+// The drivers' threads beside those of the devices.
+fn all_at_once<B: Owner + Send + Sync, R: Threads + Wait + Sync>(
+    rt: &R,
+    manager: &Manager<B>,
+    rows: &Rows<B>,
+    drivers: (Share<B>, Share<B>),
+    devices: (Device<B>, Device<B>),
+) -> ((Share<B>, Share<B>), (Noted<B>, Noted<B>)) {
+    join(
+        rt,
+        || drive_both(rt, manager, rows, drivers),
+        || read_both(rt, manager, rows, devices),
+    )
+}
+
+// Two drivers, in a thread each.
+fn drive_both<B: Owner + Send + Sync, R: Threads + Wait + Sync>(
+    rt: &R,
+    manager: &Manager<B>,
+    rows: &Rows<B>,
+    (one, two): (Share<B>, Share<B>),
+) -> (Share<B>, Share<B>) {
+    join(
+        rt,
+        || drive(rt, manager, rows, one, 1),
+        || drive(rt, manager, rows, two, 2),
+    )
+}
+
+// Two devices, in a thread each.
+fn read_both<B: Owner + Send + Sync, R: Threads + Wait + Sync>(
+    rt: &R,
+    manager: &Manager<B>,
+    rows: &Rows<B>,
+    (strict, lazy): (Device<B>, Device<B>),
+) -> (Noted<B>, Noted<B>) {
+    join(
+        rt,
+        || read_beside(rt, manager, rows, strict),
+        || read_beside(rt, manager, rows, lazy),
+    )
+}
+
+// The device, where memory sufficed for what its thread noted.
+fn device_in<B: Owner>(noted: Noted<B>) -> Result<Device<B>, AllocError> {
+    noted.memory?;
+    Ok(noted.device)
+}
+
+// A device with the port of its number and a share.
+fn device_of<B: Owner>(
+    alloc: Global,
+    number: u64,
+    ports: &mut Vec<Port<B>>,
+    shares: &mut Vec<Share<B>>,
+) -> Result<Device<B>, Fail> {
+    if ports.is_empty() {
+        return Err(Fail::from("a port"));
+    }
+    Ok(Device {
+        number,
+        port: ports.remove(0),
+        share: shares.pop().ok_or("a share")?,
+        hits: Vec::new(alloc),
+    })
+}
+
+// Whether each host address that a device's port answered is allowed after some front of the events, which is no shorter
+// than the count that came with the answer, and no longer than that of the port's next answer.
+fn are_allowed(
+    alloc: Global,
+    events: &[Event],
+    device: u64,
+    hits: &[Hit],
+) -> Result<bool, AllocError> {
+    let mut front = Front {
+        events,
+        seen: 0,
+        judge: Judge::new(alloc),
+    };
+    for (place, hit) in hits.iter().enumerate() {
+        let most = match hits.get(place + 1) {
+            Some(next) => next.count,
+            None => events.len() as u64,
+        };
+        if hit.count > events.len() as u64 {
+            return Ok(false);
+        }
+        front.go_to(hit.count)?;
+        if let Some(host) = hit.host {
+            if !front.comes_to(device, hit.address, host, most)? {
+                return Ok(false);
+            }
+        }
+    }
+    Ok(true)
+}
+
+// A front of the events, and the judge that has seen it.
+#[derive(Drop)]
+struct Front<'a> {
+    events: &'a [Event],
+    seen: u64,
+    judge: Judge,
+}
+
+impl Front<'_> {
+    // Goes on to a front of this length.
+    fn go_to(&mut self, length: u64) -> Result<(), AllocError> {
+        for _ in self.seen..length {
+            if let Some(event) = self.events.get(self.seen as usize) {
+                self.judge.see(event)?;
+                self.seen = self.seen.saturating_add(1);
+            }
+        }
+        Ok(())
+    }
+
+    // Goes on to the next front at which the read is allowed, no longer than the most; whether there is one.
+    fn comes_to(
+        &mut self,
+        device: u64,
+        address: u64,
+        host: u64,
+        most: u64,
+    ) -> Result<bool, AllocError> {
+        for length in self.seen..=most {
+            self.go_to(length)?;
+            if self.judge.allows(device, address, host) {
+                return Ok(true);
+            }
+        }
+        Ok(false)
+    }
+}
+
+// A read of page 1 that came to a host frame, or to nothing, and the count that came with it.
+fn read_at(frame: Option<u64>, count: u64) -> Hit {
+    Hit {
+        address: PAGE_BYTES + 0x234,
+        host: frame.map(|frame| PAGE_BYTES.saturating_mul(frame).saturating_add(0x234)),
+        count,
+    }
+}
+
+// A domain with page 1 mapped to frame 0x800 at the third event, and unmapped at the fourth; the fifth flushes it.
+fn short_history(alloc: Global, mode: Mode) -> Result<Vec<Event>, AllocError> {
+    let mut events = Vec::new(alloc);
+    let attach = Call::Attach {
+        device: 3,
+        domain: 1,
+    };
+    let unmap = Call::Unmap {
+        domain: 1,
+        address: PAGE_BYTES,
+        pages: 1,
+    };
+    for (call, reply) in [
+        (Call::Domain(mode), Reply::Made(1)),
+        (attach, Reply::Done),
+        (map_of(1, 0x800), Reply::Mapped(PAGE_BYTES)),
+        (unmap, Reply::Unmapped(0)),
+        (Call::Flush { domain: 1 }, Reply::Flushed(0)),
+    ] {
+        events.push(Event { call, reply })?;
+    }
+    Ok(events)
+}
+
+// Hits that the history doesn't allow, beside such that it does.
+#[test]
+fn hits_are_judged(rt: HostRuntime) -> Result<(), Fail> {
+    let there = Some(0x800);
+    let rows: [(Mode, u64, &[Hit], bool); 11] = [
+        (Mode::Strict, 3, &[read_at(there, 3)], true),
+        (Mode::Strict, 3, &[read_at(there, 0)], true),
+        (Mode::Strict, 3, &[read_at(Some(0x801), 0)], false),
+        (Mode::Strict, 2, &[read_at(there, 3)], false),
+        (Mode::Strict, 3, &[read_at(there, 4)], false),
+        (
+            Mode::Strict,
+            3,
+            &[read_at(None, 5), read_at(there, 5)],
+            false,
+        ),
+        (
+            Mode::Strict,
+            3,
+            &[read_at(None, 4), read_at(there, 3)],
+            false,
+        ),
+        (
+            Mode::Strict,
+            3,
+            &[read_at(there, 0), read_at(None, 2)],
+            false,
+        ),
+        (Mode::Strict, 3, &[read_at(None, 6)], false),
+        (Mode::Lazy, 3, &[read_at(there, 4)], true),
+        (Mode::Lazy, 3, &[read_at(there, 5)], false),
+    ];
+    for (mode, device, hits, allowed) in rows {
+        let events = short_history(rt.alloc(), mode)?;
+        assert_eq!(rt;
+            are_allowed(rt.alloc(), events.as_slice(), device, hits)?,
+            allowed
+        );
+    }
+    Ok(())
+}

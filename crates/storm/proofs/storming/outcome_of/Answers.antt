@@ -1,0 +1,44 @@
+use Rattle.std.proofs.Common.{◌≡◌, ◌+◌, ◌<◌, ◌∷◌, ◌++◌, [], All, length, sum_by, arith, ap, sym, subst, ◌∙◌}
+use Rattle.manager.specs.Kept.{AllSaw, Book, Share}
+use Rattle.std.proofs.lemmas.Option.{get_or_from_slice_get}
+use Rattle.ports.specs.Seen.{Port, new_port}
+use Rattle.storm.specs.Storms.{HasMet}
+use Rattle.storm.proofs.Storms.{all_made}
+use Rattle.storm.proofs.storming.outcome_of.Goals as goal
+
+pub workers_of-requires-clause-ports : goal.workers_of-requires-clause-ports
+workers_of-requires-clause-ports g c k d within =
+    let made = c.in_ok-manager.field-0.ports in
+    let few : k < 16 = omega (arith, within, made.ok, c.in_ok-manager.ensures.ports.0) in
+    ap (λ (p : Port). p.did) (get_or_from_slice_get made.items k (new_port g.B.Owner.rows k) d (c.in_ok-manager.ensures.ports.1 k few))
+
+pub returns : goal.returns
+returns g c =
+    let plan = c.args.plan in
+    let shares = c.in_ok-shares.field-0.shares in
+    let mine = c.set_up.new.first in
+    let history = c.in-Ok.history.history in
+    let room : c.args.seed.room ≡ g.B.Owner.room = c.requires.named.room_is in
+    let items : c.push_reserved.new.self.items ≡ shares.items ++ mine ∷ [] = c.push_reserved.ensures.items in
+    let len : length shares.items ≡ plan.drivers + plan.devices + 1 = omega (
+      arith,
+      shares.ok.0,
+      c.in_ok-shares.ensures.len,
+      c.in_ok-workers.ensures.len,
+      c.in-Some.ensures.cases,
+      ap (λ v. v.len) c.in_ok-manager.shares-is,
+      c.in_ok-manager.ensures.shares,
+      c.requires.shares,
+      c.requires.named.shares_are,
+    ) in
+    record {
+      room = ap (λ (b : Book). length b.history) c.meet_all.ensures.same
+          ∙ (all_made (plan.drivers + plan.devices + 1) plan.calls (2 + plan.devices) g.B.Owner.room history shares.items mine
+          (sym room ∙ c.requires.room) len c.in_ok-shares.ensures.made c.set_up.ensures
+          (subst (AllSaw history) items c.in-Ok.ensures.saw)
+          (subst (λ xs. length history ≡ sum_by (λ (s : Share). s.calls) xs) items c.in-Ok.ensures.counted)
+          c.in-Ok.ensures.kept.within
+          ∙ sym room);
+      met = subst (λ (b : Book). All (HasMet plan.calls b.history) c.meet_all.new.ports.items) (sym c.meet_all.ensures.same)
+          (c.meet_all.ensures.met plan.calls c.in_ok-shares.ensures.stepped);
+    }

@@ -1,0 +1,8 @@
+use Rattle.storm.proofs.tests.turns.calls_by_turns.Given as goal
+
+-- what the seed has
+abbrev pub ghosts-called_by_turns-B-Ledger : goal.ghosts-called_by_turns-B-Ledger
+ghosts-called_by_turns-B-Ledger g a = record { name = a.seed.name; parts = a.seed.shares }
+
+abbrev pub ghosts-called_by_turns-B-Owner : goal.ghosts-called_by_turns-B-Owner
+ghosts-called_by_turns-B-Owner g a = record { shares = a.seed.shares; room = a.seed.room; frames = a.seed.frames; rows = a.seed.rows }

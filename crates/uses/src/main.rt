@@ -1,0 +1,99 @@
+//! `uses`: two drivers in threads of their own and a device share one manager; at the end the history is printed.
+#![tactic(auto)]
+
+ghost use Rattle.manager.specs.Kept.{IsNamedBy};
+
+use dmatypes::{Access, Call, Reply, parse_line};
+use manager::{Config, Manager, Owner, Rows, Seed, Share};
+use std::alloc::Global;
+use std::io::{self, Write};
+use std::marker::Brand;
+use std::process::ExitCode;
+use std::sync::Wait;
+use std::thread::{Threads, join};
+
+fn main(rt: HostRuntime) -> ExitCode {
+    // 64 table frames, room for 100 calls, and three shares: a share is the right to call.
+    let Some(Ok(seed)) = Config::new(64, 100, 3).map(|config| Seed::new(rt.alloc(), config)) else {
+        return ExitCode::FAILURE;
+    };
+    // A brand gives the manager a type of its own, so that shares and ports of two managers can't be mixed up.
+    match two_drivers::<Brand, _, _>(&rt, rt.alloc(), seed, &mut rt.stdout()) {
+        Ok(()) => ExitCode::SUCCESS,
+        Err(_) => ExitCode::FAILURE,
+    }
+}
+
+fn two_drivers<B: Owner + Send + Sync, R: Threads + Wait + Sync, W: Write>(
+    rt: &R,
+    alloc: Global,
+    seed: Seed,
+    output: &mut W,
+) -> io::Result<()>
+    requires { IsNamedBy seed B.name B.parts B.shares B.room B.frames B.rows }
+{
+    let made = Manager::<B>::new(alloc, seed)?;
+    let (manager, rows, mut shares) = (made.manager, made.rows, made.shares);
+    let (Some(one), Some(two), Some(mut mine)) = (shares.pop(), shares.pop(), shares.pop()) else {
+        return Ok(());
+    };
+    call(rt, &manager, &rows, &mut mine, b"domain strict");
+    call(rt, &manager, &rows, &mut mine, b"attach 0 1");
+    // Each driver maps a page, from a thread of its own.
+    let (one, two) = join(
+        rt,
+        || map_page(rt, &manager, &rows, one),
+        || map_page(rt, &manager, &rows, two),
+    );
+    for mut port in made.ports.into_iter().take(1) {
+        // The device asks its port, which takes no lock, and where that can't answer, the unit, under the lock. With a
+        // fill the port can answer from then on.
+        if port.hit(&rows, 0x1000, Access::Read).0.is_none() {
+            call(rt, &manager, &rows, &mut mine, b"dma 0 0x1000 r look fill");
+        }
+        let (host, _) = port.hit(&rows, 0x1000, Access::Read);
+        writeln!(output, "hit without the lock: {:#x}", host.unwrap_or(0))?;
+        // Behind an unmap, the port never again answers by that page once it has checked in.
+        call(rt, &manager, &rows, &mut mine, b"unmap 1 0x1000 1");
+        manager.check_in(rt, &rows, &mut mine, &mut port);
+    }
+    for share in [one, two, mine] {
+        shares.push(share)?;
+    }
+    if let Ok(history) = manager.finish(&rows, shares) {
+        for event in history.events() {
+            writeln!(output, "{:?} -> {:?}", event.call, event.reply)?;
+        }
+    }
+    Ok(())
+}
+
+// A call, as a script's line says it.
+fn call<B: Owner, R: Wait>(
+    rt: &R,
+    manager: &Manager<B>,
+    rows: &Rows<B>,
+    mine: &mut Share<B>,
+    line: &[u8],
+) -> Option<Reply> {
+    let (_, reply) = manager.call(rt, rows, mine, parse_line(line)?).ok()?;
+    Some(reply)
+}
+
+// A driver's thread.
+fn map_page<B: Owner, R: Wait>(
+    rt: &R,
+    manager: &Manager<B>,
+    rows: &Rows<B>,
+    mut mine: Share<B>,
+) -> Share<B> {
+    let map = Call::Map {
+        domain: 1,
+        frame: 0x100,
+        pages: 1,
+        order: 0,
+        rights: 3,
+    };
+    let _ = manager.call(rt, rows, &mut mine, map);
+    mine
+}

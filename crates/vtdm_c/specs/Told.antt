@@ -1,0 +1,96 @@
+-- What readers tell C.
+use Rattle.std.specs.Prelude.{◌≡◌, ◌↔◌, ◌<◌, ◌≤◌, ℕ, Option, None, Some, slice_get}
+use Rattle.std.specs.Int.{bit_at}
+use Rattle.dmatypes.specs.declared.call.Mode.{Mode}
+use Rattle.dmatypes.specs.declared.call.Mode.TheVariants.{Lazy, Strict}
+use Rattle.dmatypes.specs.declared.limits.TheConstants.{DEVICES}
+use Rattle.engine.specs.declared.state.totals.DomainTotals as engine
+use Rattle.engine.specs.declared.state.totals.Totals as state
+use Rattle.engine.specs.Domains.{Domain, domain_at}
+use Rattle.engine.specs.Hits.{mode_of}
+use Rattle.engine.specs.Quarantine.{attached}
+use Rattle.engine.specs.State.{State}
+use Rattle.engine.specs.Totals.{domain_totals_of, totals_of}
+use Rattle.engine.specs.Walkable.{SpellsContext, root_of}
+use Rattle.tables.specs.Pool.{word}
+use Rattle.tables.specs.declared.entries.TheConstants.{TABLE_ENTRIES}
+use Rattle.vtdbits.specs.declared.words.Words.{Words}
+use Rattle.vtdm_c.specs.Answers.{found, lone, told}
+use Rattle.vtdm_c.specs.declared.answer.Answer.{Answer}
+use Rattle.vtdm_c.specs.declared.answer.TheConstants.Answer.{NO_DEVICE, NO_DOMAIN, NO_WORD, NOT_ATTACHED, OK}
+use Rattle.vtdm_c.specs.declared.told.Context.{Context}
+use Rattle.vtdm_c.specs.declared.told.DomainTotals.{DomainTotals}
+use Rattle.vtdm_c.specs.declared.told.Totals.{Totals}
+
+-- ---- a status with no numbers, and numbers with status 0
+
+abbrev pub no_totals : ℕ → Totals
+no_totals status = record { status = status; free = 0; used = 0; held = 0; tickets = 0; pending = 0 }
+
+abbrev pub totals_told : state.Totals → Totals
+totals_told t = record { status = OK; free = t.free; used = t.used; held = t.held; tickets = t.tickets; pending = t.pending }
+
+abbrev pub no_domain_totals : ℕ → DomainTotals
+no_domain_totals status = record { status = status; mode = 0; live = 0; retired = 0; pieces = 0 }
+
+-- 0 strict, 1 lazy
+abbrev pub number_of_mode : Mode → ℕ
+number_of_mode Strict = 0
+number_of_mode Lazy = 1
+
+abbrev pub domain_totals_told : Option engine.DomainTotals → DomainTotals
+domain_totals_told None = no_domain_totals NO_DOMAIN
+domain_totals_told (Some t) =
+    record { status = OK; mode = number_of_mode t.mode; live = t.live; retired = t.retired; pieces = t.pieces }
+
+abbrev pub no_context : ℕ → Context
+no_context status = record { status = status; low = 0; high = 0 }
+
+abbrev pub context_told : Words → Context
+context_told words = record { status = OK; low = words.low; high = words.high }
+
+-- ---- what each reader finds in a state
+
+abbrev pub FindsTotals : State → Totals → Type 0
+FindsTotals m answer = answer ≡ totals_told (totals_of m)
+
+abbrev pub FindsDomainTotals : ℕ → State → DomainTotals → Type 0
+FindsDomainTotals domain m answer = answer ≡ domain_totals_told (domain_totals_of (domain_at m.domains domain))
+
+-- the domain that a device, 0 to 15, is attached to
+abbrev pub FindsDomainOf : ℕ → State → Answer → Type 0
+FindsDomainOf device m answer =
+    (DEVICES ≤ device → answer ≡ lone NO_DEVICE)
+    × (device < DEVICES → answer ≡ found (attached (slice_get m.iommu.contexts device)) NOT_ATTACHED)
+
+-- the devices of a domain that is there: bit j is device j
+abbrev pub AreDevicesOf : ℕ → State → Option Domain → Answer → Type 0
+AreDevicesOf domain m None answer = answer ≡ lone NO_DOMAIN
+AreDevicesOf domain m (Some h) answer =
+    (answer.status ≡ OK)
+    × ((device : ℕ) → device < DEVICES
+    → (bit_at answer.value device ≡ 1) ↔ (attached (slice_get m.iommu.contexts device) ≡ Some domain))
+
+abbrev pub FindsDevices : ℕ → State → Answer → Type 0
+FindsDevices domain m answer = AreDevicesOf domain m (domain_at m.domains domain) answer
+
+abbrev pub mode_told : Option Mode → Answer
+mode_told None = lone NO_DOMAIN
+mode_told (Some mode) = told (number_of_mode mode)
+
+abbrev pub FindsMode : ℕ → State → Answer → Type 0
+FindsMode domain m answer = answer ≡ mode_told (mode_of (domain_at m.domains domain))
+
+abbrev pub FindsRoot : ℕ → State → Answer → Type 0
+FindsRoot domain m answer = answer ≡ found (root_of (domain_at m.domains domain)) NO_DOMAIN
+
+-- the word of a frame of the pool at an index
+pub record FindsWord (frame index : ℕ) (m : State) (answer : Answer) : Type 0 where
+  pub there : frame < m.pool.frames → index < TABLE_ENTRIES → answer ≡ told (word m.pool.words frame index)
+  pub no_frame : m.pool.frames ≤ frame → answer ≡ lone NO_WORD
+  pub no_index : TABLE_ENTRIES ≤ index → answer ≡ lone NO_WORD
+
+-- the words of a device's entry in the row of contexts
+pub record FindsContext (device : ℕ) (m : State) (answer : Context) : Type 0 where
+  pub words : device < DEVICES → (w : Words) × (answer ≡ context_told w) × SpellsContext m device w
+  pub none : DEVICES ≤ device → answer ≡ no_context NO_DEVICE

@@ -1,0 +1,127 @@
+//! What is read of a manager. None of it changes anything, or is counted as a call.
+
+ghost use Rattle.std.specs.Prelude.{◌≡◌};
+ghost use Rattle.vtdm_c.specs.Answers.{lone};
+ghost use Rattle.vtdm_c.specs.Called.{Reads};
+ghost use Rattle.vtdm_c.specs.Told.{FindsContext, FindsDevices, FindsDomainOf, FindsDomainTotals, FindsMode, FindsRoot, FindsTotals};
+ghost use Rattle.vtdm_c.specs.Told.{FindsWord, no_context, no_domain_totals, no_totals};
+ghost use Rattle.vtdm_c.specs.declared.answer.TheConstants.Answer.{ABSENT};
+
+use crate::answer::Answer;
+use crate::handle::Handle;
+use crate::told::{Context, DomainTotals, Totals};
+use std::alloc::Global;
+
+/// How many table frames are free, used by trees and held by retired records, and how many tickets are open and descriptors
+/// wait.
+#[unsafe(no_mangle)]
+pub extern "C" fn vtdm_totals(alloc: Global, handle: &mut Handle) -> Totals
+    ensures { Reads (no_totals ABSENT) FindsTotals handle.old.slot.held result handle.new.slot.held }
+{
+    let Some(session) = handle.take(alloc) else {
+        return Totals::none(Answer::ABSENT);
+    };
+    let answer = session.totals();
+    handle.put(session);
+    answer
+}
+
+/// The mode of a domain, and how many live pages, retired records and pieces of its address space it has.
+#[unsafe(no_mangle)]
+pub extern "C" fn vtdm_domain_totals(
+    alloc: Global,
+    handle: &mut Handle,
+    domain: u64,
+) -> DomainTotals
+    ensures { Reads (no_domain_totals ABSENT) (FindsDomainTotals domain) handle.old.slot.held result handle.new.slot.held }
+{
+    let Some(session) = handle.take(alloc) else {
+        return DomainTotals::none(Answer::ABSENT);
+    };
+    let answer = session.domain_totals(domain);
+    handle.put(session);
+    answer
+}
+
+/// The id of the domain that a device, 0 to 15, is attached to.
+#[unsafe(no_mangle)]
+pub extern "C" fn vtdm_domain_of(alloc: Global, handle: &mut Handle, device: u64) -> Answer
+    ensures { Reads (lone ABSENT) (FindsDomainOf device) handle.old.slot.held result handle.new.slot.held }
+{
+    let Some(session) = handle.take(alloc) else {
+        return Answer::lone(Answer::ABSENT);
+    };
+    let answer = session.domain_of(device);
+    handle.put(session);
+    answer
+}
+
+/// The devices that are attached to a domain: bit j is device j.
+#[unsafe(no_mangle)]
+pub extern "C" fn vtdm_devices_of(alloc: Global, handle: &mut Handle, domain: u64) -> Answer
+    ensures { Reads (lone ABSENT) (FindsDevices domain) handle.old.slot.held result handle.new.slot.held }
+{
+    let Some(session) = handle.take(alloc) else {
+        return Answer::lone(Answer::ABSENT);
+    };
+    let answer = session.devices_of(domain);
+    handle.put(session);
+    answer
+}
+
+/// The mode of a domain: 0 strict, 1 lazy.
+#[unsafe(no_mangle)]
+pub extern "C" fn vtdm_mode_of(alloc: Global, handle: &mut Handle, domain: u64) -> Answer
+    ensures { Reads (lone ABSENT) (FindsMode domain) handle.old.slot.held result handle.new.slot.held }
+{
+    let Some(session) = handle.take(alloc) else {
+        return Answer::lone(Answer::ABSENT);
+    };
+    let answer = session.mode_of(domain);
+    handle.put(session);
+    answer
+}
+
+/// The frame of the root table of a domain.
+#[unsafe(no_mangle)]
+pub extern "C" fn vtdm_root_of(alloc: Global, handle: &mut Handle, domain: u64) -> Answer
+    ensures { Reads (lone ABSENT) (FindsRoot domain) handle.old.slot.held result handle.new.slot.held }
+{
+    let Some(session) = handle.take(alloc) else {
+        return Answer::lone(Answer::ABSENT);
+    };
+    let answer = session.root_of(domain);
+    handle.put(session);
+    answer
+}
+
+/// The word of a table frame at an index, 0 to 511.
+#[unsafe(no_mangle)]
+pub extern "C" fn vtdm_table_word(
+    alloc: Global,
+    handle: &mut Handle,
+    frame: u64,
+    index: u64,
+) -> Answer
+    ensures { Reads (lone ABSENT) (FindsWord frame index) handle.old.slot.held result handle.new.slot.held }
+{
+    let Some(session) = handle.take(alloc) else {
+        return Answer::lone(Answer::ABSENT);
+    };
+    let answer = session.table_word(frame, index);
+    handle.put(session);
+    answer
+}
+
+/// The two words of the context entry of a device, 0 to 15.
+#[unsafe(no_mangle)]
+pub extern "C" fn vtdm_context(alloc: Global, handle: &mut Handle, device: u64) -> Context
+    ensures { Reads (no_context ABSENT) (FindsContext device) handle.old.slot.held result handle.new.slot.held }
+{
+    let Some(session) = handle.take(alloc) else {
+        return Context::none(Answer::ABSENT);
+    };
+    let answer = session.context(device);
+    handle.put(session);
+    answer
+}

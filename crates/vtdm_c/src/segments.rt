@@ -1,0 +1,34 @@
+//! The segments that C names.
+
+ghost use Rattle.std.specs.Prelude.{◌≡◌, ◌≤◌, ◌<◌, IfSome, IfNone, length};
+ghost use Rattle.dmatypes.specs.declared.limits.TheConstants.{MOST_SEGMENTS};
+ghost use Rattle.vtdm_c.specs.Segments.{named};
+
+use arrayvec::ArrayVec;
+use dmatypes::MOST_SEGMENTS;
+
+/// So many pages of 4 KiB from a host frame on, as C lays it out.
+#[repr(C)]
+#[derive(Clone, Copy, Debug, PartialEq, Eq)]
+pub struct Segment {
+    pub frame: u64,
+    pub pages: u64,
+}
+
+/// The segments that C names, in its order; `None` exactly where they are more than 16.
+pub(crate) fn list_of(segments: &[Segment]) -> Option<ArrayVec<dmatypes::Segment, MOST_SEGMENTS>>
+    ensures some { IfSome result (λ list. (list.items ≡ named segments.now) × (length segments.now ≤ MOST_SEGMENTS)) }
+    ensures none { IfNone result (MOST_SEGMENTS < length segments.now) }
+{
+    if segments.len() > MOST_SEGMENTS {
+        return None;
+    }
+    let mut list = ArrayVec::new();
+    for segment in segments {
+        list.push(dmatypes::Segment {
+            frame: segment.frame,
+            pages: segment.pages,
+        });
+    }
+    Some(list)
+}

@@ -1,0 +1,74 @@
+//! What is read of a session.
+
+ghost use Rattle.vtdm_c.specs.Told.{FindsContext, FindsDevices, FindsDomainOf, FindsDomainTotals, FindsMode, FindsRoot, FindsTotals};
+ghost use Rattle.vtdm_c.specs.Told.{FindsWord};
+
+use super::Session;
+use crate::answer::Answer;
+use crate::told::{Context, DomainTotals, Totals, number_of_mode};
+use dmatypes::DEVICES;
+
+impl Session {
+    pub(crate) fn totals(&self) -> Totals
+        ensures { FindsTotals self.now.state result }
+    {
+        Totals::of(self.state.totals())
+    }
+
+    pub(crate) fn domain_totals(&self, domain: u64) -> DomainTotals
+        ensures { FindsDomainTotals domain self.now.state result }
+    {
+        DomainTotals::of(self.state.domain_totals(domain))
+    }
+
+    pub(crate) fn domain_of(&self, device: u64) -> Answer
+        ensures { FindsDomainOf device self.now.state result }
+    {
+        if device >= DEVICES {
+            return Answer::lone(Answer::NO_DEVICE);
+        }
+        Answer::found(self.state.domain_of(device), Answer::NOT_ATTACHED)
+    }
+
+    pub(crate) fn devices_of(&self, domain: u64) -> Answer
+        ensures { FindsDevices domain self.now.state result }
+    {
+        match self.state.mode_of(domain) {
+            Some(_) => Answer::told(u64::from(self.state.devices_of(domain))),
+            None => Answer::lone(Answer::NO_DOMAIN),
+        }
+    }
+
+    pub(crate) fn mode_of(&self, domain: u64) -> Answer
+        ensures { FindsMode domain self.now.state result }
+    {
+        match self.state.mode_of(domain) {
+            Some(mode) => Answer::told(number_of_mode(mode)),
+            None => Answer::lone(Answer::NO_DOMAIN),
+        }
+    }
+
+    pub(crate) fn root_of(&self, domain: u64) -> Answer
+        ensures { FindsRoot domain self.now.state result }
+    {
+        match self.state.root_of(domain) {
+            Some(root) => Answer::told(root.number()),
+            None => Answer::lone(Answer::NO_DOMAIN),
+        }
+    }
+
+    pub(crate) fn table_word(&self, frame: u64, index: u64) -> Answer
+        ensures { FindsWord frame index self.now.state result }
+    {
+        Answer::found(self.state.table_word(frame, index), Answer::NO_WORD)
+    }
+
+    pub(crate) fn context(&self, device: u64) -> Context
+        ensures { FindsContext device self.now.state result }
+    {
+        match self.state.context_words(device) {
+            Some(words) => Context::of(words),
+            None => Context::none(Answer::NO_DEVICE),
+        }
+    }
+}

@@ -1,0 +1,86 @@
+/* A virtual machine monitor's way to give a guest's memory to a passed-through device: regions of guest memory are mapped when a
+ * guest asks for it, and unmapped again, by virtual processors that run in threads. The lock is the monitor's own. */
+#include <vtdm.h>
+
+#include <inttypes.h>
+#include <pthread.h>
+#include <stdio.h>
+#include <stdlib.h>
+
+enum { PAGE = 4096, TABLE_FRAMES = 256, DEVICE = 4, PROCESSORS = 2, MAPS = 1000 };
+
+/* The monitor: its manager under its lock, and the domain of its guest. */
+static struct {
+    pthread_mutex_t lock;
+    struct vtdm manager;
+    uint64_t domain;
+} monitor = {PTHREAD_MUTEX_INITIALIZER, VTDM_INIT, 0};
+
+/* The host frame where the guest's memory begins. */
+static const uint64_t GUEST_MEMORY = 0x10000;
+
+static void stop(const char *what, uint64_t status) {
+    fprintf(stderr, "%s: status %" PRIu64 "\n", what, status);
+    exit(1);
+}
+
+/* Has the device reach so many pages of guest memory, and answers the address that the device is to use. */
+static uint64_t map_for_device(uint64_t guest_page, uint64_t pages) {
+    pthread_mutex_lock(&monitor.lock);
+    struct vtdm_answer at =
+        vtdm_map(&monitor.manager, monitor.domain, GUEST_MEMORY + guest_page, pages, 0, VTDM_READ | VTDM_WRITE);
+    pthread_mutex_unlock(&monitor.lock);
+    if (at.status != VTDM_OK)
+        stop("map", at.status);
+    return at.value;
+}
+
+/* When it returns, the device can't reach the pages any more: the guest may use them for something else. */
+static void unmap_for_device(uint64_t address, uint64_t pages) {
+    pthread_mutex_lock(&monitor.lock);
+    struct vtdm_answer ended = vtdm_unmap(&monitor.manager, monitor.domain, address, pages);
+    pthread_mutex_unlock(&monitor.lock);
+    if (ended.status != VTDM_OK)
+        stop("unmap", ended.status);
+}
+
+/* What the emulated device reaches; true, and the host address, where it may. */
+static bool device_reads(uint64_t address, uint64_t *host) {
+    pthread_mutex_lock(&monitor.lock);
+    struct vtdm_answer reached = vtdm_dma(&monitor.manager, DEVICE, address, false, true, true);
+    pthread_mutex_unlock(&monitor.lock);
+    *host = reached.value;
+    return reached.status == VTDM_OK;
+}
+
+/* A virtual processor: its guest maps a buffer for the device, has it read, and takes it away again. */
+static void *processor(void *number) {
+    uint64_t first = *(const uint64_t *)number * 1024, host;
+    for (uint64_t i = 0; i < MAPS; i++) {
+        uint64_t pages = 1 + i % 16, address = map_for_device(first + i % 512, pages);
+        if (!device_reads(address, &host) || host != (GUEST_MEMORY + first + i % 512) * PAGE)
+            stop("a mapped page", host);
+        unmap_for_device(address, pages);
+    }
+    return NULL;
+}
+
+int main(void) {
+    pthread_t threads[PROCESSORS];
+    uint64_t numbers[PROCESSORS] = {0, 1}, host;
+    uint64_t status = vtdm_create(&monitor.manager, TABLE_FRAMES);
+    if (status != VTDM_OK)
+        stop("create", status);
+    monitor.domain = vtdm_domain(&monitor.manager, false).value;
+    vtdm_attach(&monitor.manager, DEVICE, monitor.domain);
+    for (int i = 0; i < PROCESSORS; i++)
+        if (pthread_create(&threads[i], NULL, processor, &numbers[i]))
+            stop("thread", 0);
+    for (int i = 0; i < PROCESSORS; i++)
+        pthread_join(threads[i], NULL);
+    struct vtdm_domain_totals_answer left = vtdm_domain_totals(&monitor.manager, monitor.domain);
+    printf("%d maps and unmaps, %" PRIu64 " pages are left, and the device reaches %s\n", PROCESSORS * MAPS, left.live,
+           device_reads(PAGE, &host) ? "one" : "none");
+    vtdm_destroy(&monitor.manager);
+    return 0;
+}
