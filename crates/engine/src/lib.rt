@@ -12,5 +12,5 @@ mod state;
 mod ticket;
 mod wanted;
 
-pub use state::{Answer, DomainTotals, State, Totals};
+pub use state::{Answer, DomainTotals, RetiredRecord, State, Totals};
 pub use unit::Hit;

@@ -6,9 +6,10 @@ mod block;
 mod counted;
 mod error;
 mod lines;
+mod map;
 mod running;
 mod wrapped;
 
 pub use counted::Counted;
 pub use error::RunError;
-pub use running::{report, run};
+pub use running::{report, report_with_map, run};

@@ -1,3 +1,4 @@
 pub mod Elements
+pub mod Meeting
 pub mod Storms
 pub mod Writing

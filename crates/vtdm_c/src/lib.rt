@@ -6,6 +6,7 @@ mod answer;
 mod domains;
 mod flushes;
 mod handle;
+pub mod laws;
 mod life;
 mod loose;
 mod pages;
