@@ -136,6 +136,10 @@ def store():
 
 
 def main():
+    if not os.path.isfile(VTDM):
+        print("examples: the program isn't built; bin/vtdm builds it")
+        print("0 passed, 1 failed")
+        return 1
     if sys.argv[1:] == ["--store"]:
         store()
     passed = failed = 0
