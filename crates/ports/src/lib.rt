@@ -10,7 +10,7 @@
 //! let (rows, mut desk, mut ports, _) = Rows::new(rt.alloc(), 64, 1)?;
 //! let mut port = ports.remove(3);
 //!
-//! // Under the lock: an event is appended, and a word filled for device 3.
+//! // Under the lock: `event` is appended, with which the history is legal, and `word` filled for device 3, which is lawful then.
 //! desk.append(&rows, &event);
 //! desk.fill(&rows, 3, word);
 //!
