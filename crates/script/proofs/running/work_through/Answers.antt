@@ -31,8 +31,8 @@ returns-in-Answers-clause-written g c =
     (answers_known _ c.args.output c.replies_for.result _ _ _ _ _ _ c.answer_lines-end.new.book
     c.answer_lines-end.result c.in-Answers.is c.replies_for.ensures c.answer_lines-end.ensures.written)
 
-pub returns-in-Map-clause-written : goal.returns-in-Map-clause-written
-returns-in-Map-clause-written g c = rw c.in-Map.is tt
+pub returns-clause-written : goal.returns-clause-written
+returns-clause-written g c = rw c.in-Map.is tt
 
 pub returns-in-Report-clause-written : goal.returns-in-Report-clause-written
 returns-in-Report-clause-written g c =

@@ -27,13 +27,15 @@ pub loop-port-preserved : goal.loop-port-preserved
 loop-port-preserved g c =
     let i = c.loop-port.invariant in
     let history = c.args.history.now.history in
-    let met : Meets history c.port-item.result c.meet.new.port = (
-      c.meet.ensures.did ∙ ap (λ (b : Book). c.port-item.result.did ++ Loaded counter (length b.history) ∷ []) i.0,
+    let old : Port = get_or c.loop-port.port-items c.loop-port.port-index c.port-item.result in
+    let met : Meets history old c.meet.new.port = (
+      c.meet.ensures.did ∙ ap (λ (b : Book). old.did ++ Loaded counter (length b.history) ∷ []) i.0,
       c.meet.ensures.seen.1 ∙ ap (λ (b : Book). b.history) i.0,
       c.meet.ensures.same.1,
     ) in (
       c.meet.ensures.same.0 ∙ i.0,
       written_next (Meets history) c.args.ports.now.items c.loop-port.port-items c.loop-port.port-index c.port-item.result c.meet.new.port
-          (omega (arith, c.loop-port-test.true, c.loop-port.auto.port-items)) c.port-item.is met i.1 i.2,
+          (omega (arith, c.loop-port-test.true, c.loop-port.auto.port-items)) c.port-item.is
+          (subst (λ p. Meets history p c.meet.new.port) (sym c.port-item.is) met) i.1 i.2,
       left_next (Meets history) c.args.ports.now.items c.loop-port.port-items c.loop-port.port-index c.port-item.result c.meet.new.port i.2,
     )
