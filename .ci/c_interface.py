@@ -1,8 +1,10 @@
 #!/usr/bin/env python3
-"""Builds the C library and its header into a folder, and drives them by programs in C: c/tests, c/measure.c, examples/c.
+"""Builds the C library and its header into a folder, moves the folder, and drives it there by programs in C: c/tests, c/measure.c,
+examples/c.
 
-The header is to be good C11 and C++17 with all warnings, and to declare what the library has. Each test runs plain, and with the
-sanitizers that `cc` has: of addresses and undefined behaviour, and of threads. The last line is `N passed, M failed`."""
+The header is to be good C11 and C++17 with all warnings, and to say what the Rattle sources say; the library is to have the header's
+functions, and to need from outside what the docs name. Each test runs plain and with the sanitizers that `cc` has: of addresses and
+undefined behaviour, and for threads of races. The last line is `N passed, M failed`."""
 
 import os
 import re
@@ -11,100 +13,142 @@ import subprocess
 import sys
 import tempfile
 
+sys.dont_write_bytecode = True
+import c_header
+import c_package
+import c_rows
+
 TOP = os.path.dirname(os.path.dirname(os.path.abspath(__file__)))
-HEADER = f"{TOP}/c/vtdm.h"
 TESTS = f"{TOP}/c/tests"
+DECISIONS = f"{TOP}/docs/DECISIONS.md"
 WARNINGS = ["-Wall", "-Wextra", "-Wpedantic", "-Wshadow", "-Wconversion", "-Werror"]
+ADDRESS = "address and undefined behaviour"
+THREAD = "threads"
 SANITIZERS = {
-    "address and undefined behaviour": ["-fsanitize=address,undefined", "-fno-sanitize-recover=all"],
-    "threads": ["-fsanitize=thread"],
+    ADDRESS: ["-fsanitize=address,undefined", "-fno-sanitize-recover=all"],
+    THREAD: ["-fsanitize=thread"],
 }
-# The sources of each test, and the words that link it.
+# The sources of each test, the words that link it, and its sanitizers.
 PROGRAMS = {
-    "rows": (["rows.c", "script.c"], []),
-    "statuses": (["statuses.c"], []),
-    "walk": (["walk.c"], []),
-    "memory": (["memory.c"], ["-Wl,--wrap=malloc,--wrap=realloc,--wrap=free"]),
-    "threads": (["threads.c"], ["-pthread"]),
-    "owner in C++": (["owner.cpp"], ["-pthread"]),
+    "rows": (["rows.c", "script.c"], [], [ADDRESS]),
+    "edges": (["edges.c", "script.c"], [], [ADDRESS]),
+    "statuses": (["statuses.c"], [], [ADDRESS]),
+    "walk": (["walk.c"], [], [ADDRESS]),
+    "memory": (["memory.c"], ["-Wl,--wrap=malloc,--wrap=realloc,--wrap=free"], [ADDRESS]),
+    "threads": (["threads.c"], ["-pthread"], [ADDRESS, THREAD]),
+    "owner in C++": (["owner.cpp"], ["-pthread"], [ADDRESS]),
 }
+# The header twice, alone in its file.
+ALONE = "#include <vtdm.h>\n#include <vtdm.h>\nextern struct vtdm manager;\nstruct vtdm manager = VTDM_INIT;\n"
 
 
 class Steps:
-    """Counts what passed and what failed, and tells each."""
+    """Counts what passed and what failed, and says each."""
 
     def __init__(self):
         self.passed = self.failed = 0
 
-    def tell(self, name, fault):
+    def say(self, name, fault):
         self.passed, self.failed = self.passed + (not fault), self.failed + bool(fault)
         print(f"C interface, {name}: {fault or 'ok'}", flush=True)
 
 
-def ran(words, seconds=300):
-    """Why a command fails, if it does; None where it is done."""
+def run(words, seconds=300):
+    """Why a command fails, if it does, or None; and what it writes."""
     try:
         done = subprocess.run(words, stdout=subprocess.PIPE, stderr=subprocess.STDOUT, text=True, timeout=seconds)
     except (OSError, subprocess.TimeoutExpired) as error:
-        return str(error)
-    return f"status {done.returncode}\n{done.stdout}" if done.returncode else None
+        return str(error), ""
+    return (f"status {done.returncode}\n{done.stdout}" if done.returncode else None), done.stdout
 
 
-def compile_words(room, out, sources, more):
+def ran(words, seconds=300):
+    return run(words, seconds)[0]
+
+
+def compile_words(folder, out, sources, more):
     compiler = ["c++", "-std=c++17"] if sources[0].endswith(".cpp") else ["cc", "-std=c11", "-D_POSIX_C_SOURCE=200809L"]
-    library = [f"-I{room}/include", *sources, f"-L{room}/lib", "-lvtdm"]
+    library = [f"-I{folder}/include", *sources, f"-L{folder}/lib", "-lvtdm"]
     return [*compiler, *WARNINGS, "-g", "-O2", *more, "-o", out, *library]
 
 
 def sanitizers_of(room):
     """The sanitizers with which a program can be built and run here."""
     source = f"{room}/empty.c"
-    with open(source, "w", encoding="ascii") as file:
-        file.write("int main(void) { return 0; }\n")
+    c_package.write(source, "int main(void) { return 0; }\n")
     for name, words in SANITIZERS.items():
         if ran(["cc", *words, "-o", f"{room}/empty", source]) or ran([f"{room}/empty"]):
             print(f"C interface: cc has no sanitizer of {name} here")
         else:
-            yield name, words
+            yield name
 
 
-def fault_of_names(room):
-    """The library has the functions that the header declares, and no others by its name."""
-    with open(HEADER, encoding="ascii") as file:
-        declared = set(re.findall(r"^(?:struct \w+|uint64_t|void) (vtdm_\w+)\(", file.read(), re.M))
-    listed = subprocess.run(["nm", f"{room}/lib/libvtdm.a"], capture_output=True, text=True)
-    has = set(re.findall(r" T (vtdm_\w+)$", listed.stdout, re.M))
-    return None if declared and declared == has else f"not in both: {sorted(declared ^ has)}"
+def named_by_docs():
+    """What the docs say that the archive needs from outside, and what it has beside the header's functions."""
+    item = r"\*\*What the archive needs from outside\*\*(.*?)The gate compares(.*?)\n- \*\*"
+    needs, has = re.search(item, c_header.text_of(DECISIONS), re.S).groups()
+    return set(re.findall(r"`(\w+)`", needs)), set(re.findall(r"`(\w+)`", has))
 
 
-def fault_of_example(room):
-    fault = ran(compile_words(room, f"{room}/vmm", [f"{TOP}/examples/c/vmm.c"], ["-pthread"]))
-    if fault:
-        return fault
-    done = subprocess.run([f"{room}/vmm"], capture_output=True, text=True, timeout=60)
-    with open(f"{TOP}/examples/c/vmm.output", encoding="ascii") as file:
-        wanted = file.read()
-    return None if (done.returncode, done.stdout) == (0, wanted) else f"status {done.returncode}, {done.stdout!r}"
+def fault_of_names(folder):
+    """The library has the header's functions and what the docs name, and needs what the docs name."""
+    listed = subprocess.run(["nm", f"{folder}/lib/libvtdm.a"], capture_output=True, text=True, check=True)
+    symbols = re.findall(r"^[0-9a-f]* +([A-Z]) (.+)$", listed.stdout, re.M)
+    has = {name for kind, name in symbols if kind != "U"}
+    needs = {name for kind, name in symbols if kind == "U"} - has
+    may_need, may_have = named_by_docs()
+    odd = has ^ (may_have | set(c_header.prototypes()))
+    if odd:
+        return f"in the library or in the header and docs, and not in both: {sorted(odd)}"
+    return f"needed or named by the docs, and not both: {sorted(needs ^ may_need)}" if needs ^ may_need else None
 
 
-def fault_of_package(room):
-    """What pkg-config says of the folder is enough to build with it, wherever it was moved."""
-    env = {**os.environ, "PKG_CONFIG_PATH": f"{room}/lib/pkgconfig"}
-    try:
-        said = subprocess.run(["pkg-config", "--cflags", "--libs", "vtdm"], env=env, capture_output=True, text=True)
-    except OSError:
+def fault_of_calls(output):
+    """The test of memory counts each function of the header but the one that takes memory."""
+    counted = set(re.findall(r"^(vtdm_\w+): \d+ calls", output, re.M))
+    odd = counted ^ (set(c_header.prototypes()) - {"vtdm_create"})
+    return f"not counted, or not in the header: {sorted(odd)}" if odd else None
+
+
+def fault_alone(room, folder, compiler, suffix):
+    source = f"{room}/alone.{suffix}"
+    c_package.write(source, ALONE)
+    return ran([*compiler, *WARNINGS, f"-I{folder}/include", "-fsyntax-only", source])
+
+
+def check_texts(steps, room, folder):
+    for name, comparison in c_header.COMPARISONS.items():
+        steps.say(f"the header's {name}", comparison())
+    steps.say("the header in C11", fault_alone(room, folder, ["cc", "-std=c11"], "c"))
+    steps.say("the header in C++17", fault_alone(room, folder, ["c++", "-std=c++17"], "cpp"))
+    steps.say("the names of the library", fault_of_names(folder))
+
+
+def run_tests(steps, room, folder):
+    """Each test, plain and with its sanitizers."""
+    here = list(sanitizers_of(room))
+    out = f"{room}/test"
+    for name, (sources, more, sanitizers) in PROGRAMS.items():
+        for flavour in ["plain", *(it for it in sanitizers if it in here)]:
+            words = [*SANITIZERS.get(flavour, []), *more]
+            fault, output = ran(compile_words(folder, out, [f"{TESTS}/{it}" for it in sources], words)), ""
+            if not fault:
+                fault, output = run([out])
+            if not fault and flavour == "plain" and name == "memory":
+                fault = fault_of_calls(output)
+            if not fault and flavour == "plain" and name == "rows":
+                fault = c_rows.fault_of_rows(run([out, "--list"])[1])
+            steps.say(f"{name}, {flavour}", fault)
+
+
+def check_package(steps, folder, moved_from):
+    flags = c_package.flags_of_file(folder)
+    steps.say("the example by the flags of vtdm.pc", c_package.fault_of_example(flags, folder, moved_from, WARNINGS))
+    if not shutil.which("pkg-config"):
         print("C interface: there is no pkg-config here")
-        return None
-    return said.stderr or ran(["cc", f"{TOP}/examples/c/vmm.c", *said.stdout.split(), "-pthread", "-o", f"{room}/packaged"])
-
-
-def run_tests(steps, room):
-    flavours = [("plain", []), *sanitizers_of(room)]
-    for name, (sources, more) in PROGRAMS.items():
-        for flavour, words in flavours:
-            out = f"{room}/test"
-            fault = ran(compile_words(room, out, [f"{TESTS}/{it}" for it in sources], [*words, *more])) or ran([out])
-            steps.tell(f"{name}, {flavour}", fault)
+        return
+    flags = c_package.flags_of_pkg_config(folder)
+    steps.say("the example by pkg-config", c_package.fault_of_example(flags, folder, moved_from, WARNINGS))
 
 
 def main():
@@ -115,17 +159,18 @@ def main():
         print("0 passed, 1 failed")
         return 1
     with tempfile.TemporaryDirectory() as room:
-        fault = ran([f"{TOP}/bin/vtdm-c", room], 3600)
-        steps.tell("the library", fault)
+        built, folder = f"{room}/built", f"{room}/elsewhere/moved"
+        steps.say("the script of the package", c_package.fault_of_rebuilds(f"{room}/script"))
+        fault = ran([f"{TOP}/bin/vtdm-c", built], 3600)
+        steps.say("the library", fault)
         if not fault:
-            steps.tell("the header in C11", ran(["cc", "-std=c11", *WARNINGS, "-fsyntax-only", "-x", "c", HEADER]))
-            steps.tell("the header in C++17", ran(["c++", "-std=c++17", *WARNINGS, "-fsyntax-only", "-x", "c++", HEADER]))
-            steps.tell("the names", fault_of_names(room))
-            run_tests(steps, room)
-            steps.tell("the example", fault_of_example(room))
-            steps.tell("the package", fault_of_package(room))
+            os.mkdir(os.path.dirname(folder))
+            os.rename(built, folder)
+            check_texts(steps, room, folder)
+            run_tests(steps, room, folder)
+            check_package(steps, folder, built)
             measure = f"{room}/measure"
-            steps.tell("measure", ran(compile_words(room, measure, [f"{TOP}/c/measure.c"], [])) or ran([measure, "300"]))
+            steps.say("measure", ran(compile_words(folder, measure, [f"{TOP}/c/measure.c"], [])) or ran([measure, "300"]))
     print(f"{steps.passed} passed, {steps.failed} failed")
     return 1 if steps.failed else 0
 
