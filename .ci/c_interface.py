@@ -3,8 +3,9 @@
 examples/c.
 
 The header is to be good C11 and C++17 with all warnings, and to say what the Rattle sources say; the library is to have the header's
-functions, and to need from outside what the docs name. Each test runs plain and with the sanitizers that `cc` has: of addresses and
-undefined behaviour, and for threads of races. The last line is `N passed, M failed`."""
+functions, and to need from outside what the docs name. Each test runs plain, with the sanitizers that `cc` has (of addresses and
+undefined behaviour, and for threads of races), and by valgrind where it is there, which sees the library's own accesses too. The last
+line is `N passed, M failed`."""
 
 import os
 import re
@@ -22,18 +23,22 @@ TOP = os.path.dirname(os.path.dirname(os.path.abspath(__file__)))
 TESTS = f"{TOP}/c/tests"
 DECISIONS = f"{TOP}/docs/DECISIONS.md"
 WARNINGS = ["-Wall", "-Wextra", "-Wpedantic", "-Wshadow", "-Wconversion", "-Werror"]
-ADDRESS = "address and undefined behaviour"
-THREAD = "threads"
-SANITIZERS = {
-    ADDRESS: ["-fsanitize=address,undefined", "-fno-sanitize-recover=all"],
-    THREAD: ["-fsanitize=thread"],
+ADDRESS = "sanitizer of addresses and undefined behaviour"
+THREAD = "sanitizer of threads"
+VALGRIND = "valgrind"
+# What is compiled with it, and what runs it.
+FLAVOURS = {
+    "plain": ([], []),
+    ADDRESS: (["-fsanitize=address,undefined", "-fno-sanitize-recover=all"], []),
+    THREAD: (["-fsanitize=thread"], []),
+    VALGRIND: ([], ["valgrind", "-q", "--error-exitcode=9", "--leak-check=full"]),
 }
-# The sources of each test, the words that link it, and its sanitizers.
+# The sources of each test, the words that link it, and its flavours beside the plain one.
 PROGRAMS = {
-    "rows": (["rows.c", "script.c"], [], [ADDRESS]),
-    "edges": (["edges.c", "script.c"], [], [ADDRESS]),
-    "statuses": (["statuses.c"], [], [ADDRESS]),
-    "walk": (["walk.c"], [], [ADDRESS]),
+    "rows": (["rows.c", "script.c"], [], [ADDRESS, VALGRIND]),
+    "edges": (["edges.c", "script.c"], [], [ADDRESS, VALGRIND]),
+    "statuses": (["statuses.c"], [], [ADDRESS, VALGRIND]),
+    "walk": (["walk.c"], [], [ADDRESS, VALGRIND]),
     "memory": (["memory.c"], ["-Wl,--wrap=malloc,--wrap=realloc,--wrap=free"], [ADDRESS]),
     "threads": (["threads.c"], ["-pthread"], [ADDRESS, THREAD]),
     "owner in C++": (["owner.cpp"], ["-pthread"], [ADDRESS]),
@@ -72,13 +77,13 @@ def compile_words(folder, out, sources, more):
     return [*compiler, *WARNINGS, "-g", "-O2", *more, "-o", out, *library]
 
 
-def sanitizers_of(room):
-    """The sanitizers with which a program can be built and run here."""
+def flavours_of(room):
+    """The flavours in which a program can be built and run here."""
     source = f"{room}/empty.c"
     c_package.write(source, "int main(void) { return 0; }\n")
-    for name, words in SANITIZERS.items():
-        if ran(["cc", *words, "-o", f"{room}/empty", source]) or ran([f"{room}/empty"]):
-            print(f"C interface: cc has no sanitizer of {name} here")
+    for name, (words, runner) in FLAVOURS.items():
+        if ran(["cc", *words, "-o", f"{room}/empty", source]) or ran([*runner, f"{room}/empty"]):
+            print(f"C interface: there is no {name} here")
         else:
             yield name
 
@@ -93,9 +98,10 @@ def named_by_docs():
 def fault_of_names(folder):
     """The library has the header's functions and what the docs name, and needs what the docs name."""
     listed = subprocess.run(["nm", f"{folder}/lib/libvtdm.a"], capture_output=True, text=True, check=True)
-    symbols = re.findall(r"^[0-9a-f]* +([A-Z]) (.+)$", listed.stdout, re.M)
-    has = {name for kind, name in symbols if kind != "U"}
-    needs = {name for kind, name in symbols if kind == "U"} - has
+    # U, w and v are undefined; the other small letters but u and i are of local symbols.
+    symbols = re.findall(r"^[0-9a-f]* +([A-Zuiwv]) (.+)$", listed.stdout, re.M)
+    has = {name for kind, name in symbols if kind not in "Uwv"}
+    needs = {name for kind, name in symbols if kind in "Uwv"} - has
     may_need, may_have = named_by_docs()
     odd = has ^ (may_have | set(c_header.prototypes()))
     if odd:
@@ -124,21 +130,28 @@ def check_texts(steps, room, folder):
     steps.say("the names of the library", fault_of_names(folder))
 
 
-def run_tests(steps, room, folder):
-    """Each test, plain and with its sanitizers."""
-    here = list(sanitizers_of(room))
+def fault_of_test(room, folder, name, flavour):
+    """A test is built and run; of two of them what they write is looked at too."""
+    sources, more, _ = PROGRAMS[name]
+    words, runner = FLAVOURS[flavour]
     out = f"{room}/test"
-    for name, (sources, more, sanitizers) in PROGRAMS.items():
-        for flavour in ["plain", *(it for it in sanitizers if it in here)]:
-            words = [*SANITIZERS.get(flavour, []), *more]
-            fault, output = ran(compile_words(folder, out, [f"{TESTS}/{it}" for it in sources], words)), ""
-            if not fault:
-                fault, output = run([out])
-            if not fault and flavour == "plain" and name == "memory":
-                fault = fault_of_calls(output)
-            if not fault and flavour == "plain" and name == "rows":
-                fault = c_rows.fault_of_rows(run([out, "--list"])[1])
-            steps.say(f"{name}, {flavour}", fault)
+    fault = ran(compile_words(folder, out, [f"{TESTS}/{it}" for it in sources], [*words, *more]))
+    if fault:
+        return fault
+    fault, output = run([*runner, out])
+    if fault or flavour != "plain":
+        return fault
+    if name == "memory":
+        return fault_of_calls(output)
+    return c_rows.fault_of_rows(run([out, "--list"])[1]) if name == "rows" else None
+
+
+def run_tests(steps, room, folder):
+    here = list(flavours_of(room))
+    for name, (_, _, flavours) in PROGRAMS.items():
+        for flavour in ["plain", *flavours]:
+            if flavour in here:
+                steps.say(f"{name}, {flavour}", fault_of_test(room, folder, name, flavour))
 
 
 def check_package(steps, folder, moved_from):

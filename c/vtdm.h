@@ -106,9 +106,9 @@ enum vtdm_status {
     VTDM_NOT_ATTACHED = 4,      /* the device is attached to no domain */
     VTDM_BAD_RANGE = 5,         /* pages, frames, order, rights or address are outside their limits */
     VTDM_FRAME_OWNED = 6,       /* a segment begins at a table frame */
-    VTDM_NO_RANGE = 7,          /* no free range is long enough; with today's limits VTDM_TOO_MANY_PIECES comes before it */
+    VTDM_NO_RANGE = 7,          /* no free range is long enough, which does not happen with the limits above */
     VTDM_NO_FRAMES = 8,         /* too few table frames are free */
-    VTDM_TOO_MANY_PIECES = 9,   /* the range would cut a piece of the domain's address space, which has VTDM_MOST_PIECES - 1 or more */
+    VTDM_TOO_MANY_PIECES = 9,   /* the range cuts a piece of the address space, and there are VTDM_MOST_PIECES - 1 or more */
     VTDM_NOT_LIVE = 10,         /* a page of the range is not mapped */
     VTDM_WINDOW = 11,           /* the device address lies in the interrupt address range */
     VTDM_TOO_MANY_DOMAINS = 12, /* all ids of domains are in use */
@@ -146,7 +146,8 @@ enum vtdm_cache { VTDM_CACHE_LEAF = 0, VTDM_CACHE_NON_LEAF = 1, VTDM_CACHE_CONTE
 
 /* Makes a manager with VTDM_LEAST_TABLE_FRAMES to VTDM_MOST_TABLE_FRAMES table frames: no domain, no device attached, nothing
  * mapped. The table frames are host frames 0 to frames - 1; no device reaches them, for no map takes them. A domain needs one for
- * its root, one for each 1 GiB of addresses in use, and one for each 2 MiB of them that is not mapped by a leaf of 2 MiB.
+ * its root, one for each 1 GiB of addresses in use, and one for each 2 MiB of them that is not mapped by a leaf of 2 MiB. An unmap
+ * takes the last kind away where it covers all its 2 MiB; the others stay until vtdm_drop.
  * Answers a status: VTDM_OK, VTDM_PRESENT, VTDM_BAD_FRAMES, VTDM_NO_MEMORY. */
 uint64_t vtdm_create(struct vtdm *manager, uint64_t frames);
 
@@ -189,8 +190,8 @@ struct vtdm_answer vtdm_map_list(struct vtdm *manager, uint64_t domain, uint64_t
  * VTDM_NO_DOMAIN, VTDM_BAD_RANGE, VTDM_NOT_LIVE, VTDM_TOO_MANY_PIECES, VTDM_NO_FRAMES (to split a leaf of 2 MiB). */
 struct vtdm_answer vtdm_unmap(struct vtdm *manager, uint64_t domain, uint64_t address, uint64_t pages);
 
-/* Has the unit invalidate all cached translations of a domain, releases its retired ranges, and answers how many there were. No
- * device reaches them when it returns, and their addresses are free. VTDM_NO_DOMAIN. */
+/* Has the unit invalidate all cached translations of a domain, releases its retired ranges, and answers how many there were (0 in a
+ * strict domain). No device reaches them when it returns, and their addresses are free. VTDM_NO_DOMAIN. */
 struct vtdm_answer vtdm_flush(struct vtdm *manager, uint64_t domain);
 
 /* Begins a flush of a domain: queues its two descriptors and does not wait for the unit. Answers the number of a ticket, from 1 on

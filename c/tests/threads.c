@@ -10,8 +10,8 @@ enum { THREADS = 2, PAIRS = 50000, TABLE_FRAMES = 64 };
 static pthread_mutex_t lock = PTHREAD_MUTEX_INITIALIZER;
 static struct vtdm shared = VTDM_INIT;
 
-/* How many threads are in a call of the shared manager. The thread sanitizer sees each of its accesses, which it does not of the
- * library's: they are in the same places. */
+/* How many threads are in a call of the shared manager. The thread sanitizer sees the accesses to it, while it does not see the
+ * library's own, which are made between them. */
 static int inside;
 
 struct worker {

@@ -97,17 +97,21 @@ static void unmap_splits(void) {
     vtdm_destroy(&manager);
 }
 
-/* A dropped domain has no root, and the next domain that gets its frames begins with nothing present. */
+/* A dropped domain has no root, its tables and those of its retired ranges are free, and the next domain that gets them begins with
+ * nothing present. */
 static void drop(void) {
     struct vtdm manager = VTDM_INIT;
-    make(&manager, false);
+    make(&manager, true);
     uint64_t root = vtdm_root_of(&manager, 1).value;
     ANSWERS(vtdm_map(&manager, 1, 0x101, TABLE_WORDS, 0, VTDM_READ), VTDM_OK, 0x1000);
+    ANSWERS(vtdm_map(&manager, 1, 0x101, TABLE_WORDS, 9, VTDM_READ), VTDM_OK, 0x400000);
     CHECK(present(&manager, root) == 1);
+    ANSWERS(vtdm_unmap(&manager, 1, 0x400000, TABLE_WORDS), VTDM_OK, 0);
+    CHECK(vtdm_totals(&manager).held == 1);
     ANSWERS(vtdm_detach(&manager, 3), VTDM_OK, 0);
     ANSWERS(vtdm_drop(&manager, 1), VTDM_OK, 0);
     ANSWERS(vtdm_root_of(&manager, 1), VTDM_NO_DOMAIN, 0);
-    CHECK(vtdm_totals(&manager).free == TABLE_FRAMES);
+    CHECK(vtdm_totals(&manager).free == TABLE_FRAMES && vtdm_totals(&manager).held == 0);
     for (uint64_t domain = 1; domain <= VTDM_MOST_DOMAINS; domain++) {
         ANSWERS(vtdm_domain(&manager, false), VTDM_OK, domain);
         CHECK(present(&manager, vtdm_root_of(&manager, domain).value) == 0);
