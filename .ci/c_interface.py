@@ -139,8 +139,10 @@ def fault_of_test(room, folder, name, flavour):
     if fault:
         return fault
     fault, output = run([*runner, out])
-    if fault or flavour != "plain":
-        return fault
+    if fault or not re.search(r"^[1-9]\d* passed, 0 failed\s*\Z", output, re.M):
+        return fault or f"it ends without its count: {output[-200:]!r}"
+    if flavour != "plain":
+        return None
     if name == "memory":
         return fault_of_calls(output)
     return c_rows.fault_of_rows(run([out, "--list"])[1]) if name == "rows" else None
