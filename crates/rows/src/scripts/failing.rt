@@ -23,6 +23,23 @@ const DOMAIN_REPORT: &[u8] =
     b"events 1\nframes 63 free 1 used 0 retired\ntickets 0 open\nring 0 pending\n\
     domain 1 strict live 0 retired 0 pieces 2\n";
 
+const ATTACHED_REPORT: &[u8] =
+    b"events 2\nframes 63 free 1 used 0 retired\ntickets 0 open\nring 0 pending\n\
+    domain 1 strict live 0 retired 0 pieces 2\ndevice 3 domain 1\n";
+
+const MAPPED_REPORT: &[u8] =
+    b"events 3\nframes 61 free 3 used 0 retired\ntickets 0 open\nring 0 pending\n\
+    domain 1 strict live 1 retired 0 pieces 3\ndevice 3 domain 1\n";
+
+// The reports of no line of the script, of its first line, and so on.
+const FIRST_REPORTS: [&[u8]; 5] = [
+    EMPTY_REPORT,
+    DOMAIN_REPORT,
+    ATTACHED_REPORT,
+    MAPPED_REPORT,
+    FIRST_REPORT,
+];
+
 // How a call goes wrong.
 #[derive(Clone, Copy, Debug, PartialEq, Eq)]
 enum Hitch {
@@ -245,6 +262,23 @@ fn a_report_fails_once(rt: HostRuntime) -> Result<(), Fail> {
             }
             check_report(&rt, rt.alloc(), task, (0, hitch), (end, whole))?;
         }
+    }
+    Ok(())
+}
+
+// Wherever a read fails, the report is that of the whole lines that were read before it.
+#[test]
+fn a_read_of_a_report_fails_once(rt: HostRuntime) -> Result<(), Fail> {
+    for bad in 1..25u64 {
+        let bytes = bad.saturating_sub(1).saturating_mul(3) as usize;
+        let whole = FIRST_MAP
+            .iter()
+            .take(bytes)
+            .filter(|byte| **byte == b'\n')
+            .count();
+        let wanted = FIRST_REPORTS.get(whole).ok_or("four lines")?;
+        let stopped = (Err(RunError::Read), *wanted);
+        check_report(&rt, rt.alloc(), (FIRST_MAP, bad), (0, Hitch::Failure), stopped)?;
     }
     Ok(())
 }
