@@ -1,35 +1,47 @@
-/* vtdm.h: a proved manager of DMA addresses, for C and C++.
+/* vtdm.h: a proved manager of DMA addresses, for C11 and C++17.
  *
- * A manager keeps up to 15 translation domains, attaches 16 devices to them, and maps and unmaps pages: legacy mode of the
- * Intel VT-d specification, second-stage tables of three levels, with a simulated unit that has caches of its own. Whatever
- * calls are made on it, no page and no table frame is free while a translation that the unit remembers may still reach it.
- * Each function below is proved: the contract that stands over its body in crates/vtdm_c says what is said here.
+ * A manager keeps up to 15 domains (address spaces of devices), attaches up to 16 devices to them, and maps and unmaps pages. It
+ * follows the Intel VT-d specification in legacy mode: a context entry for each device, second-stage tables of three levels for
+ * each domain, and a queue of invalidation descriptors. The unit that works off the queue is simulated; it has an IOTLB, a
+ * paging-structure cache and a context cache. What is proved: whatever calls are made, no page and no table frame is free while
+ * an entry in one of these caches can still reach it. Each function below has a contract in crates/vtdm_c, which its body meets.
  *
- * UNITS. Addresses of devices and of the host are bytes. A page, and a frame of host memory, are 4,096 bytes; frames are
- * numbered, from 0. So the frame of a host byte address is the address / 4096. The address of a device is below 2^39.
+ * A FIRST PROGRAM.
+ *     struct vtdm manager = VTDM_INIT;
+ *     if (vtdm_create(&manager, 64) != VTDM_OK) ..                      64 table frames
+ *     uint64_t domain = vtdm_domain(&manager, false).value;             a strict domain
+ *     vtdm_attach(&manager, 3, domain);                                 device 3
+ *     struct vtdm_answer at = vtdm_map(&manager, domain, 0x1000, 4, 0, VTDM_READ | VTDM_WRITE);
+ *     if (at.status == VTDM_OK) ..                                      the device uses 4 pages from at.value on
+ *     vtdm_unmap(&manager, domain, at.value, 4);                        the device reaches none of them any more
+ *     vtdm_destroy(&manager);
  *
- * WHAT C OWES. Nothing checks these; where one is broken, nothing that is said here holds.
- *  - A `struct vtdm` begins as zeros (VTDM_INIT), and only these functions write it: `at` says where the manager lies, and a
- *    call believes it.
- *  - It is not copied: after vtdm_destroy on one copy, the other still says where the manager lay, and a call on it would use
- *    freed memory. It may be moved between calls, where the old place is not used again.
- *  - One call at a time on one manager, readers too: take a lock of your own around each call, since a call takes the manager
- *    out of the struct and puts it back when it is done. Any thread may call. Two managers share nothing.
- *  - A pointer to a `struct vtdm` is not null and is aligned. `segments` is not null and is aligned even where `count` is 0,
- *    and `count` segments lie there. A call writes no segment, and keeps no pointer.
- *  - vtdm_create calls malloc, realloc and free, vtdm_destroy calls free, and no other function calls any of them. The three come
- *    from one allocator, since what one gave another takes, and align a block as C says.
- *  - No call from a signal handler: it might be within another call. None in the child of a fork of a process with threads:
- *    another thread might have been within one.
- *  - What a `struct vtdm` owns is given back by vtdm_destroy alone.
- * Everything else is anybody's: each number may be any number, and is refused by a status where it is none that can be asked
- * for.
+ * UNITS. An address is in bytes: a device address is what a device puts on the bus, a host address is what it reaches. A page is
+ * VTDM_PAGE_BYTES bytes of device addresses, a frame is as many bytes of host memory. Host frames are numbered from 0, so frame F
+ * begins at host address F * VTDM_PAGE_BYTES. Lengths of ranges are in pages.
  *
- * IT DOES NOT WEAR OUT. A manager answers 2^56 calls and then VTDM_SPENT to each further one, since its counts have 64 bits.
- * At a billion calls a second that takes more than two years of nothing else; make a new manager in them.
+ * WHAT C OWES. None of this is checked. Where one is broken, nothing that this header says holds.
+ *  - A `struct vtdm` is zeros (VTDM_INIT) before vtdm_create, and only the functions below write its members afterwards: its
+ *    address member says where the manager lies, and a call follows it.
+ *  - It is not copied. After vtdm_destroy on one copy, the other still has the address, and a call on it would use freed memory.
+ *    It may be moved between two calls, since nothing points to it, if the old place is not used again.
+ *  - vtdm_destroy is called before the struct goes away. Otherwise its memory is lost: nothing else frees it.
+ *  - One call at a time on one manager, readers too: take a lock of your own around each call, since each call takes the manager
+ *    out of the struct and puts it back at its end. Any thread may call. Two managers share nothing, and need no common lock.
+ *  - A pointer to a `struct vtdm` is not null and is aligned, since a call reads it at once. `segments` is not null and is aligned
+ *    even where `count` is 0, and `count` segments can be read there. A call writes no segment, and keeps no pointer.
+ *  - malloc, realloc and free are one allocator, since each takes blocks of the others, and align blocks as C asks.
+ *  - No call from a signal handler, since it may have come while another call had the manager. For the same reason no call in the
+ *    child of a fork of a process with several threads.
+ * Every number that is passed may be any number: one outside its limits is refused by a status.
  *
- * WAITING. A call that unmaps or flushes returns when the unit has forgotten what it must, and nothing is left to wait for. Two
- * return before: vtdm_begin, and vtdm_unmap in a lazy domain.
+ * MEMORY. vtdm_create takes all that the manager ever needs, vtdm_destroy gives it back, and no other function asks for any.
+ *
+ * IT DOES NOT WEAR OUT. A manager answers VTDM_CALLS_END calls, 2^56, and VTDM_SPENT to each further one, since its counts have 64
+ * bits. Nobody gets there: at a billion calls a second it takes more than two years. Readers are not counted.
+ *
+ * WAITING. A call returns when the unit has done what the call needs of it. Two calls leave work for later: vtdm_begin, and
+ * vtdm_unmap in a lazy domain.
  */
 #ifndef VTDM_H
 #define VTDM_H
@@ -42,7 +54,28 @@
 extern "C" {
 #endif
 
-/* A manager, or none: make it of zeros, and leave its members alone. It says where the manager lies, and whether there is one. */
+/* ---- Limits */
+
+#define VTDM_PAGE_BYTES UINT64_C(4096)               /* bytes of a page, and of a frame */
+#define VTDM_ADDRESSES_END (UINT64_C(1) << 39)       /* device addresses are below it */
+#define VTDM_FRAMES_END (UINT64_C(1) << 24)          /* numbers of host frames are below it */
+#define VTDM_WINDOW_FIRST UINT64_C(0xFEE00)          /* the first page of the interrupt address range, which is not translated .. */
+#define VTDM_WINDOW_LAST UINT64_C(0xFEEFF)           /* .. and the last: device addresses 0xfee00000 to 0xfeefffff */
+#define VTDM_LEAST_TABLE_FRAMES UINT64_C(16)         /* the fewest table frames of a manager .. */
+#define VTDM_MOST_TABLE_FRAMES UINT64_C(4096)        /* .. and the most */
+#define VTDM_MOST_DOMAINS UINT64_C(15)               /* ids of domains are 1 to 15 */
+#define VTDM_DEVICES UINT64_C(16)                    /* numbers of devices are below it */
+#define VTDM_MOST_PAGES UINT64_C(4096)               /* the most pages of one map or unmap */
+#define VTDM_MOST_ORDER UINT64_C(9)                  /* the highest alignment of a map: 2^9 pages, 2 MiB */
+#define VTDM_MOST_SEGMENTS 16                        /* the most segments of one map */
+#define VTDM_MOST_PIECES 1024                        /* the most pieces of a domain's address space: free, mapped or retired */
+#define VTDM_MOST_RECORDS UINT64_C(256)              /* the most retired ranges of a lazy domain */
+#define VTDM_MOST_TICKETS UINT64_C(64)               /* the most open tickets, over all domains */
+#define VTDM_CALLS_END (UINT64_C(1) << 56)           /* a manager answers as many calls */
+
+/* ---- Types */
+
+/* A manager, or none. Begin it with VTDM_INIT, and leave its members to the functions below. */
 struct vtdm {
     void *at;
     bool live;
@@ -50,14 +83,14 @@ struct vtdm {
 
 #define VTDM_INIT { NULL, false }
 
-/* So many pages from a host frame on. */
+/* Consecutive host frames: the first, and how many. */
 struct vtdm_segment {
     uint64_t frame;
     uint64_t pages;
 };
 
-/* A status of enum vtdm_status; and the id, address, count or word that the function answers, where the status is VTDM_OK. At
- * any other status the value is 0. */
+/* A status of enum vtdm_status. Where it is VTDM_OK, `value` is what the function answers: an id, an address, a count or a word,
+ * or 0 where it answers none. At any other status `value` is 0. */
 struct vtdm_answer {
     uint64_t status;
     uint64_t value;
@@ -66,124 +99,126 @@ struct vtdm_answer {
 enum vtdm_status {
     VTDM_OK = 0,
 
-    /* Refused by the manager, which stays as it was, but for the count of its calls. */
+    /* Refusals of the manager. Nothing has changed but the count of its calls. */
     VTDM_NO_DOMAIN = 1,         /* there is no domain of this id */
-    VTDM_NO_DEVICE = 2,         /* devices are 0 to 15 */
-    VTDM_BUSY = 3,              /* the device is attached; a device is attached to the domain, or a ticket of it is open */
-    VTDM_NOT_ATTACHED = 4,      /* the device is attached to nothing */
-    VTDM_BAD_RANGE = 5,         /* the pages, frames, order, rights or address are none that can be asked for */
-    VTDM_FRAME_OWNED = 6,       /* a segment begins at one of the table frames */
-    VTDM_NO_RANGE = 7,          /* no aligned range of so many free pages is left */
+    VTDM_NO_DEVICE = 2,         /* the device number is above 15 */
+    VTDM_BUSY = 3,              /* the device is attached; or a device is attached to the domain, or one of its tickets is open */
+    VTDM_NOT_ATTACHED = 4,      /* the device is attached to no domain */
+    VTDM_BAD_RANGE = 5,         /* pages, frames, order, rights or address are outside their limits */
+    VTDM_FRAME_OWNED = 6,       /* a segment begins at a table frame */
+    VTDM_NO_RANGE = 7,          /* no free range is long enough, which does not happen with the limits above */
     VTDM_NO_FRAMES = 8,         /* too few table frames are free */
-    VTDM_TOO_MANY_PIECES = 9,   /* the domain's address space would be cut into more than 1,024 pieces */
+    VTDM_TOO_MANY_PIECES = 9,   /* the range cuts a piece of the address space, and there are VTDM_MOST_PIECES - 1 or more */
     VTDM_NOT_LIVE = 10,         /* a page of the range is not mapped */
-    VTDM_WINDOW = 11,           /* the address lies in 0xfee00000 to 0xfeefffff, which is not translated */
-    VTDM_TOO_MANY_DOMAINS = 12, /* all 15 ids are in use */
-    VTDM_BAD_TICKET = 13,       /* there is no such ticket, or it was reaped */
-    VTDM_TOO_MANY_TICKETS = 14, /* 64 tickets are open */
+    VTDM_WINDOW = 11,           /* the device address lies in the interrupt address range */
+    VTDM_TOO_MANY_DOMAINS = 12, /* all ids of domains are in use */
+    VTDM_BAD_TICKET = 13,       /* there is no open ticket of this domain and number */
+    VTDM_TOO_MANY_TICKETS = 14, /* VTDM_MOST_TICKETS tickets are open */
 
-    /* Faults of vtdm_dma: 32 more than the number that the VT-d specification has for it. */
-    VTDM_FAULT_NOT_ATTACHED = 34, /* the device is attached to nothing */
-    VTDM_FAULT_BEYOND_WIDTH = 36, /* the address is 2^39 or more */
-    VTDM_FAULT_WRITE = 37,        /* the page may not be written, or is not mapped */
-    VTDM_FAULT_READ = 38,         /* the page may not be read, or is not mapped */
+    /* Faults of a request, by vtdm_dma: 32 more than the fault reason of the VT-d specification. */
+    VTDM_FAULT_NOT_ATTACHED = 34, /* the device is attached to no domain */
+    VTDM_FAULT_BEYOND_WIDTH = 36, /* the address is VTDM_ADDRESSES_END or more */
+    VTDM_FAULT_WRITE = 37,        /* the page is not mapped, or without the right to write */
+    VTDM_FAULT_READ = 38,         /* the page is not mapped, or without the right to read */
 
-    /* Of the functions themselves: nothing has changed, and no call is counted but at VTDM_PENDING. */
+    /* Of this interface itself. Nothing has changed; of these VTDM_PENDING alone counts as a call. */
     VTDM_ABSENT = 64,        /* there is no manager at the struct */
-    VTDM_SPENT = 65,         /* the manager has answered 2^56 calls */
+    VTDM_SPENT = 65,         /* the manager has answered VTDM_CALLS_END calls */
     VTDM_PRESENT = 66,       /* vtdm_create: there is a manager at the struct already */
-    VTDM_BAD_FRAMES = 67,    /* vtdm_create: a manager has from 16 to 4,096 table frames */
-    VTDM_NO_MEMORY = 68,     /* vtdm_create: memory is lacking, and none is kept */
-    VTDM_MANY_SEGMENTS = 69, /* vtdm_map_list: more than 16 segments */
-    VTDM_PENDING = 70,       /* vtdm_reap: the unit has not done the ticket's wait */
+    VTDM_BAD_FRAMES = 67,    /* vtdm_create: the number of table frames is outside its limits */
+    VTDM_NO_MEMORY = 68,     /* vtdm_create: malloc or realloc gave none, and what was taken is freed */
+    VTDM_MANY_SEGMENTS = 69, /* vtdm_map_list: more than VTDM_MOST_SEGMENTS segments */
+    VTDM_PENDING = 70,       /* vtdm_reap: the unit has not done the ticket's invalidation wait descriptor */
     VTDM_NO_WORD = 71,       /* vtdm_table_word: there is no such table frame, or no such index */
-    VTDM_BAD_CACHE = 72      /* vtdm_evict: not a cache of enum vtdm_cache */
+    VTDM_BAD_CACHE = 72      /* vtdm_evict: the number is not in enum vtdm_cache */
 };
 
-/* What a device may do with a page: one of these, or both. */
+/* What a device may do with a page: one of these, or both by `|`. */
 enum vtdm_rights { VTDM_READ = 1, VTDM_WRITE = 2 };
 
-/* How a domain unmaps. */
+/* How a domain unmaps. Strict: an unmap invalidates before it returns. Lazy: it leaves that to a later flush. */
 enum vtdm_mode { VTDM_STRICT = 0, VTDM_LAZY = 1 };
 
-/* The unit's caches: leaves (what pages are mapped to), tables below the roots, and contexts (devices with their domains). */
+/* The caches of the unit: the IOTLB, the paging-structure cache, and the context cache. */
 enum vtdm_cache { VTDM_CACHE_LEAF = 0, VTDM_CACHE_NON_LEAF = 1, VTDM_CACHE_CONTEXT = 2 };
 
-/* ---- A manager */
+/* ---- Begin and end */
 
-/* Makes a manager with so many table frames, 16 to 4,096, where there is none: no domain, no device attached, nothing mapped.
- * The table frames are host frames 0 to frames - 1; no device can reach them, for no map takes them. A domain needs one for its
- * root, and about one more for each 2 MiB of its address space in use. All memory that the manager ever needs is taken now:
- * VTDM_OK, VTDM_PRESENT, VTDM_BAD_FRAMES or VTDM_NO_MEMORY. */
+/* Makes a manager with VTDM_LEAST_TABLE_FRAMES to VTDM_MOST_TABLE_FRAMES table frames: no domain, no device attached, nothing
+ * mapped. The table frames are host frames 0 to frames - 1; no device reaches them, for no map takes them. A domain needs one for
+ * its root, one for each 1 GiB of addresses in use, and one for each 2 MiB of them that is not mapped by a leaf of 2 MiB. An unmap
+ * takes the last kind away where it covers all its 2 MiB; the others stay until vtdm_drop.
+ * Answers a status: VTDM_OK, VTDM_PRESENT, VTDM_BAD_FRAMES, VTDM_NO_MEMORY. */
 uint64_t vtdm_create(struct vtdm *manager, uint64_t frames);
 
-/* Ends the manager, if there is one, and frees its memory. The struct can be used for another one then. */
+/* Ends the manager, if there is one, and frees its memory. Then the struct is as at VTDM_INIT and can be used again. */
 void vtdm_destroy(struct vtdm *manager);
 
-/* ---- Calls. Each answers VTDM_ABSENT or VTDM_SPENT too; the refusals that it can have are named in the order in which they
- * are judged, so the first one that stands is answered. */
+/* ---- Calls. Each can also answer VTDM_ABSENT and VTDM_SPENT. Its other statuses are named in the order in which they are judged:
+ * the first whose condition holds is answered. */
 
-/* Makes an empty domain, and answers its id, 1 to 15. In a strict domain an unmap returns when its pages can no more be reached,
- * and are free; in a lazy one they are put aside for a later flush, which costs less for each.
- * VTDM_TOO_MANY_DOMAINS, VTDM_NO_FRAMES. */
+/* Makes an empty domain, and answers its id. VTDM_TOO_MANY_DOMAINS, VTDM_NO_FRAMES. */
 struct vtdm_answer vtdm_domain(struct vtdm *manager, bool lazy);
 
-/* Ends a domain with all its pages, to which no device is attached and of which no ticket is open.
- * VTDM_NO_DOMAIN, VTDM_BUSY. */
+/* Ends a domain with all its mapped pages and retired ranges, and gives its table frames back. No device may be attached to it,
+ * and no ticket of it open. VTDM_NO_DOMAIN, VTDM_BUSY. */
 struct vtdm_answer vtdm_drop(struct vtdm *manager, uint64_t domain);
 
-/* Attaches a device, 0 to 15, that is attached to nothing, to a domain. VTDM_NO_DEVICE, VTDM_NO_DOMAIN, VTDM_BUSY. */
+/* Attaches a device to a domain: it reaches what is mapped there. VTDM_NO_DEVICE, VTDM_NO_DOMAIN, VTDM_BUSY. */
 struct vtdm_answer vtdm_attach(struct vtdm *manager, uint64_t device, uint64_t domain);
 
-/* Detaches a device from its domain: it reaches nothing from now on. VTDM_NO_DEVICE, VTDM_NOT_ATTACHED. */
+/* Detaches a device from its domain: when it returns the device reaches nothing. VTDM_NO_DEVICE, VTDM_NOT_ATTACHED. */
 struct vtdm_answer vtdm_detach(struct vtdm *manager, uint64_t device);
 
-/* Maps 1 to 4,096 pages, from a host frame on, for the devices of a domain, and answers the byte address of the first: the
- * lowest free one that is a multiple of 2^order pages, order 0 to 9. Frames are below 2^24. With order 9, and a frame that is a
- * multiple of 512, each 512 pages take one leaf of 2 MiB. The rights are of enum vtdm_rights.
+/* Maps 1 to VTDM_MOST_PAGES pages to the host frames from `frame` on, and answers the device address of the first page: the lowest
+ * free one that is a multiple of 2^order pages. `order` is at most VTDM_MOST_ORDER, and the frames are below VTDM_FRAMES_END.
+ * Where page and frame are multiples of 512, 512 pages are mapped by one leaf of 2 MiB. `rights` are of enum vtdm_rights.
  * VTDM_NO_DOMAIN, VTDM_BAD_RANGE, VTDM_FRAME_OWNED, VTDM_NO_RANGE, VTDM_TOO_MANY_PIECES, VTDM_NO_FRAMES. */
 struct vtdm_answer vtdm_map(struct vtdm *manager, uint64_t domain, uint64_t frame, uint64_t pages, uint64_t order,
                             uint64_t rights);
 
-/* Maps the pages of 1 to 16 segments, 4,096 together at most, at one range of addresses, one segment after the other, all or
- * nothing; else as vtdm_map. With no segment it is VTDM_BAD_RANGE, with more than 16 VTDM_MANY_SEGMENTS, which is judged first. */
+/* Maps 1 to VTDM_MOST_SEGMENTS segments, VTDM_MOST_PAGES pages together at most, one after the other at one range of device
+ * addresses: all of them, or none. Otherwise as vtdm_map. No segment is VTDM_BAD_RANGE. VTDM_MANY_SEGMENTS is judged first. */
 struct vtdm_answer vtdm_map_list(struct vtdm *manager, uint64_t domain, uint64_t order, uint64_t rights,
                                  const struct vtdm_segment *segments, size_t count);
 
-/* Ends 1 to 4,096 mapped pages, from a byte address on that is a multiple of 4,096: any of them, whatever maps they are of. In a
- * strict domain no device can reach them any more when it returns, and it answers 0. In a lazy one a device may reach
- * them until a flush; then it answers how many ranges that had been put aside were released first: 256 where so many were, else 0.
- * VTDM_NO_DOMAIN, VTDM_BAD_RANGE, VTDM_NOT_LIVE, VTDM_TOO_MANY_PIECES, VTDM_NO_FRAMES (a leaf of 2 MiB is to be split). */
+/* Unmaps 1 to VTDM_MOST_PAGES mapped pages from a device address on that is a multiple of VTDM_PAGE_BYTES, in one or several maps
+ * or inside one.
+ * In a strict domain no device reaches them when it returns, their addresses are free, and it answers 0.
+ * In a lazy domain they become one retired range: devices may reach them until a flush, and their addresses are not used
+ * again before. Where VTDM_MOST_RECORDS ranges are retired already it flushes first and answers how many were released, else 0.
+ * VTDM_NO_DOMAIN, VTDM_BAD_RANGE, VTDM_NOT_LIVE, VTDM_TOO_MANY_PIECES, VTDM_NO_FRAMES (to split a leaf of 2 MiB). */
 struct vtdm_answer vtdm_unmap(struct vtdm *manager, uint64_t domain, uint64_t address, uint64_t pages);
 
-/* Has the unit forget what it remembers of a domain, releases all ranges that were put aside, and answers how many there were.
- * No device can reach them any more when it returns. VTDM_NO_DOMAIN. */
+/* Has the unit invalidate all cached translations of a domain, releases its retired ranges, and answers how many there were (0 in a
+ * strict domain). No device reaches them when it returns, and their addresses are free. VTDM_NO_DOMAIN. */
 struct vtdm_answer vtdm_flush(struct vtdm *manager, uint64_t domain);
 
-/* Begins a flush of a domain and does not wait for the unit. It answers the number of the flush's ticket, from 1 on in each domain,
- * which vtdm_reap ends. VTDM_NO_DOMAIN, VTDM_TOO_MANY_TICKETS. */
+/* Begins a flush of a domain: queues its two descriptors and does not wait for the unit. Answers the number of a ticket, from 1 on
+ * in each domain, that vtdm_reap takes. VTDM_NO_DOMAIN, VTDM_TOO_MANY_TICKETS. */
 struct vtdm_answer vtdm_begin(struct vtdm *manager, uint64_t domain);
 
-/* Lets the unit make one step. It answers 1 where a descriptor was done, and 0 where none waited. A begun flush is two. */
+/* Has the unit do the first descriptor of its queue. Answers 1 where it did one, 0 where the queue was empty. */
 struct vtdm_answer vtdm_unit(struct vtdm *manager);
 
-/* Ends a begun flush by the domain and the number of its ticket: releases the ranges that were put aside before it was begun, and
- * answers how many. VTDM_PENDING where the unit has not done it: let the unit make steps, or try again later. VTDM_BAD_TICKET. */
+/* Ends a begun flush, by domain and number of its ticket: releases the ranges that were retired before it was begun, answers how many
+ * there were, and closes the ticket. At VTDM_PENDING let the unit work (vtdm_unit, or any call that waits for it), and reap again.
+ * VTDM_BAD_TICKET, VTDM_PENDING. */
 struct vtdm_answer vtdm_reap(struct vtdm *manager, uint64_t domain, uint64_t number);
 
-/* A device's request at a byte address, to read or to write: the host byte address that it reaches, or a fault. With `look` what
- * the unit remembers serves, as it may in a unit; else its tables are walked. With `fill` what served is remembered.
- * VTDM_NO_DEVICE, VTDM_WINDOW; else the faults, of which the first in the order of their numbers is answered. */
+/* A request of a device at a device address, to write or to read, as the unit translates it: the host address, or a fault. With
+ * `look` cached entries are used, otherwise the tables are walked. With `fill` the entries that were used are cached.
+ * VTDM_NO_DEVICE, VTDM_WINDOW, VTDM_FAULT_NOT_ATTACHED, VTDM_FAULT_BEYOND_WIDTH, VTDM_FAULT_WRITE, VTDM_FAULT_READ. */
 struct vtdm_answer vtdm_dma(struct vtdm *manager, uint64_t device, uint64_t address, bool write, bool look, bool fill);
 
-/* The unit forgets the entry at a place, from 0 on, of a cache of enum vtdm_cache, if there is one: a unit may forget at any time.
- * VTDM_BAD_CACHE. */
+/* Has the unit drop the entry at a place, from 0 on, of a cache of enum vtdm_cache, as a unit may at any time. Where there is no
+ * entry nothing happens. VTDM_BAD_CACHE, which is judged first. */
 struct vtdm_answer vtdm_evict(struct vtdm *manager, uint64_t cache, uint64_t place);
 
-/* ---- Readers. They change nothing, and are not counted as calls. Each answers VTDM_ABSENT too. */
+/* ---- Readers. They change nothing and are not counted as calls. Each can also answer VTDM_ABSENT; its members are 0 at any status
+ * but VTDM_OK. */
 
-/* How many table frames are free, used by tables, and held by ranges that were put aside; how many tickets are open, and how many
- * descriptors wait for the unit. All are 0 where the status is not VTDM_OK. */
+/* Table frames that are free, used by tables, and held by retired ranges; open tickets; and descriptors that wait in the queue. */
 struct vtdm_totals_answer {
     uint64_t status;
     uint64_t free;
@@ -194,8 +229,8 @@ struct vtdm_totals_answer {
 };
 struct vtdm_totals_answer vtdm_totals(struct vtdm *manager);
 
-/* The mode of a domain, of enum vtdm_mode, how many pages are mapped, how many ranges were put aside, and of how many pieces
- * its address space is. All are 0 where the status is not VTDM_OK. VTDM_NO_DOMAIN. */
+/* Of a domain: its mode (enum vtdm_mode), its mapped pages, its retired ranges, and the pieces of its address space.
+ * VTDM_NO_DOMAIN. */
 struct vtdm_domain_totals_answer {
     uint64_t status;
     uint64_t mode;
@@ -208,27 +243,27 @@ struct vtdm_domain_totals_answer vtdm_domain_totals(struct vtdm *manager, uint64
 /* The id of the domain that a device is attached to. VTDM_NO_DEVICE, VTDM_NOT_ATTACHED. */
 struct vtdm_answer vtdm_domain_of(struct vtdm *manager, uint64_t device);
 
-/* The devices that are attached to a domain: bit j is device j. VTDM_NO_DOMAIN. */
+/* The devices that are attached to a domain: bit V is device V. VTDM_NO_DOMAIN. */
 struct vtdm_answer vtdm_devices_of(struct vtdm *manager, uint64_t domain);
 
 /* The mode of a domain, of enum vtdm_mode. VTDM_NO_DOMAIN. */
 struct vtdm_answer vtdm_mode_of(struct vtdm *manager, uint64_t domain);
 
-/* ---- The words that a unit walks. With these the tables can be laid out in a memory that a real or an emulated unit reads:
- * table frame F at byte F * 4096, its word I at 8 * I bytes more. A manager has no hook for a write: lay out anew what has changed,
- * behind the calls that change it. */
+/* ---- The words that a unit walks. With these readers the tables can be laid out in a memory that an emulated or a real unit
+ * reads: word I of table frame F at host address F * VTDM_PAGE_BYTES + 8 * I. No call tells which words it has written: lay out
+ * anew what may have changed, and have that unit invalidate what it cached, before memory that it could reach is used again. */
 
 /* The number of the table frame that is the root of a domain. VTDM_NO_DOMAIN. */
 struct vtdm_answer vtdm_root_of(struct vtdm *manager, uint64_t domain);
 
-/* The word of a table frame at an index, 0 to 511. In a table of a domain it is a second-stage paging entry: 0 where it is absent;
- * else bits 0 and 1 are the rights to read and to write, bit 7 says a leaf of 2 MiB, and from bit 12 on stands the number of a
- * frame, that of the next table or of the page. VTDM_NO_WORD. */
+/* The word of a table frame at an index, 0 to 511. In a table it is a second-stage entry: 0 where nothing is present; else bit 0 is
+ * the right to read, bit 1 the right to write, bit 7 says that it is a leaf of 2 MiB, and bits 12 and up are the frame of the next
+ * table or of the first page. The words of a frame that no table uses mean nothing. VTDM_NO_WORD. */
 struct vtdm_answer vtdm_table_word(struct vtdm *manager, uint64_t frame, uint64_t index);
 
-/* The two words of the context entry of a device, legacy mode: both 0 where it is attached to nothing; else bit 0 of the low one
- * is set, and from bit 12 on stands the number of the root's frame; the high one has the address width in bits 0 to 2 (1: 39 bits)
- * and the id of the domain from bit 8 on. Both are 0 where the status is not VTDM_OK. VTDM_NO_DEVICE. */
+/* The two words of the context entry of a device, in legacy mode: both 0 where it is attached to no domain; else bit 0 of the low
+ * word is set and its bits 12 and up are the root's frame, and the high word has the address width in bits 0 to 2 (1: 39 bits) and
+ * the id of the domain in bits 8 to 23. VTDM_NO_DEVICE. */
 struct vtdm_context_answer {
     uint64_t status;
     uint64_t low;

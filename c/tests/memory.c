@@ -1,11 +1,11 @@
 /* Memory, by an allocator of this test's own, which the linker puts before malloc, realloc and free (--wrap): creation is refused
- * at each of its requests in turn, nothing leaks, and calls ask for none. */
+ * at each of its requests in turn, nothing leaks, and a million calls of all functions ask for none. */
 #include "check.h"
 #include "vtdm.h"
 
 #include <stdlib.h>
 
-enum { CALLS = 1000000, MOST_LIVE = 1000 };
+enum { CALLS = 1000000, LEAST_CALLS = 1000, MOST_LIVE = 1000, TICKETS = 64, LEAST_REQUESTS = 30, MANAGERS = 1000 };
 
 void *__real_malloc(size_t size);
 void *__real_realloc(void *block, size_t size);
@@ -39,7 +39,7 @@ void __wrap_free(void *block) {
     __real_free(block);
 }
 
-/* Refuses one request of a creation, and tells whether there were so many. */
+/* Refuses one request of a creation; answers whether there were as many. */
 static bool refuse(uint64_t frames, long number) {
     struct vtdm manager = VTDM_INIT;
     asked = 0;
@@ -52,7 +52,7 @@ static bool refuse(uint64_t frames, long number) {
         CHECK(held == 0);
         return false;
     }
-    CHECK(status == VTDM_NO_MEMORY && held == 0);
+    CHECK(status == VTDM_NO_MEMORY && asked == number && held == 0);
     ANSWERS(vtdm_domain(&manager, false), VTDM_ABSENT, 0);
     CHECK(vtdm_create(&manager, frames) == VTDM_OK);
     ANSWERS(vtdm_domain(&manager, false), VTDM_OK, 1);
@@ -61,71 +61,158 @@ static bool refuse(uint64_t frames, long number) {
     return true;
 }
 
-static struct {
-    uint64_t domain, address, pages;
-} live[MOST_LIVE];
-static size_t count;
-
-static void map_or_unmap(struct vtdm *manager) {
-    if (count < MOST_LIVE && rand() % 2) {
-        uint64_t domain = 1 + (uint64_t)rand() % 15, pages = 1 + (uint64_t)rand() % 600;
-        struct vtdm_answer at = vtdm_map(manager, domain, 0x2000 + (uint64_t)rand() % 4096, pages, (uint64_t)rand() % 10, 3);
-        if (at.status != VTDM_OK)
-            return;
-        live[count].domain = domain;
-        live[count].address = at.value;
-        live[count++].pages = pages;
-    } else if (count) {
-        size_t one = (size_t)rand() % count;
-        vtdm_unmap(manager, live[one].domain, live[one].address, live[one].pages);
-        live[one] = live[--count];
+/* An end asks for nothing and gives back all that the creation took. */
+static void create_and_destroy(void) {
+    struct vtdm manager = VTDM_INIT;
+    bool same = true;
+    for (int i = 0; i < MANAGERS; i++) {
+        same = same && vtdm_create(&manager, VTDM_LEAST_TABLE_FRAMES) == VTDM_OK && held > 0;
+        vtdm_domain(&manager, i % 2);
+        long before = asked;
+        vtdm_destroy(&manager);
+        same = same && asked == before && held == 0;
     }
+    CHECK(same);
 }
 
-/* Each call of the interface among a million, in 15 domains of both modes. */
-static void make_calls(struct vtdm *manager) {
-    for (uint64_t domain = 1; domain <= 15; domain++)
-        vtdm_domain(manager, domain % 2);
-    for (uint64_t device = 0; device < 16; device++)
-        vtdm_attach(manager, device, 1 + device % 15);
-    for (long i = 0; i < CALLS; i++) {
-        uint64_t domain = 1 + (uint64_t)rand() % 15, device = (uint64_t)rand() % 16;
-        switch (rand() % 16) {
-        case 0: vtdm_begin(manager, domain); break;
-        case 1: vtdm_unit(manager); break;
-        case 2: vtdm_reap(manager, domain, (uint64_t)rand() % 64); break;
-        case 3: vtdm_flush(manager, domain); break;
-        case 4: vtdm_evict(manager, (uint64_t)rand() % 3, (uint64_t)rand() % 64); break;
-        case 5: vtdm_detach(manager, device); break;
-        case 6: vtdm_attach(manager, device, domain); break;
-        case 7: vtdm_totals(manager); break;
-        case 8: vtdm_domain_totals(manager, domain); break;
-        case 9: vtdm_dma(manager, device, (uint64_t)rand() << 6, rand() % 2, rand() % 2, rand() % 2); break;
-        default: map_or_unmap(manager);
-        }
-    }
+/* Every function but vtdm_create. */
+enum function {
+    DOMAIN, DROP, ATTACH, DETACH, MAP, MAP_LIST, UNMAP, FLUSH, BEGIN, UNIT, REAP, DMA, EVICT,
+    TOTALS, DOMAIN_TOTALS, DOMAIN_OF, DEVICES_OF, MODE_OF, ROOT_OF, TABLE_WORD, CONTEXT, DESTROY, FUNCTIONS
+};
+
+static const char *const names[FUNCTIONS] = {
+    "domain", "drop", "attach", "detach", "map", "map_list", "unmap", "flush", "begin", "unit", "reap", "dma", "evict",
+    "totals", "domain_totals", "domain_of", "devices_of", "mode_of", "root_of", "table_word", "context", "destroy",
+};
+
+/* How often each function was called, and how often it answered VTDM_OK. */
+static long called[FUNCTIONS], done[FUNCTIONS];
+
+/* The ranges that were mapped, and the tickets that were begun: those of a domain that was dropped are refused later. */
+static struct { uint64_t domain, address, pages; } live[MOST_LIVE];
+static struct { uint64_t domain, number; } tickets[TICKETS];
+static size_t lives, begun;
+
+static uint64_t pick(uint64_t below) {
+    return (uint64_t)rand() % below;
 }
 
+/* Devices and tickets are of domains 1 to 8, so that the others can be dropped. */
+static uint64_t lasting_domain(void) {
+    return 1 + pick(8);
+}
+
+static uint64_t any_domain(void) {
+    return 1 + pick(VTDM_MOST_DOMAINS);
+}
+
+static uint64_t map(struct vtdm *manager, bool list) {
+    uint64_t domain = any_domain(), pages = 1 + pick(600), order = pick(VTDM_MOST_ORDER + 1), frame = 0x2000 + pick(4096);
+    const struct vtdm_segment segments[] = {{frame, pages}, {0x4000, 1}, {0x8000, 3}};
+    struct vtdm_answer at = list ? vtdm_map_list(manager, domain, order, VTDM_READ, segments, 3)
+                                 : vtdm_map(manager, domain, frame, pages, order, VTDM_READ | VTDM_WRITE);
+    size_t place = lives < MOST_LIVE ? lives++ : pick(MOST_LIVE);
+    live[place].domain = at.status == VTDM_OK ? domain : 0;
+    live[place].address = at.value;
+    live[place].pages = list ? pages + 4 : pages;
+    return at.status;
+}
+
+static uint64_t unmap(struct vtdm *manager) {
+    size_t one = pick(lives + 1);
+    if (one == lives)
+        return vtdm_unmap(manager, any_domain(), 0x1000 * pick(4096), 1).status;
+    uint64_t status = vtdm_unmap(manager, live[one].domain, live[one].address, live[one].pages).status;
+    live[one] = live[--lives];
+    return status;
+}
+
+static uint64_t begin(struct vtdm *manager) {
+    uint64_t domain = lasting_domain();
+    struct vtdm_answer ticket = vtdm_begin(manager, domain);
+    if (ticket.status == VTDM_OK && begun < TICKETS) {
+        tickets[begun].domain = domain;
+        tickets[begun++].number = ticket.value;
+    }
+    return ticket.status;
+}
+
+static uint64_t reap(struct vtdm *manager) {
+    if (!begun)
+        return vtdm_reap(manager, lasting_domain(), pick(TICKETS)).status;
+    size_t one = pick(begun);
+    uint64_t status = vtdm_reap(manager, tickets[one].domain, tickets[one].number).status;
+    if (status == VTDM_OK)
+        tickets[one] = tickets[--begun];
+    return status;
+}
+
+static uint64_t request(struct vtdm *manager) {
+    uint64_t address = lives && pick(2) ? live[pick(lives)].address : pick(VTDM_ADDRESSES_END);
+    return vtdm_dma(manager, pick(17), address, pick(2), pick(2), pick(2)).status;
+}
+
+static uint64_t call(struct vtdm *manager, enum function function) {
+    switch (function) {
+    case DOMAIN: return vtdm_domain(manager, pick(2)).status;
+    case DROP: return vtdm_drop(manager, any_domain()).status;
+    case ATTACH: return vtdm_attach(manager, pick(VTDM_DEVICES), lasting_domain()).status;
+    case DETACH: return vtdm_detach(manager, pick(VTDM_DEVICES)).status;
+    case MAP: return map(manager, false);
+    case MAP_LIST: return map(manager, true);
+    case UNMAP: return unmap(manager);
+    case FLUSH: return vtdm_flush(manager, any_domain()).status;
+    case BEGIN: return begin(manager);
+    case UNIT: return vtdm_unit(manager).status;
+    case REAP: return reap(manager);
+    case DMA: return request(manager);
+    case EVICT: return vtdm_evict(manager, pick(4), pick(64)).status;
+    case TOTALS: return vtdm_totals(manager).status;
+    case DOMAIN_TOTALS: return vtdm_domain_totals(manager, any_domain()).status;
+    case DOMAIN_OF: return vtdm_domain_of(manager, pick(VTDM_DEVICES)).status;
+    case DEVICES_OF: return vtdm_devices_of(manager, any_domain()).status;
+    case MODE_OF: return vtdm_mode_of(manager, any_domain()).status;
+    case ROOT_OF: return vtdm_root_of(manager, any_domain()).status;
+    case TABLE_WORD: return vtdm_table_word(manager, pick(4100), pick(520)).status;
+    case CONTEXT: return vtdm_context(manager, pick(17)).status;
+    default: break;
+    }
+    struct vtdm none = VTDM_INIT;
+    vtdm_destroy(&none);
+    return VTDM_OK;
+}
+
+/* A million calls, of each function about as many. */
 static void calls_ask_for_none(void) {
     struct vtdm manager = VTDM_INIT;
-    CHECK(vtdm_create(&manager, 4096) == VTDM_OK);
+    CHECK(vtdm_create(&manager, VTDM_MOST_TABLE_FRAMES) == VTDM_OK);
     long before_asked = asked, before_freed = freed, before_held = held;
-    make_calls(&manager);
+    for (long i = 0; i < CALLS; i++) {
+        enum function one = (enum function)pick(FUNCTIONS);
+        called[one]++;
+        done[one] += call(&manager, one) == VTDM_OK;
+    }
     CHECK(asked == before_asked && freed == before_freed && held == before_held);
     vtdm_destroy(&manager);
     CHECK(held == 0);
+    for (int i = 0; i < FUNCTIONS; i++) {
+        printf("vtdm_%s: %ld calls, %ld of them done\n", names[i], called[i], done[i]);
+        CHECK(done[i] >= LEAST_CALLS);
+    }
 }
 
 int main(void) {
-    static const uint64_t sizes[] = {16, 64, 4096};
+    static const uint64_t sizes[] = {VTDM_LEAST_TABLE_FRAMES, 64, VTDM_MOST_TABLE_FRAMES};
     printf("memory\n"); /* the C library's buffer, outside the counts */
     held = 0;
     for (size_t i = 0; i < sizeof sizes / sizeof sizes[0]; i++) {
         long number = 1;
         while (refuse(sizes[i], number))
             number++;
-        CHECK(number > 30);
+        CHECK(number > LEAST_REQUESTS);
     }
+    create_and_destroy();
     calls_ask_for_none();
     return check_end();
 }

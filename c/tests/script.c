@@ -2,12 +2,11 @@
 
 #include <inttypes.h>
 #include <stdarg.h>
-#include <stdbool.h>
 #include <stdio.h>
 #include <stdlib.h>
 #include <string.h>
 
-enum { MOST_WORDS = 24, LONGEST_LINE = 512, DEVICES = 16, MOST_DOMAINS = 15 };
+enum { MOST_WORDS = 24, LONGEST_LINE = 512, EVICTED_PLACES = 4, FAULTS = 32 };
 
 /* The words of a line. A number is decimal, or hexadecimal behind 0x. */
 struct words {
@@ -119,8 +118,8 @@ void script_answer(struct vtdm *manager, const char *line, char *reply, size_t r
         say_done(done, number(&words, 1), reply, room);
     else if (status == VTDM_PENDING)
         snprintf(reply, room, "pending");
-    else if (status > 32 && status < VTDM_ABSENT)
-        snprintf(reply, room, "fault %" PRIu64, status - 32);
+    else if (status > FAULTS && status < VTDM_ABSENT)
+        snprintf(reply, room, "fault %" PRIu64, status - FAULTS);
     else
         snprintf(reply, room, "refused %" PRIu64, status);
 }
@@ -146,15 +145,23 @@ void script_report(struct vtdm *manager, unsigned events, char *into, size_t roo
     struct vtdm_totals_answer all = vtdm_totals(manager);
     say(&text, "events %u\nframes %" PRIu64 " free %" PRIu64 " used %" PRIu64 " retired\n", events, all.free, all.used, all.held);
     say(&text, "tickets %" PRIu64 " open\nring %" PRIu64 " pending\n", all.tickets, all.pending);
-    for (uint64_t domain = 1; domain <= MOST_DOMAINS; domain++) {
+    for (uint64_t domain = 1; domain <= VTDM_MOST_DOMAINS; domain++) {
         struct vtdm_domain_totals_answer one = vtdm_domain_totals(manager, domain);
         if (one.status == VTDM_OK)
             say(&text, "domain %" PRIu64 " %s live %" PRIu64 " retired %" PRIu64 " pieces %" PRIu64 "\n", domain,
                 one.mode == VTDM_LAZY ? "lazy" : "strict", one.live, one.retired, one.pieces);
     }
-    for (uint64_t device = 0; device < DEVICES; device++) {
+    for (uint64_t device = 0; device < VTDM_DEVICES; device++) {
         struct vtdm_answer domain = vtdm_domain_of(manager, device);
         if (domain.status == VTDM_OK)
             say(&text, "device %" PRIu64 " domain %" PRIu64 "\n", device, domain.value);
     }
+}
+
+bool script_evict(struct vtdm *manager) {
+    bool done = true;
+    for (uint64_t place = 0; place < EVICTED_PLACES; place++)
+        for (uint64_t cache = VTDM_CACHE_LEAF; cache <= VTDM_CACHE_CONTEXT; cache++)
+            done = vtdm_evict(manager, cache, place).status == VTDM_OK && done;
+    return done;
 }

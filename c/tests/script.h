@@ -4,12 +4,16 @@
 
 #include "vtdm.h"
 
+#include <stdbool.h>
 #include <stddef.h>
 
-/* Answers one line, without its newline, as `vtdm run` does, into `reply` of so many bytes. The line is a good one. */
+/* Answers one line, without its newline, as `vtdm run` does, into `reply`, which has `room` bytes. The line is a good one. */
 void script_answer(struct vtdm *manager, const char *line, char *reply, size_t room);
 
-/* Writes the report of a manager of so many events as `vtdm report` does, into `text` of so many bytes. */
+/* Writes the report of a manager after `events` calls as `vtdm report` does, into `text`, which has `room` bytes. */
 void script_report(struct vtdm *manager, unsigned events, char *text, size_t room);
+
+/* Evicts the first entries of all caches; true where each eviction is done. */
+bool script_evict(struct vtdm *manager);
 
 #endif

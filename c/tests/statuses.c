@@ -1,18 +1,19 @@
-/* What the functions themselves refuse, and what readers tell: with no manager, with one, and behind its end. */
+/* What the functions themselves refuse, what lies at the edge of each limit, and what readers answer: with no manager, with one, and
+ * after its end. */
 #include "check.h"
 #include "vtdm.h"
 
-enum { MOST_SEGMENTS = 16 };
+enum { MANY_SEGMENTS = VTDM_MOST_SEGMENTS + 1 };
 
 static void check_absent(struct vtdm *manager) {
-    struct vtdm_segment segments[MOST_SEGMENTS + 1] = {{0x100, 1}};
+    struct vtdm_segment segments[MANY_SEGMENTS] = {{0x100, 1}};
     ANSWERS(vtdm_domain(manager, true), VTDM_ABSENT, 0);
     ANSWERS(vtdm_drop(manager, 1), VTDM_ABSENT, 0);
     ANSWERS(vtdm_attach(manager, 0, 1), VTDM_ABSENT, 0);
     ANSWERS(vtdm_detach(manager, 0), VTDM_ABSENT, 0);
     ANSWERS(vtdm_map(manager, 1, 0x100, 1, 0, VTDM_READ), VTDM_ABSENT, 0);
     ANSWERS(vtdm_map_list(manager, 1, 0, VTDM_READ, segments, 1), VTDM_ABSENT, 0);
-    ANSWERS(vtdm_map_list(manager, 1, 0, VTDM_READ, segments, MOST_SEGMENTS + 1), VTDM_ABSENT, 0);
+    ANSWERS(vtdm_map_list(manager, 1, 0, VTDM_READ, segments, MANY_SEGMENTS), VTDM_ABSENT, 0);
     ANSWERS(vtdm_unmap(manager, 1, 0x1000, 1), VTDM_ABSENT, 0);
     ANSWERS(vtdm_flush(manager, 1), VTDM_ABSENT, 0);
     ANSWERS(vtdm_begin(manager, 1), VTDM_ABSENT, 0);
@@ -32,14 +33,15 @@ static void check_absent(struct vtdm *manager) {
 }
 
 static void check_limits(struct vtdm *manager) {
-    struct vtdm_segment segments[MOST_SEGMENTS + 1];
-    for (uint64_t i = 0; i <= MOST_SEGMENTS; i++)
+    struct vtdm_segment segments[MANY_SEGMENTS];
+    for (uint64_t i = 0; i < MANY_SEGMENTS; i++)
         segments[i] = (struct vtdm_segment){0x100 + 2 * i, 1};
     ANSWERS(vtdm_domain(manager, false), VTDM_OK, 1);
     ANSWERS(vtdm_domain(manager, true), VTDM_OK, 2);
     ANSWERS(vtdm_map_list(manager, 1, 0, VTDM_READ, segments, 0), VTDM_BAD_RANGE, 0);
-    ANSWERS(vtdm_map_list(manager, 1, 0, VTDM_READ, segments, MOST_SEGMENTS + 1), VTDM_MANY_SEGMENTS, 0);
-    ANSWERS(vtdm_map_list(manager, 1, 0, VTDM_READ, segments, MOST_SEGMENTS), VTDM_OK, 0x1000);
+    ANSWERS(vtdm_map_list(manager, 1, 0, VTDM_READ, segments, MANY_SEGMENTS), VTDM_MANY_SEGMENTS, 0);
+    ANSWERS(vtdm_map_list(manager, 1, 0, VTDM_READ, segments, VTDM_MOST_SEGMENTS), VTDM_OK, 0x1000);
+    ANSWERS(vtdm_map_list(manager, 0, UINT64_MAX, 0, segments, MANY_SEGMENTS), VTDM_MANY_SEGMENTS, 0);
     ANSWERS(vtdm_map(manager, 1, UINT64_MAX, UINT64_MAX, UINT64_MAX, UINT64_MAX), VTDM_BAD_RANGE, 0);
     ANSWERS(vtdm_map(manager, UINT64_MAX, 0x100, 1, 0, VTDM_READ), VTDM_NO_DOMAIN, 0);
     ANSWERS(vtdm_unmap(manager, 1, UINT64_MAX, UINT64_MAX), VTDM_BAD_RANGE, 0);
@@ -53,11 +55,47 @@ static void check_limits(struct vtdm *manager) {
     ANSWERS(vtdm_evict(manager, UINT64_MAX, 0), VTDM_BAD_CACHE, 0);
 }
 
+static struct vtdm_answer map_read(struct vtdm *manager, uint64_t frame, uint64_t pages, uint64_t order) {
+    return vtdm_map(manager, 1, frame, pages, order, VTDM_READ);
+}
+
+/* The last number within each limit is taken, the next one refused. */
+static void check_edges(void) {
+    struct vtdm manager = VTDM_INIT;
+    const struct vtdm_answer bad = {VTDM_BAD_RANGE, 0};
+    CHECK(vtdm_create(&manager, VTDM_LEAST_TABLE_FRAMES - 1) == VTDM_BAD_FRAMES);
+    CHECK(vtdm_create(&manager, VTDM_MOST_TABLE_FRAMES + 1) == VTDM_BAD_FRAMES);
+    CHECK(vtdm_create(&manager, VTDM_MOST_TABLE_FRAMES) == VTDM_OK);
+    ANSWERS(vtdm_domain(&manager, false), VTDM_OK, 1);
+    ANSWERS(vtdm_attach(&manager, VTDM_DEVICES - 1, 1), VTDM_OK, 0);
+    ANSWERS(vtdm_attach(&manager, VTDM_DEVICES, 1), VTDM_NO_DEVICE, 0);
+    ANSWERS(map_read(&manager, VTDM_MOST_TABLE_FRAMES - 1, 1, 0), VTDM_FRAME_OWNED, 0);
+    ANSWERS(map_read(&manager, VTDM_MOST_TABLE_FRAMES, VTDM_MOST_PAGES, VTDM_MOST_ORDER), VTDM_OK, 0x200000);
+    ANSWERS(map_read(&manager, VTDM_FRAMES_END - 1, 1, 0), VTDM_OK, 0x1000);
+    ANSWERS(map_read(&manager, VTDM_FRAMES_END - 1, 2, 0), bad.status, bad.value);
+    ANSWERS(map_read(&manager, VTDM_MOST_TABLE_FRAMES, VTDM_MOST_PAGES + 1, 0), bad.status, bad.value);
+    ANSWERS(map_read(&manager, VTDM_MOST_TABLE_FRAMES, 1, VTDM_MOST_ORDER + 1), bad.status, bad.value);
+    ANSWERS(vtdm_map(&manager, 1, VTDM_MOST_TABLE_FRAMES, 1, 0, 0), bad.status, bad.value);
+    ANSWERS(vtdm_map(&manager, 1, VTDM_MOST_TABLE_FRAMES, 1, 0, VTDM_READ + VTDM_WRITE + 1), bad.status, bad.value);
+    ANSWERS(vtdm_unmap(&manager, 1, 0x1001, 1), bad.status, bad.value);
+    ANSWERS(vtdm_unmap(&manager, 1, 0, 1), bad.status, bad.value);
+    ANSWERS(vtdm_unmap(&manager, 1, 0x200000, VTDM_MOST_PAGES + 1), bad.status, bad.value);
+    ANSWERS(vtdm_unmap(&manager, 1, VTDM_WINDOW_LAST * VTDM_PAGE_BYTES, 1), bad.status, bad.value);
+    ANSWERS(vtdm_unmap(&manager, 1, (VTDM_WINDOW_LAST + 1) * VTDM_PAGE_BYTES, 1), VTDM_NOT_LIVE, 0);
+    ANSWERS(vtdm_unmap(&manager, 1, VTDM_ADDRESSES_END, 1), bad.status, bad.value);
+    ANSWERS(vtdm_unmap(&manager, 1, VTDM_ADDRESSES_END - VTDM_PAGE_BYTES, 1), VTDM_NOT_LIVE, 0);
+    ANSWERS(vtdm_dma(&manager, 15, VTDM_WINDOW_FIRST * VTDM_PAGE_BYTES - 1, false, false, false), VTDM_FAULT_READ, 0);
+    ANSWERS(vtdm_dma(&manager, 15, VTDM_WINDOW_FIRST * VTDM_PAGE_BYTES, false, false, false), VTDM_WINDOW, 0);
+    ANSWERS(vtdm_dma(&manager, 15, VTDM_ADDRESSES_END - 1, false, false, false), VTDM_FAULT_READ, 0);
+    ANSWERS(vtdm_unmap(&manager, 1, 0x200000, VTDM_MOST_PAGES), VTDM_OK, 0);
+    vtdm_destroy(&manager);
+}
+
 /* Refusals and faults by their names. The limit on pieces has a row of its own, and keeps a range from ever lacking. */
 static void check_names(void) {
     struct vtdm manager = VTDM_INIT;
     CHECK(vtdm_create(&manager, 17) == VTDM_OK);
-    for (uint64_t domain = 1; domain <= 15; domain++)
+    for (uint64_t domain = 1; domain <= VTDM_MOST_DOMAINS; domain++)
         ANSWERS(vtdm_domain(&manager, domain == 2), VTDM_OK, domain);
     ANSWERS(vtdm_domain(&manager, false), VTDM_TOO_MANY_DOMAINS, 0);
     ANSWERS(vtdm_attach(&manager, 0, 1), VTDM_OK, 0);
@@ -69,18 +107,19 @@ static void check_names(void) {
     ANSWERS(vtdm_unmap(&manager, 1, 0x2000, 1), VTDM_NOT_LIVE, 0);
     ANSWERS(vtdm_dma(&manager, 0, 0xfee00000, false, true, true), VTDM_WINDOW, 0);
     ANSWERS(vtdm_dma(&manager, 1, 0x1000, false, true, true), VTDM_FAULT_NOT_ATTACHED, 0);
-    ANSWERS(vtdm_dma(&manager, 0, UINT64_C(1) << 39, false, true, true), VTDM_FAULT_BEYOND_WIDTH, 0);
+    ANSWERS(vtdm_dma(&manager, 0, VTDM_ADDRESSES_END, false, true, true), VTDM_FAULT_BEYOND_WIDTH, 0);
     ANSWERS(vtdm_dma(&manager, 0, 0x1000, true, true, true), VTDM_FAULT_WRITE, 0);
     ANSWERS(vtdm_dma(&manager, 0, 0x2000, false, true, true), VTDM_FAULT_READ, 0);
-    for (uint64_t ticket = 1; ticket <= 64; ticket++)
+    for (uint64_t ticket = 1; ticket <= VTDM_MOST_TICKETS; ticket++)
         ANSWERS(vtdm_begin(&manager, 2), VTDM_OK, ticket);
     ANSWERS(vtdm_begin(&manager, 2), VTDM_TOO_MANY_TICKETS, 0);
     ANSWERS(vtdm_reap(&manager, 2, 1), VTDM_PENDING, 0);
-    CHECK(vtdm_totals(&manager).tickets == 64 && vtdm_totals(&manager).pending == 128);
+    ANSWERS(vtdm_drop(&manager, 2), VTDM_BUSY, 0);
+    CHECK(vtdm_totals(&manager).tickets == VTDM_MOST_TICKETS && vtdm_totals(&manager).pending == 128);
     vtdm_destroy(&manager);
 }
 
-/* A page of a lazy domain is reached behind its unmap until the cache of leaves loses it. */
+/* A page of a lazy domain is reached after its unmap until the IOTLB drops it. */
 static void check_caches(void) {
     struct vtdm manager = VTDM_INIT;
     CHECK(vtdm_create(&manager, 16) == VTDM_OK);
@@ -123,25 +162,32 @@ static void check_readers(struct vtdm *manager) {
     CHECK(one.status == VTDM_OK && one.mode == VTDM_STRICT && one.live == 16 && one.retired == 0 && one.pieces == 3);
 }
 
+/* The struct is as at its beginning. */
+static bool is_empty(const struct vtdm *manager) {
+    return manager->at == NULL && !manager->live;
+}
+
 int main(void) {
     struct vtdm manager = VTDM_INIT, other = VTDM_INIT;
     check_absent(&manager);
-    CHECK(vtdm_create(&manager, 15) == VTDM_BAD_FRAMES);
-    CHECK(vtdm_create(&manager, 4097) == VTDM_BAD_FRAMES);
-    CHECK(vtdm_create(&manager, UINT64_MAX) == VTDM_BAD_FRAMES);
+    CHECK(is_empty(&manager));
+    CHECK(vtdm_create(&manager, UINT64_MAX) == VTDM_BAD_FRAMES && is_empty(&manager));
     check_absent(&manager);
-    CHECK(vtdm_create(&manager, 64) == VTDM_OK);
+    CHECK(vtdm_create(&manager, 64) == VTDM_OK && !is_empty(&manager));
     CHECK(vtdm_create(&manager, 64) == VTDM_PRESENT);
     CHECK(vtdm_create(&manager, 0) == VTDM_PRESENT);
     CHECK(vtdm_create(&other, 4096) == VTDM_OK);
+    check_edges();
     check_names();
     check_caches();
     check_limits(&manager);
     check_readers(&manager);
     CHECK(vtdm_totals(&other).free == 4096);
     vtdm_destroy(&manager);
+    CHECK(is_empty(&manager));
     check_absent(&manager);
     vtdm_destroy(&manager);
+    CHECK(is_empty(&manager));
     CHECK(vtdm_create(&manager, 16) == VTDM_OK && vtdm_totals(&manager).free == 16);
     vtdm_destroy(&manager);
     vtdm_destroy(&other);

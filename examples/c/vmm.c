@@ -1,5 +1,5 @@
-/* A virtual machine monitor's way to give a guest's memory to a passed-through device: regions of guest memory are mapped when a
- * guest asks for it, and unmapped again, by virtual processors that run in threads. The lock is the monitor's own. */
+/* How a virtual machine monitor gives a guest's memory to a passed-through device: buffers of guest memory are mapped when the guest
+ * asks for it, and unmapped again, by virtual processors that run in threads. The lock is the monitor's own. */
 #include <vtdm.h>
 
 #include <inttypes.h>
@@ -7,7 +7,7 @@
 #include <stdio.h>
 #include <stdlib.h>
 
-enum { PAGE = 4096, TABLE_FRAMES = 256, DEVICE = 4, PROCESSORS = 2, MAPS = 1000 };
+enum { TABLE_FRAMES = 256, DEVICE = 4, PROCESSORS = 2, MAPS = 1000 };
 
 /* The monitor: its manager under its lock, and the domain of its guest. */
 static struct {
@@ -24,7 +24,7 @@ static void stop(const char *what, uint64_t status) {
     exit(1);
 }
 
-/* Has the device reach so many pages of guest memory, and answers the address that the device is to use. */
+/* Lets the device reach pages of guest memory, and answers the address that the device is to use. */
 static uint64_t map_for_device(uint64_t guest_page, uint64_t pages) {
     pthread_mutex_lock(&monitor.lock);
     struct vtdm_answer at =
@@ -35,7 +35,7 @@ static uint64_t map_for_device(uint64_t guest_page, uint64_t pages) {
     return at.value;
 }
 
-/* When it returns, the device can't reach the pages any more: the guest may use them for something else. */
+/* When it returns, the device no longer reaches the pages: the guest may use them for something else. */
 static void unmap_for_device(uint64_t address, uint64_t pages) {
     pthread_mutex_lock(&monitor.lock);
     struct vtdm_answer ended = vtdm_unmap(&monitor.manager, monitor.domain, address, pages);
@@ -44,7 +44,7 @@ static void unmap_for_device(uint64_t address, uint64_t pages) {
         stop("unmap", ended.status);
 }
 
-/* What the emulated device reaches; true, and the host address, where it may. */
+/* A read of the emulated device: true, and the host address, where it reaches one. */
 static bool device_reads(uint64_t address, uint64_t *host) {
     pthread_mutex_lock(&monitor.lock);
     struct vtdm_answer reached = vtdm_dma(&monitor.manager, DEVICE, address, false, true, true);
@@ -58,29 +58,39 @@ static void *processor(void *number) {
     uint64_t first = *(const uint64_t *)number * 1024, host;
     for (uint64_t i = 0; i < MAPS; i++) {
         uint64_t pages = 1 + i % 16, address = map_for_device(first + i % 512, pages);
-        if (!device_reads(address, &host) || host != (GUEST_MEMORY + first + i % 512) * PAGE)
-            stop("a mapped page", host);
+        if (!device_reads(address, &host) || host != (GUEST_MEMORY + first + i % 512) * VTDM_PAGE_BYTES)
+            stop("the device misses a mapped page", 0);
         unmap_for_device(address, pages);
     }
     return NULL;
 }
 
-int main(void) {
-    pthread_t threads[PROCESSORS];
-    uint64_t numbers[PROCESSORS] = {0, 1}, host;
+/* A manager with one strict domain, that of the guest, and the device attached to it. No thread runs yet, so no lock is needed. */
+static void begin(void) {
     uint64_t status = vtdm_create(&monitor.manager, TABLE_FRAMES);
     if (status != VTDM_OK)
         stop("create", status);
-    monitor.domain = vtdm_domain(&monitor.manager, false).value;
-    vtdm_attach(&monitor.manager, DEVICE, monitor.domain);
+    struct vtdm_answer domain = vtdm_domain(&monitor.manager, false);
+    if (domain.status != VTDM_OK)
+        stop("domain", domain.status);
+    monitor.domain = domain.value;
+    struct vtdm_answer attached = vtdm_attach(&monitor.manager, DEVICE, monitor.domain);
+    if (attached.status != VTDM_OK)
+        stop("attach", attached.status);
+}
+
+int main(void) {
+    pthread_t threads[PROCESSORS];
+    uint64_t numbers[PROCESSORS] = {0, 1}, host;
+    begin();
     for (int i = 0; i < PROCESSORS; i++)
         if (pthread_create(&threads[i], NULL, processor, &numbers[i]))
-            stop("thread", 0);
+            stop("no thread", 0);
     for (int i = 0; i < PROCESSORS; i++)
         pthread_join(threads[i], NULL);
     struct vtdm_domain_totals_answer left = vtdm_domain_totals(&monitor.manager, monitor.domain);
     printf("%d maps and unmaps, %" PRIu64 " pages are left, and the device reaches %s\n", PROCESSORS * MAPS, left.live,
-           device_reads(PAGE, &host) ? "one" : "none");
+           device_reads(VTDM_PAGE_BYTES, &host) ? "one" : "none");
     vtdm_destroy(&monitor.manager);
     return 0;
 }
