@@ -1,14 +1,35 @@
 #!/usr/bin/env python3
-"""Runs each script of examples/ by the built program, and compares what it writes with the file NAME.output, and with
-NAME.report what `vtdm report` writes where there is such a file. The last line is `N passed, M failed`."""
+r"""Runs the examples by the built program, and compares all that it writes with the stored texts.
+
+Each examples/NAME.script is run, and what is written compared with NAME.output, and with NAME.report what `vtdm report` writes
+where there is such a file.
+
+Each examples/words/NAME.words is a command line. The program is given these words, and SCRIPT at its standard input. Its standard
+output, standard error and status are compared with NAME.output, NAME.errors and NAME.status; where there is no such file, nothing
+is to be written there, or the status is to be 0. Besides, these texts are of printable ASCII, none of their lines but one that
+begins with `error: ` is over 100 columns, and a usage is a command that can be typed. With the word --store the texts are first
+written anew: read them before you commit them.
+
+A file of words has one word a line. In it `\\` is a backslash, `\xHH` the byte of these two hexadecimal digits, and `\{TEXT*N}`
+the text N times. The last line of this script is `N passed, M failed`."""
 
 import os
+import re
 import subprocess
 import sys
 
 TOP = os.path.dirname(os.path.dirname(os.path.abspath(__file__)))
 EXAMPLES = f"{TOP}/examples"
+WORDS = f"{EXAMPLES}/words"
 VTDM = f"{TOP}/crates/vtdm/out/vtdm"
+# What each command line is given to read. Of it a full history answers the second line otherwise.
+SCRIPT = b"domain strict\ndomain lazy\n"
+COLUMNS = 100
+SECONDS = 60
+# The endings of the stored texts, and what they are.
+STORED = {"output": "standard output", "errors": "standard error", "status": "status"}
+ESCAPE = re.compile(rb"\\(?:(\\)|x([0-9a-f]{2})|\{([^*]+)\*([0-9]+)\})|(\\)", re.S)
+USAGE = re.compile(r"^Usage:(.*(?:\n {7}.*)*)", re.M)
 
 
 def bytes_of(path):
@@ -16,27 +37,116 @@ def bytes_of(path):
         return file.read()
 
 
-def fault_of(name, command, wanted):
+def names_of(folder, ending):
+    return sorted(it[: -len(ending)] for it in os.listdir(folder) if it.endswith(ending))
+
+
+def fault_of_script(name, command, wanted):
     """Why the program's answer to the script isn't the one that is wanted, if it isn't."""
     if not os.path.isfile(wanted):
         return "there is no such file"
-    ran = subprocess.run([VTDM, command], input=bytes_of(f"{EXAMPLES}/{name}.script"), capture_output=True, timeout=60)
+    ran = subprocess.run([VTDM, command], input=bytes_of(f"{EXAMPLES}/{name}.script"), capture_output=True, timeout=SECONDS)
     if ran.returncode or ran.stderr:
         return f"status {ran.returncode}, {ran.stderr!r}"
     return None if ran.stdout == bytes_of(wanted) else f"the program writes {ran.stdout!r}"
 
 
-def main():
-    passed = failed = 0
-    for name in sorted(it[: -len(".script")] for it in os.listdir(EXAMPLES) if it.endswith(".script")):
+def faults_of_scripts():
+    """Each script's command with its stored text, and why it fails."""
+    for name in names_of(EXAMPLES, ".script"):
         wanted = [("run", f"{EXAMPLES}/{name}.output")]
         if os.path.isfile(f"{EXAMPLES}/{name}.report"):
             wanted.append(("report", f"{EXAMPLES}/{name}.report"))
         for command, path in wanted:
-            fault = fault_of(name, command, path)
-            passed, failed = passed + (fault is None), failed + (fault is not None)
-            if fault:
-                print(f"{os.path.relpath(path, TOP)}: {fault}")
+            yield path, fault_of_script(name, command, path)
+
+
+def unescaped(found):
+    backslash, byte, text, count, bad = found.groups()
+    if bad:
+        raise ValueError("a backslash that begins no escape")
+    return backslash or (bytes([int(byte, 16)]) if byte else text * int(count))
+
+
+def words_of(name):
+    """The words of a command line."""
+    text = bytes_of(f"{WORDS}/{name}.words")
+    if text and not text.endswith(b"\n"):
+        raise ValueError("its last line lacks its newline")
+    return [ESCAPE.sub(unescaped, line) for line in text.split(b"\n")[:-1]]
+
+
+def answers_of(name):
+    """What the program answers to a command line, by the endings of its stored texts."""
+    ran = subprocess.run([VTDM, *words_of(name)], input=SCRIPT, capture_output=True, timeout=SECONDS)
+    return {"output": ran.stdout, "errors": ran.stderr, "status": b"%d\n" % ran.returncode if ran.returncode else b""}
+
+
+def fault_of_text(text):
+    """Why a text isn't one to show on a terminal, if it isn't."""
+    if re.search(rb"[^\n -~]", text):
+        return "has bytes that aren't printable"
+    text = text.decode("ascii")
+    if any(len(it) > COLUMNS and not it.startswith("error: ") for it in text.splitlines()):
+        return f"has a line of more than {COLUMNS} columns"
+    usages = [line for usage in USAGE.findall(text) for line in usage.splitlines()]
+    return None if all(it.split()[:1] == ["vtdm"] for it in usages) else f"has the usage {usages}"
+
+
+def fault_of_words(name):
+    """Why the program's answer to a command line isn't the stored one, if it isn't."""
+    faults = []
+    for ending, text in answers_of(name).items():
+        path = f"{WORDS}/{name}.{ending}"
+        wanted = bytes_of(path) if os.path.isfile(path) else b""
+        if text != wanted:
+            faults.append(f"the {STORED[ending]} is {text!r}")
+        fault = fault_of_text(text)
+        if fault:
+            faults.append(f"the {STORED[ending]} {fault}")
+    return "; ".join(faults) or None
+
+
+def faults_of_words():
+    """Each command line, and why it fails; and each stored text that is of none."""
+    names = names_of(WORDS, ".words")
+    for name in names:
+        try:
+            fault = fault_of_words(name)
+        except (ValueError, OSError, subprocess.TimeoutExpired) as error:
+            fault = str(error)
+        yield f"{WORDS}/{name}.words", fault
+    for ending in STORED:
+        for name in set(names_of(WORDS, f".{ending}")) - set(names):
+            yield f"{WORDS}/{name}.{ending}", "there are no such words"
+    if not names:
+        yield WORDS, "there are no words"
+
+
+def store():
+    """Writes the texts of the command lines anew."""
+    for name in names_of(WORDS, ".words"):
+        for ending, text in answers_of(name).items():
+            path = f"{WORDS}/{name}.{ending}"
+            if text:
+                with open(path, "wb") as file:
+                    file.write(text)
+            elif os.path.isfile(path):
+                os.remove(path)
+
+
+def main():
+    if not os.path.isfile(VTDM):
+        print("examples: the program isn't built; bin/vtdm builds it")
+        print("0 passed, 1 failed")
+        return 1
+    if sys.argv[1:] == ["--store"]:
+        store()
+    passed = failed = 0
+    for path, fault in [*faults_of_scripts(), *faults_of_words()]:
+        passed, failed = passed + (fault is None), failed + (fault is not None)
+        if fault:
+            print(f"{os.path.relpath(path, TOP)}: {fault}")
     print(f"{passed} passed, {failed} failed")
     return 1 if failed else 0
 

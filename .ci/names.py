@@ -1,14 +1,20 @@
 #!/usr/bin/env python3
 """Looks up each name of the tables in docs/PROVED.md: definitions in their files, contracts with their clauses, edits, tests.
 
-Prints the names that don't exist. The last line is `N passed, M failed`, a table each."""
+A contract's row has a clause at least, and each clause that it names stands in each of its contracts: as a clause's label, or as
+a definition, or a part of a value, of which a clause speaks. In no other row is a cell of names empty either. Prints the names
+that don't exist. The last line is `N passed, M failed`, a table each."""
 
+import functools
+import glob
 import os
 import re
 import sys
 
 TOP = os.path.dirname(os.path.dirname(os.path.abspath(__file__)))
 CRATES = f"{TOP}/crates"
+# What stands before the name that a file of definitions gives to something.
+DEFINED = r"(?:abbrev |unfoldable )?pub (?:record |data )?"
 
 
 def text_of(path):
@@ -34,7 +40,7 @@ def words(cell):
 def lacks_definition(row):
     file = f"{CRATES}/{words(row[2])[0]}"
     text = text_of(file) if os.path.isfile(file) else ""
-    return [it for it in words(row[1]) if not re.search(rf"^\s*(abbrev |unfoldable )?pub (record |data )?{it}\b", text, re.M)]
+    return [it for it in words(row[1]) if not re.search(rf"^\s*{DEFINED}{it}\b", text, re.M)]
 
 
 def impl_of(text, kind):
@@ -42,16 +48,41 @@ def impl_of(text, kind):
     return "\n".join(re.findall(rf"^impl(?:<[^\n]*?>)? {kind}\b[^\n]*\{{\n(.*?)^\}}", text, re.M | re.S))
 
 
-def lacks_contract(row):
-    name = words(row[1])[0]
+def contract_of(name):
+    """What stands between a public function's name and its body; None where there isn't one such function."""
     crate, *kind, function = name.split("::")
     texts = sources(crate).values()
     places = [impl_of(it, kind[0]) for it in texts] if kind else list(texts)
-    found = [re.search(rf"pub (?:extern \"C\" )?fn {function}\b(.*?)\n\s*\{{(?:\n|\}})", it, re.S) for it in places]
-    found = [it.group(1) for it in found if it]
-    if len(found) != 1:
-        return [name]
-    return [it for it in words(row[2]) if not re.search(rf"^\s*(ensures|requires) {it} \{{", found[0], re.M)]
+    # A brace that ends a line begins a body, and that of a function with clauses stands on a line of its own.
+    head = rf"pub (?:extern \"C\" )?fn {function}\b((?:(?! \{{\n).)*?)\n\s*\{{(?:\n|\}})"
+    found = [it for place in places for it in re.findall(head, place, re.S)]
+    return found[0] if len(found) == 1 else None
+
+
+def is_defined(name):
+    return any(re.search(rf"^{DEFINED}{name}\b", it, re.M) for it in definitions())
+
+
+@functools.cache
+def definitions():
+    """The texts of all files of definitions."""
+    return [text_of(it) for it in sorted(glob.glob(f"{CRATES}/*/specs/**/*.antt", recursive=True))]
+
+
+def cites(contract, clause):
+    """Whether a contract has a clause of this label, or one that speaks of this definition or of this part of a value."""
+    clauses = re.split(r"^\s*(?:ensures|requires)\b", contract, flags=re.M)[1:]
+    if any(re.match(rf" {clause} \{{|.*\.{clause}\b", it, re.S) for it in clauses):
+        return True
+    return is_defined(clause) and any(re.search(rf"\b{clause}\b", it) for it in clauses)
+
+
+def lacks_contract(row):
+    lost = []
+    for name in words(row[1]):
+        contract = contract_of(name)
+        lost += [name] if contract is None else [f"{it} in {name}" for it in words(row[2]) if not cites(contract, it)]
+    return lost
 
 
 def lacks_edit(row):
@@ -72,16 +103,18 @@ TABLES = {"Definition": lacks_definition, "Promise": lacks_contract, "Body": lac
 
 
 def main():
-    kind, seen, lost = None, [], {}
+    kind, heads, seen, lost = None, [], [], {}
     for line in text_of(f"{TOP}/docs/PROVED.md").splitlines():
         cells = [it.strip() for it in line.strip().strip("|").split("|")]
         if not line.startswith("|"):
             kind = None
         elif kind is None and cells[0] in TABLES:
-            kind = cells[0]
+            kind, heads = cells[0], cells
             seen.append(kind)
         elif kind and not line.startswith("|---"):
-            for name in TABLES[kind](cells):
+            cells += [""] * (len(heads) - len(cells))
+            empty = [head for head, cell in zip(heads[1:], cells[1:]) if not words(cell)]
+            for name in [f"name under {it}" for it in empty] or TABLES[kind](cells):
                 lost.setdefault(kind, []).append(f"{name} ({cells[0]})")
     for kind, names in lost.items():
         for name in names:

@@ -1,10 +1,12 @@
-// Preloaded into a program, refuses one request for memory: the one whose number, from 1, stands in REFUSE. Likewise it refuses
-// the thread whose number stands in REFUSE_THREAD. At the program's end it writes into the file that REFUSE_LOG names how
-// many requests for memory there were and how many blocks weren't given back.
+// Preloaded into a program, sees each of its requests for memory, and refuses one: the one whose number, from 1, stands in REFUSE.
+// Likewise it refuses the thread whose number stands in REFUSE_THREAD. At the program's end it writes four numbers into the file
+// that REFUSE_LOG names: the requests; those before the first thread was asked for; those that the C library made while it made
+// threads; and the blocks that weren't given back, but for those of the latter, which the C library keeps.
 #define _GNU_SOURCE
 #include <dlfcn.h>
 #include <errno.h>
 #include <fcntl.h>
+#include <malloc.h>
 #include <pthread.h>
 #include <stdatomic.h>
 #include <stddef.h>
@@ -13,7 +15,24 @@
 #include <sys/syscall.h>
 #include <unistd.h>
 
-static atomic_long asked, held, threads;
+// The C library's own function of a name that this file has too.
+#define NEXT(name)                                                                                                             \
+    ({                                                                                                                         \
+        static __typeof__(&name) next;                                                                                         \
+        if (!next)                                                                                                             \
+            next = (__typeof__(&name))dlsym(RTLD_NEXT, #name);                                                                 \
+        next;                                                                                                                  \
+    })
+
+#define MOST_KEPT 256
+
+static atomic_long asked, held, threads, asked_in_making;
+// The requests before the first thread, once one was asked for.
+static atomic_long before = -1;
+// Whether the C library is making a thread for this one.
+static _Thread_local int is_making __attribute__((tls_model("initial-exec")));
+// The blocks that the C library took while it made threads.
+static _Atomic(void *) kept[MOST_KEPT];
 
 // Whether this request, which is counted, is the one.
 static int is_the_one(atomic_long *count, const char *name) {
@@ -22,63 +41,90 @@ static int is_the_one(atomic_long *count, const char *name) {
 }
 
 static int is_refused(void) {
+    if (is_making)
+        atomic_fetch_add(&asked_in_making, 1);
     if (!is_the_one(&asked, "REFUSE"))
         return 0;
     errno = ENOMEM;
     return 1;
 }
 
-void *malloc(size_t size) {
-    static void *(*next)(size_t);
-    if (!next)
-        next = (void *(*)(size_t))dlsym(RTLD_NEXT, "malloc");
-    void *block = is_refused() ? NULL : next(size);
-    if (block)
+// Puts one block in the place of another among those that the C library keeps. Whether that one is there.
+static int is_exchanged(void *old, void *new) {
+    for (int i = 0; i < MOST_KEPT; i++) {
+        void *found = old;
+        if (atomic_compare_exchange_strong(&kept[i], &found, new))
+            return 1;
+    }
+    return 0;
+}
+
+static void *taken(void *block) {
+    if (block && !(is_making && is_exchanged(NULL, block)))
         atomic_fetch_add(&held, 1);
     return block;
 }
 
-// The toolchain's C library asks by it, for threads: it is counted, and never refused.
+static void given_back(void *block) {
+    if (block && !is_exchanged(block, NULL))
+        atomic_fetch_sub(&held, 1);
+}
+
+void *malloc(size_t size) { return is_refused() ? NULL : taken(NEXT(malloc)(size)); }
+
+// Not by its name, since finding that can ask for memory by this very function.
 void *calloc(size_t count, size_t size) {
     extern void *__libc_calloc(size_t, size_t);
-    void *block = __libc_calloc(count, size);
-    if (block)
-        atomic_fetch_add(&held, 1);
-    return block;
+    return is_refused() ? NULL : taken(__libc_calloc(count, size));
 }
 
 void *realloc(void *old, size_t size) {
-    static void *(*next)(void *, size_t);
-    if (!next)
-        next = (void *(*)(void *, size_t))dlsym(RTLD_NEXT, "realloc");
-    void *block = is_refused() ? NULL : next(old, size);
-    if (block && !old)
-        atomic_fetch_add(&held, 1);
+    if (is_refused())
+        return NULL;
+    void *block = NEXT(realloc)(old, size);
+    // Where a block is to have no bytes, it is freed.
+    if (block || !size) {
+        given_back(old);
+        taken(block);
+    }
     return block;
 }
 
+int posix_memalign(void **block, size_t alignment, size_t size) {
+    if (is_refused())
+        return ENOMEM;
+    int fault = NEXT(posix_memalign)(block, alignment, size);
+    if (!fault)
+        taken(*block);
+    return fault;
+}
+
+void *aligned_alloc(size_t alignment, size_t size) { return is_refused() ? NULL : taken(NEXT(aligned_alloc)(alignment, size)); }
+
+void *memalign(size_t alignment, size_t size) { return is_refused() ? NULL : taken(NEXT(memalign)(alignment, size)); }
+
 void free(void *block) {
-    static void (*next)(void *);
-    if (!next)
-        next = (void (*)(void *))dlsym(RTLD_NEXT, "free");
-    if (block)
-        atomic_fetch_sub(&held, 1);
-    next(block);
+    given_back(block);
+    NEXT(free)(block);
 }
 
 int pthread_create(pthread_t *thread, const pthread_attr_t *attributes, void *(*start)(void *), void *argument) {
-    typedef int create(pthread_t *, const pthread_attr_t *, void *(*)(void *), void *);
-    static create *next;
-    if (!next)
-        next = (create *)dlsym(RTLD_NEXT, "pthread_create");
-    return is_the_one(&threads, "REFUSE_THREAD") ? EAGAIN : next(thread, attributes, start, argument);
+    long none = -1;
+    atomic_compare_exchange_strong(&before, &none, atomic_load(&asked));
+    if (is_the_one(&threads, "REFUSE_THREAD"))
+        return EAGAIN;
+    is_making = 1;
+    int fault = NEXT(pthread_create)(thread, attributes, start, argument);
+    is_making = 0;
+    return fault;
 }
 
 __attribute__((destructor)) static void tell(void) {
     const char *name = getenv("REFUSE_LOG");
     int file = name ? open(name, O_WRONLY | O_CREAT | O_TRUNC, 0600) : -1;
     if (file >= 0) {
-        dprintf(file, "%ld %ld\n", atomic_load(&asked), atomic_load(&held));
+        long all = atomic_load(&asked), first = atomic_load(&before);
+        dprintf(file, "%ld %ld %ld %ld\n", all, first < 0 ? all : first, atomic_load(&asked_in_making), atomic_load(&held));
         close(file);
     }
 }

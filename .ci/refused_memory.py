@@ -3,8 +3,12 @@
 Likewise each thread of a storm.
 
 Of `vtdm` the answer is `no memory` with status 3, and what was written is a beginning of what ample memory gives (of a report
-nothing), or all is as with ample memory. Of `memory` one thing lacks memory, and the others are answered as ever. Where a
-request is refused, no more blocks are held at the end than with ample memory. The last line is `N passed, M failed`."""
+nothing), or all is as with ample memory. Of `memory` one thing lacks memory, and the others are answered as ever. Of a storm
+the answer is `no thread` where a thread is refused. Where a request is refused that the toolchain or the C library makes for a
+thread, either may be answered; there are no others once the first thread was asked for. No run holds a block at its end.
+
+That each way to ask for memory is seen is tried first, by a program of its own; and the programs import no other way. The last
+line is `N passed, M failed`."""
 
 import os
 import subprocess
@@ -17,21 +21,34 @@ MEMORY = f"{TOP}/crates/memory/out/memory"
 SMALL = ["--frames", "16", "--calls", "100"]
 STORM = [VTDM, "storm", "--drivers", "2", "--devices", "2", "--calls", "3"]
 STORM_THREADS = 5
+# What is asked for at the making of a thread: by the toolchain, before it asks for the thread, and then by the C library at most,
+# which also uses again what a thread had that has ended.
+TOOLCHAIN_REQUESTS = 1
+C_LIBRARY_REQUESTS = 1
+WAYS = ("malloc", "calloc", "realloc", "posix_memalign", "aligned_alloc", "memalign")
+# The C library's other calls that hand out memory.
+OTHER_WAYS = {
+    *("mmap", "mmap64", "mremap", "brk", "sbrk", "valloc", "pvalloc", "reallocarray", "strdup", "strndup", "asprintf", "vasprintf"),
+    *("getline", "getdelim", "fopen", "fdopen", "open_memstream", "opendir", "getaddrinfo"),
+}
 SCRIPT = b"domain strict\nattach 3 1\nmap 1 0x400 512 9 rw\nunmap 1 0x201000 1\ndma 3 0x202000 r look fill\n"
 NO_MEMORY = (3, b"no memory\n")
 NO_THREAD = (3, b"no thread\n")
 
 
 class Run:
-    """One run of a program: its output, what it said on standard error, its status, its requests and what it held at the end."""
+    """One run of a program in which the request of this number is refused, or none where it is 0.
+
+    Its output, what it said on standard error, its status; and its requests: all, those before the first thread, and those of the
+    C library while threads were made; and how many blocks it held at its end."""
 
     def __init__(self, room, words, given, number, what="REFUSE"):
         log = f"{room}/log"
         env = {"LD_PRELOAD": f"{room}/refuse.so", what: str(number), "REFUSE_LOG": log}
         ran = subprocess.run(words, input=given, capture_output=True, env=env, timeout=60)
-        self.output, self.said, self.status = ran.stdout, ran.stderr, ran.returncode
+        self.number, self.output, self.said, self.status = number, ran.stdout, ran.stderr, ran.returncode
         with open(log, encoding="ascii") as file:
-            self.asked, self.held = map(int, file.read().split())
+            self.asked, self.before, self.in_making, self.held = map(int, file.read().split())
         os.remove(log)
 
 
@@ -49,7 +66,9 @@ def writes_nothing(run, ample):
 
 
 def is_no_storm(run, ample):
-    return (run.status, run.said) in (NO_MEMORY, NO_THREAD) and not run.output
+    """There is no memory; or no thread, where the request is one for a thread."""
+    is_for_thread = run.number > ample.before - TOOLCHAIN_REQUESTS
+    return (run.status, run.said) in (NO_MEMORY, *[NO_THREAD] * is_for_thread) and not run.output
 
 
 def lacks_one(run, ample):
@@ -86,9 +105,19 @@ def fault_of(room, words, given, fits):
         run = Run(room, words, given, number)
         if not is_same(run, ample) and not fits(run, ample):
             return f"request {number}: status {run.status}, {run.said!r}, {run.output!r}"
-        if run.held > ample.held:
-            return f"request {number}: {run.held} blocks are held at the end, and {ample.held} with ample memory"
+        if run.held:
+            return f"request {number}: {run.held} blocks are held at the end"
+    if ample.held:
+        return f"{ample.held} blocks are held at the end"
     return None if ample.asked else "it asks for no memory"
+
+
+def fault_of_requests(ample):
+    """Why the requests of a storm aren't those before its threads and those for its threads, if they aren't."""
+    if not 1 <= ample.in_making <= STORM_THREADS * C_LIBRARY_REQUESTS:
+        return f"the C library asks {ample.in_making} times for {STORM_THREADS} threads"
+    others = ample.asked - ample.before - ample.in_making - (STORM_THREADS - 1) * TOOLCHAIN_REQUESTS
+    return f"{others} requests behind the first thread are for none" if others else None
 
 
 def fault_of_threads(room):
@@ -96,29 +125,53 @@ def fault_of_threads(room):
     ample = Run(room, STORM, b"", 0)
     for number in range(1, STORM_THREADS + 1):
         run = Run(room, STORM, b"", number, "REFUSE_THREAD")
-        if (run.status, run.said) != NO_THREAD or run.output or run.held > ample.held:
+        if (run.status, run.said) != NO_THREAD or run.output or run.held:
             return f"thread {number}: status {run.status}, {run.said!r}, {run.output!r}, {run.held} blocks held"
-    return None if is_same(Run(room, STORM, b"", STORM_THREADS + 1, "REFUSE_THREAD"), ample) else "there are more threads"
+    if not is_same(Run(room, STORM, b"", STORM_THREADS + 1, "REFUSE_THREAD"), ample):
+        return "there are more threads"
+    return fault_of_requests(ample)
+
+
+def fault_of_ways(room):
+    """Why a way to ask for memory isn't seen, if one isn't: each is refused in turn, and else given."""
+    for number in range(len(WAYS) + 1):
+        run = Run(room, [f"{room}/asks"], b"", number)
+        wanted = [f"{way} {'refused' if at == number else 'given'}" for at, way in enumerate(WAYS, 1)]
+        if run.output.decode("ascii").splitlines() != wanted or run.asked != len(WAYS) or run.held:
+            return f"request {number} of {run.asked}: {run.output!r}, {run.held} blocks are held at the end"
+    for program in (VTDM, MEMORY):
+        listed = subprocess.run(["nm", "-D", "--undefined-only", program], capture_output=True, text=True, check=True).stdout
+        others = OTHER_WAYS & {line.split()[-1].split("@")[0] for line in listed.splitlines()}
+        if others:
+            return f"{os.path.relpath(program, TOP)} has {', '.join(sorted(others))}, whose requests aren't seen"
+    return None
+
+
+def build(room):
+    """The library that is preloaded, and the program that asks in each way."""
+    for words in (["-shared", "-fPIC", "-O2", "-o", f"{room}/refuse.so", f"{TOP}/.ci/refuse.c", "-ldl"],
+                  ["-O0", "-o", f"{room}/asks", f"{TOP}/.ci/asks.c"]):
+        subprocess.run(["cc", "-Wall", "-Wextra", *words], check=True)
 
 
 def main():
-    failed = 0
+    faults = {}
     with tempfile.TemporaryDirectory() as room:
         try:
-            build = ["cc", "-shared", "-fPIC", "-O2", "-Wall", "-Wextra", "-o", f"{room}/refuse.so", f"{TOP}/.ci/refuse.c", "-ldl"]
-            subprocess.run(build, check=True)
+            build(room)
         except (OSError, subprocess.CalledProcessError) as error:
             print(f"refused memory: a C compiler is needed, by the name cc ({error})")
             print("0 passed, 1 failed")
             return 1
-        for name, words, given, fits in CASES:
-            fault = fault_of(room, words, given, fits)
-            failed += fault is not None
-            print(f"refused memory, {name}: {fault or 'ok'}", flush=True)
-        fault = fault_of_threads(room)
-        failed += fault is not None
-        print(f"refused threads: {fault or 'ok'}", flush=True)
-    print(f"{len(CASES) + 1 - failed} passed, {failed} failed")
+        steps = {"refused memory, each way to ask": lambda: fault_of_ways(room)}
+        for name, *case in CASES:
+            steps[f"refused memory, {name}"] = lambda case=case: fault_of(room, *case)
+        steps["refused threads"] = lambda: fault_of_threads(room)
+        for name, step in steps.items():
+            faults[name] = step()
+            print(f"{name}: {faults[name] or 'ok'}", flush=True)
+    failed = sum(it is not None for it in faults.values())
+    print(f"{len(faults) - failed} passed, {failed} failed")
     return 1 if failed else 0
 
 
