@@ -65,6 +65,7 @@ pub(crate) fn command<'a>(alloc: Global) -> Result<Command<'a>, AllocError> {
         .after_help(SCRIPT)
         .no_binary_name(true)
         .subcommand_required(true)
+        .disable_help_subcommand(true)
         .subcommand(run)?
         .subcommand(report)?
         .subcommand(storm_command(alloc)?)

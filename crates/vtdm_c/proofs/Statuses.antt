@@ -1,5 +1,6 @@
 -- The numbers of refusals and of faults lie apart.
-use Rattle.std.proofs.Common.{◌≡◌, ℕ, zero, suc, ◌+◌, ◌<◌, arith, ap, sym, refl, ◌∙◌}
+use Rattle.std.proofs.Common.{◌≡◌, ℕ, ◌+◌, ◌<◌, arith, ap, sym, refl, ◌∙◌}
+use Rattle.std.specs.Prelude.{◌==◌, if◌then◌else◌}
 use Rattle.dmatypes.specs.Numbers.{fault_number, refusal_number}
 use Rattle.dmatypes.specs.declared.refusal.Fault.{Fault}
 use Rattle.dmatypes.specs.declared.refusal.Fault.TheVariants as faults
@@ -31,22 +32,23 @@ behind faults.Write = (omega arith, omega arith)
 behind faults.Read = (omega arith, omega arith)
 
 -- the refusal of a number
-numbered : ℕ → Refusal
-numbered 1 = refusals.NoDomain
-numbered 2 = refusals.NoDevice
-numbered 3 = refusals.Busy
-numbered 4 = refusals.NotAttached
-numbered 5 = refusals.BadRange
-numbered 6 = refusals.FrameOwned
-numbered 7 = refusals.NoRange
-numbered 8 = refusals.NoFrames
-numbered 9 = refusals.TooManyPieces
-numbered 10 = refusals.NotLive
-numbered 11 = refusals.Window
-numbered 12 = refusals.TooManyDomains
-numbered 13 = refusals.BadTicket
-numbered 14 = refusals.TooManyTickets
-numbered _ = refusals.HistoryFull
+abbrev numbered : ℕ → Refusal
+numbered n =
+    if n == 1 then refusals.NoDomain else (
+    if n == 2 then refusals.NoDevice else (
+    if n == 3 then refusals.Busy else (
+    if n == 4 then refusals.NotAttached else (
+    if n == 5 then refusals.BadRange else (
+    if n == 6 then refusals.FrameOwned else (
+    if n == 7 then refusals.NoRange else (
+    if n == 8 then refusals.NoFrames else (
+    if n == 9 then refusals.TooManyPieces else (
+    if n == 10 then refusals.NotLive else (
+    if n == 11 then refusals.Window else (
+    if n == 12 then refusals.TooManyDomains else (
+    if n == 13 then refusals.BadTicket else (
+    if n == 14 then refusals.TooManyTickets else (
+    refusals.HistoryFull))))))))))))))
 
 refusal_back : (r : Refusal) → numbered (refusal_number r) ≡ r
 refusal_back refusals.NoDomain = refl
@@ -69,11 +71,12 @@ pub refusals_apart : (r q : Refusal) → refusal_number r ≡ refusal_number q �
 refusals_apart r q same = sym (refusal_back r) ∙ ap numbered same ∙ refusal_back q
 
 -- the fault of a number
-fault_numbered : ℕ → Fault
-fault_numbered 2 = faults.NotAttached
-fault_numbered 4 = faults.BeyondWidth
-fault_numbered 5 = faults.Write
-fault_numbered _ = faults.Read
+abbrev fault_numbered : ℕ → Fault
+fault_numbered n =
+    if n == 2 then faults.NotAttached else (
+    if n == 4 then faults.BeyondWidth else (
+    if n == 5 then faults.Write else (
+    faults.Read)))
 
 fault_back : (f : Fault) → fault_numbered (fault_number f) ≡ f
 fault_back faults.NotAttached = refl
