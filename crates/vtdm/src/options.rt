@@ -95,7 +95,7 @@ fn iova<'a>(alloc: Global) -> Arg<'a> {
     Arg::new(alloc, IOVA)
         .long(IOVA)
         .action(ArgAction::SetTrue)
-        .help("Draws the address space of each domain behind the report")
+        .help("Draws each domain's address space behind the report")
 }
 
 /// What is asked for on the command line, where a command was given.

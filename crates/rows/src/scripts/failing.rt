@@ -278,7 +278,13 @@ fn a_read_of_a_report_fails_once(rt: HostRuntime) -> Result<(), Fail> {
             .count();
         let wanted = FIRST_REPORTS.get(whole).ok_or("four lines")?;
         let stopped = (Err(RunError::Read), *wanted);
-        check_report(&rt, rt.alloc(), (FIRST_MAP, bad), (0, Hitch::Failure), stopped)?;
+        check_report(
+            &rt,
+            rt.alloc(),
+            (FIRST_MAP, bad),
+            (0, Hitch::Failure),
+            stopped,
+        )?;
     }
     Ok(())
 }
