@@ -36,12 +36,14 @@ use vtdbits::{ContextEntry, DeviceNumber, DomainId};
 mod attachments;
 mod flushing;
 mod performing;
+mod spaces;
 #[cfg(test)]
 mod tests;
 mod totals;
 mod walkable;
 
 use flushing::has_ticket;
+pub use spaces::RetiredRecord;
 pub use totals::{DomainTotals, Totals};
 
 // The places for tickets.

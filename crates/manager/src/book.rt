@@ -98,6 +98,13 @@ impl<B: Owner> Book<B> {
         self.history.as_slice()
     }
 
+    /// The state after the events.
+    pub fn state(&self) -> &State
+        ensures { result.now ≡ self.now.state }
+    {
+        &self.state
+    }
+
     /// Replaces a report's text by what the book holds.
     pub fn write_report(&self, report: &mut Report)
         ensures { report.new ≡ report_text (length self.now.history) self.now.state }

@@ -16,6 +16,7 @@ mod edges;
 mod failing;
 mod hostile;
 mod lazy_rows;
+mod maps;
 mod rows;
 mod tickets;
 

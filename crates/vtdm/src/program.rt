@@ -8,7 +8,7 @@ use crate::options::{Answering, Options, Task, command, config_of, task_of};
 use crate::status::{End, end_of};
 use crate::storming::make_storm;
 use clap::error::ErrorKind;
-use script::{Counted, RunError, report, run};
+use script::{Counted, RunError, report, report_with_map, run};
 use std::alloc::Global;
 use std::io;
 use std::io::{Read, Write};
@@ -145,5 +145,6 @@ fn run_script<T: Wait, R: Read + Drop, W: Write + Drop>(
     end_of(match answering {
         Answering::Run => run(rt, alloc, &mut reader, &mut writer, config),
         Answering::Report => report(rt, alloc, &mut reader, &mut writer, config),
+        Answering::Map => report_with_map(rt, alloc, &mut reader, &mut writer, config),
     })
 }
