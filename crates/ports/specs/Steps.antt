@@ -133,7 +133,7 @@ module _ (legal : List Event → Type 0) (lawful : List Event → ℕ → ℕ �
     pub did : own_steps caller steps ≡ own
     pub words : are (led_to passes steps).words
 
--- the run of these steps, in a world with so many table frames
+-- the run of these steps, in a world with this number of table frames
 abbrev pub IsRunOf : ℕ → ℕ → List PortStep → Type 0
 IsRunOf frames passes steps = IsRun (IsLegal frames) (IsLawfulAfter frames) (empty passes) steps
 

@@ -113,7 +113,7 @@ fn fill_page(rt: &impl Abort, desk: &mut Desk, rows: &Rows, place: u64)
     desk.fill(rows, 3, word_of(rt, place));
 }
 
-// Whether a hit answers so, with so many events.
+// Whether a hit answers this host address, at this number of events.
 fn hits(port: &mut Port, rows: &Rows, address: u64, access: Access, host: Option<u64>) -> bool
     requires { port.old.rows ≡ rows.now }
     ensures { port.new.rows ≡ port.old.rows }

@@ -1,4 +1,4 @@
-// What no contract says: words that are told apart, once and again around the page, and the text of an error.
+// What no contract says: words that differ, once and again around the page, and the text of an error.
 
 use crate::{Ring, RingFull};
 use std::process::Abort;

@@ -20,7 +20,7 @@ mod maps;
 mod rows;
 mod tickets;
 
-// A manager of 64 table frames, with room for so many calls.
+// A manager of 64 table frames, with room for this number of calls.
 fn config(calls: u64) -> Option<Config>
     ensures { IfSome result (λ c. c.shares ≡ 1) }
 {

@@ -109,7 +109,7 @@ abbrev pub ReportReaderEnds : {U : Type 0} → Bool → Result U RunError → Ty
 ReportReaderEnds failed result = (IsErrOf result errors.Read → failed ≡ true)
     × (failed ≡ true → IsErrOf result errors.Read ⊎ IsErrOf result errors.Write)
 
--- the reader has failed exactly at `Read`; but where a report can't be written that is told in its place
+-- the reader has failed exactly at `Read`; but where a report can't be written, that is the answer in its place
 abbrev pub ReaderEnds : {U : Type 0} → Output → Bool → Result U RunError → Type 0
 ReaderEnds outputs.Answers failed result = (failed ≡ true) ↔ IsErrOf result errors.Read
 ReaderEnds (outputs.Report text) failed result = ReportReaderEnds failed result

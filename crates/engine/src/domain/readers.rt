@@ -1,4 +1,4 @@
-//! What a report tells of one domain, and what is read to draw it.
+//! What a report says of one domain, and what is read to draw it.
 
 ghost use Rattle.std.specs.Prelude.{◌≡◌, ◌*◌, ◌<◌, ◌≤◌, ◌^◌, All, length, slice_get};
 ghost use Rattle.dmatypes.specs.declared.limits.TheConstants.{MOST_RECORDS};

@@ -33,7 +33,7 @@ const DROP_AND_DETACH: &[u8] =
 const SEGMENT_MAP: &[u8] =
     b"domain strict\nattach 3 1\nmaplist 1 0 rw 0x100:1 0x200:2\ndma 3 0x2010 r\ndma 3 0x3000 w\n";
 
-// What a script is answered with so many table frames.
+// What a script is answered with this number of table frames.
 fn answered_with<T: Wait>(
     rt: &T,
     alloc: Global,

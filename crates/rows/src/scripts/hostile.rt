@@ -28,7 +28,7 @@ fn a_script_is_cut_at_each_byte(rt: HostRuntime) -> Result<(), Fail> {
     check_cut(&rt, rt.alloc(), script.as_slice(), whole, inside)
 }
 
-// A script of so many whole lines is answered so far, and ends so.
+// A script is answered as far as its whole lines go, and ends as given.
 fn check_cut<T: Wait + Abort>(
     rt: &T,
     alloc: Global,

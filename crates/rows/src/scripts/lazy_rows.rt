@@ -29,7 +29,7 @@ fn lazy_unmaps_are_answered(rt: HostRuntime) -> Result<(), Fail> {
     check_answers(&rt, rt.alloc(), rows.as_slice())
 }
 
-// A map and an unmap of each of so many pages, one after the other.
+// A map and an unmap of a page, this number of times.
 fn put_off(alloc: Global, pages: u64) -> Result<Vec<u8>, Fail> {
     let mut script = Vec::from_slice(alloc, b"domain lazy\n".as_slice())?;
     for page in 0..pages {

@@ -169,7 +169,7 @@ fn a_read_fails_before_a_report(rt: HostRuntime) -> Result<(), Fail> {
     Ok(())
 }
 
-// What a failed write of the report says is told in the place of a failed read or of a bad line.
+// A failed write of the report is the answer in the place of a failed read or of a bad line.
 #[test]
 fn a_write_of_a_report_fails(rt: HostRuntime) -> Result<(), Fail> {
     let bad: &[u8] = b"domain strict\nreport\n";
