@@ -29,7 +29,7 @@ ESCAPE = re.compile(rb"\\(?:(\\)|x([0-9a-f]{2})|\{([^*]+)\*([0-9]+)\})|(\\)", re
 NUMBER = re.compile(r"\{(hex )?(?:(\d+)\*)?n(?:\+(\d+))?\}")
 LOOP = re.compile(r"@ (\d+)\.\.(\d+)")
 # The rows whose scripts are cut at each byte.
-CUT = ["split-leaf.row", "lazy-unmap.row"]
+CUT = ["split-leaf.row", "lazy-reuse.row"]
 # Between two lines, the entries that are evicted of each cache, and what that is answered.
 EVICTED = 4
 EVICTIONS = b"".join(b"evict %s %d\n" % (cache, place) for place in range(EVICTED) for cache in (b"leaf", b"nonleaf", b"context"))
