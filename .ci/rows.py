@@ -28,6 +28,8 @@ SECONDS = 60
 ESCAPE = re.compile(rb"\\(?:(\\)|x([0-9a-f]{2})|\{([^*]+)\*([0-9]+)\})|(\\)", re.S)
 NUMBER = re.compile(r"\{(hex )?(?:(\d+)\*)?n(?:\+(\d+))?\}")
 LOOP = re.compile(r"@ (\d+)\.\.(\d+)")
+# What a call is answered for which the history has no room.
+FULL = "refused 15"
 # The rows whose scripts are cut at each byte.
 CUT = ["split-leaf.row", "lazy-reuse.row"]
 # Between two lines, the entries that are evicted of each cache, and what that is answered.
@@ -164,10 +166,10 @@ def faults_of(name):
 
 
 def fault_elsewhere(program, evicts):
-    """Why another program, which answers good lines and has no options but --frames, fails at a row, if it does."""
+    """Why another program, which answers good lines, has no history and no option but --frames, fails at a row, if it does."""
     for name in sorted(os.listdir(ROWS)):
         for number, run in enumerate(runs_of(name), 1):
-            if run.errors or {"--calls", "--iova"} & set(run.words):
+            if run.errors or FULL in run.output or {"--calls", "--iova"} & set(run.words):
                 continue
             fault = run.fault(program) or (evicts and is_evicted(run) and fault_where_evicted(run, program))
             if fault:
