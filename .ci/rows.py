@@ -168,8 +168,9 @@ def faults_of(name):
 def fault_elsewhere(program, evicts):
     """Why another program, which answers good lines, has no history and no option but --frames, fails at a row, if it does."""
     for name in sorted(os.listdir(ROWS)):
-        for number, run in enumerate(runs_of(name), 1):
-            if run.errors or FULL in run.output or {"--calls", "--iova"} & set(run.words):
+        runs = runs_of(name)
+        for number, run in enumerate(runs, 1):
+            if any(FULL in it.output for it in runs) or run.errors or {"--calls", "--iova"} & set(run.words):
                 continue
             fault = run.fault(program) or (evicts and is_evicted(run) and fault_where_evicted(run, program))
             if fault:
