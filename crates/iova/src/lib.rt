@@ -25,6 +25,3 @@ mod space;
 
 pub use piece::{PageState, Piece};
 pub use space::{RetireError, Space, TakeError};
-
-#[cfg(test)]
-mod tests;

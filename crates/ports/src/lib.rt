@@ -34,6 +34,3 @@ pub use desk::Desk;
 pub use known::OwnStep;
 pub use port::{Pass, Port};
 pub use rows::Rows;
-
-#[cfg(test)]
-mod tests;

@@ -20,8 +20,6 @@
 
 mod error;
 mod ring;
-#[cfg(test)]
-mod tests;
 
 pub use error::RingFull;
 pub use ring::Ring;

@@ -1,6 +1,6 @@
-use Rattle.ports.proofs.histories.Examples.{legal_one, legal_two, legal_three, mapped_is}
+use Rattle.vectors.proofs.Histories.{legal_one, legal_two, legal_three, mapped_is}
 use Rattle.std.proofs.Common.{arith}
-use Rattle.ports.proofs.tests.map_pages.Goals as goal
+use Rattle.vectors.proofs.hits.map_pages.Goals as goal
 
 pub enter-requires-clause-legal : goal.enter-requires-clause-legal
 enter-requires-clause-legal c = rw c.requires.empty.0 (omega arith, legal_one)

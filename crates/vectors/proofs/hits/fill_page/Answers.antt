@@ -1,7 +1,7 @@
 use Rattle.std.proofs.Common.{◌∙◌, ap}
 use Rattle.ports.specs.Seen.{Rows}
-use Rattle.ports.proofs.histories.Examples.{backed_page}
-use Rattle.ports.proofs.tests.fill_page.Goals as goal
+use Rattle.vectors.proofs.Histories.{backed_page}
+use Rattle.vectors.proofs.hits.fill_page.Goals as goal
 
 pub fill-requires-clause-lawful : goal.fill-requires-clause-lawful
 fill-requires-clause-lawful g c =

@@ -1,5 +1,5 @@
-use Rattle.ports.proofs.histories.Examples.{few_mapped, few_first, legal_first, legal_second, whole_is}
-use Rattle.ports.proofs.tests.request_pages.Goals as goal
+use Rattle.vectors.proofs.Histories.{few_mapped, few_first, legal_first, legal_second, whole_is}
+use Rattle.vectors.proofs.hits.request_pages.Goals as goal
 
 pub enter-requires-clause-legal : goal.enter-requires-clause-legal
 enter-requires-clause-legal c = rw c.requires.mapped.0 (few_mapped, legal_first)

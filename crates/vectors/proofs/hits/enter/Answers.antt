@@ -1,6 +1,6 @@
 use Rattle.std.proofs.Common.{[], ◌∷◌, ◌++◌}
-use Rattle.ports.proofs.histories.Examples.{empty_lawful}
-use Rattle.ports.proofs.tests.enter.Goals as goal
+use Rattle.ports.proofs.histories.EmptyWords.{empty_lawful}
+use Rattle.vectors.proofs.hits.enter.Goals as goal
 
 pub append-requires-clause-lawful : goal.append-requires-clause-lawful
 append-requires-clause-lawful c =

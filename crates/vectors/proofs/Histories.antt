@@ -1,9 +1,8 @@
--- The history of the tests is legal, and the domain backs what is filled.
-use Rattle.std.proofs.Common.{◌≡◌, ℕ, ◌+◌, true, ◌<◌, ◌≤◌, ◌⊎◌, inl, inr, zero, suc, List, [], ◌∷◌, ◌++◌, length, Some, IsSome, replicate}
-use Rattle.std.proofs.Common.{get_or, refl, sym, ap, subst, arith, true, ◌-◌}
+-- The history of the tests of hits is legal, and the domain backs what is filled.
+use Rattle.std.proofs.Common.{◌≡◌, ℕ, ◌+◌, ◌-◌, ◌<◌, ◌≤◌, ◌⊎◌, inl, inr, [], ◌∷◌, ◌++◌, length, Some, IsSome}
+use Rattle.std.proofs.Common.{refl, ap, arith, true}
 use Rattle.dmatypes.specs.declared.call.Call.TheVariants as calls
 use Rattle.dmatypes.specs.declared.call.Mode.TheVariants.{Strict}
-use Rattle.dmatypes.specs.declared.reply.Event.{Event}
 use Rattle.dmatypes.specs.declared.reply.Reply.TheVariants.{Made, Done, Mapped}
 use Rattle.dmatypes.specs.World.{World, AreFreePages, empty, empty_domain, is_within}
 use Rattle.dmatypes.proofs.numbers.Ranges.{within_is}
@@ -13,12 +12,9 @@ use Rattle.dmatypes.specs.Step.{Answers, IsStep, next}
 use Rattle.dmatypes.specs.History.{IsLegal, after, event}
 use Rattle.vtdbits.specs.Port.{port_word}
 use Rattle.vtdbits.specs.Translation.{target}
-use Rattle.ports.specs.Lawful.{IsBacked, IsLawfulAfter}
-use Rattle.ports.specs.Steps.{AreLawful, place_of}
-use Rattle.ports.specs.Examples.{mapped_history, request, whole_history}
+use Rattle.ports.specs.Lawful.{IsBacked}
+use Rattle.vectors.specs.Histories.{mapped_history, request, whole_history}
 use Rattle.dmatypes.specs.declared.limits.TheConstants.{MOST_DOMAINS}
-use Rattle.ports.specs.declared.rule.TheConstants.{ROW_WORDS}
-use Rattle.ports.proofs.histories.LawfulWords.{lawful_zero}
 
 made : World
 made = next (empty 64) (calls.Domain Strict) (Made 1)
@@ -119,17 +115,7 @@ pub whole_is : (mapped_history ++ request 0x1000 0x100000 ∷ []) ++ request 0x1
 unfolding mapped_history whole_history
 whole_is = refl
 
--- ---- words
-
--- the words of a new desk are lawful after any history
-pub empty_lawful : (frames : ℕ) (history : List Event) → AreLawful (IsLawfulAfter frames) history (replicate ROW_WORDS 0)
-empty_lawful frames history device slot d s =
-    subst (IsLawfulAfter frames history device) (sym (replicated ROW_WORDS (place_of device slot))) (lawful_zero frames history device)
-  where
-    replicated : (n k : ℕ) → ◌≡◌ {A = ℕ} (get_or (replicate n 0) k 0) 0
-    replicated zero k = refl
-    replicated (suc n) zero = refl
-    replicated (suc n) (suc k) = replicated n k
+-- ---- the words that are filled
 
 -- each of the 17 pages is backed
 pub backed_page : (place : ℕ) → place < 17 → IsBacked (after 64 whole_history) 3 (port_word (1 + place) (target (0x100 + place) 1))

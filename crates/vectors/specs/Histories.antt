@@ -1,4 +1,4 @@
--- The history of the tests: a strict domain, device 3 attached to it, 17 pages mapped at page 1 to frame 0x100, read
+-- The history of the tests of hits: a strict domain, device 3 attached to it, 17 pages mapped at page 1 to frame 0x100, read
 -- only, and two requests of the device.
 use Rattle.std.specs.Prelude.{ℕ, List, [], ◌∷◌, ◌++◌, true}
 use Rattle.dmatypes.specs.declared.call.Access.TheVariants.{Read}

@@ -1,6 +1,6 @@
-// What no contract says: words that differ, once and again around the page, and the text of an error.
+// What no contract of the ring says: words that differ, once and again around the page, and the text of an error.
 
-use crate::{Ring, RingFull};
+use queue::{Ring, RingFull};
 use std::process::Abort;
 use std::test::Fail;
 use vtdbits::Descriptor;

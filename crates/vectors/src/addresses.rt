@@ -1,5 +1,7 @@
-use super::*;
+// Device addresses taken, retired and released, and what is refused at the limit of pieces.
+
 use dmatypes::{Page, PageRange};
+use iova::{PageState, Piece, RetireError, Space, TakeError};
 use std::test::Fail;
 
 const LAST: u64 = 0x7FFFFFF;

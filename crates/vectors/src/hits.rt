@@ -1,16 +1,14 @@
-//! Each call once, over one history: a strict domain, device 3 attached to it, 17 pages mapped at page 1 to
-//! frame 0x100, read only, and two requests of the device, whose pages share a slot.
+// Each call of the ports once, over one history: a strict domain, device 3 attached to it, 17 pages mapped at page 1 to
+// frame 0x100, read only, and two requests of the device, whose pages share a slot. The laws of the ports stand behind them.
 
 ghost use Rattle.std.specs.Prelude.{◌≡◌, ◌+◌, ◌<◌, [], ◌∷◌, ◌++◌, length, replicate};
 ghost use Rattle.dmatypes.specs.History.{IsLegal};
 ghost use Rattle.vtdbits.specs.Port.{port_word};
 ghost use Rattle.vtdbits.specs.Translation.{target};
-ghost use Rattle.ports.specs.Examples.{mapped_history, whole_history};
+ghost use Rattle.vectors.specs.Histories.{mapped_history, whole_history};
 
-use crate::desk::Desk;
-use crate::port::Port;
-use crate::rows::Rows;
 use dmatypes::{Access, Call, Event, Frame, Mode, Reply, Rights, Whim};
+use ports::{Desk, Port, Rows};
 use std::process::Abort;
 use vtdbits::{PortWord, Translation, WidePage};
 
@@ -161,6 +159,6 @@ fn words_of_one_device(rt: HostRuntime) {
 
 #[test]
 fn laws(_rt: HostRuntime) {
-    crate::laws::keeps();
-    crate::laws::whole_run();
+    ports::laws::keeps();
+    ports::laws::whole_run();
 }
