@@ -34,6 +34,7 @@ def words():
 
 def fault():
     try:
+        os.makedirs(os.path.dirname(LIBRARY), exist_ok=True)
         built = subprocess.run(words(), cwd=FOLDER, stdout=subprocess.PIPE, stderr=subprocess.STDOUT, text=True)
     except OSError as error:
         return str(error)
