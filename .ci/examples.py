@@ -7,7 +7,7 @@ Each examples/NAME.script is run, and what is written compared with NAME.output;
 Each examples/words/NAME.words is a command line. The program is given these words, and SCRIPT at its standard input. Its standard
 output, standard error and status are compared with NAME.output, NAME.errors and NAME.status; where there is no such file, nothing
 is to be written there, or the status is to be 0. Besides, these texts are of printable ASCII, none of their lines but one that
-begins with `error: ` is over 100 columns, and a usage is a command that can be typed. With the word --store the texts are first
+begins with `error: ` is over 80 columns, and a usage is a command that can be typed. With the word --store the texts are first
 written anew: read them before you commit them.
 
 A file of words has one word a line. In it `\\` is a backslash, `\xHH` the byte of these two hexadecimal digits, and `\{TEXT*N}`
@@ -24,7 +24,7 @@ WORDS = f"{EXAMPLES}/words"
 VTDM = f"{TOP}/crates/vtdm/out/vtdm"
 # What each command line is given to read. Of it a full history answers the second line otherwise.
 SCRIPT = b"domain strict\ndomain lazy\n"
-COLUMNS = 100
+COLUMNS = 80
 SECONDS = 60
 # The endings of what is stored of a script, and the command that writes it.
 COMMANDS = {"output": ["run"], "report": ["report"], "iova": ["report", "--iova"]}

@@ -14,7 +14,8 @@ are numbers, and `{hex 4096*n}` one in hexadecimal. `\\` is a backslash, `\xHH` 
 `\{TEXT*N}` the text N times.
 
 Besides, each run whose domains are all strict is run again with entries of each cache evicted between all lines, and the answers
-are to be the same; and the scripts of CUT are cut at each byte. The last line of this script is `N passed, M failed`, a run each."""
+are to be the same; the scripts of CUT are cut at each byte; and each command meets input and output that fail. The last line of
+this script is `N passed, M failed`, a run each."""
 
 import os
 import re
@@ -178,22 +179,43 @@ def fault_elsewhere(program, evicts):
     return None
 
 
+def fault_of_end(words, said, **ends):
+    """Why the program doesn't end with this line on standard error and the status of failed input or output, if it doesn't."""
+    ran = subprocess.run([VTDM, *words], stderr=subprocess.PIPE, timeout=SECONDS, **ends)
+    return None if (ran.returncode, ran.stderr) == (1, said) else f"standard error is {ran.stderr!r}, the status {ran.returncode}"
+
+
+def faults_of_ends():
+    """Input that can't be read, and output that can't be written, of each command."""
+    with open("/dev/full", "wb") as full:
+        for words in (["run"], ["report"], ["report", "--iova"]):
+            folder = os.open(ROWS, os.O_RDONLY)
+            yield f"{words}, a folder as input", fault_of_end(words, b"input failed\n", stdin=folder, stdout=subprocess.DEVNULL)
+            os.close(folder)
+            yield f"{words}, a full output", fault_of_end(words, b"output failed\n", input=b"domain strict\n", stdout=full)
+
+
+def tried_of(name):
+    """Each thing that is tried of a file, and why it fails; of a bad file, why it's bad."""
+    if not name.endswith(".row"):
+        return [("name", "it doesn't end in .row")]
+    try:
+        return list(faults_of(name)) or [("row", "it has no run")]
+    except (ValueError, IndexError, OSError, subprocess.TimeoutExpired) as error:
+        return [("row", str(error) or "it can't be read")]
+
+
 def main():
     if not os.path.isfile(VTDM):
         print("rows: the program isn't built; bin/vtdm builds it")
         print("0 passed, 1 failed")
         return 1
-    passed = failed = 0
-    for name in sorted(os.listdir(ROWS)):
-        try:
-            tried = list(faults_of(name)) if name.endswith(".row") else [("name", "it doesn't end in .row")]
-        except (ValueError, IndexError, OSError, subprocess.TimeoutExpired) as error:
-            tried = [("row", str(error) or "it can't be read")]
-        for what, fault in tried or [("row", "it has no run")]:
-            passed, failed = passed + (fault is None), failed + (fault is not None)
-            if fault:
-                print(f"{name}, {what}: {fault}")
-    print(f"{passed} passed, {failed} failed")
+    tried = [(name, *it) for name in sorted(os.listdir(ROWS)) for it in tried_of(name)]
+    tried += [("failing ends", *it) for it in faults_of_ends()]
+    failed = [it for it in tried if it[2]]
+    for name, what, fault in failed:
+        print(f"{name}, {what}: {fault}")
+    print(f"{len(tried) - len(failed)} passed, {len(failed)} failed")
     return 1 if failed else 0
 
 
