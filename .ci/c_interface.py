@@ -17,7 +17,7 @@ import tempfile
 sys.dont_write_bytecode = True
 import c_header
 import c_package
-import c_rows
+import rows
 
 TOP = os.path.dirname(os.path.dirname(os.path.abspath(__file__)))
 TESTS = f"{TOP}/c/tests"
@@ -35,8 +35,7 @@ FLAVOURS = {
 }
 # The sources of each test, the words that link it, and its flavours beside the plain one.
 PROGRAMS = {
-    "rows": (["rows.c", "script.c"], [], [ADDRESS, VALGRIND]),
-    "edges": (["edges.c", "script.c"], [], [ADDRESS, VALGRIND]),
+    "rows": (["answers.c", "script.c"], [], [ADDRESS, VALGRIND]),
     "statuses": (["statuses.c"], [], [ADDRESS, VALGRIND]),
     "walk": (["walk.c"], [], [ADDRESS, VALGRIND]),
     "memory": (["memory.c"], ["-Wl,--wrap=malloc,--wrap=realloc,--wrap=free"], [ADDRESS]),
@@ -131,21 +130,19 @@ def check_texts(steps, room, folder):
 
 
 def fault_of_test(room, folder, name, flavour):
-    """A test is built and run; of two of them what they write is looked at too."""
+    """A test is built and run. That of the rows is run for each, and that of memory counts the calls."""
     sources, more, _ = PROGRAMS[name]
     words, runner = FLAVOURS[flavour]
     out = f"{room}/test"
     fault = ran(compile_words(folder, out, [f"{TESTS}/{it}" for it in sources], [*words, *more]))
     if fault:
         return fault
+    if name == "rows":
+        return rows.fault_elsewhere([*runner, out], evicts=flavour == "plain")
     fault, output = run([*runner, out])
     if fault or not re.search(r"^[1-9]\d* passed, 0 failed\s*\Z", output, re.M):
         return fault or f"it ends without its count: {output[-200:]!r}"
-    if flavour != "plain":
-        return None
-    if name == "memory":
-        return fault_of_calls(output)
-    return c_rows.fault_of_rows(run([out, "--list"])[1]) if name == "rows" else None
+    return fault_of_calls(output) if (name, flavour) == ("memory", "plain") else None
 
 
 def run_tests(steps, room, folder):

@@ -1,13 +1,13 @@
 #!/usr/bin/env python3
 r"""Runs the examples by the built program, and compares all that it writes with the stored texts.
 
-Each examples/NAME.script is run, and what is written compared with NAME.output, and with NAME.report what `vtdm report` writes
-where there is such a file.
+Each examples/NAME.script is run, and what is written compared with NAME.output; and what `vtdm report` writes with NAME.report, and
+`vtdm report --iova` with NAME.iova, where there are such files.
 
 Each examples/words/NAME.words is a command line. The program is given these words, and SCRIPT at its standard input. Its standard
 output, standard error and status are compared with NAME.output, NAME.errors and NAME.status; where there is no such file, nothing
 is to be written there, or the status is to be 0. Besides, these texts are of printable ASCII, none of their lines but one that
-begins with `error: ` is over 100 columns, and a usage is a command that can be typed. With the word --store the texts are first
+begins with `error: ` is over 80 columns, and a usage is a command that can be typed. With the word --store the texts are first
 written anew: read them before you commit them.
 
 A file of words has one word a line. In it `\\` is a backslash, `\xHH` the byte of these two hexadecimal digits, and `\{TEXT*N}`
@@ -24,8 +24,10 @@ WORDS = f"{EXAMPLES}/words"
 VTDM = f"{TOP}/crates/vtdm/out/vtdm"
 # What each command line is given to read. Of it a full history answers the second line otherwise.
 SCRIPT = b"domain strict\ndomain lazy\n"
-COLUMNS = 100
+COLUMNS = 80
 SECONDS = 60
+# The endings of what is stored of a script, and the command that writes it.
+COMMANDS = {"output": ["run"], "report": ["report"], "iova": ["report", "--iova"]}
 # The endings of the stored texts, and what they are.
 STORED = {"output": "standard output", "errors": "standard error", "status": "status"}
 ESCAPE = re.compile(rb"\\(?:(\\)|x([0-9a-f]{2})|\{([^*]+)\*([0-9]+)\})|(\\)", re.S)
@@ -41,11 +43,11 @@ def names_of(folder, ending):
     return sorted(it[: -len(ending)] for it in os.listdir(folder) if it.endswith(ending))
 
 
-def fault_of_script(name, command, wanted):
+def fault_of_script(name, words, wanted):
     """Why the program's answer to the script isn't the one that is wanted, if it isn't."""
     if not os.path.isfile(wanted):
         return "there is no such file"
-    ran = subprocess.run([VTDM, command], input=bytes_of(f"{EXAMPLES}/{name}.script"), capture_output=True, timeout=SECONDS)
+    ran = subprocess.run([VTDM, *words], input=bytes_of(f"{EXAMPLES}/{name}.script"), capture_output=True, timeout=SECONDS)
     if ran.returncode or ran.stderr:
         return f"status {ran.returncode}, {ran.stderr!r}"
     return None if ran.stdout == bytes_of(wanted) else f"the program writes {ran.stdout!r}"
@@ -54,11 +56,10 @@ def fault_of_script(name, command, wanted):
 def faults_of_scripts():
     """Each script's command with its stored text, and why it fails."""
     for name in names_of(EXAMPLES, ".script"):
-        wanted = [("run", f"{EXAMPLES}/{name}.output")]
-        if os.path.isfile(f"{EXAMPLES}/{name}.report"):
-            wanted.append(("report", f"{EXAMPLES}/{name}.report"))
-        for command, path in wanted:
-            yield path, fault_of_script(name, command, path)
+        for ending, words in COMMANDS.items():
+            path = f"{EXAMPLES}/{name}.{ending}"
+            if ending == "output" or os.path.isfile(path):
+                yield path, fault_of_script(name, words, path)
 
 
 def unescaped(found):

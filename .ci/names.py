@@ -13,6 +13,7 @@ import sys
 
 TOP = os.path.dirname(os.path.dirname(os.path.abspath(__file__)))
 CRATES = f"{TOP}/crates"
+ROWS = f"{TOP}/examples/rows"
 # What stands before the name that a file of definitions gives to something.
 DEFINED = r"(?:abbrev |unfoldable )?pub (?:record |data )?"
 
@@ -90,8 +91,12 @@ def lacks_edit(row):
 
 
 def lacks_test(row):
+    """A test is a function of a crate, or a stored row."""
     lost = []
     for name in words(row[1]):
+        if name.endswith(".row"):
+            lost += [] if os.path.isfile(f"{ROWS}/{name}") else [name]
+            continue
         crate, *module, function = name.split("::")
         text = sources(crate).get("::".join(module), "")
         if not re.search(rf"#\[test\]\n(?:\s*//[^\n]*\n)*\s*fn {function}\(", text):

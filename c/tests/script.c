@@ -2,11 +2,12 @@
 
 #include <inttypes.h>
 #include <stdarg.h>
+#include <stdbool.h>
 #include <stdio.h>
 #include <stdlib.h>
 #include <string.h>
 
-enum { MOST_WORDS = 24, LONGEST_LINE = 512, EVICTED_PLACES = 4, FAULTS = 32 };
+enum { MOST_WORDS = 24, LONGEST_LINE = 512, FAULTS = 32 };
 
 /* The words of a line. A number is decimal, or hexadecimal behind 0x. */
 struct words {
@@ -156,12 +157,4 @@ void script_report(struct vtdm *manager, unsigned events, char *into, size_t roo
         if (domain.status == VTDM_OK)
             say(&text, "device %" PRIu64 " domain %" PRIu64 "\n", device, domain.value);
     }
-}
-
-bool script_evict(struct vtdm *manager) {
-    bool done = true;
-    for (uint64_t place = 0; place < EVICTED_PLACES; place++)
-        for (uint64_t cache = VTDM_CACHE_LEAF; cache <= VTDM_CACHE_CONTEXT; cache++)
-            done = vtdm_evict(manager, cache, place).status == VTDM_OK && done;
-    return done;
 }

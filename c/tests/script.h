@@ -4,7 +4,6 @@
 
 #include "vtdm.h"
 
-#include <stdbool.h>
 #include <stddef.h>
 
 /* Answers one line, without its newline, as `vtdm run` does, into `reply`, which has `room` bytes. The line is a good one. */
@@ -12,8 +11,5 @@ void script_answer(struct vtdm *manager, const char *line, char *reply, size_t r
 
 /* Writes the report of a manager after `events` calls as `vtdm report` does, into `text`, which has `room` bytes. */
 void script_report(struct vtdm *manager, unsigned events, char *text, size_t room);
-
-/* Evicts the first entries of all caches; true where each eviction is done. */
-bool script_evict(struct vtdm *manager);
 
 #endif

@@ -43,7 +43,7 @@ impl Driver {
         })
     }
 
-    /// Maps so many pages from a host frame on, at a multiple of 2^`order` pages, and answers the byte address
+    /// Maps `pages` pages from a host frame on, at a multiple of 2^`order` pages, and answers the byte address
     /// of the first.
     pub(crate) fn map(&mut self, frame: u64, pages: u64, order: u64) -> Result<u64, Trouble> {
         count(&mut self.made)?;
@@ -88,7 +88,7 @@ impl Driver {
         }
     }
 
-    /// Unmaps so many pages from a byte address on, and answers how many retired records went for it.
+    /// Unmaps `pages` pages from a byte address on, and answers how many retired records went for it.
     pub(crate) fn unmap(&mut self, address: u64, pages: u64) -> Result<u64, Trouble> {
         count(&mut self.made)?;
         Ok(self.state.unmap(self.domain, address, pages)?)

@@ -21,7 +21,7 @@ pub(crate) enum Failure {
     Subject(&'static str, Trouble),
 }
 
-// Nothing is read but what `Trouble` tells of.
+// Nothing is read but what `Trouble` names.
 impl From<io::Error> for Failure {
     fn from(_: io::Error) -> Failure {
         Failure::Output

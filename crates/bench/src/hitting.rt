@@ -16,7 +16,7 @@ use std::sync::{Mutex, Wait};
 use std::thread::{Threads, join};
 use std::time::Clock;
 
-/// By what so many threads hit.
+/// By what a number of threads hit.
 #[derive(Clone, Copy)]
 pub(crate) enum Hits {
     /// Each by the port of a device of its own: 0, 1 and so on.
@@ -43,7 +43,7 @@ const UNSTATED: u64 = 17 * PAGE_BYTES + OFFSET;
 // What the devices reach there.
 const HOST: u64 = PAGE_BYTES * UNALIGNED_FRAME + OFFSET;
 
-/// What each of so many rounds takes on the slowest of the threads that hit.
+/// What each round takes on the slowest of the threads that hit.
 pub(crate) fn time_hits<C: Clock + Wait + Threads + Sync>(
     clock: &C,
     alloc: Global,
@@ -137,7 +137,7 @@ fn request_of(device: u64) -> Call {
     }
 }
 
-// The work of so many threads, each by a port of its own.
+// The work of the threads, each by a port of its own.
 fn hitters<'a, B: Owner>(
     alloc: Global,
     ports: Vec<Port<B>>,
@@ -233,7 +233,7 @@ fn time_locked<B: Owner + Send + Sync, C: Clock + Wait + Threads + Sync>(
     time_together(clock, rounds, works, &Meeting::new(threads, 0))
 }
 
-// The work of so many threads, by one port.
+// The work of the threads, by one port.
 fn lockers<'a, B: Owner, C: Wait>(
     clock: &'a C,
     alloc: Global,

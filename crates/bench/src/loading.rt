@@ -27,7 +27,7 @@ struct Words {
     word: AtomicU64,
 }
 
-/// What each of so many rounds takes on the slowest of so many threads that load the same two words.
+/// What each round takes on the slowest of the threads that load the same two words.
 pub(crate) fn time_loads<C: Clock + Threads + Sync>(
     clock: &C,
     alloc: Global,
@@ -42,7 +42,7 @@ pub(crate) fn time_loads<C: Clock + Threads + Sync>(
     time_together(clock, rounds, works, &Meeting::new(threads, 0))
 }
 
-// The work of so many threads.
+// The work of the threads.
 fn loaders(alloc: Global, words: &Words, threads: u32) -> Result<Vec<Loading<'_>>, AllocError> {
     let mut works = Vec::new(alloc);
     for _ in 0..threads {

@@ -1,4 +1,9 @@
-//! `bench`: measures what calls cost, and checks their answers while it does.
+//! `bench`: measures what calls cost, and checks their answers while it does. docs/PERFORMANCE.md has what it measured.
+//!
+//! ```text
+//! bench --rounds 100000
+//! bench --rounds 1000 --turns 1 --only NAME
+//! ```
 #![tactic(auto)]
 
 mod crowding;

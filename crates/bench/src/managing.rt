@@ -22,7 +22,7 @@ pub(crate) enum Way {
     Locking,
 }
 
-/// What each of so many rounds takes, each a map of one page into a strict domain and its unmap. Where a device is attached
+/// What each round takes, a map of one page into a strict domain and its unmap. Where a device is attached
 /// to the domain, the unmap clears its row.
 pub(crate) fn time_manager<C: Clock + Wait>(
     clock: &C,

@@ -10,7 +10,7 @@ use arrayvec::ArrayVec;
 use dmatypes::{MOST_ORDER, MOST_RECORDS, MOST_SEGMENTS, Mode, PAGE_BYTES, SPAN_PAGES, Segment};
 use std::alloc::Global;
 
-/// What is mapped: so many pages from a host frame on, at a multiple of 2^`order` pages, and so at this byte
+/// What is mapped: pages from a host frame on, at a multiple of 2^`order` pages, and so at this byte
 /// address where the domain is empty.
 #[derive(Clone, Copy)]
 pub(crate) struct Shape {
@@ -52,7 +52,7 @@ impl Work for Mapping {
     }
 }
 
-// So many segments of one page each, as many as a map takes.
+// Segments of one page each, as many as a map takes.
 const SEGMENTS: u64 = MOST_SEGMENTS as u64;
 
 // The frames of two segments that follow one another are so far apart.
@@ -127,7 +127,7 @@ pub(crate) enum Flushing {
     InTwoHalves,
 }
 
-/// Maps one page into a lazy domain and unmaps it, and flushes once so many pages are put off. No page is handed out
+/// Maps one page into a lazy domain and unmaps it, and flushes once a number of pages are put off. No page is handed out
 /// again before that.
 #[derive(Drop)]
 pub(crate) struct Deferred {
@@ -139,7 +139,7 @@ pub(crate) struct Deferred {
 }
 
 impl Deferred {
-    /// So many pages are put off before a flush: at least one, and at most as many as a domain keeps.
+    /// The pages that are put off before a flush: at least one, and at most as many as a domain keeps.
     pub(crate) fn new(alloc: Global, most: u64, flushing: Flushing) -> Result<Deferred, Trouble> {
         Ok(Deferred {
             driver: Driver::new(alloc, Mode::Lazy)?,

@@ -56,7 +56,7 @@ pub(crate) fn program<C: Clock + Wait + Threads + Sync, W: Write + Drop, E: Writ
 }
 
 // The exit status where the words ask for help, which goes to the output, or are none of the command line's,
-// which is told on standard error.
+// which standard error names.
 fn without_matches<W: Write, E: Write>(error: &Error, output: &mut W, errors: &mut E) -> u8 {
     if error.kind() == ErrorKind::OutOfMemory {
         return fail(errors, Failure::NoMemory);
@@ -71,7 +71,7 @@ fn without_matches<W: Write, E: Write>(error: &Error, output: &mut W, errors: &m
     }
 }
 
-/// The exit status where the words of the command line can't be had, told on standard error: memory lacked,
+/// The exit status where the words of the command line can't be had, with a line on standard error: memory lacked,
 /// or a word isn't UTF-8.
 pub(crate) fn without_words<E: Write + Drop>(mut errors: E, kind: io::ErrorKind) -> u8 {
     if kind == io::ErrorKind::OutOfMemory {

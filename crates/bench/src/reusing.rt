@@ -41,7 +41,7 @@ pub(crate) enum Sizes {
     Mixed,
 }
 
-/// Takes a range while so many are live, and then frees one of these.
+/// Takes a range while a number of others are live, and then frees one of these.
 #[derive(Drop)]
 pub(crate) struct Reusing {
     space: Space,
@@ -179,7 +179,7 @@ fn order_of(pages: u64) -> u64
     u64::from(bits).min(MOST_ORDER)
 }
 
-// So many pages at a multiple of 2^`order`.
+// A number of pages at a multiple of 2^`order` pages.
 fn take(space: &mut Space, pages: u64, order: u64) -> Result<PageRange, Trouble>
     requires some { 1 ≤ pages }
     requires few { pages ≤ MOST_PAGES }

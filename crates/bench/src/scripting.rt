@@ -69,7 +69,7 @@ unmap 1 0x4000 1
 flush 1
 ";
 
-/// What each line of a script takes, of which at least so many count.
+/// What each line of a script takes, of which at least `rounds` count.
 pub(crate) fn time_script<C: Clock + Wait>(
     clock: &C,
     alloc: Global,
@@ -90,7 +90,7 @@ pub(crate) fn time_script<C: Clock + Wait>(
     Ok(each(spent, counted.ok_or(Trouble::Wrong)?))
 }
 
-// A script with so many parts.
+// A script with this number of parts.
 fn text_of(alloc: Global, lines: Lines, parts: u64) -> Result<String, AllocError> {
     let mut text = String::new(alloc);
     text.push_str(lines.head())?;

@@ -11,8 +11,8 @@ use std::thread::Threads;
 use std::time::{Clock, Instant};
 use storm::{MOST_DEVICES, MOST_DRIVERS, MOST_WORKER_CALLS, OpenGate, storm};
 
-/// What each call takes of a storm of so many drivers, as many devices, and the unit: all the time of the storm, over its
-/// events. Each worker makes so many calls as there are rounds, or the most that a storm's worker makes. The manager and the
+/// What each call takes of a storm of drivers, as many devices, and the unit: all the time of the storm, over its
+/// events. Each worker makes as many calls as there are rounds, or the most that a storm's worker makes. The manager and the
 /// threads are made in that time too.
 pub(crate) fn time_storm<C: Clock + Wait + Threads + Sync>(
     clock: &C,

@@ -34,11 +34,11 @@ enum Kind {
     MapList,
     MapCrowded,
     Split,
-    // With a flush after so many rounds.
+    // With a flush after this number of rounds.
     MapLazily(u64, Flushing),
-    // Behind so many live pieces.
+    // Behind this number of live pieces.
     Take(u32),
-    // While so many ranges are live.
+    // While this number of ranges are live.
     Reuse(u32, Freed, Sizes),
     TakeBehindHoles,
     TakeBursts,
@@ -47,11 +47,11 @@ enum Kind {
     Request(bool),
     // Whether a device is attached to the domain.
     Manage(Way, bool),
-    // On so many threads.
+    // On this number of threads.
     Load(u32),
     Hit(Hits),
     Script(Lines),
-    // Of so many drivers, and as many devices.
+    // Of this number of drivers, and as many devices.
     Storm(u64),
 }
 
@@ -371,7 +371,7 @@ impl Subject {
         Some((calls, calls * devices / (2 * devices + 1)))
     }
 
-    /// What each of so many rounds takes by the clock. What is measured is made anew for them.
+    /// What each round takes by the clock. What is measured is made anew for them.
     pub(crate) fn measure<C: Clock + Wait + Threads + Sync>(
         &self,
         clock: &C,

@@ -43,7 +43,7 @@ impl Tenths {
     }
 }
 
-/// What each of so many rounds takes by the clock.
+/// What each round takes by the clock.
 pub(crate) fn time<C: Clock, W: Work>(
     clock: &C,
     rounds: NonZeroU32,
@@ -57,7 +57,7 @@ pub(crate) fn time<C: Clock, W: Work>(
     Ok(each(spent, rounds))
 }
 
-/// What each of so many equal parts takes.
+/// What each of a number of equal parts takes.
 pub(crate) fn each(spent: Duration, parts: NonZeroU32) -> Tenths
     ensures { result.0 ≡ 10 * as_nanos spent / non_zero_u32_get parts }
 {

@@ -10,7 +10,7 @@ use std::time::Clock;
 // Turns that a thread yields at most for the others.
 const TURNS: u64 = 100_000_000;
 
-/// Where threads wait for one another before they begin, and tell that they are done.
+/// Where threads wait for one another before they begin, and say that they are done.
 #[derive(Drop)]
 pub(crate) struct Meeting {
     threads: u64,
@@ -20,7 +20,7 @@ pub(crate) struct Meeting {
 }
 
 impl Meeting {
-    /// Of so many threads that are timed, and so many others.
+    /// For the threads that are timed, and the others.
     pub(crate) fn new(timed: u32, others: u32) -> Meeting {
         Meeting {
             threads: u64::from(timed) + u64::from(others),
@@ -52,7 +52,7 @@ impl Meeting {
     }
 }
 
-/// What each of so many rounds takes on the slowest of several threads, which begin together, each with a work of its own.
+/// What each round takes on the slowest of several threads, which begin together, each with a work of its own.
 pub(crate) fn time_together<C: Clock + Threads + Sync, W: Work + Send + Drop>(
     clock: &C,
     rounds: NonZeroU32,

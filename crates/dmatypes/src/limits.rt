@@ -1,6 +1,6 @@
 //! Limits of calls, and of what a manager keeps (own).
 
-/// The ids of domains are 1 to so many.
+/// The ids of domains are 1 to this number.
 pub const MOST_DOMAINS: u64 = 15;
 
 /// The numbers of devices are below it: one bus, one row of contexts.

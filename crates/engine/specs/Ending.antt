@@ -101,7 +101,7 @@ left_by_all (d ∷ ds) c = left_by_all ds (left_by d c)
 abbrev pub taken_after : List Descriptor → List Descriptor → List Descriptor
 taken_after ds taken = reverse ds ++ take (CAPACITY + 1 - length ds) taken
 
--- a tree of this root, and so many records that could be released, while so many table frames are free
+-- a tree of this root, and the number of records that could be released, while this number of table frames is free
 abbrev pub shown_of : ℕ → ℕ → ℕ → Option Shown
 shown_of root records free = Some (Records root records free)
 
@@ -109,7 +109,7 @@ shown_of root records free = Some (Records root records free)
 abbrev pub domain_shown : Pool → Domain → Option Shown
 domain_shown pool domain = shown_of domain.root (length domain.records) (length pool.free)
 
--- a tree of this root that states no page of the range, and its record that could be released, while so many are free
+-- a tree of this root that states no page of the range, and its record that could be released, while this number of frames is free
 abbrev pub record_shown : ℕ → Range → ℕ → Option Shown
 record_shown root range free = Some (OneRecord root range free)
 

@@ -9,7 +9,7 @@ use Rattle.dmatypes.specs.Rights.{bits_of}
 use Rattle.tables.specs.Segments.{AreSegments}
 use Rattle.engine.specs.declared.wanted.Wanted.{Wanted}
 
--- a segment begins at a table frame, of which there are so many
+-- a segment begins at a table frame, a number below `frames`
 abbrev pub AreOwned : ℕ → List Segment → Type 0
 AreOwned frames segments = SomeHas (λ s. s.frame < frames) segments
 

@@ -3,6 +3,7 @@ pub mod Judged
 pub mod Placing
 pub mod Ending
 pub mod Ready
+pub mod Spaces
 pub mod State
 pub mod Hits
 pub mod Quarantine

@@ -1,4 +1,4 @@
--- What a method of the state does, and which states a history goes along.
+-- What a method of the state does, and which states a history follows.
 use Rattle.std.specs.Prelude.{◌≡◌, ℕ, ◌+◌, List, [], ◌∷◌}
 use Rattle.dmatypes.specs.declared.call.Call.{Call}
 use Rattle.dmatypes.specs.declared.reply.Reply.{Reply}

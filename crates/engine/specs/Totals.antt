@@ -1,4 +1,4 @@
--- What a report tells of the state.
+-- What a report says of the state.
 use Rattle.std.specs.Prelude.{ℕ, ◌+◌, ◌-◌, List, Option, None, Some, length, sum_by}
 use Rattle.iova.specs.declared.piece.PageState.{PageState}
 use Rattle.iova.specs.declared.piece.PageState.TheVariants.{Free, Live, Retired}
@@ -9,7 +9,7 @@ use Rattle.engine.specs.declared.state.totals.Totals.{Totals}
 use Rattle.engine.specs.Domains.{Domain}
 use Rattle.engine.specs.State.{State}
 
--- so many pages, where they are live
+-- this number of pages, where they are live
 abbrev pub live_as : PageState → ℕ → ℕ
 live_as Free pages = 0
 live_as Live pages = pages

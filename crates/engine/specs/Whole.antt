@@ -15,7 +15,7 @@ one_if_there (Some domain) = 1
 abbrev pub domain_count : List (Option Domain) → ℕ
 domain_count domains = sum_by one_if_there domains
 
--- so many rooms, one for each place with no domain; their stack has room for all
+-- there are `rooms` rooms, one for each place with no domain; their stack has room for all
 pub record HasRooms (rooms capacity : ℕ) (domains : List (Option Domain)) : Type 0 where
   pub count : rooms + domain_count domains ≡ MOST_DOMAINS
   pub roomy : MOST_DOMAINS ≤ capacity
@@ -28,7 +28,7 @@ AllAreMade m = (h : Domain) → IsIn (Some h) m.domains → AreMadeBefore (m.iom
 abbrev pub AllAreBegun : State → Type 0
 AllAreBegun m = (h : Domain) → IsIn (Some h) m.domains → h.begun ≤ m.iommu.sent
 
--- it is a state of some world, with places for domains 1 to 15, the entries of devices 0 to 15 and so many table frames;
+-- it is a state of some world, with places for domains 1 to 15, the entries of devices 0 to 15 and this number of table frames;
 -- only descriptors of tickets wait between calls; no more waits were sent than calls made, and no more steps of the unit made
 -- and left to make than three for each: two descriptors are sent by a call at most, and one step finds none; the next wait is
 -- sent after all records of all domains were made

@@ -23,7 +23,7 @@ use tables::{Pool, Tree};
 use unit::{Contexts, Unit};
 use vtdbits::{ContextEntry, Descriptor, DeviceNumber, DomainId};
 
-// A wait writes one of so many statuses.
+// A wait writes one of this number of statuses.
 const STATUSES: u64 = 1 << 32;
 
 /// The row of context entries, the ring of descriptors, the unit that reads both, the number of the last wait that
@@ -76,7 +76,7 @@ impl Iommu {
         }
     }
 
-    // The same, as after so many waits that are all done.
+    // The same, as after `waits` waits that are all done.
     #[cfg(test)]
     pub(crate) fn after(waits: u64) -> Iommu
         ensures { result ≡ record {

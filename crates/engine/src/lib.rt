@@ -1,5 +1,19 @@
-//! The sequential manager: table frames, domains with their address spaces and trees, and the devices that are
-//! attached to them. Each method of the state is a step of the model.
+//! The sequential manager, for one thread at a time: table frames, domains with their address spaces and trees, the devices that
+//! are attached to them, the invalidation queue and the unit. Each method is a step of the model.
+//!
+//! ```rust
+//! use dmatypes::Mode;
+//! use engine::State;
+//!
+//! // 64 table frames. Frame 0x100 is mapped to read and to write, unmapped lazily, and its page is released by a flush.
+//! let mut state = State::new(rt.alloc(), 64)?;
+//! assert_eq!(rt; state.domain(Mode::Lazy), Ok(1));
+//! assert_eq!(rt; state.map(1, 0x100, 1, 0, 3), Ok(0x1000));
+//! assert_eq!(rt; state.unmap(1, 0x1000, 1), Ok(0));
+//! assert_eq!(rt; state.flush(1), Ok(1));
+//! ```
+//!
+//! A caller owes that fewer than 2^56 calls were made of the state (`CALLS_END`). crates/bench/src/driver.rt counts them beside it.
 #![tactic(auto)]
 
 mod domain;
@@ -12,5 +26,5 @@ mod state;
 mod ticket;
 mod wanted;
 
-pub use state::{Answer, DomainTotals, State, Totals};
+pub use state::{Answer, DomainTotals, RetiredRecord, State, Totals};
 pub use unit::Hit;

@@ -36,12 +36,14 @@ use vtdbits::{ContextEntry, DeviceNumber, DomainId};
 mod attachments;
 mod flushing;
 mod performing;
+mod spaces;
 #[cfg(test)]
 mod tests;
 mod totals;
 mod walkable;
 
 use flushing::has_ticket;
+pub use spaces::RetiredRecord;
 pub use totals::{DomainTotals, Totals};
 
 // The places for tickets.
@@ -81,7 +83,7 @@ impl Model for State {
 }
 
 impl State {
-    /// A state with no domain and no attached device, with so many table frames.
+    /// A state with no domain and no attached device, with `frames` table frames.
     pub fn new(alloc: Global, frames: u64) -> Result<State, AllocError>
         requires some { LEAST_TABLE_FRAMES ≤ frames }
         requires few { frames ≤ MOST_TABLE_FRAMES }
@@ -282,7 +284,7 @@ impl State {
         Ok(answer)
     }
 
-    /// Ends so many live pages of a domain, from a byte address on, and answers how many retired records went for it. In
+    /// Ends `pages` live pages of a domain, from a byte address on, and answers how many retired records went for it. In
     /// a strict domain the pages are invalidated and free when it answers; in a lazy one they become its last record,
     /// and where 256 were there, these are flushed first. Refuses, and ends nothing, with `NoDomain`, `BadRange` (no
     /// multiple of 4,096, or a range that can't be mapped at once), `NotLive`, `TooManyPieces`, or `NoFrames` (more leaves
@@ -329,7 +331,7 @@ impl State {
         self.iommu.unit.evict(kind, place);
     }
 
-    /// What the type of a state keeps, told to its caller.
+    /// What the type of a state keeps, as a fact for its caller.
     pub fn keeps(&self)
         ensures { IsWhole self.now.pool.frames self.now }
     {

@@ -7,7 +7,7 @@ ghost use Rattle.dmatypes.specs.Rights.{AreRights, bits_of};
 
 use dmatypes::Rights;
 
-/// So many pages at a multiple of 2^`order`, with these rights.
+/// A number of pages at a multiple of 2^`order` pages, with these rights.
 #[derive(Clone, Copy)]
 pub(crate) struct Wanted {
     pub(crate) pages: u64,

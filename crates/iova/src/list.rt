@@ -47,7 +47,7 @@ pub(crate) fn place(pieces: &[Piece], page: u64) -> usize
     low
 }
 
-/// The lowest start of so many free pages that is a multiple of the unit.
+/// The lowest start of a run of `pages` free pages that is a multiple of the unit.
 pub(crate) fn lowest_fit(pieces: &[Piece], pages: u64, unit: u64) -> Option<Fit>
     requires ordered { IsOrdered 1 pieces.now }
     requires bounded { All (λ p. p.last < NUMBERS_END) pieces.now }
@@ -88,7 +88,7 @@ pub(crate) fn state_of(pieces: &[Piece], page: u64) -> Option<PageState>
     }
 }
 
-/// Where so many pages are all live, the index of the piece that the last of them lies in. They begin at or
+/// Where `pages` pages are all live, the index of the piece that the last of them lies in. They begin at or
 /// before the piece at an index.
 pub(crate) fn live_end(pieces: &[Piece], from: usize, first: u64, pages: u64) -> Option<usize>
     requires ordered { IsOrdered 1 pieces.now }
@@ -124,7 +124,7 @@ pub(crate) fn live_end(pieces: &[Piece], from: usize, first: u64, pages: u64) ->
     None
 }
 
-/// Whether so many pages cut a piece. The first and the last of them lie in the pieces at two indexes.
+/// Whether these pages cut a piece. The first and the last of them lie in the pieces at two indexes.
 pub(crate) fn cuts_piece(pieces: &[Piece], from: usize, to: usize, first: u64, pages: u64) -> bool
     requires ordered { IsOrdered 1 pieces.now }
     requires some_pages { 1 ≤ pages }

@@ -18,7 +18,7 @@ const MOST_PIECES_TO_CUT: usize = MOST_PIECES - 2;
 /// Why no pages are taken.
 #[derive(Clone, Copy, Debug, PartialEq, Eq, Error)]
 pub enum TakeError {
-    /// No aligned range of so many free pages exists.
+    /// No aligned range of that length is free.
     #[error("no aligned range of so many free pages")]
     NoRange,
     /// Taking the lowest such range would cut a piece, and there are more than 1,022.
@@ -114,7 +114,7 @@ impl Space {
         list::state_of(&self.pieces, page.number())
     }
 
-    /// Makes so many free pages, 1 to 4,096, one live piece, and answers the first of them: the lowest that is
+    /// Makes `pages` free pages, 1 to 4,096, one live piece, and answers the first of them: the lowest that is
     /// a multiple of 2^order (order 0 to 9). Where it is refused, nothing has changed.
     #[inline(always)]
     pub fn take(&mut self, pages: u64, order: u64) -> Result<Page, TakeError>

@@ -68,7 +68,7 @@ pub record IsNamedBy (seed : Seed) (name parts shares room frames : ℕ) (rows :
   pub rows_are : seed.rows ≡ rows
 
 -- the history is legal, the state is one of the world after it, with all places for domains and devices and nothing
--- that waits in the ring but descriptors of tickets, the history goes along states from a new one to this one, it is no
+-- that waits in the ring but descriptors of tickets, the history follows states from a new one to this one, it is no
 -- longer than the room, and the state has counted its calls; every word that was last stored in the rows is lawful after the history
 pub record IsKept (frames room : ℕ) (a : Book) : Type 0 where
   pub legal : IsLegal frames a.history

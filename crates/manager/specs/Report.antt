@@ -60,6 +60,6 @@ device_lines m (suc n) = device_lines m n ++ line_of_device n (attached (slice_g
 abbrev pub head_lines : ℕ → Totals → List ℕ
 head_lines events t = events_line events ++ frames_line t ++ tickets_line t.tickets ++ ring_line t.pending
 
--- the report of a history of so many events and of the state after it
+-- the report of a history of this number of events and of the state after it
 unfoldable pub report_text : ℕ → State → List ℕ
 report_text events m = head_lines events (totals_of m) ++ domain_lines m MOST_DOMAINS ++ device_lines m DEVICES

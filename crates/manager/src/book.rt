@@ -32,7 +32,7 @@ use std::sync::ledger::Blank;
 pub struct HistoryFull;
 
 /// The state, the history of its calls, and the desk that stores port words and makes the history known. Its type keeps
-/// that the history is legal, that the state fits the world after it, that the history goes along states by the state's
+/// that the history is legal, that the state fits the world after it, that the history follows states by the state's
 /// methods alone, and that every word in the rows is lawful after it.
 #[derive(Drop)]
 pub struct Book<B: Owner> {
@@ -98,6 +98,13 @@ impl<B: Owner> Book<B> {
         self.history.as_slice()
     }
 
+    /// The state after the events.
+    pub fn state(&self) -> &State
+        ensures { result.now ≡ self.now.state }
+    {
+        &self.state
+    }
+
     /// Replaces a report's text by what the book holds.
     pub fn write_report(&self, report: &mut Report)
         ensures { report.new ≡ report_text (length self.now.history) self.now.state }
@@ -105,7 +112,7 @@ impl<B: Owner> Book<B> {
         report.tell(self.history.len() as u64, &self.state);
     }
 
-    /// What a book keeps, told to its caller.
+    /// What a book keeps, as a fact for its caller.
     pub fn keeps(&self)
         ensures { IsKept B.frames B.room self.now }
     {
@@ -158,7 +165,7 @@ impl<B: Owner> Book<B> {
         History { book }
     }
 
-    /// Makes a call and enters it, and tells the share the whole history. The number is the event's place in the history,
+    /// Makes a call and enters it; the share has then seen the whole history. The number is the event's place in the history,
     /// from 1. A refused call is entered too; `HistoryFull` comes exactly where the history has no room left.
     pub fn call(
         &mut self,
@@ -192,7 +199,7 @@ impl<B: Owner> Book<B> {
             return Err(HistoryFull);
         }
         let Answer { reply, hit } = state.perform(&call);
-        // It changes nothing: its contract tells what every state keeps.
+        // It changes nothing: its contract says what every state keeps.
         state.keeps();
         let event = Event { call, reply };
         enter(desk, &rows.words, state, &event, hit);

@@ -69,7 +69,7 @@ fn only(device: u64) -> u16
     if device < 16 { 1 << device } else { 0 }
 }
 
-// Whether an unmap in a domain of this mode took pages away, that released so many records: in a lazy one all, or none.
+// Whether an unmap in a domain of this mode took pages away, that released `released` records: in a lazy one all, or none.
 fn takes_away(mode: Option<Mode>, released: u64) -> bool
     ensures { IsTrue result ↔ IsSomeAnd mode (λ m. TakesAway m released) }
 {

@@ -64,7 +64,7 @@ impl<B: Owner> History<B> {
         ensures events { result.now ≡ self.now.history }
         ensures kept { IsKept B.frames B.room self.now }
     {
-        // It changes nothing: its contract tells what every book keeps.
+        // It changes nothing: its contract says what every book keeps.
         self.book.keeps();
         self.book.events()
     }
@@ -124,7 +124,7 @@ impl<B: Owner> Manager<B> {
         guard
     }
 
-    /// Makes a call under the lock, and tells the share the whole history, which then ends with the call and its reply and
+    /// Makes a call under the lock; the share has then seen the whole history, which ends with the call and its reply and
     /// is as long as the number says. Where it is refused, the history is as long as the room.
     pub fn call<R: Wait>(
         &self,
@@ -154,7 +154,7 @@ impl<B: Owner> Manager<B> {
     {
         let mut guard = self.book.lock(rt);
         let book = &mut *guard;
-        // It changes nothing: its contract tells that the history which both are told is legal.
+        // It changes nothing: its contract says that the history which both have seen is legal.
         book.keeps();
         book.tell(rows, mine);
         book.meet(rows, port);

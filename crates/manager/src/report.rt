@@ -60,7 +60,7 @@ impl Report {
         self.text.as_str()
     }
 
-    /// Replaces the text by the report of a history of so many events and of the state after it.
+    /// Replaces the text by the report of a history of `events` events and of the state after it.
     #[tactic(auto, unfolding(crate::specs::Report::report_text))]
     pub(crate) fn tell(&mut self, events: u64, state: &State)
         ensures { self.new ≡ report_text events state.now }
@@ -117,7 +117,7 @@ impl Report {
 }
 
 impl<B: Owner> Manager<B> {
-    /// What the manager holds at one moment: the history has so many events, and the state is the one after it. The
+    /// What the manager holds at one moment: the number of events of the history, and the state after it. The
     /// memory is taken before the lock.
     pub fn snapshot<R: Wait>(&self, rt: &R, alloc: Global) -> Result<Report, AllocError>
         ensures { IfOk result

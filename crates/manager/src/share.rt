@@ -92,7 +92,7 @@ pub(crate) fn merged<B: Owner>(
     whole
 }
 
-// The part of a share whose pass is told the desk's history.
+// The part of a share whose pass learns the desk's history.
 fn told<B: Owner>(desk: &mut Desk, rows: &Rows, share: Share<B>) -> ledger::Share<B>
     requires { (desk.old.rows ≡ rows.now) × (rows.now ≡ B.rows) }
     ensures same { desk.new ≡ desk.old }

@@ -1,5 +1,5 @@
-//! `memory`: asks once for each thing that takes memory, and says what it was answered. Where a request for memory is refused
-//! it says so of that one thing, and the others are answered as ever: the gate refuses each request in turn.
+//! `memory`: asks once for each thing that takes memory, and prints what it was answered. Where a request for memory is refused it
+//! says so of that one thing, and the others are answered as ever: the gate refuses each request in turn.
 #![tactic(auto)]
 
 ghost use Rattle.manager.specs.Kept.{IsNamedBy};

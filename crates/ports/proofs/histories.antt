@@ -2,4 +2,4 @@ pub mod LawfulWords
 pub mod Worlds
 pub mod Allowed
 pub mod Staying
-pub mod Examples
+pub mod EmptyWords

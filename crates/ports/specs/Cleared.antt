@@ -1,4 +1,4 @@
--- Which rows are cleared at a call, and the law that this is enough.
+-- Which rows are cleared at a call.
 use Rattle.std.specs.Prelude.{◌≡◌, ℕ, Some, IsSomeAnd}
 use Rattle.dmatypes.specs.declared.call.Call.{Call}
 use Rattle.dmatypes.specs.declared.call.Call.TheVariants as calls
@@ -7,9 +7,7 @@ use Rattle.dmatypes.specs.declared.call.Mode.TheVariants as modes
 use Rattle.dmatypes.specs.declared.reply.Reply.{Reply}
 use Rattle.dmatypes.specs.declared.reply.Reply.TheVariants.{Done, Unmapped, Flushed, Reaped}
 use Rattle.dmatypes.specs.World.{World}
-use Rattle.dmatypes.specs.Step.{IsStep, next}
 use Rattle.dmatypes.specs.declared.limits.TheConstants.{MOST_RECORDS}
-use Rattle.ports.specs.Lawful.{IsLawful}
 
 abbrev pub IsAttachedTo : World → ℕ → ℕ → Type 0
 IsAttachedTo w device domain = w.devices device ≡ Some domain
@@ -30,10 +28,3 @@ IsCleared w (calls.Unmap domain address pages) (Unmapped released) other =
 IsCleared w (calls.Flush domain) (Flushed released) other = IsAttachedTo w other domain
 IsCleared w (calls.Reap domain number) (Reaped released) other = IsAttachedTo w other domain
 IsCleared w call reply other = ⊥
-
--- a step leaves each lawful word lawful, but in the rows that are cleared at it
-abbrev pub Keeps : Type 0
-Keeps =
-    (w : World) (call : Call) (reply : Reply) (device word : ℕ)
-    → IsStep w call reply → IsLawful w device word → (IsCleared w call reply device → ⊥)
-    → IsLawful (next w call reply) device word

@@ -21,7 +21,7 @@ place_for port address = place_of port.device (slot_of (page_of address))
 abbrev pub IsPortInRun : ℕ → Port → (List ℕ → Type 0) → Type 0
 IsPortInRun frames port are = IsSeenInRun (IsLegal frames) (IsLawfulAfter frames) port.device port.seen port.did are
 
--- In a world with so many table frames, a port answers a request at an address by a host address or none, and hands back a count
+-- In a world with `frames` table frames, a port answers a request at an address by a host address or none, and hands back a count
 pub record IsHit (frames : ℕ) (port port' : Port) (address : ℕ) (access : Access) (host : Option ℕ) (count : ℕ) : Type 0 where
   -- it loads the counter, whose value is the count, and then the word at the place for the address
   pub word : ℕ

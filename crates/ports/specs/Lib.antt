@@ -4,4 +4,3 @@ pub mod Steps
 pub mod Seen
 pub mod Rule
 pub mod Hits
-pub mod Examples

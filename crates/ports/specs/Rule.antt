@@ -1,4 +1,4 @@
--- The rule of the table, and what each step tells whoever makes it.
+-- The rule of the table, and what whoever makes a step learns by it.
 use Rattle.std.specs.Prelude.{◌≡◌, ℕ, suc, ◌+◌, ◌<◌, ◌≤◌, ◌⊎◌, Bool, true, false, List, [], ◌∷◌, ◌++◌, length, slice_index, slice_set}
 use Rattle.std.specs.Prelude.{replicate}
 use mathlib.Core.Option.{some}
@@ -24,7 +24,7 @@ nobody = record { who = 0; seen = []; did = [] }
 abbrev pub newcomer : ℕ → Known
 newcomer p = record { who = suc p; seen = []; did = [] }
 
--- a caller that was told of a history, by a load of the counter
+-- a caller that learnt of a history, by a load of the counter
 abbrev pub told : Known → List Event → Known
 told known history = record { who = known.who; seen = history; did = known.did ++ Loaded counter (length history) ∷ [] }
 
@@ -47,7 +47,7 @@ desk_view frames history did last made guest = record {
   last = last;
 }
 
--- the desk of a new table that has made so many callers
+-- the desk of a new table that has made this number of callers
 abbrev pub made_desk : ℕ → ℕ → View
 made_desk frames made = desk_view frames [] [] (replicate ROW_WORDS 0) made nobody
 
@@ -127,7 +127,7 @@ module _ (legal : List Event → Type 0) (lawful : List Event → ℕ → ℕ �
     pub did : later.did ≡ known.did ++ step ∷ []
     pub who : later.who ≡ known.who
 
-  -- a load of the counter also tells how long that history is
+  -- a load of the counter also gives the length of that history
   abbrev pub Counted : Step (Unit {0}) → Sat → ℕ → Sat → Type 0
   Counted st m n m' =
       Learns m.0.mine m'.0.mine (Loaded st.word n) × (length m'.0.mine.seen ≡ n)

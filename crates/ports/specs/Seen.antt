@@ -51,7 +51,7 @@ desk_of table v = record { rows = rows_of table v.frames; history = v.mine.seen;
 
 -- ---- what the desk does to a row
 
--- stores of 0 in the first so many slots of a device's row
+-- stores of 0 in a device's row, in the slots below a number
 unfoldable pub emptied_slots : ℕ → ℕ → List OwnStep
 emptied_slots device zero = []
 emptied_slots device (suc slot) = emptied_slots device slot ++ Stored (place_of device slot) 0 ∷ []
@@ -67,10 +67,10 @@ new_pass rows caller = record { rows = rows; caller = caller; seen = []; did = [
 abbrev pub new_desk : Rows → Desk
 new_desk rows = record { rows = rows; history = []; did = []; last = replicate ROW_WORDS 0 }
 
--- the first so many are the ports of devices 0, 1 and so on
+-- up to the count, the ports are those of devices 0, 1 and so on
 abbrev pub ArePorts : Rows → List Port → ℕ → Type 0
 ArePorts rows ports count = (k : ℕ) → k < count → slice_get ports k ≡ Some (new_port rows k)
 
--- the first so many are the passes, which are callers behind the ports
+-- up to the count, the passes are callers behind the ports
 abbrev pub ArePasses : Rows → List Pass → ℕ → Type 0
 ArePasses rows passes count = (k : ℕ) → k < count → slice_get passes k ≡ Some (new_pass rows (DEVICES + k))

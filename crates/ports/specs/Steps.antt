@@ -2,7 +2,6 @@
 -- SLOTS for each device, and the place behind them is the counter.
 use Rattle.std.specs.Prelude.{◌≡◌, ℕ, ◌+◌, ◌*◌, ◌%◌, ◌<◌, List, [], ◌∷◌, ◌++◌, length, replicate, slice_index, slice_index_or, slice_set}
 use Rattle.std.specs.Prelude.{◌==◌, if◌then◌else◌, flat_map, fold}
-use mathlib.Core.List.{IsPrefix}
 use Rattle.dmatypes.specs.declared.reply.Event.{Event}
 use Rattle.dmatypes.specs.History.{IsLegal}
 use Rattle.dmatypes.specs.declared.limits.TheConstants.{DEVICES}
@@ -134,7 +133,7 @@ module _ (legal : List Event → Type 0) (lawful : List Event → ℕ → ℕ �
     pub did : own_steps caller steps ≡ own
     pub words : are (led_to passes steps).words
 
--- the run of these steps, in a world with so many table frames
+-- the run of these steps, in a world with this number of table frames
 abbrev pub IsRunOf : ℕ → ℕ → List PortStep → Type 0
 IsRunOf frames passes steps = IsRun (IsLegal frames) (IsLawfulAfter frames) (empty passes) steps
 
@@ -143,22 +142,3 @@ abbrev pub IsLoadBy : ℕ → PortStep → Type 0
 IsLoadBy caller (loads_word port slot word) = port ≡ caller
 IsLoadBy caller (loads_counter other answer) = other ≡ caller
 IsLoadBy caller _ = ⊥
-
--- The law of whole runs, for the steps of each run:
-pub record IsWholeRun (frames passes : ℕ) (steps : List PortStep) : Type 0 where
-  -- the last history is legal
-  pub legal : IsLegal frames (led_to passes steps).history
-  -- it begins with what each port and pass had seen at any point
-  pub seen : (front rest : List PortStep) (caller : ℕ) → steps ≡ front ++ rest
-      → IsPrefix (seen_by (led_to passes front) caller) (led_to passes steps).history
-  -- each word that a port loaded is lawful for its device after the history of that point, which the port has then seen
-  pub lawful : (front rest : List PortStep) (port slot word : ℕ) → steps ≡ front ++ loads_word port slot word ∷ rest
-      → IsLawfulAfter frames (led_to passes front).history port word
-      × (seen_by (led_to passes (front ++ loads_word port slot word ∷ [])) port ≡ (led_to passes front).history)
-  -- the points of one caller's loads are fronts of one another, in its order
-  pub ordered : (front between rest : List PortStep) (one other : PortStep) (caller : ℕ)
-      → IsLoadBy caller one → IsLoadBy caller other → steps ≡ (front ++ one ∷ between) ++ other ∷ rest
-      → IsPrefix (led_to passes front).history (led_to passes (front ++ one ∷ between)).history
-
-abbrev pub WholeRun : Type 0
-WholeRun = (frames passes : ℕ) (steps : List PortStep) → IsRunOf frames passes steps → IsWholeRun frames passes steps

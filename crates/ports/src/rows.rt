@@ -30,8 +30,8 @@ impl Model for Rows {
 }
 
 impl Rows {
-    /// Empty words and an empty history, in a world with so many table frames; the desk, the ports of devices
-    /// 0 to 15 in order, and so many passes. All belong together.
+    /// Empty words and an empty history, in a world with `frames` table frames; the desk, the ports of devices
+    /// 0 to 15 in order, and `passes` passes. All belong together.
     pub fn new(
         alloc: Global,
         frames: u64,

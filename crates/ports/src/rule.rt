@@ -18,7 +18,7 @@ pub(crate) const COUNTER: usize = ROW_WORDS;
 /// The words of the table: those of the rows, and the counter.
 pub(crate) const WORDS: usize = ROW_WORDS + 1;
 
-/// What a table is told when it is made: how many table frames the world of its history has, and how many
+/// What a table is made with: how many table frames the world of its history has, and how many
 /// passes there are.
 #[derive(Clone, Copy)]
 pub(crate) struct Size {

@@ -6,7 +6,7 @@ use Rattle.vtdbits.specs.declared.words.Words.{Words}
 use Rattle.queue.specs.declared.ring.TheConstants.{PAIRS}
 use Rattle.vtdbits.specs.Descriptor.{descriptor_of}
 
--- so many elements from a place on, around the list's end
+-- a number of elements from a place on, around the list's end
 unfoldable pub window : {A : Type 0} → ℕ → ℕ → List A → List A
 window place count xs = take count (drop place xs ++ take place xs)
 

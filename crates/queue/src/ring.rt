@@ -12,7 +12,7 @@ const PAIRS: usize = 256;
 
 /// A ring of descriptors, as the pairs of words of one page, and the status that the last wait left.
 /// The pairs from the head up to the tail wait, around the page's end; one pair stays free, so that a full
-/// ring can be told from an empty one. The free pairs behind the head still hold what was taken last.
+/// ring differs from an empty one. The free pairs behind the head still hold what was taken last.
 #[derive(Debug, Drop)]
 pub struct Ring {
     page: [Words; PAIRS],

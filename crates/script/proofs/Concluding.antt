@@ -150,6 +150,7 @@ pub nothing_written : (U : Type 0) (output : Output) (size : Size) (old before :
     → OutputKnown {U = U} output size old old before pending before (Err errors.NoMemory)
 nothing_written U outputs.Answers size old before pending = no_memory U size old before pending
 nothing_written U (outputs.Report text) size old before pending = nothing_done U size old before pending
+nothing_written U (outputs.Map text) size old before pending = tt
 
 pub answers_known : (U : Type 0) (output : Output) (replies : Replies) (size : Size) (old left before : Option (List ℕ))
     (pending : List ℕ) (after : Option (List ℕ)) (book : Book) (result : Result U RunError) → output ≡ outputs.Answers
@@ -160,6 +161,7 @@ answers_known U outputs.Answers Written size old left before pending after book 
     pending after book result w
 answers_known U outputs.Answers Silent size old left before pending after book result is so w = absurd cc
 answers_known U (outputs.Report text) replies size old left before pending after book result is so w = absurd cc
+answers_known U (outputs.Map text) replies size old left before pending after book result is so w = absurd cc
 
 pub report_is_known : (U : Type 0) (output : Output) (replies : Replies) (text : List ℕ) (size : Size)
     (old left before : Option (List ℕ)) (pending : List ℕ) (after after' : Option (List ℕ)) (block rest : List ℕ) (book : Book)
@@ -169,6 +171,8 @@ pub report_is_known : (U : Type 0) (output : Output) (replies : Replies) (text :
     → OutputKnown output size old left before pending after' result
 report_is_known U outputs.Answers replies text size old left before pending after after' block rest book end result is so w empty made
     c = absurd cc
+report_is_known U (outputs.Map text') replies text size old left before pending after after' block rest book end result is so w empty
+    made c = absurd cc
 report_is_known U (outputs.Report text') Written text size old left before pending after after' block rest book end result is so w
     empty made c = absurd cc
 report_is_known U (outputs.Report text') Silent text size old left before pending after after' block rest book end result is so w

@@ -8,7 +8,7 @@ JudgesRead (Ok n) (Err f) = ⊥
 JudgesRead (Err e) (Ok count) = ⊥
 JudgesRead (Err e) (Err f) = Unit {0}
 
--- a write of so many bytes failed exactly where it answered so, or took none of at least one
+-- a write of this number of bytes failed exactly where it answered a failure, or took none of at least one
 abbrev pub JudgesWrite : {E F : Type 0} → ℕ → Result ℕ E → Result ℕ F → Type 0
 JudgesWrite asked (Ok n) (Ok count) = (count ≡ n) × (n ≡ 0 → asked ≡ 0)
 JudgesWrite asked (Ok n) (Err f) = (n ≡ 0) × (asked ≢ 0)

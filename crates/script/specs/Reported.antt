@@ -95,15 +95,22 @@ Concludes before after block rest text end result =
 abbrev pub replies_of : Output → Replies
 replies_of outputs.Answers = Written
 replies_of (outputs.Report text) = Silent
+replies_of (outputs.Map text) = Silent
 
--- a script was answered, or its report was written
+-- a script was answered, or its report was written; what stands in a map isn't said
 abbrev pub OutputKnown : {U : Type 0} → Output → Size → (input left before : Option (List ℕ)) → List ℕ → Option (List ℕ)
     → Result U RunError → Type 0
 OutputKnown outputs.Answers size input left before pending after result = RanKnown size input left before pending after result
 OutputKnown (outputs.Report text) size input left before pending after result = ReportedKnown size input left before pending after result
+OutputKnown (outputs.Map text) size input left before pending after result = Unit {0}
 
--- the reader has failed exactly at `Read`; but where a report can't be written that is told in its place
+-- a reader of which no report could be written failed too, and the write's failure is the end
+abbrev pub ReportReaderEnds : {U : Type 0} → Bool → Result U RunError → Type 0
+ReportReaderEnds failed result = (IsErrOf result errors.Read → failed ≡ true)
+    × (failed ≡ true → IsErrOf result errors.Read ⊎ IsErrOf result errors.Write)
+
+-- the reader has failed exactly at `Read`; but where a report can't be written, that is the answer in its place
 abbrev pub ReaderEnds : {U : Type 0} → Output → Bool → Result U RunError → Type 0
 ReaderEnds outputs.Answers failed result = (failed ≡ true) ↔ IsErrOf result errors.Read
-ReaderEnds (outputs.Report text) failed result = (IsErrOf result errors.Read → failed ≡ true)
-    × (failed ≡ true → IsErrOf result errors.Read ⊎ IsErrOf result errors.Write)
+ReaderEnds (outputs.Report text) failed result = ReportReaderEnds failed result
+ReaderEnds (outputs.Map text) failed result = ReportReaderEnds failed result

@@ -51,7 +51,7 @@ abbrev pub refusal_line : List ℕ
 refusal_line = line_of (Refused refusals.HistoryFull)
 
 -- these calls are answered so: by the text of a legal history of the first of them, as many as there is
--- room for, which goes along states from a new one by what the state's methods do, and then by a refusal
+-- room for, which follows states from a new one by what the state's methods do, and then by a refusal
 -- for each further call
 pub record Answers (size : Size) (calls : List Call) (written : List ℕ) : Type 0 where
   pub history : List Event

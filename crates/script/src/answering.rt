@@ -51,7 +51,7 @@ pub(crate) fn answer_lines<B: Owner, T: Wait, R: Read, W: Write>(
     let mut line = ArrayVec::new();
     let mut text = ArrayString::new();
     let mut number = 1u64;
-    // It changes nothing: its contract tells what every book keeps, here before the first call.
+    // It changes nothing: its contract says what every book keeps, here before the first call.
     book.keeps();
     for _ in rt.forever() {
         match next_line(reader, writer, &mut line) {

@@ -11,7 +11,7 @@ use dmatypes::LONGEST_LINE;
 use std::io::{Read, Write};
 
 /// Wraps a reader or a writer, with a block of the bytes that were read and not yet used, or that are
-/// still to be written, and tells whether a call of the wrapped one has failed.
+/// still to be written, and answers whether a call of the wrapped one has failed.
 #[derive(Drop)]
 pub struct Counted<T> {
     wrapped: Wrapped<T>,

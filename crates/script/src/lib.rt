@@ -1,4 +1,15 @@
-//! Scripts of calls on a manager: blocks of bytes, lines, and what a run and a report write for them.
+//! Scripts of calls: a run answers each line of a script on a manager of its own, a report writes what is there at its end.
+//!
+//! ```rust
+//! use script::{Counted, run};
+//!
+//! // `config` is Config::new(64, 65536, 1): a run has one share. `domain 1` is written, and a newline.
+//! let script: &[u8] = b"domain strict\n";
+//! let mut written = Vec::new(alloc);
+//! let mut reader = Counted::new(script);
+//! let mut writer = Counted::new(&mut written);
+//! let result = run(rt, alloc, &mut reader, &mut writer, config);
+//! ```
 #![tactic(auto)]
 
 mod answering;
@@ -6,9 +17,10 @@ mod block;
 mod counted;
 mod error;
 mod lines;
+mod map;
 mod running;
 mod wrapped;
 
 pub use counted::Counted;
 pub use error::RunError;
-pub use running::{report, run};
+pub use running::{report, report_with_map, run};

@@ -9,6 +9,7 @@ ghost use Rattle.script.specs.Run.{IsAllSent, RanKnown};
 use crate::answering::{Replies, answer_lines};
 use crate::counted::Counted;
 use crate::error::RunError;
+use crate::map::send_map;
 use crate::wrapped::Failed;
 use manager::{Config, Made, Manager, Owner, Report, Seed};
 use std::alloc::Global;
@@ -23,6 +24,8 @@ pub(crate) enum Output {
     Answers,
     /// At its end the report of what the manager holds.
     Report(Report),
+    /// Behind the report the map of its address spaces.
+    Map(Report),
 }
 
 /// Reads a script to its first bad line, and writes one line for each line, on a manager of its own. All
@@ -93,6 +96,37 @@ pub fn report<T: Wait, R: Read, W: Write>(
     work_through::<Brand, T, R, W>(rt, alloc, reader, writer, seed, Output::Report(text))
 }
 
+/// Reads a script as `report` does, and writes behind the report a map: for each domain the runs of its pages, live, retired or
+/// free, with their first and last byte addresses, how many pages they have and a bar of a mark for each binary digit of that
+/// number, and then its retired records, the oldest first, with their marks.
+///
+/// It ends as `report` does. What the map says is not part of the contract.
+pub fn report_with_map<T: Wait, R: Read, W: Write>(
+    rt: &T,
+    alloc: Global,
+    reader: &mut Counted<R>,
+    writer: &mut Counted<W>,
+    config: Config,
+) -> Result<(), RunError>
+    requires one { config.shares ≡ 1 }
+    requires reader { reader.old.wrapped.failed ≡ false }
+    requires writer { writer.old.wrapped.failed ≡ false }
+    ensures read { IsErrOf result RunError.Read → reader.new.wrapped.failed ≡ true }
+    ensures reader { reader.new.wrapped.failed ≡ true → IsErrOf result RunError.Read ⊎ IsErrOf result RunError.Write }
+    ensures writer { (writer.new.wrapped.failed ≡ true) ↔ IsErrOf result RunError.Write }
+    ensures used_up { IsErrOf result RunError.Read → reader.new.block ≡ [] }
+    ensures all_sent { IsAllSent writer.new.block result }
+    ensures no_memory { IsErrOf result RunError.NoMemory → (reader.new ≡ reader.old) × (writer.new ≡ writer.old) }
+{
+    let Ok(text) = Report::new(alloc) else {
+        return Err(RunError::NoMemory);
+    };
+    let Ok(seed) = Seed::new(alloc, config) else {
+        return Err(RunError::NoMemory);
+    };
+    work_through::<Brand, T, R, W>(rt, alloc, reader, writer, seed, Output::Map(text))
+}
+
 // Makes the manager of a seed, over an owner that names it, works through the script, and writes what is to be written.
 fn work_through<B: Owner, T: Wait, R: Read, W: Write>(
     rt: &T,
@@ -148,6 +182,11 @@ fn work_through<B: Owner, T: Wait, R: Read, W: Write>(
             book.write_report(&mut text);
             send_report(writer, &text, end)
         }
+        Output::Map(mut text) => {
+            book.write_report(&mut text);
+            let end = send_report(writer, &text, end);
+            send_map(writer, book.state(), end)
+        }
     }
 }
 
@@ -157,7 +196,7 @@ fn replies_for(output: &Output) -> Replies
 {
     match output {
         Output::Answers => Replies::Written,
-        Output::Report(_) => Replies::Silent,
+        Output::Report(_) | Output::Map(_) => Replies::Silent,
     }
 }
 

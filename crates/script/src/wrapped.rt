@@ -83,7 +83,7 @@ fn judge_read(answer: io::Result<usize>, failed: &mut bool) -> Result<usize, Fai
     }
 }
 
-// A write of so many bytes failed exactly where it answered so, or took none of at least one.
+// A write of `asked` bytes failed exactly where it answered a failure, or took none of at least one.
 fn judge_write(answer: io::Result<usize>, asked: usize, failed: &mut bool) -> Result<usize, Failed>
     requires { failed.old ≡ false }
     ensures judged { JudgesWrite asked answer result }

@@ -17,6 +17,11 @@ const ROUNDS: u64 = 400;
 
 const DRIVEN: u64 = 1000;
 
+// The devices, whose ports are the last ones: the first is of a strict domain, the second of a lazy one.
+const STRICT: u64 = 15;
+
+const LAZY: u64 = 14;
+
 // The frame that a driver maps first.
 const FIRST_FRAME: u64 = 0x1000;
 
@@ -186,8 +191,8 @@ fn audited<B: Owner + Send + Sync, R: Threads + Wait + Abort + Sync>(
         mut ports,
         mut shares,
     } = Manager::<B>::new(alloc, seed)?;
-    let mut strict = device_of(alloc, 0, &mut ports, &mut shares)?;
-    let mut lazy = device_of(alloc, 1, &mut ports, &mut shares)?;
+    let mut strict = device_of(alloc, STRICT, ports.pop(), shares.pop())?;
+    let mut lazy = device_of(alloc, LAZY, ports.pop(), shares.pop())?;
     strict.begin(rt, &manager, &rows, Mode::Strict, 1)?;
     lazy.begin(rt, &manager, &rows, Mode::Lazy, 2)?;
     let one = shares.pop().ok_or("a share")?;
@@ -202,7 +207,7 @@ fn audited<B: Owner + Send + Sync, R: Threads + Wait + Abort + Sync>(
     let Ok(history) = manager.finish(&rows, all) else {
         return Err(Fail::from("all shares are enough"));
     };
-    for (number, hits) in [(0, &strict.hits), (1, &lazy.hits)] {
+    for (number, hits) in [(STRICT, &strict.hits), (LAZY, &lazy.hits)] {
         // The first hit came before the threads.
         assert!(rt; hits.iter().skip(1).any(|hit| hit.host.is_some()));
         assert!(rt; are_allowed(alloc, history.events(), number, hits.as_slice())?);
@@ -259,20 +264,17 @@ fn device_in<B: Owner>(noted: Noted<B>) -> Result<Device<B>, AllocError> {
     Ok(noted.device)
 }
 
-// A device with the port of its number and a share.
+// A device with its port and a share.
 fn device_of<B: Owner>(
     alloc: Global,
     number: u64,
-    ports: &mut Vec<Port<B>>,
-    shares: &mut Vec<Share<B>>,
+    port: Option<Port<B>>,
+    share: Option<Share<B>>,
 ) -> Result<Device<B>, Fail> {
-    if ports.is_empty() {
-        return Err(Fail::from("a port"));
-    }
     Ok(Device {
         number,
-        port: ports.remove(0),
-        share: shares.pop().ok_or("a share")?,
+        port: port.ok_or("a port")?,
+        share: share.ok_or("a share")?,
         hits: Vec::new(alloc),
     })
 }

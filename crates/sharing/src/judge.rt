@@ -35,7 +35,7 @@ impl Domain {
         Ok(self.live.push(Mapping { page, frame })?)
     }
 
-    // An unmap of one page, before which so many records were released.
+    // An unmap of one page, and the number of records that were released before it.
     fn unmap(&mut self, page: u64, released: u64) -> Result<(), AllocError> {
         if released > 0 {
             self.retired.clear();

@@ -1,5 +1,6 @@
-//! Managers that threads share, and what ports hit beside them, as tests of public calls alone (own). They stand apart from the
-//! crates they test, for the check of a crate's tests proves the whole crate once more.
+//! Tests alone: managers that threads share, and ports that hit beside them, by public calls of `manager` (own). They stand apart
+//! from the crates they test, for the check of a crate's tests proves the whole crate once more. `rt try --test` runs them unproved.
+//! managers/device_thread.rt is also an example: a device's thread, which asks its port first.
 #![tactic(auto)]
 
 #[cfg(test)]

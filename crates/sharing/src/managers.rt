@@ -41,7 +41,7 @@ fn made<B: Owner>(
     Ok((manager, rows, ports, mine))
 }
 
-// So many pages from a host frame on, at the lowest start.
+// Pages from a host frame on, at the lowest start.
 fn map_of(domain: u64, frame: u64, pages: u64, rights: u64) -> Call {
     Call::Map {
         domain,

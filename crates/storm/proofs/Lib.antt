@@ -1,3 +1,5 @@
 pub mod Elements
+pub mod Hits
+pub mod Meeting
 pub mod Storms
 pub mod Writing

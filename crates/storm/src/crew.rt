@@ -1,7 +1,7 @@
 //! The threads of a storm's workers.
 
-ghost use Rattle.std.specs.Prelude.{◌≡◌, ◌+◌, ◌*◌, ◌≤◌, ◌<◌, ℕ, All, IfOk, IfErr, IfSome, length, vec_capacity, vec_len};
-ghost use Rattle.storm.specs.Storms.{HasCheckedIn, HasMade, IsFresh};
+ghost use Rattle.std.specs.Prelude.{◌≡◌, ◌≤◌, ◌<◌, ℕ, All, IfOk, IfErr, IfSome, vec_capacity, vec_len};
+ghost use Rattle.storm.specs.Storms.{HasChecked, HasCheckedIn, HasMade, IsFresh};
 
 use crate::gate::Gate;
 use crate::storming::StormError;
@@ -40,7 +40,7 @@ pub(crate) fn run_all<B: Owner + Send + Sync, G: Gate, R: Threads + Wait + Sync>
     ensures len { IfOk result (λ r. vec_len r.shares ≡ vec_len workers) }
     ensures room { IfOk result (λ r. vec_len r.shares < vec_capacity r.shares) }
     ensures made { IfOk result (λ r. All (HasMade B.room site.now.calls) r.shares.items) }
-    ensures stepped { IfOk result (λ r. All (λ p. length p.did ≡ 2 * site.now.calls + 1) r.ports.items) }
+    ensures checked { IfOk result (λ r. All (HasChecked site.now.calls) r.ports.items) }
 {
     let running = Vec::with_capacity(alloc, workers.len())?;
     let returned = Returned {
@@ -58,7 +58,7 @@ pub(crate) fn run_all<B: Owner + Send + Sync, G: Gate, R: Threads + Wait + Sync>
             ensures len { IfOk result (λ r. vec_len r.shares ≡ vec_len workers) }
             ensures room { IfOk result (λ r. vec_len r.shares < vec_capacity r.shares) }
             ensures made { IfOk result (λ r. All (HasMade B.room site.entry.now.calls) r.shares.items) }
-            ensures stepped { IfOk result (λ r. All (λ p. length p.did ≡ 2 * site.entry.now.calls + 1) r.ports.items) }
+            ensures checked { IfOk result (λ r. All (HasChecked site.entry.now.calls) r.ports.items) }
         {
             match start_all(scope, rt, site, workers, running) {
                 Ok(running) => Ok(join_all(rt, running, returned)),
@@ -111,7 +111,7 @@ fn join_all<B: Owner, R: Threads>(
     ensures len { vec_len result.shares ≡ vec_len running }
     ensures room { vec_capacity result.shares ≡ vec_capacity returned.shares }
     ensures made { (calls : ℕ) → All (λ h. h.promise.0 ≡ calls) running.items → All (HasMade B.room calls) result.shares.items
-        × All (λ p. length p.did ≡ 2 * calls + 1) result.ports.items }
+        × All (HasChecked calls) result.ports.items }
 {
     let mut returned = returned;
     for handle in running {

@@ -1,6 +1,6 @@
 //! Where the calls of a storm can be watched, or held.
 
-/// Is told of a storm's calls by the threads that make them. Workers are numbered from 0, drivers first, then devices, then
+/// Learns of a storm's calls from the threads that make them. Workers are numbered from 0, drivers first, then devices, then
 /// the unit; the calls of each from 1. A gate may hold a worker by not returning.
 pub trait Gate: Sync {
     /// The worker is about to ask for the lock, for its call of this number.

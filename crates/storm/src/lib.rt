@@ -1,4 +1,11 @@
-//! Storms: drivers, devices and the unit call one manager, each in a thread of its own.
+//! Storms: drivers, devices and the unit call one manager, each in a thread of its own, to try it under contention.
+//!
+//! ```rust
+//! use storm::{OpenGate, storm};
+//!
+//! // Two drivers, two devices and the unit, ten calls each; 2 + 2 calls set it up.
+//! assert_eq!(rt; storm(&rt, rt.alloc(), 2, 2, 10, &OpenGate), Ok(54));
+//! ```
 #![tactic(auto)]
 
 mod crew;

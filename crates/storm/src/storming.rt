@@ -1,9 +1,9 @@
 //! A storm: drivers, devices and the unit, in threads of their own, on one manager.
 
-ghost use Rattle.std.specs.Prelude.{◌≡◌, ◌+◌, ◌*◌, ◌≤◌, ◌<◌, [], ℕ, All, IfOk, length, vec_len};
+ghost use Rattle.std.specs.Prelude.{◌≡◌, ◌+◌, ◌-◌, ◌*◌, ◌≤◌, ℕ, All, IfOk, length, vec_len};
 ghost use Rattle.std.specs.Vec.Iter.{into_iter_items};
 ghost use Rattle.manager.specs.Kept.{IsNamedBy, new_share};
-ghost use Rattle.storm.specs.Storms.{HasMade, HasMet, HasNewPort, IsFresh};
+ghost use Rattle.storm.specs.Storms.{AreNewFrom, HasChecked, HasMade, HasMet, HasNewPort, IsFresh};
 
 use crate::crew::{Returned, run_all};
 use crate::gate::Gate;
@@ -179,7 +179,7 @@ pub(crate) fn outcome_of<B: Owner + Send + Sync, G: Gate, R: Threads + Wait + Sy
 // Tells the ports the whole history.
 fn meet_all<B: Owner>(history: &mut History<B>, rows: &Rows<B>, ports: &mut Vec<Port<B>>)
     ensures same { history.new ≡ history.old }
-    ensures met { (hits : ℕ) → All (λ p. length p.did ≡ 2 * hits + 1) ports.old.items
+    ensures met { (hits : ℕ) → All (HasChecked hits) ports.old.items
         → All (HasMet hits history.old.history) ports.new.items }
 {
     for port in ports.iter_mut() {
@@ -222,7 +222,7 @@ fn workers_of<B: Owner>(
     ports: Vec<Port<B>>,
 ) -> Result<Vec<Worker<B>>, AllocError>
     requires shares { All (λ s. s ≡ new_share) shares.items }
-    requires ports { All (λ p. p.did ≡ []) ports.items }
+    requires ports { AreNewFrom 0 ports.items }
     ensures len { IfOk result (λ v. vec_len v ≡ vec_len shares) }
     ensures fresh { IfOk result (λ v. All IsFresh v.items) }
 {
@@ -242,9 +242,10 @@ fn workers_of<B: Owner>(
 
 // What the worker of this number does: a device takes the next of the ports.
 fn role_of<B: Owner>(plan: Plan, number: u64, ports: &mut IntoIter<Port<B>>) -> Role<B>
-    requires { All (λ p. p.did ≡ []) (into_iter_items ports.old) }
+    requires { number ≤ plan.drivers + plan.devices → AreNewFrom (number - plan.drivers) (into_iter_items ports.old) }
     ensures role { HasNewPort result }
-    ensures ports { All (λ p. p.did ≡ []) (into_iter_items ports.new) }
+    ensures ports { number + 1 ≤ plan.drivers + plan.devices
+        → AreNewFrom (number + 1 - plan.drivers) (into_iter_items ports.new) }
 {
     if number < plan.drivers {
         return Role::Driver {

@@ -163,7 +163,7 @@ fn request<B: Owner, G: Gate, R: Wait>(
     port: &mut Port<B>,
 )
     requires share { caller.old.share.calls ≡ 0 }
-    requires port { port.old.did ≡ [] }
+    requires port { (port.old.device ≡ device) × (port.old.did ≡ []) }
     ensures made { HasMade B.room site.now.calls caller.new.share }
     ensures port { HasCheckedIn site.now.calls caller.new.share port.new }
 {

@@ -1,5 +1,5 @@
 -- How many tables are lacking where pages are to be mapped, counted entry by entry down the tree. The pages
--- go from a first one up to another, and a test tells where a large leaf begins at a page.
+-- go from a first one up to another, and a test says where a large leaf begins at a page.
 use Rattle.std.specs.Prelude.{ℕ, zero, suc, ◌+◌, ◌*◌, Bool, ◌==◌, ◌&&◌, nat_lt, if◌then◌else◌}
 use Rattle.tables.specs.declared.entries.TheConstants.{TABLE_ENTRIES}
 use Rattle.vtdbits.specs.declared.entry.SsEntry.{SsEntry}

@@ -1,5 +1,5 @@
 -- What a call on one tree changes in its pool. Pages go from a first one up to a last one that is no more
--- among them. A table is told by its place: its level, and a page on whose way it lies.
+-- among them. A table is known by its place: its level, and a page on whose way it lies.
 use Rattle.std.specs.Prelude.{◌≡◌, ℕ, ◌+◌, ◌*◌, ◌/◌, ◌<◌, ◌≤◌, ◌⊎◌, Bool, true, false, List, Option, Some, None, IsSome}
 use Rattle.dmatypes.specs.declared.page.TheConstants.{SPAN_PAGES}
 use Rattle.tables.specs.declared.entries.TheConstants.{TABLE_ENTRIES}

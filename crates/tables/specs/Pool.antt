@@ -44,7 +44,7 @@ abbrev pub IsWrite : List ℕ → List ℕ → ℕ → ℕ → ℕ → Type 0
 IsWrite old new table index value =
     (word new table index ≡ value) × ((f k : ℕ) → k < TABLE_ENTRIES → (f ≡ table → k ≡ index → ⊥) → word new f k ≡ word old f k)
 
--- the words of both, but for so many of a table from an index on
+-- the words of both, but for a number of words of a table from an index on
 abbrev pub KeepsOtherWords : List ℕ → List ℕ → ℕ → ℕ → ℕ → Type 0
 KeepsOtherWords old new table from count =
     (f k : ℕ) → k < TABLE_ENTRIES → (f ≡ table → from ≤ k → k < from + count → ⊥) → word new f k ≡ word old f k

@@ -26,6 +26,6 @@ abbrev pub AreSegments : List Segment → Type 0
 AreSegments [] = Unit {0}
 AreSegments (s ∷ ss) = (1 ≤ s.pages) × (s.frame + s.pages ≤ FRAMES_END) × AreSegments ss
 
--- so many frames from one on
+-- a number of frames from one on
 abbrev pub one_segment : ℕ → ℕ → List Segment
 one_segment frame pages = record { frame = frame; pages = pages } ∷ []

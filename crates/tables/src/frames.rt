@@ -38,7 +38,7 @@ impl Model for Pool {
 }
 
 impl Pool {
-    /// A pool of so many frames, 16 to 4,096 (own), all of them free.
+    /// A pool of 16 to 4,096 frames (own), all of them free.
     pub fn new(alloc: Global, frames: u64) -> Result<Pool, AllocError>
         requires some { LEAST_TABLE_FRAMES ≤ frames }
         requires few { frames ≤ MOST_TABLE_FRAMES }
@@ -110,7 +110,7 @@ impl Pool {
         self.words[(frame.number() * TABLE_ENTRIES + index) as usize] = value;
     }
 
-    /// Clears so many words of a frame that isn't free, from an index on.
+    /// Clears `count` words of a frame that isn't free, from an index on.
     pub(crate) fn clear(&mut self, frame: Frame, from: u64, count: u64)
         requires frame { frame < self.old.frames }
         requires within { from + count ≤ TABLE_ENTRIES }
@@ -125,7 +125,7 @@ impl Pool {
         self.words[start..start + count as usize].fill(0);
     }
 
-    /// Spells leaves of one page each in so many words of a frame that isn't free, from an index on: host frames that
+    /// Spells leaves of one page each in `count` words of a frame that isn't free, from an index on: host frames that
     /// follow one another from a first one on.
     pub(crate) fn write_leaves(
         &mut self,

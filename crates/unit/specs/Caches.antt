@@ -58,7 +58,7 @@ pub record AreFew (c : Caches) : Type 0 where
   pub non_leaves : length c.non_leaves ≤ MOST_CACHED_NON_LEAVES
   pub contexts : length c.contexts ≤ MOST_CACHED_CONTEXTS
 
--- there are places for so many
+-- the places of the caches
 pub record HavePlaces (leaves non_leaves contexts : ℕ) : Type 0 where
   pub for_leaves : leaves ≡ MOST_CACHED_LEAVES
   pub for_non_leaves : non_leaves ≡ MOST_CACHED_NON_LEAVES

@@ -8,7 +8,7 @@ use Rattle.vtdbits.specs.declared.descriptor.Descriptor.TheVariants.{IotlbPages,
 use Rattle.queue.specs.Ring.{Ring, ring_of}
 use Rattle.unit.specs.Caches.{CachedLeaf, CachedNonLeaf, CachedContext, Caches, caches}
 
--- so many pages from a first one on lie wholly in the block
+-- a number of pages from a first one on lie wholly in the block
 abbrev pub lie_in : Block → ℕ → ℕ → Bool
 lie_in block first pages = nat_le block.first first && nat_le (first + pages) (block.first + 2 ^ block.order)
 

@@ -3,7 +3,7 @@ use Rattle.std.specs.Prelude.{ℕ, ◌⊎◌, ◌∷◌, [], ◌++◌, Bool, IsT
 use Rattle.std.specs.List.{list_any}
 use Rattle.dmatypes.specs.World.{IsIn}
 
--- a list of at most so many with one more: an entry that is there already isn't added, a new one goes last,
+-- a list of at most this length with one more: an entry that is there already isn't added, a new one goes last,
 -- and a full list loses its first entry first
 unfoldable pub with_entry : {A : Type 0} → (A → A → Bool) → ℕ → A → List A → List A
 with_entry same most x xs =

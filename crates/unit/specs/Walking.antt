@@ -5,7 +5,7 @@ use Rattle.vtdbits.specs.Translation.{target}
 use Rattle.tables.specs.Tree.{Memory, Found, span, table_from}
 use Rattle.unit.specs.Caches.{CachedLeaf, CachedNonLeaf, leaf, non_leaf}
 
--- so many pages from a first one on hold the page
+-- a number of pages from a first one on hold the page
 abbrev pub hold : ℕ → ℕ → ℕ → Bool
 hold first pages page = nat_le first page && nat_lt page (first + pages)
 

@@ -85,7 +85,7 @@ pub(crate) fn forget<T: Cached + Copy + Default, const N: usize>(
     }
 }
 
-// Whether so many pages from a first one on lie wholly in the block.
+// Whether `pages` pages from a first one on lie wholly in the block.
 fn lie_in(block: PageBlock, first: u64, pages: u64) -> bool
     requires first { first < WIDE_PAGES_END }
     requires pages { pages ≤ SPAN_PAGES * SPAN_PAGES }

@@ -1,4 +1,4 @@
-//! What a request is told of its page's translation.
+//! What a request gets of its page's translation.
 
 ghost use Rattle.std.specs.Prelude.{◌≡◌};
 ghost use Rattle.dmatypes.specs.Allows.{fault_of};

@@ -1,4 +1,5 @@
-//! `uses`: two drivers in threads of their own and a device share one manager; at the end the history is printed.
+//! `uses`: an example of the library, to begin one's own program from. Two drivers in threads of their own and a device share one
+//! manager; at the end the history is printed. `rt run` in this folder proves and runs it.
 #![tactic(auto)]
 
 ghost use Rattle.manager.specs.Kept.{IsNamedBy};

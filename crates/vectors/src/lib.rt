@@ -1,10 +1,17 @@
-//! Vectors of numbers, texts and bit layouts, as tests of public calls alone (own). They stand apart from the crates they test,
-//! for the check of a crate's tests proves the whole crate once more.
+//! Tests alone, by public calls: vectors of numbers, texts and bit layouts (`dmatypes`, `vtdbits`), takes of device addresses
+//! (`iova`), a full ring (`queue`), and hits without the lock (`ports`) (own). They stand apart from the crates they test, for the
+//! check of a crate's tests proves the whole crate once more. `rt try --test` runs them unproved.
 #![tactic(auto)]
 
+#[cfg(test)]
+mod addresses;
+#[cfg(test)]
+mod hits;
 #[cfg(test)]
 mod layouts;
 #[cfg(test)]
 mod lines;
+#[cfg(test)]
+mod ring;
 #[cfg(test)]
 mod texts;

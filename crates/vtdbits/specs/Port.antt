@@ -27,7 +27,7 @@ port_of word =
     then Some (port_word (word / 2 ^ 26) (target (word / 4 % 2 ^ 24) (word % 4)))
     else None
 
--- ---- what a word tells a device
+-- ---- what a word says to a device
 
 -- the word is empty, or spells something
 abbrev pub IsEmptyOrSpelling : ℕ → Type 0

@@ -7,7 +7,7 @@ use crate::number::{DeviceNumber, DomainId, PageBlock};
 use crate::words::Words;
 use dmatypes::{FRAMES_END, PAGE_BYTES};
 
-/// What the unit is told to drop or to answer (own, after queued invalidation).
+/// What the unit has to drop or to answer (own, after queued invalidation).
 #[derive(Clone, Copy, Debug, PartialEq, Eq)]
 pub enum Descriptor {
     /// Every cached context goes.

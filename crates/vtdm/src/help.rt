@@ -103,13 +103,26 @@ and no line is answered. At its end, or at its first bad line, the report says:
                         are not yet released, and the pieces of its addresses
   device 3 domain 1     an attached device
 
+With --iova the address space of each domain follows, a line for each run of its
+pages: their first and last byte, whether they are live, retired (unmapped, but
+not yet released) or free, how many they are, and a bar that grows by a mark
+where that number doubles. Behind them stand the unmaps that are not yet
+released, each with the number of flushes that were begun before it:
+
+  iova of domain 1 lazy
+    0x0000001000-0x0000001fff live             1 #
+    0x0000002000-0x0000003fff retired          2 ~~
+    0x0000004000-0x00fedfffff free       1043964 ....................
+    0x00fef00000-0x7fffffffff free     133173504 ...........................
+    0x0000002000-0x0000003fff record           2 mark 0
+
 Exit status: 0 done; 1 input or output failed; 2 a bad line (standard error says
 'line L', its number) or a bad command line; 3 no memory.
 
 Examples:
 
   printf 'domain lazy\\nattach 3 1\\n' | vtdm report
-  vtdm report --calls 100 < script";
+  vtdm report --calls 100 --iova < script";
 
 pub(crate) const STORM: &str = "\
 Drivers, devices and the unit call one manager, each in a thread of its own. No

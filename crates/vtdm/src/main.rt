@@ -1,4 +1,11 @@
-//! `vtdm`: answers scripts of calls on a manager of DMA addresses.
+//! `vtdm`: the program. It answers scripts of calls on a manager of DMA addresses (`run`), reports what is there at a script's end
+//! (`report`), and has threads call one manager (`storm`). `vtdm run --help` explains each line of a script.
+//!
+//! ```text
+//! printf 'domain strict\nmap 1 0x100 1 0 rw\n' | vtdm run
+//! domain 1
+//! map 0x1000
+//! ```
 #![tactic(auto)]
 
 mod help;

@@ -5,10 +5,13 @@ ghost use Rattle.manager.specs.Kept.{IsWithinLimits};
 
 use crate::help::{ABOUT, REPORT, SCRIPT, USAGE, VERSION};
 use crate::storming::{StormSize, storm_command, storm_of};
-use clap::{Arg, ArgMatches, Command, value_parser};
+use clap::{Arg, ArgAction, ArgMatches, Command, value_parser};
 use dmatypes::{LEAST_TABLE_FRAMES, MOST_CALLS, MOST_TABLE_FRAMES};
 use manager::Config;
 use std::alloc::{AllocError, Global};
+
+// The option that asks for the map of the address spaces.
+const IOVA: &str = "iova";
 
 /// What the program is to do.
 #[derive(Clone, Copy, Debug, PartialEq, Eq)]
@@ -26,6 +29,8 @@ pub(crate) enum Answering {
     Run,
     /// Tell at its end what the manager holds.
     Report,
+    /// The same, and draw its address spaces behind it.
+    Map,
 }
 
 /// How large the manager is to be.
@@ -50,7 +55,8 @@ pub(crate) fn command<'a>(alloc: Global) -> Result<Command<'a>, AllocError> {
         .after_help(REPORT)
         .override_usage("vtdm report [OPTIONS] < SCRIPT")
         .arg(frames(alloc))?
-        .arg(calls(alloc))?;
+        .arg(calls(alloc))?
+        .arg(iova(alloc))?;
     Command::new(alloc, "vtdm")
         .version(VERSION)
         .propagate_version(true)
@@ -85,14 +91,30 @@ fn calls<'a>(alloc: Global) -> Arg<'a> {
         .default_value("65536")
 }
 
+fn iova<'a>(alloc: Global) -> Arg<'a> {
+    Arg::new(alloc, IOVA)
+        .long(IOVA)
+        .action(ArgAction::SetTrue)
+        .help("Draws each domain's address space behind the report")
+}
+
 /// What is asked for on the command line, where a command was given.
 pub(crate) fn task_of(matches: &ArgMatches) -> Option<Task> {
     let (name, given) = matches.subcommand()?;
     match name {
         "run" => Some(Task::Script(Answering::Run, options_of(given)?)),
-        "report" => Some(Task::Script(Answering::Report, options_of(given)?)),
+        "report" => Some(Task::Script(reporting(given), options_of(given)?)),
         "storm" => Some(Task::Storm(storm_of(given)?)),
         _ => None,
+    }
+}
+
+// Whether a report is asked for with the map.
+fn reporting(given: &ArgMatches) -> Answering {
+    if given.get_flag(IOVA) {
+        Answering::Map
+    } else {
+        Answering::Report
     }
 }
 

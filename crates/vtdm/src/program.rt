@@ -8,14 +8,14 @@ use crate::options::{Answering, Options, Task, command, config_of, task_of};
 use crate::status::{End, end_of};
 use crate::storming::make_storm;
 use clap::error::ErrorKind;
-use script::{Counted, RunError, report, run};
+use script::{Counted, RunError, report, report_with_map, run};
 use std::alloc::Global;
 use std::io;
 use std::io::{Read, Write};
 use std::sync::Wait;
 use std::thread::Threads;
 
-// The bytes of the longest word that is told back (own).
+// The bytes of the longest word that an error repeats (own).
 const LONGEST_WORD: usize = 64;
 
 const NOT_PLAIN: &str =
@@ -37,7 +37,7 @@ pub fn program<T: Wait + Threads + Sync, R: Read + Drop, W: Write + Drop, E: Wri
     tell(&mut errors, end)
 }
 
-/// The exit status where the words of the command line can't be had, told on standard error: memory lacked,
+/// The exit status where the words of the command line can't be had, with a line on standard error: memory lacked,
 /// or a word isn't UTF-8.
 pub fn without_words<E: Write + Drop>(mut errors: E, kind: io::ErrorKind) -> u8
     ensures { (end : End) × (result ≡ status_of end) }
@@ -94,7 +94,7 @@ fn perform<T: Wait + Threads + Sync, R: Read + Drop, W: Write + Drop, E: Write>(
     }
 }
 
-// Whether a word may be shown on a terminal as it is. An error tells words back.
+// Whether a word may be shown on a terminal as it is. An error repeats words.
 fn is_plain(word: &str) -> bool {
     word.len() <= LONGEST_WORD && word.bytes().all(|byte| matches!(byte, b' '..=b'~'))
 }
@@ -145,5 +145,6 @@ fn run_script<T: Wait, R: Read + Drop, W: Write + Drop>(
     end_of(match answering {
         Answering::Run => run(rt, alloc, &mut reader, &mut writer, config),
         Answering::Report => report(rt, alloc, &mut reader, &mut writer, config),
+        Answering::Map => report_with_map(rt, alloc, &mut reader, &mut writer, config),
     })
 }

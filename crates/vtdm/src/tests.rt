@@ -76,7 +76,7 @@ fn statuses(rt: HostRuntime) {
     check_rows(&rt, rt.alloc(), rows.as_slice());
 }
 
-// Input and output that fail, as the statuses tell them.
+// Input and output that fail, as the statuses say.
 #[test]
 fn failing_ends(rt: HostRuntime) -> Result<(), Fail> {
     let mut written = Vec::new(rt.alloc());

@@ -14,7 +14,7 @@ use dmatypes::{LEAST_TABLE_FRAMES, MOST_TABLE_FRAMES};
 use engine::State;
 use std::alloc::{AllocError, Global};
 
-/// Makes a manager with so many table frames, 16 to 4,096, at a handle that has none, and answers a status.
+/// Makes a manager with `frames` table frames, 16 to 4,096, at a handle that has none, and answers a status.
 #[unsafe(no_mangle)]
 pub extern "C" fn vtdm_create(alloc: Global, handle: &mut Handle, frames: u64) -> u64
     ensures { Creates handle.old.slot.held frames result handle.new.slot.held }

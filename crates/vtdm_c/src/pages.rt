@@ -9,7 +9,7 @@ use crate::handle::Handle;
 use crate::segments::{Segment, list_of};
 use std::alloc::Global;
 
-/// Maps so many pages, from a host frame on, and answers the byte address of the first.
+/// Maps `pages` pages, from a host frame on, and answers the byte address of the first.
 #[unsafe(no_mangle)]
 pub extern "C" fn vtdm_map(
     alloc: Global,
@@ -30,7 +30,7 @@ pub extern "C" fn vtdm_map(
     answer
 }
 
-/// Unmaps so many live pages, from a byte address on, and answers how many retired records were released for it.
+/// Unmaps `pages` live pages, from a byte address on, and answers how many retired records were released for it.
 #[unsafe(no_mangle)]
 pub extern "C" fn vtdm_unmap(
     alloc: Global,

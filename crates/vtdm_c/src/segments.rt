@@ -7,7 +7,7 @@ ghost use Rattle.vtdm_c.specs.Segments.{named};
 use arrayvec::ArrayVec;
 use dmatypes::MOST_SEGMENTS;
 
-/// So many pages of 4 KiB from a host frame on, as C lays it out.
+/// Pages of 4 KiB that follow one another from a host frame on, as C lays it out.
 #[repr(C)]
 #[derive(Clone, Copy, Debug, PartialEq, Eq)]
 pub struct Segment {

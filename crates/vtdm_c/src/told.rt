@@ -1,4 +1,4 @@
-//! What readers tell C, where it is more than one number.
+//! What readers answer to C, where it is more than one number.
 
 ghost use Rattle.std.specs.Prelude.{◌≡◌};
 ghost use Rattle.vtdm_c.specs.Told.{context_told, domain_totals_told, no_context, no_domain_totals, no_totals, number_of_mode, totals_told};

@@ -1,13 +1,14 @@
-//! What a report tells of one domain.
+//! What a report says of one domain, and what is read to draw it.
 
-ghost use Rattle.std.specs.Prelude.{◌≡◌, ◌*◌, ◌<◌, ◌≤◌, ◌^◌, All, length};
+ghost use Rattle.std.specs.Prelude.{◌≡◌, ◌*◌, ◌<◌, ◌≤◌, ◌^◌, All, length, slice_get};
 ghost use Rattle.dmatypes.specs.declared.limits.TheConstants.{MOST_RECORDS};
 ghost use Rattle.iova.specs.Pieces.{IsOrdered};
+ghost use Rattle.engine.specs.Spaces.{shown_of};
 ghost use Rattle.engine.specs.Totals.{held_by, live_pages, totals_of_domain};
 
 use super::Domain;
 use crate::record::Record;
-use crate::state::DomainTotals;
+use crate::state::{DomainTotals, RetiredRecord};
 use iova::{PageState, Piece};
 
 impl Domain {
@@ -22,6 +23,24 @@ impl Domain {
             retired: self.records.len() as u64,
             pieces: pieces.len() as u64,
         }
+    }
+
+    /// The pieces of its address space.
+    pub(crate) fn pieces(&self) -> &[Piece]
+        ensures { result.now ≡ self.now.space.pieces }
+    {
+        self.space.pieces()
+    }
+
+    /// Its retired record at an index, if there is one.
+    pub(crate) fn retired_record(&self, index: usize) -> Option<RetiredRecord>
+        ensures { result ≡ shown_of (slice_get self.now.records index) }
+    {
+        let record = self.records.get(index)?;
+        Some(RetiredRecord {
+            range: record.range,
+            mark: record.mark,
+        })
     }
 
     /// How many table frames the retired records hold: at most 8 each.

@@ -12,7 +12,7 @@ use std::test::Fail;
 // The calls before the first that is tested, each of which sent a wait: three more waits have numbers below 2^32.
 const EARLIER: u64 = (1 << 32) - 3;
 
-// A state with no domain, as after so many calls, each of which sent a wait that is done.
+// A state with no domain, as after `calls` calls, each of which sent a wait that is done.
 fn state_after(alloc: Global, calls: u64) -> Result<State, AllocError>
     requires { calls ≤ 2 ^ 40 }
     ensures { IfOk result (λ state. state.calls ≡ calls) }

@@ -1,4 +1,4 @@
-//! What a report tells of the state.
+//! What a report says of the state.
 
 ghost use Rattle.std.specs.Prelude.{◌≡◌, ◌≤◌, length, slice_get};
 ghost use Rattle.dmatypes.specs.declared.limits.TheConstants.{MOST_DOMAINS};

@@ -1,6 +1,6 @@
 -- A book begins.
 use Rattle.std.proofs.Common.{ℕ, [], refl, arith, replicate}
-use Rattle.ports.proofs.histories.Examples.{empty_lawful}
+use Rattle.ports.proofs.histories.EmptyWords.{empty_lawful}
 use Rattle.engine.specs.State.{IsNew, State}
 use Rattle.engine.proofs.states.New.{of_empty_world, whole_new}
 use Rattle.manager.specs.Kept.{IsKept}

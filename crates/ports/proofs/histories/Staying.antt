@@ -18,7 +18,7 @@ use Rattle.dmatypes.specs.Step.{Answers, IsMapAnswer, IsStep, IsUnmapAnswer, nex
 use Rattle.dmatypes.proofs.numbers.Ranges.{within_or_not}
 use Rattle.vtdbits.specs.declared.port.PortWord.{PortWord}
 use Rattle.ports.specs.Lawful.{Backs, IsBacked, IsLawful}
-use Rattle.ports.specs.Cleared.{IsCleared, Keeps, TakesAway}
+use Rattle.ports.specs.Cleared.{IsCleared, TakesAway}
 use Rattle.dmatypes.proofs.histories.Maps.{put_same, put_other, same_or_not}
 use Rattle.ports.proofs.lists.Members.{in_left, in_last, none_is_no, is_no_none, is_some, some_and}
 use Rattle.ports.proofs.lists.Members.{second_of, followed, leads, is_of, of_is}
@@ -159,7 +159,9 @@ keeps_backed w (calls.Reap domain number) (Reaped released) device p d v step ke
     with_change w device p d v domain (reaped number) b (λ attached there. absurd (keeps attached))
 keeps_backed w call _ device p d v step keeps b = backed_in w device p d v b
 
-pub keeps : Keeps
+pub keeps : (w : World) (call : Call) (reply : Reply) (device word : ℕ)
+    → IsStep w call reply → IsLawful w device word → (IsCleared w call reply device → ⊥)
+    → IsLawful (next w call reply) device word
 unfolding IsLawful
 keeps w call reply device word step (inl empty) cleared = inl empty
 keeps w call reply device word step (inr x) cleared =

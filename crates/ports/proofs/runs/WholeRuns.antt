@@ -11,7 +11,7 @@ use Rattle.dmatypes.specs.declared.reply.Event.{Event}
 use Rattle.dmatypes.specs.History.{IsLegal}
 use Rattle.ports.specs.Lawful.{IsLawfulAfter}
 use Rattle.ports.specs.Steps.{Core, PortStep, loads_word, empties_word, stores_word, adds_event, loads_counter, empty, place_of, seen_by}
-use Rattle.ports.specs.Steps.{shown_to, word_at, stepped, stepped_by, IsPortStep, IsRun, WholeRun, AreLawful, led_to}
+use Rattle.ports.specs.Steps.{shown_to, word_at, stepped, stepped_by, IsPortStep, IsRun, IsRunOf, AreLawful, led_to}
 use Rattle.ports.proofs.runs.Reaching.{stepped_by-append}
 use Rattle.ports.proofs.lists.Fronts.{prefix_self, prefix_nil, prefix_more, prefix_trans}
 use Rattle.dmatypes.specs.declared.limits.TheConstants.{DEVICES}
@@ -125,45 +125,62 @@ module _ (legal : List Event → Type 0) (lawful : List Event → ℕ → ℕ �
     fronts = λ p. subst (λ (l : List Event). IsPrefix l []) (sym (replicated [] (DEVICES + passes) p)) (prefix_self []);
   }
 
-  pub front_of : (passes : ℕ) (steps front rest : List PortStep) → IsRun legal lawful (empty passes) steps → steps ≡ front ++ rest
-      → IsSoundCore (led_to passes front)
-  front_of passes steps front rest r is =
-      sound (empty passes) front (sound_empty passes) (run_front (empty passes) front rest (subst (IsRun legal lawful (empty passes)) is r))
+module _ (frames passes : ℕ) where
+  abbrev legal : List Event → Type 0
+  legal = IsLegal frames
 
-  pub step_of : (passes : ℕ) (steps front rest : List PortStep) (s : PortStep) → IsRun legal lawful (empty passes) steps
-      → steps ≡ front ++ s ∷ rest → IsPortStep legal lawful (led_to passes front) s
-  step_of passes steps front rest s r is =
-      let all = run_rest (empty passes) front (s ∷ rest) (subst (IsRun legal lawful (empty passes)) is r) in all.0
+  abbrev lawful : List Event → ℕ → ℕ → Type 0
+  lawful = IsLawfulAfter frames
 
-grown : (passes : ℕ) (steps front rest : List PortStep) → steps ≡ front ++ rest
-    → IsPrefix (led_to passes front).history (led_to passes steps).history
-grown passes steps front rest is =
-    subst (λ (c : Core). IsPrefix (led_to passes front).history c.history)
-    (sym (ap (stepped_by (empty passes)) is ∙ stepped_by-append (empty passes) front rest)) (grows (led_to passes front) rest)
+  abbrev IsSound : Core → Type 0
+  IsSound = IsSoundCore legal lawful (legal_empty frames) (lawful_zero frames)
 
-pub whole_run : WholeRun
-whole_run frames passes steps r =
-    let legal = IsLegal frames in
-    let lawful = IsLawfulAfter frames in
-    let at = λ (front rest : List PortStep) (is : steps ≡ front ++ rest).
-    front_of legal lawful (legal_empty frames) (lawful_zero frames) passes steps front rest r is in
-    record {
-      legal = (sound legal lawful (legal_empty frames) (lawful_zero frames) (empty passes) steps
-          (sound_empty legal lawful (legal_empty frames) (lawful_zero frames) passes) r).is_legal;
-      seen = λ front rest caller is.
-          prefix_trans (seen_by (led_to passes front) caller) (led_to passes front).history (led_to passes steps).history
-          ((at front rest is).fronts caller) (grown passes steps front rest is);
-      lawful = λ front rest port slot word is.
-          let s = at front (loads_word port slot word ∷ rest) is in
-          let may : (port < DEVICES) × (slot < SLOTS) × (word ≡ word_at (led_to passes front) port slot) =
-          step_of legal lawful (legal_empty frames) (lawful_zero frames) passes steps front rest (loads_word port slot word) r is in
-          let c : Core = led_to passes front in
-          let lt : port < length c.seen = omega (arith, s.ports, may.0) in (
-            subst (lawful c.history port) (sym may.2) (s.each_lawful port slot may.0 may.1),
-            ap (λ (d : Core). seen_by d port) (stepped_by-append (empty passes) front (loads_word port slot word ∷ []))
-                ∙ get_or-set_same c.seen port c.history [] lt,
-          );
-      ordered = λ front between rest one other caller _ _ is.
-          subst (λ (c : Core). IsPrefix (led_to passes front).history c.history)
-          (sym (stepped_by-append (empty passes) front (one ∷ between))) (grows (led_to passes front) (one ∷ between));
-    }
+  sound_start : IsSound (empty passes)
+  sound_start = sound_empty legal lawful (legal_empty frames) (lawful_zero frames) passes
+
+  -- the state after a front of a run
+  at_front : (front rest : List PortStep) → IsRunOf frames passes (front ++ rest) → IsSound (led_to passes front)
+  at_front front rest r =
+      sound legal lawful (legal_empty frames) (lawful_zero frames) (empty passes) front sound_start
+      (run_front legal lawful (legal_empty frames) (lawful_zero frames) (empty passes) front rest r)
+
+  pub last_legal : (steps : List PortStep) → IsRunOf frames passes steps → IsLegal frames (led_to passes steps).history
+  last_legal steps r = (sound legal lawful (legal_empty frames) (lawful_zero frames) (empty passes) steps sound_start r).is_legal
+
+  pub seen_begins : (front rest : List PortStep) (caller : ℕ) → IsRunOf frames passes (front ++ rest)
+      → IsPrefix (seen_by (led_to passes front) caller) (led_to passes (front ++ rest)).history
+  seen_begins front rest caller r =
+      prefix_trans (seen_by (led_to passes front) caller) (led_to passes front).history (led_to passes (front ++ rest)).history
+      ((at_front front rest r).fronts caller)
+      (subst (λ (c : Core). IsPrefix (led_to passes front).history c.history) (sym (stepped_by-append (empty passes) front rest))
+      (grows (led_to passes front) rest))
+
+  -- the load is a step of the state that the front leads to
+  load_of : (front rest : List PortStep) (port slot word : ℕ) → IsRunOf frames passes (front ++ loads_word port slot word ∷ rest)
+      → (port < DEVICES) × (slot < SLOTS) × (word ≡ word_at (led_to passes front) port slot)
+  load_of front rest port slot word r =
+      let all = run_rest legal lawful (legal_empty frames) (lawful_zero frames) (empty passes) front (loads_word port slot word ∷ rest) r in
+      all.0
+
+  pub load_lawful : (front rest : List PortStep) (port slot word : ℕ) → IsRunOf frames passes (front ++ loads_word port slot word ∷ rest)
+      → IsLawfulAfter frames (led_to passes front).history port word
+  load_lawful front rest port slot word r =
+      let may = load_of front rest port slot word r in
+      let s = at_front front (loads_word port slot word ∷ rest) r in
+      subst (lawful (led_to passes front).history port) (sym may.2) (s.each_lawful port slot may.0 may.1)
+
+  pub load_learns : (front rest : List PortStep) (port slot word : ℕ) → IsRunOf frames passes (front ++ loads_word port slot word ∷ rest)
+      → seen_by (led_to passes (front ++ loads_word port slot word ∷ [])) port ≡ (led_to passes front).history
+  load_learns front rest port slot word r =
+      let may = load_of front rest port slot word r in
+      let s = at_front front (loads_word port slot word ∷ rest) r in
+      let c : Core = led_to passes front in
+      let lt : port < length c.seen = omega (arith, s.ports, may.0) in
+      ap (λ (d : Core). seen_by d port) (stepped_by-append (empty passes) front (loads_word port slot word ∷ []))
+      ∙ get_or-set_same c.seen port c.history [] lt
+
+  pub later_longer : (front between : List PortStep) (one : PortStep)
+      → IsPrefix (led_to passes front).history (led_to passes (front ++ one ∷ between)).history
+  later_longer front between one =
+      subst (λ (c : Core). IsPrefix (led_to passes front).history c.history)
+      (sym (stepped_by-append (empty passes) front (one ∷ between))) (grows (led_to passes front) (one ∷ between))

@@ -1,9 +1,8 @@
-//! Readers and writers that fail once and then work, that work by part, and answers of more than a block.
+//! Readers and writers that fail once and then work, or that work by part.
 
 ghost use Rattle.std.specs.Prelude.{Some};
 
-use super::rows::EMPTY_REPORT;
-use super::{FIRST_MAP, answers, config};
+use super::{FIRST_MAP, config};
 use script::{Counted, RunError, report, run};
 use std::alloc::Global;
 use std::cell::Cell;
@@ -18,6 +17,9 @@ const FIRST_ANSWERS: &[u8] = b"domain 1\nok\nmap 0x1000\nhost 0x100234\n";
 const FIRST_REPORT: &[u8] =
     b"events 4\nframes 61 free 3 used 0 retired\ntickets 0 open\nring 0 pending\n\
     domain 1 strict live 1 retired 0 pieces 3\ndevice 3 domain 1\n";
+
+const EMPTY_REPORT: &[u8] =
+    b"events 0\nframes 64 free 0 used 0 retired\ntickets 0 open\nring 0 pending\n";
 
 const DOMAIN_REPORT: &[u8] =
     b"events 1\nframes 63 free 1 used 0 retired\ntickets 0 open\nring 0 pending\n\
@@ -146,7 +148,7 @@ fn a_read_fails_once(rt: HostRuntime) -> Result<(), Fail> {
         let mut written = Vec::new(rt.alloc());
         let mut reader = Counted::new(&mut input);
         let mut writer = Counted::new(&mut written);
-        let config = config(9).ok_or("within the limits")?;
+        let config = config().ok_or("within the limits")?;
         let result = run(&rt, rt.alloc(), &mut reader, &mut writer, config);
         assert_eq!(rt; result, Err(RunError::Read));
         assert!(rt; reader.failed());
@@ -189,7 +191,7 @@ fn a_write_goes_wrong_once(rt: HostRuntime) -> Result<(), Fail> {
             };
             let mut reader = Counted::new(&mut input);
             let mut writer = Counted::new(&mut output);
-            let config = config(9).ok_or("within the limits")?;
+            let config = config().ok_or("within the limits")?;
             let result = run(&rt, rt.alloc(), &mut reader, &mut writer, config);
             assert_eq!(rt; result, Err(RunError::Write));
             assert!(rt; !reader.failed());
@@ -228,7 +230,7 @@ fn check_report<T: Wait + Abort>(
     };
     let mut reader = Counted::new(&mut input);
     let mut writer = Counted::new(&mut output);
-    let config = config(9).ok_or("within the limits")?;
+    let config = config().ok_or("within the limits")?;
     assert_eq!(rt; report(rt, alloc, &mut reader, &mut writer, config), wanted);
     assert_eq!(rt; reader.failed(), bad_read != 0);
     assert_eq!(rt; writer.failed(), wanted == Err(RunError::Write));
@@ -302,26 +304,11 @@ fn writes_take_a_part(rt: HostRuntime) -> Result<(), Fail> {
     };
     let mut reader = Counted::new(FIRST_MAP);
     let mut writer = Counted::new(&mut output);
-    let config = config(9).ok_or("within the limits")?;
+    let config = config().ok_or("within the limits")?;
     let result = run(&rt, rt.alloc(), &mut reader, &mut writer, config);
     assert_eq!(rt; result, Ok(()));
     drop(writer);
     assert_eq!(rt; output.held.as_slice(), FIRST_ANSWERS);
-    Ok(())
-}
-
-// A block of lines whose answers are longer than a block.
-#[test]
-fn answers_are_longer_than_a_block(rt: HostRuntime) -> Result<(), Fail> {
-    let mut script = Vec::new(rt.alloc());
-    let mut wanted = Vec::new(rt.alloc());
-    for _ in 0..600u64 {
-        script.extend_from_slice(b"flush 1\n".as_slice())?;
-        wanted.extend_from_slice(b"refused 1\n".as_slice())?;
-    }
-    let (result, written) = answers(&rt, rt.alloc(), script.as_slice(), 65536)?;
-    assert_eq!(rt; result, Ok(()));
-    assert_eq!(rt; written.as_slice(), wanted.as_slice());
     Ok(())
 }
 
@@ -332,8 +319,8 @@ fn lines_behind_a_bad_one_are_left(rt: HostRuntime) -> Result<(), Fail> {
     let mut written = Vec::new(rt.alloc());
     let mut reader = Counted::new(script);
     let mut writer = Counted::new(&mut written);
-    let first = config(9).ok_or("within the limits")?;
-    let second = config(9).ok_or("within the limits")?;
+    let first = config().ok_or("within the limits")?;
+    let second = config().ok_or("within the limits")?;
     let result = run(&rt, rt.alloc(), &mut reader, &mut writer, first);
     assert_eq!(rt; result, Err(RunError::BadLine(2)));
     let result = run(&rt, rt.alloc(), &mut reader, &mut writer, second);

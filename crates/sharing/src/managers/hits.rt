@@ -16,7 +16,7 @@ use std::thread::{Threads, join, yield_now};
 // Turns that a thread yields at most for another.
 const TURNS: u64 = 100_000_000;
 
-// A domain with device 3 attached, and so many pages of it mapped at 0x1000 to frame 0x100 for reading; then a request
+// A domain with device 3 attached, and `pages` pages of it mapped at 0x1000 to frame 0x100 for reading; then a request
 // with fill at each of these addresses.
 fn request_pages<B: Owner>(
     rt: &impl Wait,
@@ -154,7 +154,7 @@ fn hit_once_held<B: Owner>(
     (Some((here, there)), port)
 }
 
-// Whether the flag is raised before so many turns are over.
+// Whether the flag is raised within this number of turns.
 fn is_raised(flag: &AtomicU64) -> bool {
     for _ in 0..TURNS {
         if flag.load(Ordering::SeqCst) == 1 {

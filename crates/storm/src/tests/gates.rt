@@ -48,7 +48,7 @@ const WORKERS: usize = 5;
 
 const CALLS: u64 = 25;
 
-// How often each worker was told of, and how often it was out of order or no worker.
+// How often each worker was named to the gate, and how often out of order or as no worker.
 #[derive(Drop)]
 struct Watch {
     steps: [AtomicU64; WORKERS],

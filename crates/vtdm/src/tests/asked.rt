@@ -13,7 +13,7 @@ use std::test::Fail;
 const LONG_WORD: &str =
     "run-with-a-word-of-more-than-sixty-four-bytes-that-asks-for-nothing-at-all";
 
-// 64, with more zeros before it than a word has bytes that is told back.
+// 64, with more zeros before it than a word has bytes that an error repeats.
 const LONG_NUMBER: &str =
     "--frames=000000000000000000000000000000000000000000000000000000000000000000000064";
 
@@ -36,7 +36,7 @@ impl Read for Counting<'_> {
     }
 }
 
-// A bad command line is told on standard error, help is output, and neither reads anything.
+// A bad command line ends with a line on standard error, help is output, and neither reads anything.
 #[test]
 fn command_lines(rt: HostRuntime) {
     let rows: [(&[&str], u8); 31] = [

@@ -17,7 +17,7 @@ const DOMAINS_AND_FRAMES_ANSWERS: &[u8] = b"domain 1\ndomain 2\ndomain 3\ndomain
 
 const FOUR_CALLS: &[u8] = b"domain strict\nattach 3 1\nmap 1 0x100 1 0 rw\ndma 3 0x1000 r\n";
 
-// What stands before a bad line is answered, and its number is told.
+// What stands before a bad line is answered, and standard error has its number.
 #[test]
 fn bad_lines_are_told(rt: HostRuntime) {
     let run: &[&str] = &["run"];

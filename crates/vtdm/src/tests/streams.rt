@@ -63,7 +63,7 @@ impl Write for Stream {
     }
 }
 
-// How the program ended, and what it wrote and told.
+// How the program ended, and what it wrote to its output and to standard error.
 #[derive(Drop)]
 struct Outcome {
     status: u8,
@@ -90,7 +90,7 @@ fn outcome_of<T: Wait + Threads + Sync>(
     }
 }
 
-// Where a write to the output goes wrong, a beginning of it is written and nothing after; that is the fault that is told.
+// Where a write to the output goes wrong, a beginning of it is written and nothing after, and standard error names that fault.
 fn check_output<T: Wait + Threads + Sync + Abort>(
     rt: &T,
     alloc: Global,
@@ -113,7 +113,7 @@ fn check_output<T: Wait + Threads + Sync + Abort>(
     }
 }
 
-// Where a write to standard error goes wrong, the status and the output stay, and nothing more is told.
+// Where a write to standard error goes wrong, the status and the output stay, and nothing more is written there.
 fn check_errors<T: Wait + Threads + Sync + Abort>(
     rt: &T,
     alloc: Global,
@@ -164,7 +164,7 @@ fn streams_go_wrong(rt: HostRuntime) {
     }
 }
 
-// A fault of the input or the output has its status where it can't be told.
+// A fault of the input or the output has its status where standard error fails too.
 #[test]
 fn faults_that_are_not_told(rt: HostRuntime) {
     for hitch in [Hitch::Failure, Hitch::Nothing] {
@@ -184,7 +184,7 @@ fn faults_that_are_not_told(rt: HostRuntime) {
     }
 }
 
-// Where the words can't be had, that is told, and the status stays where it can't be told.
+// Where the words can't be had, standard error says so, and the status stays where that fails too.
 #[test]
 fn words_that_are_not_had(rt: HostRuntime) {
     let rows: [(io::ErrorKind, u8, &[u8]); 2] = [

@@ -32,7 +32,10 @@ returns-in-Answers-clause-written g c =
     c.answer_lines-end.result c.in-Answers.is c.replies_for.ensures c.answer_lines-end.ensures.written)
 
 pub returns-clause-written : goal.returns-clause-written
-returns-clause-written g c =
+returns-clause-written g c = rw c.in-Map.is tt
+
+pub returns-in-Report-clause-written : goal.returns-in-Report-clause-written
+returns-in-Report-clause-written g c =
     rw (c.requires.named.frames_are, c.requires.named.room_is) (report_is_known _ c.args.output c.replies_for.result _ _ _ _ _ _ _ _
     c.answer_lines-end.new.writer.block c.send_report.new.writer.block c.answer_lines-end.new.book
     c.answer_lines-end.result c.send_report.result c.in-Report.is c.replies_for.ensures c.answer_lines-end.ensures.written

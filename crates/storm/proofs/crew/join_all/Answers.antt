@@ -1,5 +1,5 @@
-use Rattle.std.proofs.Common.{◌≡◌, ◌+◌, ◌*◌, IfSome, arith, length, subst}
-use Rattle.storm.specs.Storms.{HasCheckedIn, HasMade}
+use Rattle.std.proofs.Common.{◌≡◌, IfSome, arith, subst}
+use Rattle.storm.specs.Storms.{HasChecked, HasCheckedIn, HasMade}
 use Rattle.storm.proofs.Elements.{All-first, All-next, All-pushed}
 use Rattle.storm.proofs.crew.join_all.Goals as goal
 
@@ -21,8 +21,8 @@ loop-handle-preserved-in-Some-port g c =
             All-next (λ h. h.promise.0 ≡ calls) _ _ c.in-Some.handle step.0 h.0,
             All-pushed (HasMade g.B.Owner.room calls) c.loop-handle.returned.shares.items c.push_reserved.new.self.items share
                 c.push_reserved.ensures.items (subst (λ n. HasMade g.B.Owner.room n share) first c.join-share.ensures.0) h.1,
-            All-pushed (λ p. length p.did ≡ 2 * calls + 1) c.loop-handle.returned.ports.items c.push_reserved-in-Some-port.new.self.items
-                c.in-Some-port.port c.push_reserved-in-Some-port.ensures.items (omega (arith, first, checked.0)) h.2,
+            All-pushed (HasChecked calls) c.loop-handle.returned.ports.items c.push_reserved-in-Some-port.new.self.items c.in-Some-port.port
+                c.push_reserved-in-Some-port.ensures.items (subst (λ n. HasChecked n c.in-Some-port.port) first checked.0) h.2,
           ),
     )
 

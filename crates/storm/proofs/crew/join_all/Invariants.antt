@@ -1,6 +1,6 @@
-use Rattle.std.proofs.Common.{◌≡◌, ◌+◌, ◌*◌, ◌≤◌, ℕ, All, length, vec_capacity, vec_len}
+use Rattle.std.proofs.Common.{◌≡◌, ◌+◌, ◌≤◌, ℕ, All, vec_capacity, vec_len}
 use Rattle.std.specs.Vec.Iter.{into_iter_items, into_iter_len}
-use Rattle.storm.specs.Storms.{HasMade}
+use Rattle.storm.specs.Storms.{HasChecked, HasMade}
 use Rattle.storm.proofs.crew.join_all.Given as goal
 
 -- what came back so far, and the threads that are left
@@ -13,4 +13,4 @@ invariant-loop-handle g l =
     × ((calls : ℕ) → All (λ h. h.promise.0 ≡ calls) l.fn.running.items
     → All (λ h. h.promise.0 ≡ calls) (into_iter_items l.handle-iterator)
     × All (HasMade g.B.Owner.room calls) l.returned.shares.items
-    × All (λ p. length p.did ≡ 2 * calls + 1) l.returned.ports.items)
+    × All (HasChecked calls) l.returned.ports.items)

@@ -1,16 +1,19 @@
 use Rattle.std.proofs.Common.{◌≡◌, ◌+◌, ◌<◌, ◌∷◌, ◌++◌, [], All, length, sum_by, arith, ap, sym, subst, ◌∙◌}
 use Rattle.manager.specs.Kept.{AllSaw, Book, Share}
 use Rattle.std.proofs.lemmas.Option.{get_or_from_slice_get}
-use Rattle.ports.specs.Seen.{Port, new_port}
+use Rattle.ports.specs.Seen.{new_port}
 use Rattle.storm.specs.Storms.{HasMet}
+use Rattle.storm.proofs.Meeting.{new_from}
 use Rattle.storm.proofs.Storms.{all_made}
 use Rattle.storm.proofs.storming.outcome_of.Goals as goal
 
 pub workers_of-requires-clause-ports : goal.workers_of-requires-clause-ports
-workers_of-requires-clause-ports g c k d within =
+workers_of-requires-clause-ports g c =
     let made = c.in_ok-manager.field-0.ports in
-    let few : k < 16 = omega (arith, within, made.ok, c.in_ok-manager.ensures.ports.0) in
-    ap (λ (p : Port). p.did) (get_or_from_slice_get made.items k (new_port g.B.Owner.rows k) d (c.in_ok-manager.ensures.ports.1 k few))
+    let rows = g.B.Owner.rows in
+    new_from rows 0 made.items
+    (λ k within d. let few : k < 16 = omega (arith, within, made.ok, c.in_ok-manager.ensures.ports.0) in
+    get_or_from_slice_get made.items k (new_port rows k) d (c.in_ok-manager.ensures.ports.1 k few) ∙ ap (new_port rows) (omega arith))
 
 pub returns : goal.returns
 returns g c =
@@ -40,5 +43,5 @@ returns g c =
           c.in-Ok.ensures.kept.within
           ∙ sym room);
       met = subst (λ (b : Book). All (HasMet plan.calls b.history) c.meet_all.new.ports.items) (sym c.meet_all.ensures.same)
-          (c.meet_all.ensures.met plan.calls c.in_ok-shares.ensures.stepped);
+          (c.meet_all.ensures.met plan.calls c.in_ok-shares.ensures.checked);
     }

@@ -6,5 +6,5 @@ returns-in-Ok g c = record {
   len = omega (arith, c.join_all.ensures.len, c.in-Ok.ensures.all);
   room = omega (arith, c.join_all.ensures.len, c.join_all.ensures.room, c.in-Ok.ensures.all, c.requires.shares);
   made = (c.join_all.ensures.made c.captures.site.now.calls c.in-Ok.ensures.stints).0;
-  stepped = (c.join_all.ensures.made c.captures.site.now.calls c.in-Ok.ensures.stints).1;
+  checked = (c.join_all.ensures.made c.captures.site.now.calls c.in-Ok.ensures.stints).1;
 }

@@ -1,0 +1,147 @@
+//! The map of a manager's address spaces: which runs of their pages are live, retired and free, and the retired records.
+
+ghost use Rattle.std.specs.Prelude.{◌≡◌, ◌↔◌, ◌⊎◌, [], Err, true, false, is_err, IsErrOf};
+
+use crate::counted::Counted;
+use crate::error::RunError;
+use crate::wrapped::Failed;
+use arrayvec::ArrayString;
+use dmatypes::{MOST_DOMAINS, MOST_RECORDS, Mode, PAGE_BYTES};
+use engine::{RetiredRecord, State};
+use iova::{PageState, Piece};
+use std::fmt;
+use std::fmt::Write as _;
+use std::io::Write;
+
+// The most bytes of a line: 100 columns, and the newline.
+const LINE_BYTES: usize = 101;
+
+type Line = ArrayString<LINE_BYTES>;
+
+/// Writes the map at the end of a report. Nothing follows a write that failed.
+pub(crate) fn send_map<W: Write>(
+    writer: &mut Counted<W>,
+    state: &State,
+    end: Result<(), RunError>,
+) -> Result<(), RunError>
+    requires { (writer.old.wrapped.failed ≡ true) ↔ IsErrOf end RunError.Write }
+    ensures writer { (writer.new.wrapped.failed ≡ true) ↔ IsErrOf result RunError.Write }
+    ensures same { (result ≡ Err RunError.Write) ⊎ ((result ≡ end) × (writer.new.block ≡ [])) }
+{
+    if let Err(RunError::Write) = end {
+        return end;
+    }
+    match put_domains(writer, state) {
+        Ok(()) => {}
+        Err(Failed) => return Err(RunError::Write),
+    }
+    match writer.flush() {
+        Ok(()) => end,
+        Err(Failed) => Err(RunError::Write),
+    }
+}
+
+fn put_domains<W: Write>(writer: &mut Counted<W>, state: &State) -> Result<(), Failed>
+    requires { writer.old.wrapped.failed ≡ false }
+    ensures { writer.new.wrapped.failed ≡ is_err result }
+{
+    for index in 0..MOST_DOMAINS {
+        put_domain(writer, state, index + 1)?;
+    }
+    Ok(())
+}
+
+// The runs of a domain, and its retired records. None, where there is no such domain.
+fn put_domain<W: Write>(writer: &mut Counted<W>, state: &State, id: u64) -> Result<(), Failed>
+    requires { writer.old.wrapped.failed ≡ false }
+    ensures { writer.new.wrapped.failed ≡ is_err result }
+{
+    let Some(totals) = state.domain_totals(id) else {
+        return Ok(());
+    };
+    let Some(pieces) = state.pieces_of(id) else {
+        return Ok(());
+    };
+    put_line(writer, &domain_line(id, totals.mode))?;
+    put_runs(writer, pieces)?;
+    put_records(writer, state, id)
+}
+
+fn put_runs<W: Write>(writer: &mut Counted<W>, pieces: &[Piece]) -> Result<(), Failed>
+    requires { writer.old.wrapped.failed ≡ false }
+    ensures { writer.new.wrapped.failed ≡ is_err result }
+{
+    for piece in pieces {
+        put_line(writer, &run_line(*piece))?;
+    }
+    Ok(())
+}
+
+fn put_records<W: Write>(writer: &mut Counted<W>, state: &State, id: u64) -> Result<(), Failed>
+    requires { writer.old.wrapped.failed ≡ false }
+    ensures { writer.new.wrapped.failed ≡ is_err result }
+{
+    for index in 0..MOST_RECORDS {
+        let Some(record) = state.retired_record(id, index as usize) else {
+            return Ok(());
+        };
+        put_line(writer, &record_line(record))?;
+    }
+    Ok(())
+}
+
+fn put_line<W: Write>(writer: &mut Counted<W>, line: &Line) -> Result<(), Failed>
+    requires { writer.old.wrapped.failed ≡ false }
+    ensures { writer.new.wrapped.failed ≡ is_err result }
+{
+    writer.put(line.as_str().as_bytes())
+}
+
+fn domain_line(id: u64, mode: Mode) -> Line {
+    let word = match mode {
+        Mode::Strict => "strict",
+        Mode::Lazy => "lazy",
+    };
+    let mut line = Line::new();
+    let _ = writeln!(line, "iova of domain {id} {word}");
+    line
+}
+
+fn run_line(piece: Piece) -> Line {
+    let (word, mark) = match piece.state {
+        PageState::Free => ("free", "."),
+        PageState::Live => ("live", "#"),
+        PageState::Retired => ("retired", "~"),
+    };
+    let pages = piece.last.saturating_sub(piece.first).saturating_add(1);
+    let mut line = Line::new();
+    let _ = write_addresses(&mut line, piece.first, pages);
+    let _ = write!(line, " {word:<8}{pages:>10} ");
+    let _ = write_bar(&mut line, mark, pages);
+    line
+}
+
+fn record_line(record: RetiredRecord) -> Line {
+    let (first, pages, mark) = (record.range.first(), record.range.pages(), record.mark);
+    let mut line = Line::new();
+    let _ = write_addresses(&mut line, first, pages);
+    let _ = writeln!(line, " record  {pages:>10} mark {mark}");
+    line
+}
+
+// The byte addresses of pages, the first and the last.
+fn write_addresses(line: &mut Line, page: u64, pages: u64) -> fmt::Result {
+    let first = page.saturating_mul(PAGE_BYTES);
+    let last = first
+        .saturating_add(pages.saturating_mul(PAGE_BYTES))
+        .saturating_sub(1);
+    write!(line, "  {first:#012x}-{last:#012x}")
+}
+
+// A mark for each binary digit of how many pages there are.
+fn write_bar(line: &mut Line, mark: &str, pages: u64) -> fmt::Result {
+    for _ in pages.leading_zeros()..u64::BITS {
+        line.write_str(mark)?;
+    }
+    line.write_str("\n")
+}

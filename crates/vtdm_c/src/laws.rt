@@ -1,0 +1,21 @@
+//! Laws of the statuses that C is answered by. Each function does nothing: its contract is the law.
+
+ghost use Rattle.std.specs.Prelude.{◌≡◌, ◌+◌, ◌<◌};
+ghost use Rattle.dmatypes.specs.Numbers.{fault_number, refusal_number};
+ghost use Rattle.dmatypes.specs.declared.refusal.Fault.{Fault};
+ghost use Rattle.dmatypes.specs.declared.refusal.Refusal.{Refusal};
+ghost use Rattle.dmatypes.specs.declared.refusal.Refusal.TheVariants as refusals;
+ghost use Rattle.vtdm_c.specs.declared.answer.TheConstants.Answer.{ABSENT, FAULTS, NOT_ATTACHED, NO_DEVICE, NO_DOMAIN, OK};
+
+/// A status names one thing: no two refusals have the same, and no two faults; those of refusals lie behind that of a call
+/// that was done and before those of faults, and these before those of the interface itself. What a reader doesn't find has
+/// the status of the refusal for it.
+pub fn statuses()
+    ensures refusals { (r : Refusal) → (OK < refusal_number r) × (refusal_number r < FAULTS) }
+    ensures refusals_apart { (r q : Refusal) → refusal_number r ≡ refusal_number q → r ≡ q }
+    ensures faults { (f : Fault) → (FAULTS < FAULTS + fault_number f) × (FAULTS + fault_number f < ABSENT) }
+    ensures faults_apart { (f g : Fault) → FAULTS + fault_number f ≡ FAULTS + fault_number g → f ≡ g }
+    ensures domain { NO_DOMAIN ≡ refusal_number refusals.NoDomain }
+    ensures device { NO_DEVICE ≡ refusal_number refusals.NoDevice }
+    ensures attached { NOT_ATTACHED ≡ refusal_number refusals.NotAttached }
+{}
