@@ -47,8 +47,7 @@ fn two_drivers<B: Owner + Send + Sync, R: Threads + Wait + Sync, W: Write>(
         || map_page(rt, &manager, &rows, two),
     );
     for mut port in made.ports.into_iter().take(1) {
-        // The device asks its port, which takes no lock, and where that can't answer, the unit, under the lock. With a
-        // fill the port can answer from then on.
+        // The device asks its port, which takes no lock, and where that can't answer, the unit, under the lock.
         if port.hit(&rows, 0x1000, Access::Read).0.is_none() {
             call(rt, &manager, &rows, &mut mine, b"dma 0 0x1000 r look fill");
         }
