@@ -91,13 +91,17 @@ def lacks_edit(row):
 
 
 def lacks_test(row):
-    """A test is a function of a crate, or a stored row."""
+    """A test is a function of a crate, a stored row, or a step of one of the gate's scripts."""
     lost = []
     for name in words(row[1]):
         if name.endswith(".row"):
             lost += [] if os.path.isfile(f"{ROWS}/{name}") else [name]
             continue
         crate, *module, function = name.split("::")
+        if crate.endswith(".py"):
+            script = f"{TOP}/.ci/{crate}"
+            lost += [] if os.path.isfile(script) and f"\ndef {function}(" in text_of(script) else [name]
+            continue
         text = sources(crate).get("::".join(module), "")
         if not re.search(rf"#\[test\]\n(?:\s*//[^\n]*\n)*\s*fn {function}\(", text):
             lost.append(name)
