@@ -76,8 +76,7 @@ impl Iommu {
         }
     }
 
-    // The same, as after `waits` waits that are all done.
-    #[cfg(test)]
+    /// The same, as after `waits` waits that are all done.
     pub(crate) fn after(waits: u64) -> Iommu
         ensures { result ≡ record {
           contexts = replicate DEVICES ContextEntry.Absent;

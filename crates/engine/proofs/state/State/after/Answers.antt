@@ -12,7 +12,7 @@ use Rattle.engine.specs.Quarantine.{Quarantine}
 use Rattle.engine.specs.Tickets.{Follow, pairs_of}
 use Rattle.engine.specs.Whole.{IsWhole}
 use Rattle.engine.proofs.states.New.{of_empty_world, whole_new}
-use Rattle.engine.proofs.state.tests.state_after.Goals as goal
+use Rattle.engine.proofs.state.State.after.Goals as goal
 
 abbrev quiet : ℕ → Iommu
 quiet waits = record {
@@ -93,10 +93,11 @@ module _ (m : State) (frames waits : ℕ) (new : IsNew frames m) where
 
 pub invariant_of-state : goal.invariant_of-state
 invariant_of-state c =
-    let new : IsNew 64 (the_view c.state.inside) = subst (IsNew 64) (sym c.state.view_is) c.in_ok-state.ensures.new in (
+    let frames = c.args.frames in
+    let new : IsNew frames (the_view c.state.inside) = subst (IsNew frames) (sym c.state.view_is) c.in_ok-state.ensures.new in (
       subst (λ (x : Iommu). IsWhole c.state.inside.pool.frames (record (the_view c.state.inside) { iommu = x; calls = c.args.calls }))
           (sym c.after-state-inside.ensures)
-          (subst (λ n. IsWhole n (late (the_view c.state.inside) 64 c.args.calls new)) (sym new.frames_are)
-          (late_whole (the_view c.state.inside) 64 c.args.calls new)),
+          (subst (λ n. IsWhole n (late (the_view c.state.inside) frames c.args.calls new)) (sym new.frames_are)
+          (late_whole (the_view c.state.inside) frames c.args.calls new)),
       c.state.invariant.1,
     )

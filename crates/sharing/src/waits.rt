@@ -1,31 +1,18 @@
 //! Waits whose numbers pass 2^32, the end of what a wait writes.
 
-ghost use Rattle.std.specs.Prelude.{◌≡◌, ◌<◌, ◌≤◌, ◌^◌, IfOk};
+ghost use Rattle.std.specs.Prelude.{◌<◌, ◌^◌};
 
-use super::State;
-use crate::iommu::Iommu;
 use dmatypes::{Mode, Progress, Refusal};
-use std::alloc::{AllocError, Global};
+use engine::State;
 use std::process::Abort;
 use std::test::Fail;
 
 // The calls before the first that is tested, each of which sent a wait: three more waits have numbers below 2^32.
 const EARLIER: u64 = (1 << 32) - 3;
 
-// A state with no domain, as after `calls` calls, each of which sent a wait that is done.
-fn state_after(alloc: Global, calls: u64) -> Result<State, AllocError>
-    requires { calls ≤ 2 ^ 40 }
-    ensures { IfOk result (λ state. state.calls ≡ calls) }
-{
-    let mut state = State::new(alloc, 64)?;
-    state.iommu = Iommu::after(calls);
-    state.calls = calls;
-    Ok(state)
-}
-
 #[test]
 fn waits_pass_32_bits(rt: HostRuntime) -> Result<(), Fail> {
-    let mut state = state_after(rt.alloc(), EARLIER)?;
+    let mut state = State::after(rt.alloc(), 64, EARLIER)?;
     flush_around(&rt, &mut state)
 }
 
