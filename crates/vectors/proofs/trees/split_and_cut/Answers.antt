@@ -10,7 +10,7 @@ use Rattle.tables.specs.Tree.{states, stated, uses}
 use Rattle.tables.specs.Pool.{Pool, memory, occurs, IsTree}
 use Rattle.tables.specs.Changes.{MapsPages, UnmapsPages, TakesAndGivesFrames}
 use Rattle.tables.proofs.pools.Kept.{span-levels, same_root}
-use Rattle.rows.proofs.trees.split_and_cut.Goals as goal
+use Rattle.vectors.proofs.trees.split_and_cut.Goals as goal
 
 on_ok : {A E P : Type 0} (r : Result A E) (a : A) → r ≡ Ok a → OnOk r P → P
 on_ok {A} {E} {P} r a e h = let Q : Result A E → Type 0 = λ x. OnOk x P in subst Q e h
