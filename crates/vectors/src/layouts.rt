@@ -33,20 +33,19 @@ fn words_of(low: u64, high: u64) -> Words {
 
 // Whether the word spells the entry at the level, both ways.
 fn is_entry(level: u64, word: u64, entry: SsEntry) -> bool {
-    SsEntry::decode(level, word).is_some_and(|found| found == entry) && entry.encode() == word
+    entry.encode() == word && SsEntry::decode(level, word) == Some(entry)
 }
 
 fn is_context(words: Words, entry: ContextEntry) -> bool {
-    ContextEntry::decode(words).is_some_and(|found| found == entry) && entry.encode() == words
+    entry.encode() == words && ContextEntry::decode(words) == Some(entry)
 }
 
 fn is_descriptor(words: Words, descriptor: Descriptor) -> bool {
-    Descriptor::decode(words).is_some_and(|found| found == descriptor)
-        && descriptor.encode() == words
+    descriptor.encode() == words && Descriptor::decode(words) == Some(descriptor)
 }
 
 fn is_port_word(word: u64, port: PortWord) -> bool {
-    PortWord::decode(word).is_some_and(|found| found == port) && port.encode() == word
+    port.encode() == word && PortWord::decode(word) == Some(port)
 }
 
 #[test]
