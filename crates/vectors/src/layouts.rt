@@ -33,19 +33,31 @@ fn words_of(low: u64, high: u64) -> Words {
 
 // Whether the word spells the entry at the level, both ways.
 fn is_entry(level: u64, word: u64, entry: SsEntry) -> bool {
-    entry.encode() == word && SsEntry::decode(level, word) == Some(entry)
+    match SsEntry::decode(level, word) {
+        Some(found) => found == entry && entry.encode() == word,
+        None => false,
+    }
 }
 
 fn is_context(words: Words, entry: ContextEntry) -> bool {
-    entry.encode() == words && ContextEntry::decode(words) == Some(entry)
+    match ContextEntry::decode(words) {
+        Some(found) => found == entry && entry.encode() == words,
+        None => false,
+    }
 }
 
 fn is_descriptor(words: Words, descriptor: Descriptor) -> bool {
-    descriptor.encode() == words && Descriptor::decode(words) == Some(descriptor)
+    match Descriptor::decode(words) {
+        Some(found) => found == descriptor && descriptor.encode() == words,
+        None => false,
+    }
 }
 
 fn is_port_word(word: u64, port: PortWord) -> bool {
-    port.encode() == word && PortWord::decode(word) == Some(port)
+    match PortWord::decode(word) {
+        Some(found) => found == port && port.encode() == word,
+        None => false,
+    }
 }
 
 #[test]
