@@ -36,13 +36,26 @@ struct Hit {
     count: u64,
 }
 
+// What a device noted of its port's answers: each of them, where memory sufficed.
+#[derive(Drop)]
+struct Notes {
+    device: u64,
+    hits: Vec<Hit>,
+    are_whole: bool,
+}
+
+impl Notes {
+    fn note(&mut self, hit: Hit) {
+        self.are_whole &= self.hits.push(hit).is_ok();
+    }
+}
+
 // What a device's thread owns: its port, a share for its requests, and what the port answered.
 #[derive(Drop)]
 struct Device<B: Owner> {
-    number: u64,
     port: Port<B>,
     share: Share<B>,
-    hits: Vec<Hit>,
+    notes: Notes,
 }
 
 impl<B: Owner> Device<B> {
@@ -54,34 +67,32 @@ impl<B: Owner> Device<B> {
         rows: &Rows<B>,
         mode: Mode,
         domain: u64,
-    ) -> Result<(), AllocError> {
+    ) {
         let attach = Call::Attach {
-            device: self.number,
+            device: self.notes.device,
             domain,
         };
-        let _ = manager.call(rt, rows, &mut self.share, Call::Domain(mode));
-        let _ = manager.call(rt, rows, &mut self.share, attach);
-        let _ = manager.call(rt, rows, &mut self.share, map_of(domain, 0x800));
+        for call in [Call::Domain(mode), attach, map_of(domain, 0x800)] {
+            let _ = manager.call(rt, rows, &mut self.share, call);
+        }
         self.request(rt, manager, rows, PAGE_BYTES);
-        self.hit(rows, PAGE_BYTES)
+        self.hit(rows, PAGE_BYTES);
     }
 
     // One read by the port.
-    fn hit(&mut self, rows: &Rows<B>, address: u64) -> Result<(), AllocError> {
+    fn hit(&mut self, rows: &Rows<B>, address: u64) {
         let (host, count) = self.port.hit(rows, address, Access::Read);
-        Ok(
-            self.hits.push(Hit {
-                address,
-                host,
-                count,
-            })?,
-        )
+        self.notes.note(Hit {
+            address,
+            host,
+            count,
+        });
     }
 
     // One read through the unit's caches, which is remembered.
     fn request<R: Wait>(&mut self, rt: &R, manager: &Manager<B>, rows: &Rows<B>, address: u64) {
         let request = Call::Dma {
-            device: self.number,
+            device: self.notes.device,
             address,
             access: Access::Read,
             whim: Whim {
@@ -93,20 +104,14 @@ impl<B: Owner> Device<B> {
     }
 
     // Reads the pages by turns, by the port before and behind each request.
-    fn read_all<R: Wait>(
-        &mut self,
-        rt: &R,
-        manager: &Manager<B>,
-        rows: &Rows<B>,
-    ) -> Result<(), AllocError> {
+    fn read_all<R: Wait>(&mut self, rt: &R, manager: &Manager<B>, rows: &Rows<B>) {
         for round in 0..ROUNDS {
             let address = PAGE_BYTES * (1 + round % PAGES) + round;
-            self.hit(rows, address)?;
+            self.hit(rows, address);
             self.request(rt, manager, rows, address);
-            self.hit(rows, address)?;
+            self.hit(rows, address);
         }
         manager.check_in(rt, rows, &mut self.share, &mut self.port);
-        Ok(())
     }
 }
 
@@ -153,22 +158,15 @@ fn driver_call(domain: u64, turn: u64, mapped: Option<u64>) -> Call {
     }
 }
 
-// What a device's thread hands back: what it owns, and whether memory sufficed for what it noted.
-#[derive(Drop)]
-struct Noted<B: Owner> {
-    device: Device<B>,
-    memory: Result<(), AllocError>,
-}
-
 // A device's thread.
 fn read_beside<B: Owner, R: Wait>(
     rt: &R,
     manager: &Manager<B>,
     rows: &Rows<B>,
     mut device: Device<B>,
-) -> Noted<B> {
-    let memory = device.read_all(rt, manager, rows);
-    Noted { device, memory }
+) -> Device<B> {
+    device.read_all(rt, manager, rows);
+    device
 }
 
 #[test]
@@ -191,27 +189,32 @@ fn audited<B: Owner + Send + Sync, R: Threads + Wait + Abort + Sync>(
         mut ports,
         mut shares,
     } = Manager::<B>::new(alloc, seed)?;
-    let mut strict = device_of(alloc, STRICT, ports.pop(), shares.pop())?;
-    let mut lazy = device_of(alloc, LAZY, ports.pop(), shares.pop())?;
-    strict.begin(rt, &manager, &rows, Mode::Strict, 1)?;
-    lazy.begin(rt, &manager, &rows, Mode::Lazy, 2)?;
-    let one = shares.pop().ok_or("a share")?;
-    let two = shares.pop().ok_or("a share")?;
-    let (driven, read) = all_at_once(rt, &manager, &rows, (one, two), (strict, lazy));
-    let (strict, lazy) = (device_in(read.0)?, device_in(read.1)?);
-    let mut all = Vec::new(alloc);
-    all.push(driven.0)?;
-    all.push(driven.1)?;
-    all.push(strict.share)?;
-    all.push(lazy.share)?;
-    let Ok(history) = manager.finish(&rows, all) else {
+    if shares.len() != 4 {
+        return Err(Fail::from("four shares"));
+    }
+    let mut strict = device_of(alloc, STRICT, ports.remove(15), shares.remove(3));
+    let mut lazy = device_of(alloc, LAZY, ports.remove(14), shares.remove(2));
+    strict.begin(rt, &manager, &rows, Mode::Strict, 1);
+    lazy.begin(rt, &manager, &rows, Mode::Lazy, 2);
+    let drivers = (shares.remove(1), shares.remove(0));
+    let (drivers, devices) = all_at_once(rt, &manager, &rows, drivers, (strict, lazy));
+    let (strict, lazy) = devices;
+    for share in [drivers.0, drivers.1, strict.share, lazy.share] {
+        shares.push(share)?;
+    }
+    let Ok(history) = manager.finish(&rows, shares) else {
         return Err(Fail::from("all shares are enough"));
     };
-    for (number, hits) in [(STRICT, &strict.hits), (LAZY, &lazy.hits)] {
-        // The first hit came before the threads.
-        assert!(rt; hits.iter().skip(1).any(|hit| hit.host.is_some()));
-        assert!(rt; are_allowed(alloc, history.events(), number, hits.as_slice())?);
-    }
+    judge(rt, alloc, history.events(), &strict.notes)?;
+    judge(rt, alloc, history.events(), &lazy.notes)
+}
+
+// Asserts that a device's port went on answering by host addresses, and that the events allow each of its answers.
+fn judge(rt: &impl Abort, alloc: Global, events: &[Event], notes: &Notes) -> Result<(), Fail> {
+    assert!(rt; notes.are_whole);
+    // The first hit came before the threads.
+    assert!(rt; notes.hits.iter().skip(1).any(|hit| hit.host.is_some()));
+    assert!(rt; are_allowed(alloc, events, notes.device, notes.hits.as_slice())?);
     Ok(())
 }
 
@@ -222,7 +225,7 @@ fn all_at_once<B: Owner + Send + Sync, R: Threads + Wait + Sync>(
     rows: &Rows<B>,
     drivers: (Share<B>, Share<B>),
     devices: (Device<B>, Device<B>),
-) -> ((Share<B>, Share<B>), (Noted<B>, Noted<B>)) {
+) -> ((Share<B>, Share<B>), (Device<B>, Device<B>)) {
     join(
         rt,
         || drive_both(rt, manager, rows, drivers),
@@ -250,7 +253,7 @@ fn read_both<B: Owner + Send + Sync, R: Threads + Wait + Sync>(
     manager: &Manager<B>,
     rows: &Rows<B>,
     (strict, lazy): (Device<B>, Device<B>),
-) -> (Noted<B>, Noted<B>) {
+) -> (Device<B>, Device<B>) {
     join(
         rt,
         || read_beside(rt, manager, rows, strict),
@@ -258,25 +261,17 @@ fn read_both<B: Owner + Send + Sync, R: Threads + Wait + Sync>(
     )
 }
 
-// The device, where memory sufficed for what its thread noted.
-fn device_in<B: Owner>(noted: Noted<B>) -> Result<Device<B>, AllocError> {
-    noted.memory?;
-    Ok(noted.device)
-}
-
 // A device with its port and a share.
-fn device_of<B: Owner>(
-    alloc: Global,
-    number: u64,
-    port: Option<Port<B>>,
-    share: Option<Share<B>>,
-) -> Result<Device<B>, Fail> {
-    Ok(Device {
-        number,
-        port: port.ok_or("a port")?,
-        share: share.ok_or("a share")?,
-        hits: Vec::new(alloc),
-    })
+fn device_of<B: Owner>(alloc: Global, number: u64, port: Port<B>, share: Share<B>) -> Device<B> {
+    Device {
+        port,
+        share,
+        notes: Notes {
+            device: number,
+            hits: Vec::new(alloc),
+            are_whole: true,
+        },
+    }
 }
 
 // Whether each host address that a device's port answered is allowed after some front of the events, which is no shorter
