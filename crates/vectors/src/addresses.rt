@@ -1,5 +1,8 @@
 // Device addresses taken, retired and released, and what is refused at the limit of pieces.
 
+mod agreeing;
+mod list;
+
 use dmatypes::{Page, PageRange};
 use iova::{PageState, Piece, RetireError, Space, TakeError};
 use std::test::Fail;
@@ -30,6 +33,27 @@ fn takes_and_frees(rt: HostRuntime) -> Result<(), Fail> {
     assert_eq!(rt; space.piece_count(), 2);
     let range = PageRange::new(1, 2).ok_or("pages")?;
     assert_eq!(rt; space.may_retire(range), Err(RetireError::NotLive));
+    Ok(())
+}
+
+// Retired pieces that lie side by side are one free piece after one release, with the free one beside them.
+#[test]
+fn releases_a_run(rt: HostRuntime) -> Result<(), Fail> {
+    let mut space = Space::new(rt.alloc(), 15)?;
+    assert_eq!(rt; number(space.take(1, 0)), Ok(1));
+    assert_eq!(rt; number(space.take(1, 0)), Ok(2));
+    assert_eq!(rt; number(space.take(3, 0)), Ok(3));
+    let low = PageRange::new(2, 1).ok_or("page")?;
+    let high = PageRange::new(3, 3).ok_or("pages")?;
+    let run = PageRange::new(2, 4).ok_or("pages")?;
+    space.may_retire(low)?;
+    space.retire(low);
+    space.may_retire(high)?;
+    space.retire(high);
+    assert_eq!(rt; space.piece_count(), 4);
+    space.release_run(run);
+    assert_eq!(rt; space.piece_count(), 2);
+    assert_eq!(rt; number(space.take(14, 0)), Ok(2));
     Ok(())
 }
 
@@ -118,14 +142,16 @@ fn tells_the_state_of_a_page(rt: HostRuntime) -> Result<(), Fail> {
         last: 3,
         state: PageState::Live,
     };
-    assert_eq!(rt; space.pieces().get(2).copied(), Some(live));
+    assert_eq!(rt; space.pieces().nth(2), Some(live));
     space.reset();
     let free = Piece {
         first: 1,
         last: 15,
         state: PageState::Free,
     };
-    assert_eq!(rt; space.pieces(), [free].as_slice());
+    let mut pieces = space.pieces();
+    assert_eq!(rt; pieces.next(), Some(free));
+    assert_eq!(rt; pieces.next(), None);
     assert!(rt; free.is_free());
     Ok(())
 }
