@@ -5,9 +5,8 @@ ghost use Rattle.dmatypes.specs.World.{IsIn};
 ghost use Rattle.iova.specs.Pieces.{piece_of};
 
 use super::list::List;
-use crate::node::NUMBERS_END;
-use crate::{PageState, Space, TakeError};
-use dmatypes::PageRange;
+use dmatypes::{PAGES_END, PageRange};
+use iova::{PageState, Space, TakeError};
 use std::alloc::{AllocError, Global};
 use std::test::Fail;
 
@@ -40,7 +39,7 @@ fn retired_at(space: &Space, first: u64) -> Option<PageRange>
     while let Some(piece) = pieces.next() {
         if piece.first == first {
             if let PageState::Retired = piece.state {
-                if piece.first <= piece.last && piece.last < NUMBERS_END {
+                if piece.first <= piece.last && piece.last < PAGES_END {
                     return PageRange::new(piece.first, piece.last - piece.first + 1);
                 }
             }

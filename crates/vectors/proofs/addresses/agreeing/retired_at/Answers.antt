@@ -16,8 +16,8 @@ whole p h e =
     ap (λ n. record { first = p.first; last = n; state = p.state }) l
     ∙ ap (λ s. record { first = p.first; last = p.first + (p.last - p.first + 1) - 1; state = s }) e
 
-pub returns-then-piece-lt-NUMBERS_END : goal.returns-then-piece-lt-NUMBERS_END
-returns-then-piece-lt-NUMBERS_END c =
+pub returns-then-piece-lt-PAGES_END : goal.returns-then-piece-lt-PAGES_END
+returns-then-piece-lt-PAGES_END c =
     at c.new.result (λ range. IsIn (piece_of range Retired) c.args.space.now.pieces)
     (record { first = c.in-Some.piece.first; pages = c.in-Some.piece.last - c.in-Some.piece.first + 1 }) c.new.ensures.value
     (subst (λ p. IsIn p c.args.space.now.pieces) (whole c.in-Some.piece c.if-piece.true c.in-Retired.is)
