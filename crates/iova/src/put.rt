@@ -159,6 +159,18 @@ fn reach_above(nodes: &mut Slab<Node>, key: usize, piece: &Piece) -> Option<usiz
     settle(nodes, key)
 }
 
+/// Puts a piece over the one at a tree's key, which has its pages.
+#[inline(always)]
+fn put_same(nodes: &mut Slab<Node>, key: usize, piece: &Piece) -> Option<usize>
+    requires tree { CanPut nodes.old (Some key) piece.now }
+    requires same { (n : Node) × (get nodes.old key ≡ Some n) × (piece.now.first ≡ n.piece.first) × (piece.now.last ≡ n.piece.last) }
+    ensures { (t : Shape) (from : ℕ) → IsBelow (get nodes.old) (Some key) t from
+        → Leaves nodes.old nodes.new result t (with_piece piece.now (items t)) 1 }
+{
+    set_piece(nodes, key, *piece);
+    settle(nodes, key)
+}
+
 /// Puts a piece over what a tree has, where it meets the piece at the tree's key.
 fn put_at(nodes: &mut Slab<Node>, at: Option<usize>, piece: &Piece) -> Option<usize>
     requires tree { CanPut nodes.old at piece.now }
@@ -174,6 +186,9 @@ fn put_at(nodes: &mut Slab<Node>, at: Option<usize>, piece: &Piece) -> Option<us
     let last = node.piece.last;
     if piece.first == first && piece.last < last {
         return cut_front(nodes, key, piece);
+    }
+    if piece.first == first && piece.last == last {
+        return put_same(nodes, key, piece);
     }
     if piece.first < first && piece.last == last {
         return reach_below(nodes, key, piece);

@@ -8,7 +8,7 @@ use Rattle.iova.proofs.Pieces.{part_below-nil, part_above-nil}
 use Rattle.iova.specs.declared.node.Node.{Node}
 use Rattle.iova.specs.Tree.{Shape, Empty, items, height_of, IsPiece, IsBelow, IsLow, Leaves}
 use Rattle.iova.proofs.parts.Parts.{ordered_front, ordered_behind}
-use Rattle.iova.proofs.parts.Over.{with_past, with_under, with_front, with_before, with_behind}
+use Rattle.iova.proofs.parts.Over.{with_past, with_under, with_front, with_before, with_behind, with_same}
 use Rattle.iova.proofs.parts.Ends.{low_none}
 use Rattle.iova.proofs.shapes.Settled.{Opening, opening, opened_order, low_below, below_low, work_before, work_behind}
 
@@ -87,3 +87,6 @@ module _ (old : Slab Node) (root : Option ℕ) (key : ℕ) (n : Node) (p : Piece
   pub reach-behind : p.first ≡ n.piece.first → n.piece.last < p.last
       → with_piece p (items t) ≡ items k.l ++ p ∷ part_above p.last (items k.r)
   reach-behind a b = ap (λ x. with_piece p (items x)) k.is ∙ with_behind from (items k.l) n.piece (items k.r) p order k.piece a b
+
+  pub put-same : p.first ≡ n.piece.first → p.last ≡ n.piece.last → with_piece p (items t) ≡ items k.l ++ p ∷ items k.r
+  put-same a b = ap (λ x. with_piece p (items x)) k.is ∙ with_same from (items k.l) n.piece (items k.r) p order k.piece a b

@@ -76,3 +76,17 @@ module _ (old : Slab Node) (key : ℕ) (n : Node) (t : Shape) (o : Opening old k
             subst (λ ps. Leaves old new whole t (ps ++ p ∷ items o.r) more) m.makes.all
             (work_done old last new key (record n { left = child; piece = p }) t m.makes.shape o.r whole more left_cut i s k
             (omega (arith, o.low, m.makes.low)) (omega (arith, o.low)))
+
+-- the piece alone
+module _ (old : Slab Node) (key : ℕ) (n : Node) (t : Shape) (o : Opening old key n t) (p : Piece) (i : IsPiece p) (next : Slab Node)
+    (u : Updates old next key (Some (record n { piece = p }))) (c : KeepsCount old next) where
+  piece_after : Work old next key (record n { piece = p }) t o.l o.r
+  piece_after = work_piece old old next key n t o.l o.r p o.work o.mine u c
+
+  pub piece-can : CanSettle (get next) key
+  piece-can = work_can old next key (record n { piece = p }) t o.l o.r piece_after i
+
+  pub piece-done : (new : Slab Node) (whole : Option ℕ) → IsSettled (get next) (get new) whole key → KeepsCount next new
+      → Leaves old new whole t (items o.l ++ p ∷ items o.r) 1
+  piece-done new whole s k = work_done old next new key (record n { piece = p }) t o.l o.r whole 1 piece_after i s k
+      (omega (arith, o.low)) (omega (arith, o.low))
