@@ -6,3 +6,4 @@ pub mod Narrowed
 pub mod Walked
 pub mod Walk
 pub mod Beside
+pub mod Descent

@@ -93,6 +93,10 @@ pub record Walks (look : Look) (root : Option ℕ) (t : Shape) (from : ℕ) (p :
   pub down : IsLowBelow look root t from → IsPlace look t p way place.at place.depth
   pub meets : IfSome place.at (λ key. (n : Node) × (look key ≡ Some n) × Meets p n.piece)
 
+-- the way leads to the place where a piece is put
+abbrev pub LeadsTo : Look → Option ℕ → Piece → List Step → Place → Type 0
+LeadsTo look root p way place = (t : Shape) (from : ℕ) → Walks look root t from p way place
+
 -- ---- and up
 
 -- a key whose one child is to be this tree

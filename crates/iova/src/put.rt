@@ -4,7 +4,7 @@ ghost use Rattle.std.specs.Prelude.{◌≡◌, ℕ, ◌+◌, ◌<◌, ◌≤◌,
 ghost use Rattle.slab.specs.Slab.{get, slab_len};
 ghost use Rattle.iova.specs.Pieces.{IsOrdered, part_above, part_below, with_piece};
 ghost use Rattle.iova.specs.declared.node.Node.{Node};
-ghost use Rattle.iova.specs.Way.{CanWalk, Meets};
+ghost use Rattle.iova.specs.Way.{CanWalk, LeadsTo, Meets};
 ghost use Rattle.iova.specs.Tree.{CanPut, IsBelow, IsLow, IsPiece, Leaves, Shape, items, rest_above, rest_below};
 
 use crate::ends::{add_first, add_last, leaf};
@@ -13,7 +13,7 @@ use crate::node::Node;
 use crate::piece::Piece;
 use crate::settle::{set_all, set_left, set_piece, set_right, settle};
 use crate::trims::{keep_above, keep_below};
-use crate::way::{MOST_HEIGHT, NO_STEP, mend, walk};
+use crate::way::{MOST_HEIGHT, NO_STEP, Place, Step, mend, walk};
 use slab::Slab;
 
 /// Keeps what a tree has below a page, where the tree lies before a place.
@@ -212,6 +212,26 @@ fn meets(nodes: &Slab<Node>, at: Option<usize>, piece: &Piece) -> bool
     piece.first <= node.piece.last && node.piece.first <= piece.last
 }
 
+/// Puts a piece over what a tree has, where a way leads to the place for it.
+#[inline(always)]
+pub(crate) fn put_by(
+    nodes: &mut Slab<Node>,
+    root: Option<usize>,
+    piece: &Piece,
+    way: &[Step; MOST_HEIGHT],
+    place: Place,
+) -> Option<usize>
+    requires tree { CanPut nodes.old root piece.now }
+    requires low { CanWalk (get nodes.old) root }
+    requires place { LeadsTo (get nodes.old) root piece.now way.now place }
+    ensures { (t : Shape) (from : ℕ) → IsBelow (get nodes.old) root t from
+        → Leaves nodes.old nodes.new result t (with_piece piece.now (items t)) 1 }
+{
+    let end = put_at(nodes, place.at, piece);
+    let top = read(nodes, end);
+    mend(nodes, way, place.depth, root, top)
+}
+
 /// Puts a piece over what a tree has, below its key.
 #[inline(never)]
 fn put_below(nodes: &mut Slab<Node>, root: Option<usize>, piece: &Piece) -> Option<usize>
@@ -222,9 +242,7 @@ fn put_below(nodes: &mut Slab<Node>, root: Option<usize>, piece: &Piece) -> Opti
 {
     let mut way = [NO_STEP; MOST_HEIGHT];
     let place = walk(nodes, root, piece, &mut way);
-    let end = put_at(nodes, place.at, piece);
-    let top = read(nodes, end);
-    mend(nodes, &way, place.depth, root, top)
+    put_by(nodes, root, piece, &way, place)
 }
 
 /// Puts a piece over what a tree has.

@@ -4,11 +4,14 @@ ghost use Rattle.std.specs.Prelude.{◌≡◌, ℕ, ◌^◌, ◌<◌, ◌≤◌,
 ghost use Rattle.std.specs.List.{AllByRecursion};
 ghost use Rattle.slab.specs.Slab.{get};
 ghost use Rattle.iova.specs.Search.{HasNoRoom, IsFound, first_or, piece_at, pieces_from};
+ghost use Rattle.iova.specs.Pieces.{piece_of};
 ghost use Rattle.iova.specs.Tree.{CanSearch, IsBelow, Shape, items};
+ghost use Rattle.iova.specs.Way.{CanWalk, LeadsTo};
 
 use crate::links::{free_length, longest};
 use crate::node::{NUMBERS_END, Node};
-use crate::piece::Piece;
+use crate::piece::{PageState, Piece};
+use crate::way::{MOST_HEIGHT, Place, Spot, Step};
 use slab::Slab;
 
 /// The piece that a page lies in.
@@ -51,29 +54,43 @@ pub(crate) fn first_from(nodes: &Slab<Node>, root: Option<usize>, page: u64) -> 
     found
 }
 
-/// The first page of the first free piece of so many pages: one way down.
-pub(crate) fn first_free(nodes: &Slab<Node>, root: Option<usize>, pages: u64) -> Option<u64>
-    requires tree { CanSearch nodes.now root }
+/// The first page of the first free piece of so many pages, and the way to the piece: one way down.
+#[inline(always)]
+pub(crate) fn first_free(
+    nodes: &Slab<Node>,
+    root: Option<usize>,
+    pages: u64,
+    way: &mut [Step; MOST_HEIGHT],
+) -> Option<Spot>
+    requires tree { CanWalk (get nodes.now) root }
     requires some_pages { 1 ≤ pages }
     requires pages { pages < NUMBERS_END }
     ensures found { (t : Shape) (from : ℕ) → IsBelow (get nodes.now) root t from
-        → IfSome result (IsFound pages 1 (items t)) }
+        → IfSome result (λ spot. IsFound pages 1 (items t) spot.start) }
     ensures none { (t : Shape) (from : ℕ) → IsBelow (get nodes.now) root t from
         → IfNone result (AllByRecursion (HasNoRoom pages 1) (items t)) }
+    ensures way { IfSome result (λ spot.
+        LeadsTo (get nodes.now) root (piece_of (record { first = spot.start; pages = pages }) PageState.Live) way.new spot.place) }
 {
     let mut at = root;
+    let mut depth = 0;
     while let Some(key) = at {
         let node = &nodes[key];
         if node.longest < pages {
             return None;
         }
         if longest(nodes, node.left) >= pages {
+            way[depth] = Step { key, before: true };
             at = node.left;
         } else if free_length(node.piece) >= pages {
-            return Some(node.piece.first);
+            let start = node.piece.first;
+            let place = Place { at, depth };
+            return Some(Spot { start, place });
         } else {
+            way[depth] = Step { key, before: false };
             at = node.right;
         }
+        depth += 1;
     }
     None
 }

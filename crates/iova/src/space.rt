@@ -7,6 +7,7 @@ use crate::node::Node;
 use crate::piece::{PageState, Piece};
 use crate::store;
 use crate::walk::Iter;
+use crate::way::{MOST_HEIGHT, NO_STEP};
 use dmatypes::{MOST_PAGES, PAGES_END, Page, PageRange};
 use slab::Slab;
 use std::alloc::{AllocError, Global};
@@ -142,9 +143,11 @@ impl Space {
             × IsTooMany self.old.pieces (record { first = start; pages = pages })) }
         ensures unchanged { OnErr result (self.new ≡ self.old) }
     {
-        let Some(start) = store::fit(&self.nodes, self.root, pages, 1 << order) else {
+        let mut way = [NO_STEP; MOST_HEIGHT];
+        let Some(spot) = store::fit(&self.nodes, self.root, pages, 1 << order, &mut way) else {
             return Err(TakeError::NoRange);
         };
+        let start = spot.start;
         if self.nodes.len() > MOST_PIECES_TO_CUT
             && store::cuts_piece(&self.nodes, self.root, start, pages)
         {
@@ -155,7 +158,7 @@ impl Space {
             last: start + pages - 1,
             state: PageState::Live,
         };
-        self.root = store::store(&mut self.nodes, self.root, piece);
+        self.root = store::store_by(&mut self.nodes, self.root, piece, &way, spot.place);
         Ok(Page::new(start).unwrap())
     }
 

@@ -3,21 +3,23 @@
 ghost use Rattle.std.specs.Prelude.{◌≡◌, ◌≢◌, Some, ℕ, ◌+◌, ◌^◌, ◌<◌, ◌≤◌, ◌↔◌, [], false, true, length, IsTrue, IsSome, IfSome, IfNone};
 ghost use Rattle.dmatypes.specs.Page.{IsWithin};
 ghost use Rattle.slab.specs.Slab.{get, slab_len};
-ghost use Rattle.iova.specs.Pieces.{AllIn, IsOrdered, free_end, free_start, is_free, state_at, with_piece};
+ghost use Rattle.iova.specs.Pieces.{AllIn, IsOrdered, free_end, free_start, is_free, piece_of, state_at, with_piece};
 ghost use Rattle.iova.specs.declared.piece.Piece.{Piece};
 ghost use Rattle.iova.specs.Search.{TakesPlace};
 ghost use Rattle.iova.specs.Space.{CutsPiece, IsFit, IsLowestFit, new_space};
 ghost use Rattle.iova.specs.Stored.{IsKept, pieces_of};
 ghost use Rattle.iova.specs.Tree.{IsPiece};
+ghost use Rattle.iova.specs.Way.{LeadsTo};
 
 use crate::beside::{Ends, with_free};
 use crate::links::free_length;
 use crate::node::{NUMBERS_END, Node};
 use crate::piece::{PageState, Piece};
-use crate::put::put;
+use crate::put::{put, put_by};
 use crate::replace::{raise, restate};
 use crate::search::{find, first_free, lowest_fit};
 use crate::space::MOST_PIECES;
+use crate::way::{MOST_HEIGHT, Place, Spot, Step, walk};
 use dmatypes::{PAGES_END, WINDOW_FIRST, WINDOW_LAST};
 use slab::Slab;
 
@@ -36,6 +38,25 @@ pub(crate) fn store(nodes: &mut Slab<Node>, root: Option<usize>, piece: Piece) -
     ensures { IsKept result nodes.new (with_piece piece (pieces_of nodes.old root)) }
 {
     put(nodes, root, &piece)
+}
+
+/// The same, where a way leads to the place for the piece.
+#[inline(never)]
+pub(crate) fn store_by(
+    nodes: &mut Slab<Node>,
+    root: Option<usize>,
+    piece: Piece,
+    way: &[Step; MOST_HEIGHT],
+    place: Place,
+) -> Option<usize>
+    requires kept { IsKept root nodes.old (pieces_of nodes.old root) }
+    requires ordered { IsOrdered 1 (pieces_of nodes.old root) }
+    requires few { length (with_piece piece (pieces_of nodes.old root)) ≤ MOST_PIECES }
+    requires piece { IsPiece piece }
+    requires place { LeadsTo (get nodes.old) root piece way.now place }
+    ensures { IsKept result nodes.new (with_piece piece (pieces_of nodes.old root)) }
+{
+    put_by(nodes, root, &piece, way, place)
 }
 
 /// Puts a free piece over those that are there: where it is `one`, over one that has its pages and isn't free.
@@ -115,21 +136,37 @@ pub(crate) fn state_of(nodes: &Slab<Node>, root: Option<usize>, page: u64) -> Op
     }
 }
 
-/// The lowest start of so many free pages that is a multiple of the unit.
-pub(crate) fn fit(nodes: &Slab<Node>, root: Option<usize>, pages: u64, unit: u64) -> Option<u64>
+/// The lowest start of so many free pages that is a multiple of the unit, and the way to the piece that they lie in.
+#[inline(always)]
+pub(crate) fn fit(
+    nodes: &Slab<Node>,
+    root: Option<usize>,
+    pages: u64,
+    unit: u64,
+    way: &mut [Step; MOST_HEIGHT],
+) -> Option<Spot>
     requires kept { IsKept root nodes.now (pieces_of nodes.now root) }
     requires ordered { IsOrdered 1 (pieces_of nodes.now root) }
     requires some_pages { 1 ≤ pages }
     requires pages { pages < NUMBERS_END }
     requires some_unit { 0 < unit }
     requires unit { unit < NUMBERS_END }
-    ensures lowest { IfSome result (IsLowestFit (pieces_of nodes.now root) pages unit) }
+    ensures lowest { IfSome result (λ spot. IsLowestFit (pieces_of nodes.now root) pages unit spot.start) }
     ensures none { IfNone result ((start : ℕ) → IsFit (pieces_of nodes.now root) pages unit start → ⊥) }
+    ensures way { IfSome result (λ spot.
+        LeadsTo (get nodes.now) root (piece_of (record { first = spot.start; pages = pages }) PageState.Live) way.new spot.place) }
 {
     if unit == 1 {
-        return first_free(nodes, root, pages);
+        return first_free(nodes, root, pages, way);
     }
-    lowest_fit(nodes, root, pages, unit)
+    let start = lowest_fit(nodes, root, pages, unit)?;
+    let piece = Piece {
+        first: start,
+        last: start + pages - 1,
+        state: PageState::Live,
+    };
+    let place = walk(nodes, root, &piece, way);
+    Some(Spot { start, place })
 }
 
 /// Whether so many pages, which all lie in pieces, cut a piece.

@@ -37,6 +37,13 @@ pub(crate) struct Place {
     pub(crate) depth: usize,
 }
 
+/// Where pages are taken: the first of them, and where the piece lies that they are taken from.
+#[derive(Clone, Copy)]
+pub(crate) struct Spot {
+    pub(crate) start: u64,
+    pub(crate) place: Place,
+}
+
 /// What lies at a key once a tree was hung below it, and whether it shows what was there.
 #[derive(Clone, Copy)]
 struct Hung {

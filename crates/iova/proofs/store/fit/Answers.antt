@@ -8,28 +8,32 @@ use Rattle.iova.specs.Stored.{pieces_of}
 use Rattle.iova.proofs.shapes.Tall.{kept_can, kept_below}
 use Rattle.iova.proofs.searches.Found.{found_lowest}
 use Rattle.iova.proofs.searches.CutAt.{no_fit}
+use Rattle.iova.specs.declared.way.Spot.{Spot}
+use Rattle.iova.proofs.searches.Descent.{found_narrow}
 use Rattle.iova.proofs.store.fit.Goals as goal
 
-lowest : (o : Option ℕ) (pages unit : ℕ) (ps : List Piece) → IsOrdered 1 ps → 1 ≤ pages → IfSome o (IsFound pages unit ps)
-    → IfSome o (IsLowestFit ps pages unit)
+lowest : (o : Option Spot) (pages unit : ℕ) (ps : List Piece) → IsOrdered 1 ps → 1 ≤ pages
+    → IfSome o (λ s. IsFound pages unit ps s.start) → IfSome o (λ s. IsLowestFit ps pages unit s.start)
 lowest None pages unit ps o pos f = tt
-lowest (Some s) pages unit ps o pos f = found_lowest 1 pages unit ps s o pos f
+lowest (Some s) pages unit ps o pos f = found_lowest 1 pages unit ps s.start o pos f
 
-none : (o : Option ℕ) (pages unit : ℕ) (ps : List Piece) → IsOrdered 1 ps → 1 ≤ pages
+none : {A : Type 0} (o : Option A) (pages unit : ℕ) (ps : List Piece) → IsOrdered 1 ps → 1 ≤ pages
     → IfNone o (AllByRecursion (HasNoRoom pages unit) ps) → IfNone o ((start : ℕ) → IsFit ps pages unit start → ⊥)
 none None pages unit ps o pos f = no_fit 1 pages unit ps o pos f
 none (Some s) pages unit ps o pos f = tt
 
 pub first_free-requires-clause-tree : goal.first_free-requires-clause-tree
-first_free-requires-clause-tree c = kept_can c.args.root c.args.nodes.now (pieces_of c.args.nodes.now c.args.root) c.requires.kept
-    c.requires.ordered
+first_free-requires-clause-tree c = (c.requires.kept.shape, 1, record {
+  below = kept_below c.args.root c.args.nodes.now (pieces_of c.args.nodes.now c.args.root) c.requires.kept c.requires.ordered;
+  low = c.requires.kept.height;
+})
 
 pub returns-then-unit-eq1-clause-lowest : goal.returns-then-unit-eq1-clause-lowest
 returns-then-unit-eq1-clause-lowest c =
-    subst (λ u. IfSome c.first_free.result (IsLowestFit (pieces_of c.args.nodes.now c.args.root) c.args.pages u))
+    subst (λ u. IfSome c.first_free.result (λ s. IsLowestFit (pieces_of c.args.nodes.now c.args.root) c.args.pages u s.start))
     (sym c.if-unit-eq1.true)
     (lowest c.first_free.result c.args.pages 1 (pieces_of c.args.nodes.now c.args.root) c.requires.ordered c.requires.some_pages
-    (subst (λ l. IfSome c.first_free.result (IsFound c.args.pages 1 l)) c.requires.kept.all
+    (subst (λ l. IfSome c.first_free.result (λ s. IsFound c.args.pages 1 l s.start)) c.requires.kept.all
     (c.first_free.ensures.found c.requires.kept.shape 1 (kept_below c.args.root c.args.nodes.now
     (pieces_of c.args.nodes.now c.args.root) c.requires.kept c.requires.ordered))))
 
@@ -46,18 +50,10 @@ pub lowest_fit-requires-clause-tree : goal.lowest_fit-requires-clause-tree
 lowest_fit-requires-clause-tree c = kept_can c.args.root c.args.nodes.now (pieces_of c.args.nodes.now c.args.root) c.requires.kept
     c.requires.ordered
 
-pub returns-clause-lowest : goal.returns-clause-lowest
-returns-clause-lowest c =
-    lowest c.lowest_fit.result c.args.pages c.args.unit (pieces_of c.args.nodes.now c.args.root) c.requires.ordered
-    c.requires.some_pages
-    (subst (λ l. IfSome c.lowest_fit.result (IsFound c.args.pages c.args.unit l)) c.requires.kept.all
-    (c.lowest_fit.ensures.found c.requires.kept.shape 1 (kept_below c.args.root c.args.nodes.now
-    (pieces_of c.args.nodes.now c.args.root) c.requires.kept c.requires.ordered)))
+found_here : (o : Option ℕ) (start pages unit : ℕ) (ps : List Piece) → o ≡ Some start → IfSome o (IsFound pages unit ps)
+    → IsFound pages unit ps start
+found_here o start pages unit ps e f = subst (λ x. IfSome x (IsFound pages unit ps)) e f
 
-pub returns-clause-none : goal.returns-clause-none
-returns-clause-none c =
-    none c.lowest_fit.result c.args.pages c.args.unit (pieces_of c.args.nodes.now c.args.root) c.requires.ordered
-    c.requires.some_pages
-    (subst (λ l. IfNone c.lowest_fit.result (AllByRecursion (HasNoRoom c.args.pages c.args.unit) l)) c.requires.kept.all
-    (c.lowest_fit.ensures.none c.requires.kept.shape 1 (kept_below c.args.root c.args.nodes.now
-    (pieces_of c.args.nodes.now c.args.root) c.requires.kept c.requires.ordered)))
+no_more : (o : Option ℕ) (pages unit : ℕ) (ps : List Piece) → o ≡ None → IfNone o (AllByRecursion (HasNoRoom pages unit) ps)
+    → AllByRecursion (HasNoRoom pages unit) ps
+no_more o pages unit ps e f = subst (λ x. IfNone x (AllByRecursion (HasNoRoom pages unit) ps)) e f

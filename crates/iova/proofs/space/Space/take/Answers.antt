@@ -38,16 +38,16 @@ one_start ps pages unit start x i h j m =
 pub overflow_add-piece : goal.overflow_add-piece
 overflow_add-piece c =
     let a : Space = stored c.self.inside.last c.self.inside.root c.self.inside.nodes in
-    let range : Range = record { first = c.in-Some.start; pages = c.args.pages } in
+    let range : Range = record { first = c.in-Some.spot.start; pages = c.args.pages } in
     let free : AllIn Free range a.pieces = c.in-Some.ensures.lowest.fit.free in
-    let narrow = ((page_range a range Free c.self.invariant.1 c.requires.some_pages c.requires.few_pages free).members c.in-Some.start
+    let narrow = ((page_range a range Free c.self.invariant.1 c.requires.some_pages c.requires.few_pages free).members c.in-Some.spot.start
     (omega arith, omega (arith, c.requires.some_pages))).1 in
     omega (arith, narrow, c.requires.few_pages)
 
-pub store-self-inside-requires-clause-few : goal.store-self-inside-requires-clause-few
-store-self-inside-requires-clause-few c =
+pub store_by-self-inside-requires-clause-few : goal.store_by-self-inside-requires-clause-few
+store_by-self-inside-requires-clause-few c =
     let a : Space = stored c.self.inside.last c.self.inside.root c.self.inside.nodes in
-    let range : Range = record { first = c.in-Some.start; pages = c.args.pages } in
+    let range : Range = record { first = c.in-Some.spot.start; pages = c.args.pages } in
     let free : AllIn Free range a.pieces = c.in-Some.ensures.lowest.fit.free in
     let room : IsTooMany a.pieces range → ⊥ = elim c.else-len-gt-MOST_PIECES_TO_CUT.branch [
       | else-len-gt-MOST_PIECES_TO_CUT-via-then-len-gt-MOST_PIECES_TO_CUT+else-cuts_piece w ↦ λ t. no_cut w.cuts_piece.result
@@ -59,27 +59,27 @@ store-self-inside-requires-clause-few c =
     space_taken a range c.self.invariant.1 c.requires.some_pages free room in
     space.few
 
-pub store-self-inside-requires-clause-piece : goal.store-self-inside-requires-clause-piece
-store-self-inside-requires-clause-piece c =
+pub store_by-self-inside-requires-clause-piece : goal.store_by-self-inside-requires-clause-piece
+store_by-self-inside-requires-clause-piece c =
     let a : Space = stored c.self.inside.last c.self.inside.root c.self.inside.nodes in
-    let range : Range = record { first = c.in-Some.start; pages = c.args.pages } in
+    let range : Range = record { first = c.in-Some.spot.start; pages = c.args.pages } in
     let free : AllIn Free range a.pieces = c.in-Some.ensures.lowest.fit.free in
-    let narrow = ((page_range a range Free c.self.invariant.1 c.requires.some_pages c.requires.few_pages free).members c.in-Some.start
+    let narrow = ((page_range a range Free c.self.invariant.1 c.requires.some_pages c.requires.few_pages free).members c.in-Some.spot.start
     (omega arith, omega (arith, c.requires.some_pages))).1 in
     (omega (arith, c.requires.some_pages), omega (arith, narrow, c.requires.few_pages))
 
 pub unwrap-requires : goal.unwrap-requires
 unwrap-requires c =
     let a : Space = stored c.self.inside.last c.self.inside.root c.self.inside.nodes in
-    let range : Range = record { first = c.in-Some.start; pages = c.args.pages } in
+    let range : Range = record { first = c.in-Some.spot.start; pages = c.args.pages } in
     let free : AllIn Free range a.pieces = c.in-Some.ensures.lowest.fit.free in
     c.new.ensures.some.1 ((page_range a range Free c.self.invariant.1 c.requires.some_pages c.requires.few_pages free).members
-    c.in-Some.start (omega arith, omega (arith, c.requires.some_pages)))
+    c.in-Some.spot.start (omega arith, omega (arith, c.requires.some_pages)))
 
 pub invariant_of-self : goal.invariant_of-self
 invariant_of-self c =
     let a : Space = stored c.self.inside.last c.self.inside.root c.self.inside.nodes in
-    let range : Range = record { first = c.in-Some.start; pages = c.args.pages } in
+    let range : Range = record { first = c.in-Some.spot.start; pages = c.args.pages } in
     let free : AllIn Free range a.pieces = c.in-Some.ensures.lowest.fit.free in
     let room : IsTooMany a.pieces range → ⊥ = elim c.else-len-gt-MOST_PIECES_TO_CUT.branch [
       | else-len-gt-MOST_PIECES_TO_CUT-via-then-len-gt-MOST_PIECES_TO_CUT+else-cuts_piece w ↦ λ t. no_cut w.cuts_piece.result
@@ -89,37 +89,37 @@ invariant_of-self c =
     ] in
     let space : IsSpace (record a { pieces = with_piece (piece_of range Live) a.pieces }) =
     space_taken a range c.self.invariant.1 c.requires.some_pages free room in (
-      kept_self c.store-self-inside.result c.store-self-inside.new.nodes (with_piece (piece_of range Live) a.pieces)
-          c.store-self-inside.ensures,
-      subst (λ ps. IsSpace (record a { pieces = ps })) (sym (kept_view c.store-self-inside.result c.store-self-inside.new.nodes
-          (with_piece (piece_of range Live) a.pieces) c.store-self-inside.ensures)) space,
+      kept_self c.store_by-self-inside.result c.store_by-self-inside.new.nodes (with_piece (piece_of range Live) a.pieces)
+          c.store_by-self-inside.ensures,
+      subst (λ ps. IsSpace (record a { pieces = ps })) (sym (kept_view c.store_by-self-inside.result c.store_by-self-inside.new.nodes
+          (with_piece (piece_of range Live) a.pieces) c.store_by-self-inside.ensures)) space,
     )
 
 pub returns-clause-range : goal.returns-clause-range
 returns-clause-range c =
     let a : Space = stored c.self.inside.last c.self.inside.root c.self.inside.nodes in
-    let range : Range = record { first = c.in-Some.start; pages = c.args.pages } in
+    let range : Range = record { first = c.in-Some.spot.start; pages = c.args.pages } in
     let free : AllIn Free range a.pieces = c.in-Some.ensures.lowest.fit.free in
     subst (λ n. IsPageRange (record { first = n; pages = c.args.pages }))
-    (sym (start_is c.new.result c.unwrap.result c.in-Some.start c.unwrap.ensures c.new.ensures.value))
+    (sym (start_is c.new.result c.unwrap.result c.in-Some.spot.start c.unwrap.ensures c.new.ensures.value))
     (page_range a range Free c.self.invariant.1 c.requires.some_pages c.requires.few_pages free)
 
 pub returns-clause-taken : goal.returns-clause-taken
 returns-clause-taken c =
     let a : Space = stored c.self.inside.last c.self.inside.root c.self.inside.nodes in
-    let range : Range = record { first = c.in-Some.start; pages = c.args.pages } in
+    let range : Range = record { first = c.in-Some.spot.start; pages = c.args.pages } in
     let free : AllIn Free range a.pieces = c.in-Some.ensures.lowest.fit.free in
-    let new : Space = stored c.self.inside.last c.store-self-inside.result c.store-self-inside.new.nodes in
+    let new : Space = stored c.self.inside.last c.store_by-self-inside.result c.store_by-self-inside.new.nodes in
     subst (λ n. Takes c.args.self.now new (record { first = n; pages = c.args.pages }))
-    (sym (start_is c.new.result c.unwrap.result c.in-Some.start c.unwrap.ensures c.new.ensures.value))
+    (sym (start_is c.new.result c.unwrap.result c.in-Some.spot.start c.unwrap.ensures c.new.ensures.value))
     (subst (λ v. Takes v new range) c.self.view_is (takes a new range c.self.invariant.1 c.requires.some_pages free
-    (ap (λ ps. record a { pieces = ps }) (kept_view c.store-self-inside.result c.store-self-inside.new.nodes
-    (with_piece (piece_of range Live) a.pieces) c.store-self-inside.ensures))))
+    (ap (λ ps. record a { pieces = ps }) (kept_view c.store_by-self-inside.result c.store_by-self-inside.new.nodes
+    (with_piece (piece_of range Live) a.pieces) c.store_by-self-inside.ensures))))
 
 pub returns-clause-space : goal.returns-clause-space
 returns-clause-space c =
     let a : Space = stored c.self.inside.last c.self.inside.root c.self.inside.nodes in
-    let range : Range = record { first = c.in-Some.start; pages = c.args.pages } in
+    let range : Range = record { first = c.in-Some.spot.start; pages = c.args.pages } in
     let free : AllIn Free range a.pieces = c.in-Some.ensures.lowest.fit.free in
     let room : IsTooMany a.pieces range → ⊥ = elim c.else-len-gt-MOST_PIECES_TO_CUT.branch [
       | else-len-gt-MOST_PIECES_TO_CUT-via-then-len-gt-MOST_PIECES_TO_CUT+else-cuts_piece w ↦ λ t. no_cut w.cuts_piece.result
@@ -131,27 +131,27 @@ returns-clause-space c =
     space_taken a range c.self.invariant.1 c.requires.some_pages free room in (
       subst (λ v. IsSpace v) c.self.view_is c.self.invariant.1,
       subst (λ ps. IsSpace (record a { pieces = ps }))
-          (sym (kept_view c.store-self-inside.result c.store-self-inside.new.nodes (with_piece (piece_of range Live) a.pieces)
-          c.store-self-inside.ensures)) space,
+          (sym (kept_view c.store_by-self-inside.result c.store_by-self-inside.new.nodes (with_piece (piece_of range Live) a.pieces)
+          c.store_by-self-inside.ensures)) space,
     )
 
 pub returns-clause-no_range : goal.returns-clause-no_range
 returns-clause-no_range c =
     let a : Space = stored c.self.inside.last c.self.inside.root c.self.inside.nodes in
-    let range : Range = record { first = c.in-Some.start; pages = c.args.pages } in
+    let range : Range = record { first = c.in-Some.spot.start; pages = c.args.pages } in
     let free : AllIn Free range a.pieces = c.in-Some.ensures.lowest.fit.free in
     let unit = shifted c.args.order c.requires.order in
-    let lowest : IsLowestFit a.pieces c.args.pages (2 ^ c.args.order) c.in-Some.start =
-    subst (λ u. IsLowestFit a.pieces c.args.pages u c.in-Some.start) unit c.in-Some.ensures.lowest in (
+    let lowest : IsLowestFit a.pieces c.args.pages (2 ^ c.args.order) c.in-Some.spot.start =
+    subst (λ u. IsLowestFit a.pieces c.args.pages u c.in-Some.spot.start) unit c.in-Some.ensures.lowest in (
       (λ e. absurd (cc)),
-      (λ h. absurd (h c.in-Some.start (subst
-          (λ (v : Space). IsFit v.pieces c.args.pages (2 ^ c.args.order) c.in-Some.start) c.self.view_is lowest.fit))),
+      (λ h. absurd (h c.in-Some.spot.start (subst
+          (λ (v : Space). IsFit v.pieces c.args.pages (2 ^ c.args.order) c.in-Some.spot.start) c.self.view_is lowest.fit))),
     )
 
 pub returns-clause-too_many : goal.returns-clause-too_many
 returns-clause-too_many c =
     let a : Space = stored c.self.inside.last c.self.inside.root c.self.inside.nodes in
-    let range : Range = record { first = c.in-Some.start; pages = c.args.pages } in
+    let range : Range = record { first = c.in-Some.spot.start; pages = c.args.pages } in
     let free : AllIn Free range a.pieces = c.in-Some.ensures.lowest.fit.free in
     let room : IsTooMany a.pieces range → ⊥ = elim c.else-len-gt-MOST_PIECES_TO_CUT.branch [
       | else-len-gt-MOST_PIECES_TO_CUT-via-then-len-gt-MOST_PIECES_TO_CUT+else-cuts_piece w ↦ λ t. no_cut w.cuts_piece.result
@@ -160,10 +160,10 @@ returns-clause-too_many c =
           (arith, c.len.ensures, c.self.invariant.0.count, w.if-len-gt-MOST_PIECES_TO_CUT.false, t.1)
     ] in
     let unit = shifted c.args.order c.requires.order in
-    let lowest : IsLowestFit a.pieces c.args.pages (2 ^ c.args.order) c.in-Some.start =
-    subst (λ u. IsLowestFit a.pieces c.args.pages u c.in-Some.start) unit c.in-Some.ensures.lowest in (
+    let lowest : IsLowestFit a.pieces c.args.pages (2 ^ c.args.order) c.in-Some.spot.start =
+    subst (λ u. IsLowestFit a.pieces c.args.pages u c.in-Some.spot.start) unit c.in-Some.ensures.lowest in (
       (λ e. absurd (cc)),
       (λ h. absurd (subst (λ (v : Space). (x : ℕ) → IsLowestFit v.pieces c.args.pages (2 ^ c.args.order) x
           → IsTooMany v.pieces (record { first = x; pages = c.args.pages }) → ⊥) c.self.view_is
-          (λ x j m. one_start a.pieces c.args.pages (2 ^ c.args.order) c.in-Some.start x lowest room j m) h.0 h.1 h.2)),
+          (λ x j m. one_start a.pieces c.args.pages (2 ^ c.args.order) c.in-Some.spot.start x lowest room j m) h.0 h.1 h.2)),
     )
