@@ -1,5 +1,5 @@
 -- A way down a tree by what is longest, and a piece put within the piece that it leads to.
-use Rattle.std.proofs.Common.{◌≡◌, ℕ, ◌+◌, ◌-◌, ◌<◌, ◌≤◌, true, false, List, [], ◌∷◌, ◌++◌, length, Option, Some, IfSome, refl, ap, sym, ◌∙◌}
+use Rattle.std.proofs.Common.{◌≡◌, ℕ, ◌+◌, ◌-◌, ◌<◌, ◌≤◌, true, false, List, [], ◌∷◌, ◌++◌, length, Option, Some, refl, ap, sym, ◌∙◌}
 use Rattle.std.proofs.Common.{inl, inr, subst, arith, length-set, get_or-set_same, slice_set}
 use Rattle.dmatypes.specs.World.{IsIn}
 use Rattle.slab.specs.Slab.{Slab, get}
@@ -191,7 +191,7 @@ module _ (nodes : Slab Node) (root : Option ℕ) (way : List Step) (at : Option 
   -- it leads to the front of the free piece there
   pub descend-here : (pages : ℕ) → 1 ≤ pages → pages ≤ free_pages n.piece → (t : Shape) (from : ℕ)
       → Walks (get nodes) root t from (piece_of (record { first = n.piece.first; pages = pages }) Live) way
-      (record { at = at; depth = depth })
+      (record { at = Some key; depth = depth })
   descend-here pages some fits t from =
       let z = free_length n.piece (free_of n.piece pages some fits) in
       record {
@@ -204,7 +204,7 @@ module _ (nodes : Slab Node) (root : Option ℕ) (way : List Step) (at : Option 
               t = q.t;
               from = q.from;
               is = q.is;
-              below = q.below;
+              below = subst (λ a. IsBelow (get nodes) a q.t q.from) e q.below;
               above = q.above;
               fine = q.fine;
               steps = q.steps;
@@ -214,7 +214,5 @@ module _ (nodes : Slab Node) (root : Option ℕ) (way : List Step) (at : Option 
                   (subst (λ x. IsIn n.piece (items x)) (sym o.is) (in_here n.piece (items o.l) (items o.r)))
                   (omega arith) (omega (arith, o.piece));
             };
-        meets = subst (λ a. IfSome a (λ x. (m : Node) × (get nodes x ≡ Some m)
-            × Meets (piece_of (record { first = n.piece.first; pages = pages }) Live) m.piece)) (sym e)
-            (n, f, (omega (arith, z, some, fits), omega (arith, z, some, fits)));
+        meets = (n, f, (omega (arith, z, some, fits), omega (arith, z, some, fits)));
       }

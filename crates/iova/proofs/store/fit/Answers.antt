@@ -1,4 +1,4 @@
-use Rattle.std.proofs.Common.{◌≤◌, ℕ, IfSome, IfNone, Option, List, Some, None, subst, sym}
+use Rattle.std.proofs.Common.{◌≡◌, ◌≤◌, ℕ, IfSome, IfNone, Option, List, Some, None, subst, sym}
 use Rattle.std.specs.List.{AllByRecursion}
 use Rattle.iova.specs.declared.piece.Piece.{Piece}
 use Rattle.iova.specs.Pieces.{IsOrdered}
@@ -57,3 +57,15 @@ found_here o start pages unit ps e f = subst (λ x. IfSome x (IsFound pages unit
 no_more : (o : Option ℕ) (pages unit : ℕ) (ps : List Piece) → o ≡ None → IfNone o (AllByRecursion (HasNoRoom pages unit) ps)
     → AllByRecursion (HasNoRoom pages unit) ps
 no_more o pages unit ps e f = subst (λ x. IfNone x (AllByRecursion (HasNoRoom pages unit) ps)) e f
+
+pub returns-in_err-start-clause-none : goal.returns-in_err-start-clause-none
+returns-in_err-start-clause-none c = ?
+
+pub overflow_add-piece : goal.overflow_add-piece
+overflow_add-piece c = ?
+
+pub walk-place-requires-clause-piece : goal.walk-place-requires-clause-piece
+walk-place-requires-clause-piece c = ?
+
+pub returns-clause-lowest : goal.returns-clause-lowest
+returns-clause-lowest c = ?
