@@ -1,10 +1,11 @@
-use Rattle.std.proofs.Common.{◌≡◌, ◌≤◌, ℕ, IfSome, IfNone, Option, List, Some, None, subst, sym}
+use Rattle.std.proofs.Common.{◌≡◌, ◌≤◌, ◌+◌, ℕ, IfSome, IfNone, Option, List, Some, None, arith, subst, sym}
 use Rattle.std.specs.List.{AllByRecursion}
 use Rattle.iova.specs.declared.piece.Piece.{Piece}
 use Rattle.iova.specs.Pieces.{IsOrdered}
 use Rattle.iova.specs.Space.{IsFit, IsLowestFit}
 use Rattle.iova.specs.Search.{IsFound, HasNoRoom}
 use Rattle.iova.specs.Stored.{pieces_of}
+use Rattle.iova.specs.Tree.{items}
 use Rattle.iova.proofs.shapes.Tall.{kept_can, kept_below}
 use Rattle.iova.proofs.searches.Found.{found_lowest}
 use Rattle.iova.proofs.searches.CutAt.{no_fit}
@@ -59,13 +60,36 @@ no_more : (o : Option ℕ) (pages unit : ℕ) (ps : List Piece) → o ≡ None �
 no_more o pages unit ps e f = subst (λ x. IfNone x (AllByRecursion (HasNoRoom pages unit) ps)) e f
 
 pub returns-in_err-start-clause-none : goal.returns-in_err-start-clause-none
-returns-in_err-start-clause-none c = ?
+returns-in_err-start-clause-none c =
+    none c.from_residual.result c.args.pages c.args.unit (pieces_of c.args.nodes.now c.args.root) c.requires.ordered c.requires.some_pages
+    (subst (λ o. IfNone o (AllByRecursion (HasNoRoom c.args.pages c.args.unit) (pieces_of c.args.nodes.now c.args.root)))
+    (sym c.from_residual.ensures)
+    (no_more c.lowest_fit.result c.args.pages c.args.unit (pieces_of c.args.nodes.now c.args.root) c.in_err-start.was
+    (subst (λ l. IfNone c.lowest_fit.result (AllByRecursion (HasNoRoom c.args.pages c.args.unit) l)) c.requires.kept.all
+    (c.lowest_fit.ensures.none c.requires.kept.shape 1 (kept_below c.args.root c.args.nodes.now
+    (pieces_of c.args.nodes.now c.args.root) c.requires.kept c.requires.ordered)))))
 
 pub overflow_add-piece : goal.overflow_add-piece
-overflow_add-piece c = ?
+overflow_add-piece c =
+    let w = kept_below c.args.root c.args.nodes.now (pieces_of c.args.nodes.now c.args.root) c.requires.kept c.requires.ordered in
+    let h = found_narrow c.requires.kept.shape c.args.pages c.args.unit c.in_ok-start.start w.whole.tree.pieces
+        (found_here c.lowest_fit.result c.in_ok-start.start c.args.pages c.args.unit (items c.requires.kept.shape) c.in_ok-start.was
+        (c.lowest_fit.ensures.found c.requires.kept.shape 1 w)) in
+    omega arith
 
 pub walk-place-requires-clause-piece : goal.walk-place-requires-clause-piece
-walk-place-requires-clause-piece c = ?
+walk-place-requires-clause-piece c =
+    let w = kept_below c.args.root c.args.nodes.now (pieces_of c.args.nodes.now c.args.root) c.requires.kept c.requires.ordered in
+    let h = found_narrow c.requires.kept.shape c.args.pages c.args.unit c.in_ok-start.start w.whole.tree.pieces
+        (found_here c.lowest_fit.result c.in_ok-start.start c.args.pages c.args.unit (items c.requires.kept.shape) c.in_ok-start.was
+        (c.lowest_fit.ensures.found c.requires.kept.shape 1 w)) in
+    (omega (arith, c.requires.some_pages), omega (arith, c.requires.some_pages, h))
 
 pub returns-clause-lowest : goal.returns-clause-lowest
-returns-clause-lowest c = ?
+returns-clause-lowest c =
+    found_lowest 1 c.args.pages c.args.unit (pieces_of c.args.nodes.now c.args.root) c.in_ok-start.start c.requires.ordered
+    c.requires.some_pages
+    (found_here c.lowest_fit.result c.in_ok-start.start c.args.pages c.args.unit (pieces_of c.args.nodes.now c.args.root) c.in_ok-start.was
+    (subst (λ l. IfSome c.lowest_fit.result (IsFound c.args.pages c.args.unit l)) c.requires.kept.all
+    (c.lowest_fit.ensures.found c.requires.kept.shape 1 (kept_below c.args.root c.args.nodes.now
+    (pieces_of c.args.nodes.now c.args.root) c.requires.kept c.requires.ordered))))
