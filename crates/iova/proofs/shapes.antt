@@ -8,3 +8,4 @@ pub mod Settled
 pub mod Steps
 pub mod Tall
 pub mod Ways
+pub mod Lifted

@@ -13,7 +13,7 @@ use crate::node::Node;
 use crate::piece::Piece;
 use crate::settle::{set_all, set_left, set_piece, set_right, settle};
 use crate::trims::{keep_above, keep_below};
-use crate::way::{MOST_HEIGHT, NO_STEP, Place, Step, mend, walk};
+use crate::way::{MOST_HEIGHT, NO_STEP, Place, Step, lift, mend, walk};
 use slab::Slab;
 
 /// Keeps what a tree has below a page, where the tree lies before a place.
@@ -227,8 +227,13 @@ pub(crate) fn put_by(
     ensures { (t : Shape) (from : ℕ) → IsBelow (get nodes.old) root t from
         → Leaves nodes.old nodes.new result t (with_piece piece.now (items t)) 1 }
 {
+    let was = read(nodes, place.at);
     let end = put_at(nodes, place.at, piece);
     let top = read(nodes, end);
+    if end == place.at && top.height == was.height {
+        lift(nodes, way, place.depth, top);
+        return root;
+    }
     mend(nodes, way, place.depth, root, top)
 }
 

@@ -1,27 +1,17 @@
 //! A piece put in the place of one that has its pages: no node comes or goes, and the tree keeps its shape.
 
-ghost use Rattle.std.specs.Prelude.{◌≡◌, ℕ, IsSome, Some, max, false, true};
-ghost use Rattle.slab.specs.Slab.{Updates, get};
+ghost use Rattle.std.specs.Prelude.{◌≡◌, ℕ, Some, max, false, true};
+ghost use Rattle.slab.specs.Slab.{get};
 ghost use Rattle.iova.specs.declared.node.Node.{Node};
 ghost use Rattle.iova.specs.declared.piece.Piece.{Piece};
 ghost use Rattle.iova.specs.Pieces.{is_free, with_piece};
 ghost use Rattle.iova.specs.Search.{TakesPlace};
-ghost use Rattle.iova.specs.Tree.{CanSearch, IsBelow, IsPiece, KeepsCount, Makes, Shape, free_pages, height_of, items, longest_of, top_of};
+ghost use Rattle.iova.specs.Tree.{CanSearch, IsBelow, IsPiece, Makes, Shape, free_pages, height_of, items, longest_of, top_of};
 
 use crate::node::Node;
 use crate::piece::Piece;
-use crate::settle::set_piece;
+use crate::settle::{set_longest, set_piece};
 use slab::Slab;
-
-/// Writes what is longest below a key.
-#[inline(always)]
-fn set_longest(nodes: &mut Slab<Node>, key: usize, longest: u64)
-    requires { IsSome (get nodes.old key) }
-    ensures updates { (n : Node) → get nodes.old key ≡ Some n → Updates nodes.old nodes.new key (Some (record n { longest = longest })) }
-    ensures count { KeepsCount nodes.old nodes.new }
-{
-    nodes[key].longest = longest;
-}
 
 /// Puts a piece, of so many free pages, in the place of one that isn't free. What is longest can only grow, on the
 /// way down.

@@ -75,6 +75,16 @@ fn set_reach(nodes: &mut Slab<Node>, key: usize, height: u64, longest: u64)
     node.longest = longest;
 }
 
+/// Writes what is longest below a key.
+#[inline(always)]
+pub(crate) fn set_longest(nodes: &mut Slab<Node>, key: usize, longest: u64)
+    requires { IsSome (get nodes.old key) }
+    ensures updates { (n : Node) → get nodes.old key ≡ Some n → Updates nodes.old nodes.new key (Some (record n { longest = longest })) }
+    ensures count { KeepsCount nodes.old nodes.new }
+{
+    nodes[key].longest = longest;
+}
+
 /// Writes the child behind a key, and how high and how long it is below it.
 #[inline(always)]
 pub(crate) fn set_right_reach(

@@ -1,16 +1,16 @@
 //! Ways down a tree, and back up once what lies at their end has changed.
 
-ghost use Rattle.std.specs.Prelude.{◌≡◌, ℕ, Some, true};
+ghost use Rattle.std.specs.Prelude.{◌≡◌, ℕ, Option, Some, true};
 ghost use Rattle.slab.specs.Slab.{get};
 ghost use Rattle.iova.specs.declared.node.Node.{Node};
 ghost use Rattle.iova.specs.Tree.{IsPiece, KeepsCount, Shape};
 ghost use Rattle.iova.specs.Way.{Above, CanHangBefore, CanHangBehind, CanMend, CanWalk, Mends, Walks};
-ghost use Rattle.iova.specs.Way.{IsHungBefore, IsHungBehind, JoinsBefore, JoinsBehind};
+ghost use Rattle.iova.specs.Way.{CanLift, CanLiftBefore, CanLiftBehind, IsHungBefore, IsHungBehind, IsLevel, JoinsBefore, JoinsBehind};
 
 use crate::links::{free_length, read};
 use crate::node::{Node, Top};
 use crate::piece::Piece;
-use crate::settle::{set_left_reach, set_right_reach};
+use crate::settle::{set_left_reach, set_longest, set_right_reach};
 use crate::turns::join_close;
 use slab::Slab;
 
@@ -218,4 +218,85 @@ pub(crate) fn mend(
         top = hung.top;
     }
     top.root
+}
+
+/// Hangs a tree before a key, where the one that hung there had its root and its height.
+#[inline(always)]
+fn lift_before(nodes: &mut Slab<Node>, key: usize, tree: Top) -> Hung
+    requires { CanLiftBefore (get nodes.old) key tree }
+    ensures hung { IsHungBefore (get nodes.old) (get nodes.new) key tree result }
+    ensures level { IsLevel (get nodes.old) key result.top }
+    ensures count { KeepsCount nodes.old nodes.new }
+{
+    let node = &nodes[key];
+    let height = node.height;
+    let was_longest = node.longest;
+    let own = free_length(node.piece);
+    let other = read(nodes, node.right);
+    let below = tree.longest.max(other.longest);
+    let longest = own.max(below);
+    set_longest(nodes, key, longest);
+    let top = Top {
+        root: Some(key),
+        height,
+        longest,
+    };
+    let same = longest == was_longest;
+    Hung { top, same }
+}
+
+/// Hangs a tree behind a key, where the one that hung there had its root and its height.
+#[inline(always)]
+fn lift_behind(nodes: &mut Slab<Node>, key: usize, tree: Top) -> Hung
+    requires { CanLiftBehind (get nodes.old) key tree }
+    ensures hung { IsHungBehind (get nodes.old) (get nodes.new) key tree result }
+    ensures level { IsLevel (get nodes.old) key result.top }
+    ensures count { KeepsCount nodes.old nodes.new }
+{
+    let node = &nodes[key];
+    let height = node.height;
+    let was_longest = node.longest;
+    let own = free_length(node.piece);
+    let other = read(nodes, node.left);
+    let below = other.longest.max(tree.longest);
+    let longest = own.max(below);
+    set_longest(nodes, key, longest);
+    let top = Top {
+        root: Some(key),
+        height,
+        longest,
+    };
+    let same = longest == was_longest;
+    Hung { top, same }
+}
+
+/// The same as `mend`, where the tree at the end has the root and the height of the one that was there: so it is all
+/// the way up, and what is longest alone is renewed.
+#[inline(always)]
+pub(crate) fn lift(
+    nodes: &mut Slab<Node>,
+    way: &[Step; MOST_HEIGHT],
+    steps: usize,
+    end: Top,
+)
+    requires { (root : Option ℕ) × (path : Above) × (t : Shape) × (new : Shape) × CanLift (get nodes.old) way.now steps root end path t new }
+    ensures mended { (root : Option ℕ) (path : Above) (t new : Shape) → CanLift (get nodes.old) way.now steps root end path t new
+        → Mends (get nodes.old) (get nodes.new) root path t new }
+    ensures count { KeepsCount nodes.old nodes.new }
+{
+    let mut depth = steps;
+    let mut top = end;
+    while depth > 0 {
+        depth -= 1;
+        let step = way[depth];
+        let hung = if step.before {
+            lift_before(nodes, step.key, top)
+        } else {
+            lift_behind(nodes, step.key, top)
+        };
+        if hung.same {
+            return;
+        }
+        top = hung.top;
+    }
 }

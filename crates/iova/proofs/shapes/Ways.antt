@@ -182,7 +182,7 @@ abbrev pub IsMending : Slab Node → Slab Node → List Step → ℕ → Option 
 IsMending old now way steps root end depth top = (path : Above) (t new : Shape) → CanMend (get old) way steps root end path t new
     → Mending old now way depth root top path t new
 
-pub mending_start : (old : Slab Node) (way : List Step) (steps : ℕ) (root : Option ℕ) (end : Top) → IsMending old old way steps root end steps end
+unfoldable pub mending_start : (old : Slab Node) (way : List Step) (steps : ℕ) (root : Option ℕ) (end : Top) → IsMending old old way steps root end steps end
 mending_start old way steps root end path t new can = record {
   up = path;
   there = t;
@@ -289,13 +289,13 @@ module _ (old now : Slab Node) (way : List Step) (depth : ℕ) (root : Option �
   mending-few = omega (arith, steps_few way depth m.up m.there m.can.steps, m.can.low)
 
   module _ (b : (step_at way (depth - 1)).before ≡ true) where
-    last : LastBefore way depth m.up
+    pub last : LastBefore way depth m.up
     last = last_before way depth m.up m.can.steps pos b
 
-    can : CanMend (get now) way depth root top (Before (step_at way (depth - 1)).key last.piece last.right last.more) m.there m.here
+    pub can : CanMend (get now) way depth root top (Before (step_at way (depth - 1)).key last.piece last.right last.more) m.there m.here
     can = subst (λ u. CanMend (get now) way depth root top u m.there m.here) last.is m.can
 
-    parts : AreParts (get now) top (step_at way (depth - 1)).key (top_of last.right) m.here last.right
+    pub parts : AreParts (get now) top (step_at way (depth - 1)).key (top_of last.right) m.here last.right
     parts = record {
       before = can.tree;
       behind = record { is = refl; nodes = can.above.1; balanced = can.fine.2; pieces = can.fine.3 };
@@ -318,10 +318,10 @@ module _ (old now : Slab Node) (way : List Step) (depth : ℕ) (root : Option �
     )
 
     module _ (next : Slab Node) (hung : Hung) (i : IsHungBefore (get now) (get next) (step_at way (depth - 1)).key top hung) (c : KeepsCount now next) where
-      j : Joins (get now) (get next) hung.top (step_at way (depth - 1)).key last.piece m.here last.right
+      pub j : Joins (get now) (get next) hung.top (step_at way (depth - 1)).key last.piece m.here last.right
       j = (i (node_of last.piece m.there last.right) (top_of last.right) m.here last.right can.above.0 refl parts can.fine.0).0
 
-      further : CanMend (get next) way (depth - 1) root hung.top last.more (Fork (step_at way (depth - 1)).key last.piece m.there last.right) j.shape
+      pub further : CanMend (get next) way (depth - 1) root hung.top last.more (Fork (step_at way (depth - 1)).key last.piece m.there last.right) j.shape
       further = record {
         steps = last.steps;
         above = same_above (get now) (get next) last.more (Fork (step_at way (depth - 1)).key last.piece m.there last.right) can.above.2
@@ -334,7 +334,7 @@ module _ (old now : Slab Node) (way : List Step) (depth : ℕ) (root : Option �
         low = can.low;
       }
 
-      back : (then : Slab Node) (whole : Option ℕ) → Mends (get next) (get then) whole last.more (Fork (step_at way (depth - 1)).key last.piece m.there last.right) j.shape
+      pub back : (then : Slab Node) (whole : Option ℕ) → Mends (get next) (get then) whole last.more (Fork (step_at way (depth - 1)).key last.piece m.there last.right) j.shape
           → Mends (get old) (get then) whole path t new
       back then whole n = m.back then whole (subst (λ u. Mends (get now) (get then) whole u m.there m.here) (sym last.is) (record {
         shape = n.shape;
@@ -347,7 +347,7 @@ module _ (old now : Slab Node) (way : List Step) (depth : ℕ) (root : Option �
         low = n.low;
       }))
 
-      pub mending-before : Mending old next way (depth - 1) root hung.top path t new
+      unfoldable pub mending-before : Mending old next way (depth - 1) root hung.top path t new
       mending-before = record {
         up = last.more;
         there = Fork (step_at way (depth - 1)).key last.piece m.there last.right;
@@ -373,13 +373,13 @@ module _ (old now : Slab Node) (way : List Step) (depth : ℕ) (root : Option �
             further s.0 s.1)
 
   module _ (b : (step_at way (depth - 1)).before ≡ false) where
-    last-b : LastBehind way depth m.up
+    pub last-b : LastBehind way depth m.up
     last-b = last_behind way depth m.up m.can.steps pos b
 
-    can-b : CanMend (get now) way depth root top (Behind (step_at way (depth - 1)).key last-b.piece last-b.left last-b.more) m.there m.here
+    pub can-b : CanMend (get now) way depth root top (Behind (step_at way (depth - 1)).key last-b.piece last-b.left last-b.more) m.there m.here
     can-b = subst (λ u. CanMend (get now) way depth root top u m.there m.here) last-b.is m.can
 
-    parts-b : AreParts (get now) (top_of last-b.left) (step_at way (depth - 1)).key top last-b.left m.here
+    pub parts-b : AreParts (get now) (top_of last-b.left) (step_at way (depth - 1)).key top last-b.left m.here
     parts-b = record {
       before = record { is = refl; nodes = can-b.above.1; balanced = can-b.fine.2; pieces = can-b.fine.3 };
       behind = can-b.tree;
@@ -402,10 +402,10 @@ module _ (old now : Slab Node) (way : List Step) (depth : ℕ) (root : Option �
     )
 
     module _ (next : Slab Node) (hung : Hung) (i : IsHungBehind (get now) (get next) (step_at way (depth - 1)).key top hung) (c : KeepsCount now next) where
-      j-b : Joins (get now) (get next) hung.top (step_at way (depth - 1)).key last-b.piece last-b.left m.here
+      pub j-b : Joins (get now) (get next) hung.top (step_at way (depth - 1)).key last-b.piece last-b.left m.here
       j-b = (i (node_of last-b.piece last-b.left m.there) (top_of last-b.left) last-b.left m.here can-b.above.0 refl parts-b can-b.fine.0).0
 
-      further-b : CanMend (get next) way (depth - 1) root hung.top last-b.more (Fork (step_at way (depth - 1)).key last-b.piece last-b.left m.there) j-b.shape
+      pub further-b : CanMend (get next) way (depth - 1) root hung.top last-b.more (Fork (step_at way (depth - 1)).key last-b.piece last-b.left m.there) j-b.shape
       further-b = record {
         steps = last-b.steps;
         above = same_above (get now) (get next) last-b.more (Fork (step_at way (depth - 1)).key last-b.piece last-b.left m.there) can-b.above.2
@@ -418,7 +418,7 @@ module _ (old now : Slab Node) (way : List Step) (depth : ℕ) (root : Option �
         low = can-b.low;
       }
 
-      back-b : (then : Slab Node) (whole : Option ℕ) → Mends (get next) (get then) whole last-b.more (Fork (step_at way (depth - 1)).key last-b.piece last-b.left m.there) j-b.shape
+      pub back-b : (then : Slab Node) (whole : Option ℕ) → Mends (get next) (get then) whole last-b.more (Fork (step_at way (depth - 1)).key last-b.piece last-b.left m.there) j-b.shape
           → Mends (get old) (get then) whole path t new
       back-b then whole n = m.back then whole (subst (λ u. Mends (get now) (get then) whole u m.there m.here) (sym last-b.is) (record {
         shape = n.shape;
@@ -431,7 +431,7 @@ module _ (old now : Slab Node) (way : List Step) (depth : ℕ) (root : Option �
         low = n.low;
       }))
 
-      pub mending-behind : Mending old next way (depth - 1) root hung.top path t new
+      unfoldable pub mending-behind : Mending old next way (depth - 1) root hung.top path t new
       mending-behind = record {
         up = last-b.more;
         there = Fork (step_at way (depth - 1)).key last-b.piece last-b.left m.there;
