@@ -10,7 +10,7 @@ use Rattle.iova.specs.declared.way.Step.{Step}
 use Rattle.iova.specs.Pieces.{with_piece}
 use Rattle.iova.specs.Tree.{Look, Shape, items, height_of, root_of, top_of, uses, IsRead, CanRead, IsBelow, Leaves}
 use Rattle.iova.specs.Tree.{KeepsCount}
-use Rattle.iova.specs.Way.{Above, Whole, Before, Behind, plug, among, uses_above, CanWalk, IsLowBelow, IsPlace, CanMend, Mends}
+use Rattle.iova.specs.Way.{Above, Whole, Before, Behind, plug, among, uses_above, CanWalk, IsLowBelow, IsPlace, CanLift, CanMend, Mends}
 use Rattle.iova.proofs.searches.Found.{search_height}
 use Rattle.iova.proofs.shapes.Trees.{has_node}
 use Rattle.iova.proofs.shapes.Held.{known, unused}
@@ -84,6 +84,16 @@ module _ (old : Slab Node) (root : Option ℕ) (p : Piece) (way : List Step) (at
         once = keys;
         more = m.makes.low;
         low = let e : height_of t ≡ height_of (plug q.path q.t) = ap height_of q.is in omega (arith, w.low);
+      }
+
+      -- the place has the root and the height that it had
+      pub up-lift : (was : Top) → IsRead (get old) at was → end ≡ at → top.height ≡ was.height
+          → CanLift (get mid) way depth root top q.path q.t m.makes.shape
+      up-lift was i e h = record {
+        can = up-can;
+        same_root = sym end_root ∙ e ∙ q.below.here;
+        same_height = sym (ap (λ (v : Top). v.height) top_is) ∙ h
+            ∙ ap (λ (v : Top). v.height) (i q.t q.below.here q.below.whole.tree.nodes);
       }
 
       module _ (new : Slab Node) (done : Option ℕ) (n : Mends (get mid) (get new) done q.path q.t m.makes.shape) (c : KeepsCount mid new) where
