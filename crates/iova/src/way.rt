@@ -273,13 +273,9 @@ fn lift_behind(nodes: &mut Slab<Node>, key: usize, tree: Top) -> Hung
 /// The same as `mend`, where the tree at the end has the root and the height of the one that was there: so it is all
 /// the way up, and what is longest alone is renewed.
 #[inline(always)]
-pub(crate) fn lift(
-    nodes: &mut Slab<Node>,
-    way: &[Step; MOST_HEIGHT],
-    steps: usize,
-    end: Top,
-)
-    requires { (root : Option ℕ) × (path : Above) × (t : Shape) × (new : Shape) × CanLift (get nodes.old) way.now steps root end path t new }
+pub(crate) fn lift(nodes: &mut Slab<Node>, way: &[Step; MOST_HEIGHT], steps: usize, end: Top)
+    requires { (root : Option ℕ) × (path : Above) × (t : Shape) × (new : Shape)
+        × CanLift (get nodes.old) way.now steps root end path t new }
     ensures mended { (root : Option ℕ) (path : Above) (t new : Shape) → CanLift (get nodes.old) way.now steps root end path t new
         → Mends (get nodes.old) (get nodes.new) root path t new }
     ensures count { KeepsCount nodes.old nodes.new }

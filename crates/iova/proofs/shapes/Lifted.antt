@@ -111,18 +111,18 @@ module _ (old now : Slab Node) (way : List Step) (depth : ℕ) (root : Option �
     lifting-can_before =
         let rooted = ap (λ (x : Top). x.root) ca.tree.is ∙ g.root_is in
         let high = ap (λ (x : Top). x.height) ca.tree.is ∙ g.height_is in (
-        node_of la.piece g.m.there la.right,
-        top_of la.right,
-        g.m.here,
-        la.right,
-        ca.above.0,
-        refl,
-        parts old now way depth root top path t new g.m pos b,
-        ca.fine.0,
-        rooted,
-        ap (λ h. 1 + max h (height_of la.right)) (sym high),
-        (omega (arith, g.height_is, ca.fine.1), omega (arith, g.height_is, ca.fine.1)),
-      )
+          node_of la.piece g.m.there la.right,
+          top_of la.right,
+          g.m.here,
+          la.right,
+          ca.above.0,
+          refl,
+          parts old now way depth root top path t new g.m pos b,
+          ca.fine.0,
+          rooted,
+          ap (λ h. 1 + max h (height_of la.right)) (sym high),
+          (omega (arith, g.height_is, ca.fine.1), omega (arith, g.height_is, ca.fine.1)),
+        )
 
     module _ (next : Slab Node) (hung : Hung) (i : IsHungBefore (get now) (get next) (step_at way (depth - 1)).key top hung)
         (c : KeepsCount now next) (v : IsLevel (get now) (step_at way (depth - 1)).key hung.top) where
@@ -148,18 +148,18 @@ module _ (old now : Slab Node) (way : List Step) (depth : ℕ) (root : Option �
     lifting-can_behind =
         let rooted = ap (λ (x : Top). x.root) ca-b.tree.is ∙ g.root_is in
         let high = ap (λ (x : Top). x.height) ca-b.tree.is ∙ g.height_is in (
-        node_of la-b.piece la-b.left g.m.there,
-        top_of la-b.left,
-        la-b.left,
-        g.m.here,
-        ca-b.above.0,
-        refl,
-        parts-b old now way depth root top path t new g.m pos b,
-        ca-b.fine.0,
-        rooted,
-        ap (λ h. 1 + max (height_of la-b.left) h) (sym high),
-        (omega (arith, g.height_is, ca-b.fine.1), omega (arith, g.height_is, ca-b.fine.1)),
-      )
+          node_of la-b.piece la-b.left g.m.there,
+          top_of la-b.left,
+          la-b.left,
+          g.m.here,
+          ca-b.above.0,
+          refl,
+          parts-b old now way depth root top path t new g.m pos b,
+          ca-b.fine.0,
+          rooted,
+          ap (λ h. 1 + max (height_of la-b.left) h) (sym high),
+          (omega (arith, g.height_is, ca-b.fine.1), omega (arith, g.height_is, ca-b.fine.1)),
+        )
 
     module _ (next : Slab Node) (hung : Hung) (i : IsHungBehind (get now) (get next) (step_at way (depth - 1)).key top hung)
         (c : KeepsCount now next) (v : IsLevel (get now) (step_at way (depth - 1)).key hung.top) where

@@ -47,10 +47,15 @@ lift-requires c =
     let i = c.requires.tree in
     let w = lows (get c.args.nodes.now) c.args.root i.0 i.1 c.requires.low i.2 in
     let q = (c.requires.place i.0 i.1).down w in
-    let m = c.put_at-end.ensures q.t q.from q.below in
-    (c.args.root, q.path, q.t, m.makes.shape, up-lift c.args.nodes.now c.args.root c.args.piece.now c.args.way.now c.args.place.at
-        c.args.place.depth i.0 i.1 w q c.put_at-end.new.nodes c.put_at-end.result m c.read-top.result c.read-top.ensures
-        c.read-was.result c.read-was.ensures (same_place _ _ (sym c.eq.ensures ∙ c.if-eq.true)) c.if-top-was.true)
+    let m = c.put_at-end.ensures q.t q.from q.below in (
+      c.args.root,
+      q.path,
+      q.t,
+      m.makes.shape,
+      up-lift c.args.nodes.now c.args.root c.args.piece.now c.args.way.now c.args.place.at
+          c.args.place.depth i.0 i.1 w q c.put_at-end.new.nodes c.put_at-end.result m c.read-top.result c.read-top.ensures
+          c.read-was.result c.read-was.ensures (same_place _ _ (sym c.eq.ensures ∙ c.if-eq.true)) c.if-top-was.true,
+    )
 
 pub returns-then-top-was : goal.returns-then-top-was
 returns-then-top-was c t from below =
@@ -58,8 +63,8 @@ returns-then-top-was c t from below =
     let q = (c.requires.place t from).down w in
     let m = c.put_at-end.ensures q.t q.from q.below in
     let can = up-lift c.args.nodes.now c.args.root c.args.piece.now c.args.way.now c.args.place.at c.args.place.depth t from w q
-        c.put_at-end.new.nodes c.put_at-end.result m c.read-top.result c.read-top.ensures
-        c.read-was.result c.read-was.ensures (same_place _ _ (sym c.eq.ensures ∙ c.if-eq.true)) c.if-top-was.true in
+    c.put_at-end.new.nodes c.put_at-end.result m c.read-top.result c.read-top.ensures
+    c.read-was.result c.read-was.ensures (same_place _ _ (sym c.eq.ensures ∙ c.if-eq.true)) c.if-top-was.true in
     up-done c.args.nodes.now c.args.root c.args.piece.now c.args.way.now c.args.place.at c.args.place.depth t from w q
-        c.put_at-end.new.nodes c.put_at-end.result m c.read-top.result c.read-top.ensures c.lift.new.nodes c.args.root
-        (c.lift.ensures.mended c.args.root q.path q.t m.makes.shape can) c.lift.ensures.count
+    c.put_at-end.new.nodes c.put_at-end.result m c.read-top.result c.read-top.ensures c.lift.new.nodes c.args.root
+    (c.lift.ensures.mended c.args.root q.path q.t m.makes.shape can) c.lift.ensures.count

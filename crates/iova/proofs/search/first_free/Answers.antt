@@ -68,20 +68,20 @@ loop-at-preserved c =
     let h = descend_few (get c.args.nodes.now) c.args.root c.loop-at.way c.loop-at.at c.loop-at.depth c.in-Some.key q.0 q.1 c.loop-at.invariant.1 q.2 c.in-Some.is in
     elim c.if-longest-pages.branch [
       | then-longest-pages w ↦ (
-          subst (λ a. IsNarrowed (get c.args.nodes.now) c.args.root a c.args.pages) (sym w.at-is)
-              (narrowed-left (get c.args.nodes.now) c.args.root c.loop-at.at c.args.pages c.in-Some.key c.index-node.result.now c.loop-at.invariant.0 c.in-Some.is c.index-node.ensures c.longest.result c.longest.ensures w.if-longest-pages.true),
-          subst (λ a. IsDescending (get c.args.nodes.now) c.args.root c.if-longest-pages.way' a (c.loop-at.depth + 1)) (sym w.at-is)
-              (subst (λ way. IsDescending (get c.args.nodes.now) c.args.root way c.index-node.result.now.left (c.loop-at.depth + 1))
-              (sym w.way'-is) (descend-before c.args.nodes.now c.args.root c.loop-at.way c.loop-at.at c.loop-at.depth c.in-Some.key c.index-node.result.now c.loop-at.invariant.1 c.in-Some.is c.index-node.ensures h)),
-        )
+        subst (λ a. IsNarrowed (get c.args.nodes.now) c.args.root a c.args.pages) (sym w.at-is)
+            (narrowed-left (get c.args.nodes.now) c.args.root c.loop-at.at c.args.pages c.in-Some.key c.index-node.result.now c.loop-at.invariant.0 c.in-Some.is c.index-node.ensures c.longest.result c.longest.ensures w.if-longest-pages.true),
+        subst (λ a. IsDescending (get c.args.nodes.now) c.args.root c.if-longest-pages.way' a (c.loop-at.depth + 1)) (sym w.at-is)
+            (subst (λ way. IsDescending (get c.args.nodes.now) c.args.root way c.index-node.result.now.left (c.loop-at.depth + 1))
+            (sym w.way'-is) (descend-before c.args.nodes.now c.args.root c.loop-at.way c.loop-at.at c.loop-at.depth c.in-Some.key c.index-node.result.now c.loop-at.invariant.1 c.in-Some.is c.index-node.ensures h)),
+      )
       | else-longest-pages+else-free_length-pages w ↦ (
-          subst (λ a. IsNarrowed (get c.args.nodes.now) c.args.root a c.args.pages) (sym w.at-is)
-              (narrowed-right (get c.args.nodes.now) c.args.root c.loop-at.at c.args.pages c.in-Some.key c.index-node.result.now c.loop-at.invariant.0 c.in-Some.is c.index-node.ensures c.longest.result c.longest.ensures (omega (arith, w.if-longest-pages.false))
-              (omega (arith, w.free_length.ensures, w.if-free_length-pages.false)) (omega arith)),
-          subst (λ a. IsDescending (get c.args.nodes.now) c.args.root c.if-longest-pages.way' a (c.loop-at.depth + 1)) (sym w.at-is)
-              (subst (λ way. IsDescending (get c.args.nodes.now) c.args.root way c.index-node.result.now.right (c.loop-at.depth + 1))
-              (sym w.way'-is) (descend-behind c.args.nodes.now c.args.root c.loop-at.way c.loop-at.at c.loop-at.depth c.in-Some.key c.index-node.result.now c.loop-at.invariant.1 c.in-Some.is c.index-node.ensures h)),
-        )
+        subst (λ a. IsNarrowed (get c.args.nodes.now) c.args.root a c.args.pages) (sym w.at-is)
+            (narrowed-right (get c.args.nodes.now) c.args.root c.loop-at.at c.args.pages c.in-Some.key c.index-node.result.now c.loop-at.invariant.0 c.in-Some.is c.index-node.ensures c.longest.result c.longest.ensures (omega (arith, w.if-longest-pages.false))
+            (omega (arith, w.free_length.ensures, w.if-free_length-pages.false)) (omega arith)),
+        subst (λ a. IsDescending (get c.args.nodes.now) c.args.root c.if-longest-pages.way' a (c.loop-at.depth + 1)) (sym w.at-is)
+            (subst (λ way. IsDescending (get c.args.nodes.now) c.args.root way c.index-node.result.now.right (c.loop-at.depth + 1))
+            (sym w.way'-is) (descend-behind c.args.nodes.now c.args.root c.loop-at.way c.loop-at.at c.loop-at.depth c.in-Some.key c.index-node.result.now c.loop-at.invariant.1 c.in-Some.is c.index-node.ensures h)),
+      )
     ]
 
 pub returns-clause-none : goal.returns-clause-none

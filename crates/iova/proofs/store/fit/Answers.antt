@@ -24,10 +24,14 @@ none None pages unit ps o pos f = no_fit 1 pages unit ps o pos f
 none (Some s) pages unit ps o pos f = tt
 
 pub first_free-requires-clause-tree : goal.first_free-requires-clause-tree
-first_free-requires-clause-tree c = (c.requires.kept.shape, 1, record {
-  below = kept_below c.args.root c.args.nodes.now (pieces_of c.args.nodes.now c.args.root) c.requires.kept c.requires.ordered;
-  low = c.requires.kept.height;
-})
+first_free-requires-clause-tree c = (
+  c.requires.kept.shape,
+  1,
+  record {
+    below = kept_below c.args.root c.args.nodes.now (pieces_of c.args.nodes.now c.args.root) c.requires.kept c.requires.ordered;
+    low = c.requires.kept.height;
+  },
+)
 
 pub returns-then-unit-eq1-clause-lowest : goal.returns-then-unit-eq1-clause-lowest
 returns-then-unit-eq1-clause-lowest c =
@@ -73,16 +77,16 @@ pub overflow_add-piece : goal.overflow_add-piece
 overflow_add-piece c =
     let w = kept_below c.args.root c.args.nodes.now (pieces_of c.args.nodes.now c.args.root) c.requires.kept c.requires.ordered in
     let h = found_narrow c.requires.kept.shape c.args.pages c.args.unit c.in_ok-start.start w.whole.tree.pieces
-        (found_here c.lowest_fit.result c.in_ok-start.start c.args.pages c.args.unit (items c.requires.kept.shape) c.in_ok-start.was
-        (c.lowest_fit.ensures.found c.requires.kept.shape 1 w)) in
+    (found_here c.lowest_fit.result c.in_ok-start.start c.args.pages c.args.unit (items c.requires.kept.shape) c.in_ok-start.was
+    (c.lowest_fit.ensures.found c.requires.kept.shape 1 w)) in
     omega arith
 
 pub walk-place-requires-clause-piece : goal.walk-place-requires-clause-piece
 walk-place-requires-clause-piece c =
     let w = kept_below c.args.root c.args.nodes.now (pieces_of c.args.nodes.now c.args.root) c.requires.kept c.requires.ordered in
     let h = found_narrow c.requires.kept.shape c.args.pages c.args.unit c.in_ok-start.start w.whole.tree.pieces
-        (found_here c.lowest_fit.result c.in_ok-start.start c.args.pages c.args.unit (items c.requires.kept.shape) c.in_ok-start.was
-        (c.lowest_fit.ensures.found c.requires.kept.shape 1 w)) in
+    (found_here c.lowest_fit.result c.in_ok-start.start c.args.pages c.args.unit (items c.requires.kept.shape) c.in_ok-start.was
+    (c.lowest_fit.ensures.found c.requires.kept.shape 1 w)) in
     (omega (arith, c.requires.some_pages), omega (arith, c.requires.some_pages, h))
 
 pub returns-clause-lowest : goal.returns-clause-lowest
