@@ -1,5 +1,5 @@
 -- A way down a tree by what is longest, and a piece put within the piece that it leads to.
-use Rattle.std.proofs.Common.{◌≡◌, ℕ, ◌+◌, ◌-◌, ◌<◌, ◌≤◌, true, false, List, [], ◌∷◌, ◌++◌, length, Option, Some, refl, ap, sym, ◌∙◌}
+use Rattle.std.proofs.Common.{◌≡◌, ℕ, ◌+◌, ◌<◌, ◌≤◌, true, false, List, [], ◌∷◌, ◌++◌, length, Option, Some, refl, ap, sym, ◌∙◌}
 use Rattle.std.proofs.Common.{inl, inr, subst, arith, length-set, get_or-set_same, slice_set}
 use Rattle.dmatypes.specs.World.{IsIn}
 use Rattle.slab.specs.Slab.{Slab, get}
@@ -11,7 +11,7 @@ use Rattle.iova.specs.declared.way.Step.{Step}
 use Rattle.iova.specs.Pieces.{IsOrdered, piece_of, with_piece}
 use Rattle.iova.specs.Search.{IsFound}
 use Rattle.iova.specs.Tree.{Look, Shape, Empty, Fork, items, height_of, root_of, free_pages, ArePieces, IsPiece, IsBelow}
-use Rattle.iova.specs.Way.{Above, Whole, Before, Behind, plug, among, AreAbove, AreFine, AreSteps, IsLowBelow, Walks, Meets}
+use Rattle.iova.specs.Way.{Above, Whole, Before, Behind, plug, among, AreAbove, AreFine, AreSteps, IsLowBelow, Walks}
 use Rattle.iova.proofs.Among.{in_le}
 use Rattle.iova.proofs.parts.Over.{with_past, with_under}
 use Rattle.iova.proofs.parts.Parts.{ordered_front, ordered_behind}

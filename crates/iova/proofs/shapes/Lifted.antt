@@ -1,11 +1,11 @@
 -- A way back up where the tree at its end has the root and the height of the one that was there.
-use Rattle.std.proofs.Common.{◌≡◌, ℕ, ◌+◌, ◌-◌, ◌<◌, ◌≤◌, max, Bool, true, false, List, Option, Some, refl, ap, sym, ◌∙◌, subst, arith}
+use Rattle.std.proofs.Common.{◌≡◌, ℕ, ◌+◌, ◌-◌, ◌<◌, max, Bool, true, false, List, Option, Some, refl, ap, sym, ◌∙◌, subst, arith}
 use Rattle.slab.specs.Slab.{Slab, Updates, get}
 use Rattle.iova.specs.declared.node.Node.{Node}
 use Rattle.iova.specs.declared.node.Top.{Top}
 use Rattle.iova.specs.declared.way.Hung.{Hung}
 use Rattle.iova.specs.declared.way.Step.{Step}
-use Rattle.iova.specs.Tree.{Look, Shape, Fork, height_of, root_of, top_of, joint, node_of, IsRead, KeepsCount}
+use Rattle.iova.specs.Tree.{Look, Shape, height_of, root_of, top_of, joint, node_of, IsRead, KeepsCount}
 use Rattle.iova.specs.Way.{Above, Whole, Before, Behind, step_at, CanMend, Mends, CanLift, CanLiftBefore, CanLiftBehind, IsLevel}
 use Rattle.iova.specs.Way.{IsHungBefore, IsHungBehind}
 use Rattle.iova.proofs.shapes.Trees.{root_height}

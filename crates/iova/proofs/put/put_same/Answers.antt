@@ -1,5 +1,4 @@
 use Rattle.std.proofs.Common.{refl, sym, subst, Some}
-use Rattle.slab.specs.Slab.{get}
 use Rattle.iova.specs.Tree.{Leaves}
 use Rattle.iova.proofs.shapes.Trees.{is_there}
 use Rattle.iova.proofs.shapes.Steps.{piece-can, piece-done}
