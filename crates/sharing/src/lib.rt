@@ -5,10 +5,6 @@
 #![tactic(auto)]
 
 #[cfg(test)]
-mod audit;
-#[cfg(test)]
-mod judge;
-#[cfg(test)]
 mod managers;
 #[cfg(test)]
 mod waits;

@@ -1,4 +1,4 @@
-use Rattle.sharing.proofs.audit.hits_stand_in_the_history.Given as goal
+use Rattle.audit.proofs.hits.hits_stand_in_the_history.Given as goal
 
 -- what the seed has
 abbrev pub ghosts-audited-B-Ledger : goal.ghosts-audited-B-Ledger
