@@ -1,6 +1,6 @@
 -- What the parts of the state ask of their callers before pages end, are released, or the unit is run. Whoever reads
 -- what the state does needs none of it: each state has it.
-use Rattle.std.specs.Prelude.{◌≡◌, ◌≢◌, ℕ, ◌+◌, ◌-◌, ◌%◌, ◌^◌, ◌<◌, ◌≤◌, List, [], ◌∷◌, ◌++◌, length, None, Some, IsSome, IsTrue}
+use Rattle.std.specs.Prelude.{◌≡◌, ◌≢◌, ℕ, ◌+◌, ◌-◌, ◌%◌, ◌^◌, ◌<◌, ◌≤◌, ◌⊎◌, List, [], ◌∷◌, ◌++◌, length, None, Some, IsSome, IsTrue}
 use Rattle.dmatypes.specs.Block.{Holds, IsAligned}
 use Rattle.dmatypes.specs.Page.{Range, IsWithin}
 use Rattle.dmatypes.specs.World.{IsIn}
@@ -50,6 +50,24 @@ pub record AreReleasable (pool : Pool) (space : Space) (records : List Record) :
   pub once : (f : ℕ) → occurs f pool.free + held_in records f ≤ 1
   pub within : (f : ℕ) → 0 < held_in records f → f < pool.frames
   pub zeroed : (f : ℕ) → 0 < occurs f pool.free + held_in records f → IsZeroed pool.words f
+
+-- the pages of the range are those of the records, all together
+pub record IsRangeOf (range : Range) (records : List Record) : Type 0 where
+  pub some : (p : ℕ) → IsWithin range p → (r : Record) × IsIn r records × IsWithin r.range p
+  pub whole : (r : Record) → IsIn r records
+      → (range.first ≤ r.range.first) × (r.range.first + r.range.pages ≤ range.first + range.pages)
+
+-- one of two ranges ends where the other begins, and this one has the pages of both
+abbrev pub AreJoined : Range → Range → Range → Type 0
+AreJoined a b range = (range.pages ≡ a.pages + b.pages)
+    × (((range.first ≡ a.first) × (a.first + a.pages ≡ b.first)) ⊎ ((range.first ≡ b.first) × (b.first + b.pages ≡ a.first)))
+
+-- the last ones of the records are released, one at least, and these are left
+pub record ReleasesLast (pool : Pool) (space : Space) (all : List Record) (pool' : Pool) (space' : Space) (rest : List Record) : Type 0 where
+  pub last : List Record
+  pub parts : rest ++ last ≡ all
+  pub some : 0 < length last
+  pub releases : ReleasesAll pool space last pool' space'
 
 -- it names pages, and no device: its IOTLB is invalidated, and not its contexts
 abbrev pub IsOfIotlb : Descriptor → Type 0

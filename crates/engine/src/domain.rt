@@ -30,6 +30,7 @@ use tables::{NoFrames, Pool, Tree};
 use vtdbits::DomainId;
 
 mod readers;
+mod runs;
 
 /// A domain: its mode, the number of flushes begun, its tree, its address space, and its retired records.
 #[derive(Drop)]
@@ -384,7 +385,8 @@ fn destroy(tree: Tree, pool: &mut Pool, iommu: &Iommu, id: DomainId)
     tree.destroy(pool);
 }
 
-/// Releases all records of a domain, the last one first. The unit has forgotten each of them for good.
+/// Releases all records of a domain, the last ones first, and at once those whose pages lie side by side. The unit has
+/// forgotten each of them for good.
 pub(crate) fn release_all(
     space: &mut Space,
     pool: &mut Pool,
@@ -398,7 +400,7 @@ pub(crate) fn release_all(
     ensures none { records.new.items ≡ [] }
     ensures room { vec_capacity records.new ≡ vec_capacity records.old }
 {
-    while let Some(retired) = records.pop() {
-        release(space, pool, iommu, id, &retired);
+    while !records.is_empty() {
+        runs::release_last(space, pool, iommu, id, records);
     }
 }

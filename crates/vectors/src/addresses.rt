@@ -3,6 +3,9 @@
 
 ghost use Rattle.std.specs.Prelude.{◌≤◌};
 
+mod agreeing;
+mod list;
+
 use dmatypes::{Page, PageRange};
 use iova::{PageState, Piece, RetireError, Space, TakeError};
 use std::process::Abort;
@@ -78,6 +81,31 @@ fn take_and_free(rt: &impl Abort, space: &mut Space) {
     assert!(rt; takes_and_undoes(space, 3, 2));
     assert!(rt; space.piece_count() == 2);
     assert!(rt; keeps(space, 1, 2, RetireError::NotLive));
+}
+
+// Retired pieces that lie side by side are one free piece after one release, with the free one beside them.
+#[test]
+fn releases_a_run(rt: HostRuntime) -> Result<(), Fail> {
+    let mut space = Space::new(rt.alloc(), 15)?;
+    release_a_run(&rt, &mut space);
+    Ok(())
+}
+
+fn release_a_run(rt: &impl Abort, space: &mut Space) {
+    assert!(rt; takes(space, 1, 0, 1));
+    assert!(rt; takes(space, 1, 0, 2));
+    assert!(rt; takes(space, 3, 0, 3));
+    let low = PageRange::new(2, 1).expect(rt, "a page");
+    let high = PageRange::new(3, 3).expect(rt, "pages");
+    let run = PageRange::new(2, 4).expect(rt, "pages");
+    assert!(rt; space.may_retire(low).is_ok());
+    space.retire(low);
+    assert!(rt; space.may_retire(high).is_ok());
+    space.retire(high);
+    assert!(rt; space.piece_count() == 4);
+    space.release_run(run);
+    assert!(rt; space.piece_count() == 2);
+    assert!(rt; takes(space, 14, 0, 2));
 }
 
 #[test]
@@ -160,7 +188,9 @@ fn tells_the_state_of_a_page(rt: HostRuntime) -> Result<(), Fail> {
         last: 15,
         state: PageState::Free,
     };
-    assert!(rt; space.pieces() == [free].as_slice());
+    let mut pieces = space.pieces();
+    assert!(rt; pieces.next() == Some(free));
+    assert!(rt; pieces.next() == None);
     assert!(rt; free.is_free());
     Ok(())
 }
@@ -194,5 +224,5 @@ fn tell_states(rt: &impl Abort, space: &mut Space) {
         last: 3,
         state: PageState::Live,
     };
-    assert!(rt; space.pieces().get(2) == Some(&live));
+    assert!(rt; space.pieces().nth(2) == Some(live));
 }

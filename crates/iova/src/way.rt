@@ -1,0 +1,298 @@
+//! Ways down a tree, and back up once what lies at their end has changed.
+
+ghost use Rattle.std.specs.Prelude.{◌≡◌, ℕ, Option, Some, true};
+ghost use Rattle.slab.specs.Slab.{get};
+ghost use Rattle.iova.specs.declared.node.Node.{Node};
+ghost use Rattle.iova.specs.Tree.{IsPiece, KeepsCount, Shape};
+ghost use Rattle.iova.specs.Way.{Above, CanHangBefore, CanHangBehind, CanMend, CanWalk, Mends, Walks};
+ghost use Rattle.iova.specs.Way.{CanLift, CanLiftBefore, CanLiftBehind, IsHungBefore, IsHungBehind, IsLevel, JoinsBefore, JoinsBehind};
+
+use crate::links::{free_length, read};
+use crate::node::{Node, Top};
+use crate::piece::Piece;
+use crate::settle::{set_left_reach, set_longest, set_right_reach};
+use crate::turns::join_close;
+use slab::Slab;
+
+/// The greatest height of a tree, and so the most steps of a way down.
+pub(crate) const MOST_HEIGHT: usize = 14;
+
+/// A step down: a key, and whether the way goes on before it.
+#[derive(Clone, Copy)]
+pub(crate) struct Step {
+    pub(crate) key: usize,
+    pub(crate) before: bool,
+}
+
+/// Where no step is yet.
+pub(crate) const NO_STEP: Step = Step {
+    key: 0,
+    before: false,
+};
+
+/// Where a way ends: the root of what lies there, and how many steps lead to it.
+#[derive(Clone, Copy)]
+pub(crate) struct Place {
+    pub(crate) at: Option<usize>,
+    pub(crate) depth: usize,
+}
+
+/// Where pages are taken: the first of them, and where the piece lies that they are taken from.
+#[derive(Clone, Copy)]
+pub(crate) struct Spot {
+    pub(crate) start: u64,
+    pub(crate) place: Place,
+}
+
+/// What lies at a key once a tree was hung below it, and whether it shows what was there.
+#[derive(Clone, Copy)]
+struct Hung {
+    top: Top,
+    same: bool,
+}
+
+/// Goes down to the first piece that meets this one, or to where it would be.
+#[inline(always)]
+pub(crate) fn walk(
+    nodes: &Slab<Node>,
+    root: Option<usize>,
+    piece: &Piece,
+    way: &mut [Step; MOST_HEIGHT],
+) -> Place
+    requires tree { CanWalk (get nodes.now) root }
+    requires piece { IsPiece piece.now }
+    ensures { (t : Shape) (from : ℕ) → Walks (get nodes.now) root t from piece.now way.new result }
+{
+    let mut at = root;
+    let mut depth = 0;
+    while let Some(key) = at {
+        let node = &nodes[key];
+        if node.piece.last < piece.first {
+            way[depth] = Step { key, before: false };
+            at = node.right;
+        } else if piece.last < node.piece.first {
+            way[depth] = Step { key, before: true };
+            at = node.left;
+        } else {
+            return Place { at, depth };
+        }
+        depth += 1;
+    }
+    Place { at, depth }
+}
+
+/// Joins at a key with a tree before it, where the heights differ by more than one: mostly they don't.
+#[inline(never)]
+fn join_before(
+    nodes: &mut Slab<Node>,
+    key: usize,
+    root: Option<usize>,
+    height: u64,
+    longest: u64,
+) -> Top
+    requires { CanHangBefore (get nodes.old) key (record { root = root; height = height; longest = longest }) }
+    ensures joins { JoinsBefore (get nodes.old) (get nodes.new) key (record { root = root; height = height; longest = longest }) result }
+    ensures count { KeepsCount nodes.old nodes.new }
+{
+    let tree = Top {
+        root,
+        height,
+        longest,
+    };
+    let node = &nodes[key];
+    let piece = node.piece;
+    let other = read(nodes, node.right);
+    join_close(nodes, tree, key, piece, other)
+}
+
+/// Hangs a tree before a key.
+#[inline(always)]
+fn hang_before(nodes: &mut Slab<Node>, key: usize, tree: Top) -> Hung
+    requires { CanHangBefore (get nodes.old) key tree }
+    ensures hung { IsHungBefore (get nodes.old) (get nodes.new) key tree result }
+    ensures count { KeepsCount nodes.old nodes.new }
+{
+    let node = &nodes[key];
+    let was_height = node.height;
+    let was_longest = node.longest;
+    let own = free_length(node.piece);
+    let other = read(nodes, node.right);
+    if tree.height > other.height + 1 || other.height > tree.height + 1 {
+        let top = join_before(nodes, key, tree.root, tree.height, tree.longest);
+        return Hung { top, same: false };
+    }
+    let height = 1 + tree.height.max(other.height);
+    let below = tree.longest.max(other.longest);
+    let longest = own.max(below);
+    set_left_reach(nodes, key, tree.root, height, longest);
+    let top = Top {
+        root: Some(key),
+        height,
+        longest,
+    };
+    let same = height == was_height && longest == was_longest;
+    Hung { top, same }
+}
+
+/// Joins at a key with a tree behind it, where the heights differ by more than one: mostly they don't.
+#[inline(never)]
+fn join_behind(
+    nodes: &mut Slab<Node>,
+    key: usize,
+    root: Option<usize>,
+    height: u64,
+    longest: u64,
+) -> Top
+    requires { CanHangBehind (get nodes.old) key (record { root = root; height = height; longest = longest }) }
+    ensures joins { JoinsBehind (get nodes.old) (get nodes.new) key (record { root = root; height = height; longest = longest }) result }
+    ensures count { KeepsCount nodes.old nodes.new }
+{
+    let tree = Top {
+        root,
+        height,
+        longest,
+    };
+    let node = &nodes[key];
+    let piece = node.piece;
+    let other = read(nodes, node.left);
+    join_close(nodes, other, key, piece, tree)
+}
+
+/// Hangs a tree behind a key.
+#[inline(always)]
+fn hang_behind(nodes: &mut Slab<Node>, key: usize, tree: Top) -> Hung
+    requires { CanHangBehind (get nodes.old) key tree }
+    ensures hung { IsHungBehind (get nodes.old) (get nodes.new) key tree result }
+    ensures count { KeepsCount nodes.old nodes.new }
+{
+    let node = &nodes[key];
+    let was_height = node.height;
+    let was_longest = node.longest;
+    let own = free_length(node.piece);
+    let other = read(nodes, node.left);
+    if tree.height > other.height + 1 || other.height > tree.height + 1 {
+        let top = join_behind(nodes, key, tree.root, tree.height, tree.longest);
+        return Hung { top, same: false };
+    }
+    let height = 1 + other.height.max(tree.height);
+    let below = other.longest.max(tree.longest);
+    let longest = own.max(below);
+    set_right_reach(nodes, key, tree.root, height, longest);
+    let top = Top {
+        root: Some(key),
+        height,
+        longest,
+    };
+    let same = height == was_height && longest == was_longest;
+    Hung { top, same }
+}
+
+/// Brings a tree up to date from the end of a way on, where another tree lies now: up to the first key that shows
+/// what it did.
+#[inline(always)]
+pub(crate) fn mend(
+    nodes: &mut Slab<Node>,
+    way: &[Step; MOST_HEIGHT],
+    steps: usize,
+    root: Option<usize>,
+    end: Top,
+) -> Option<usize>
+    requires { (path : Above) × (t : Shape) × (new : Shape) × CanMend (get nodes.old) way.now steps root end path t new }
+    ensures mended { (path : Above) (t new : Shape) → CanMend (get nodes.old) way.now steps root end path t new
+        → Mends (get nodes.old) (get nodes.new) result path t new }
+    ensures count { KeepsCount nodes.old nodes.new }
+{
+    let mut depth = steps;
+    let mut top = end;
+    while depth > 0 {
+        depth -= 1;
+        let step = way[depth];
+        let hung = if step.before {
+            hang_before(nodes, step.key, top)
+        } else {
+            hang_behind(nodes, step.key, top)
+        };
+        if hung.same {
+            return root;
+        }
+        top = hung.top;
+    }
+    top.root
+}
+
+/// Hangs a tree before a key, where the one that hung there had its root and its height.
+#[inline(always)]
+fn lift_before(nodes: &mut Slab<Node>, key: usize, tree: Top) -> Hung
+    requires { CanLiftBefore (get nodes.old) key tree }
+    ensures hung { IsHungBefore (get nodes.old) (get nodes.new) key tree result }
+    ensures level { IsLevel (get nodes.old) key result.top }
+    ensures count { KeepsCount nodes.old nodes.new }
+{
+    let node = &nodes[key];
+    let height = node.height;
+    let was_longest = node.longest;
+    let own = free_length(node.piece);
+    let other = read(nodes, node.right);
+    let below = tree.longest.max(other.longest);
+    let longest = own.max(below);
+    set_longest(nodes, key, longest);
+    let top = Top {
+        root: Some(key),
+        height,
+        longest,
+    };
+    let same = longest == was_longest;
+    Hung { top, same }
+}
+
+/// Hangs a tree behind a key, where the one that hung there had its root and its height.
+#[inline(always)]
+fn lift_behind(nodes: &mut Slab<Node>, key: usize, tree: Top) -> Hung
+    requires { CanLiftBehind (get nodes.old) key tree }
+    ensures hung { IsHungBehind (get nodes.old) (get nodes.new) key tree result }
+    ensures level { IsLevel (get nodes.old) key result.top }
+    ensures count { KeepsCount nodes.old nodes.new }
+{
+    let node = &nodes[key];
+    let height = node.height;
+    let was_longest = node.longest;
+    let own = free_length(node.piece);
+    let other = read(nodes, node.left);
+    let below = other.longest.max(tree.longest);
+    let longest = own.max(below);
+    set_longest(nodes, key, longest);
+    let top = Top {
+        root: Some(key),
+        height,
+        longest,
+    };
+    let same = longest == was_longest;
+    Hung { top, same }
+}
+
+/// The same as `mend`, where the tree at the end has the root and the height of the one that was there: so it is all
+/// the way up, and what is longest alone is renewed.
+#[inline(always)]
+pub(crate) fn lift(nodes: &mut Slab<Node>, way: &[Step; MOST_HEIGHT], steps: usize, end: Top)
+    requires { (root : Option ℕ) × (path : Above) × (t : Shape) × (new : Shape)
+        × CanLift (get nodes.old) way.now steps root end path t new }
+    ensures mended { (root : Option ℕ) (path : Above) (t new : Shape) → CanLift (get nodes.old) way.now steps root end path t new
+        → Mends (get nodes.old) (get nodes.new) root path t new }
+    ensures count { KeepsCount nodes.old nodes.new }
+{
+    let mut depth = steps;
+    let mut top = end;
+    while depth > 0 {
+        depth -= 1;
+        let step = way[depth];
+        let hung = if step.before {
+            lift_before(nodes, step.key, top)
+        } else {
+            lift_behind(nodes, step.key, top)
+        };
+        if hung.same {
+            return;
+        }
+        top = hung.top;
+    }
+}
