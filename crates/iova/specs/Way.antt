@@ -3,6 +3,9 @@ use Rattle.std.specs.Prelude.{ℕ, ◌≡◌, ◌+◌, ◌≤◌, max, true, fal
 use Rattle.iova.specs.declared.piece.Piece.{Piece}
 use Rattle.iova.specs.declared.node.Node.{Node}
 use Rattle.iova.specs.declared.node.Top.{Top}
+use Rattle.iova.specs.declared.beside.Ends.{Ends}
+use Rattle.iova.specs.declared.piece.PageState.{PageState}
+use Rattle.iova.specs.declared.way.Held.{Held}
 use Rattle.iova.specs.declared.way.Hung.{Hung}
 use Rattle.iova.specs.declared.way.Place.{Place}
 use Rattle.iova.specs.declared.way.Step.{Step}
@@ -96,6 +99,15 @@ pub record Walks (look : Look) (root : Option ℕ) (t : Shape) (from : ℕ) (p :
 -- the way leads to the place where a piece is put
 abbrev pub LeadsTo : Look → Option ℕ → Piece → List Step → Place → Type 0
 LeadsTo look root p way place = (t : Shape) (from : ℕ) → Walks look root t from p way place
+
+-- the way leads to the node at a key, whose piece has these pages
+pub record IsHeld (look : Look) (root : Option ℕ) (way : List Step) (held : Held) (pages : Ends) : Type 0 where
+  pub node : Node
+  pub here : look held.key ≡ Some node
+  pub first : node.piece.first ≡ pages.first
+  pub last : node.piece.last ≡ pages.last
+  pub leads : (state : PageState) → LeadsTo look root (record { first = pages.first; last = pages.last; state = state }) way
+      (record { at = Some held.key; depth = held.depth })
 
 -- ---- and up
 

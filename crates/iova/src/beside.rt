@@ -4,10 +4,28 @@ ghost use Rattle.std.specs.Prelude.{◌≡◌, ℕ, ◌<◌, ◌≤◌};
 ghost use Rattle.slab.specs.Slab.{get};
 ghost use Rattle.iova.specs.Search.{end_above, end_by, start_below, start_by};
 ghost use Rattle.iova.specs.Tree.{CanSearch, IsBelow, IsPiece, Shape, items};
+ghost use Rattle.iova.specs.Way.{CanWalk, IsHeld};
 
 use crate::node::{NUMBERS_END, Node};
 use crate::piece::Piece;
+use crate::way::{Held, MOST_HEIGHT, Step};
 use slab::Slab;
+
+/// The key of the last step of a way that goes on before its key, or behind it.
+#[inline(always)]
+fn last_step(way: &[Step; MOST_HEIGHT], steps: usize, before: bool) -> Option<usize>
+    requires { steps ≤ MOST_HEIGHT }
+{
+    let mut depth = steps;
+    while depth > 0 {
+        depth -= 1;
+        let step = way[depth];
+        if step.before == before {
+            return Some(step.key);
+        }
+    }
+    None
+}
 
 /// The pages from a first to a last one.
 #[derive(Clone, Copy)]
@@ -113,4 +131,35 @@ pub(crate) fn with_free(nodes: &Slab<Node>, root: Option<usize>, pages: Ends) ->
         }
     }
     Ends { first, last }
+}
+
+/// The same for the pages of the piece at a key, to which a way leads.
+#[inline(always)]
+pub(crate) fn with_free_by(
+    nodes: &Slab<Node>,
+    root: Option<usize>,
+    way: &[Step; MOST_HEIGHT],
+    held: Held,
+    pages: Ends,
+) -> Ends
+    requires tree { CanWalk (get nodes.now) root }
+    requires held { IsHeld (get nodes.now) root way.now held pages }
+    ensures first { (t : Shape) (from : ℕ) → IsBelow (get nodes.now) root t from
+        → result.first ≡ start_below (items t) pages.first pages.first }
+    ensures last { (t : Shape) (from : ℕ) → IsBelow (get nodes.now) root t from
+        → result.last ≡ end_above (items t) pages.last pages.last }
+{
+    let node = &nodes[held.key];
+    let first = match last_step(way, held.depth, false) {
+        Some(key) => start(nodes[key].piece, pages.first),
+        None => pages.first,
+    };
+    let last = match last_step(way, held.depth, true) {
+        Some(key) => end(nodes[key].piece, pages.last),
+        None => pages.last,
+    };
+    Ends {
+        first: start_of(nodes, node.left, pages.first, first),
+        last: end_of(nodes, node.right, pages.last, last),
+    }
 }

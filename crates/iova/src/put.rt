@@ -231,7 +231,7 @@ pub(crate) fn put_by(
     let end = put_at(nodes, place.at, piece);
     let top = read(nodes, end);
     if end == place.at && top.height == was.height {
-        lift(nodes, way, place.depth, top);
+        lift(nodes, way, place.depth, was.longest, top);
         return root;
     }
     mend(nodes, way, place.depth, root, top)

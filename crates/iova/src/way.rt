@@ -3,7 +3,7 @@
 ghost use Rattle.std.specs.Prelude.{◌≡◌, ℕ, Option, Some, true};
 ghost use Rattle.slab.specs.Slab.{get};
 ghost use Rattle.iova.specs.declared.node.Node.{Node};
-ghost use Rattle.iova.specs.Tree.{IsPiece, KeepsCount, Shape};
+ghost use Rattle.iova.specs.Tree.{IsPiece, KeepsCount, Shape, longest_of};
 ghost use Rattle.iova.specs.Way.{Above, CanHangBefore, CanHangBehind, CanMend, CanWalk, Mends, Walks};
 ghost use Rattle.iova.specs.Way.{CanLift, CanLiftBefore, CanLiftBehind, IsHungBefore, IsHungBehind, IsLevel, JoinsBefore, JoinsBehind};
 
@@ -34,6 +34,13 @@ pub(crate) const NO_STEP: Step = Step {
 #[derive(Clone, Copy)]
 pub(crate) struct Place {
     pub(crate) at: Option<usize>,
+    pub(crate) depth: usize,
+}
+
+/// Where a piece lies: its key, and how many steps lead to it.
+#[derive(Clone, Copy)]
+pub(crate) struct Held {
+    pub(crate) key: usize,
     pub(crate) depth: usize,
 }
 
@@ -271,13 +278,19 @@ fn lift_behind(nodes: &mut Slab<Node>, key: usize, tree: Top) -> Hung
 }
 
 /// The same as `mend`, where the tree at the end has the root and the height of the one that was there: so it is all
-/// the way up, and what is longest alone is renewed.
+/// the way up, and what is longest alone is renewed. There it `was` so long.
 #[inline(always)]
-pub(crate) fn lift(nodes: &mut Slab<Node>, way: &[Step; MOST_HEIGHT], steps: usize, end: Top)
+pub(crate) fn lift(
+    nodes: &mut Slab<Node>,
+    way: &[Step; MOST_HEIGHT],
+    steps: usize,
+    was: u64,
+    end: Top,
+)
     requires { (root : Option ℕ) × (path : Above) × (t : Shape) × (new : Shape)
-        × CanLift (get nodes.old) way.now steps root end path t new }
+        × CanLift (get nodes.old) way.now steps root end path t new × (was ≡ longest_of t) }
     ensures mended { (root : Option ℕ) (path : Above) (t new : Shape) → CanLift (get nodes.old) way.now steps root end path t new
-        → Mends (get nodes.old) (get nodes.new) root path t new }
+        → was ≡ longest_of t → Mends (get nodes.old) (get nodes.new) root path t new }
     ensures count { KeepsCount nodes.old nodes.new }
 {
     let mut depth = steps;
