@@ -11,3 +11,4 @@ pub mod Same
 pub mod shapes
 pub mod parts
 pub mod searches
+mod FreedLive

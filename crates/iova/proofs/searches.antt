@@ -7,3 +7,5 @@ pub mod Walked
 pub mod Walk
 pub mod Beside
 pub mod Descent
+pub mod Seeking
+pub mod Holding

@@ -4,7 +4,12 @@ use Rattle.slab.specs.Slab.{Slab, get, slab_len}
 use Rattle.iova.specs.declared.piece.Piece.{Piece}
 use Rattle.iova.specs.declared.node.Node.{Node}
 use Rattle.iova.specs.declared.space.TheConstants.{MOST_PIECES}
+use Rattle.dmatypes.specs.World.{IsIn}
+use Rattle.iova.specs.declared.piece.PageState.TheVariants.{Live}
+use Rattle.iova.specs.declared.way.Judged.{Judged}
+use Rattle.iova.specs.declared.way.Step.{Step}
 use Rattle.iova.specs.Space.{Space}
+use Rattle.iova.specs.Way.{IsHeld, pages_as}
 use Rattle.iova.specs.Tree.{Look, Shape, IsBelow, IsTree, at_root, height_of, items, root_of, top_of, uses}
 
 abbrev pub around : Option Node → (Option ℕ → List Piece) → List Piece
@@ -40,3 +45,8 @@ pub record IsListed (nodes : Slab Node) (root : Option ℕ) : Type 0 where
   pub shape : Shape
   pub below : IsBelow (get nodes) root shape 1
   pub height : height_of shape ≤ 14
+
+-- one live piece has the pages that were judged, and the way leads to it
+pub record IsJudged (nodes : Slab Node) (root : Option ℕ) (way : List Step) (judged : Judged) : Type 0 where
+  pub live : IsIn (pages_as judged.pages Live) (pieces_of nodes root)
+  pub held : IsHeld (get nodes) root way judged.held judged.pages

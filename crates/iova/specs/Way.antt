@@ -100,14 +100,17 @@ pub record Walks (look : Look) (root : Option ℕ) (t : Shape) (from : ℕ) (p :
 abbrev pub LeadsTo : Look → Option ℕ → Piece → List Step → Place → Type 0
 LeadsTo look root p way place = (t : Shape) (from : ℕ) → Walks look root t from p way place
 
+-- the pages as one piece in this state
+abbrev pub pages_as : Ends → PageState → Piece
+pages_as pages state = record { first = pages.first; last = pages.last; state = state }
+
 -- the way leads to the node at a key, whose piece has these pages
 pub record IsHeld (look : Look) (root : Option ℕ) (way : List Step) (held : Held) (pages : Ends) : Type 0 where
   pub node : Node
   pub here : look held.key ≡ Some node
   pub first : node.piece.first ≡ pages.first
   pub last : node.piece.last ≡ pages.last
-  pub leads : (state : PageState) → LeadsTo look root (record { first = pages.first; last = pages.last; state = state }) way
-      (record { at = Some held.key; depth = held.depth })
+  pub leads : (state : PageState) → LeadsTo look root (pages_as pages state) way (record { at = Some held.key; depth = held.depth })
 
 -- ---- and up
 

@@ -25,7 +25,6 @@ mod links;
 mod node;
 mod piece;
 mod put;
-mod replace;
 mod search;
 mod settle;
 mod space;

@@ -1,17 +1,19 @@
 //! Where a page lies, and where a range fits.
 
-ghost use Rattle.std.specs.Prelude.{◌≡◌, ℕ, ◌^◌, ◌<◌, ◌≤◌, None, IfSome, IfNone};
+ghost use Rattle.std.specs.Prelude.{◌≡◌, ◌≢◌, ℕ, ◌^◌, ◌<◌, ◌≤◌, None, IfSome, IfNone};
 ghost use Rattle.std.specs.List.{AllByRecursion};
 ghost use Rattle.slab.specs.Slab.{get};
 ghost use Rattle.iova.specs.Search.{HasNoRoom, IsFound, first_or, piece_at, pieces_from};
 ghost use Rattle.iova.specs.Pieces.{piece_of};
 ghost use Rattle.iova.specs.Tree.{CanSearch, IsBelow, Shape, items};
-ghost use Rattle.iova.specs.Way.{CanWalk, LeadsTo};
+ghost use Rattle.iova.specs.Way.{CanWalk, IsHeld, LeadsTo};
+ghost use Rattle.iova.specs.declared.piece.Piece.{Piece};
+ghost use Rattle.dmatypes.specs.World.{IsIn};
 
 use crate::links::{free_length, longest};
 use crate::node::{NUMBERS_END, Node};
 use crate::piece::{PageState, Piece};
-use crate::way::{MOST_HEIGHT, Place, Spot, Step};
+use crate::way::{Held, MOST_HEIGHT, Place, Spot, Step};
 use slab::Slab;
 
 /// The piece that a page lies in.
@@ -90,6 +92,36 @@ pub(crate) fn first_free(
             way[depth] = Step { key, before: false };
             at = node.right;
         }
+        depth += 1;
+    }
+    None
+}
+
+/// Where the piece lies that begins at a page, if one does, and the way there: one way down.
+#[inline(always)]
+pub(crate) fn seek(
+    nodes: &Slab<Node>,
+    root: Option<usize>,
+    first: u64,
+    way: &mut [Step; MOST_HEIGHT],
+) -> Option<Held>
+    requires { CanWalk (get nodes.now) root }
+    ensures found { IfSome result (λ held.
+        (last : ℕ) × IsHeld (get nodes.now) root way.new held (record { first = first; last = last })) }
+    ensures none { (t : Shape) (from : ℕ) → IsBelow (get nodes.now) root t from
+        → IfNone result ((p : Piece) → IsIn p (items t) → p.first ≢ first) }
+{
+    let mut at = root;
+    let mut depth = 0;
+    while let Some(key) = at {
+        let node = &nodes[key];
+        if node.piece.first == first {
+            return Some(Held { key, depth });
+        }
+        // Chosen by value, since no processor foresees which side it is.
+        let before = first < node.piece.first;
+        way[depth] = Step { key, before };
+        at = if before { node.left } else { node.right };
         depth += 1;
     }
     None

@@ -1,13 +1,13 @@
 //! The address space of a domain.
 
-ghost use Rattle.std.specs.Prelude.{◌≡◌, ◌≢◌, ℕ, ◌+◌, ◌^◌, ◌<◌, ◌≤◌, ◌↔◌, length, Some, IsSome, IfOk, OnErr, IsOk, Ok, Err, false};
+ghost use Rattle.std.specs.Prelude.{◌≡◌, ◌≢◌, ℕ, ◌+◌, ◌^◌, ◌<◌, ◌≤◌, ◌↔◌, length, Some, IsSome, IfOk, OnErr, IsOk, Ok, Err};
 
 use crate::beside::Ends;
 use crate::node::Node;
 use crate::piece::{PageState, Piece};
 use crate::store;
 use crate::walk::Iter;
-use crate::way::{MOST_HEIGHT, NO_STEP};
+use crate::way::{Judged, MOST_HEIGHT, NO_STEP, Step};
 use dmatypes::{MOST_PAGES, PAGES_END, Page, PageRange};
 use slab::Slab;
 use std::alloc::{AllocError, Global};
@@ -49,26 +49,32 @@ pub struct Space {
     last: u64,
     root: Option<usize>,
     nodes: Slab<Node>,
+    // The steps of the last way down.
+    way: [Step; MOST_HEIGHT],
+    // The live piece to which they lead, if it was judged and nothing has changed since.
+    judged: Option<Judged>,
 }
 
 impl Model for Space {
+    ghost use Rattle.std.specs.Prelude.{IfSome};
     ghost use Rattle.iova.specs.Space.{Space, IsSpace};
-    ghost use Rattle.iova.specs.Stored.{IsKept, pieces_of, stored};
+    ghost use Rattle.iova.specs.Stored.{IsKept, IsJudged, pieces_of, stored};
 
     ghost Value = { Space };
 
     ghost view = { λ a. stored a.last a.root a.nodes };
 
-    ghost invariant = { λ a. IsKept a.root a.nodes (pieces_of a.nodes a.root) × IsSpace (stored a.last a.root a.nodes) };
+    ghost invariant = { λ a. IsKept a.root a.nodes (pieces_of a.nodes a.root) × IsSpace (stored a.last a.root a.nodes)
+        × IfSome a.judged (IsJudged a.nodes a.root a.way) };
 }
 
 impl Space {
     ghost use Rattle.dmatypes.specs.Page.{IsPageRange, IsWithin, Range};
     ghost use Rattle.dmatypes.specs.World.{IsIn};
     ghost use Rattle.dmatypes.specs.declared.limits.TheConstants.{MOST_ORDER};
-    ghost use Rattle.iova.specs.Pieces.{AllIn, IsRun, is_free, piece_of, state_at};
+    ghost use Rattle.iova.specs.Pieces.{AllIn, IsRun, piece_of, state_at};
     ghost use Rattle.iova.specs.Space.{Space, AllFree, IsFit, IsLowestFit, IsSpace, IsTooMany, MayRetire, new_space};
-    ghost use Rattle.iova.specs.Changes.{Frees, FreesRun, Retires, Takes};
+    ghost use Rattle.iova.specs.Changes.{Frees, FreesLive, FreesRun, Retires, Takes};
 
     /// A space of the pages up to a last one, all free. It takes the memory for all its pieces; no other call
     /// takes any.
@@ -81,7 +87,13 @@ impl Space {
     {
         let mut nodes = Slab::with_capacity(alloc, MOST_PIECES)?;
         let root = store::fill(&mut nodes, last);
-        Ok(Space { last, root, nodes })
+        Ok(Space {
+            last,
+            root,
+            nodes,
+            way: [NO_STEP; MOST_HEIGHT],
+            judged: None,
+        })
     }
 
     /// Makes it new: all its pages are free.
@@ -90,6 +102,7 @@ impl Space {
         ensures free { AllFree self.new }
         ensures space { IsSpace self.new }
     {
+        self.judged = None;
         self.nodes.clear();
         self.root = store::fill(&mut self.nodes, self.last);
     }
@@ -143,8 +156,9 @@ impl Space {
             × IsTooMany self.old.pieces (record { first = start; pages = pages })) }
         ensures unchanged { OnErr result (self.new ≡ self.old) }
     {
-        let mut way = [NO_STEP; MOST_HEIGHT];
-        let Some(spot) = store::fit(&self.nodes, self.root, pages, 1 << order, &mut way) else {
+        self.judged = None;
+        let Some(spot) = store::fit(&self.nodes, self.root, pages, 1 << order, &mut self.way)
+        else {
             return Err(TakeError::NoRange);
         };
         let start = spot.start;
@@ -158,7 +172,7 @@ impl Space {
             last: start + pages - 1,
             state: PageState::Live,
         };
-        self.root = store::store_by(&mut self.nodes, self.root, piece, &way, spot.place);
+        self.root = store::store_by(&mut self.nodes, self.root, piece, &self.way, spot.place);
         Ok(Page::new(start).unwrap())
     }
 
@@ -182,6 +196,28 @@ impl Space {
         Ok(())
     }
 
+    /// Whether a range can be retired, as `may_retire`. Where it is one live piece, the space keeps in mind where that lies: what
+    /// is done to it next, if nothing is done before, need not look for it.
+    #[inline(always)]
+    pub fn judge(&mut self, range: PageRange) -> Result<(), RetireError>
+        ensures ok { IsOk result ↔ MayRetire self.old.pieces range }
+        ensures not_live { (result ≡ Err RetireError.NotLive)
+            ↔ ((page : ℕ) × IsWithin range page × (state_at self.old.pieces page ≢ Some PageState.Live)) }
+        ensures too_many { (result ≡ Err RetireError.TooManyPieces)
+            ↔ (AllIn PageState.Live range self.old.pieces × IsTooMany self.old.pieces range) }
+        ensures unchanged { self.new ≡ self.old }
+    {
+        let first = range.first();
+        let last = first + range.pages() - 1;
+        let pages = Ends { first, last };
+        self.judged = None;
+        if let Some(held) = store::hold_live(&self.nodes, self.root, pages, &mut self.way) {
+            self.judged = Some(Judged { pages, held });
+            return Ok(());
+        }
+        self.may_retire(range)
+    }
+
     /// Makes a range of live pages one retired piece.
     #[inline(always)]
     pub fn retire(&mut self, range: PageRange)
@@ -195,7 +231,31 @@ impl Space {
             last: first + range.pages() - 1,
             state: PageState::Retired,
         };
-        self.root = store::retire(&mut self.nodes, self.root, piece);
+        let judged = self.judged;
+        self.judged = None;
+        self.root = store::retire(&mut self.nodes, self.root, piece, &self.way, judged);
+    }
+
+    /// Makes a range of live pages free, as `retire` and then `release` would.
+    #[inline(always)]
+    pub fn free_live(&mut self, range: PageRange)
+        requires { MayRetire self.old.pieces range }
+        ensures freed { FreesLive self.old self.new range }
+        ensures space { IsSpace self.old × IsSpace self.new }
+    {
+        let first = range.first();
+        let last = first + range.pages() - 1;
+        let pages = Ends { first, last };
+        if let Some(judged) = self.judged {
+            if judged.pages.first == pages.first && judged.pages.last == pages.last {
+                self.judged = None;
+                self.root =
+                    store::free(&mut self.nodes, self.root, pages, &self.way, judged.held);
+                return;
+            }
+        }
+        self.retire(range);
+        self.release(range);
     }
 
     /// Frees a range that is one live piece. After a `take` the space is as it was before it.
@@ -228,7 +288,8 @@ impl Space {
     {
         let first = range.first();
         let last = first + range.pages() - 1;
-        let whole = store::with_free_ends(&self.nodes, self.root, Ends { first, last });
+        self.judged = None;
+        let whole = store::with_free_around(&self.nodes, self.root, Ends { first, last });
         let piece = Piece {
             first: whole.first,
             last: whole.last,
@@ -240,24 +301,16 @@ impl Space {
     // Frees a range that is one piece.
     #[inline(always)]
     fn free(&mut self, range: PageRange)
-        requires { (state : PageState) × IsIn (piece_of range state) self.old.pieces × (is_free state ≡ false) }
+        requires { (state : PageState) × IsIn (piece_of range state) self.old.pieces }
         ensures freed { (state : PageState) → IsIn (piece_of range state) self.old.pieces → Frees self.old self.new range state }
         ensures range { IsPageRange range }
         ensures space { IsSpace self.old × IsSpace self.new }
     {
         let first = range.first();
         let last = first + range.pages() - 1;
-        let ends = store::with_free_ends(&self.nodes, self.root, Ends { first, last });
-        let piece = Piece {
-            first: ends.first,
-            last: ends.last,
-            state: PageState::Free,
-        };
-        self.root = store::free(
-            &mut self.nodes,
-            self.root,
-            piece,
-            ends.first == first && ends.last == last,
-        );
+        let pages = Ends { first, last };
+        self.judged = None;
+        let held = store::hold(&self.nodes, self.root, pages, &mut self.way);
+        self.root = store::free(&mut self.nodes, self.root, pages, &self.way, held);
     }
 }

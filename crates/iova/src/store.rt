@@ -1,25 +1,22 @@
 //! The pieces of a space in a tree.
 
-ghost use Rattle.std.specs.Prelude.{◌≡◌, ◌≢◌, Some, ℕ, ◌+◌, ◌^◌, ◌<◌, ◌≤◌, ◌↔◌, [], false, true, length, IsTrue, IsSome, IfSome, IfNone};
+ghost use Rattle.std.specs.Prelude.{◌≡◌, ◌≢◌, Some, ℕ, ◌+◌, ◌^◌, ◌<◌, ◌≤◌, ◌↔◌, [], length, IsTrue, IsSome, IfSome, IfNone};
 ghost use Rattle.dmatypes.specs.Page.{IsWithin};
 ghost use Rattle.slab.specs.Slab.{get, slab_len};
-ghost use Rattle.iova.specs.Pieces.{AllIn, IsOrdered, free_end, free_start, is_free, piece_of, state_at, with_piece};
-ghost use Rattle.iova.specs.declared.piece.Piece.{Piece};
-ghost use Rattle.iova.specs.Search.{TakesPlace};
+ghost use Rattle.dmatypes.specs.World.{IsIn};
+ghost use Rattle.iova.specs.Pieces.{AllIn, IsOrdered, free_end, free_start, freed, piece_of, state_at, with_free, with_piece};
 ghost use Rattle.iova.specs.Space.{CutsPiece, IsFit, IsLowestFit, new_space};
-ghost use Rattle.iova.specs.Stored.{IsKept, pieces_of};
+ghost use Rattle.iova.specs.Stored.{IsJudged, IsKept, pieces_of};
 ghost use Rattle.iova.specs.Tree.{IsPiece};
-ghost use Rattle.iova.specs.Way.{LeadsTo};
+ghost use Rattle.iova.specs.Way.{IsHeld, LeadsTo, pages_as};
 
-use crate::beside::{Ends, with_free};
-use crate::links::free_length;
+use crate::beside::{Ends, with_free, with_free_by};
 use crate::node::{NUMBERS_END, Node};
 use crate::piece::{PageState, Piece};
 use crate::put::{put, put_by};
-use crate::replace::{raise, restate};
-use crate::search::{find, first_free, lowest_fit};
+use crate::search::{find, first_free, lowest_fit, seek};
 use crate::space::MOST_PIECES;
-use crate::way::{MOST_HEIGHT, Place, Spot, Step, walk};
+use crate::way::{Held, Judged, MOST_HEIGHT, Place, Spot, Step, walk};
 use dmatypes::{PAGES_END, WINDOW_FIRST, WINDOW_LAST};
 use slab::Slab;
 
@@ -59,44 +56,119 @@ pub(crate) fn store_by(
     put_by(nodes, root, &piece, way, place)
 }
 
-/// Puts a free piece over those that are there: where it is `one`, over one that has its pages and isn't free.
+/// Puts a piece in the place of one that has its pages, to which a way leads, and answers the root.
 #[inline(always)]
-pub(crate) fn free(
+pub(crate) fn store_held(
     nodes: &mut Slab<Node>,
     root: Option<usize>,
     piece: Piece,
-    one: bool,
+    way: &[Step; MOST_HEIGHT],
+    held: Held,
 ) -> Option<usize>
     requires kept { IsKept root nodes.old (pieces_of nodes.old root) }
     requires ordered { IsOrdered 1 (pieces_of nodes.old root) }
     requires few { length (with_piece piece (pieces_of nodes.old root)) ≤ MOST_PIECES }
     requires piece { IsPiece piece }
-    requires place { one ≡ true → (there : Piece) × TakesPlace piece there (pieces_of nodes.old root) × (is_free there.state ≡ false) }
+    requires held { (pages : Ends) × IsHeld (get nodes.old) root way.now held pages × (pages_as pages piece.state ≡ piece) }
     ensures { IsKept result nodes.new (with_piece piece (pieces_of nodes.old root)) }
 {
-    if !one {
-        return store(nodes, root, piece);
-    }
-    let Some(key) = root else { unreachable!() };
-    let pages = free_length(piece);
-    raise(nodes, key, &piece, pages);
-    root
+    let place = Place {
+        at: Some(held.key),
+        depth: held.depth,
+    };
+    store_by(nodes, root, piece, way, place)
 }
 
-/// Puts a piece that isn't free over those that are there, mostly over one that has its pages and isn't free.
+/// Puts a piece over those that are there: where one was judged that has its pages, by the way that leads to that.
 #[inline(always)]
-pub(crate) fn retire(nodes: &mut Slab<Node>, root: Option<usize>, piece: Piece) -> Option<usize>
+pub(crate) fn retire(
+    nodes: &mut Slab<Node>,
+    root: Option<usize>,
+    piece: Piece,
+    way: &[Step; MOST_HEIGHT],
+    judged: Option<Judged>,
+) -> Option<usize>
     requires kept { IsKept root nodes.old (pieces_of nodes.old root) }
     requires ordered { IsOrdered 1 (pieces_of nodes.old root) }
     requires few { length (with_piece piece (pieces_of nodes.old root)) ≤ MOST_PIECES }
     requires piece { IsPiece piece }
-    requires used { is_free piece.state ≡ false }
+    requires judged { IfSome judged (IsJudged nodes.old root way.now) }
     ensures { IsKept result nodes.new (with_piece piece (pieces_of nodes.old root)) }
 {
-    if restate(nodes, root, &piece) {
-        return root;
+    if let Some(judged) = judged {
+        if judged.pages.first == piece.first && judged.pages.last == piece.last {
+            return store_held(nodes, root, piece, way, judged.held);
+        }
     }
     store(nodes, root, piece)
+}
+
+/// Frees the piece that has some pages, to which a way leads: it becomes one with the free ones that it touches.
+pub(crate) fn free(
+    nodes: &mut Slab<Node>,
+    root: Option<usize>,
+    pages: Ends,
+    way: &[Step; MOST_HEIGHT],
+    held: Held,
+) -> Option<usize>
+    requires kept { IsKept root nodes.old (pieces_of nodes.old root) }
+    requires ordered { IsOrdered 1 (pieces_of nodes.old root) }
+    requires few { length (with_free (pages_as pages PageState.Free) (pieces_of nodes.old root)) ≤ MOST_PIECES }
+    requires piece { IsPiece (freed (pages_as pages PageState.Free) (pieces_of nodes.old root)) }
+    requires held { IsHeld (get nodes.old) root way.now held pages }
+    ensures { IsKept result nodes.new (with_free (pages_as pages PageState.Free) (pieces_of nodes.old root)) }
+{
+    let ends = with_free_ends(nodes, root, way, held, pages);
+    let piece = Piece {
+        first: ends.first,
+        last: ends.last,
+        state: PageState::Free,
+    };
+    if ends.first == pages.first && ends.last == pages.last {
+        return store_held(nodes, root, piece, way, held);
+    }
+    store(nodes, root, piece)
+}
+
+/// Where the piece lies that has some pages, and the way there.
+#[inline(always)]
+pub(crate) fn hold(
+    nodes: &Slab<Node>,
+    root: Option<usize>,
+    pages: Ends,
+    way: &mut [Step; MOST_HEIGHT],
+) -> Held
+    requires kept { IsKept root nodes.now (pieces_of nodes.now root) }
+    requires ordered { IsOrdered 1 (pieces_of nodes.now root) }
+    requires piece { (state : PageState) × IsIn (pages_as pages state) (pieces_of nodes.now root) }
+    ensures { IsHeld (get nodes.now) root way.new result pages }
+{
+    let Some(held) = seek(nodes, root, pages.first, way) else {
+        unreachable!()
+    };
+    held
+}
+
+/// Where the live piece lies that has some pages, if there is one, and the way there.
+#[inline(always)]
+pub(crate) fn hold_live(
+    nodes: &Slab<Node>,
+    root: Option<usize>,
+    pages: Ends,
+    way: &mut [Step; MOST_HEIGHT],
+) -> Option<Held>
+    requires kept { IsKept root nodes.now (pieces_of nodes.now root) }
+    requires ordered { IsOrdered 1 (pieces_of nodes.now root) }
+    ensures held { IfSome result (λ held. IsHeld (get nodes.now) root way.new held pages) }
+    ensures live { IfSome result (λ held. IsIn (pages_as pages PageState.Live) (pieces_of nodes.now root)) }
+{
+    let held = seek(nodes, root, pages.first, way)?;
+    let piece = nodes[held.key].piece;
+    let live = matches!(piece.state, PageState::Live);
+    if live && piece.last == pages.last {
+        return Some(held);
+    }
+    None
 }
 
 /// Stores the pieces of a new space where no piece is.
@@ -186,9 +258,26 @@ pub(crate) fn cuts_piece(nodes: &Slab<Node>, root: Option<usize>, first: u64, pa
 }
 
 /// The pages from the first of the free piece that ends just before some pages to the last of the one that begins
-/// just after them.
+/// just after them, where a way leads to the piece of these pages.
 #[inline(always)]
-pub(crate) fn with_free_ends(nodes: &Slab<Node>, root: Option<usize>, pages: Ends) -> Ends
+fn with_free_ends(
+    nodes: &Slab<Node>,
+    root: Option<usize>,
+    way: &[Step; MOST_HEIGHT],
+    held: Held,
+    pages: Ends,
+) -> Ends
+    requires kept { IsKept root nodes.now (pieces_of nodes.now root) }
+    requires ordered { IsOrdered 1 (pieces_of nodes.now root) }
+    requires held { IsHeld (get nodes.now) root way.now held pages }
+    ensures first { result.first ≡ free_start (pieces_of nodes.now root) pages.first }
+    ensures last { result.last ≡ free_end (pieces_of nodes.now root) pages.last }
+{
+    with_free_by(nodes, root, way, held, pages)
+}
+
+/// The same for a run of pieces, to which no way leads.
+pub(crate) fn with_free_around(nodes: &Slab<Node>, root: Option<usize>, pages: Ends) -> Ends
     requires kept { IsKept root nodes.now (pieces_of nodes.now root) }
     requires ordered { IsOrdered 1 (pieces_of nodes.now root) }
     requires some { pages.first ≤ pages.last }

@@ -7,6 +7,7 @@ ghost use Rattle.iova.specs.Tree.{IsPiece, KeepsCount, Shape, longest_of};
 ghost use Rattle.iova.specs.Way.{Above, CanHangBefore, CanHangBehind, CanMend, CanWalk, Mends, Walks};
 ghost use Rattle.iova.specs.Way.{CanLift, CanLiftBefore, CanLiftBehind, IsHungBefore, IsHungBehind, IsLevel, JoinsBefore, JoinsBehind};
 
+use crate::beside::Ends;
 use crate::links::{free_length, read};
 use crate::node::{Node, Top};
 use crate::piece::Piece;
@@ -42,6 +43,13 @@ pub(crate) struct Place {
 pub(crate) struct Held {
     pub(crate) key: usize,
     pub(crate) depth: usize,
+}
+
+/// A live piece that was judged: its pages, and where it lies.
+#[derive(Clone, Copy)]
+pub(crate) struct Judged {
+    pub(crate) pages: Ends,
+    pub(crate) held: Held,
 }
 
 /// Where pages are taken: the first of them, and where the piece lies that they are taken from.

@@ -23,22 +23,22 @@ use Rattle.iova.proofs.shapes.Ways.{steps_few}
 
 -- ---- within a piece
 
-in_here : (q : Piece) (xs ys : List Piece) → IsIn q (xs ++ q ∷ ys)
+pub in_here : (q : Piece) (xs ys : List Piece) → IsIn q (xs ++ q ∷ ys)
 in_here q [] ys = inl refl
 in_here q (x ∷ xs) ys = inr (in_here q xs ys)
 
-in_front : (q : Piece) (xs ys : List Piece) → IsIn q xs → IsIn q (xs ++ ys)
+pub in_front : (q : Piece) (xs ys : List Piece) → IsIn q xs → IsIn q (xs ++ ys)
 in_front q [] ys i = absurd i
 in_front q (x ∷ xs) ys i = elim i [
   | inl e ↦ inl e
   | inr j ↦ inr (in_front q xs ys j)
 ]
 
-in_back : (q : Piece) (xs ys : List Piece) → IsIn q ys → IsIn q (xs ++ ys)
+pub in_back : (q : Piece) (xs ys : List Piece) → IsIn q ys → IsIn q (xs ++ ys)
 in_back q [] ys i = i
 in_back q (x ∷ xs) ys i = inr (in_back q xs ys i)
 
-from_first : (from : ℕ) (xs : List Piece) (b : Piece) (ys : List Piece) → IsOrdered from (xs ++ b ∷ ys) → from ≤ b.first
+pub from_first : (from : ℕ) (xs : List Piece) (b : Piece) (ys : List Piece) → IsOrdered from (xs ++ b ∷ ys) → from ≤ b.first
 from_first from [] b ys o = o.0
 from_first from (x ∷ xs) b ys o = omega (arith, o.0, o.1, from_first (x.last + 1) xs b ys o.3)
 

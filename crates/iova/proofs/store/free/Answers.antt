@@ -1,37 +1,49 @@
-use Rattle.std.proofs.Common.{refl, Some}
-use Rattle.iova.specs.Stored.{pieces_of}
-use Rattle.iova.proofs.shapes.Tall.{kept_at, kept_done}
-use Rattle.iova.proofs.parts.Replaced.{kept_takes, kept_there}
+use Rattle.std.proofs.Common.{◌≡◌, List, ap, subst, ◌∙◌, length, arith}
+use Rattle.iova.specs.declared.piece.Piece.{Piece}
+use Rattle.iova.specs.declared.piece.PageState.TheVariants.{Free}
+use Rattle.iova.specs.Stored.{IsKept, pieces_of}
+use Rattle.iova.specs.Way.{pages_as}
+use Rattle.iova.proofs.FreedRun.{put_freed}
 use Rattle.iova.proofs.store.free.Goals as goal
 
-pub unreachable-requires : goal.unreachable-requires
-unreachable-requires c =
-    let w = c.requires.place c.if-not-one.false in
-    absurd (kept_there c.args.root c.args.nodes.now (pieces_of c.args.nodes.now c.args.root) c.args.piece w.0 c.requires.kept w.1
-    c.in_default.is)
+pub store-requires-clause-few : goal.store-requires-clause-few
+store-requires-clause-few c =
+    let a = pieces_of c.args.nodes.now c.args.root in
+    let q : Piece = pages_as c.args.pages Free in
+    let ends = c.with_free_ends-ends in
+    let e = ap (λ (ps : List Piece). length ps) (put_freed a q ends.result.first ends.result.last ends.ensures.first ends.ensures.last) in
+    omega (arith, c.requires.few)
 
-pub raise-requires-clause-tree : goal.raise-requires-clause-tree
-raise-requires-clause-tree c =
-    let w = c.requires.place c.if-not-one.false in (
-      c.requires.kept.shape,
-      1,
-      w.0,
-      kept_at c.args.root c.args.nodes.now (pieces_of c.args.nodes.now c.args.root) c.in-Some.key c.requires.kept
-          c.requires.ordered c.in-Some.is,
-      kept_takes c.args.root c.args.nodes.now (pieces_of c.args.nodes.now c.args.root) c.args.piece w.0 c.requires.kept w.1,
-      w.2,
-    )
+pub store-requires-clause-piece : goal.store-requires-clause-piece
+store-requires-clause-piece c =
+    let ends = c.with_free_ends-ends in
+    (omega (arith, c.requires.piece, ends.ensures.first, ends.ensures.last), omega (arith, c.requires.piece, ends.ensures.last))
+
+pub store_held-requires-clause-few : goal.store_held-requires-clause-few
+store_held-requires-clause-few c =
+    let a = pieces_of c.args.nodes.now c.args.root in
+    let q : Piece = pages_as c.args.pages Free in
+    let ends = c.with_free_ends-ends in
+    let e = ap (λ (ps : List Piece). length ps) (put_freed a q ends.result.first ends.result.last ends.ensures.first ends.ensures.last) in
+    omega (arith, c.requires.few)
+
+pub store_held-requires-clause-piece : goal.store_held-requires-clause-piece
+store_held-requires-clause-piece c =
+    let ends = c.with_free_ends-ends in
+    (omega (arith, c.requires.piece, ends.ensures.first, ends.ensures.last), omega (arith, c.requires.piece, ends.ensures.last))
+
+pub returns-then-ends-pages-2 : goal.returns-then-ends-pages-2
+returns-then-ends-pages-2 c =
+    let a = pieces_of c.args.nodes.now c.args.root in
+    let q : Piece = pages_as c.args.pages Free in
+    let ends = c.with_free_ends-ends in
+    subst (λ ps. IsKept c.store_held.result c.store_held.new.nodes ps)
+    (put_freed a q ends.result.first ends.result.last ends.ensures.first ends.ensures.last) c.store_held.ensures
 
 pub returns : goal.returns
 returns c =
-    let w = c.requires.place c.if-not-one.false in
-    kept_done c.args.root (Some c.in-Some.key) c.args.nodes.now c.raise.new.nodes (pieces_of c.args.nodes.now c.args.root) c.args.piece 0
-    c.requires.kept c.requires.few
-    (record {
-      top = _;
-      here = refl;
-      makes = c.raise.ensures c.requires.kept.shape 1 w.0
-          (kept_at c.args.root c.args.nodes.now (pieces_of c.args.nodes.now c.args.root) c.in-Some.key c.requires.kept
-          c.requires.ordered c.in-Some.is)
-          (kept_takes c.args.root c.args.nodes.now (pieces_of c.args.nodes.now c.args.root) c.args.piece w.0 c.requires.kept w.1) w.2;
-    })
+    let a = pieces_of c.args.nodes.now c.args.root in
+    let q : Piece = pages_as c.args.pages Free in
+    let ends = c.with_free_ends-ends in
+    subst (λ ps. IsKept c.store.result c.store.new.nodes ps)
+    (put_freed a q ends.result.first ends.result.last ends.ensures.first ends.ensures.last) c.store.ensures

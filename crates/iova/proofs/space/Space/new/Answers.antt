@@ -10,6 +10,7 @@ invariant_of-result c = (
   subst (λ ps. IsSpace (record { last = c.args.last; pieces = ps }))
       (sym (kept_view c.fill-root.result c.fill-root.new.nodes (new_space c.args.last).pieces c.fill-root.ensures))
       (new_space_is c.args.last c.requires.some c.requires.narrow).space,
+  tt,
 )
 
 pub returns-clause-new : goal.returns-clause-new

@@ -15,12 +15,12 @@ store-self-inside-requires-clause-few c =
     let q : Piece = piece_of c.args.range Retired in
     let run : IsRun q a.pieces = subst (λ (v : Space). IsRun q v.pieces) (sym c.self.view_is) c.requires in
     let wide : q.first ≤ q.last = omega (arith, c.first-first.ensures.range.some) in
-    let low : c.with_free_ends-whole.result.first ≡ free_start a.pieces q.first = c.with_free_ends-whole.ensures.first
+    let low : c.with_free_around-whole.result.first ≡ free_start a.pieces q.first = c.with_free_around-whole.ensures.first
     ∙ ap (λ n. free_start a.pieces n) c.first-first.ensures.value in
     let end : c.first-first.result + c.pages.result - 1 ≡ q.last = omega (arith, c.first-first.ensures.value, c.pages.ensures.value) in
-    let high : c.with_free_ends-whole.result.last ≡ free_end a.pieces q.last = c.with_free_ends-whole.ensures.last
+    let high : c.with_free_around-whole.result.last ≡ free_end a.pieces q.last = c.with_free_around-whole.ensures.last
     ∙ ap (λ n. free_end a.pieces n) end in
-    let same = put_freed a.pieces q c.with_free_ends-whole.result.first c.with_free_ends-whole.result.last low high in
+    let same = put_freed a.pieces q c.with_free_around-whole.result.first c.with_free_around-whole.result.last low high in
     let few = (space_freed a q c.self.invariant.1 wide run).few in
     let e = ap (λ (ps : List Piece). length ps) same in
     omega arith
@@ -31,10 +31,10 @@ store-self-inside-requires-clause-piece c =
     let q : Piece = piece_of c.args.range Retired in
     let run : IsRun q a.pieces = subst (λ (v : Space). IsRun q v.pieces) (sym c.self.view_is) c.requires in
     let wide : q.first ≤ q.last = omega (arith, c.first-first.ensures.range.some) in
-    let low : c.with_free_ends-whole.result.first ≡ free_start a.pieces q.first = c.with_free_ends-whole.ensures.first
+    let low : c.with_free_around-whole.result.first ≡ free_start a.pieces q.first = c.with_free_around-whole.ensures.first
     ∙ ap (λ n. free_start a.pieces n) c.first-first.ensures.value in
     let end : c.first-first.result + c.pages.result - 1 ≡ q.last = omega (arith, c.first-first.ensures.value, c.pages.ensures.value) in
-    let high : c.with_free_ends-whole.result.last ≡ free_end a.pieces q.last = c.with_free_ends-whole.ensures.last
+    let high : c.with_free_around-whole.result.last ≡ free_end a.pieces q.last = c.with_free_around-whole.ensures.last
     ∙ ap (λ n. free_end a.pieces n) end in
     let p = freed_piece a q c.self.invariant.1 wide run in
     (omega (arith, p), omega (arith, p))
@@ -45,19 +45,20 @@ invariant_of-self c =
     let q : Piece = piece_of c.args.range Retired in
     let run : IsRun q a.pieces = subst (λ (v : Space). IsRun q v.pieces) (sym c.self.view_is) c.requires in
     let wide : q.first ≤ q.last = omega (arith, c.first-first.ensures.range.some) in
-    let low : c.with_free_ends-whole.result.first ≡ free_start a.pieces q.first = c.with_free_ends-whole.ensures.first
+    let low : c.with_free_around-whole.result.first ≡ free_start a.pieces q.first = c.with_free_around-whole.ensures.first
     ∙ ap (λ n. free_start a.pieces n) c.first-first.ensures.value in
     let end : c.first-first.result + c.pages.result - 1 ≡ q.last = omega (arith, c.first-first.ensures.value, c.pages.ensures.value) in
-    let high : c.with_free_ends-whole.result.last ≡ free_end a.pieces q.last = c.with_free_ends-whole.ensures.last
+    let high : c.with_free_around-whole.result.last ≡ free_end a.pieces q.last = c.with_free_around-whole.ensures.last
     ∙ ap (λ n. free_end a.pieces n) end in
-    let same = put_freed a.pieces q c.with_free_ends-whole.result.first c.with_free_ends-whole.result.last low high in
+    let same = put_freed a.pieces q c.with_free_around-whole.result.first c.with_free_around-whole.result.last low high in
     let now = kept_view c.store-self-inside.result c.store-self-inside.new.nodes
-    (with_piece (record { first = c.with_free_ends-whole.result.first; last = c.with_free_ends-whole.result.last; state = Free }) a.pieces)
+    (with_piece (record { first = c.with_free_around-whole.result.first; last = c.with_free_around-whole.result.last; state = Free }) a.pieces)
     c.store-self-inside.ensures ∙ same in (
       kept_self c.store-self-inside.result c.store-self-inside.new.nodes
-          (with_piece (record { first = c.with_free_ends-whole.result.first; last = c.with_free_ends-whole.result.last; state = Free }) a.pieces)
+          (with_piece (record { first = c.with_free_around-whole.result.first; last = c.with_free_around-whole.result.last; state = Free }) a.pieces)
           c.store-self-inside.ensures,
       subst (λ ps. IsSpace (record a { pieces = ps })) (sym now) (space_freed a q c.self.invariant.1 wide run),
+      tt,
     )
 
 pub returns-clause-freed : goal.returns-clause-freed
@@ -66,14 +67,14 @@ returns-clause-freed c =
     let q : Piece = piece_of c.args.range Retired in
     let run : IsRun q a.pieces = subst (λ (v : Space). IsRun q v.pieces) (sym c.self.view_is) c.requires in
     let wide : q.first ≤ q.last = omega (arith, c.first-first.ensures.range.some) in
-    let low : c.with_free_ends-whole.result.first ≡ free_start a.pieces q.first = c.with_free_ends-whole.ensures.first
+    let low : c.with_free_around-whole.result.first ≡ free_start a.pieces q.first = c.with_free_around-whole.ensures.first
     ∙ ap (λ n. free_start a.pieces n) c.first-first.ensures.value in
     let end : c.first-first.result + c.pages.result - 1 ≡ q.last = omega (arith, c.first-first.ensures.value, c.pages.ensures.value) in
-    let high : c.with_free_ends-whole.result.last ≡ free_end a.pieces q.last = c.with_free_ends-whole.ensures.last
+    let high : c.with_free_around-whole.result.last ≡ free_end a.pieces q.last = c.with_free_around-whole.ensures.last
     ∙ ap (λ n. free_end a.pieces n) end in
-    let same = put_freed a.pieces q c.with_free_ends-whole.result.first c.with_free_ends-whole.result.last low high in
+    let same = put_freed a.pieces q c.with_free_around-whole.result.first c.with_free_around-whole.result.last low high in
     let now = kept_view c.store-self-inside.result c.store-self-inside.new.nodes
-    (with_piece (record { first = c.with_free_ends-whole.result.first; last = c.with_free_ends-whole.result.last; state = Free }) a.pieces)
+    (with_piece (record { first = c.with_free_around-whole.result.first; last = c.with_free_around-whole.result.last; state = Free }) a.pieces)
     c.store-self-inside.ensures ∙ same in
     let new : Space = stored c.self.inside.last c.store-self-inside.result c.store-self-inside.new.nodes in
     subst (λ v. FreesRun v new c.args.range Retired) c.self.view_is
@@ -85,14 +86,14 @@ returns-clause-retirable c other may =
     let q : Piece = piece_of c.args.range Retired in
     let run : IsRun q a.pieces = subst (λ (v : Space). IsRun q v.pieces) (sym c.self.view_is) c.requires in
     let wide : q.first ≤ q.last = omega (arith, c.first-first.ensures.range.some) in
-    let low : c.with_free_ends-whole.result.first ≡ free_start a.pieces q.first = c.with_free_ends-whole.ensures.first
+    let low : c.with_free_around-whole.result.first ≡ free_start a.pieces q.first = c.with_free_around-whole.ensures.first
     ∙ ap (λ n. free_start a.pieces n) c.first-first.ensures.value in
     let end : c.first-first.result + c.pages.result - 1 ≡ q.last = omega (arith, c.first-first.ensures.value, c.pages.ensures.value) in
-    let high : c.with_free_ends-whole.result.last ≡ free_end a.pieces q.last = c.with_free_ends-whole.ensures.last
+    let high : c.with_free_around-whole.result.last ≡ free_end a.pieces q.last = c.with_free_around-whole.ensures.last
     ∙ ap (λ n. free_end a.pieces n) end in
-    let same = put_freed a.pieces q c.with_free_ends-whole.result.first c.with_free_ends-whole.result.last low high in
+    let same = put_freed a.pieces q c.with_free_around-whole.result.first c.with_free_around-whole.result.last low high in
     let now = kept_view c.store-self-inside.result c.store-self-inside.new.nodes
-    (with_piece (record { first = c.with_free_ends-whole.result.first; last = c.with_free_ends-whole.result.last; state = Free }) a.pieces)
+    (with_piece (record { first = c.with_free_around-whole.result.first; last = c.with_free_around-whole.result.last; state = Free }) a.pieces)
     c.store-self-inside.ensures ∙ same in
     let new : Space = stored c.self.inside.last c.store-self-inside.result c.store-self-inside.new.nodes in
     may_still_run a new c.args.range other c.self.invariant.1
@@ -106,14 +107,14 @@ returns-clause-space c =
     let q : Piece = piece_of c.args.range Retired in
     let run : IsRun q a.pieces = subst (λ (v : Space). IsRun q v.pieces) (sym c.self.view_is) c.requires in
     let wide : q.first ≤ q.last = omega (arith, c.first-first.ensures.range.some) in
-    let low : c.with_free_ends-whole.result.first ≡ free_start a.pieces q.first = c.with_free_ends-whole.ensures.first
+    let low : c.with_free_around-whole.result.first ≡ free_start a.pieces q.first = c.with_free_around-whole.ensures.first
     ∙ ap (λ n. free_start a.pieces n) c.first-first.ensures.value in
     let end : c.first-first.result + c.pages.result - 1 ≡ q.last = omega (arith, c.first-first.ensures.value, c.pages.ensures.value) in
-    let high : c.with_free_ends-whole.result.last ≡ free_end a.pieces q.last = c.with_free_ends-whole.ensures.last
+    let high : c.with_free_around-whole.result.last ≡ free_end a.pieces q.last = c.with_free_around-whole.ensures.last
     ∙ ap (λ n. free_end a.pieces n) end in
-    let same = put_freed a.pieces q c.with_free_ends-whole.result.first c.with_free_ends-whole.result.last low high in
+    let same = put_freed a.pieces q c.with_free_around-whole.result.first c.with_free_around-whole.result.last low high in
     let now = kept_view c.store-self-inside.result c.store-self-inside.new.nodes
-    (with_piece (record { first = c.with_free_ends-whole.result.first; last = c.with_free_ends-whole.result.last; state = Free }) a.pieces)
+    (with_piece (record { first = c.with_free_around-whole.result.first; last = c.with_free_around-whole.result.last; state = Free }) a.pieces)
     c.store-self-inside.ensures ∙ same in (
       subst (λ v. IsSpace v) c.self.view_is c.self.invariant.1,
       subst (λ ps. IsSpace (record a { pieces = ps })) (sym now) (space_freed a q c.self.invariant.1 wide run),

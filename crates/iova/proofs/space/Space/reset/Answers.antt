@@ -19,6 +19,7 @@ invariant_of-self c = (
   subst (λ ps. IsSpace (record { last = c.self.inside.last; pieces = ps }))
       (sym (kept_view c.fill-self-inside.result c.fill-self-inside.new.nodes (new_space c.self.inside.last).pieces
       c.fill-self-inside.ensures)) (new_space_is c.self.inside.last c.self.invariant.1.some c.self.invariant.1.narrow).space,
+  tt,
 )
 
 pub returns-clause-new : goal.returns-clause-new

@@ -35,6 +35,7 @@ invariant_of-self c =
           c.retire-self-inside.ensures,
       subst (λ ps. IsSpace (record a { pieces = ps })) (sym (kept_view c.retire-self-inside.result c.retire-self-inside.new.nodes
           (with_piece (piece_of range Retired) a.pieces) c.retire-self-inside.ensures)) space,
+      tt,
     )
 
 pub returns-clause-retired : goal.returns-clause-retired

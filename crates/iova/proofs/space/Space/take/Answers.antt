@@ -76,8 +76,8 @@ unwrap-requires c =
     c.new.ensures.some.1 ((page_range a range Free c.self.invariant.1 c.requires.some_pages c.requires.few_pages free).members
     c.in-Some.spot.start (omega arith, omega (arith, c.requires.some_pages)))
 
-pub invariant_of-self : goal.invariant_of-self
-invariant_of-self c =
+pub invariant_of-self-2 : goal.invariant_of-self-2
+invariant_of-self-2 c =
     let a : Space = stored c.self.inside.last c.self.inside.root c.self.inside.nodes in
     let range : Range = record { first = c.in-Some.spot.start; pages = c.args.pages } in
     let free : AllIn Free range a.pieces = c.in-Some.ensures.lowest.fit.free in
@@ -93,6 +93,7 @@ invariant_of-self c =
           c.store_by-self-inside.ensures,
       subst (λ ps. IsSpace (record a { pieces = ps })) (sym (kept_view c.store_by-self-inside.result c.store_by-self-inside.new.nodes
           (with_piece (piece_of range Live) a.pieces) c.store_by-self-inside.ensures)) space,
+      tt,
     )
 
 pub returns-clause-range : goal.returns-clause-range
