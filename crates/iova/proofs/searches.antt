@@ -7,3 +7,4 @@ pub mod Walked
 pub mod Walk
 pub mod Beside
 pub mod Descent
+pub mod Touching

@@ -23,18 +23,18 @@ use Rattle.iova.proofs.shapes.Ways.{steps_few}
 
 -- ---- within a piece
 
-in_here : (q : Piece) (xs ys : List Piece) → IsIn q (xs ++ q ∷ ys)
+pub in_here : (q : Piece) (xs ys : List Piece) → IsIn q (xs ++ q ∷ ys)
 in_here q [] ys = inl refl
 in_here q (x ∷ xs) ys = inr (in_here q xs ys)
 
-in_front : (q : Piece) (xs ys : List Piece) → IsIn q xs → IsIn q (xs ++ ys)
+pub in_front : (q : Piece) (xs ys : List Piece) → IsIn q xs → IsIn q (xs ++ ys)
 in_front q [] ys i = absurd i
 in_front q (x ∷ xs) ys i = elim i [
   | inl e ↦ inl e
   | inr j ↦ inr (in_front q xs ys j)
 ]
 
-in_back : (q : Piece) (xs ys : List Piece) → IsIn q ys → IsIn q (xs ++ ys)
+pub in_back : (q : Piece) (xs ys : List Piece) → IsIn q ys → IsIn q (xs ++ ys)
 in_back q [] ys i = i
 in_back q (x ∷ xs) ys i = inr (in_back q xs ys i)
 
@@ -42,7 +42,7 @@ from_first : (from : ℕ) (xs : List Piece) (b : Piece) (ys : List Piece) → Is
 from_first from [] b ys o = o.0
 from_first from (x ∷ xs) b ys o = omega (arith, o.0, o.1, from_first (x.last + 1) xs b ys o.3)
 
-before_first : (from : ℕ) (xs : List Piece) (b : Piece) (ys : List Piece) (q : Piece) → IsOrdered from (xs ++ b ∷ ys) → IsIn q xs
+pub before_first : (from : ℕ) (xs : List Piece) (b : Piece) (ys : List Piece) (q : Piece) → IsOrdered from (xs ++ b ∷ ys) → IsIn q xs
     → q.last < b.first
 before_first from [] b ys q o i = absurd i
 before_first from (x ∷ xs) b ys q o i = elim i [
@@ -51,7 +51,7 @@ before_first from (x ∷ xs) b ys q o i = elim i [
 ]
 
 -- the pieces at a place are in order
-ordered_at : (up : Above) (t : Shape) (from : ℕ) → IsOrdered from (items (plug up t)) → (start : ℕ) × IsOrdered start (items t)
+pub ordered_at : (up : Above) (t : Shape) (from : ℕ) → IsOrdered from (items (plug up t)) → (start : ℕ) × IsOrdered start (items t)
 ordered_at Whole t from o = (from, o)
 ordered_at (Before key p r up) t from o =
     let a = ordered_at up (Fork key p t r) from o in
