@@ -9,3 +9,4 @@ pub mod Beside
 pub mod Descent
 pub mod Seeking
 pub mod Holding
+pub mod Touching

@@ -1,5 +1,5 @@
 -- Ways down a tree: what lies above a place in it.
-use Rattle.std.specs.Prelude.{ℕ, ◌≡◌, ◌+◌, ◌≤◌, max, true, false, List, ◌∷◌, ◌++◌, Option, Some, IfSome, slice_index_or}
+use Rattle.std.specs.Prelude.{ℕ, ◌≡◌, ◌+◌, ◌≤◌, max, Bool, true, false, List, ◌∷◌, ◌++◌, Option, Some, None, IfSome, slice_index_or}
 use Rattle.iova.specs.declared.piece.Piece.{Piece}
 use Rattle.iova.specs.declared.node.Node.{Node}
 use Rattle.iova.specs.declared.node.Top.{Top}
@@ -65,6 +65,14 @@ AreSteps way depth (Before key piece right up) =
     (d : ℕ) × (depth ≡ d + 1) × (step_at way d ≡ record { key = key; before = true }) × AreSteps way d up
 AreSteps way depth (Behind key piece left up) =
     (d : ℕ) × (depth ≡ d + 1) × (step_at way d ≡ record { key = key; before = false }) × AreSteps way d up
+
+-- the key of the last step that goes on before its key, or else behind it
+abbrev pub last_key : Bool → Above → Option ℕ
+last_key before Whole = None
+last_key true (Before key piece right up) = Some key
+last_key true (Behind key piece left up) = last_key true up
+last_key false (Before key piece right up) = last_key false up
+last_key false (Behind key piece left up) = Some key
 
 -- ---- down
 

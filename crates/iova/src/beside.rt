@@ -4,7 +4,7 @@ ghost use Rattle.std.specs.Prelude.{◌≡◌, ℕ, ◌<◌, ◌≤◌};
 ghost use Rattle.slab.specs.Slab.{get};
 ghost use Rattle.iova.specs.Search.{end_above, end_by, start_below, start_by};
 ghost use Rattle.iova.specs.Tree.{CanSearch, IsBelow, IsPiece, Shape, items};
-ghost use Rattle.iova.specs.Way.{CanWalk, IsHeld};
+ghost use Rattle.iova.specs.Way.{Above, AreSteps, CanWalk, IsHeld, last_key};
 
 use crate::node::{NUMBERS_END, Node};
 use crate::piece::Piece;
@@ -15,6 +15,7 @@ use slab::Slab;
 #[inline(always)]
 fn last_step(way: &[Step; MOST_HEIGHT], steps: usize, before: bool) -> Option<usize>
     requires { steps ≤ MOST_HEIGHT }
+    ensures { (path : Above) → AreSteps way.now steps path → result ≡ last_key before path }
 {
     let mut depth = steps;
     while depth > 0 {

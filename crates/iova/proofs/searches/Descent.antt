@@ -42,7 +42,7 @@ pub from_first : (from : ℕ) (xs : List Piece) (b : Piece) (ys : List Piece) �
 from_first from [] b ys o = o.0
 from_first from (x ∷ xs) b ys o = omega (arith, o.0, o.1, from_first (x.last + 1) xs b ys o.3)
 
-before_first : (from : ℕ) (xs : List Piece) (b : Piece) (ys : List Piece) (q : Piece) → IsOrdered from (xs ++ b ∷ ys) → IsIn q xs
+pub before_first : (from : ℕ) (xs : List Piece) (b : Piece) (ys : List Piece) (q : Piece) → IsOrdered from (xs ++ b ∷ ys) → IsIn q xs
     → q.last < b.first
 before_first from [] b ys q o i = absurd i
 before_first from (x ∷ xs) b ys q o i = elim i [
@@ -51,7 +51,7 @@ before_first from (x ∷ xs) b ys q o i = elim i [
 ]
 
 -- the pieces at a place are in order
-ordered_at : (up : Above) (t : Shape) (from : ℕ) → IsOrdered from (items (plug up t)) → (start : ℕ) × IsOrdered start (items t)
+pub ordered_at : (up : Above) (t : Shape) (from : ℕ) → IsOrdered from (items (plug up t)) → (start : ℕ) × IsOrdered start (items t)
 ordered_at Whole t from o = (from, o)
 ordered_at (Before key p r up) t from o =
     let a = ordered_at up (Fork key p t r) from o in
