@@ -9,7 +9,7 @@ use Rattle.dmatypes.specs.declared.page.TheConstants.{SPAN_ORDER}
 use Rattle.dmatypes.specs.declared.width.TheConstants.{LEVELS}
 use Rattle.iova.specs.declared.piece.PageState.TheVariants.{Live, Retired}
 use Rattle.iova.specs.Pieces.{piece_of, state_at}
-use Rattle.iova.specs.Space.{Space, IsSpace}
+use Rattle.iova.specs.Space.{Space, IsSpace, MayRetire}
 use Rattle.tables.specs.Pool.{Pool, memory, occurs, IsTree, IsZeroed}
 use Rattle.tables.specs.Tree.{states}
 use Rattle.unit.specs.Filters.{status_after}
@@ -33,6 +33,13 @@ IsCleared pool root range = (p : ℕ) → IsWithin range p → states (memory po
 -- the record's range is one retired piece, and what was cut are different zeroed frames of the pool that are not free
 pub record IsReleasable (pool : Pool) (space : Space) (r : Record) : Type 0 where
   pub piece : IsIn (piece_of r.range Retired) space.pieces
+  pub once : (f : ℕ) → occurs f pool.free + occurs f r.cut.frames ≤ 1
+  pub within : (f : ℕ) → 0 < occurs f r.cut.frames → f < pool.frames
+  pub zeroed : (f : ℕ) → 0 < occurs f r.cut.frames → IsZeroed pool.words f
+
+-- the record's range is live still, and what was cut are different zeroed frames of the pool that are not free
+pub record IsFreeable (pool : Pool) (space : Space) (r : Record) : Type 0 where
+  pub live : MayRetire space.pieces r.range
   pub once : (f : ℕ) → occurs f pool.free + occurs f r.cut.frames ≤ 1
   pub within : (f : ℕ) → 0 < occurs f r.cut.frames → f < pool.frames
   pub zeroed : (f : ℕ) → 0 < occurs f r.cut.frames → IsZeroed pool.words f

@@ -102,6 +102,7 @@ module _ (a : Space) (range : Range) (sp : IsSpace a) (some : 1 ≤ range.pages)
   pub frees_live : (new : Space) → new ≡ record a { pieces = with_free (piece_of range Live) a.pieces } → FreesLive a new range
   frees_live new e = record {
     between = b;
+    is_space = spb;
     retires = ret;
     frees = frees b new range Retired spb some ret.piece (e ∙ ap (λ ps. record a { pieces = ps }) same);
   }

@@ -105,6 +105,22 @@ impl Pair {
         Ok(())
     }
 
+    /// Frees pages at once, if they are live.
+    fn free(&mut self, alloc: Global, range: PageRange) -> Result<(), Fail> {
+        let first = range.first();
+        let last = first + (range.pages() - 1);
+        let may = self.space.judge(range);
+        if may != self.list.may_retire(first, last) {
+            return Err("a judgement differs".into());
+        }
+        if may.is_ok() {
+            self.space.free_live(range);
+            self.list.retire(alloc, first, last)?;
+            self.list.free(alloc, first, last)?;
+        }
+        Ok(())
+    }
+
     /// Releases the retired piece at a page, if one begins there.
     fn release(&mut self, alloc: Global, first: u64) -> Result<(), Fail> {
         if let Some(range) = retired_at(&self.space, first) {
@@ -113,6 +129,20 @@ impl Pair {
                 .free(alloc, range.first(), range.first() + (range.pages() - 1))?;
         }
         Ok(())
+    }
+
+    /// Retires pages, or frees them at once, if they are live.
+    fn end(
+        &mut self,
+        alloc: Global,
+        range: PageRange,
+        numbers: &mut Sequence,
+    ) -> Result<(), Fail> {
+        if numbers.below(2) == 0 {
+            self.retire(alloc, range)
+        } else {
+            self.free(alloc, range)
+        }
     }
 
     /// The pieces are the same.
@@ -143,7 +173,7 @@ impl Pair {
             10 | 11 => {
                 let first = 1 + numbers.below(3000);
                 let range = PageRange::new(first, 1 + numbers.below(40)).ok_or("pages")?;
-                self.retire(alloc, range)?;
+                self.end(alloc, range, numbers)?;
             }
             12 => {
                 let held = self.space.pieces().nth(numbers.below(1024) as usize);
@@ -152,7 +182,7 @@ impl Pair {
                         held.first,
                         held.last.wrapping_sub(held.first).wrapping_add(1),
                     ) {
-                        self.retire(alloc, range)?;
+                        self.end(alloc, range, numbers)?;
                     }
                 }
             }
