@@ -1,5 +1,5 @@
 -- Ways down a tree: what lies above a place in it.
-use Rattle.std.specs.Prelude.{ℕ, ◌≡◌, ◌+◌, ◌≤◌, max, Bool, true, false, List, ◌∷◌, ◌++◌, Option, Some, None, IfSome, slice_index_or}
+use Rattle.std.specs.Prelude.{ℕ, ◌≡◌, ◌+◌, ◌≤◌, Bool, true, false, List, ◌∷◌, ◌++◌, Option, Some, None, IfSome, slice_index_or}
 use Rattle.iova.specs.declared.piece.Piece.{Piece}
 use Rattle.iova.specs.declared.node.Node.{Node}
 use Rattle.iova.specs.declared.node.Top.{Top}
@@ -151,21 +151,6 @@ IsHungBefore old new key left hung = (node : Node) (right : Top) (l r : Shape) �
 abbrev pub IsHungBehind : Look → Look → ℕ → Top → Hung → Type 0
 IsHungBehind old new key right hung = (node : Node) (left : Top) (l r : Shape) → old key ≡ Some node → left.root ≡ node.left
     → AreParts old left key right l r → IsPiece node.piece → Joins old new hung.top key node.piece l r × ShowsSame key node hung
-
--- a key whose one child is to be this tree, which has the root and the height of the one that was there
-abbrev pub CanLiftBefore : Look → ℕ → Top → Type 0
-CanLiftBefore look key left = (node : Node) × (right : Top) × (l : Shape) × (r : Shape) × (look key ≡ Some node)
-    × (right.root ≡ node.right) × AreParts look left key right l r × IsPiece node.piece × (left.root ≡ node.left)
-    × (node.height ≡ 1 + max left.height right.height) × AreNear l r
-
-abbrev pub CanLiftBehind : Look → ℕ → Top → Type 0
-CanLiftBehind look key right = (node : Node) × (left : Top) × (l : Shape) × (r : Shape) × (look key ≡ Some node)
-    × (left.root ≡ node.left) × AreParts look left key right l r × IsPiece node.piece × (right.root ≡ node.right)
-    × (node.height ≡ 1 + max left.height right.height) × AreNear l r
-
--- a tree has the root and the height that the key shows
-abbrev pub IsLevel : Look → ℕ → Top → Type 0
-IsLevel look key top = (node : Node) → look key ≡ Some node → (top.root ≡ Some key) × (top.height ≡ node.height)
 
 -- at the end of the way lies another tree than what the keys above it show
 pub record CanMend (look : Look) (way : List Step) (depth : ℕ) (root : Option ℕ) (top : Top) (path : Above) (t new : Shape) : Type 0 where

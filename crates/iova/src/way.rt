@@ -1,14 +1,14 @@
 //! Ways down a tree, and back up once what lies at their end has changed.
 
-ghost use Rattle.std.specs.Prelude.{◌≡◌, ℕ, Option, Some, true};
+ghost use Rattle.std.specs.Prelude.{◌≡◌, ◌≤◌, ℕ, Option, Some, true, false};
 ghost use Rattle.slab.specs.Slab.{get};
 ghost use Rattle.iova.specs.declared.node.Node.{Node};
 ghost use Rattle.iova.specs.Tree.{IsPiece, KeepsCount, Shape, longest_of};
 ghost use Rattle.iova.specs.Way.{Above, CanHangBefore, CanHangBehind, CanMend, CanWalk, Mends, Walks};
-ghost use Rattle.iova.specs.Way.{CanLift, CanLiftBefore, CanLiftBehind, IsHungBefore, IsHungBehind, IsLevel, JoinsBefore, JoinsBehind};
+ghost use Rattle.iova.specs.Way.{CanLift, IsHungBefore, IsHungBehind, JoinsBefore, JoinsBehind};
 
 use crate::beside::Ends;
-use crate::links::{free_length, read};
+use crate::links::{free_length, longest, read};
 use crate::node::{Node, Top};
 use crate::piece::Piece;
 use crate::settle::{set_left_reach, set_longest, set_right_reach};
@@ -235,58 +235,70 @@ pub(crate) fn mend(
     top.root
 }
 
-/// Hangs a tree before a key, where the one that hung there had its root and its height.
+/// All the way up, where the longest of the end grew: each key shows at least so much then, whatever lies beside the
+/// way. The first that already does ends it.
 #[inline(always)]
-fn lift_before(nodes: &mut Slab<Node>, key: usize, tree: Top) -> Hung
-    requires { CanLiftBefore (get nodes.old) key tree }
-    ensures hung { IsHungBefore (get nodes.old) (get nodes.new) key tree result }
-    ensures level { IsLevel (get nodes.old) key result.top }
+fn raise(nodes: &mut Slab<Node>, way: &[Step; MOST_HEIGHT], steps: usize, end: Top)
+    requires { (root : Option ℕ) × (path : Above) × (t : Shape) × (new : Shape)
+        × CanLift (get nodes.old) way.now steps root end path t new × (longest_of t ≤ end.longest) }
+    ensures mended { (root : Option ℕ) (path : Above) (t new : Shape) → CanLift (get nodes.old) way.now steps root end path t new
+        → longest_of t ≤ end.longest → Mends (get nodes.old) (get nodes.new) root path t new }
     ensures count { KeepsCount nodes.old nodes.new }
 {
-    let node = &nodes[key];
-    let height = node.height;
-    let was_longest = node.longest;
-    let own = free_length(node.piece);
-    let other = read(nodes, node.right);
-    let below = tree.longest.max(other.longest);
-    let longest = own.max(below);
-    set_longest(nodes, key, longest);
-    let top = Top {
-        root: Some(key),
-        height,
-        longest,
-    };
-    let same = longest == was_longest;
-    Hung { top, same }
+    let now = end.longest;
+    let mut depth = steps;
+    while depth > 0 {
+        depth -= 1;
+        let key = way[depth].key;
+        if nodes[key].longest >= now {
+            return;
+        }
+        set_longest(nodes, key, now);
+    }
 }
 
-/// Hangs a tree behind a key, where the one that hung there had its root and its height.
+/// The child that a step doesn't go to. A place is chosen and then read, with no branch: which side a step goes to is
+/// as good as random, and a branch on it is mostly foreseen wrong.
 #[inline(always)]
-fn lift_behind(nodes: &mut Slab<Node>, key: usize, tree: Top) -> Hung
-    requires { CanLiftBehind (get nodes.old) key tree }
-    ensures hung { IsHungBehind (get nodes.old) (get nodes.new) key tree result }
-    ensures level { IsLevel (get nodes.old) key result.top }
+fn other_child(node: &Node, before: bool) -> Option<usize>
+    ensures before { before ≡ true → result ≡ node.now.right }
+    ensures behind { before ≡ false → result ≡ node.now.left }
+{
+    let other = if before { &node.right } else { &node.left };
+    *other
+}
+
+/// All the way up, where the longest of the end shrank from what it `was`. A key that shows something else ends it,
+/// since that is longer and so not of the end, and one that still shows it, since another piece is as long.
+#[inline(always)]
+fn lower(nodes: &mut Slab<Node>, way: &[Step; MOST_HEIGHT], steps: usize, was: u64, end: Top)
+    requires { (root : Option ℕ) × (path : Above) × (t : Shape) × (new : Shape)
+        × CanLift (get nodes.old) way.now steps root end path t new × (was ≡ longest_of t) × (end.longest ≤ was) }
+    ensures mended { (root : Option ℕ) (path : Above) (t new : Shape) → CanLift (get nodes.old) way.now steps root end path t new
+        → was ≡ longest_of t → end.longest ≤ was → Mends (get nodes.old) (get nodes.new) root path t new }
     ensures count { KeepsCount nodes.old nodes.new }
 {
-    let node = &nodes[key];
-    let height = node.height;
-    let was_longest = node.longest;
-    let own = free_length(node.piece);
-    let other = read(nodes, node.left);
-    let below = other.longest.max(tree.longest);
-    let longest = own.max(below);
-    set_longest(nodes, key, longest);
-    let top = Top {
-        root: Some(key),
-        height,
-        longest,
-    };
-    let same = longest == was_longest;
-    Hung { top, same }
+    let mut depth = steps;
+    let mut now = end.longest;
+    while depth > 0 {
+        depth -= 1;
+        let step = way[depth];
+        let node = &nodes[step.key];
+        if node.longest != was {
+            return;
+        }
+        let other = other_child(node, step.before);
+        now = now.max(free_length(node.piece)).max(longest(nodes, other));
+        if now == was {
+            return;
+        }
+        set_longest(nodes, step.key, now);
+    }
 }
 
 /// The same as `mend`, where the tree at the end has the root and the height of the one that was there: so it is all
-/// the way up, and what is longest alone is renewed. There it `was` so long.
+/// the way up, and what is longest alone is renewed: each key reads no more than it needs for that. The longest there
+/// `was` so long.
 #[inline(always)]
 pub(crate) fn lift(
     nodes: &mut Slab<Node>,
@@ -301,19 +313,9 @@ pub(crate) fn lift(
         → was ≡ longest_of t → Mends (get nodes.old) (get nodes.new) root path t new }
     ensures count { KeepsCount nodes.old nodes.new }
 {
-    let mut depth = steps;
-    let mut top = end;
-    while depth > 0 {
-        depth -= 1;
-        let step = way[depth];
-        let hung = if step.before {
-            lift_before(nodes, step.key, top)
-        } else {
-            lift_behind(nodes, step.key, top)
-        };
-        if hung.same {
-            return;
-        }
-        top = hung.top;
+    if was < end.longest {
+        raise(nodes, way, steps, end);
+    } else if end.longest < was {
+        lower(nodes, way, steps, was, end);
     }
 }

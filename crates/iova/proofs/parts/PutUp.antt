@@ -8,7 +8,7 @@ use Rattle.iova.specs.declared.node.Node.{Node}
 use Rattle.iova.specs.declared.node.Top.{Top}
 use Rattle.iova.specs.declared.way.Step.{Step}
 use Rattle.iova.specs.Pieces.{with_piece}
-use Rattle.iova.specs.Tree.{Look, Shape, items, height_of, root_of, top_of, uses, IsRead, CanRead, IsBelow, Leaves}
+use Rattle.iova.specs.Tree.{Look, Shape, items, height_of, longest_of, root_of, top_of, uses, IsRead, CanRead, IsBelow, Leaves}
 use Rattle.iova.specs.Tree.{KeepsCount}
 use Rattle.iova.specs.Way.{Above, Whole, Before, Behind, plug, among, uses_above, CanWalk, IsLowBelow, IsPlace, CanLift, CanMend, Mends}
 use Rattle.iova.proofs.searches.Found.{search_height}
@@ -37,6 +37,10 @@ module _ (old : Slab Node) (root : Option ℕ) (p : Piece) (way : List Step) (at
 
   whole_uses : (k : ℕ) → uses t k ≡ uses_above q.path k + uses q.t k
   whole_uses k = ap (λ x. uses x k) q.is ∙ plug-uses q.path q.t k
+
+  -- what is read at the place
+  pub up-was : (was : Top) → IsRead (get old) at was → was.longest ≡ longest_of q.t
+  up-was was i = ap (λ (v : Top). v.longest) (i q.t q.below.here q.below.whole.tree.nodes)
 
   pub up-room : slab_len old + length (with_piece p (items t)) ≤ old.capacity + length (items t)
       → slab_len old + length (with_piece p (items q.t)) ≤ old.capacity + length (items q.t)

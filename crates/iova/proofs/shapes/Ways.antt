@@ -269,7 +269,7 @@ steps_few way depth (Before key p r up) t s = omega (arith, s.1, steps_few way s
 steps_few way depth (Behind key p l up) t s = omega (arith, s.1, steps_few way s.0 up (Fork key p l t) s.3)
 
 -- where the tree shows what was there, the whole is up to date
-stopped : (look : Look) (way : List Step) (depth : ℕ) (root : Option ℕ) (top : Top) (up : Above) (there here : Shape)
+pub stopped : (look : Look) (way : List Step) (depth : ℕ) (root : Option ℕ) (top : Top) (up : Above) (there here : Shape)
     → CanMend look way depth root top up there here → IsTree look (top_of (plug up here)) (plug up here)
     → top_of (plug up here) ≡ top_of (plug up there) → Mends look look root up there here
 stopped look way depth root top up there here can i e = record {

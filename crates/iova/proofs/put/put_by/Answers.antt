@@ -1,7 +1,7 @@
 use Rattle.std.proofs.Common.{◌≡◌, ◌∙◌, ℕ, nat_eq, true, Option, Some, None, refl, ap, sym}
 use Rattle.std.specs.Option.{option_eq}
 use Rattle.slab.specs.Slab.{get}
-use Rattle.iova.proofs.parts.PutUp.{lows, up-room, up-read, up-can, up-lift, up-done}
+use Rattle.iova.proofs.parts.PutUp.{lows, up-room, up-read, up-can, up-was, up-lift, up-done}
 use Rattle.iova.proofs.shapes.Ways.{eq_true}
 use Rattle.iova.proofs.put.put_by.Goals as goal
 
@@ -55,6 +55,8 @@ lift-requires c =
       up-lift c.args.nodes.now c.args.root c.args.piece.now c.args.way.now c.args.place.at
           c.args.place.depth i.0 i.1 w q c.put_at-end.new.nodes c.put_at-end.result m c.read-top.result c.read-top.ensures
           c.read-was.result c.read-was.ensures (same_place _ _ (sym c.eq.ensures ∙ c.if-eq.true)) c.if-top-was.true,
+      up-was c.args.nodes.now c.args.root c.args.piece.now c.args.way.now c.args.place.at c.args.place.depth i.0 i.1 w q
+          c.read-was.result c.read-was.ensures,
     )
 
 pub returns-then-top-was : goal.returns-then-top-was
@@ -67,4 +69,6 @@ returns-then-top-was c t from below =
     c.read-was.result c.read-was.ensures (same_place _ _ (sym c.eq.ensures ∙ c.if-eq.true)) c.if-top-was.true in
     up-done c.args.nodes.now c.args.root c.args.piece.now c.args.way.now c.args.place.at c.args.place.depth t from w q
     c.put_at-end.new.nodes c.put_at-end.result m c.read-top.result c.read-top.ensures c.lift.new.nodes c.args.root
-    (c.lift.ensures.mended c.args.root q.path q.t m.makes.shape can) c.lift.ensures.count
+    (c.lift.ensures.mended c.args.root q.path q.t m.makes.shape can
+    (up-was c.args.nodes.now c.args.root c.args.piece.now c.args.way.now c.args.place.at c.args.place.depth t from w q
+    c.read-was.result c.read-was.ensures)) c.lift.ensures.count
