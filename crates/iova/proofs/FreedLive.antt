@@ -1,8 +1,8 @@
 -- A live piece that is freed: as if it were retired first.
-use Rattle.std.proofs.Common.{◌≡◌, ◌≢◌, ◌⊎◌, ℕ, ◌+◌, ◌-◌, ◌<◌, ◌≤◌, refl, ap, sym, ◌∙◌, inl, inr, subst, arith}
+use Rattle.std.proofs.Common.{◌≡◌, ◌⊎◌, ℕ, ◌+◌, ◌-◌, ◌≤◌, refl, ap, sym, ◌∙◌, inl, inr, arith}
 use Rattle.dmatypes.specs.Page.{Range, IsWithin}
 use Rattle.dmatypes.specs.World.{IsIn}
-use Rattle.iova.specs.declared.piece.PageState.TheVariants.{Free, Live, Retired}
+use Rattle.iova.specs.declared.piece.PageState.TheVariants.{Live, Retired}
 use Rattle.iova.specs.declared.piece.Piece.{Piece}
 use Rattle.iova.specs.Pieces.{piece_of, state_at, with_free, with_piece}
 use Rattle.iova.specs.Space.{Space, IsSpace, MayRetire}
@@ -68,10 +68,13 @@ module _ (a : Space) (range : Range) (sp : IsSpace a) (some : 1 ≤ range.pages)
   stays r n m =
       let k = (fx.in_use r n).0 m in
       let in_b = ret.apart r k.0 (λ page h w. k.1 (the_one r page k.0 h.0 h.1 w)) in
-      (fy.in_use r n).1 (in_b, (λ e.
-          let f : r.first ≡ range.first = ap (λ (s : Piece). s.first) e in
-          let l : r.last ≡ range.first + range.pages - 1 = ap (λ (s : Piece). s.last) e in
-          k.1 (the_one r range.first k.0 (omega arith) (omega arith) (omega arith, omega arith))))
+      (fy.in_use r n).1 (
+        in_b,
+        (λ e.
+            let f : r.first ≡ range.first = ap (λ (s : Piece). s.first) e in
+            let l : r.last ≡ range.first + range.pages - 1 = ap (λ (s : Piece). s.last) e in
+            k.1 (the_one r range.first k.0 (omega arith) (omega arith) (omega arith, omega arith))),
+      )
 
   came : InUseIn y.pieces x.pieces
   came r n m =
@@ -79,10 +82,13 @@ module _ (a : Space) (range : Range) (sp : IsSpace a) (some : 1 ≤ range.pages)
       elim (put_only range.first (range.first + range.pages - 1) Retired r a.pieces sp.ordered k.0) [
         | inl e ↦ absurd (k.1 e)
         | inr z ↦ elim z [
-          | inl v ↦ (fx.in_use r n).1 (v.0, (λ e.
-              let f : r.first ≡ range.first = ap (λ (s : Piece). s.first) e in
-              let l : r.last ≡ range.first + range.pages - 1 = ap (λ (s : Piece). s.last) e in
-              elim v.1 [ inl h ↦ omega arith | inr h ↦ omega arith ]))
+          | inl v ↦ (fx.in_use r n).1 (
+            v.0,
+            (λ e.
+                let f : r.first ≡ range.first = ap (λ (s : Piece). s.first) e in
+                let l : r.last ≡ range.first + range.pages - 1 = ap (λ (s : Piece). s.last) e in
+                elim v.1 [ inl h ↦ omega arith | inr h ↦ omega arith ]),
+          )
           | inr v ↦ elim v [
             | inl u ↦
                 let e = the_one u.of range.first u.among (omega (arith, u.under)) u.past (omega arith, omega arith) in

@@ -6,6 +6,4 @@ pub mod Over
 pub mod Covered
 pub mod PutIn
 pub mod PutUp
-pub mod Replaced
-pub mod Restated
 pub mod Filled

@@ -1,6 +1,7 @@
 pub mod Trees
 pub mod Held
 pub mod Turned
+pub mod Written
 pub mod TurnedBack
 pub mod Joined
 pub mod JoinedBack

@@ -9,12 +9,6 @@ unfoldable pub piece_at : List Piece → ℕ → Option Piece
 piece_at [] page = None
 piece_at (p ∷ ps) page = if nat_le p.first page && nat_le page p.last then Some p else piece_at ps page
 
--- the second piece, one of these, has the pages of the first
-pub record TakesPlace (p there : Piece) (pieces : List Piece) : Type 0 where
-  pub at : piece_at pieces p.first ≡ Some there
-  pub first : there.first ≡ p.first
-  pub last : there.last ≡ p.last
-
 -- the pieces that begin at a page or after it
 unfoldable pub pieces_from : ℕ → List Piece → List Piece
 pieces_from page [] = []

@@ -121,7 +121,8 @@ pub(crate) fn seek(
         // Chosen by value, since no processor foresees which side it is.
         let before = first < node.piece.first;
         way[depth] = Step { key, before };
-        at = if before { node.left } else { node.right };
+        let child = if before { &node.left } else { &node.right };
+        at = *child;
         depth += 1;
     }
     None

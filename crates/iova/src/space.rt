@@ -157,8 +157,7 @@ impl Space {
         ensures unchanged { OnErr result (self.new ≡ self.old) }
     {
         self.judged = None;
-        let Some(spot) = store::fit(&self.nodes, self.root, pages, 1 << order, &mut self.way)
-        else {
+        let Some(spot) = store::fit(&self.nodes, self.root, pages, 1 << order, &mut self.way) else {
             return Err(TakeError::NoRange);
         };
         let start = spot.start;
@@ -249,8 +248,7 @@ impl Space {
         if let Some(judged) = self.judged {
             if judged.pages.first == pages.first && judged.pages.last == pages.last {
                 self.judged = None;
-                self.root =
-                    store::free(&mut self.nodes, self.root, pages, &self.way, judged.held);
+                self.root = store::free(&mut self.nodes, self.root, pages, &self.way, judged.held);
                 return;
             }
         }

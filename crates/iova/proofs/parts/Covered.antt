@@ -8,7 +8,7 @@ use Rattle.iova.specs.declared.node.Node.{Node}
 use Rattle.iova.specs.Tree.{Shape, items, IsPiece, KeepsCount, IsBelow, IsLow, Leaves, CanSettle, IsSettled, rest_below, rest_above}
 use Rattle.iova.proofs.parts.Parts.{ordered_front, ordered_behind}
 use Rattle.iova.proofs.parts.Added.{with_over}
-use Rattle.iova.proofs.parts.Replaced.{held_written}
+use Rattle.iova.proofs.shapes.Written.{held_written}
 use Rattle.iova.proofs.shapes.Held.{Held, held_before, held_behind}
 use Rattle.iova.proofs.shapes.Settled.{Work, Opening, opening, opened_order, is_low, low_below, below_low, work_before, work_can, work_done}
 

@@ -1,5 +1,5 @@
 -- The way down to the piece that begins at a page.
-use Rattle.std.proofs.Common.{◌≡◌, ℕ, ◌+◌, ◌<◌, ◌≤◌, List, [], ◌∷◌, ◌++◌, Option, Some, None, refl, ap, sym, ◌∙◌, inl, inr, subst, arith}
+use Rattle.std.proofs.Common.{◌≡◌, ℕ, ◌+◌, ◌<◌, List, [], ◌∷◌, ◌++◌, Option, Some, None, refl, ap, sym, ◌∙◌, inl, inr, subst, arith}
 use Rattle.slab.specs.Slab.{Slab, get}
 use Rattle.dmatypes.specs.World.{IsIn}
 use Rattle.iova.specs.declared.beside.Ends.{Ends}
@@ -10,7 +10,7 @@ use Rattle.iova.specs.declared.node.Node.{Node}
 use Rattle.iova.specs.declared.way.Held.{Held}
 use Rattle.iova.specs.declared.way.Step.{Step}
 use Rattle.iova.specs.Pieces.{IsOrdered, with_piece}
-use Rattle.iova.specs.Tree.{Look, Shape, items, IsBelow, IsPiece}
+use Rattle.iova.specs.Tree.{Look, Shape, items, IsBelow}
 use Rattle.iova.specs.Way.{Above, Whole, Before, Behind, among, CanWalk, IsLowBelow, IsHeld, LeadsTo, pages_as}
 use Rattle.iova.proofs.Among.{in_le}
 use Rattle.iova.proofs.parts.PutUp.{lows}

@@ -11,7 +11,7 @@ use Rattle.iova.specs.Tree.{IsTree, IsRead, AreParts, AreNear, Joins, KeepsCount
 use Rattle.iova.proofs.shapes.Trees.{is_there, one-same, linked}
 use Rattle.iova.proofs.shapes.Joined.{link_joins}
 use Rattle.iova.proofs.shapes.Held.{Held, held_before, held_behind, held_joined}
-use Rattle.iova.proofs.parts.Replaced.{held_written}
+use Rattle.iova.proofs.shapes.Written.{held_written}
 
 -- the node that is written
 pub settled_stays : (old new : Slab Node) (key : ℕ) (found node : Node) (left right : Top) (l r : Shape) (a b : Top) (height longest : ℕ)

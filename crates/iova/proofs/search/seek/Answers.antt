@@ -1,4 +1,4 @@
-use Rattle.std.proofs.Common.{◌≡◌, ℕ, ◌+◌, ◌<◌, ◌≤◌, true, false, nat_lt, refl, sym, subst, slice_set, arith, inl, inr}
+use Rattle.std.proofs.Common.{Bor, Option, ◌≡◌, ℕ, ◌+◌, ◌<◌, ◌≤◌, true, false, nat_lt, sym, subst, slice_set, arith}
 use Rattle.std.proofs.lemmas.Bool.Decides.{nat_tests}
 use Rattle.slab.specs.Slab.{get}
 use Rattle.iova.proofs.parts.PutUp.{lows}
@@ -45,10 +45,16 @@ loop-at-preserved c =
     c.loop-at.invariant.down q.2 c.in-Some.is in
     elim c.if-before.branch [
       | then-before w ↦
-          subst (λ a. IsSeeking (get c.args.nodes.now) c.args.root c.args.first (slice_set c.loop-at.way c.loop-at.depth (record { key =
-          c.in-Some.key; before = nat_lt c.args.first c.index-node.result.now.piece.first })) a (c.loop-at.depth + 1)) (sym w.at-is)
-          (subst (λ b. IsSeeking (get c.args.nodes.now) c.args.root c.args.first (slice_set c.loop-at.way c.loop-at.depth (record { key =
-          c.in-Some.key; before = b })) c.index-node.result.now.left (c.loop-at.depth + 1)) (sym (is_true _ _ w.if-before.true))
+          subst (λ (a : Bor (Option ℕ)). IsSeeking (get c.args.nodes.now) c.args.root c.args.first (slice_set c.loop-at.way c.loop-at.depth (record {
+            key =
+                c.in-Some.key;
+            before = nat_lt c.args.first c.index-node.result.now.piece.first;
+          })) a.now (c.loop-at.depth + 1)) (sym w.child-is)
+          (subst (λ b. IsSeeking (get c.args.nodes.now) c.args.root c.args.first (slice_set c.loop-at.way c.loop-at.depth (record {
+            key =
+                c.in-Some.key;
+            before = b;
+          })) c.index-node.result.now.left (c.loop-at.depth + 1)) (sym (is_true _ _ w.if-before.true))
           (record {
             down = descend-before c.args.nodes.now c.args.root c.loop-at.way c.loop-at.at c.loop-at.depth c.in-Some.key
                 c.index-node.result.now c.loop-at.invariant.down c.in-Some.is c.index-node.ensures h;
@@ -56,10 +62,16 @@ loop-at-preserved c =
                 c.index-node.result.now c.loop-at.invariant q c.in-Some.is c.index-node.ensures w.if-before.true;
           }))
       | else-before w ↦
-          subst (λ a. IsSeeking (get c.args.nodes.now) c.args.root c.args.first (slice_set c.loop-at.way c.loop-at.depth (record { key =
-          c.in-Some.key; before = nat_lt c.args.first c.index-node.result.now.piece.first })) a (c.loop-at.depth + 1)) (sym w.at-is)
-          (subst (λ b. IsSeeking (get c.args.nodes.now) c.args.root c.args.first (slice_set c.loop-at.way c.loop-at.depth (record { key =
-          c.in-Some.key; before = b })) c.index-node.result.now.right (c.loop-at.depth + 1)) (sym (is_false _ _ w.if-before.false))
+          subst (λ (a : Bor (Option ℕ)). IsSeeking (get c.args.nodes.now) c.args.root c.args.first (slice_set c.loop-at.way c.loop-at.depth (record {
+            key =
+                c.in-Some.key;
+            before = nat_lt c.args.first c.index-node.result.now.piece.first;
+          })) a.now (c.loop-at.depth + 1)) (sym w.child-is)
+          (subst (λ b. IsSeeking (get c.args.nodes.now) c.args.root c.args.first (slice_set c.loop-at.way c.loop-at.depth (record {
+            key =
+                c.in-Some.key;
+            before = b;
+          })) c.index-node.result.now.right (c.loop-at.depth + 1)) (sym (is_false _ _ w.if-before.false))
           (record {
             down = descend-behind c.args.nodes.now c.args.root c.loop-at.way c.loop-at.at c.loop-at.depth c.in-Some.key
                 c.index-node.result.now c.loop-at.invariant.down c.in-Some.is c.index-node.ensures h;

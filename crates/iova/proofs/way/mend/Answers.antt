@@ -5,7 +5,7 @@ use Rattle.iova.specs.Tree.{KeepsCount}
 use Rattle.iova.specs.Way.{Mends}
 use Rattle.iova.proofs.shapes.Ways.{mending_start, mending_end, mending-few, mending-can_before, mending-can_behind, mending-before, Mending}
 use Rattle.iova.proofs.shapes.Ways.{mending-behind, mending-stops_before, mending-stops_behind}
-use Rattle.iova.proofs.parts.Replaced.{counts_twice}
+use Rattle.iova.proofs.shapes.Written.{counts_twice}
 use Rattle.iova.proofs.way.mend.Goals as goal
 use Rattle.iova.proofs.way.mend.Goals.{then-step, else-step}
 
