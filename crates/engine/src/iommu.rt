@@ -126,10 +126,7 @@ impl Iommu {
             range: ended.range,
             free: pool.free_count(),
         };
-        self.send(
-            descriptor_of(domain, ended.range, &ended.cut),
-            Some(shown),
-        );
+        self.send(descriptor_of(domain, ended.range, &ended.cut), Some(shown));
     }
 
     /// Has the unit forget all that it remembers of a domain's pages and tables in the same way, for all these retired

@@ -87,25 +87,21 @@ fn take_and_free(rt: &impl Abort, space: &mut Space) {
 #[test]
 fn releases_a_run(rt: HostRuntime) -> Result<(), Fail> {
     let mut space = Space::new(rt.alloc(), 15)?;
-    release_a_run(&rt, &mut space);
-    Ok(())
-}
-
-fn release_a_run(rt: &impl Abort, space: &mut Space) {
-    assert!(rt; takes(space, 1, 0, 1));
-    assert!(rt; takes(space, 1, 0, 2));
-    assert!(rt; takes(space, 3, 0, 3));
-    let low = PageRange::new(2, 1).expect(rt, "a page");
-    let high = PageRange::new(3, 3).expect(rt, "pages");
-    let run = PageRange::new(2, 4).expect(rt, "pages");
-    assert!(rt; space.may_retire(low).is_ok());
+    assert!(rt; takes(&mut space, 1, 0, 1));
+    assert!(rt; takes(&mut space, 1, 0, 2));
+    assert!(rt; takes(&mut space, 3, 0, 3));
+    let low = PageRange::new(2, 1).ok_or("page")?;
+    let high = PageRange::new(3, 3).ok_or("pages")?;
+    let run = PageRange::new(2, 4).ok_or("pages")?;
+    space.may_retire(low)?;
     space.retire(low);
-    assert!(rt; space.may_retire(high).is_ok());
+    space.may_retire(high)?;
     space.retire(high);
     assert!(rt; space.piece_count() == 4);
     space.release_run(run);
     assert!(rt; space.piece_count() == 2);
-    assert!(rt; takes(space, 14, 0, 2));
+    assert!(rt; takes(&mut space, 14, 0, 2));
+    Ok(())
 }
 
 #[test]

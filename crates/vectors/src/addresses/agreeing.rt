@@ -132,12 +132,7 @@ impl Pair {
     }
 
     /// Retires pages, or frees them at once, if they are live.
-    fn end(
-        &mut self,
-        alloc: Global,
-        range: PageRange,
-        numbers: &mut Sequence,
-    ) -> Result<(), Fail> {
+    fn end(&mut self, alloc: Global, range: PageRange, numbers: &mut Sequence) -> Result<(), Fail> {
         if numbers.below(2) == 0 {
             self.retire(alloc, range)
         } else {

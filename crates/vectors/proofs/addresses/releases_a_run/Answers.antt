@@ -4,7 +4,7 @@ use Rattle.dmatypes.specs.World.{IsIn}
 use Rattle.iova.specs.declared.piece.PageState.TheVariants.{Retired}
 use Rattle.iova.specs.Pieces.{piece_of}
 use Rattle.iova.proofs.Pieces.{order}
-use Rattle.vectors.proofs.addresses.release_a_run.Goals as goal
+use Rattle.vectors.proofs.addresses.releases_a_run.Goals as goal
 
 pub release_run-requires : goal.release_run-requires
 release_run-requires g c page h =
