@@ -13,7 +13,8 @@ import sys
 
 TOP = os.path.dirname(os.path.dirname(os.path.abspath(__file__)))
 CRATES = f"{TOP}/crates"
-ROWS = f"{TOP}/examples/rows"
+# Stored rows and stored command lines, by the ends of their names.
+STORED = {".row": f"{TOP}/examples/rows", ".words": f"{TOP}/examples/words"}
 # What stands before the name that a file of definitions gives to something.
 DEFINED = r"(?:abbrev |unfoldable )?pub (?:record |data )?"
 
@@ -91,13 +92,18 @@ def lacks_edit(row):
 
 
 def lacks_test(row):
-    """A test is a function of a crate, or a stored row."""
+    """A test is a function of a crate, a stored row or command line, or a step of one of the gate's scripts."""
     lost = []
     for name in words(row[1]):
-        if name.endswith(".row"):
-            lost += [] if os.path.isfile(f"{ROWS}/{name}") else [name]
+        folder = STORED.get(os.path.splitext(name)[1])
+        if folder:
+            lost += [] if os.path.isfile(f"{folder}/{name}") else [name]
             continue
         crate, *module, function = name.split("::")
+        if crate.endswith(".py"):
+            script = f"{TOP}/.ci/{crate}"
+            lost += [] if os.path.isfile(script) and f"\ndef {function}(" in text_of(script) else [name]
+            continue
         text = sources(crate).get("::".join(module), "")
         if not re.search(rf"#\[test\]\n(?:\s*//[^\n]*\n)*\s*fn {function}\(", text):
             lost.append(name)

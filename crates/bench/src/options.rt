@@ -40,27 +40,36 @@ pub(crate) struct Options {
 
 /// The program's command line, without the program's name.
 pub(crate) fn command<'a>(alloc: Global) -> Result<Command<'a>, AllocError> {
-    let rounds = Arg::new(alloc, "rounds")
-        .long("rounds")
-        .value_name("N")
-        .help("Prints what each of N rounds takes, 1 to 250000, in nanoseconds")
-        .value_parser(value_parser!(u64).range(1..=MOST_ROUNDS));
-    let turns = Arg::new(alloc, "turns")
-        .long("turns")
-        .value_name("T")
-        .help("Measures each line T times, 1 to 99 [default: 9]")
-        .value_parser(value_parser!(u64).range(1..=MOST_TURNS as i64));
-    let only = Arg::new(alloc, "only")
-        .long("only")
-        .value_name("NAME")
-        .help("Measures the line of this name alone");
     Command::new(alloc, "bench")
         .about(ABOUT)
         .after_help(STATUS)
         .no_binary_name(true)
-        .arg(rounds)?
-        .arg(turns)?
-        .arg(only)
+        .arg(rounds(alloc))?
+        .arg(turns(alloc))?
+        .arg(only(alloc))
+}
+
+fn rounds<'a>(alloc: Global) -> Arg<'a> {
+    Arg::new(alloc, "rounds")
+        .long("rounds")
+        .value_name("N")
+        .help("Prints what each of N rounds takes, 1 to 250000, in nanoseconds")
+        .value_parser(value_parser!(u64).range(1..=MOST_ROUNDS))
+}
+
+fn turns<'a>(alloc: Global) -> Arg<'a> {
+    Arg::new(alloc, "turns")
+        .long("turns")
+        .value_name("T")
+        .help("Measures each line T times, 1 to 99 [default: 9]")
+        .value_parser(value_parser!(u64).range(1..=MOST_TURNS as i64))
+}
+
+fn only<'a>(alloc: Global) -> Arg<'a> {
+    Arg::new(alloc, "only")
+        .long("only")
+        .value_name("NAME")
+        .help("Measures the line of this name alone")
 }
 
 /// What the words ask for; `None` where no line has the name that they give.

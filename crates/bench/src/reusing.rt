@@ -191,8 +191,7 @@ fn take(space: &mut Space, pages: u64, order: u64) -> Result<PageRange, Trouble>
 
 // A live range comes free.
 fn free(space: &mut Space, range: PageRange) -> Result<(), Trouble> {
-    space.may_retire(range)?;
-    space.retire(range);
-    space.release(range);
+    space.judge(range)?;
+    space.free_live(range);
     Ok(())
 }

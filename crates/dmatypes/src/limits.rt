@@ -30,7 +30,7 @@ pub const MOST_TABLE_FRAMES: u64 = 4096;
 /// The most calls in a history.
 pub const MOST_CALLS: u64 = 1 << 20;
 
-/// Fewer calls are made of one state, so that no count of its waits and steps passes 64 bits.
+/// The most calls of one state, so that no count of its waits and steps passes 64 bits.
 pub const CALLS_END: u64 = 1 << 56;
 
 /// The most steps of the unit that a call makes.

@@ -1,5 +1,6 @@
 pub mod OneByOne
 pub mod MayRelease
+pub mod Together
 pub mod ReleasedBefore
 pub mod Steps
 pub mod Parted

@@ -13,7 +13,7 @@ use Rattle.dmatypes.specs.declared.call.Mode.{Mode}
 use Rattle.dmatypes.specs.declared.call.Mode.TheVariants.{Strict, Lazy}
 use Rattle.dmatypes.specs.declared.refusal.Refusal.{Refusal}
 use Rattle.dmatypes.specs.declared.refusal.Refusal.TheVariants as refusals
-use Rattle.iova.specs.Changes.{Frees, Retires}
+use Rattle.iova.specs.Changes.{Frees, FreesLive, Retires}
 use Rattle.iova.specs.declared.piece.PageState.TheVariants.{Free, Live, Retired}
 use Rattle.iova.specs.declared.piece.Piece.{Piece}
 use Rattle.iova.specs.Pieces.{AllIn, piece_of, state_at}
@@ -55,6 +55,15 @@ pub record RetiresAndUnmaps (pool : Pool) (old : Domain) (r : Record) (pool' : P
   pub split : IsTrue r.cut.split ↔ (0 < leaves_split pool old.root r.range)
   pub is_pool : IsPool pool'
   pub same : new ≡ record old { space = new.space }
+
+-- the tree loses the range, and the record says what was cut; the address space is as it was
+pub record UnmapsAlone (pool : Pool) (domain : Domain) (r : Record) (pool' : Pool) : Type 0 where
+  pub mark : r.mark ≡ domain.begun
+  pub count : length pool'.free + leaves_split pool domain.root r.range ≡ length pool.free
+  pub moves : TakesAndGivesFrames pool pool' LEVELS domain.root r.cut.frames
+  pub unmaps : UnmapsPages pool pool' LEVELS domain.root r.range.first (r.range.first + r.range.pages) r.cut.frames
+  pub split : IsTrue r.cut.split ↔ (0 < leaves_split pool domain.root r.range)
+  pub is_pool : IsPool pool'
 
 -- what an end is refused for: a page that isn't live, else a range that cuts a piece where there are more than 1,022,
 -- else more leaves to split than frames are free
@@ -146,6 +155,15 @@ Begins old domain new =
 -- the pages of a record, and the table frames that were cut with them
 pub record Releases (pool : Pool) (space : Space) (r : Record) (pool' : Pool) (space' : Space) : Type 0 where
   pub frees : Frees space space' r.range Retired
+  pub is_space : IsSpace space'
+  pub free : (f : ℕ) → occurs f pool'.free ≡ occurs f pool.free + occurs f r.cut.frames
+  pub words : pool'.words ≡ pool.words
+  pub frames : pool'.frames ≡ pool.frames
+  pub is_pool : IsPool pool'
+
+-- the pages of a record, which were live until now, and the table frames that were cut with them
+pub record FreesEnded (pool : Pool) (space : Space) (r : Record) (pool' : Pool) (space' : Space) : Type 0 where
+  pub frees : FreesLive space space' r.range
   pub is_space : IsSpace space'
   pub free : (f : ℕ) → occurs f pool'.free ≡ occurs f pool.free + occurs f r.cut.frames
   pub words : pool'.words ≡ pool.words

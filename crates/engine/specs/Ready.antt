@@ -1,6 +1,6 @@
 -- What the parts of the state ask of their callers before pages end, are released, or the unit is run. Whoever reads
 -- what the state does needs none of it: each state has it.
-use Rattle.std.specs.Prelude.{◌≡◌, ◌≢◌, ℕ, ◌+◌, ◌-◌, ◌%◌, ◌^◌, ◌<◌, ◌≤◌, List, [], ◌∷◌, ◌++◌, length, None, Some, IsSome, IsTrue}
+use Rattle.std.specs.Prelude.{◌≡◌, ◌≢◌, ℕ, ◌+◌, ◌-◌, ◌%◌, ◌^◌, ◌<◌, ◌≤◌, ◌⊎◌, List, [], ◌∷◌, ◌++◌, length, None, Some, IsSome, IsTrue}
 use Rattle.dmatypes.specs.Block.{Holds, IsAligned}
 use Rattle.dmatypes.specs.Page.{Range, IsWithin}
 use Rattle.dmatypes.specs.World.{IsIn}
@@ -9,7 +9,7 @@ use Rattle.dmatypes.specs.declared.page.TheConstants.{SPAN_ORDER}
 use Rattle.dmatypes.specs.declared.width.TheConstants.{LEVELS}
 use Rattle.iova.specs.declared.piece.PageState.TheVariants.{Live, Retired}
 use Rattle.iova.specs.Pieces.{piece_of, state_at}
-use Rattle.iova.specs.Space.{Space, IsSpace}
+use Rattle.iova.specs.Space.{Space, IsSpace, MayRetire}
 use Rattle.tables.specs.Pool.{Pool, memory, occurs, IsTree, IsZeroed}
 use Rattle.tables.specs.Tree.{states}
 use Rattle.unit.specs.Filters.{status_after}
@@ -37,6 +37,13 @@ pub record IsReleasable (pool : Pool) (space : Space) (r : Record) : Type 0 wher
   pub within : (f : ℕ) → 0 < occurs f r.cut.frames → f < pool.frames
   pub zeroed : (f : ℕ) → 0 < occurs f r.cut.frames → IsZeroed pool.words f
 
+-- the record's range is live still, and what was cut are different zeroed frames of the pool that are not free
+pub record IsFreeable (pool : Pool) (space : Space) (r : Record) : Type 0 where
+  pub live : MayRetire space.pieces r.range
+  pub once : (f : ℕ) → occurs f pool.free + occurs f r.cut.frames ≤ 1
+  pub within : (f : ℕ) → 0 < occurs f r.cut.frames → f < pool.frames
+  pub zeroed : (f : ℕ) → 0 < occurs f r.cut.frames → IsZeroed pool.words f
+
 -- no two of the records are of one piece
 unfoldable pub AllDiffer : List Record → Type 0
 AllDiffer [] = Unit {0}
@@ -50,6 +57,24 @@ pub record AreReleasable (pool : Pool) (space : Space) (records : List Record) :
   pub once : (f : ℕ) → occurs f pool.free + held_in records f ≤ 1
   pub within : (f : ℕ) → 0 < held_in records f → f < pool.frames
   pub zeroed : (f : ℕ) → 0 < occurs f pool.free + held_in records f → IsZeroed pool.words f
+
+-- the pages of the range are those of the records, all together
+pub record IsRangeOf (range : Range) (records : List Record) : Type 0 where
+  pub some : (p : ℕ) → IsWithin range p → (r : Record) × IsIn r records × IsWithin r.range p
+  pub whole : (r : Record) → IsIn r records
+      → (range.first ≤ r.range.first) × (r.range.first + r.range.pages ≤ range.first + range.pages)
+
+-- one of two ranges ends where the other begins, and this one has the pages of both
+abbrev pub AreJoined : Range → Range → Range → Type 0
+AreJoined a b range = (range.pages ≡ a.pages + b.pages)
+    × (((range.first ≡ a.first) × (a.first + a.pages ≡ b.first)) ⊎ ((range.first ≡ b.first) × (b.first + b.pages ≡ a.first)))
+
+-- the last ones of the records are released, one at least, and these are left
+pub record ReleasesLast (pool : Pool) (space : Space) (all : List Record) (pool' : Pool) (space' : Space) (rest : List Record) : Type 0 where
+  pub last : List Record
+  pub parts : rest ++ last ≡ all
+  pub some : 0 < length last
+  pub releases : ReleasesAll pool space last pool' space'
 
 -- it names pages, and no device: its IOTLB is invalidated, and not its contexts
 abbrev pub IsOfIotlb : Descriptor → Type 0

@@ -11,11 +11,11 @@ ghost use Rattle.tables.specs.Pool.{IsTree};
 ghost use Rattle.vtdbits.specs.declared.descriptor.Descriptor.TheVariants.{IotlbDomain};
 ghost use Rattle.engine.specs.Domains.{AreMadeBefore, new_domain, parts_of};
 ghost use Rattle.engine.specs.Ending.{Closes, Destroys, Flushes, IsJudgedEnd, IsUnmapped, MakesRoom, PutsOff, Releases, ReleasesAll};
-ghost use Rattle.engine.specs.Ending.{Reaps, RetiresAndUnmaps, UnmapsStrictly, was_before};
+ghost use Rattle.engine.specs.Ending.{FreesEnded, Reaps, RetiresAndUnmaps, UnmapsAlone, UnmapsStrictly, was_before};
 ghost use Rattle.engine.specs.State.{begins};
 ghost use Rattle.engine.specs.Judged.{AreMappable};
 ghost use Rattle.engine.specs.Placing.{CanPlace, IsUnplaced, Places};
-ghost use Rattle.engine.specs.Ready.{AreInvalidated, AreReleasable, CanCut, CanUnmap, IsDone, IsInvalidated, IsReady, IsReleasable};
+ghost use Rattle.engine.specs.Ready.{AreInvalidated, AreReleasable, CanCut, CanUnmap, IsDone, IsFreeable, IsInvalidated, IsReady, IsReleasable};
 ghost use Rattle.engine.specs.Ready.{last_done};
 
 use crate::iommu::Iommu;
@@ -30,6 +30,7 @@ use tables::{NoFrames, Pool, Tree};
 use vtdbits::DomainId;
 
 mod readers;
+mod runs;
 
 /// A domain: its mode, the number of flushes begun, its tree, its address space, and its retired records.
 #[derive(Drop)]
@@ -152,16 +153,16 @@ impl Domain {
         }
     }
 
-    // Only when the wait is done are the pages free and the table frames given back.
+    // Only when the wait is done are the pages free and the table frames given back: until then they are live.
     fn unmap_strictly(&mut self, pool: &mut Pool, iommu: &mut Iommu, id: DomainId, range: PageRange)
         requires can { CanCut pool.old self.old }
         requires may { IsJudgedEnd pool.old self.old range (Ok tt) }
         requires ready { IsReady iommu.old }
         ensures { UnmapsStrictly (parts_of pool.old self.old iommu.old) id range (parts_of pool.new self.new iommu.new) }
     {
-        let retired = self.end(pool, iommu, range);
-        iommu.invalidate_pages(id, &retired, pool, &self.tree, &self.space);
-        release(&mut self.space, pool, iommu, id, &retired);
+        let ended = self.cut(pool, iommu, range);
+        iommu.invalidate_pages(id, &ended, pool, &self.tree, &self.space);
+        free(&mut self.space, pool, iommu, id, &ended);
     }
 
     // The pages become the last record; where there is no room for one, all others go first.
@@ -267,11 +268,12 @@ impl Domain {
     // Whether a range may end: `NotLive` where a page of it isn't live, else `TooManyPieces` where the address space would
     // be cut into too many pieces, else `NoFrames` where the leaves of 2 MiB that are to be split are more than the free
     // frames.
-    fn may_end(&self, pool: &Pool, range: PageRange) -> Result<(), Refusal>
-        requires { IsTree pool.now LEVELS self.now.root }
-        ensures { IsJudgedEnd pool.now self.now range result }
+    fn may_end(&mut self, pool: &Pool, range: PageRange) -> Result<(), Refusal>
+        requires { IsTree pool.now LEVELS self.old.root }
+        ensures judged { IsJudgedEnd pool.now self.old range result }
+        ensures same { self.new ≡ self.old }
     {
-        match self.space.may_retire(range) {
+        match self.space.judge(range) {
             Ok(()) => {}
             Err(RetireError::NotLive) => return Err(Refusal::NotLive),
             Err(RetireError::TooManyPieces) => return Err(Refusal::TooManyPieces),
@@ -282,8 +284,27 @@ impl Domain {
         }
     }
 
-    // Retires a range of live pages in the address space, unmaps it in the tree, and answers its record. It is made once the
-    // tree states none of the pages: no wait that was sent by then frees them.
+    // Unmaps a range of live pages in the tree, and answers its record. It is made once the tree states none of the pages: no
+    // wait that was sent by then frees them.
+    #[inline(always)]
+    fn cut(&mut self, pool: &mut Pool, iommu: &Iommu, range: PageRange) -> Record
+        requires can { CanCut pool.old self.old }
+        requires may { IsJudgedEnd pool.old self.old range (Ok tt) }
+        ensures range { result.range ≡ range }
+        ensures made { result.sent ≡ iommu.now.sent }
+        ensures unmaps { UnmapsAlone pool.old self.old result pool.new }
+        ensures same { self.new ≡ self.old }
+    {
+        let cut = self.tree.unmap(pool, range);
+        Record {
+            range,
+            mark: self.begun,
+            cut,
+            sent: iommu.sent(),
+        }
+    }
+
+    // Retires a range of live pages in the address space, unmaps it in the tree, and answers its record.
     #[inline(always)]
     fn end(&mut self, pool: &mut Pool, iommu: &Iommu, range: PageRange) -> Record
         requires can { CanCut pool.old self.old }
@@ -292,14 +313,9 @@ impl Domain {
         ensures made { result.sent ≡ iommu.now.sent }
         ensures ends { RetiresAndUnmaps pool.old self.old result pool.new self.new }
     {
+        let ended = self.cut(pool, iommu, range);
         self.space.retire(range);
-        let cut = self.tree.unmap(pool, range);
-        Record {
-            range,
-            mark: self.begun,
-            cut,
-            sent: iommu.sent(),
-        }
+        ended
     }
 }
 
@@ -321,6 +337,18 @@ pub(crate) fn release(
     ensures more { length pool.old.free ≤ length pool.new.free }
 {
     put_back(space, pool, retired);
+}
+
+/// Frees the live pages of a record, and gives the table frames back that were cut with them. The unit has forgotten them for
+/// good, as for a release.
+#[inline(always)]
+fn free(space: &mut Space, pool: &mut Pool, iommu: &Iommu, id: DomainId, ended: &Record)
+    requires can { IsFreeable pool.old space.old ended.now }
+    requires invalidated { IsInvalidated iommu.now id ended.now }
+    ensures { FreesEnded pool.old space.old ended.now pool.new space.new }
+{
+    space.free_live(ended.range);
+    pool.give_back(ended.cut.frames());
 }
 
 // Makes the pages of a retired record free, and gives the table frames back that were cut with them.
@@ -384,7 +412,8 @@ fn destroy(tree: Tree, pool: &mut Pool, iommu: &Iommu, id: DomainId)
     tree.destroy(pool);
 }
 
-/// Releases all records of a domain, the last one first. The unit has forgotten each of them for good.
+/// Releases all records of a domain, the last ones first, and at once those whose pages lie side by side. The unit has
+/// forgotten each of them for good.
 pub(crate) fn release_all(
     space: &mut Space,
     pool: &mut Pool,
@@ -398,7 +427,7 @@ pub(crate) fn release_all(
     ensures none { records.new.items ≡ [] }
     ensures room { vec_capacity records.new ≡ vec_capacity records.old }
 {
-    while let Some(retired) = records.pop() {
-        release(space, pool, iommu, id, &retired);
+    while !records.is_empty() {
+        runs::release_last(space, pool, iommu, id, records);
     }
 }

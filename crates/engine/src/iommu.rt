@@ -7,7 +7,7 @@ ghost use Rattle.tables.specs.Pool.{IsTree};
 ghost use Rattle.dmatypes.specs.declared.reply.Progress.{Progress};
 ghost use Rattle.queue.specs.declared.ring.TheConstants.Ring.{CAPACITY};
 ghost use Rattle.engine.specs.Ending.{Begins, Invalidates, IsSent, left_by_all, record_shown, shown_of, status_of, taken_after};
-ghost use Rattle.engine.specs.Ready.{AreReleasable, IsCleared, IsReady, IsReleasable, NoneWrites, last_done};
+ghost use Rattle.engine.specs.Ready.{AreReleasable, IsCleared, IsReady, IsFreeable, NoneWrites, last_done};
 ghost use Rattle.queue.specs.Ring.{ring_of};
 ghost use Rattle.unit.specs.Caches.{nothing, unit_state};
 ghost use Rattle.unit.specs.Filters.{after_first, done_after, left_by_first, status_after};
@@ -76,8 +76,7 @@ impl Iommu {
         }
     }
 
-    // The same, as after `waits` waits that are all done.
-    #[cfg(test)]
+    /// The same, as after `waits` waits that are all done.
     pub(crate) fn after(waits: u64) -> Iommu
         ensures { result ≡ record {
           contexts = replicate DEVICES ContextEntry.Absent;
@@ -106,31 +105,28 @@ impl Iommu {
     /// Has the unit forget the pages of a retired record, and what it remembers of the tables that were cut with them: sends
     /// the descriptor that covers them and then a wait, and runs the unit until the wait is done. What waits is done before, and
     /// nothing waits then. The domain's tree states none of the pages any more: a request could bring them back before. They
-    /// are still retired in its address space, and the frames that were cut with them still neither free nor used: what comes
+    /// are still live in its address space, and the frames that were cut with them still neither free nor used: what comes
     /// free comes so later.
     pub(crate) fn invalidate_pages(
         &mut self,
         domain: DomainId,
-        retired: &Record,
+        ended: &Record,
         pool: &Pool,
         tree: &Tree,
         space: &Space,
     )
         requires ready { IsReady self.old }
-        requires cleared { IsCleared pool.now tree.now.root retired.now.range }
-        requires kept { IsReleasable pool.now space.now retired.now }
-        ensures { (descriptor : Descriptor) × IsSent domain retired.now.range retired.now.cut descriptor
-            × Invalidates self.old descriptor (record_shown tree.now.root retired.now.range (length pool.now.free)) self.new }
+        requires cleared { IsCleared pool.now tree.now.root ended.now.range }
+        requires kept { IsFreeable pool.now space.now ended.now }
+        ensures { (descriptor : Descriptor) × IsSent domain ended.now.range ended.now.cut descriptor
+            × Invalidates self.old descriptor (record_shown tree.now.root ended.now.range (length pool.now.free)) self.new }
     {
         let shown = Shown::OneRecord {
             root: tree.root(),
-            range: retired.range,
+            range: ended.range,
             free: pool.free_count(),
         };
-        self.send(
-            descriptor_of(domain, retired.range, &retired.cut),
-            Some(shown),
-        );
+        self.send(descriptor_of(domain, ended.range, &ended.cut), Some(shown));
     }
 
     /// Has the unit forget all that it remembers of a domain's pages and tables in the same way, for all these retired

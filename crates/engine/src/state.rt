@@ -37,8 +37,6 @@ mod attachments;
 mod flushing;
 mod performing;
 mod spaces;
-#[cfg(test)]
-mod tests;
 mod totals;
 mod walkable;
 
@@ -98,6 +96,22 @@ impl State {
             tickets: ArrayVec::new(),
             calls: 0,
         })
+    }
+
+    /// The same as a state would be after `calls` calls, each with a wait that is done, 2^56 at most: for a test of what comes
+    /// late in a state's life, as wait numbers that pass 2^32 (own).
+    pub fn after(alloc: Global, frames: u64, calls: u64) -> Result<State, AllocError>
+        requires some { LEAST_TABLE_FRAMES ≤ frames }
+        requires few { frames ≤ MOST_TABLE_FRAMES }
+        requires calls { calls ≤ CALLS_END }
+        ensures empty { IfOk result (λ state. Quarantine state (empty frames)) }
+        ensures calls { IfOk result (λ state. state.calls ≡ calls) }
+        ensures sent { IfOk result (λ state. state.iommu.sent ≡ calls) }
+    {
+        let mut state = State::new(alloc, frames)?;
+        state.iommu = Iommu::after(calls);
+        state.calls = calls;
+        Ok(state)
     }
 
     /// Makes an empty domain, and answers its id, 1 to 15. Refuses with `TooManyDomains` where all ids are in use, else

@@ -1,13 +1,14 @@
 pub mod Pieces
 pub mod Puts
-pub mod Index
 pub mod Among
-pub mod Place
 pub mod Keep
 pub mod NewSpace
-pub mod Fit
-pub mod Cut
 pub mod FreeRange
+pub mod FreedRun
 pub mod Freed
 pub mod Taken
 pub mod Same
+pub mod shapes
+pub mod parts
+pub mod searches
+mod FreedLive

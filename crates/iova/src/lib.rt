@@ -1,5 +1,5 @@
 //! The address space of a domain: which pages of device addresses are free, live (mapped), or retired (unmapped, and a cached
-//! translation may still reach them). It is a sorted list of at most 1,024 pieces, each a run of pages of one state.
+//! translation may still reach them). It is a balanced tree of at most 1,024 pieces, each a run of pages of one state.
 //!
 //! ```rust
 //! use dmatypes::PageRange;
@@ -19,9 +19,21 @@
 //! ```
 #![tactic(auto)]
 
-mod list;
+mod beside;
+mod ends;
+mod links;
+mod node;
 mod piece;
+mod put;
+mod search;
+mod settle;
 mod space;
+mod store;
+mod trims;
+mod turns;
+mod walk;
+mod way;
 
 pub use piece::{PageState, Piece};
 pub use space::{RetireError, Space, TakeError};
+pub use walk::Iter;

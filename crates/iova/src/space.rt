@@ -2,15 +2,20 @@
 
 ghost use Rattle.std.specs.Prelude.{◌≡◌, ◌≢◌, ℕ, ◌+◌, ◌^◌, ◌<◌, ◌≤◌, ◌↔◌, length, Some, IsSome, IfOk, OnErr, IsOk, Ok, Err};
 
-use crate::list;
+use crate::beside::Ends;
+use crate::node::Node;
 use crate::piece::{PageState, Piece};
+use crate::store;
+use crate::walk::Iter;
+use crate::way::{Judged, MOST_HEIGHT, NO_STEP, Step};
 use dmatypes::{MOST_PAGES, PAGES_END, Page, PageRange};
+use slab::Slab;
 use std::alloc::{AllocError, Global};
 use std::marker::Model;
 use thiserror::Error;
 
 /// How many pieces a space has room for (own).
-const MOST_PIECES: usize = 1024;
+pub(crate) const MOST_PIECES: usize = 1024;
 
 /// How many pieces may be there where one is cut (own): a cut can make two more.
 const MOST_PIECES_TO_CUT: usize = MOST_PIECES - 2;
@@ -18,7 +23,7 @@ const MOST_PIECES_TO_CUT: usize = MOST_PIECES - 2;
 /// Why no pages are taken.
 #[derive(Clone, Copy, Debug, PartialEq, Eq, Error)]
 pub enum TakeError {
-    /// No aligned range of that length is free.
+    /// No aligned range of so many free pages exists.
     #[error("no aligned range of so many free pages")]
     NoRange,
     /// Taking the lowest such range would cut a piece, and there are more than 1,022.
@@ -42,29 +47,34 @@ pub enum RetireError {
 #[derive(Drop)]
 pub struct Space {
     last: u64,
-    pieces: Vec<Piece>,
+    root: Option<usize>,
+    nodes: Slab<Node>,
+    // The steps of the last way down.
+    way: [Step; MOST_HEIGHT],
+    // The live piece to which they lead, if it was judged and nothing has changed since.
+    judged: Option<Judged>,
 }
 
 impl Model for Space {
-    ghost use Rattle.std.specs.Prelude.{◌≤◌};
-    ghost use Rattle.std.specs.Vec.{vec_capacity};
+    ghost use Rattle.std.specs.Prelude.{IfSome};
     ghost use Rattle.iova.specs.Space.{Space, IsSpace};
-    ghost use Rattle.iova.specs.declared.space.TheConstants.{MOST_PIECES};
+    ghost use Rattle.iova.specs.Stored.{IsKept, IsJudged, pieces_of, stored};
 
     ghost Value = { Space };
 
-    ghost view = { λ a. record { last = a.last; pieces = a.pieces.items } };
+    ghost view = { λ a. stored a.last a.root a.nodes };
 
-    ghost invariant = { λ a. IsSpace (record { last = a.last; pieces = a.pieces.items }) × (MOST_PIECES ≤ vec_capacity a.pieces) };
+    ghost invariant = { λ a. IsKept a.root a.nodes (pieces_of a.nodes a.root) × IsSpace (stored a.last a.root a.nodes)
+        × IfSome a.judged (IsJudged a.nodes a.root a.way) };
 }
 
 impl Space {
     ghost use Rattle.dmatypes.specs.Page.{IsPageRange, IsWithin, Range};
     ghost use Rattle.dmatypes.specs.World.{IsIn};
     ghost use Rattle.dmatypes.specs.declared.limits.TheConstants.{MOST_ORDER};
-    ghost use Rattle.iova.specs.Pieces.{AllIn, piece_of, state_at};
+    ghost use Rattle.iova.specs.Pieces.{AllIn, IsRun, piece_of, state_at};
     ghost use Rattle.iova.specs.Space.{Space, AllFree, IsFit, IsLowestFit, IsSpace, IsTooMany, MayRetire, new_space};
-    ghost use Rattle.iova.specs.Changes.{Frees, Retires, Takes};
+    ghost use Rattle.iova.specs.Changes.{Frees, FreesLive, FreesRun, Retires, Takes};
 
     /// A space of the pages up to a last one, all free. It takes the memory for all its pieces; no other call
     /// takes any.
@@ -75,9 +85,15 @@ impl Space {
         ensures free { IfOk result AllFree }
         ensures space { IfOk result IsSpace }
     {
-        let mut pieces = Vec::with_capacity(alloc, MOST_PIECES)?;
-        list::fill(&mut pieces, last);
-        Ok(Space { last, pieces })
+        let mut nodes = Slab::with_capacity(alloc, MOST_PIECES)?;
+        let root = store::fill(&mut nodes, last);
+        Ok(Space {
+            last,
+            root,
+            nodes,
+            way: [NO_STEP; MOST_HEIGHT],
+            judged: None,
+        })
     }
 
     /// Makes it new: all its pages are free.
@@ -86,16 +102,21 @@ impl Space {
         ensures free { AllFree self.new }
         ensures space { IsSpace self.new }
     {
-        self.pieces.clear();
-        list::fill(&mut self.pieces, self.last);
+        self.judged = None;
+        self.nodes.clear();
+        self.root = store::fill(&mut self.nodes, self.last);
     }
 
     /// Its pieces in the order of their pages.
-    pub fn pieces(&self) -> &[Piece]
-        ensures pieces { result.now ≡ self.now.pieces }
+    pub fn pieces(&self) -> Iter<'_>
+        ensures pieces { result ≡ self.now.pieces }
         ensures space { IsSpace self.now }
     {
-        self.pieces.as_slice()
+        Iter {
+            nodes: &self.nodes,
+            root: self.root,
+            page: 1,
+        }
     }
 
     /// How many pieces it has.
@@ -103,7 +124,7 @@ impl Space {
         ensures count { result ≡ length self.now.pieces }
         ensures few { result ≤ MOST_PIECES }
     {
-        self.pieces().len()
+        self.nodes.len()
     }
 
     /// What a page is; `None` exactly where it is past the last one.
@@ -111,10 +132,10 @@ impl Space {
         ensures state { result ≡ state_at self.now.pieces page }
         ensures some { IsSome result ↔ (page ≤ self.now.last) }
     {
-        list::state_of(&self.pieces, page.number())
+        store::state_of(&self.nodes, self.root, page.number())
     }
 
-    /// Makes `pages` free pages, 1 to 4,096, one live piece, and answers the first of them: the lowest that is
+    /// Makes so many free pages, 1 to 4,096, one live piece, and answers the first of them: the lowest that is
     /// a multiple of 2^order (order 0 to 9). Where it is refused, nothing has changed.
     #[inline(always)]
     pub fn take(&mut self, pages: u64, order: u64) -> Result<Page, TakeError>
@@ -135,21 +156,23 @@ impl Space {
             × IsTooMany self.old.pieces (record { first = start; pages = pages })) }
         ensures unchanged { OnErr result (self.new ≡ self.old) }
     {
-        let Some(fit) = list::lowest_fit(&self.pieces, pages, 1 << order) else {
+        self.judged = None;
+        let Some(spot) = store::fit(&self.nodes, self.root, pages, 1 << order, &mut self.way) else {
             return Err(TakeError::NoRange);
         };
-        if self.pieces.len() > MOST_PIECES_TO_CUT
-            && list::cuts_piece(&self.pieces, fit.at, fit.at, fit.start, pages)
+        let start = spot.start;
+        if self.nodes.len() > MOST_PIECES_TO_CUT
+            && store::cuts_piece(&self.nodes, self.root, start, pages)
         {
             return Err(TakeError::TooManyPieces);
         }
         let piece = Piece {
-            first: fit.start,
-            last: fit.start + pages - 1,
+            first: start,
+            last: start + pages - 1,
             state: PageState::Live,
         };
-        list::put(&mut self.pieces, fit.at, fit.at, piece);
-        Ok(Page::new(fit.start).unwrap())
+        self.root = store::store_by(&mut self.nodes, self.root, piece, &self.way, spot.place);
+        Ok(Page::new(start).unwrap())
     }
 
     /// Whether a range can be retired.
@@ -161,16 +184,37 @@ impl Space {
             ↔ (AllIn PageState.Live range self.now.pieces × IsTooMany self.now.pieces range) }
     {
         let first = range.first();
-        let from = list::place(&self.pieces, first);
-        let Some(to) = list::live_end(&self.pieces, from, first, range.pages()) else {
+        if store::not_live(&self.nodes, self.root, first, range.pages()).is_some() {
             return Err(RetireError::NotLive);
-        };
-        if self.pieces.len() > MOST_PIECES_TO_CUT
-            && list::cuts_piece(&self.pieces, from, to, first, range.pages())
+        }
+        if self.nodes.len() > MOST_PIECES_TO_CUT
+            && store::cuts_piece(&self.nodes, self.root, first, range.pages())
         {
             return Err(RetireError::TooManyPieces);
         }
         Ok(())
+    }
+
+    /// Whether a range can be retired, as `may_retire`. Where it is one live piece, the space keeps in mind where that lies: what
+    /// is done to it next, if nothing is done before, need not look for it.
+    #[inline(always)]
+    pub fn judge(&mut self, range: PageRange) -> Result<(), RetireError>
+        ensures ok { IsOk result ↔ MayRetire self.old.pieces range }
+        ensures not_live { (result ≡ Err RetireError.NotLive)
+            ↔ ((page : ℕ) × IsWithin range page × (state_at self.old.pieces page ≢ Some PageState.Live)) }
+        ensures too_many { (result ≡ Err RetireError.TooManyPieces)
+            ↔ (AllIn PageState.Live range self.old.pieces × IsTooMany self.old.pieces range) }
+        ensures unchanged { self.new ≡ self.old }
+    {
+        let first = range.first();
+        let last = first + range.pages() - 1;
+        let pages = Ends { first, last };
+        self.judged = None;
+        if let Some(held) = store::hold_live(&self.nodes, self.root, pages, &mut self.way) {
+            self.judged = Some(Judged { pages, held });
+            return Ok(());
+        }
+        self.may_retire(range)
     }
 
     /// Makes a range of live pages one retired piece.
@@ -181,15 +225,35 @@ impl Space {
         ensures space { IsSpace self.old × IsSpace self.new }
     {
         let first = range.first();
-        let last = first + range.pages() - 1;
-        let from = list::place(&self.pieces, first);
-        let to = list::place(&self.pieces, last);
         let piece = Piece {
             first,
-            last,
+            last: first + range.pages() - 1,
             state: PageState::Retired,
         };
-        list::put(&mut self.pieces, from, to, piece);
+        let judged = self.judged;
+        self.judged = None;
+        self.root = store::retire(&mut self.nodes, self.root, piece, &self.way, judged);
+    }
+
+    /// Makes a range of live pages free, as `retire` and then `release` would.
+    #[inline(always)]
+    pub fn free_live(&mut self, range: PageRange)
+        requires { MayRetire self.old.pieces range }
+        ensures freed { FreesLive self.old self.new range }
+        ensures space { IsSpace self.old × IsSpace self.new }
+    {
+        let first = range.first();
+        let last = first + range.pages() - 1;
+        let pages = Ends { first, last };
+        if let Some(judged) = self.judged {
+            if judged.pages.first == pages.first && judged.pages.last == pages.last {
+                self.judged = None;
+                self.root = store::free(&mut self.nodes, self.root, pages, &self.way, judged.held);
+                return;
+            }
+        }
+        self.retire(range);
+        self.release(range);
     }
 
     /// Frees a range that is one live piece. After a `take` the space is as it was before it.
@@ -213,6 +277,25 @@ impl Space {
         self.free(range);
     }
 
+    /// Frees a range that is made of whole retired pieces, one after the other, as one release for each of them would.
+    pub fn release_run(&mut self, range: PageRange)
+        requires { IsRun (piece_of range PageState.Retired) self.old.pieces }
+        ensures freed { FreesRun self.old self.new range PageState.Retired }
+        ensures retirable { (other : Range) → MayRetire self.old.pieces other → MayRetire self.new.pieces other }
+        ensures space { IsSpace self.old × IsSpace self.new }
+    {
+        let first = range.first();
+        let last = first + range.pages() - 1;
+        self.judged = None;
+        let whole = store::with_free_around(&self.nodes, self.root, Ends { first, last });
+        let piece = Piece {
+            first: whole.first,
+            last: whole.last,
+            state: PageState::Free,
+        };
+        self.root = store::store(&mut self.nodes, self.root, piece);
+    }
+
     // Frees a range that is one piece.
     #[inline(always)]
     fn free(&mut self, range: PageRange)
@@ -221,7 +304,11 @@ impl Space {
         ensures range { IsPageRange range }
         ensures space { IsSpace self.old × IsSpace self.new }
     {
-        let at = list::place(&self.pieces, range.first());
-        list::free(&mut self.pieces, at);
+        let first = range.first();
+        let last = first + range.pages() - 1;
+        let pages = Ends { first, last };
+        self.judged = None;
+        let held = store::hold(&self.nodes, self.root, pages, &mut self.way);
+        self.root = store::free(&mut self.nodes, self.root, pages, &self.way, held);
     }
 }

@@ -8,7 +8,7 @@ use crate::wrapped::Failed;
 use arrayvec::ArrayString;
 use dmatypes::{MOST_DOMAINS, MOST_RECORDS, Mode, PAGE_BYTES};
 use engine::{RetiredRecord, State};
-use iova::{PageState, Piece};
+use iova::{Iter, PageState, Piece};
 use std::fmt;
 use std::fmt::Write as _;
 use std::io::Write;
@@ -67,12 +67,12 @@ fn put_domain<W: Write>(writer: &mut Counted<W>, state: &State, id: u64) -> Resu
     put_records(writer, state, id)
 }
 
-fn put_runs<W: Write>(writer: &mut Counted<W>, pieces: &[Piece]) -> Result<(), Failed>
+fn put_runs<W: Write>(writer: &mut Counted<W>, pieces: Iter<'_>) -> Result<(), Failed>
     requires { writer.old.wrapped.failed ≡ false }
     ensures { writer.new.wrapped.failed ≡ is_err result }
 {
     for piece in pieces {
-        put_line(writer, &run_line(*piece))?;
+        put_line(writer, &run_line(piece))?;
     }
     Ok(())
 }

@@ -141,20 +141,29 @@ fn words_of_one_device(rt: HostRuntime) {
     assert!(rt; port.count(&rows) == 0);
     map_pages(&mut desk, &rows);
     request_pages(&mut desk, &rows);
-    fill_page(&rt, &mut desk, &rows, 0);
-    fill_page(&rt, &mut desk, &rows, 16);
-    assert!(rt; hits(&mut port, &rows, 0x11234, Access::Read, Some(0x11_0234)));
-    assert!(rt; hits(&mut port, &rows, 0x11234, Access::Write, None));
-    assert!(rt; hits(&mut port, &rows, 0x1234, Access::Read, None));
-    port.evict(&rows, 1);
-    assert!(rt; hits(&mut port, &rows, 0x11234, Access::Read, None));
-    fill_page(&rt, &mut desk, &rows, 16);
-    assert!(rt; hits(&mut port, &rows, 0x11000, Access::Read, Some(0x11_0000)));
-    desk.clear(&rows, 3);
-    assert!(rt; hits(&mut port, &rows, 0x11234, Access::Read, None));
+    hit_words(&rt, &mut desk, &rows, &mut port);
     desk.meet(&rows, &mut port);
     desk.tell(&rows, &mut pass);
     assert!(rt; port.count(&rows) == 5);
+}
+
+// Two pages share a slot of the row: the last that was filled is there.
+fn hit_words(rt: &impl Abort, desk: &mut Desk, rows: &Rows, port: &mut Port)
+    requires rows { (desk.old.rows ≡ rows.now) × ((port.old.rows ≡ rows.now) × (rows.now.frames ≡ 64)) }
+    requires history { desk.old.history ≡ whole_history }
+    ensures { (desk.new.rows ≡ desk.old.rows) × (port.new.rows ≡ port.old.rows) }
+{
+    fill_page(rt, desk, rows, 0);
+    fill_page(rt, desk, rows, 16);
+    assert!(rt; hits(port, rows, 0x11234, Access::Read, Some(0x11_0234)));
+    assert!(rt; hits(port, rows, 0x11234, Access::Write, None));
+    assert!(rt; hits(port, rows, 0x1234, Access::Read, None));
+    port.evict(rows, 1);
+    assert!(rt; hits(port, rows, 0x11234, Access::Read, None));
+    fill_page(rt, desk, rows, 16);
+    assert!(rt; hits(port, rows, 0x11000, Access::Read, Some(0x11_0000)));
+    desk.clear(rows, 3);
+    assert!(rt; hits(port, rows, 0x11234, Access::Read, None));
 }
 
 #[test]

@@ -33,20 +33,31 @@ fn words_of(low: u64, high: u64) -> Words {
 
 // Whether the word spells the entry at the level, both ways.
 fn is_entry(level: u64, word: u64, entry: SsEntry) -> bool {
-    SsEntry::decode(level, word).is_some_and(|found| found == entry) && entry.encode() == word
+    match SsEntry::decode(level, word) {
+        Some(found) => found == entry && entry.encode() == word,
+        None => false,
+    }
 }
 
 fn is_context(words: Words, entry: ContextEntry) -> bool {
-    ContextEntry::decode(words).is_some_and(|found| found == entry) && entry.encode() == words
+    match ContextEntry::decode(words) {
+        Some(found) => found == entry && entry.encode() == words,
+        None => false,
+    }
 }
 
 fn is_descriptor(words: Words, descriptor: Descriptor) -> bool {
-    Descriptor::decode(words).is_some_and(|found| found == descriptor)
-        && descriptor.encode() == words
+    match Descriptor::decode(words) {
+        Some(found) => found == descriptor && descriptor.encode() == words,
+        None => false,
+    }
 }
 
 fn is_port_word(word: u64, port: PortWord) -> bool {
-    PortWord::decode(word).is_some_and(|found| found == port) && port.encode() == word
+    match PortWord::decode(word) {
+        Some(found) => found == port && port.encode() == word,
+        None => false,
+    }
 }
 
 #[test]

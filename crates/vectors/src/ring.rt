@@ -18,9 +18,8 @@ fn submit_waits(rt: &impl Abort, ring: &mut Ring, from: u32, to: u32) {
 // Fetches them in this order.
 fn fetch_waits(rt: &impl Abort, ring: &mut Ring, from: u32, to: u32) {
     for number in from..to {
-        let fetched = ring.fetch();
         assert!(rt;
-            fetched.is_some_and(|d| d == Descriptor::Wait(number)),
+            ring.fetch() == Some(Descriptor::Wait(number)),
             "wait {number}"
         );
     }

@@ -62,23 +62,51 @@ fn refusal_lines(rt: HostRuntime) {
     }
 }
 
+// The number of the page of this number, where there is one.
+fn page_of(number: u64) -> Option<u64> {
+    Some(Page::new(number)?.number())
+}
+
+// The number of the frame of this number, where there is one.
+fn frame_of(number: u64) -> Option<u64> {
+    Some(Frame::new(number)?.number())
+}
+
 #[test]
-fn edges_of_pages_and_frames(rt: HostRuntime) {
-    for number in [1, 0xfedff, 0xfef00, 0x7ffffff] {
-        assert_eq!(rt; Page::new(number).map(|page| page.number()), Some(number));
+fn edges_of_pages(rt: HostRuntime) {
+    for (number, is_page) in [
+        (1, true),
+        (0xfedff, true),
+        (0xfef00, true),
+        (0x7ffffff, true),
+        (0, false),
+        (0xfee00, false),
+        (0xfeeff, false),
+        (0x8000000, false),
+        (u64::MAX, false),
+    ] {
+        assert!(rt; (page_of(number) == Some(number)) == is_page);
+        assert!(rt; page_of(number).is_some() == is_page);
     }
-    for number in [0, 0xfee00, 0xfeeff, 0x8000000, u64::MAX] {
-        assert_eq!(rt; Page::new(number), None);
+}
+
+#[test]
+fn edges_of_frames(rt: HostRuntime) {
+    for (number, is_frame) in [
+        (0, true),
+        (0xffffff, true),
+        (0x1000000, false),
+        (u64::MAX, false),
+    ] {
+        assert!(rt; (frame_of(number) == Some(number)) == is_frame);
+        assert!(rt; frame_of(number).is_some() == is_frame);
     }
-    for number in [0, 0xffffff] {
-        assert_eq!(rt;
-            Frame::new(number).map(|frame| frame.number()),
-            Some(number)
-        );
-    }
-    for number in [0x1000000, u64::MAX] {
-        assert_eq!(rt; Frame::new(number), None);
-    }
+}
+
+// The first page and the number of pages of this range, where there is one.
+fn range_of(start: u64, pages: u64) -> Option<(u64, u64)> {
+    let range = PageRange::new(start, pages)?;
+    Some((range.first(), range.pages()))
 }
 
 #[test]
@@ -91,12 +119,12 @@ fn edges_of_ranges(rt: HostRuntime) {
         (0x7ffffff, 1),
         (0x7fff000, 4096),
     ] {
-        let range = PageRange::new(start, pages);
-        assert_eq!(rt;
-            range.map(|range| (range.first(), range.pages())),
-            Some((start, pages))
-        );
+        assert!(rt; range_of(start, pages) == Some((start, pages)));
     }
+}
+
+#[test]
+fn edges_of_no_ranges(rt: HostRuntime) {
     for (start, pages) in [
         (0, 1),
         (1, 0),
@@ -110,20 +138,34 @@ fn edges_of_ranges(rt: HostRuntime) {
         (u64::MAX, 2),
         (1, u64::MAX),
     ] {
-        assert_eq!(rt; PageRange::new(start, pages), None, "{pages} from {start}");
+        assert!(rt; range_of(start, pages).is_none(), "{pages} from {start}");
     }
+}
+
+// Whether the rights of this number permit an access, where there are such.
+fn permits(number: u64, access: Access) -> Option<bool> {
+    Some(Rights::from_number(number)?.permits(access))
 }
 
 #[test]
 fn rights_by_number(rt: HostRuntime) {
-    for (number, reads, writes) in [(1, true, false), (2, false, true), (3, true, true)] {
-        let rights = Rights::from_number(number).expect(&rt, "rights");
-        assert_eq!(rt; rights.permits(Access::Read), reads);
-        assert_eq!(rt; rights.permits(Access::Write), writes);
+    for (number, reads, writes) in [
+        (1, Some(true), Some(false)),
+        (2, Some(false), Some(true)),
+        (3, Some(true), Some(true)),
+        (0, None, None),
+        (4, None, None),
+        (257, None, None),
+        (u64::MAX, None, None),
+    ] {
+        assert!(rt; permits(number, Access::Read) == reads);
+        assert!(rt; permits(number, Access::Write) == writes);
     }
-    for number in [0, 4, 257, u64::MAX] {
-        assert_eq!(rt; Rights::from_number(number), None);
-    }
+}
+
+// The smallest aligned block around a range, where there is such a range.
+fn block_of(start: u64, pages: u64) -> Option<(u64, u8)> {
+    Some(aligned_block(PageRange::new(start, pages)?))
 }
 
 #[test]
@@ -134,7 +176,9 @@ fn smallest_blocks(rt: HostRuntime) {
         (0x200, 512, (0x200, 9)),
         (0x3ff, 2, (0, 11)),
     ] {
-        let range = PageRange::new(start, pages).expect(&rt, "a range");
-        assert_eq!(rt; aligned_block(range), block, "{pages} from {start}");
+        assert!(rt;
+            block_of(start, pages) == Some(block),
+            "{pages} from {start}"
+        );
     }
 }

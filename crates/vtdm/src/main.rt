@@ -48,6 +48,3 @@ fn main(rt: HostRuntime) -> ExitCode {
 fn without_words(rt: &HostRuntime, kind: ErrorKind) -> ExitCode {
     ExitCode::from(program::without_words(rt.stderr(), kind))
 }
-
-#[cfg(test)]
-mod tests;

@@ -14,7 +14,7 @@ use std::alloc::{AllocError, Global};
 const IOVA: &str = "iova";
 
 /// What the program is to do.
-#[derive(Clone, Copy, Debug, PartialEq, Eq)]
+#[derive(Clone, Copy)]
 pub(crate) enum Task {
     /// Make the calls of a script.
     Script(Answering, Options),
@@ -23,7 +23,7 @@ pub(crate) enum Task {
 }
 
 /// What the program is to write for a script.
-#[derive(Clone, Copy, Debug, PartialEq, Eq)]
+#[derive(Clone, Copy)]
 pub(crate) enum Answering {
     /// Answer each of its lines.
     Run,
@@ -34,7 +34,7 @@ pub(crate) enum Answering {
 }
 
 /// How large the manager is to be.
-#[derive(Clone, Copy, Debug, PartialEq, Eq)]
+#[derive(Clone, Copy)]
 pub(crate) struct Options {
     /// The number of table frames.
     pub(crate) frames: u64,
@@ -44,19 +44,6 @@ pub(crate) struct Options {
 
 /// The program's command line, without the program's name.
 pub(crate) fn command<'a>(alloc: Global) -> Result<Command<'a>, AllocError> {
-    let run = Command::new(alloc, "run")
-        .about("Answers a script, one line for each line")
-        .after_help(SCRIPT)
-        .override_usage("vtdm run [OPTIONS] < SCRIPT")
-        .arg(frames(alloc))?
-        .arg(calls(alloc))?;
-    let report = Command::new(alloc, "report")
-        .about("Makes the calls of a script, and tells what is there at its end")
-        .after_help(REPORT)
-        .override_usage("vtdm report [OPTIONS] < SCRIPT")
-        .arg(frames(alloc))?
-        .arg(calls(alloc))?
-        .arg(iova(alloc))?;
     Command::new(alloc, "vtdm")
         .version(VERSION)
         .propagate_version(true)
@@ -66,9 +53,28 @@ pub(crate) fn command<'a>(alloc: Global) -> Result<Command<'a>, AllocError> {
         .no_binary_name(true)
         .subcommand_required(true)
         .disable_help_subcommand(true)
-        .subcommand(run)?
-        .subcommand(report)?
+        .subcommand(run_command(alloc)?)?
+        .subcommand(report_command(alloc)?)?
         .subcommand(storm_command(alloc)?)
+}
+
+fn run_command<'a>(alloc: Global) -> Result<Command<'a>, AllocError> {
+    Command::new(alloc, "run")
+        .about("Answers a script, one line for each line")
+        .after_help(SCRIPT)
+        .override_usage("vtdm run [OPTIONS] < SCRIPT")
+        .arg(frames(alloc))?
+        .arg(calls(alloc))
+}
+
+fn report_command<'a>(alloc: Global) -> Result<Command<'a>, AllocError> {
+    Command::new(alloc, "report")
+        .about("Makes the calls of a script, and tells what is there at its end")
+        .after_help(REPORT)
+        .override_usage("vtdm report [OPTIONS] < SCRIPT")
+        .arg(frames(alloc))?
+        .arg(calls(alloc))?
+        .arg(iova(alloc))
 }
 
 fn frames<'a>(alloc: Global) -> Arg<'a> {

@@ -16,7 +16,7 @@ const BAD: u8 = 2;
 const WANTING: u8 = 3;
 
 /// How the program ends.
-#[derive(Clone, Copy, Debug, PartialEq, Eq)]
+#[derive(Clone, Copy)]
 pub(crate) enum End {
     /// The task is done, or the help that was asked for is written.
     Done,

@@ -11,7 +11,7 @@ use std::thread::Threads;
 use storm::{MOST_DEVICES, MOST_DRIVERS, MOST_WORKER_CALLS, OpenGate, storm};
 
 /// How large a storm is to be.
-#[derive(Clone, Copy, Debug, PartialEq, Eq)]
+#[derive(Clone, Copy)]
 pub(crate) struct StormSize {
     /// The number of drivers.
     drivers: u64,
@@ -27,30 +27,36 @@ pub(crate) fn storm_command<'a>(alloc: Global) -> Result<Command<'a>, AllocError
         .about("Makes calls by many threads at once, and tells how many")
         .after_help(STORM)
         .override_usage("vtdm storm --drivers <DRIVERS> --devices <DEVICES> --calls <CALLS>")
-        .arg(
-            Arg::new(alloc, "drivers")
-                .long("drivers")
-                .value_name("DRIVERS")
-                .help("Drivers, 1 to 8")
-                .value_parser(value_parser!(u64).range(1..=MOST_DRIVERS as i64))
-                .required(true),
-        )?
-        .arg(
-            Arg::new(alloc, "devices")
-                .long("devices")
-                .value_name("DEVICES")
-                .help("Devices, 1 to 8")
-                .value_parser(value_parser!(u64).range(1..=MOST_DEVICES as i64))
-                .required(true),
-        )?
-        .arg(
-            Arg::new(alloc, "calls")
-                .long("calls")
-                .value_name("CALLS")
-                .help("Calls of each, 1 to 10000")
-                .value_parser(value_parser!(u64).range(1..=MOST_WORKER_CALLS as i64))
-                .required(true),
-        )
+        .arg(drivers(alloc))?
+        .arg(devices(alloc))?
+        .arg(calls(alloc))
+}
+
+fn drivers<'a>(alloc: Global) -> Arg<'a> {
+    Arg::new(alloc, "drivers")
+        .long("drivers")
+        .value_name("DRIVERS")
+        .help("Drivers, 1 to 8")
+        .value_parser(value_parser!(u64).range(1..=MOST_DRIVERS as i64))
+        .required(true)
+}
+
+fn devices<'a>(alloc: Global) -> Arg<'a> {
+    Arg::new(alloc, "devices")
+        .long("devices")
+        .value_name("DEVICES")
+        .help("Devices, 1 to 8")
+        .value_parser(value_parser!(u64).range(1..=MOST_DEVICES as i64))
+        .required(true)
+}
+
+fn calls<'a>(alloc: Global) -> Arg<'a> {
+    Arg::new(alloc, "calls")
+        .long("calls")
+        .value_name("CALLS")
+        .help("Calls of each, 1 to 10000")
+        .value_parser(value_parser!(u64).range(1..=MOST_WORKER_CALLS as i64))
+        .required(true)
 }
 
 /// What is asked for behind the command's name.

@@ -16,8 +16,8 @@ use Rattle.tables.specs.Pool.{Pool, memory, occurs, IsTree, IsZeroed}
 use Rattle.tables.specs.Tree.{stated, sum_below, uses}
 use Rattle.tables.proofs.sums.Firsts.{sum_below_part}
 use Rattle.engine.specs.declared.record.Record.{Record}
-use Rattle.engine.specs.Ending.{RetiresAndUnmaps, Releases, ReleasesAll, leaves_split}
-use Rattle.engine.specs.Ready.{AllDiffer, AreReleasable, CanCut, CanUnmap, IsCleared, IsReleasable}
+use Rattle.engine.specs.Ending.{FreesEnded, RetiresAndUnmaps, UnmapsAlone, Releases, ReleasesAll, leaves_split}
+use Rattle.engine.specs.Ready.{AllDiffer, AreReleasable, CanCut, CanUnmap, IsCleared, IsFreeable, IsReleasable}
 use Rattle.engine.specs.Domains.{Domain, held_in, domain_at}
 use Rattle.engine.specs.State.{State}
 use Rattle.engine.specs.Quarantine.{AllApart, AreApart, IsOfSomeWorld, Marked, Mirrors, PartsFrames, marked_here, marked_there, owned}
@@ -213,10 +213,10 @@ last_released pool pool1 space space1 rest r are went =
 
 -- ---- what was cut just now
 
-pub cut_releasable : (pool pool1 : Pool) (h h1 : Domain) (r : Record) → IsTree pool LEVELS h.root → RetiresAndUnmaps pool h r pool1 h1
-    → IsReleasable pool1 h1.space r
-cut_releasable pool pool1 h h1 r tree cuts = record {
-  piece = cuts.retires.piece;
+pub cut_freeable : (pool pool1 : Pool) (h : Domain) (r : Record) → IsTree pool LEVELS h.root → UnmapsAlone pool h r pool1
+    → MayRetire h.space.pieces r.range → IsFreeable pool1 h.space r
+cut_freeable pool pool1 h r tree cuts may = record {
+  live = may;
   once = λ f. omega (arith, tree.once f, cuts.moves.account f);
   within = λ f some. ⊎_elim (λ (less : f < pool1.frames). less)
       (λ (past : pool1.frames ≤ f).
@@ -226,10 +226,38 @@ cut_releasable pool pool1 h h1 r tree cuts = record {
 }
 
 -- and the tree states none of its pages
-pub cut_cleared : (pool pool1 : Pool) (h h1 : Domain) (r : Record) → RetiresAndUnmaps pool h r pool1 h1 → IsCleared pool1 h1.root r.range
-cut_cleared pool pool1 h h1 r cuts p inside =
-    let root : h1.root ≡ h.root = ap (λ (x : Domain). x.root) cuts.same in
-    rw root (ap (stated p) (cuts.unmaps.gone p inside.0 inside.1))
+pub cut_cleared : (pool pool1 : Pool) (h : Domain) (r : Record) → UnmapsAlone pool h r pool1 → IsCleared pool1 h.root r.range
+cut_cleared pool pool1 h r cuts p inside = ap (stated p) (cuts.unmaps.gone p inside.0 inside.1)
+
+-- what a strict unmap does is what retiring and releasing does
+pub ended_at_once : (pool pool1 pool2 : Pool) (h : Domain) (space : Space) (r : Record) (range : Range)
+    → r.range ≡ range → MayRetire h.space.pieces range → UnmapsAlone pool h r pool1 → FreesEnded pool1 h.space r pool2 space
+    → (between : Domain) × RetiresAndUnmaps pool h r pool1 between × Releases pool1 between.space r pool2 space
+    × (record h { space = space } ≡ record between { space = space })
+ended_at_once pool pool1 pool2 h space r range same may cuts freed = (
+  record h { space = freed.frees.between },
+  record {
+    may = subst (λ k. MayRetire h.space.pieces k) (sym same) may;
+    mark = cuts.mark;
+    retires = freed.frees.retires;
+    is_space = freed.frees.is_space;
+    count = cuts.count;
+    moves = cuts.moves;
+    unmaps = cuts.unmaps;
+    split = cuts.split;
+    is_pool = cuts.is_pool;
+    same = refl;
+  },
+  record {
+    frees = freed.frees.frees;
+    is_space = freed.is_space;
+    free = freed.free;
+    words = freed.words;
+    frames = freed.frames;
+    is_pool = freed.is_pool;
+  },
+  refl,
+)
 
 -- ---- pages that can be unmapped
 

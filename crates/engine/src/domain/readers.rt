@@ -9,25 +9,24 @@ ghost use Rattle.engine.specs.Totals.{held_by, live_pages, totals_of_domain};
 use super::Domain;
 use crate::record::Record;
 use crate::state::{DomainTotals, RetiredRecord};
-use iova::{PageState, Piece};
+use iova::{Iter, PageState};
 
 impl Domain {
     /// What the domain has.
     pub(crate) fn totals(&self) -> DomainTotals
         ensures { result ≡ totals_of_domain self.now }
     {
-        let pieces = self.space.pieces();
         DomainTotals {
             mode: self.mode,
-            live: live_pages(pieces),
+            live: live_pages(self.space.pieces()),
             retired: self.records.len() as u64,
-            pieces: pieces.len() as u64,
+            pieces: self.space.piece_count() as u64,
         }
     }
 
     /// The pieces of its address space.
-    pub(crate) fn pieces(&self) -> &[Piece]
-        ensures { result.now ≡ self.now.space.pieces }
+    pub(crate) fn pieces(&self) -> Iter<'_>
+        ensures { result ≡ self.now.space.pieces }
     {
         self.space.pieces()
     }
@@ -66,11 +65,11 @@ fn held_by(records: &[Record]) -> u64
 }
 
 // How many pages of the pieces are live.
-fn live_pages(pieces: &[Piece]) -> u64
-    requires ordered { IsOrdered 1 pieces.now }
-    requires narrow { All (λ p. p.last < 2 ^ 40) pieces.now }
-    requires few { length pieces.now ≤ 1024 }
-    ensures { result ≡ live_pages pieces.now }
+fn live_pages(pieces: Iter<'_>) -> u64
+    requires ordered { IsOrdered 1 pieces }
+    requires narrow { All (λ p. p.last < 2 ^ 40) pieces }
+    requires few { length pieces ≤ 1024 }
+    ensures { result ≡ live_pages pieces.entry }
 {
     let mut live = 0;
     for piece in pieces {

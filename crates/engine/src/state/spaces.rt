@@ -6,7 +6,7 @@ ghost use Rattle.engine.specs.Spaces.{pieces_of, retired_record_of};
 
 use super::{State, place_of};
 use dmatypes::PageRange;
-use iova::Piece;
+use iova::Iter;
 use vtdbits::DomainId;
 
 /// Pages that were unmapped and may still be used, and how many flushes of their domain were begun when they were.
@@ -18,8 +18,8 @@ pub struct RetiredRecord {
 
 impl State {
     /// The pieces of a domain's address space, in the order of their pages; `None` exactly where there is no such domain.
-    pub fn pieces_of(&self, id: u64) -> Option<&[Piece]>
-        ensures some { IfSome result (λ pieces. pieces_of (domain_at self.now.domains id) ≡ Some pieces.now) }
+    pub fn pieces_of(&self, id: u64) -> Option<Iter<'_>>
+        ensures some { IfSome result (λ pieces. pieces_of (domain_at self.now.domains id) ≡ Some pieces) }
         ensures none { IfNone result (domain_at self.now.domains id ≡ None) }
     {
         let domains = &self.domains;

@@ -78,6 +78,12 @@ fn hit_by_words<B: Owner, R: Wait + Abort>(rt: &R, alloc: Global, seed: Seed) ->
         port.hit(&rows, 0x11234, Access::Read),
         (Some(0x11_0234), 6)
     );
+    // A check-in empties no word.
+    manager.check_in(rt, &rows, &mut mine, &mut port);
+    assert_eq!(rt;
+        port.hit(&rows, 0x11234, Access::Read),
+        (Some(0x11_0234), 6)
+    );
     let _ = manager.call(rt, &rows, &mut mine, unmap_at(0x11000));
     assert_eq!(rt; port.hit(&rows, 0x11234, Access::Read), (None, 7));
     assert_eq!(rt; port.count(&rows), 7);

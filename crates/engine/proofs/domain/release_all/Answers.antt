@@ -1,22 +1,15 @@
 use Rattle.std.proofs.Common.{◌∙◌}
-use Rattle.engine.proofs.flushes.MayRelease.{releasing_in, releasing_one, releasing_step}
+use Rattle.engine.proofs.flushes.Together.{releasing_among, releasing_last}
 use Rattle.engine.proofs.domain.release_all.Goals as goal
 
-pub release-requires : goal.release-requires
-release-requires c = record {
-  can =
-      releasing_one c.args.pool.now c.loop-retired.pool c.args.space.now c.loop-retired.space c.args.records.now.items c.pop.new.self.items
-      c.in-Some.retired (rw c.in-Some.ensures.items at c.loop-retired.invariant.0);
-  invalidated =
-      c.requires.invalidated c.in-Some.retired
-      (releasing_in c.args.pool.now c.loop-retired.pool c.args.space.now c.loop-retired.space c.args.records.now.items
-      c.pop.new.self.items c.in-Some.retired (rw c.in-Some.ensures.items at c.loop-retired.invariant.0));
-}
+pub release_last-requires-clause-invalidated : goal.release_last-requires-clause-invalidated
+release_last-requires-clause-invalidated c r inside =
+    c.requires.invalidated r (releasing_among c.args.pool.now c.loop-id.pool c.args.space.now c.loop-id.space c.args.records.now.items
+    c.loop-id.records.items c.loop-id.invariant.0 r inside)
 
-pub loop-retired-preserved : goal.loop-retired-preserved
-loop-retired-preserved c = (
-  releasing_step c.args.pool.now c.loop-retired.pool c.args.space.now c.loop-retired.space c.args.records.now.items c.pop.new.self.items
-      c.in-Some.retired (rw c.in-Some.ensures.items at c.loop-retired.invariant.0) c.release.new.pool c.release.new.space
-      c.release.ensures.released c.release.ensures.retirable c.release.ensures.more,
-  c.pop.ensures.capacity ∙ c.loop-retired.invariant.1,
+pub loop-id-preserved : goal.loop-id-preserved
+loop-id-preserved c = (
+  releasing_last c.args.pool.now c.loop-id.pool c.release_last.new.pool c.args.space.now c.loop-id.space c.release_last.new.space
+      c.args.records.now.items c.loop-id.records.items c.release_last.new.records.items c.loop-id.invariant.0 c.release_last.ensures.released,
+  c.release_last.ensures.room ∙ c.loop-id.invariant.1,
 )

@@ -1,67 +1,90 @@
-use Rattle.std.proofs.Common.{arith, ◌≡◌, ap, subst, sym}
+use Rattle.std.proofs.Common.{◌≡◌, ◌∙◌, ◌+◌, ◌-◌, List, length, ap, subst, sym, arith}
 use Rattle.dmatypes.specs.World.{IsIn}
-use Rattle.iova.specs.Pieces.{piece_of, with_free}
+use Rattle.iova.specs.declared.beside.Ends.{Ends}
+use Rattle.iova.specs.declared.piece.Piece.{Piece}
+use Rattle.iova.specs.declared.piece.PageState.TheVariants.{Free}
+use Rattle.iova.specs.Pieces.{freed, piece_of, with_free}
 use Rattle.iova.specs.Space.{Space, IsSpace}
 use Rattle.iova.specs.Changes.{Frees}
-use Rattle.iova.proofs.Keep.{space_bounded}
-use Rattle.iova.proofs.Place.{IsPlace}
-use Rattle.iova.proofs.Freed.{freed_is, freed_place, frees, space_freed}
+use Rattle.iova.specs.Stored.{stored}
+use Rattle.iova.specs.Tree.{IsPiece}
+use Rattle.iova.specs.Way.{pages_as}
+use Rattle.iova.proofs.Freed.{frees, space_freed}
+use Rattle.iova.proofs.searches.FreeEnds.{freed_piece}
+use Rattle.iova.proofs.searches.Holding.{as_range}
+use Rattle.iova.proofs.shapes.Tall.{kept_self, kept_view}
 use Rattle.iova.proofs.space.Space.free.Goals as goal
 
-pub free-requires-clause-bounded : goal.free-requires-clause-bounded
-free-requires-clause-bounded c =
-    space_bounded (record { last = c.self.inside.last; pieces = c.self.inside.pieces.items }) c.self.invariant.0
+pub hold-held-requires-clause-piece : goal.hold-held-requires-clause-piece
+hold-held-requires-clause-piece c = (
+  c.requires.0,
+  subst (λ p. IsIn p (stored c.self.inside.last c.self.inside.root c.self.inside.nodes).pieces)
+      (sym (as_range c.first-first.result c.pages.result c.args.range c.requires.0 c.first-first.ensures.value c.pages.ensures.value))
+      (subst (λ (v : Space). IsIn (piece_of c.args.range c.requires.0) v.pieces) (sym c.self.view_is) c.requires.1),
+)
 
-pub free-requires-clause-at : goal.free-requires-clause-at
-free-requires-clause-at c =
-    let a : Space = record { last = c.self.inside.last; pieces = c.self.inside.pieces.items } in
-    let there : IsIn (piece_of c.args.range c.requires.0) a.pieces =
-    subst (λ v. IsIn (piece_of c.args.range c.requires.0) v.pieces) (sym c.self.view_is) c.requires.1 in
-    let place : IsPlace c.deref.result.now c.first.result c.place-at.result =
-    record { within = c.place-at.ensures.within; before = c.place-at.ensures.before; here = c.place-at.ensures.here } in
-    (freed_place a (piece_of c.args.range c.requires.0) c.first.result c.place-at.result c.deref.result.now c.self.invariant.0 there
-    c.first.ensures.value c.deref.ensures.value place).0
+pub free-self-inside-requires-clause-few : goal.free-self-inside-requires-clause-few
+free-self-inside-requires-clause-few c =
+    let a : Space = stored c.self.inside.last c.self.inside.root c.self.inside.nodes in
+    let q : Piece = piece_of c.args.range c.requires.0 in
+    let there : IsIn q a.pieces = subst (λ (v : Space). IsIn q v.pieces) (sym c.self.view_is) c.requires.1 in
+    let pages : Ends = record { first = c.first-first.result; last = c.first-first.result + c.pages.result - 1 } in
+    let same : with_free (pages_as pages Free) a.pieces ≡ with_free q a.pieces =
+    ap (λ p. with_free p a.pieces) (as_range c.first-first.result c.pages.result c.args.range Free c.first-first.ensures.value
+    c.pages.ensures.value) in
+    let few = (space_freed a q c.self.invariant.1 there).few in
+    let e = ap (λ (ps : List Piece). length ps) same in
+    omega arith
+
+pub free-self-inside-requires-clause-piece : goal.free-self-inside-requires-clause-piece
+free-self-inside-requires-clause-piece c =
+    let a : Space = stored c.self.inside.last c.self.inside.root c.self.inside.nodes in
+    let q : Piece = piece_of c.args.range c.requires.0 in
+    let there : IsIn q a.pieces = subst (λ (v : Space). IsIn q v.pieces) (sym c.self.view_is) c.requires.1 in
+    subst (λ p. IsPiece (freed p a.pieces)) (sym (as_range c.first-first.result c.pages.result c.args.range Free
+    c.first-first.ensures.value c.pages.ensures.value)) (freed_piece a q c.self.invariant.1 there)
 
 pub invariant_of-self : goal.invariant_of-self
 invariant_of-self c =
-    let a : Space = record { last = c.self.inside.last; pieces = c.self.inside.pieces.items } in
-    let there : IsIn (piece_of c.args.range c.requires.0) a.pieces =
-    subst (λ v. IsIn (piece_of c.args.range c.requires.0) v.pieces) (sym c.self.view_is) c.requires.1 in
-    let place : IsPlace c.deref.result.now c.first.result c.place-at.result =
-    record { within = c.place-at.ensures.within; before = c.place-at.ensures.before; here = c.place-at.ensures.here } in
-    let is : c.free.new.pieces.items ≡ with_free (piece_of c.args.range c.requires.0) a.pieces =
-    freed_is a (piece_of c.args.range c.requires.0) c.first.result c.place-at.result c.deref.result.now c.free.new.pieces.items
-    c.self.invariant.0 there c.first.ensures.value c.deref.ensures.value place c.free.ensures.items in (
-      subst (λ ps. IsSpace (record { last = a.last; pieces = ps })) (sym is)
-          (space_freed a (piece_of c.args.range c.requires.0) c.self.invariant.0 there),
-      omega (arith, c.free.ensures.capacity, c.self.invariant.1),
+    let a : Space = stored c.self.inside.last c.self.inside.root c.self.inside.nodes in
+    let q : Piece = piece_of c.args.range c.requires.0 in
+    let there : IsIn q a.pieces = subst (λ (v : Space). IsIn q v.pieces) (sym c.self.view_is) c.requires.1 in
+    let pages : Ends = record { first = c.first-first.result; last = c.first-first.result + c.pages.result - 1 } in
+    let same : with_free (pages_as pages Free) a.pieces ≡ with_free q a.pieces =
+    ap (λ p. with_free p a.pieces) (as_range c.first-first.result c.pages.result c.args.range Free c.first-first.ensures.value
+    c.pages.ensures.value) in (
+      kept_self c.free-self-inside.result c.free-self-inside.new.nodes (with_free (pages_as pages Free) a.pieces)
+          c.free-self-inside.ensures,
+      subst (λ ps. IsSpace (record a { pieces = ps })) (sym (kept_view c.free-self-inside.result c.free-self-inside.new.nodes
+          (with_free (pages_as pages Free) a.pieces) c.free-self-inside.ensures ∙ same)) (space_freed a q c.self.invariant.1 there),
+      tt,
     )
 
 pub returns-clause-freed : goal.returns-clause-freed
 returns-clause-freed c state among =
-    let a : Space = record { last = c.self.inside.last; pieces = c.self.inside.pieces.items } in
-    let new : Space = record { last = a.last; pieces = c.free.new.pieces.items } in
-    let there : IsIn (piece_of c.args.range state) a.pieces =
-    subst (λ v. IsIn (piece_of c.args.range state) v.pieces) (sym c.self.view_is) among in
-    let place : IsPlace c.deref.result.now c.first.result c.place-at.result =
-    record { within = c.place-at.ensures.within; before = c.place-at.ensures.before; here = c.place-at.ensures.here } in
-    let is : c.free.new.pieces.items ≡ with_free (piece_of c.args.range state) a.pieces =
-    freed_is a (piece_of c.args.range state) c.first.result c.place-at.result c.deref.result.now c.free.new.pieces.items c.self.invariant.0
-    there c.first.ensures.value c.deref.ensures.value place c.free.ensures.items in
-    subst (λ v. Frees v new c.args.range state) c.self.view_is (frees a new c.args.range state c.self.invariant.0 c.first.ensures.range.some
-    there (ap (λ ps. record { last = a.last; pieces = ps }) is))
+    let a : Space = stored c.self.inside.last c.self.inside.root c.self.inside.nodes in
+    let q : Piece = piece_of c.args.range state in
+    let there : IsIn q a.pieces = subst (λ (v : Space). IsIn q v.pieces) (sym c.self.view_is) among in
+    let pages : Ends = record { first = c.first-first.result; last = c.first-first.result + c.pages.result - 1 } in
+    let same : with_free (pages_as pages Free) a.pieces ≡ with_free q a.pieces =
+    ap (λ p. with_free p a.pieces) (as_range c.first-first.result c.pages.result c.args.range Free c.first-first.ensures.value
+    c.pages.ensures.value) in
+    let new : Space = stored c.self.inside.last c.free-self-inside.result c.free-self-inside.new.nodes in
+    subst (λ v. Frees v new c.args.range state) c.self.view_is
+    (frees a new c.args.range state c.self.invariant.1 c.first-first.ensures.range.some there
+    (ap (λ ps. record a { pieces = ps }) (kept_view c.free-self-inside.result c.free-self-inside.new.nodes
+    (with_free (pages_as pages Free) a.pieces) c.free-self-inside.ensures ∙ same)))
 
 pub returns-clause-space : goal.returns-clause-space
 returns-clause-space c =
-    let a : Space = record { last = c.self.inside.last; pieces = c.self.inside.pieces.items } in
-    let there : IsIn (piece_of c.args.range c.requires.0) a.pieces =
-    subst (λ v. IsIn (piece_of c.args.range c.requires.0) v.pieces) (sym c.self.view_is) c.requires.1 in
-    let place : IsPlace c.deref.result.now c.first.result c.place-at.result =
-    record { within = c.place-at.ensures.within; before = c.place-at.ensures.before; here = c.place-at.ensures.here } in
-    let is : c.free.new.pieces.items ≡ with_free (piece_of c.args.range c.requires.0) a.pieces =
-    freed_is a (piece_of c.args.range c.requires.0) c.first.result c.place-at.result c.deref.result.now c.free.new.pieces.items
-    c.self.invariant.0 there c.first.ensures.value c.deref.ensures.value place c.free.ensures.items in (
-      subst (λ v. IsSpace v) c.self.view_is c.self.invariant.0,
-      subst (λ ps. IsSpace (record { last = a.last; pieces = ps })) (sym is)
-          (space_freed a (piece_of c.args.range c.requires.0) c.self.invariant.0 there),
+    let a : Space = stored c.self.inside.last c.self.inside.root c.self.inside.nodes in
+    let q : Piece = piece_of c.args.range c.requires.0 in
+    let there : IsIn q a.pieces = subst (λ (v : Space). IsIn q v.pieces) (sym c.self.view_is) c.requires.1 in
+    let pages : Ends = record { first = c.first-first.result; last = c.first-first.result + c.pages.result - 1 } in
+    let same : with_free (pages_as pages Free) a.pieces ≡ with_free q a.pieces =
+    ap (λ p. with_free p a.pieces) (as_range c.first-first.result c.pages.result c.args.range Free c.first-first.ensures.value
+    c.pages.ensures.value) in (
+      subst (λ v. IsSpace v) c.self.view_is c.self.invariant.1,
+      subst (λ ps. IsSpace (record a { pieces = ps })) (sym (kept_view c.free-self-inside.result c.free-self-inside.new.nodes
+          (with_free (pages_as pages Free) a.pieces) c.free-self-inside.ensures ∙ same)) (space_freed a q c.self.invariant.1 there),
     )

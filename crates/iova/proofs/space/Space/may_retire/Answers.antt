@@ -1,30 +1,26 @@
-use Rattle.std.proofs.Common.{arith, ◌<◌, subst, sym}
-use Rattle.std.specs.List.{All, HoldsAt}
-use Rattle.iova.specs.declared.list.TheConstants.{NUMBERS_END}
-use Rattle.dmatypes.specs.Page.{Range}
+use Rattle.std.proofs.Common.{◌≡◌, ◌≢◌, ◌∙◌, Some, refl, sym, subst, arith}
+use Rattle.dmatypes.specs.Page.{IsWithin, Range}
 use Rattle.iova.specs.declared.piece.PageState.TheVariants.{Live}
-use Rattle.iova.specs.Pieces.{AllIn, Holds}
+use Rattle.iova.specs.Pieces.{state_at}
 use Rattle.iova.specs.Space.{Space}
-use Rattle.iova.proofs.Keep.{is_some, space_bounded}
-use Rattle.iova.proofs.Place.{IsPlace, place_holds}
+use Rattle.iova.specs.Stored.{pieces_of}
+use Rattle.iova.proofs.Taken.{same_range}
+use Rattle.iova.proofs.searches.CutAt.{witness}
 use Rattle.iova.proofs.space.Space.may_retire.Goals as goal
 
-pub live_end-requires-clause-bounded : goal.live_end-requires-clause-bounded
-live_end-requires-clause-bounded c =
-    subst (λ ps. All (λ p. p.last < NUMBERS_END) ps) (sym c.deref-2.ensures.value)
-    (space_bounded (record { last = c.self.inside.last; pieces = c.self.inside.pieces.items }) c.self.invariant.0)
-
-pub cuts_piece-requires-clause-first : goal.cuts_piece-requires-clause-first
-cuts_piece-requires-clause-first c =
-    let a : Space = record { last = c.self.inside.last; pieces = c.self.inside.pieces.items } in
+pub returns-then-is_some-clause-not_live : goal.returns-then-is_some-clause-not_live
+returns-then-is_some-clause-not_live c =
     let range : Range = record { first = c.first-first.result; pages = c.pages.result } in
-    let live : AllIn Live range a.pieces = subst (λ ps. AllIn Live range ps) c.deref-2.ensures.value c.in-Some.ensures.live in
-    let place : IsPlace c.deref.result.now c.first-first.result c.place-from.result =
-    record { within = c.place-from.ensures.within; before = c.place-from.ensures.before; here = c.place-from.ensures.here } in
-    let there =
-    place_holds a.pieces c.place-from.result range.first c.self.invariant.0.ordered
-    (is_some a.pieces range.first Live
-    (live range.first (omega arith, omega (arith, c.pages.ensures.value, c.pages.ensures.range.some))))
-    (subst (λ ps. IsPlace ps range.first c.place-from.result) c.deref.ensures.value place) in
-    subst (λ ps. HoldsAt (λ p. Holds p c.first-first.result) ps c.place-from.result)
-    (sym c.deref-then-len-gt-MOST_PIECES_TO_CUT.ensures.value) there.1
+    let is : range ≡ c.args.range = same_range c.first-first.result c.pages.result c.args.range c.first-first.ensures.value
+    c.pages.ensures.value in
+    let w = witness c.not_live.result (IsWithin range) (λ page. state_at (pieces_of c.self.inside.nodes c.self.inside.root) page ≢
+    Some Live) (sym c.is_some.ensures ∙ c.if-is_some.true) c.not_live.ensures.within c.not_live.ensures.state in (
+      (λ e. (w.0, subst (λ k. IsWithin k w.0) is w.1, subst (λ (v : Space). state_at v.pieces w.0 ≢ Some Live) c.self.view_is w.2)),
+      (λ h. refl),
+    )
+
+pub cuts_piece-requires-clause-range : goal.cuts_piece-requires-clause-range
+cuts_piece-requires-clause-range c =
+    let r = c.first-first.ensures.range in
+    let narrow = (r.members c.args.range.first (omega arith, omega (arith, r.some))).1 in
+    omega (arith, narrow, r.few, c.first-first.ensures.value, c.pages-then-len-gt-MOST_PIECES_TO_CUT.ensures.value)

@@ -1,0 +1,13 @@
+use Rattle.slab.specs.Slab.{get}
+use Rattle.iova.specs.Search.{end_above}
+use Rattle.iova.specs.Tree.{at_root}
+use Rattle.iova.proofs.searches.Found.{node_height}
+use Rattle.iova.proofs.searches.Beside.{IsSaying}
+use Rattle.iova.proofs.beside.end_of.Given as goal
+
+-- what is left says with what is found what all says with what was known
+abbrev pub invariant-loop-at : goal.invariant-loop-at
+invariant-loop-at l = IsSaying (get l.nodes) l.fn.root l.at (λ ps. end_above ps l.last) l.known l.found
+
+abbrev pub decreases-loop-at : goal.decreases-loop-at
+decreases-loop-at l = node_height (at_root (get l.nodes) l.at)

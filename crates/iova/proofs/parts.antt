@@ -1,0 +1,9 @@
+pub mod Parts
+pub mod Ends
+pub mod Trims
+pub mod Added
+pub mod Over
+pub mod Covered
+pub mod PutIn
+pub mod PutUp
+pub mod Filled

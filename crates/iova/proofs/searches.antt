@@ -1,0 +1,12 @@
+pub mod Fit
+pub mod Found
+pub mod CutAt
+pub mod FreeEnds
+pub mod Narrowed
+pub mod Walked
+pub mod Walk
+pub mod Beside
+pub mod Descent
+pub mod Seeking
+pub mod Holding
+pub mod Touching

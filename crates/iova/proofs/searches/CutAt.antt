@@ -1,0 +1,108 @@
+-- Whether a range cuts a piece, by the pieces of its first and of its last page; and no fit where no piece has room.
+use Rattle.std.proofs.Common.{◌≡◌, ℕ, ◌+◌, ◌<◌, ◌≤◌, ◌⊎◌, List, [], ◌∷◌, ◌++◌, Option, Some, None, IsSome, IfSome, true, refl, ap, sym}
+use Rattle.std.proofs.Common.{◌∙◌, inl, inr, subst, arith}
+use Rattle.std.specs.List.{AllByRecursion}
+use Rattle.dmatypes.specs.Page.{Range}
+use Rattle.dmatypes.specs.World.{IsIn}
+use Rattle.iova.specs.declared.piece.Piece.{Piece}
+use Rattle.iova.specs.declared.piece.PageState.TheVariants.{Free}
+use Rattle.iova.specs.Pieces.{Holds, IsOrdered, state_at}
+use Rattle.iova.specs.Space.{CutsPiece, IsFit}
+use Rattle.iova.specs.Search.{piece_at, HasNoRoom}
+use Rattle.std.specs.Option.{is_some}
+use Rattle.iova.specs.Tree.{Shape, Empty, Fork, items, ArePieces, IsPiece}
+use Rattle.iova.proofs.Pieces.{order, state-nil}
+use Rattle.iova.proofs.Puts.{none_some}
+use Rattle.iova.proofs.Among.{in_one}
+use Rattle.iova.proofs.searches.Fit.{fits_tail}
+use Rattle.iova.proofs.searches.Found.{at-nil, at-here, at-under, at-past}
+use Rattle.iova.proofs.parts.Filled.{its_state, state_is}
+
+pub at_in : (ps : List Piece) (page : ℕ) (q : Piece) → piece_at ps page ≡ Some q → IsIn q ps × Holds q page
+at_in [] page q e = absurd (let f = at-nil page in cc)
+at_in (p ∷ ps) page q e =
+    elim (order p.first page) [
+      | inl k ↦ elim (order page p.last) [
+        | inl m ↦ let f = at-here p ps page k m in let same : p ≡ q = cc in (inl (sym same), subst (λ x. Holds x page) same (k, m))
+        | inr m ↦ let i = at_in ps page q (sym (at-past p ps page m) ∙ e) in (inr i.0, i.1)
+      ]
+      | inr k ↦ let i = at_in ps page q (sym (at-under p ps page k) ∙ e) in (inr i.0, i.1)
+    ]
+
+some_of : (o : Option Piece) → IsSome (its_state o) → IsSome o
+some_of None h = h
+some_of (Some p) h = refl
+
+pub at_some : (ps : List Piece) (page : ℕ) → IsSome (state_at ps page) → IsSome (piece_at ps page)
+at_some ps page h = some_of (piece_at ps page) (subst (λ o. IsSome o) (sym (state_is ps page)) h)
+
+pub cut_low : (ps : List Piece) (range : Range) (q : Piece) → 1 ≤ range.pages → piece_at ps range.first ≡ Some q → q.first < range.first
+    → CutsPiece ps range
+cut_low ps range q pos e h =
+    let i = at_in ps range.first q e in (
+      q,
+      i.0,
+      record {
+        some = (range.first, i.1, (omega arith, omega arith));
+        not_all = (q.first, (omega arith, omega (arith, i.1)), (λ w. omega (arith, w.0)));
+      },
+    )
+
+pub cut_high : (ps : List Piece) (range : Range) (last : ℕ) (q : Piece) → 1 ≤ range.pages → last + 1 ≡ range.first + range.pages
+    → piece_at ps last ≡ Some q → last < q.last → CutsPiece ps range
+cut_high ps range last q pos l e h =
+    let i = at_in ps last q e in (
+      q,
+      i.0,
+      record {
+        some = (last, i.1, (omega arith, omega arith));
+        not_all = (q.last, (omega (arith, i.1), omega arith), (λ w. omega (arith, w.1)));
+      },
+    )
+
+pub cut_none : (ps : List Piece) (range : Range) (last : ℕ) (q r : Piece) → IsOrdered 1 ps → last + 1 ≡ range.first + range.pages
+    → piece_at ps range.first ≡ Some q → piece_at ps last ≡ Some r → range.first ≤ q.first → r.last ≤ last → CutsPiece ps range → ⊥
+cut_none ps range last q r o l e f h k c =
+    let i = at_in ps range.first q e in
+    let j = at_in ps last r f in
+    let p = c.0 in
+    let x = c.2.some.0 in
+    let y = c.2.not_all.0 in
+    elim (order range.first y) [
+      | inr low ↦
+          let same : q ≡ p = in_one 1 q p ps range.first o i.0 c.1 i.1
+          (omega (arith, c.2.not_all.1), omega (arith, c.2.some.1, c.2.some.2)) in
+          let g : q.first ≡ p.first = ap (λ (z : Piece). z.first) same in
+          omega (arith, c.2.not_all.1)
+      | inl high ↦ elim (order (y + 1) (range.first + range.pages)) [
+        | inl within ↦ c.2.not_all.2 (high, omega arith)
+        | inr past ↦
+            let same : r ≡ p = in_one 1 r p ps last o j.0 c.1 j.1 (omega (arith, c.2.some.1, c.2.some.2), omega (arith, c.2.not_all.1)) in
+            let g : r.last ≡ p.last = ap (λ (z : Piece). z.last) same in
+            omega (arith, c.2.not_all.1)
+      ]
+    ]
+
+pub no_fit : (from pages unit : ℕ) (ps : List Piece) → IsOrdered from ps → 1 ≤ pages → AllByRecursion (HasNoRoom pages unit) ps → (t : ℕ)
+    → IsFit ps pages unit t → ⊥
+no_fit from pages unit [] o pos n t f = none_some [] t Free (state-nil t) (f.free t (omega arith, omega arith))
+no_fit from pages unit (p ∷ ps) o pos n t f = no_fit (p.last + 1) pages unit ps o.3 pos n.1 t
+    (fits_tail from p ps pages unit t o n.0 pos f)
+
+in_split : (xs ys : List Piece) (q : Piece) → IsIn q (xs ++ ys) → IsIn q xs ⊎ IsIn q ys
+in_split [] ys q i = inr i
+in_split (x ∷ xs) ys q (inl e) = inl (inl e)
+in_split (x ∷ xs) ys q (inr i) = elim (in_split xs ys q i) [ inl a ↦ inl (inr a) | inr b ↦ inr b ]
+
+pub items_fine : (t : Shape) (q : Piece) → ArePieces t → IsIn q (items t) → IsPiece q
+items_fine Empty q a i = absurd i
+items_fine (Fork k p l r) q a i =
+    elim (in_split (items l) (p ∷ items r) q i) [
+      | inl x ↦ items_fine l q a.1 x
+      | inr (inl e) ↦ subst (λ z. IsPiece z) (sym e) a.0
+      | inr (inr y) ↦ items_fine r q a.2 y
+    ]
+
+pub witness : (o : Option ℕ) (P Q : ℕ → Type 0) → is_some o ≡ true → IfSome o P → IfSome o Q → (x : ℕ) × P x × Q x
+witness None P Q e p q = absurd (cc)
+witness (Some x) P Q e p q = (x, p, q)

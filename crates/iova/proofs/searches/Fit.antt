@@ -1,0 +1,127 @@
+-- The lowest aligned start.
+use Rattle.std.proofs.Common.{◌≡◌, ℕ, suc, ◌+◌, ◌*◌, ◌/◌, ◌%◌, ◌<◌, ◌≤◌, List, [], ◌∷◌, length, drop, get_or, Some, ap, sym, ◌∙◌, inl}
+use Rattle.std.proofs.Common.{inr}
+use Rattle.std.proofs.Common.{subst, refl, arith, IsTrue, false, drop-cons, add-one}
+use Rattle.std.proofs.Math.Nat.{div-add-mod, mul-le-mul_left, lt_of_mul-lt-mul_left}
+use Rattle.iova.specs.declared.piece.PageState.{PageState}
+use Rattle.iova.specs.declared.piece.PageState.TheVariants.{Free, Live, Retired}
+use Rattle.iova.specs.declared.piece.Piece.{Piece}
+use Rattle.iova.specs.Pieces.{is_free, state_at, Touches, IsOrdered}
+use Rattle.iova.specs.Space.{IsFit, IsLowestFit}
+use Rattle.iova.specs.Search.{IsRoundUp, HasNoRoom}
+use Rattle.iova.proofs.Pieces.{order, state-here, state-past, state-nil, state_none}
+use Rattle.iova.proofs.Puts.{none_some}
+
+-- a multiple of the unit is unit times a quotient
+quotient : (m unit : ℕ) → m % unit ≡ 0 → m ≡ unit * (m / unit)
+quotient m unit e = sym (div-add-mod m unit) ∙ ap (λ r. unit * (m / unit) + r) e ∙ omega arith
+
+pub round_up : (page unit up : ℕ) → up % unit ≡ 0 → page ≤ up → up < page + unit → IsRoundUp page unit up
+round_up page unit up e l h = (
+  e,
+  l,
+  (λ other f k. elim (order up other) [
+    | inl x ↦ x
+    | inr x ↦
+        let q : up ≡ unit * (up / unit) = quotient up unit e in
+        let r : other ≡ unit * (other / unit) = quotient other unit f in
+        let less : other / unit < up / unit = lt_of_mul-lt-mul_left unit (omega (arith, q, r, x)) in
+        let more : unit * (other / unit + 1) ≤ unit * (up / unit) = mul-le-mul_left unit (omega (arith, less)) in
+        let next : unit * (other / unit + 1) ≡ unit * (other / unit) + unit = grind arith in
+        absurd (omega (arith, q, r, more, next, h, k))
+  ]),
+)
+
+pub is_free_at : (u : PageState) → Some u ≡ Some Free → IsTrue (is_free u)
+is_free_at Free h = refl
+is_free_at Live h = absurd (cc)
+is_free_at Retired h = absurd (cc)
+
+pub touching : (p : Piece) (ps : List Piece) → IsOrdered (p.last + 1) ps → IsTrue (is_free p.state) → state_at ps (p.last + 1) ≡ Some Free
+    → Touches p ps
+touching p [] o f e = absurd (none_some [] (p.last + 1) Free (state-nil (p.last + 1)) e)
+touching p (q ∷ ps) o f e =
+    elim (order q.first (p.last + 1)) [
+      | inl h ↦ (f, is_free_at q.state (sym (state-here q ps (p.last + 1) h (omega arith)) ∙ e), omega arith)
+      | inr h ↦ absurd (none_some (q ∷ ps) (p.last + 1) Free (state_none q.first (q ∷ ps) (p.last + 1) (omega arith, o.1, o.2, o.3) h) e)
+    ]
+
+pub fits_here : (from : ℕ) (p : Piece) (ps : List Piece) (pages unit up : ℕ) → IsOrdered from (p ∷ ps) → p.state ≡ Free
+    → IsRoundUp p.first unit up → up + pages ≤ p.last + 1 → 1 ≤ pages → IsLowestFit (p ∷ ps) pages unit up
+fits_here from p ps pages unit up o f r h pos = record {
+  fit = record {
+    aligned = r.0;
+    free = λ page w. state-here p ps page (omega (arith, r.1, w.0)) (omega (arith, w.1))
+        ∙ ap (λ u. Some u) f;
+  };
+  lowest = λ other fits. elim (order p.first other) [
+    | inl k ↦ r.2 other fits.aligned k
+    | inr k ↦
+        absurd (none_some (p ∷ ps) other Free (state_none p.first (p ∷ ps) other (omega arith, o.1, o.2, o.3) k)
+        (fits.free other (omega arith, omega arith)))
+  ];
+}
+
+pub fits_tail : (from : ℕ) (p : Piece) (ps : List Piece) (pages unit t : ℕ) → IsOrdered from (p ∷ ps) → HasNoRoom pages unit p → 1 ≤ pages
+    → IsFit (p ∷ ps) pages unit t → IsFit ps pages unit t
+fits_tail from p ps pages unit t o n pos f =
+    elim (order p.first t) [
+      | inr k ↦
+          absurd (none_some (p ∷ ps) t Free (state_none p.first (p ∷ ps) t (omega arith, o.1, o.2, o.3) k)
+          (f.free t (omega arith, omega arith)))
+      | inl k ↦ elim (order t p.last) [
+        | inr l ↦ record { aligned = f.aligned; free = λ page w. sym (state-past p ps page (omega (arith, w.0))) ∙ f.free page w }
+        | inl l ↦
+            let free : IsTrue (is_free p.state) = is_free_at p.state (sym (state-here p ps t k l) ∙ f.free t (omega arith, omega arith))
+            in
+            elim (order (t + pages) (p.last + 1)) [
+              | inl m ↦ absurd (n free t k f.aligned m)
+              | inr m ↦
+                  absurd (o.2 (touching p ps o.3 free
+                  (sym (state-past p ps (p.last + 1) (omega arith)) ∙ f.free (p.last + 1) (omega arith, m))))
+            ]
+      ]
+    ]
+
+pub fits_cons : (from : ℕ) (p : Piece) (ps : List Piece) (pages unit t : ℕ) → IsOrdered from (p ∷ ps) → 1 ≤ pages → IsFit ps pages unit t
+    → IsFit (p ∷ ps) pages unit t
+fits_cons from p ps pages unit t o pos f =
+    elim (order t p.last) [
+      | inl k ↦ absurd (none_some ps t Free (state_none (p.last + 1) ps t o.3 (omega arith)) (f.free t (omega arith, omega arith)))
+      | inr k ↦ record { aligned = f.aligned; free = λ page w. state-past p ps page (omega (arith, w.0)) ∙ f.free page w }
+    ]
+
+-- the pieces from an index on have the fits of all
+pub record Ahead (all rest : List Piece) (pages unit : ℕ) : Type 0 where
+  pub from : ℕ
+  pub ordered : IsOrdered from rest
+  pub into : (t : ℕ) → IsFit all pages unit t → IsFit rest pages unit t
+  pub back : (t : ℕ) → IsFit rest pages unit t → IsFit all pages unit t
+
+pub ahead_more : (all : List Piece) (p : Piece) (ps : List Piece) (pages unit : ℕ) → 1 ≤ pages → HasNoRoom pages unit p
+    → Ahead all (p ∷ ps) pages unit → Ahead all ps pages unit
+ahead_more all p ps pages unit pos n a = record {
+  from = p.last + 1;
+  ordered = a.ordered.3;
+  into = λ t f. fits_tail a.from p ps pages unit t a.ordered n pos (a.into t f);
+  back = λ t f. a.back t (fits_cons a.from p ps pages unit t a.ordered pos f);
+}
+
+-- where the first aligned page doesn't leave enough pages, none does
+pub no_room : (p : Piece) (pages unit up : ℕ) → IsRoundUp p.first unit up → p.last + 1 < up + pages → HasNoRoom pages unit p
+no_room p pages unit up r h free t a b l = let k : up ≤ t = r.2 t b a in absurd (omega arith)
+
+pub free_state : (u : PageState) → IsTrue (is_free u) → u ≡ Free
+free_state Free h = refl
+free_state Live h = absurd (cc)
+free_state Retired h = absurd (cc)
+
+pub not_free : (p : Piece) (pages unit : ℕ) → is_free p.state ≡ false → HasNoRoom pages unit p
+not_free p pages unit e free t a b l = absurd (cc)
+
+-- the same at an index of the list
+pub step_at : (all : List Piece) (i : ℕ) (d : Piece) (pages unit : ℕ) → i < length all → 1 ≤ pages → HasNoRoom pages unit (get_or all i d)
+    → Ahead all (drop i all) pages unit → Ahead all (drop (i + 1) all) pages unit
+step_at all i d pages unit h pos n a =
+    subst (λ k. Ahead all (drop k all) pages unit) (sym (add-one i))
+    (ahead_more all (get_or all i d) (drop (suc i) all) pages unit pos n (subst (λ l. Ahead all l pages unit) (drop-cons all i d h) a))

@@ -1,0 +1,75 @@
+-- A way leads to the one piece that has the pages.
+use Rattle.std.proofs.Common.{◌≡◌, ℕ, ◌+◌, ◌-◌, ◌≤◌, List, Option, IfSome, Some, ap, sym, ◌∙◌, subst, arith}
+use Rattle.slab.specs.Slab.{Slab, get}
+use Rattle.dmatypes.specs.Page.{Range}
+use Rattle.dmatypes.specs.World.{IsIn}
+use Rattle.iova.specs.declared.beside.Ends.{Ends}
+use Rattle.iova.specs.declared.piece.PageState.{PageState}
+use Rattle.iova.specs.declared.piece.PageState.TheVariants.{Live}
+use Rattle.iova.specs.declared.piece.Piece.{Piece}
+use Rattle.iova.specs.declared.node.Node.{Node}
+use Rattle.iova.specs.declared.way.Held.{Held}
+use Rattle.iova.specs.declared.way.Judged.{Judged}
+use Rattle.iova.specs.declared.way.Step.{Step}
+use Rattle.iova.specs.Pieces.{IsOrdered, piece_of}
+use Rattle.iova.specs.Space.{MayRetire}
+use Rattle.iova.specs.Stored.{IsKept}
+use Rattle.iova.specs.Way.{CanWalk, IsLowBelow, IsHeld, pages_as}
+use Rattle.iova.proofs.Among.{in_le, in_one, in_state}
+use Rattle.iova.proofs.searches.Seeking.{held_in}
+use Rattle.iova.proofs.shapes.Tall.{kept_below}
+
+module _ (root : Option ℕ) (nodes : Slab Node) (pieces : List Piece) (k : IsKept root nodes pieces) (o : IsOrdered 1 pieces) where
+  pub kept_low : IsLowBelow (get nodes) root k.shape 1
+  kept_low = record { below = kept_below root nodes pieces k o; low = k.height }
+
+  pub kept_walk : CanWalk (get nodes) root
+  kept_walk = (k.shape, 1, kept_low)
+
+  module _ (way : List Step) (held : Held) where
+    -- it is one of them
+    pub held_piece : (pages : Ends) (h : IsHeld (get nodes) root way held pages) → IsIn h.node.piece pieces
+    held_piece pages h = subst (λ ps. IsIn h.node.piece ps) k.all (held_in (get nodes) root way held pages k.shape 1 h kept_low)
+
+    -- the pages are those of the piece that begins there
+    pub held_pages : (pages : Ends) (last : ℕ) (state : PageState) → IsIn (pages_as pages state) pieces
+        → IsHeld (get nodes) root way held (record { first = pages.first; last = last }) → IsHeld (get nodes) root way held pages
+    held_pages pages last state i h =
+        let p = pages_as pages state in
+        let a = in_le 1 p pieces o i in
+        let m = held_piece (record { first = pages.first; last = last }) h in
+        let b = in_le 1 h.node.piece pieces o m in
+        let e : h.node.piece ≡ p = in_one 1 h.node.piece p pieces pages.first o m i
+        (omega (arith, h.first, b), omega (arith, h.first, b)) (omega (arith, a), omega (arith, a)) in
+        let l : last ≡ pages.last = sym h.last ∙ ap (λ (q : Piece). q.last) e in
+        subst (λ n. IsHeld (get nodes) root way held (record { first = pages.first; last = n })) l h
+
+-- the pages of a range
+pub as_range : (first pages : ℕ) (range : Range) (state : PageState) → first ≡ range.first → pages ≡ range.pages
+    → pages_as (record { first = first; last = first + pages - 1 }) state ≡ piece_of range state
+as_range first pages range state a b =
+    ap (λ n. record { first = n; last = n + pages - 1; state = state }) a
+    ∙ ap (λ n. record { first = range.first; last = range.first + n - 1; state = state }) b
+
+-- a range that is one live piece can be retired
+pub may_whole : (range : Range) (ps : List Piece) → IsOrdered 1 ps → 1 ≤ range.pages → IsIn (piece_of range Live) ps → MayRetire ps range
+may_whole range ps o some i = record {
+  live = λ page w. in_state 1 (piece_of range Live) ps page o i w.0 (omega (arith, w.1));
+  room = λ t.
+      let cut = t.0.2 in
+      let a = cut.some in
+      let b = cut.not_all in
+      let e : t.0.0 ≡ piece_of range Live = in_one 1 t.0.0 (piece_of range Live) ps a.0 o t.0.1 i a.1 (a.2.0, omega (arith, a.2.1)) in
+      let h = subst (λ (q : Piece). (q.first ≤ b.0) × (b.0 ≤ q.last)) e b.1 in
+      b.2 (h.0, omega (arith, h.1, some));
+}
+
+-- the pages that were judged are those of the range
+pub judged_range : (pages : Ends) (first number : ℕ) (range : Range) (state : PageState) → pages.first ≡ first
+    → pages.last ≡ first + number - 1 → first ≡ range.first → number ≡ range.pages → pages_as pages state ≡ piece_of range state
+judged_range pages first number range state a b c d =
+    ap (λ n. record { first = n; last = pages.last; state = state }) a ∙ ap (λ n. record { first = first; last = n; state = state }) b
+    ∙ as_range first number range state c d
+
+pub judged_of : (o : Option Judged) (judged : Judged) (P : Judged → Type 0) → o ≡ Some judged → IfSome o P → P judged
+judged_of o judged P e i = subst (λ x. IfSome x P) e i

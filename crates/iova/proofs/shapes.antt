@@ -1,0 +1,12 @@
+pub mod Trees
+pub mod Held
+pub mod Turned
+pub mod Written
+pub mod TurnedBack
+pub mod Joined
+pub mod JoinedBack
+pub mod Settled
+pub mod Steps
+pub mod Tall
+pub mod Ways
+pub mod Lifted

@@ -1,0 +1,52 @@
+-- A space as it is kept.
+use Rattle.std.specs.Prelude.{ℕ, zero, suc, ◌≡◌, ◌≤◌, List, [], ◌∷◌, ◌++◌, length, Option, Some, None}
+use Rattle.slab.specs.Slab.{Slab, get, slab_len}
+use Rattle.iova.specs.declared.piece.Piece.{Piece}
+use Rattle.iova.specs.declared.node.Node.{Node}
+use Rattle.iova.specs.declared.space.TheConstants.{MOST_PIECES}
+use Rattle.dmatypes.specs.World.{IsIn}
+use Rattle.iova.specs.declared.piece.PageState.TheVariants.{Live}
+use Rattle.iova.specs.declared.way.Judged.{Judged}
+use Rattle.iova.specs.declared.way.Step.{Step}
+use Rattle.iova.specs.Space.{Space}
+use Rattle.iova.specs.Way.{IsHeld, pages_as}
+use Rattle.iova.specs.Tree.{Look, Shape, IsBelow, IsTree, at_root, height_of, items, root_of, top_of, uses}
+
+abbrev pub around : Option Node → (Option ℕ → List Piece) → List Piece
+around None below = []
+around (Some node) below = below node.left ++ node.piece ∷ below node.right
+
+-- the pieces below a root, in order, so many nodes deep
+unfoldable pub contents : Look → ℕ → Option ℕ → List Piece
+contents look zero root = []
+contents look (suc depth) root = around (at_root look root) (contents look depth)
+
+-- all the pieces
+abbrev pub pieces_of : Slab Node → Option ℕ → List Piece
+pieces_of nodes root = contents (get nodes) 14 root
+
+-- the last page and the pieces
+abbrev pub stored : ℕ → Option ℕ → Slab Node → Space
+stored last root nodes = record { last = last; pieces = pieces_of nodes root }
+
+-- the nodes are one balanced tree with these pieces, at most 14 high, and there is room for 1,024
+pub record IsKept (root : Option ℕ) (nodes : Slab Node) (pieces : List Piece) : Type 0 where
+  pub shape : Shape
+  pub here : root ≡ root_of shape
+  pub tree : IsTree (get nodes) (top_of shape) shape
+  pub once : (k : ℕ) → uses shape k ≤ 1
+  pub height : height_of shape ≤ 14
+  pub count : slab_len nodes ≡ length pieces
+  pub room : MOST_PIECES ≤ nodes.capacity
+  pub all : items shape ≡ pieces
+
+-- the pieces below a root are those of one tree, at most 14 high, in order
+pub record IsListed (nodes : Slab Node) (root : Option ℕ) : Type 0 where
+  pub shape : Shape
+  pub below : IsBelow (get nodes) root shape 1
+  pub height : height_of shape ≤ 14
+
+-- one live piece has the pages that were judged, and the way leads to it
+pub record IsJudged (nodes : Slab Node) (root : Option ℕ) (way : List Step) (judged : Judged) : Type 0 where
+  pub live : IsIn (pages_as judged.pages Live) (pieces_of nodes root)
+  pub held : IsHeld (get nodes) root way judged.held judged.pages

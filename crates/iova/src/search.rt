@@ -1,0 +1,164 @@
+//! Where a page lies, and where a range fits.
+
+ghost use Rattle.std.specs.Prelude.{◌≡◌, ◌≢◌, ℕ, ◌^◌, ◌<◌, ◌≤◌, None, IfSome, IfNone};
+ghost use Rattle.std.specs.List.{AllByRecursion};
+ghost use Rattle.slab.specs.Slab.{get};
+ghost use Rattle.iova.specs.Search.{HasNoRoom, IsFound, first_or, piece_at, pieces_from};
+ghost use Rattle.iova.specs.Pieces.{piece_of};
+ghost use Rattle.iova.specs.Tree.{CanSearch, IsBelow, Shape, items};
+ghost use Rattle.iova.specs.Way.{CanWalk, IsHeld, LeadsTo};
+ghost use Rattle.iova.specs.declared.piece.Piece.{Piece};
+ghost use Rattle.dmatypes.specs.World.{IsIn};
+
+use crate::links::{free_length, longest};
+use crate::node::{NUMBERS_END, Node};
+use crate::piece::{PageState, Piece};
+use crate::way::{Held, MOST_HEIGHT, Place, Spot, Step};
+use slab::Slab;
+
+/// The piece that a page lies in.
+pub(crate) fn find(nodes: &Slab<Node>, root: Option<usize>, page: u64) -> Option<Piece>
+    requires { CanSearch nodes.now root }
+    ensures { (t : Shape) (from : ℕ) → IsBelow (get nodes.now) root t from
+        → result ≡ piece_at (items t) page }
+{
+    let mut at = root;
+    while let Some(key) = at {
+        let node = &nodes[key];
+        if page < node.piece.first {
+            at = node.left;
+        } else if node.piece.last < page {
+            at = node.right;
+        } else {
+            return Some(node.piece);
+        }
+    }
+    None
+}
+
+/// The first piece that begins at a page or after it.
+pub(crate) fn first_from(nodes: &Slab<Node>, root: Option<usize>, page: u64) -> Option<Piece>
+    requires { CanSearch nodes.now root }
+    ensures { (t : Shape) (from : ℕ) → IsBelow (get nodes.now) root t from
+        → result ≡ first_or (pieces_from page (items t)) None }
+{
+    let mut found = None;
+    let mut at = root;
+    while let Some(key) = at {
+        let node = &nodes[key];
+        if node.piece.first < page {
+            at = node.right;
+        } else {
+            found = Some(node.piece);
+            at = node.left;
+        }
+    }
+    found
+}
+
+/// The first page of the first free piece of so many pages, and the way to the piece: one way down.
+#[inline(always)]
+pub(crate) fn first_free(
+    nodes: &Slab<Node>,
+    root: Option<usize>,
+    pages: u64,
+    way: &mut [Step; MOST_HEIGHT],
+) -> Option<Spot>
+    requires tree { CanWalk (get nodes.now) root }
+    requires some_pages { 1 ≤ pages }
+    requires pages { pages < NUMBERS_END }
+    ensures found { (t : Shape) (from : ℕ) → IsBelow (get nodes.now) root t from
+        → IfSome result (λ spot. IsFound pages 1 (items t) spot.start) }
+    ensures none { (t : Shape) (from : ℕ) → IsBelow (get nodes.now) root t from
+        → IfNone result (AllByRecursion (HasNoRoom pages 1) (items t)) }
+    ensures way { IfSome result (λ spot.
+        LeadsTo (get nodes.now) root (piece_of (record { first = spot.start; pages = pages }) PageState.Live) way.new spot.place) }
+{
+    let mut at = root;
+    let mut depth = 0;
+    while let Some(key) = at {
+        let node = &nodes[key];
+        if node.longest < pages {
+            return None;
+        }
+        if longest(nodes, node.left) >= pages {
+            way[depth] = Step { key, before: true };
+            at = node.left;
+        } else if free_length(node.piece) >= pages {
+            let start = node.piece.first;
+            let place = Place { at, depth };
+            return Some(Spot { start, place });
+        } else {
+            way[depth] = Step { key, before: false };
+            at = node.right;
+        }
+        depth += 1;
+    }
+    None
+}
+
+/// Where the piece lies that begins at a page, if one does, and the way there: one way down.
+#[inline(always)]
+pub(crate) fn seek(
+    nodes: &Slab<Node>,
+    root: Option<usize>,
+    first: u64,
+    way: &mut [Step; MOST_HEIGHT],
+) -> Option<Held>
+    requires { CanWalk (get nodes.now) root }
+    ensures found { IfSome result (λ held.
+        (last : ℕ) × IsHeld (get nodes.now) root way.new held (record { first = first; last = last })) }
+    ensures none { (t : Shape) (from : ℕ) → IsBelow (get nodes.now) root t from
+        → IfNone result ((p : Piece) → IsIn p (items t) → p.first ≢ first) }
+{
+    let mut at = root;
+    let mut depth = 0;
+    while let Some(key) = at {
+        let node = &nodes[key];
+        if node.piece.first == first {
+            return Some(Held { key, depth });
+        }
+        // Chosen by value, since no processor foresees which side it is.
+        let before = first < node.piece.first;
+        way[depth] = Step { key, before };
+        let child = if before { &node.left } else { &node.right };
+        at = *child;
+        depth += 1;
+    }
+    None
+}
+
+/// The first start of so many free pages that is a multiple of the unit.
+pub(crate) fn lowest_fit(
+    nodes: &Slab<Node>,
+    root: Option<usize>,
+    pages: u64,
+    unit: u64,
+) -> Option<u64>
+    requires tree { CanSearch nodes.now root }
+    requires pages { pages < NUMBERS_END }
+    requires some_unit { 0 < unit }
+    requires unit { unit < NUMBERS_END }
+    ensures found { (t : Shape) (from : ℕ) → IsBelow (get nodes.now) root t from
+        → IfSome result (IsFound pages unit (items t)) }
+    ensures none { (t : Shape) (from : ℕ) → IsBelow (get nodes.now) root t from
+        → IfNone result (AllByRecursion (HasNoRoom pages unit) (items t)) }
+{
+    let Some(key) = root else {
+        return None;
+    };
+    let node = &nodes[key];
+    if node.longest < pages {
+        return None;
+    }
+    if let Some(start) = lowest_fit(nodes, node.left, pages, unit) {
+        return Some(start);
+    }
+    if node.piece.is_free() {
+        let start = node.piece.first.next_multiple_of(unit);
+        if start + pages <= node.piece.last + 1 {
+            return Some(start);
+        }
+    }
+    lowest_fit(nodes, node.right, pages, unit)
+}

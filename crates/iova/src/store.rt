@@ -1,0 +1,317 @@
+//! The pieces of a space in a tree.
+
+ghost use Rattle.std.specs.Prelude.{◌≡◌, ◌≢◌, Some, ℕ, ◌+◌, ◌^◌, ◌<◌, ◌≤◌, ◌↔◌, [], length, IsTrue, IsSome, IfSome, IfNone};
+ghost use Rattle.dmatypes.specs.Page.{IsWithin};
+ghost use Rattle.slab.specs.Slab.{get, slab_len};
+ghost use Rattle.dmatypes.specs.World.{IsIn};
+ghost use Rattle.iova.specs.Pieces.{AllIn, IsOrdered, free_end, free_start, freed, piece_of, state_at, with_free, with_piece};
+ghost use Rattle.iova.specs.Space.{CutsPiece, IsFit, IsLowestFit, new_space};
+ghost use Rattle.iova.specs.Stored.{IsJudged, IsKept, pieces_of};
+ghost use Rattle.iova.specs.Tree.{IsPiece};
+ghost use Rattle.iova.specs.Way.{IsHeld, LeadsTo, pages_as};
+
+use crate::beside::{Ends, with_free, with_free_by};
+use crate::node::{NUMBERS_END, Node};
+use crate::piece::{PageState, Piece};
+use crate::put::{put, put_by};
+use crate::search::{find, first_free, lowest_fit, seek};
+use crate::space::MOST_PIECES;
+use crate::way::{Held, Judged, MOST_HEIGHT, Place, Spot, Step, walk};
+use dmatypes::{PAGES_END, WINDOW_FIRST, WINDOW_LAST};
+use slab::Slab;
+
+/// The last page before the interrupt address range.
+const BELOW_WINDOW: u64 = WINDOW_FIRST - 1;
+
+/// The first page after it.
+const ABOVE_WINDOW: u64 = WINDOW_LAST + 1;
+
+/// Puts a piece over those that are there, and answers the root.
+pub(crate) fn store(nodes: &mut Slab<Node>, root: Option<usize>, piece: Piece) -> Option<usize>
+    requires kept { IsKept root nodes.old (pieces_of nodes.old root) }
+    requires ordered { IsOrdered 1 (pieces_of nodes.old root) }
+    requires few { length (with_piece piece (pieces_of nodes.old root)) ≤ MOST_PIECES }
+    requires piece { IsPiece piece }
+    ensures { IsKept result nodes.new (with_piece piece (pieces_of nodes.old root)) }
+{
+    put(nodes, root, &piece)
+}
+
+/// The same, where a way leads to the place for the piece.
+#[inline(never)]
+pub(crate) fn store_by(
+    nodes: &mut Slab<Node>,
+    root: Option<usize>,
+    piece: Piece,
+    way: &[Step; MOST_HEIGHT],
+    place: Place,
+) -> Option<usize>
+    requires kept { IsKept root nodes.old (pieces_of nodes.old root) }
+    requires ordered { IsOrdered 1 (pieces_of nodes.old root) }
+    requires few { length (with_piece piece (pieces_of nodes.old root)) ≤ MOST_PIECES }
+    requires piece { IsPiece piece }
+    requires place { LeadsTo (get nodes.old) root piece way.now place }
+    ensures { IsKept result nodes.new (with_piece piece (pieces_of nodes.old root)) }
+{
+    put_by(nodes, root, &piece, way, place)
+}
+
+/// Puts a piece in the place of one that has its pages, to which a way leads, and answers the root.
+#[inline(always)]
+pub(crate) fn store_held(
+    nodes: &mut Slab<Node>,
+    root: Option<usize>,
+    piece: Piece,
+    way: &[Step; MOST_HEIGHT],
+    held: Held,
+) -> Option<usize>
+    requires kept { IsKept root nodes.old (pieces_of nodes.old root) }
+    requires ordered { IsOrdered 1 (pieces_of nodes.old root) }
+    requires few { length (with_piece piece (pieces_of nodes.old root)) ≤ MOST_PIECES }
+    requires piece { IsPiece piece }
+    requires held { (pages : Ends) × IsHeld (get nodes.old) root way.now held pages × (pages_as pages piece.state ≡ piece) }
+    ensures { IsKept result nodes.new (with_piece piece (pieces_of nodes.old root)) }
+{
+    let place = Place {
+        at: Some(held.key),
+        depth: held.depth,
+    };
+    store_by(nodes, root, piece, way, place)
+}
+
+/// Puts a piece over those that are there: where one was judged that has its pages, by the way that leads to that.
+#[inline(always)]
+pub(crate) fn retire(
+    nodes: &mut Slab<Node>,
+    root: Option<usize>,
+    piece: Piece,
+    way: &[Step; MOST_HEIGHT],
+    judged: Option<Judged>,
+) -> Option<usize>
+    requires kept { IsKept root nodes.old (pieces_of nodes.old root) }
+    requires ordered { IsOrdered 1 (pieces_of nodes.old root) }
+    requires few { length (with_piece piece (pieces_of nodes.old root)) ≤ MOST_PIECES }
+    requires piece { IsPiece piece }
+    requires judged { IfSome judged (IsJudged nodes.old root way.now) }
+    ensures { IsKept result nodes.new (with_piece piece (pieces_of nodes.old root)) }
+{
+    if let Some(judged) = judged {
+        if judged.pages.first == piece.first && judged.pages.last == piece.last {
+            return store_held(nodes, root, piece, way, judged.held);
+        }
+    }
+    store(nodes, root, piece)
+}
+
+/// Frees the piece that has some pages, to which a way leads: it becomes one with the free ones that it touches.
+pub(crate) fn free(
+    nodes: &mut Slab<Node>,
+    root: Option<usize>,
+    pages: Ends,
+    way: &[Step; MOST_HEIGHT],
+    held: Held,
+) -> Option<usize>
+    requires kept { IsKept root nodes.old (pieces_of nodes.old root) }
+    requires ordered { IsOrdered 1 (pieces_of nodes.old root) }
+    requires few { length (with_free (pages_as pages PageState.Free) (pieces_of nodes.old root)) ≤ MOST_PIECES }
+    requires piece { IsPiece (freed (pages_as pages PageState.Free) (pieces_of nodes.old root)) }
+    requires held { IsHeld (get nodes.old) root way.now held pages }
+    ensures { IsKept result nodes.new (with_free (pages_as pages PageState.Free) (pieces_of nodes.old root)) }
+{
+    let ends = with_free_ends(nodes, root, way, held, pages);
+    let piece = Piece {
+        first: ends.first,
+        last: ends.last,
+        state: PageState::Free,
+    };
+    if ends.first == pages.first && ends.last == pages.last {
+        return store_held(nodes, root, piece, way, held);
+    }
+    store(nodes, root, piece)
+}
+
+/// Where the piece lies that has some pages, and the way there.
+#[inline(always)]
+pub(crate) fn hold(
+    nodes: &Slab<Node>,
+    root: Option<usize>,
+    pages: Ends,
+    way: &mut [Step; MOST_HEIGHT],
+) -> Held
+    requires kept { IsKept root nodes.now (pieces_of nodes.now root) }
+    requires ordered { IsOrdered 1 (pieces_of nodes.now root) }
+    requires piece { (state : PageState) × IsIn (pages_as pages state) (pieces_of nodes.now root) }
+    ensures { IsHeld (get nodes.now) root way.new result pages }
+{
+    let Some(held) = seek(nodes, root, pages.first, way) else {
+        unreachable!()
+    };
+    held
+}
+
+/// Where the live piece lies that has some pages, if there is one, and the way there.
+#[inline(always)]
+pub(crate) fn hold_live(
+    nodes: &Slab<Node>,
+    root: Option<usize>,
+    pages: Ends,
+    way: &mut [Step; MOST_HEIGHT],
+) -> Option<Held>
+    requires kept { IsKept root nodes.now (pieces_of nodes.now root) }
+    requires ordered { IsOrdered 1 (pieces_of nodes.now root) }
+    ensures held { IfSome result (λ held. IsHeld (get nodes.now) root way.new held pages) }
+    ensures live { IfSome result (λ held. IsIn (pages_as pages PageState.Live) (pieces_of nodes.now root)) }
+{
+    let held = seek(nodes, root, pages.first, way)?;
+    let piece = nodes[held.key].piece;
+    let live = matches!(piece.state, PageState::Live);
+    if live && piece.last == pages.last {
+        return Some(held);
+    }
+    None
+}
+
+/// Stores the pieces of a new space where no piece is.
+pub(crate) fn fill(nodes: &mut Slab<Node>, last: u64) -> Option<usize>
+    requires empty { nodes.old.slots ≡ [] }
+    requires room { MOST_PIECES ≤ nodes.old.capacity }
+    requires some { 1 ≤ last }
+    requires narrow { last < PAGES_END }
+    ensures { IsKept result nodes.new (new_space last).pieces }
+{
+    let low = Piece {
+        first: 1,
+        last: last.min(BELOW_WINDOW),
+        state: PageState::Free,
+    };
+    let root = store(nodes, None, low);
+    if last < ABOVE_WINDOW {
+        return root;
+    }
+    let high = Piece {
+        first: ABOVE_WINDOW,
+        last,
+        state: PageState::Free,
+    };
+    store(nodes, root, high)
+}
+
+/// The state of the piece that a page lies in.
+pub(crate) fn state_of(nodes: &Slab<Node>, root: Option<usize>, page: u64) -> Option<PageState>
+    requires kept { IsKept root nodes.now (pieces_of nodes.now root) }
+    requires ordered { IsOrdered 1 (pieces_of nodes.now root) }
+    ensures { result ≡ state_at (pieces_of nodes.now root) page }
+{
+    match find(nodes, root, page) {
+        Some(piece) => Some(piece.state),
+        None => None,
+    }
+}
+
+/// The lowest start of so many free pages that is a multiple of the unit, and the way to the piece that they lie in.
+#[inline(always)]
+pub(crate) fn fit(
+    nodes: &Slab<Node>,
+    root: Option<usize>,
+    pages: u64,
+    unit: u64,
+    way: &mut [Step; MOST_HEIGHT],
+) -> Option<Spot>
+    requires kept { IsKept root nodes.now (pieces_of nodes.now root) }
+    requires ordered { IsOrdered 1 (pieces_of nodes.now root) }
+    requires some_pages { 1 ≤ pages }
+    requires pages { pages < NUMBERS_END }
+    requires some_unit { 0 < unit }
+    requires unit { unit < NUMBERS_END }
+    ensures lowest { IfSome result (λ spot. IsLowestFit (pieces_of nodes.now root) pages unit spot.start) }
+    ensures none { IfNone result ((start : ℕ) → IsFit (pieces_of nodes.now root) pages unit start → ⊥) }
+    ensures way { IfSome result (λ spot.
+        LeadsTo (get nodes.now) root (piece_of (record { first = spot.start; pages = pages }) PageState.Live) way.new spot.place) }
+{
+    if unit == 1 {
+        return first_free(nodes, root, pages, way);
+    }
+    let start = lowest_fit(nodes, root, pages, unit)?;
+    let piece = Piece {
+        first: start,
+        last: start + pages - 1,
+        state: PageState::Live,
+    };
+    let place = walk(nodes, root, &piece, way);
+    Some(Spot { start, place })
+}
+
+/// Whether so many pages, which all lie in pieces, cut a piece.
+pub(crate) fn cuts_piece(nodes: &Slab<Node>, root: Option<usize>, first: u64, pages: u64) -> bool
+    requires kept { IsKept root nodes.now (pieces_of nodes.now root) }
+    requires ordered { IsOrdered 1 (pieces_of nodes.now root) }
+    requires some_pages { 1 ≤ pages }
+    requires range { first + pages < NUMBERS_END }
+    requires held { (page : ℕ) → IsWithin (record { first = first; pages = pages }) page
+        → IsSome (state_at (pieces_of nodes.now root) page) }
+    ensures { IsTrue result ↔ CutsPiece (pieces_of nodes.now root) (record { first = first; pages = pages }) }
+{
+    let last = first + pages - 1;
+    let low = find(nodes, root, first).unwrap();
+    let high = find(nodes, root, last).unwrap();
+    low.first < first || last < high.last
+}
+
+/// The pages from the first of the free piece that ends just before some pages to the last of the one that begins
+/// just after them, where a way leads to the piece of these pages.
+#[inline(always)]
+fn with_free_ends(
+    nodes: &Slab<Node>,
+    root: Option<usize>,
+    way: &[Step; MOST_HEIGHT],
+    held: Held,
+    pages: Ends,
+) -> Ends
+    requires kept { IsKept root nodes.now (pieces_of nodes.now root) }
+    requires ordered { IsOrdered 1 (pieces_of nodes.now root) }
+    requires held { IsHeld (get nodes.now) root way.now held pages }
+    ensures first { result.first ≡ free_start (pieces_of nodes.now root) pages.first }
+    ensures last { result.last ≡ free_end (pieces_of nodes.now root) pages.last }
+{
+    with_free_by(nodes, root, way, held, pages)
+}
+
+/// The same for a run of pieces, to which no way leads.
+pub(crate) fn with_free_around(nodes: &Slab<Node>, root: Option<usize>, pages: Ends) -> Ends
+    requires kept { IsKept root nodes.now (pieces_of nodes.now root) }
+    requires ordered { IsOrdered 1 (pieces_of nodes.now root) }
+    requires some { pages.first ≤ pages.last }
+    requires narrow { pages.last < NUMBERS_END }
+    ensures first { result.first ≡ free_start (pieces_of nodes.now root) pages.first }
+    ensures last { result.last ≡ free_end (pieces_of nodes.now root) pages.last }
+{
+    with_free(nodes, root, pages)
+}
+
+/// A page of a range that isn't live, if there is one.
+pub(crate) fn not_live(
+    nodes: &Slab<Node>,
+    root: Option<usize>,
+    first: u64,
+    pages: u64,
+) -> Option<u64>
+    requires kept { IsKept root nodes.now (pieces_of nodes.now root) }
+    requires ordered { IsOrdered 1 (pieces_of nodes.now root) }
+    requires range { first + pages < NUMBERS_END }
+    ensures within { IfSome result (IsWithin (record { first = first; pages = pages })) }
+    ensures state { IfSome result (λ page. state_at (pieces_of nodes.now root) page ≢ Some PageState.Live) }
+    ensures live { IfNone result (AllIn PageState.Live (record { first = first; pages = pages }) (pieces_of nodes.now root)) }
+{
+    let end = first + pages;
+    let mut next = first;
+    while next < end {
+        let Some(piece) = find(nodes, root, next) else {
+            return Some(next);
+        };
+        match piece.state {
+            PageState::Live => next = piece.last + 1,
+            PageState::Free | PageState::Retired => return Some(next),
+        }
+    }
+    None
+}

@@ -1,0 +1,45 @@
+//! The pieces of a space, one after the other.
+
+ghost use Rattle.std.specs.Iterator.{YieldsFirst, item_count};
+
+use crate::node::Node;
+use crate::piece::Piece;
+use crate::search::first_from;
+use slab::Slab;
+use std::marker::Model;
+
+/// The pieces of a space in the order of their pages, seen as the list of those that are left (own).
+#[derive(Drop)]
+pub struct Iter<'a> {
+    pub(crate) nodes: &'a Slab<Node>,
+    pub(crate) root: Option<usize>,
+    // The pieces that are left are those that begin at this page or after it.
+    pub(crate) page: u64,
+}
+
+impl<'a> Model for Iter<'a> {
+    ghost use Rattle.std.specs.Prelude.{List};
+    ghost use Rattle.iova.specs.declared.piece.Piece.{Piece};
+    ghost use Rattle.iova.specs.Search.{pieces_from};
+    ghost use Rattle.iova.specs.Stored.{IsListed, pieces_of};
+
+    ghost Value = { List Piece };
+
+    ghost view = { λ it. pieces_from it.page (pieces_of it.nodes.now it.root) };
+
+    ghost invariant = { λ it. IsListed it.nodes.now it.root };
+}
+
+impl<'a> Iterator for Iter<'a> {
+    type Item = Piece;
+
+    ghost next_gives = { YieldsFirst (λ rest. rest) };
+
+    ghost remaining = { item_count (λ rest. rest) };
+
+    fn next(&mut self) -> Option<Piece> {
+        let piece = first_from(self.nodes, self.root, self.page)?;
+        self.page = piece.last + 1;
+        Some(piece)
+    }
+}

@@ -1,0 +1,218 @@
+//! A space beside a list: the same answers and the same pieces, call by call.
+
+ghost use Rattle.std.specs.Prelude.{◌≤◌, ◌<◌, IfSome};
+ghost use Rattle.dmatypes.specs.World.{IsIn};
+ghost use Rattle.iova.specs.Pieces.{piece_of};
+
+use super::list::List;
+use dmatypes::{PAGES_END, PageRange};
+use iova::{PageState, Space, TakeError};
+use std::alloc::{AllocError, Global};
+use std::test::Fail;
+
+const FREE: [(u64, u64); 2] = [(1, 0xFEDFF), (0xFEF00, 0x100FFF)];
+
+/// Numbers by a fixed sequence.
+#[derive(Drop)]
+struct Sequence {
+    seed: u64,
+}
+
+impl Sequence {
+    /// A number below a bound.
+    fn below(&mut self, bound: u64) -> u64
+        requires { 1 ≤ bound }
+        ensures { result < bound }
+    {
+        self.seed ^= self.seed << 13;
+        self.seed ^= self.seed >> 7;
+        self.seed ^= self.seed << 17;
+        (self.seed >> 20) % bound
+    }
+}
+
+/// The range of the retired piece that begins at a page.
+fn retired_at(space: &Space, first: u64) -> Option<PageRange>
+    ensures { IfSome result (λ range. IsIn (piece_of range PageState.Retired) space.now.pieces) }
+{
+    let mut pieces = space.pieces();
+    while let Some(piece) = pieces.next() {
+        if piece.first == first {
+            if let PageState::Retired = piece.state {
+                if piece.first <= piece.last && piece.last < PAGES_END {
+                    return PageRange::new(piece.first, piece.last - piece.first + 1);
+                }
+            }
+        }
+    }
+    None
+}
+
+/// A space and the list beside it.
+#[derive(Drop)]
+struct Pair {
+    space: Space,
+    list: List,
+}
+
+impl Pair {
+    fn take(
+        &mut self,
+        alloc: Global,
+        pages: u64,
+        order: u64,
+    ) -> Result<Result<u64, TakeError>, Fail>
+        requires some { 1 ≤ pages }
+        requires few { pages ≤ 4096 }
+        requires order { order ≤ 9 }
+    {
+        let taken = self.space.take(pages, order).map(|page| page.number());
+        let listed = self.list.take(alloc, pages, 1 << order)?;
+        if taken != listed {
+            return Err("a take differs".into());
+        }
+        Ok(taken)
+    }
+
+    /// Takes pages and gives them back.
+    fn try_take(&mut self, pages: u64) -> Result<(), Fail>
+        requires some { 1 ≤ pages }
+        requires few { pages ≤ 4096 }
+    {
+        let before = self.space.piece_count();
+        if let Ok(page) = self.space.take(pages, 0) {
+            let range = PageRange::new(page.number(), pages).ok_or("pages")?;
+            self.space.undo_take(range);
+        }
+        if self.space.piece_count() != before {
+            return Err("an undone take stays".into());
+        }
+        Ok(())
+    }
+
+    /// Retires pages, if they are live.
+    fn retire(&mut self, alloc: Global, range: PageRange) -> Result<(), Fail> {
+        let first = range.first();
+        let last = first + (range.pages() - 1);
+        let may = self.space.may_retire(range);
+        if may != self.list.may_retire(first, last) {
+            return Err("a refusal differs".into());
+        }
+        if may.is_ok() {
+            self.space.retire(range);
+            self.list.retire(alloc, first, last)?;
+        }
+        Ok(())
+    }
+
+    /// Frees pages at once, if they are live.
+    fn free(&mut self, alloc: Global, range: PageRange) -> Result<(), Fail> {
+        let first = range.first();
+        let last = first + (range.pages() - 1);
+        let may = self.space.judge(range);
+        if may != self.list.may_retire(first, last) {
+            return Err("a judgement differs".into());
+        }
+        if may.is_ok() {
+            self.space.free_live(range);
+            self.list.retire(alloc, first, last)?;
+            self.list.free(alloc, first, last)?;
+        }
+        Ok(())
+    }
+
+    /// Releases the retired piece at a page, if one begins there.
+    fn release(&mut self, alloc: Global, first: u64) -> Result<(), Fail> {
+        if let Some(range) = retired_at(&self.space, first) {
+            self.space.release(range);
+            self.list
+                .free(alloc, range.first(), range.first() + (range.pages() - 1))?;
+        }
+        Ok(())
+    }
+
+    /// Retires pages, or frees them at once, if they are live.
+    fn end(&mut self, alloc: Global, range: PageRange, numbers: &mut Sequence) -> Result<(), Fail> {
+        if numbers.below(2) == 0 {
+            self.retire(alloc, range)
+        } else {
+            self.free(alloc, range)
+        }
+    }
+
+    /// The pieces are the same.
+    fn compare(&self) -> Result<(), Fail> {
+        let mut pieces = self.space.pieces();
+        for piece in self.list.pieces.iter() {
+            if pieces.next() != Some(*piece) {
+                return Err("a piece differs".into());
+            }
+        }
+        if pieces.next().is_some() || self.space.piece_count() != self.list.pieces.len() {
+            return Err("there are more pieces".into());
+        }
+        Ok(())
+    }
+
+    fn step(&mut self, alloc: Global, numbers: &mut Sequence) -> Result<(), Fail> {
+        match numbers.below(16) {
+            0..=7 => {
+                let order = numbers.below(4);
+                let pages = 1 + numbers.below(1 << order);
+                let _taken = self.take(alloc, pages, order)?;
+            }
+            8 => {
+                let _taken = self.take(alloc, 1 + numbers.below(4096), numbers.below(10))?;
+            }
+            9 => self.try_take(1 + numbers.below(8))?,
+            10 | 11 => {
+                let first = 1 + numbers.below(3000);
+                let range = PageRange::new(first, 1 + numbers.below(40)).ok_or("pages")?;
+                self.end(alloc, range, numbers)?;
+            }
+            12 => {
+                let held = self.space.pieces().nth(numbers.below(1024) as usize);
+                if let Some(held) = held {
+                    if let Some(range) = PageRange::new(
+                        held.first,
+                        held.last.wrapping_sub(held.first).wrapping_add(1),
+                    ) {
+                        self.end(alloc, range, numbers)?;
+                    }
+                }
+            }
+            _ => {
+                let held = self.space.pieces().nth(numbers.below(1024) as usize);
+                if let Some(held) = held {
+                    self.release(alloc, held.first)?;
+                }
+            }
+        }
+        Ok(())
+    }
+}
+
+// 20,000 calls, and the space made new now and then.
+#[test]
+fn agrees_with_a_list(rt: HostRuntime) -> Result<(), Fail> {
+    let alloc = rt.alloc();
+    let mut pair = Pair {
+        space: Space::new(alloc, 0x100FFF)?,
+        list: List::new(alloc, FREE.as_slice())?,
+    };
+    let mut numbers = Sequence {
+        seed: 0x2545F4914F6CDD1D,
+    };
+    for call in 0..20000u64 {
+        if call % 7000 == 6999 {
+            pair.space.reset();
+            pair.list = List::new(alloc, FREE.as_slice())?;
+        }
+        pair.step(alloc, &mut numbers)?;
+        if call % 50 == 0 {
+            pair.compare()?;
+        }
+    }
+    pair.compare()?;
+    Ok(())
+}
