@@ -313,9 +313,9 @@ impl Domain {
         ensures made { result.sent ≡ iommu.now.sent }
         ensures ends { RetiresAndUnmaps pool.old self.old result pool.new self.new }
     {
-        let ended = self.cut(pool, iommu, range);
+        let record = self.cut(pool, iommu, range);
         self.space.retire(range);
-        ended
+        record
     }
 }
 
