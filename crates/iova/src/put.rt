@@ -246,9 +246,9 @@ pub(crate) fn put_whole(
     lift(nodes, way, held.depth, was, top);
 }
 
-/// Puts a piece over what a tree has, where a way leads to the place for it.
-#[inline(always)]
-pub(crate) fn put_by(
+/// Puts a piece over what lies where a way leads to, and brings the tree up to date from there.
+#[inline(never)]
+fn put_part(
     nodes: &mut Slab<Node>,
     root: Option<usize>,
     piece: &Piece,
@@ -269,6 +269,35 @@ pub(crate) fn put_by(
         return root;
     }
     mend(nodes, way, place.depth, root, top)
+}
+
+/// Puts a piece over what a tree has, where a way leads to the place for it.
+#[inline(always)]
+pub(crate) fn put_by(
+    nodes: &mut Slab<Node>,
+    root: Option<usize>,
+    piece: &Piece,
+    way: &[Step; MOST_HEIGHT],
+    place: Place,
+) -> Option<usize>
+    requires tree { CanPut nodes.old root piece.now }
+    requires low { CanWalk (get nodes.old) root }
+    requires place { LeadsTo (get nodes.old) root piece.now way.now place }
+    ensures { (t : Shape) (from : ℕ) → IsBelow (get nodes.old) root t from
+        → Leaves nodes.old nodes.new result t (with_piece piece.now (items t)) 1 }
+{
+    if let Some(key) = place.at {
+        let node = &nodes[key];
+        if piece.first == node.piece.first && piece.last == node.piece.last {
+            let held = Held {
+                key,
+                depth: place.depth,
+            };
+            put_whole(nodes, root, piece, way, held);
+            return root;
+        }
+    }
+    put_part(nodes, root, piece, way, place)
 }
 
 /// Puts a piece over what a tree has, below its key.

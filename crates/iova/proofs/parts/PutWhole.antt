@@ -1,16 +1,14 @@
 -- A piece put in the place of one that has its pages, to which a way leads.
-use Rattle.std.proofs.Common.{◌≡◌, ℕ, ◌+◌, ◌<◌, ◌≤◌, max, List, ◌∷◌, ◌++◌, Option, Some, refl, ap, sym, ◌∙◌, subst, arith, length, length-append}
+use Rattle.std.proofs.Common.{◌≡◌, ℕ, max, List, ◌∷◌, ◌++◌, Option, Some, refl, ap, sym, ◌∙◌, subst, arith, length, length-append}
 use Rattle.slab.specs.Slab.{Slab, Updates, get}
 use Rattle.iova.specs.declared.beside.Ends.{Ends}
 use Rattle.iova.specs.declared.node.Node.{Node}
 use Rattle.iova.specs.declared.node.Top.{Top}
 use Rattle.iova.specs.declared.piece.Piece.{Piece}
-use Rattle.iova.specs.declared.piece.PageState.{PageState}
-use Rattle.iova.specs.declared.piece.PageState.TheVariants.{Live}
 use Rattle.iova.specs.declared.way.Held.{Held}
 use Rattle.iova.specs.declared.way.Step.{Step}
-use Rattle.iova.specs.Pieces.{IsOrdered, with_piece}
-use Rattle.iova.specs.Tree.{Look, Shape, Fork, items, height_of, longest_of, free_pages, root_of, top_of, node_of, uses}
+use Rattle.iova.specs.Pieces.{with_piece}
+use Rattle.iova.specs.Tree.{Look, Shape, Fork, items, height_of, longest_of, free_pages, root_of, top_of, node_of}
 use Rattle.iova.specs.Tree.{AreNodes, CanRead, IsPiece, IsTree, IsRead, IsBelow, KeepsCount, KeepsLinks, Leaves}
 use Rattle.iova.specs.Way.{Above, plug, CanLift, CanWalk, IsHeld, LeadsTo, Mends, IsLowBelow, IsPlace, pages_as}
 use Rattle.iova.proofs.parts.PutIn.{k, put-left, put-right, put-same}

@@ -1,7 +1,7 @@
-use Rattle.std.proofs.Common.{ap, sym, ◌∙◌, ◌≡◌, ◌+◌, subst}
+use Rattle.std.proofs.Common.{ap, sym, ◌∙◌, ◌+◌, subst}
 use Rattle.slab.specs.Slab.{get}
 use Rattle.iova.specs.Search.{end_above}
-use Rattle.iova.specs.Tree.{IsBelow, items}
+use Rattle.iova.specs.Tree.{IsBelow}
 use Rattle.iova.proofs.searches.Found.{one_tree, search_there}
 use Rattle.iova.proofs.searches.Touching.{end_none, end_untold, end_used, known_end, stands, told_there, told_is}
 use Rattle.iova.proofs.beside.end_by_way.Goals as goal

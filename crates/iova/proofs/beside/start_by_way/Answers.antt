@@ -1,7 +1,7 @@
-use Rattle.std.proofs.Common.{ap, sym, ◌∙◌, ◌≡◌, subst}
+use Rattle.std.proofs.Common.{ap, sym, ◌∙◌, subst}
 use Rattle.slab.specs.Slab.{get}
 use Rattle.iova.specs.Search.{start_below}
-use Rattle.iova.specs.Tree.{IsBelow, items}
+use Rattle.iova.specs.Tree.{IsBelow}
 use Rattle.iova.proofs.searches.Found.{one_tree, search_there}
 use Rattle.iova.proofs.searches.Touching.{start_none, start_untold, start_used, known_start, stands, told_there, told_piece, told_is}
 use Rattle.iova.proofs.beside.start_by_way.Goals as goal
