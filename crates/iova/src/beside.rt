@@ -134,8 +134,9 @@ pub(crate) fn with_free(nodes: &Slab<Node>, root: Option<usize>, pages: Ends) ->
     Ends { first, last }
 }
 
-/// Where the free pages before the piece at a key begin, to which a way leads. What is longest in the tree before it tells
-/// whether to go down there: mostly no piece there is free. Where no tree is, the last step behind a key tells of it.
+/// Where the free pages just before a piece begin, to whose key a way leads. The tree before the key shows what is longest
+/// in it: mostly none of its pieces is free, and no way goes down there. Where no tree is, the piece of the last step behind
+/// a key lies just before.
 #[inline(always)]
 fn start_by_way(
     nodes: &Slab<Node>,
@@ -161,7 +162,7 @@ fn start_by_way(
     start_of(nodes, left, pages.first, pages.first)
 }
 
-/// Where the free pages after it end, in the same way.
+/// Where the free pages just after it end, by the tree behind its key or the last step before one.
 #[inline(always)]
 fn end_by_way(
     nodes: &Slab<Node>,

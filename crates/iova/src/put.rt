@@ -213,8 +213,8 @@ fn meets(nodes: &Slab<Node>, at: Option<usize>, piece: &Piece) -> bool
     piece.first <= node.piece.last && node.piece.first <= piece.last
 }
 
-/// Puts a piece in the place of the one at a key, which has its pages, and renews what is longest from there up: the
-/// root stays, and so does the way.
+/// Puts a piece in the place of the one at a key, which has its pages. No tree changes its height then, so what is longest
+/// alone is renewed from there up: the root stays, and the way still leads there.
 #[inline(always)]
 pub(crate) fn put_whole(
     nodes: &mut Slab<Node>,

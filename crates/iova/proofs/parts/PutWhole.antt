@@ -212,9 +212,10 @@ pub record PutsWhole (old mid : Slab Node) (root : Option ℕ) (p : Piece) (way 
   pub leads : (new : Slab Node) → KeepsLinks (get mid) (get new) → (pages : Ends) → IsHeld (get old) root way held pages
       → IsHeld (get new) root way held pages
 
-module _ (old : Slab Node) (root : Option ℕ) (p : Piece) (way : List Step) (held : Held) (t : Shape) (from : ℕ) (can : CanWalk (get old) root)
-    (w : IsBelow (get old) root t from) (leads : LeadsTo (get old) root p way (record { at = Some held.key; depth = held.depth })) (n : Node)
-    (f : get old held.key ≡ Some n) (i : IsPiece p) where
+module _ (old : Slab Node) (root : Option ℕ) (p : Piece) (way : List Step) (held : Held) (t : Shape) (from : ℕ)
+    (can : CanWalk (get old) root) (w : IsBelow (get old) root t from)
+    (leads : LeadsTo (get old) root p way (record { at = Some held.key; depth = held.depth }))
+    (n : Node) (f : get old held.key ≡ Some n) (i : IsPiece p) where
   abbrev low : IsLowBelow (get old) root t from
   low = lows (get old) root t from can w
 

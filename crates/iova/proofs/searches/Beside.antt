@@ -1,5 +1,6 @@
 -- The free pieces beside some pages, found on ways down.
-use Rattle.std.proofs.Common.{◌≡◌, ◌≢◌, ◌⊎◌, ℕ, IsTrue, false, ◌+◌, ◌<◌, ◌≤◌, List, length, [], ◌∷◌, ◌++◌, Option, Some, None, refl, ap, sym, ◌∙◌, inl, inr, arith}
+use Rattle.std.proofs.Common.{◌≡◌, ◌≢◌, ◌⊎◌, ℕ, IsTrue, false, ◌+◌, ◌<◌, ◌≤◌, List, length, [], ◌∷◌}
+use Rattle.std.proofs.Common.{◌++◌, Option, Some, None, refl, ap, sym, ◌∙◌, inl, inr, arith}
 use Rattle.std.specs.List.{AllByRecursion}
 use Rattle.std.proofs.lemmas.Bool.{cases_eq}
 use Rattle.std.proofs.lemmas.Bool.Decides.{nat_tests}
@@ -10,7 +11,8 @@ use Rattle.iova.specs.Search.{HasNoRoom, end_above, end_by, start_below, start_b
 use Rattle.iova.specs.Tree.{Look, Shape, items, IsBelow}
 use Rattle.iova.proofs.Pieces.{order}
 use Rattle.iova.proofs.searches.Found.{Passes, passes, one_tree, empty_items, own_round_up}
-use Rattle.iova.proofs.FreeRange.{free_cases, free_start-here, free_start-other, free_start-nil, free_end-here, free_end-other, free_end-nil}
+use Rattle.iova.proofs.FreeRange.{free_cases, free_start-here, free_start-other, free_start-nil}
+use Rattle.iova.proofs.FreeRange.{free_end-here, free_end-other, free_end-nil}
 use Rattle.iova.proofs.searches.FreeEnds.{start_none, end_none}
 
 pub below-nil : (first other : ℕ) → start_below [] first other ≡ other

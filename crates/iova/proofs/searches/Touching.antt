@@ -19,7 +19,8 @@ use Rattle.iova.proofs.Among.{in_le}
 use Rattle.iova.proofs.parts.Parts.{front_ends, ordered_behind}
 use Rattle.iova.proofs.shapes.Trees.{is_there}
 use Rattle.iova.proofs.shapes.Ways.{steps_few}
-use Rattle.iova.proofs.searches.Beside.{above-nil, below-nil, known_above, known_below, none_above, none_below, start_left, start_right, end_left, end_right}
+use Rattle.iova.proofs.searches.Beside.{above-nil, below-nil, known_above, known_below, none_above, none_below}
+use Rattle.iova.proofs.searches.Beside.{start_left, start_right, end_left, end_right}
 use Rattle.iova.proofs.searches.Descent.{in_here, in_front, in_back, before_first, ordered_at}
 use Rattle.iova.proofs.searches.Found.{empty_items, passes, short_none}
 

@@ -38,7 +38,8 @@ returns-in-Some-last_step c t from v =
     c.index-in-Some-last_step.result.now c.index-in-Some-last_step.ensures
     ∙ sym (start_none (get c.args.nodes.now) c.index.result.now.left s.l s.from c.args.pages.first (known_start s.path c.args.pages.first)
     s.before c.in_default.is)
-    ∙ sym s.start ∙ ap (λ ps. start_below ps c.args.pages.first c.args.pages.first) (one_tree (get c.args.nodes.now) c.args.root c.requires.tree.0 t
+    ∙ sym s.start ∙ ap (λ ps. start_below ps c.args.pages.first c.args.pages.first) (one_tree (get c.args.nodes.now) c.args.root
+    c.requires.tree.0 t
     c.requires.tree.2.below.here c.requires.tree.2.below.whole.tree.nodes v.here v.whole.tree.nodes)
 
 pub returns-in-None : goal.returns-in-None
@@ -49,7 +50,8 @@ returns-in-None c t from v =
     sym (start_untold s.path c.args.pages.first (sym (c.last_step.ensures s.path s.steps) ∙ c.in-None.is))
     ∙ sym (start_none (get c.args.nodes.now) c.index.result.now.left s.l s.from c.args.pages.first (known_start s.path c.args.pages.first)
     s.before c.in_default.is)
-    ∙ sym s.start ∙ ap (λ ps. start_below ps c.args.pages.first c.args.pages.first) (one_tree (get c.args.nodes.now) c.args.root c.requires.tree.0 t
+    ∙ sym s.start ∙ ap (λ ps. start_below ps c.args.pages.first c.args.pages.first) (one_tree (get c.args.nodes.now) c.args.root
+    c.requires.tree.0 t
     c.requires.tree.2.below.here c.requires.tree.2.below.whole.tree.nodes v.here v.whole.tree.nodes)
 
 pub index-requires-2 : goal.index-requires-2
@@ -66,7 +68,8 @@ returns-then-index-eq0 c t from v =
     c.requires.tree.1 c.requires.held c.index.ensures c.requires.tree.2 in
     sym (start_used (get c.args.nodes.now) c.index.result.now.left c.in-Some.before c.index-2.result.now s.l s.from c.args.pages.first
     s.before c.in-Some.is c.index-2.ensures c.if-index-eq0.true)
-    ∙ sym (s.start_own c.in-Some.before c.in-Some.is) ∙ ap (λ ps. start_below ps c.args.pages.first c.args.pages.first) (one_tree (get c.args.nodes.now) c.args.root c.requires.tree.0 t
+    ∙ sym (s.start_own c.in-Some.before c.in-Some.is)
+    ∙ ap (λ ps. start_below ps c.args.pages.first c.args.pages.first) (one_tree (get c.args.nodes.now) c.args.root c.requires.tree.0 t
     c.requires.tree.2.below.here c.requires.tree.2.below.whole.tree.nodes v.here v.whole.tree.nodes)
 
 pub start_of-requires : goal.start_of-requires
@@ -82,5 +85,6 @@ returns c t from v =
     stands (get c.args.nodes.now) c.args.root c.args.way.now c.args.held c.args.pages c.index.result.now c.requires.tree.0
     c.requires.tree.1 c.requires.held c.index.ensures c.requires.tree.2 in
     c.start_of.ensures s.l s.from (subst (λ a. IsBelow (get c.args.nodes.now) a s.l s.from) c.in-Some.is s.before)
-    ∙ sym (s.start_own c.in-Some.before c.in-Some.is) ∙ ap (λ ps. start_below ps c.args.pages.first c.args.pages.first) (one_tree (get c.args.nodes.now) c.args.root c.requires.tree.0 t
+    ∙ sym (s.start_own c.in-Some.before c.in-Some.is)
+    ∙ ap (λ ps. start_below ps c.args.pages.first c.args.pages.first) (one_tree (get c.args.nodes.now) c.args.root c.requires.tree.0 t
     c.requires.tree.2.below.here c.requires.tree.2.below.whole.tree.nodes v.here v.whole.tree.nodes)

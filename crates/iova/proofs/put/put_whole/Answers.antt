@@ -27,7 +27,8 @@ lift-requires c =
     let s = c.requires.same in
     let p = puts-whole c.args.nodes.now c.args.root c.args.piece.now c.args.way.now c.args.held i.0 i.1 c.requires.low i.2 c.requires.place
     c.index-node.result.now c.index-node.ensures i.4 s.0 s.1 s.2 s.3 c.longest.result c.longest-2.result c.max-below.result c.max-now.result
-    c.longest.ensures c.longest-2.ensures c.max-below.ensures (c.max-now.ensures ∙ ap (λ v. max v c.max-below.result) c.free_length.ensures) c.set_whole.new.nodes
+    c.longest.ensures c.longest-2.ensures c.max-below.ensures (c.max-now.ensures
+    ∙ ap (λ v. max v c.max-below.result) c.free_length.ensures) c.set_whole.new.nodes
     (c.set_whole.ensures.updates c.index-node.result.now c.index-node.ensures) c.set_whole.ensures.count in
     (c.args.root, p.path, p.there, p.here, p.can, p.longest)
 
@@ -36,7 +37,8 @@ returns-clause-put c t from below =
     let s = c.requires.same in
     let p = puts-whole c.args.nodes.now c.args.root c.args.piece.now c.args.way.now c.args.held t from c.requires.low below c.requires.place
     c.index-node.result.now c.index-node.ensures c.requires.tree.4 s.0 s.1 s.2 s.3 c.longest.result c.longest-2.result c.max-below.result
-    c.max-now.result c.longest.ensures c.longest-2.ensures c.max-below.ensures (c.max-now.ensures ∙ ap (λ v. max v c.max-below.result) c.free_length.ensures) c.set_whole.new.nodes
+    c.max-now.result c.longest.ensures c.longest-2.ensures c.max-below.ensures (c.max-now.ensures
+    ∙ ap (λ v. max v c.max-below.result) c.free_length.ensures) c.set_whole.new.nodes
     (c.set_whole.ensures.updates c.index-node.result.now c.index-node.ensures) c.set_whole.ensures.count in
     p.done c.lift.new.nodes (c.lift.ensures.mended c.args.root p.path p.there p.here p.can p.longest) c.lift.ensures.count
 
@@ -46,6 +48,7 @@ returns-clause-held c pages h =
     let s = c.requires.same in
     let p = puts-whole c.args.nodes.now c.args.root c.args.piece.now c.args.way.now c.args.held i.0 i.1 c.requires.low i.2 c.requires.place
     c.index-node.result.now c.index-node.ensures i.4 s.0 s.1 s.2 s.3 c.longest.result c.longest-2.result c.max-below.result c.max-now.result
-    c.longest.ensures c.longest-2.ensures c.max-below.ensures (c.max-now.ensures ∙ ap (λ v. max v c.max-below.result) c.free_length.ensures) c.set_whole.new.nodes
+    c.longest.ensures c.longest-2.ensures c.max-below.ensures (c.max-now.ensures
+    ∙ ap (λ v. max v c.max-below.result) c.free_length.ensures) c.set_whole.new.nodes
     (c.set_whole.ensures.updates c.index-node.result.now c.index-node.ensures) c.set_whole.ensures.count in
     p.leads c.lift.new.nodes c.lift.ensures.links pages h

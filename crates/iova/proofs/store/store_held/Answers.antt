@@ -18,7 +18,11 @@ put_whole-requires-clause-low c = kept_walk c.args.root c.args.nodes.now (pieces
 pub put_whole-requires-clause-place : goal.put_whole-requires-clause-place
 put_whole-requires-clause-place c =
     let h = c.requires.held in
-    subst (λ p. LeadsTo (get c.args.nodes.now) c.args.root p c.args.way.now (record { at = Some c.args.held.key; depth = c.args.held.depth }))
+    subst (λ p. LeadsTo (get c.args.nodes.now) c.args.root p c.args.way.now (record {
+      at = Some c.args.held.key;
+      depth =
+          c.args.held.depth;
+    }))
     h.2 (h.1.leads c.args.piece.state)
 
 pub put_whole-requires-clause-same : goal.put_whole-requires-clause-same

@@ -90,11 +90,13 @@ loop-depth-preserved c = (
       c.max-now.result c.free_length.ensures c.max.ensures other c.max-now.ensures in (
         lowers-within found.longest (free_pages found.piece) c.args.was (longest_of p.other) c.loop-depth.now c.max-now.result
             p.shown c.if-node-was.false g.0 is,
-        subst (λ x. Lifts c.args.nodes.now c.set_longest.new.nodes c.args.way.now (c.loop-depth.depth - 1) root path t new x c.max-now.result)
+        subst (λ x. Lifts c.args.nodes.now c.set_longest.new.nodes c.args.way.now (c.loop-depth.depth - 1) root path t new x
+            c.max-now.result)
             c.if-node-was.false (p.goes c.set_longest.new.nodes c.max-now.result (c.set_longest.ensures.updates found c.index-node.ensures)
             c.set_longest.ensures.count is),
       )),
-  keeps_written (get c.args.nodes.now) c.loop-depth.nodes c.set_longest.new.nodes (step_at c.args.way.now (c.loop-depth.depth - 1)).key c.index-node.result.now c.max-now.result c.loop-depth.invariant.1
+  keeps_written (get c.args.nodes.now) c.loop-depth.nodes c.set_longest.new.nodes (step_at c.args.way.now (c.loop-depth.depth - 1)).key
+      c.index-node.result.now c.max-now.result c.loop-depth.invariant.1
       c.index-node.ensures (c.set_longest.ensures.updates c.index-node.result.now c.index-node.ensures),
 )
 

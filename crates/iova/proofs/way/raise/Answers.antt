@@ -55,7 +55,8 @@ loop-depth-preserved c = (
         p.goes c.set_longest.new.nodes c.args.end.longest (c.set_longest.ensures.updates found c.index.ensures) c.set_longest.ensures.count
             (raises found.longest (free_pages found.piece) g.0 (longest_of p.other) c.args.end.longest p.shown c.if-index-now.false),
       )),
-  keeps_written (get c.args.nodes.now) c.loop-depth.nodes c.set_longest.new.nodes (step_at c.args.way.now (c.loop-depth.depth - 1)).key c.index.result.now c.args.end.longest c.loop-depth.invariant.1
+  keeps_written (get c.args.nodes.now) c.loop-depth.nodes c.set_longest.new.nodes (step_at c.args.way.now (c.loop-depth.depth - 1)).key
+      c.index.result.now c.args.end.longest c.loop-depth.invariant.1
       c.index.ensures (c.set_longest.ensures.updates c.index.result.now c.index.ensures),
 )
 
