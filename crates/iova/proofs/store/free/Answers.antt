@@ -38,7 +38,7 @@ returns-then-ends-pages-2 c =
     let q : Piece = pages_as c.args.pages Free in
     let ends = c.with_free_ends-ends in
     subst (λ ps. IsKept c.store_held.result c.store_held.new.nodes ps)
-    (put_freed a q ends.result.first ends.result.last ends.ensures.first ends.ensures.last) c.store_held.ensures
+    (put_freed a q ends.result.first ends.result.last ends.ensures.first ends.ensures.last) c.store_held.ensures.kept
 
 pub returns : goal.returns
 returns c =
