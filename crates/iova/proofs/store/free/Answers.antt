@@ -1,49 +1,93 @@
-use Rattle.std.proofs.Common.{List, ap, subst, length, arith}
+use Rattle.std.proofs.Common.{◌≡◌, ◌≤◌, ℕ, List, Option, ap, subst, sym, length, arith}
+use Rattle.slab.specs.Slab.{Slab}
+use Rattle.dmatypes.specs.World.{IsIn}
+use Rattle.iova.specs.declared.beside.Ends.{Ends}
+use Rattle.iova.specs.declared.node.Node.{Node}
 use Rattle.iova.specs.declared.piece.Piece.{Piece}
 use Rattle.iova.specs.declared.piece.PageState.TheVariants.{Free}
+use Rattle.iova.specs.Pieces.{IsOrdered, NoneFreeBelow, with_piece}
 use Rattle.iova.specs.Stored.{IsKept, pieces_of}
 use Rattle.iova.specs.Way.{pages_as}
+use Rattle.iova.proofs.Among.{put_piece}
 use Rattle.iova.proofs.FreedRun.{put_freed}
+use Rattle.iova.proofs.LowestFree.{none_below_less, none_below_put}
+use Rattle.iova.proofs.shapes.Tall.{kept_view}
 use Rattle.iova.proofs.store.free.Goals as goal
 
-pub store-requires-clause-few : goal.store-requires-clause-few
-store-requires-clause-few c =
+-- no free piece begins below the page once the free piece is put there
+below : (now : Option ℕ) (new : Slab Node) (pieces : List Piece) (low less : ℕ) (ends : Ends) → IsOrdered 1 pieces
+    → IsKept now new (with_piece (pages_as ends Free) pieces) → NoneFreeBelow low pieces → ends.first ≤ ends.last → less ≤ low
+    → less ≤ ends.first → NoneFreeBelow less (pieces_of new now)
+below now new pieces low less ends o k none w a b =
+    subst (λ ps. NoneFreeBelow less ps) (sym (kept_view now new (with_piece (pages_as ends Free) pieces) k))
+    (none_below_put less ends.first ends.last Free pieces o w (none_below_less less low pieces a none) (λ e. b))
+
+-- and it is there
+there : (now : Option ℕ) (new : Slab Node) (pieces : List Piece) (ends pages : Ends) → IsKept now new (with_piece (pages_as ends Free) pieces)
+    → ends.first ≡ pages.first → ends.last ≡ pages.last → IsIn (pages_as pages Free) (pieces_of new now)
+there now new pieces ends pages k a b =
+    subst (λ ps. IsIn (pages_as pages Free) ps) (sym (kept_view now new (with_piece (pages_as ends Free) pieces) k))
+    (subst (λ n. IsIn (record { first = pages.first; last = n; state = Free }) (with_piece (pages_as ends Free) pieces)) b
+    (subst (λ n. IsIn (record { first = n; last = ends.last; state = Free }) (with_piece (pages_as ends Free) pieces)) a
+    (put_piece ends.first ends.last Free pieces)))
+
+pub store-root-requires-clause-few : goal.store-root-requires-clause-few
+store-root-requires-clause-few c =
     let a = pieces_of c.args.nodes.now c.args.root in
     let q : Piece = pages_as c.args.pages Free in
     let ends = c.with_free_ends-ends in
     let e = ap (λ (ps : List Piece). length ps) (put_freed a q ends.result.first ends.result.last ends.ensures.first ends.ensures.last) in
     omega (arith, c.requires.few)
 
-pub store-requires-clause-piece : goal.store-requires-clause-piece
-store-requires-clause-piece c =
+pub store-root-requires-clause-piece : goal.store-root-requires-clause-piece
+store-root-requires-clause-piece c =
     let ends = c.with_free_ends-ends in
     (omega (arith, c.requires.piece, ends.ensures.first, ends.ensures.last), omega (arith, c.requires.piece, ends.ensures.last))
 
-pub store_held-requires-clause-few : goal.store_held-requires-clause-few
-store_held-requires-clause-few c =
+pub store_held-root-requires-clause-few : goal.store_held-root-requires-clause-few
+store_held-root-requires-clause-few c =
     let a = pieces_of c.args.nodes.now c.args.root in
     let q : Piece = pages_as c.args.pages Free in
     let ends = c.with_free_ends-ends in
     let e = ap (λ (ps : List Piece). length ps) (put_freed a q ends.result.first ends.result.last ends.ensures.first ends.ensures.last) in
     omega (arith, c.requires.few)
 
-pub store_held-requires-clause-piece : goal.store_held-requires-clause-piece
-store_held-requires-clause-piece c =
+pub store_held-root-requires-clause-piece : goal.store_held-root-requires-clause-piece
+store_held-root-requires-clause-piece c =
     let ends = c.with_free_ends-ends in
     (omega (arith, c.requires.piece, ends.ensures.first, ends.ensures.last), omega (arith, c.requires.piece, ends.ensures.last))
 
-pub returns-then-ends-pages-2 : goal.returns-then-ends-pages-2
-returns-then-ends-pages-2 c =
-    let a = pieces_of c.args.nodes.now c.args.root in
-    let q : Piece = pages_as c.args.pages Free in
+pub returns-then-pages-low-clause-low : goal.returns-then-pages-low-clause-low
+returns-then-pages-low-clause-low c =
     let ends = c.with_free_ends-ends in
-    subst (λ ps. IsKept c.store_held.result c.store_held.new.nodes ps)
-    (put_freed a q ends.result.first ends.result.last ends.ensures.first ends.ensures.last) c.store_held.ensures
+    below c.store_held-root.result c.store_held-root.new.nodes (pieces_of c.args.nodes.now c.args.root) c.args.low c.args.pages.first
+    ends.result c.requires.ordered c.store_held-root.ensures.kept c.requires.low
+    (omega (arith, c.requires.piece, ends.ensures.first, ends.ensures.last)) c.if-pages-low.true (omega (arith, c.if-ends-pages.true))
 
-pub returns : goal.returns
-returns c =
-    let a = pieces_of c.args.nodes.now c.args.root in
-    let q : Piece = pages_as c.args.pages Free in
+pub returns-then-pages-low-clause-in_mind : goal.returns-then-pages-low-clause-in_mind
+returns-then-pages-low-clause-in_mind c =
+    let ends = c.with_free_ends-ends in (
+      record {
+        there = there c.store_held-root.result c.store_held-root.new.nodes (pieces_of c.args.nodes.now c.args.root) ends.result c.args.pages
+            c.store_held-root.ensures.kept c.if-ends-pages.true c.if-ends-pages-2.true;
+        held = c.store_held-root.ensures.held c.args.pages c.requires.held;
+      },
+      below c.store_held-root.result c.store_held-root.new.nodes (pieces_of c.args.nodes.now c.args.root) c.args.low c.args.pages.first
+          ends.result c.requires.ordered c.store_held-root.ensures.kept c.requires.low
+          (omega (arith, c.requires.piece, ends.ensures.first, ends.ensures.last)) c.if-pages-low.true (omega (arith, c.if-ends-pages.true)),
+    )
+
+pub returns-then-ends-pages-2-clause-low : goal.returns-then-ends-pages-2-clause-low
+returns-then-ends-pages-2-clause-low c =
     let ends = c.with_free_ends-ends in
-    subst (λ ps. IsKept c.store.result c.store.new.nodes ps)
-    (put_freed a q ends.result.first ends.result.last ends.ensures.first ends.ensures.last) c.store.ensures
+    below c.store_held-root.result c.store_held-root.new.nodes (pieces_of c.args.nodes.now c.args.root) c.args.low c.args.low
+    ends.result c.requires.ordered c.store_held-root.ensures.kept c.requires.low
+    (omega (arith, c.requires.piece, ends.ensures.first, ends.ensures.last)) (omega arith)
+    (omega (arith, c.if-ends-pages.true, c.if-pages-low.false))
+
+pub returns-clause-low : goal.returns-clause-low
+returns-clause-low c =
+    let ends = c.with_free_ends-ends in
+    below c.store-root.result c.store-root.new.nodes (pieces_of c.args.nodes.now c.args.root) c.args.low c.min.result
+    ends.result c.requires.ordered c.store-root.ensures c.requires.low
+    (omega (arith, c.requires.piece, ends.ensures.first, ends.ensures.last)) (omega (arith, c.min.ensures)) (omega (arith, c.min.ensures))
