@@ -23,8 +23,9 @@ below now new pieces low less ends o k none w a b =
     (none_below_put less ends.first ends.last Free pieces o w (none_below_less less low pieces a none) (λ e. b))
 
 -- and it is there
-there : (now : Option ℕ) (new : Slab Node) (pieces : List Piece) (ends pages : Ends) → IsKept now new (with_piece (pages_as ends Free) pieces)
-    → ends.first ≡ pages.first → ends.last ≡ pages.last → IsIn (pages_as pages Free) (pieces_of new now)
+there : (now : Option ℕ) (new : Slab Node) (pieces : List Piece) (ends pages : Ends)
+    → IsKept now new (with_piece (pages_as ends Free) pieces) → ends.first ≡ pages.first → ends.last ≡ pages.last
+    → IsIn (pages_as pages Free) (pieces_of new now)
 there now new pieces ends pages k a b =
     subst (λ ps. IsIn (pages_as pages Free) ps) (sym (kept_view now new (with_piece (pages_as ends Free) pieces) k))
     (subst (λ n. IsIn (record { first = pages.first; last = n; state = Free }) (with_piece (pages_as ends Free) pieces)) b
@@ -74,7 +75,8 @@ returns-then-pages-low-clause-in_mind c =
       },
       below c.store_held-root.result c.store_held-root.new.nodes (pieces_of c.args.nodes.now c.args.root) c.args.low c.args.pages.first
           ends.result c.requires.ordered c.store_held-root.ensures.kept c.requires.low
-          (omega (arith, c.requires.piece, ends.ensures.first, ends.ensures.last)) c.if-pages-low.true (omega (arith, c.if-ends-pages.true)),
+          (omega (arith, c.requires.piece, ends.ensures.first, ends.ensures.last)) c.if-pages-low.true
+          (omega (arith, c.if-ends-pages.true)),
     )
 
 pub returns-then-ends-pages-2-clause-low : goal.returns-then-ends-pages-2-clause-low

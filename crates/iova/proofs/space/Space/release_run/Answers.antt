@@ -56,15 +56,16 @@ invariant_of-self c =
     let view = kept_view c.store-self-inside.result c.store-self-inside.new.nodes
     (with_piece (record { first = c.with_free_around-whole.result.first; last = c.with_free_around-whole.result.last; state = Free }) a.pieces)
     c.store-self-inside.ensures in
-    let now = view ∙ same in (
+    let now = view ∙ same in
+    let lower : NoneFreeBelow c.min-self-inside.result a.pieces = none_below_less c.min-self-inside.result c.self.inside.low a.pieces
+    (omega (arith, c.min-self-inside.ensures)) c.self.invariant.2 in (
       kept_self c.store-self-inside.result c.store-self-inside.new.nodes
           (with_piece (record { first = c.with_free_around-whole.result.first; last = c.with_free_around-whole.result.last; state = Free }) a.pieces)
           c.store-self-inside.ensures,
       subst (λ ps. IsSpace (record a { pieces = ps })) (sym now) (space_freed a q c.self.invariant.1 wide run),
-      subst (λ ps. NoneFreeBelow c.min-self-inside.result ps) (sym view) (none_below_put c.min-self-inside.result c.with_free_around-whole.result.first
-          c.with_free_around-whole.result.last Free a.pieces c.self.invariant.1.ordered (omega (arith, low, high, p))
-          (none_below_less c.min-self-inside.result c.self.inside.low a.pieces (omega (arith, c.min-self-inside.ensures)) c.self.invariant.2)
-          (λ e. omega (arith, c.min-self-inside.ensures))),
+      subst (λ ps. NoneFreeBelow c.min-self-inside.result ps) (sym view)
+          (none_below_put c.min-self-inside.result c.with_free_around-whole.result.first c.with_free_around-whole.result.last Free a.pieces
+          c.self.invariant.1.ordered (omega (arith, low, high, p)) lower (λ e. omega (arith, c.min-self-inside.ensures))),
       tt,
     )
 
