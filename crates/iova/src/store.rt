@@ -106,6 +106,59 @@ pub(crate) fn retire(
     store(nodes, root, piece)
 }
 
+/// What is there once a piece is free: the root, a page below which no free piece begins, and whether the pages are the
+/// lowest free piece by themselves.
+#[derive(Clone, Copy)]
+struct SetFree {
+    root: Option<usize>,
+    low: u64,
+    is_lowest: bool,
+}
+
+/// Frees the piece that has some pages, to which a way leads: it becomes one with the free ones that it touches. None
+/// of these began below the page `low`.
+fn set_free(
+    nodes: &mut Slab<Node>,
+    root: Option<usize>,
+    low: u64,
+    pages: Ends,
+    way: &[Step; MOST_HEIGHT],
+    held: Held,
+) -> SetFree
+    requires kept { IsKept root nodes.old (pieces_of nodes.old root) }
+    requires ordered { IsOrdered 1 (pieces_of nodes.old root) }
+    requires few { length (with_free (pages_as pages PageState.Free) (pieces_of nodes.old root)) ≤ MOST_PIECES }
+    requires piece { IsPiece (freed (pages_as pages PageState.Free) (pieces_of nodes.old root)) }
+    requires held { IsHeld (get nodes.old) root way.now held pages }
+    requires low { NoneFreeBelow low (pieces_of nodes.old root) }
+    ensures kept { IsKept result.root nodes.new (with_free (pages_as pages PageState.Free) (pieces_of nodes.old root)) }
+    ensures low { NoneFreeBelow result.low (pieces_of nodes.new result.root) }
+    ensures lowest { IsTrue result.is_lowest
+        → IsInMind nodes.new result.root way.now (InMind.Lowest (record { pages = pages; held = held })) }
+{
+    let ends = with_free_ends(nodes, root, way, held, pages);
+    let piece = Piece {
+        first: ends.first,
+        last: ends.last,
+        state: PageState::Free,
+    };
+    let now_low = low.min(ends.first);
+    if ends.first == pages.first && ends.last == pages.last {
+        let root = store_held(nodes, root, piece, way, held);
+        return SetFree {
+            root,
+            low: now_low,
+            is_lowest: pages.first <= low,
+        };
+    }
+    let root = store(nodes, root, piece);
+    SetFree {
+        root,
+        low: now_low,
+        is_lowest: false,
+    }
+}
+
 /// What is there once a piece is free: the root, a page below which no free piece begins, and the free piece, where it
 /// is the lowest and the way still leads to it.
 #[derive(Clone, Copy)]
@@ -115,8 +168,9 @@ pub(crate) struct Freed {
     pub(crate) in_mind: InMind,
 }
 
-/// Frees the piece that has some pages, to which a way leads: it becomes one with the free ones that it touches. None
-/// of these began below the page `low`.
+/// The same, with what is to be kept in mind of it. What a call answers goes through memory: this is inlined, so that the
+/// piece, which its caller knows, doesn't.
+#[inline(always)]
 pub(crate) fn free(
     nodes: &mut Slab<Node>,
     root: Option<usize>,
@@ -135,31 +189,19 @@ pub(crate) fn free(
     ensures low { NoneFreeBelow result.low (pieces_of nodes.new result.root) }
     ensures in_mind { IsInMind nodes.new result.root way.now result.in_mind }
 {
-    let ends = with_free_ends(nodes, root, way, held, pages);
-    let piece = Piece {
-        first: ends.first,
-        last: ends.last,
-        state: PageState::Free,
-    };
-    if ends.first == pages.first && ends.last == pages.last {
-        let root = store_held(nodes, root, piece, way, held);
-        if pages.first <= low {
-            return Freed {
-                root,
-                low: pages.first,
-                in_mind: InMind::Lowest(Known { pages, held }),
-            };
-        }
+    let set = set_free(nodes, root, low, pages, way, held);
+    let root = set.root;
+    let low = set.low;
+    if set.is_lowest {
         return Freed {
             root,
             low,
-            in_mind: InMind::Nothing,
+            in_mind: InMind::Lowest(Known { pages, held }),
         };
     }
-    let root = store(nodes, root, piece);
     Freed {
         root,
-        low: low.min(ends.first),
+        low,
         in_mind: InMind::Nothing,
     }
 }
