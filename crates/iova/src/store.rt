@@ -72,8 +72,7 @@ pub(crate) fn store_held(
     requires piece { IsPiece piece }
     requires held { (pages : Ends) × IsHeld (get nodes.old) root way.now held pages × (pages_as pages piece.state ≡ piece) }
     ensures kept { IsKept result nodes.new (with_piece piece (pieces_of nodes.old root)) }
-    ensures held { (pages : Ends) → IsHeld (get nodes.old) root way.now held pages
-        → IsHeld (get nodes.new) result way.now held pages }
+    ensures held { (pages : Ends) → IsHeld (get nodes.old) root way.now held pages → IsHeld (get nodes.new) result way.now held pages }
 {
     let place = Place {
         at: Some(held.key),
@@ -113,6 +112,15 @@ struct SetFree {
     root: Option<usize>,
     low: u64,
     is_lowest: bool,
+}
+
+/// What is there once a piece is free: the root, a page below which no free piece begins, and the free piece, where it
+/// is the lowest and the way still leads to it.
+#[derive(Clone, Copy)]
+pub(crate) struct Freed {
+    pub(crate) root: Option<usize>,
+    pub(crate) low: u64,
+    pub(crate) in_mind: InMind,
 }
 
 /// Frees the piece that has some pages, to which a way leads: it becomes one with the free ones that it touches. None
@@ -159,17 +167,8 @@ fn set_free(
     }
 }
 
-/// What is there once a piece is free: the root, a page below which no free piece begins, and the free piece, where it
-/// is the lowest and the way still leads to it.
-#[derive(Clone, Copy)]
-pub(crate) struct Freed {
-    pub(crate) root: Option<usize>,
-    pub(crate) low: u64,
-    pub(crate) in_mind: InMind,
-}
-
-/// The same, with what is to be kept in mind of it. What a call answers goes through memory: this is inlined, so that the
-/// piece, which its caller knows, doesn't.
+/// The same, with what is to be kept in mind of it. It is inlined: what a call answers goes through memory, and its
+/// caller knows the piece anyway.
 #[inline(always)]
 pub(crate) fn free(
     nodes: &mut Slab<Node>,
