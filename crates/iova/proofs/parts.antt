@@ -6,4 +6,5 @@ pub mod Over
 pub mod Covered
 pub mod PutIn
 pub mod PutUp
+pub mod PutWhole
 pub mod Filled

@@ -10,3 +10,4 @@ pub mod Steps
 pub mod Tall
 pub mod Ways
 pub mod Lifted
+pub mod Linked

@@ -125,6 +125,10 @@ pub record KeepsCount (old new : Slab Node) : Type 0 where
   pub len : slab_len new ≡ slab_len old
   pub capacity : new.capacity ≡ old.capacity
 
+-- each key with a node keeps it, but for what is longest there
+abbrev pub KeepsLinks : Look → Look → Type 0
+KeepsLinks old new = (k : ℕ) (node : Node) → old k ≡ Some node → (longest : ℕ) × (new k ≡ Some (record node { longest = longest }))
+
 -- two trees and a key, with no key in two places
 pub record AreParts (look : Look) (left : Top) (key : ℕ) (right : Top) (l r : Shape) : Type 0 where
   pub before : IsTree look left l

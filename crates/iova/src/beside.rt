@@ -134,6 +134,60 @@ pub(crate) fn with_free(nodes: &Slab<Node>, root: Option<usize>, pages: Ends) ->
     Ends { first, last }
 }
 
+/// Where the free pages just before a piece begin, to whose key a way leads. The tree before the key shows what is longest
+/// in it: mostly none of its pieces is free, and no way goes down there. Where no tree is, the piece of the last step behind
+/// a key lies just before.
+#[inline(always)]
+fn start_by_way(
+    nodes: &Slab<Node>,
+    root: Option<usize>,
+    way: &[Step; MOST_HEIGHT],
+    held: Held,
+    pages: Ends,
+) -> u64
+    requires tree { CanWalk (get nodes.now) root }
+    requires held { IsHeld (get nodes.now) root way.now held pages }
+    ensures { (t : Shape) (from : ℕ) → IsBelow (get nodes.now) root t from → result ≡ start_below (items t) pages.first pages.first }
+{
+    let left = nodes[held.key].left;
+    let Some(before) = left else {
+        return match last_step(way, held.depth, false) {
+            Some(key) => start(nodes[key].piece, pages.first),
+            None => pages.first,
+        };
+    };
+    if nodes[before].longest == 0 {
+        return pages.first;
+    }
+    start_of(nodes, left, pages.first, pages.first)
+}
+
+/// Where the free pages just after it end, by the tree behind its key or the last step before one.
+#[inline(always)]
+fn end_by_way(
+    nodes: &Slab<Node>,
+    root: Option<usize>,
+    way: &[Step; MOST_HEIGHT],
+    held: Held,
+    pages: Ends,
+) -> u64
+    requires tree { CanWalk (get nodes.now) root }
+    requires held { IsHeld (get nodes.now) root way.now held pages }
+    ensures { (t : Shape) (from : ℕ) → IsBelow (get nodes.now) root t from → result ≡ end_above (items t) pages.last pages.last }
+{
+    let right = nodes[held.key].right;
+    let Some(behind) = right else {
+        return match last_step(way, held.depth, true) {
+            Some(key) => end(nodes[key].piece, pages.last),
+            None => pages.last,
+        };
+    };
+    if nodes[behind].longest == 0 {
+        return pages.last;
+    }
+    end_of(nodes, right, pages.last, pages.last)
+}
+
 /// The same for the pages of the piece at a key, to which a way leads.
 #[inline(always)]
 pub(crate) fn with_free_by(
@@ -150,17 +204,8 @@ pub(crate) fn with_free_by(
     ensures last { (t : Shape) (from : ℕ) → IsBelow (get nodes.now) root t from
         → result.last ≡ end_above (items t) pages.last pages.last }
 {
-    let node = &nodes[held.key];
-    let first = match last_step(way, held.depth, false) {
-        Some(key) => start(nodes[key].piece, pages.first),
-        None => pages.first,
-    };
-    let last = match last_step(way, held.depth, true) {
-        Some(key) => end(nodes[key].piece, pages.last),
-        None => pages.last,
-    };
     Ends {
-        first: start_of(nodes, node.left, pages.first, first),
-        last: end_of(nodes, node.right, pages.last, last),
+        first: start_by_way(nodes, root, way, held, pages),
+        last: end_by_way(nodes, root, way, held, pages),
     }
 }

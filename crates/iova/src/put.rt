@@ -4,16 +4,17 @@ ghost use Rattle.std.specs.Prelude.{◌≡◌, ℕ, ◌+◌, ◌<◌, ◌≤◌,
 ghost use Rattle.slab.specs.Slab.{get, slab_len};
 ghost use Rattle.iova.specs.Pieces.{IsOrdered, part_above, part_below, with_piece};
 ghost use Rattle.iova.specs.declared.node.Node.{Node};
-ghost use Rattle.iova.specs.Way.{CanWalk, LeadsTo, Meets};
+ghost use Rattle.iova.specs.Way.{CanWalk, IsHeld, LeadsTo, Meets};
 ghost use Rattle.iova.specs.Tree.{CanPut, IsBelow, IsLow, IsPiece, Leaves, Shape, items, rest_above, rest_below};
 
+use crate::beside::Ends;
 use crate::ends::{add_first, add_last, leaf};
-use crate::links::read;
-use crate::node::Node;
+use crate::links::{free_length, longest, read};
+use crate::node::{Node, Top};
 use crate::piece::Piece;
-use crate::settle::{set_all, set_left, set_piece, set_right, settle};
+use crate::settle::{set_all, set_left, set_piece, set_right, set_whole, settle};
 use crate::trims::{keep_above, keep_below};
-use crate::way::{MOST_HEIGHT, NO_STEP, Place, Step, lift, mend, walk};
+use crate::way::{Held, MOST_HEIGHT, NO_STEP, Place, Step, lift, mend, walk};
 use slab::Slab;
 
 /// Keeps what a tree has below a page, where the tree lies before a place.
@@ -212,9 +213,42 @@ fn meets(nodes: &Slab<Node>, at: Option<usize>, piece: &Piece) -> bool
     piece.first <= node.piece.last && node.piece.first <= piece.last
 }
 
-/// Puts a piece over what a tree has, where a way leads to the place for it.
+/// Puts a piece in the place of the one at a key, which has its pages. No tree changes its height then, so what is longest
+/// alone is renewed from there up: the root stays, and the way still leads there.
 #[inline(always)]
-pub(crate) fn put_by(
+pub(crate) fn put_whole(
+    nodes: &mut Slab<Node>,
+    root: Option<usize>,
+    piece: &Piece,
+    way: &[Step; MOST_HEIGHT],
+    held: Held,
+)
+    requires tree { CanPut nodes.old root piece.now }
+    requires low { CanWalk (get nodes.old) root }
+    requires place { LeadsTo (get nodes.old) root piece.now way.now (record { at = Some held.key; depth = held.depth }) }
+    requires same { (n : Node) × (get nodes.old held.key ≡ Some n)
+        × (piece.now.first ≡ n.piece.first) × (piece.now.last ≡ n.piece.last) }
+    ensures put { (t : Shape) (from : ℕ) → IsBelow (get nodes.old) root t from
+        → Leaves nodes.old nodes.new root t (with_piece piece.now (items t)) 1 }
+    ensures held { (pages : Ends) → IsHeld (get nodes.old) root way.now held pages → IsHeld (get nodes.new) root way.now held pages }
+{
+    let node = &nodes[held.key];
+    let was = node.longest;
+    let height = node.height;
+    let below = longest(nodes, node.left).max(longest(nodes, node.right));
+    let now = free_length(*piece).max(below);
+    set_whole(nodes, held.key, *piece, now);
+    let top = Top {
+        root: Some(held.key),
+        height,
+        longest: now,
+    };
+    lift(nodes, way, held.depth, was, top);
+}
+
+/// Puts a piece over what lies where a way leads to, and brings the tree up to date from there.
+#[inline(never)]
+fn put_part(
     nodes: &mut Slab<Node>,
     root: Option<usize>,
     piece: &Piece,
@@ -235,6 +269,35 @@ pub(crate) fn put_by(
         return root;
     }
     mend(nodes, way, place.depth, root, top)
+}
+
+/// Puts a piece over what a tree has, where a way leads to the place for it.
+#[inline(always)]
+pub(crate) fn put_by(
+    nodes: &mut Slab<Node>,
+    root: Option<usize>,
+    piece: &Piece,
+    way: &[Step; MOST_HEIGHT],
+    place: Place,
+) -> Option<usize>
+    requires tree { CanPut nodes.old root piece.now }
+    requires low { CanWalk (get nodes.old) root }
+    requires place { LeadsTo (get nodes.old) root piece.now way.now place }
+    ensures { (t : Shape) (from : ℕ) → IsBelow (get nodes.old) root t from
+        → Leaves nodes.old nodes.new result t (with_piece piece.now (items t)) 1 }
+{
+    if let Some(key) = place.at {
+        let node = &nodes[key];
+        if piece.first == node.piece.first && piece.last == node.piece.last {
+            let held = Held {
+                key,
+                depth: place.depth,
+            };
+            put_whole(nodes, root, piece, way, held);
+            return root;
+        }
+    }
+    put_part(nodes, root, piece, way, place)
 }
 
 /// Puts a piece over what a tree has, below its key.

@@ -42,6 +42,19 @@ pub(crate) fn set_piece(nodes: &mut Slab<Node>, key: usize, piece: Piece)
     nodes[key].piece = piece;
 }
 
+/// Writes the piece at a key, and what is longest below it.
+#[inline(always)]
+pub(crate) fn set_whole(nodes: &mut Slab<Node>, key: usize, piece: Piece, longest: u64)
+    requires { IsSome (get nodes.old key) }
+    ensures updates { (n : Node) → get nodes.old key ≡ Some n
+        → Updates nodes.old nodes.new key (Some (record n { piece = piece; longest = longest })) }
+    ensures count { KeepsCount nodes.old nodes.new }
+{
+    let node = &mut nodes[key];
+    node.piece = piece;
+    node.longest = longest;
+}
+
 /// Writes the piece and both children at a key.
 #[inline(always)]
 pub(crate) fn set_all(

@@ -14,7 +14,7 @@ ghost use Rattle.iova.specs.Way.{IsHeld, LeadsTo, pages_as};
 use crate::beside::{Ends, with_free, with_free_by};
 use crate::node::{NUMBERS_END, Node};
 use crate::piece::{PageState, Piece};
-use crate::put::{put, put_by};
+use crate::put::{put, put_by, put_whole};
 use crate::search::{find, first_free, lowest_fit, seek};
 use crate::space::MOST_PIECES;
 use crate::way::{Held, InMind, Known, MOST_HEIGHT, Place, Spot, Step, walk};
@@ -74,11 +74,8 @@ pub(crate) fn store_held(
     ensures kept { IsKept result nodes.new (with_piece piece (pieces_of nodes.old root)) }
     ensures held { (pages : Ends) → IsHeld (get nodes.old) root way.now held pages → IsHeld (get nodes.new) result way.now held pages }
 {
-    let place = Place {
-        at: Some(held.key),
-        depth: held.depth,
-    };
-    store_by(nodes, root, piece, way, place)
+    put_whole(nodes, root, &piece, way, held);
+    root
 }
 
 /// Puts a piece over those that are there: where one was judged that has its pages, by the way that leads to that.

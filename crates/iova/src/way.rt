@@ -3,7 +3,7 @@
 ghost use Rattle.std.specs.Prelude.{◌≡◌, ◌≤◌, ℕ, Option, Some, true, false};
 ghost use Rattle.slab.specs.Slab.{get};
 ghost use Rattle.iova.specs.declared.node.Node.{Node};
-ghost use Rattle.iova.specs.Tree.{IsPiece, KeepsCount, Shape, longest_of};
+ghost use Rattle.iova.specs.Tree.{IsPiece, KeepsCount, KeepsLinks, Shape, longest_of};
 ghost use Rattle.iova.specs.Way.{Above, CanHangBefore, CanHangBehind, CanMend, CanWalk, Mends, Walks};
 ghost use Rattle.iova.specs.Way.{CanLift, IsHungBefore, IsHungBehind, JoinsBefore, JoinsBehind};
 
@@ -255,6 +255,7 @@ fn raise(nodes: &mut Slab<Node>, way: &[Step; MOST_HEIGHT], steps: usize, end: T
     ensures mended { (root : Option ℕ) (path : Above) (t new : Shape) → CanLift (get nodes.old) way.now steps root end path t new
         → longest_of t ≤ end.longest → Mends (get nodes.old) (get nodes.new) root path t new }
     ensures count { KeepsCount nodes.old nodes.new }
+    ensures links { KeepsLinks (get nodes.old) (get nodes.new) }
 {
     let now = end.longest;
     let mut depth = steps;
@@ -288,6 +289,7 @@ fn lower(nodes: &mut Slab<Node>, way: &[Step; MOST_HEIGHT], steps: usize, was: u
     ensures mended { (root : Option ℕ) (path : Above) (t new : Shape) → CanLift (get nodes.old) way.now steps root end path t new
         → was ≡ longest_of t → end.longest ≤ was → Mends (get nodes.old) (get nodes.new) root path t new }
     ensures count { KeepsCount nodes.old nodes.new }
+    ensures links { KeepsLinks (get nodes.old) (get nodes.new) }
 {
     let mut depth = steps;
     let mut now = end.longest;
@@ -323,6 +325,7 @@ pub(crate) fn lift(
     ensures mended { (root : Option ℕ) (path : Above) (t new : Shape) → CanLift (get nodes.old) way.now steps root end path t new
         → was ≡ longest_of t → Mends (get nodes.old) (get nodes.new) root path t new }
     ensures count { KeepsCount nodes.old nodes.new }
+    ensures links { KeepsLinks (get nodes.old) (get nodes.new) }
 {
     if was < end.longest {
         raise(nodes, way, steps, end);

@@ -1,15 +1,18 @@
 -- The free pieces beside some pages, found on ways down.
-use Rattle.std.proofs.Common.{◌≡◌, ◌≢◌, ◌⊎◌, ℕ, IsTrue, false, ◌+◌, ◌<◌, ◌≤◌, List, [], ◌∷◌, ◌++◌, Option, Some, None, refl, ap, sym, ◌∙◌, inl, inr, arith}
+use Rattle.std.proofs.Common.{◌≡◌, ◌≢◌, ◌⊎◌, ℕ, IsTrue, false, ◌+◌, ◌<◌, ◌≤◌, List, length, [], ◌∷◌}
+use Rattle.std.proofs.Common.{◌++◌, Option, Some, None, refl, ap, sym, ◌∙◌, inl, inr, arith}
+use Rattle.std.specs.List.{AllByRecursion}
 use Rattle.std.proofs.lemmas.Bool.{cases_eq}
 use Rattle.std.proofs.lemmas.Bool.Decides.{nat_tests}
 use Rattle.iova.specs.declared.piece.Piece.{Piece}
 use Rattle.iova.specs.declared.node.Node.{Node}
 use Rattle.iova.specs.Pieces.{IsOrdered, free_end, free_start, is_free}
-use Rattle.iova.specs.Search.{end_above, end_by, start_below, start_by}
+use Rattle.iova.specs.Search.{HasNoRoom, end_above, end_by, start_below, start_by}
 use Rattle.iova.specs.Tree.{Look, Shape, items, IsBelow}
 use Rattle.iova.proofs.Pieces.{order}
-use Rattle.iova.proofs.searches.Found.{Passes, passes, one_tree, empty_items}
-use Rattle.iova.proofs.FreeRange.{free_cases, free_start-here, free_start-other, free_start-nil, free_end-here, free_end-other, free_end-nil}
+use Rattle.iova.proofs.searches.Found.{Passes, passes, one_tree, empty_items, own_round_up}
+use Rattle.iova.proofs.FreeRange.{free_cases, free_start-here, free_start-other, free_start-nil}
+use Rattle.iova.proofs.FreeRange.{free_end-here, free_end-other, free_end-nil}
 use Rattle.iova.proofs.searches.FreeEnds.{start_none, end_none}
 
 pub below-nil : (first other : ℕ) → start_below [] first other ≡ other
@@ -86,6 +89,48 @@ end_is from last (p ∷ ps) o =
         | inr f ↦ by_end-other p last (inl f) ∙ sym (free_end-other p ps last (inl f)
             ∙ end_none (p.last + 1) last ps o.3 (omega (arith, o.1)))
       ])
+    ]
+
+-- ---- where all lie on one side
+
+-- the last of some pieces below a page tells of it, whatever is known besides
+pub known_below : (ps : List Piece) (first a b : ℕ) → 1 ≤ length ps → AllByRecursion (λ q. q.last < first) ps
+    → start_below ps first a ≡ start_below ps first b
+known_below [] first a b some h = absurd (omega arith)
+known_below (p ∷ ps) first a b some h = below-more p ps first a h.0 ∙ sym (below-more p ps first b h.0)
+
+-- and the first of some above it
+pub known_above : (from last a b : ℕ) (ps : List Piece) → IsOrdered from ps → 1 ≤ length ps → last < from
+    → end_above ps last a ≡ end_above ps last b
+known_above from last a b [] o some h = absurd (omega arith)
+known_above from last a b (p ∷ ps) o some h =
+    above-here p ps last a (omega (arith, o.0)) ∙ sym (above-here p ps last b (omega (arith, o.0)))
+
+-- a piece without room for a page isn't free
+not_free : (p : Piece) → p.first ≤ p.last → HasNoRoom 1 1 p → is_free p.state ≡ false
+not_free p some n = elim (free_cases p.state) [
+  | inl f ↦ absurd (n f p.first (omega arith) (own_round_up p.first).0 (omega arith))
+  | inr f ↦ f
+]
+
+-- and where none is free, no free piece touches the page
+pub none_below : (from first : ℕ) (ps : List Piece) → IsOrdered from ps → AllByRecursion (HasNoRoom 1 1) ps
+    → start_below ps first first ≡ first
+none_below from first [] o n = below-nil first first
+none_below from first (p ∷ ps) o n =
+    elim (order first p.last) [
+      | inl k ↦ below-stop p ps first first k
+      | inr k ↦ below-more p ps first first k
+          ∙ ap (λ x. start_below ps first x) (by_start-other p first (inl (not_free p o.1 n.0)))
+          ∙ none_below (p.last + 1) first ps o.3 n.1
+    ]
+
+pub none_above : (from last : ℕ) (ps : List Piece) → IsOrdered from ps → AllByRecursion (HasNoRoom 1 1) ps → end_above ps last last ≡ last
+none_above from last [] o n = above-nil last last
+none_above from last (p ∷ ps) o n =
+    elim (order p.first last) [
+      | inl k ↦ above-more p ps last last k ∙ none_above (p.last + 1) last ps o.3 n.1
+      | inr k ↦ above-here p ps last last k ∙ by_end-other p last (inl (not_free p o.1 n.0))
     ]
 
 -- ---- on the way

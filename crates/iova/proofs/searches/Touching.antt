@@ -1,6 +1,6 @@
 -- The free pieces that touch a piece to which a way leads.
 use Rattle.std.proofs.Common.{◌≡◌, ◌≢◌, ℕ, ◌+◌, ◌-◌, ◌<◌, ◌≤◌, Bool, true, false, List, ◌∷◌, ◌++◌, Option, Some, None, IsSome}
-use Rattle.std.proofs.Common.{refl, ap, sym, ◌∙◌, inr, subst, arith}
+use Rattle.std.proofs.Common.{refl, ap, sym, ◌∙◌, inr, subst, arith, length, length-append}
 use Rattle.std.proofs.Math.Bool.{beq}
 use Rattle.std.specs.Cmp.{booleans_Decides}
 use Rattle.dmatypes.specs.World.{IsIn}
@@ -13,15 +13,16 @@ use Rattle.iova.specs.declared.way.Held.{Held}
 use Rattle.iova.specs.declared.way.Step.{Step}
 use Rattle.iova.specs.Pieces.{IsOrdered}
 use Rattle.iova.specs.Search.{end_above, end_by, start_below, start_by}
-use Rattle.iova.specs.Tree.{Look, Shape, Fork, items, height_of, node_of, IsPiece, IsBelow}
+use Rattle.iova.specs.Tree.{Look, Shape, Empty, Fork, root_of, items, height_of, node_of, IsPiece, IsBelow}
 use Rattle.iova.specs.Way.{Above, Whole, Before, Behind, plug, AreAbove, AreFine, AreSteps, step_at, last_key, IsLowBelow, IsHeld}
 use Rattle.iova.proofs.Among.{in_le}
-use Rattle.iova.proofs.parts.Parts.{ordered_behind}
+use Rattle.iova.proofs.parts.Parts.{front_ends, ordered_behind}
 use Rattle.iova.proofs.shapes.Trees.{is_there}
 use Rattle.iova.proofs.shapes.Ways.{steps_few}
+use Rattle.iova.proofs.searches.Beside.{above-nil, below-nil, known_above, known_below, none_above, none_below}
 use Rattle.iova.proofs.searches.Beside.{start_left, start_right, end_left, end_right}
 use Rattle.iova.proofs.searches.Descent.{in_here, in_front, in_back, before_first, ordered_at}
-use Rattle.iova.proofs.searches.Found.{passes}
+use Rattle.iova.proofs.searches.Found.{empty_items, passes, short_none}
 
 -- ---- what lies above a place says of the pages of a piece in it
 
@@ -210,9 +211,17 @@ pub record Stands (look : Look) (whole : Shape) (way : List Step) (held : Held) 
   pub behind : IsBelow look node.right r (node.piece.last + 1)
   pub start : start_below (items whole) pages.first pages.first ≡ start_below (items l) pages.first (known_start path pages.first)
   pub end : end_above (items whole) pages.last pages.last ≡ end_above (items r) pages.last (known_end path pages.last)
+  pub start_own : (key : ℕ) → node.left ≡ Some key
+      → start_below (items whole) pages.first pages.first ≡ start_below (items l) pages.first pages.first
+  pub end_own : (key : ℕ) → node.right ≡ Some key
+      → end_above (items whole) pages.last pages.last ≡ end_above (items r) pages.last pages.last
   pub low : pages.last < NUMBERS_END
   pub start_key : (key : ℕ) → last_key false path ≡ Some key → Tells look key (λ p. start_by p pages.first) (known_start path pages.first)
   pub end_key : (key : ℕ) → last_key true path ≡ Some key → Tells look key (λ p. end_by p pages.last) (known_end path pages.last)
+
+some_items : (root : Option ℕ) (t : Shape) (key : ℕ) → root ≡ root_of t → root ≡ Some key → 1 ≤ length (items t)
+some_items root Empty key e f = absurd (cc)
+some_items root (Fork k p l r) key e f = omega (arith, length-append (items l) (p ∷ items r))
 
 pub stands : (look : Look) (root : Option ℕ) (way : List Step) (held : Held) (pages : Ends) (node : Node) (t : Shape) (from : ℕ)
     → IsHeld look root way held pages → look held.key ≡ Some node → IsLowBelow look root t from → Stands look t way held pages node
@@ -224,6 +233,18 @@ stands look root way held pages node t from i e w =
     let last : node.piece.last ≡ pages.last = sym (ap (λ (n : Node). n.piece.last) same) ∙ i.last in
     let o : IsOrdered from (items (plug q.path q.t)) = subst (λ x. IsOrdered from (items x)) q.is w.below.whole.ordered in
     let m : IsIn node.piece (items q.t) = subst (λ x. IsIn node.piece (items x)) (sym s.is) (in_here node.piece (items s.l) (items s.r)) in
+    let start : start_below (items t) pages.first pages.first ≡ start_below (items s.l) pages.first (known_start q.path pages.first) =
+    subst (λ f. start_below (items t) f f ≡ start_below (items s.l) f (known_start q.path f)) first
+    (ap (λ x. start_below (items x) node.piece.first node.piece.first) q.is
+    ∙ start_at q.path q.t from node.piece o q.fine m
+    ∙ ap (λ x. start_below (items x) node.piece.first (known_start q.path node.piece.first)) s.is
+    ∙ start_left node.piece.first (known_start q.path node.piece.first) (items s.l) node.piece (items s.r) s.piece.0) in
+    let end : end_above (items t) pages.last pages.last ≡ end_above (items s.r) pages.last (known_end q.path pages.last) =
+    subst (λ f. end_above (items t) f f ≡ end_above (items s.r) f (known_end q.path f)) last
+    (ap (λ x. end_above (items x) node.piece.last node.piece.last) q.is
+    ∙ end_at q.path q.t from node.piece o q.fine m
+    ∙ ap (λ x. end_above (items x) node.piece.last (known_end q.path node.piece.last)) s.is
+    ∙ end_right q.from node.piece.last (known_end q.path node.piece.last) (items s.l) node.piece (items s.r) s.ordered s.piece.0) in
     record {
       path = q.path;
       steps = q.steps;
@@ -235,17 +256,39 @@ stands look root way held pages node t from i e w =
       from = q.from;
       before = s.before;
       behind = s.behind;
-      start = subst (λ f. start_below (items t) f f ≡ start_below (items s.l) f (known_start q.path f)) first
-          (ap (λ x. start_below (items x) node.piece.first node.piece.first) q.is
-          ∙ start_at q.path q.t from node.piece o q.fine m
-          ∙ ap (λ x. start_below (items x) node.piece.first (known_start q.path node.piece.first)) s.is
-          ∙ start_left node.piece.first (known_start q.path node.piece.first) (items s.l) node.piece (items s.r) s.piece.0);
-      end = subst (λ f. end_above (items t) f f ≡ end_above (items s.r) f (known_end q.path f)) last
-          (ap (λ x. end_above (items x) node.piece.last node.piece.last) q.is
-          ∙ end_at q.path q.t from node.piece o q.fine m
-          ∙ ap (λ x. end_above (items x) node.piece.last (known_end q.path node.piece.last)) s.is
-          ∙ end_right q.from node.piece.last (known_end q.path node.piece.last) (items s.l) node.piece (items s.r) s.ordered s.piece.0);
+      start = start;
+      end = end;
+      start_own = λ key e. start ∙ known_below (items s.l) pages.first (known_start q.path pages.first) pages.first
+          (some_items node.left s.l key s.before.here e)
+          (front_ends q.from (items s.l) node.piece (items s.r) pages.first s.ordered (omega arith));
+      end_own = λ key e. end ∙ known_above (node.piece.last + 1) pages.last (known_end q.path pages.last) pages.last (items s.r)
+          s.behind.whole.ordered (some_items node.right s.r key s.behind.here e) (omega arith);
       low = omega (arith, s.piece);
       start_key = λ key k. start_told look q.path q.t pages.first key q.above q.fine k;
       end_key = λ key k. end_told look q.path q.t pages.last key q.above q.fine k;
     }
+
+-- ---- what the tree on one side of it tells
+
+-- where there is none, what is known above it
+pub start_none : (look : Look) (root : Option ℕ) (t : Shape) (from first known : ℕ) → IsBelow look root t from → root ≡ None
+    → start_below (items t) first known ≡ known
+start_none look root t from first known w e =
+    ap (λ ps. start_below ps first known) (empty_items root t w.here e) ∙ below-nil first known
+
+pub end_none : (look : Look) (root : Option ℕ) (t : Shape) (from last known : ℕ) → IsBelow look root t from → root ≡ None
+    → end_above (items t) last known ≡ known
+end_none look root t from last known w e = ap (λ ps. end_above ps last known) (empty_items root t w.here e) ∙ above-nil last known
+
+-- where none of its pieces is free, none touches
+pub start_used : (look : Look) (root : Option ℕ) (key : ℕ) (node : Node) (t : Shape) (from first : ℕ) → IsBelow look root t from
+    → root ≡ Some key → look key ≡ Some node → node.longest ≡ 0 → start_below (items t) first first ≡ first
+start_used look root key node t from first w e f none =
+    let s = passes look root key node t from w e f in
+    none_below from first (items t) w.whole.ordered (short_none 1 1 t (omega (arith, s.longest)))
+
+pub end_used : (look : Look) (root : Option ℕ) (key : ℕ) (node : Node) (t : Shape) (from last : ℕ) → IsBelow look root t from
+    → root ≡ Some key → look key ≡ Some node → node.longest ≡ 0 → end_above (items t) last last ≡ last
+end_used look root key node t from last w e f none =
+    let s = passes look root key node t from w e f in
+    none_above from last (items t) w.whole.ordered (short_none 1 1 t (omega (arith, s.longest)))

@@ -15,7 +15,7 @@ use Rattle.iova.proofs.shapes.Ways.{LastBefore, LastBehind, last, can, j, last-b
 use Rattle.iova.proofs.shapes.Ways.{mending-few, mending-stops_before, mending-stops_behind}
 
 -- trees with one root show the same
-same_top : (look : Look) (a b : Shape) → root_of a ≡ root_of b → AreNodes look a → AreNodes look b → top_of a ≡ top_of b
+pub same_top : (look : Look) (a b : Shape) → root_of a ≡ root_of b → AreNodes look a → AreNodes look b → top_of a ≡ top_of b
 same_top look Empty Empty e m n = refl
 same_top look Empty (Fork k p l r) e m n = absurd (cc)
 same_top look (Fork k p l r) Empty e m n = absurd (cc)
