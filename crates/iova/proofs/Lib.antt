@@ -7,6 +7,7 @@ pub mod FreeRange
 pub mod FreedRun
 pub mod Freed
 pub mod Taken
+pub mod LowestFree
 pub mod Same
 pub mod shapes
 pub mod parts

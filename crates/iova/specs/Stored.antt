@@ -5,9 +5,13 @@ use Rattle.iova.specs.declared.piece.Piece.{Piece}
 use Rattle.iova.specs.declared.node.Node.{Node}
 use Rattle.iova.specs.declared.space.TheConstants.{MOST_PIECES}
 use Rattle.dmatypes.specs.World.{IsIn}
-use Rattle.iova.specs.declared.piece.PageState.TheVariants.{Live}
-use Rattle.iova.specs.declared.way.Judged.{Judged}
+use Rattle.iova.specs.declared.piece.PageState.{PageState}
+use Rattle.iova.specs.declared.piece.PageState.TheVariants.{Free, Live}
+use Rattle.iova.specs.declared.way.InMind.{InMind}
+use Rattle.iova.specs.declared.way.InMind.TheVariants.{Nothing, Judged, Lowest}
+use Rattle.iova.specs.declared.way.Known.{Known}
 use Rattle.iova.specs.declared.way.Step.{Step}
+use Rattle.iova.specs.Pieces.{NoneFreeBelow}
 use Rattle.iova.specs.Space.{Space}
 use Rattle.iova.specs.Way.{IsHeld, pages_as}
 use Rattle.iova.specs.Tree.{Look, Shape, IsBelow, IsTree, at_root, height_of, items, root_of, top_of, uses}
@@ -46,7 +50,14 @@ pub record IsListed (nodes : Slab Node) (root : Option ℕ) : Type 0 where
   pub below : IsBelow (get nodes) root shape 1
   pub height : height_of shape ≤ 14
 
--- one live piece has the pages that were judged, and the way leads to it
-pub record IsJudged (nodes : Slab Node) (root : Option ℕ) (way : List Step) (judged : Judged) : Type 0 where
-  pub live : IsIn (pages_as judged.pages Live) (pieces_of nodes root)
-  pub held : IsHeld (get nodes) root way judged.held judged.pages
+-- one piece in this state has the pages that are known, and the way leads to it
+pub record IsKnown (nodes : Slab Node) (root : Option ℕ) (way : List Step) (state : PageState) (known : Known) : Type 0 where
+  pub there : IsIn (pages_as known.pages state) (pieces_of nodes root)
+  pub held : IsHeld (get nodes) root way known.held known.pages
+
+-- the piece that is kept in mind is there: the live one, or the free one below which no free piece begins
+abbrev pub IsInMind : Slab Node → Option ℕ → List Step → InMind → Type 0
+IsInMind nodes root way Nothing = Unit {0}
+IsInMind nodes root way (Judged known) = IsKnown nodes root way Live known
+IsInMind nodes root way (Lowest known) =
+    IsKnown nodes root way Free known × NoneFreeBelow known.pages.first (pieces_of nodes root)

@@ -7,7 +7,7 @@ use crate::node::Node;
 use crate::piece::{PageState, Piece};
 use crate::store;
 use crate::walk::Iter;
-use crate::way::{Judged, MOST_HEIGHT, NO_STEP, Step};
+use crate::way::{InMind, Known, MOST_HEIGHT, NO_STEP, Step};
 use dmatypes::{MOST_PAGES, PAGES_END, Page, PageRange};
 use slab::Slab;
 use std::alloc::{AllocError, Global};
@@ -49,23 +49,25 @@ pub struct Space {
     last: u64,
     root: Option<usize>,
     nodes: Slab<Node>,
+    // No free piece begins below this page.
+    low: u64,
     // The steps of the last way down.
     way: [Step; MOST_HEIGHT],
-    // The live piece to which they lead, if it was judged and nothing has changed since.
-    judged: Option<Judged>,
+    // The piece to which they lead, if it is still of use: one that was judged, or the lowest free one.
+    in_mind: InMind,
 }
 
 impl Model for Space {
-    ghost use Rattle.std.specs.Prelude.{IfSome};
+    ghost use Rattle.iova.specs.Pieces.{NoneFreeBelow};
     ghost use Rattle.iova.specs.Space.{Space, IsSpace};
-    ghost use Rattle.iova.specs.Stored.{IsKept, IsJudged, pieces_of, stored};
+    ghost use Rattle.iova.specs.Stored.{IsInMind, IsKept, pieces_of, stored};
 
     ghost Value = { Space };
 
     ghost view = { λ a. stored a.last a.root a.nodes };
 
     ghost invariant = { λ a. IsKept a.root a.nodes (pieces_of a.nodes a.root) × IsSpace (stored a.last a.root a.nodes)
-        × IfSome a.judged (IsJudged a.nodes a.root a.way) };
+        × NoneFreeBelow a.low (pieces_of a.nodes a.root) × IsInMind a.nodes a.root a.way a.in_mind };
 }
 
 impl Space {
@@ -91,8 +93,9 @@ impl Space {
             last,
             root,
             nodes,
+            low: 1,
             way: [NO_STEP; MOST_HEIGHT],
-            judged: None,
+            in_mind: InMind::Nothing,
         })
     }
 
@@ -102,7 +105,8 @@ impl Space {
         ensures free { AllFree self.new }
         ensures space { IsSpace self.new }
     {
-        self.judged = None;
+        self.low = 1;
+        self.in_mind = InMind::Nothing;
         self.nodes.clear();
         self.root = store::fill(&mut self.nodes, self.last);
     }
@@ -156,8 +160,17 @@ impl Space {
             × IsTooMany self.old.pieces (record { first = start; pages = pages })) }
         ensures unchanged { OnErr result (self.new ≡ self.old) }
     {
-        self.judged = None;
-        let Some(spot) = store::fit(&self.nodes, self.root, pages, 1 << order, &mut self.way) else {
+        let in_mind = self.in_mind;
+        self.in_mind = InMind::Nothing;
+        let unit = 1 << order;
+        let Some(spot) = store::fit_in_mind(
+            &self.nodes,
+            self.root,
+            pages,
+            unit,
+            in_mind,
+            &mut self.way,
+        ) else {
             return Err(TakeError::NoRange);
         };
         let start = spot.start;
@@ -171,6 +184,7 @@ impl Space {
             last: start + pages - 1,
             state: PageState::Live,
         };
+        self.low = store::low_behind(self.low, start, pages, unit);
         self.root = store::store_by(&mut self.nodes, self.root, piece, &self.way, spot.place);
         Ok(Page::new(start).unwrap())
     }
@@ -209,9 +223,9 @@ impl Space {
         let first = range.first();
         let last = first + range.pages() - 1;
         let pages = Ends { first, last };
-        self.judged = None;
+        self.in_mind = InMind::Nothing;
         if let Some(held) = store::hold_live(&self.nodes, self.root, pages, &mut self.way) {
-            self.judged = Some(Judged { pages, held });
+            self.in_mind = InMind::Judged(Known { pages, held });
             return Ok(());
         }
         self.may_retire(range)
@@ -230,9 +244,9 @@ impl Space {
             last: first + range.pages() - 1,
             state: PageState::Retired,
         };
-        let judged = self.judged;
-        self.judged = None;
-        self.root = store::retire(&mut self.nodes, self.root, piece, &self.way, judged);
+        let in_mind = self.in_mind;
+        self.in_mind = InMind::Nothing;
+        self.root = store::retire(&mut self.nodes, self.root, piece, &self.way, in_mind);
     }
 
     /// Makes a range of live pages free, as `retire` and then `release` would.
@@ -245,10 +259,19 @@ impl Space {
         let first = range.first();
         let last = first + range.pages() - 1;
         let pages = Ends { first, last };
-        if let Some(judged) = self.judged {
-            if judged.pages.first == pages.first && judged.pages.last == pages.last {
-                self.judged = None;
-                self.root = store::free(&mut self.nodes, self.root, pages, &self.way, judged.held);
+        if let InMind::Judged(known) = self.in_mind {
+            if known.pages.first == pages.first && known.pages.last == pages.last {
+                let freed = store::free(
+                    &mut self.nodes,
+                    self.root,
+                    self.low,
+                    pages,
+                    &self.way,
+                    known.held,
+                );
+                self.root = freed.root;
+                self.low = freed.low;
+                self.in_mind = freed.in_mind;
                 return;
             }
         }
@@ -286,8 +309,9 @@ impl Space {
     {
         let first = range.first();
         let last = first + range.pages() - 1;
-        self.judged = None;
+        self.in_mind = InMind::Nothing;
         let whole = store::with_free_around(&self.nodes, self.root, Ends { first, last });
+        self.low = self.low.min(whole.first);
         let piece = Piece {
             first: whole.first,
             last: whole.last,
@@ -307,8 +331,10 @@ impl Space {
         let first = range.first();
         let last = first + range.pages() - 1;
         let pages = Ends { first, last };
-        self.judged = None;
         let held = store::hold(&self.nodes, self.root, pages, &mut self.way);
-        self.root = store::free(&mut self.nodes, self.root, pages, &self.way, held);
+        let freed = store::free(&mut self.nodes, self.root, self.low, pages, &self.way, held);
+        self.root = freed.root;
+        self.low = freed.low;
+        self.in_mind = freed.in_mind;
     }
 }

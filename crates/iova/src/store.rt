@@ -1,12 +1,13 @@
 //! The pieces of a space in a tree.
 
-ghost use Rattle.std.specs.Prelude.{◌≡◌, ◌≢◌, Some, ℕ, ◌+◌, ◌^◌, ◌<◌, ◌≤◌, ◌↔◌, [], length, IsTrue, IsSome, IfSome, IfNone};
+ghost use Rattle.std.specs.Prelude.{◌≡◌, ◌≢◌, List, Some, ℕ, ◌+◌, ◌^◌, ◌<◌, ◌≤◌, ◌↔◌, [], length, IsTrue, IsSome, IfSome, IfNone};
 ghost use Rattle.dmatypes.specs.Page.{IsWithin};
 ghost use Rattle.slab.specs.Slab.{get, slab_len};
 ghost use Rattle.dmatypes.specs.World.{IsIn};
-ghost use Rattle.iova.specs.Pieces.{AllIn, IsOrdered, free_end, free_start, freed, piece_of, state_at, with_free, with_piece};
+ghost use Rattle.iova.specs.Pieces.{AllIn, IsOrdered, NoneFreeBelow, free_end, free_start, freed, piece_of, state_at};
+ghost use Rattle.iova.specs.Pieces.{with_free, with_piece};
 ghost use Rattle.iova.specs.Space.{CutsPiece, IsFit, IsLowestFit, new_space};
-ghost use Rattle.iova.specs.Stored.{IsJudged, IsKept, pieces_of};
+ghost use Rattle.iova.specs.Stored.{IsInMind, IsKept, pieces_of};
 ghost use Rattle.iova.specs.Tree.{IsPiece};
 ghost use Rattle.iova.specs.Way.{IsHeld, LeadsTo, pages_as};
 
@@ -16,7 +17,7 @@ use crate::piece::{PageState, Piece};
 use crate::put::{put, put_by, put_whole};
 use crate::search::{find, first_free, lowest_fit, seek};
 use crate::space::MOST_PIECES;
-use crate::way::{Held, Judged, MOST_HEIGHT, Place, Spot, Step, walk};
+use crate::way::{Held, InMind, Known, MOST_HEIGHT, Place, Spot, Step, walk};
 use dmatypes::{PAGES_END, WINDOW_FIRST, WINDOW_LAST};
 use slab::Slab;
 
@@ -84,37 +85,61 @@ pub(crate) fn retire(
     root: Option<usize>,
     piece: Piece,
     way: &[Step; MOST_HEIGHT],
-    judged: Option<Judged>,
+    in_mind: InMind,
 ) -> Option<usize>
     requires kept { IsKept root nodes.old (pieces_of nodes.old root) }
     requires ordered { IsOrdered 1 (pieces_of nodes.old root) }
     requires few { length (with_piece piece (pieces_of nodes.old root)) ≤ MOST_PIECES }
     requires piece { IsPiece piece }
-    requires judged { IfSome judged (IsJudged nodes.old root way.now) }
+    requires in_mind { IsInMind nodes.old root way.now in_mind }
     ensures { IsKept result nodes.new (with_piece piece (pieces_of nodes.old root)) }
 {
-    if let Some(judged) = judged {
-        if judged.pages.first == piece.first && judged.pages.last == piece.last {
-            return store_held(nodes, root, piece, way, judged.held);
+    if let InMind::Judged(known) = in_mind {
+        if known.pages.first == piece.first && known.pages.last == piece.last {
+            return store_held(nodes, root, piece, way, known.held);
         }
     }
     store(nodes, root, piece)
 }
 
-/// Frees the piece that has some pages, to which a way leads: it becomes one with the free ones that it touches.
-pub(crate) fn free(
+/// What is there once a piece is free: the root, a page below which no free piece begins, and whether the pages are the
+/// lowest free piece by themselves.
+#[derive(Clone, Copy)]
+struct SetFree {
+    root: Option<usize>,
+    low: u64,
+    is_lowest: bool,
+}
+
+/// What is there once a piece is free: the root, a page below which no free piece begins, and the free piece, where it
+/// is the lowest and the way still leads to it.
+#[derive(Clone, Copy)]
+pub(crate) struct Freed {
+    pub(crate) root: Option<usize>,
+    pub(crate) low: u64,
+    pub(crate) in_mind: InMind,
+}
+
+/// Frees the piece that has some pages, to which a way leads: it becomes one with the free ones that it touches. None
+/// of these began below the page `low`.
+fn set_free(
     nodes: &mut Slab<Node>,
     root: Option<usize>,
+    low: u64,
     pages: Ends,
     way: &[Step; MOST_HEIGHT],
     held: Held,
-) -> Option<usize>
+) -> SetFree
     requires kept { IsKept root nodes.old (pieces_of nodes.old root) }
     requires ordered { IsOrdered 1 (pieces_of nodes.old root) }
     requires few { length (with_free (pages_as pages PageState.Free) (pieces_of nodes.old root)) ≤ MOST_PIECES }
     requires piece { IsPiece (freed (pages_as pages PageState.Free) (pieces_of nodes.old root)) }
     requires held { IsHeld (get nodes.old) root way.now held pages }
-    ensures { IsKept result nodes.new (with_free (pages_as pages PageState.Free) (pieces_of nodes.old root)) }
+    requires low { NoneFreeBelow low (pieces_of nodes.old root) }
+    ensures kept { IsKept result.root nodes.new (with_free (pages_as pages PageState.Free) (pieces_of nodes.old root)) }
+    ensures low { NoneFreeBelow result.low (pieces_of nodes.new result.root) }
+    ensures lowest { IsTrue result.is_lowest
+        → IsInMind nodes.new result.root way.now (InMind.Lowest (record { pages = pages; held = held })) }
 {
     let ends = with_free_ends(nodes, root, way, held, pages);
     let piece = Piece {
@@ -122,10 +147,59 @@ pub(crate) fn free(
         last: ends.last,
         state: PageState::Free,
     };
+    let now_low = low.min(ends.first);
     if ends.first == pages.first && ends.last == pages.last {
-        return store_held(nodes, root, piece, way, held);
+        let root = store_held(nodes, root, piece, way, held);
+        return SetFree {
+            root,
+            low: now_low,
+            is_lowest: pages.first <= low,
+        };
     }
-    store(nodes, root, piece)
+    let root = store(nodes, root, piece);
+    SetFree {
+        root,
+        low: now_low,
+        is_lowest: false,
+    }
+}
+
+/// The same, with what is to be kept in mind of it. It is inlined: what a call answers goes through memory, and its
+/// caller knows the piece anyway.
+#[inline(always)]
+pub(crate) fn free(
+    nodes: &mut Slab<Node>,
+    root: Option<usize>,
+    low: u64,
+    pages: Ends,
+    way: &[Step; MOST_HEIGHT],
+    held: Held,
+) -> Freed
+    requires kept { IsKept root nodes.old (pieces_of nodes.old root) }
+    requires ordered { IsOrdered 1 (pieces_of nodes.old root) }
+    requires few { length (with_free (pages_as pages PageState.Free) (pieces_of nodes.old root)) ≤ MOST_PIECES }
+    requires piece { IsPiece (freed (pages_as pages PageState.Free) (pieces_of nodes.old root)) }
+    requires held { IsHeld (get nodes.old) root way.now held pages }
+    requires low { NoneFreeBelow low (pieces_of nodes.old root) }
+    ensures kept { IsKept result.root nodes.new (with_free (pages_as pages PageState.Free) (pieces_of nodes.old root)) }
+    ensures low { NoneFreeBelow result.low (pieces_of nodes.new result.root) }
+    ensures in_mind { IsInMind nodes.new result.root way.now result.in_mind }
+{
+    let set = set_free(nodes, root, low, pages, way, held);
+    let root = set.root;
+    let low = set.low;
+    if set.is_lowest {
+        return Freed {
+            root,
+            low,
+            in_mind: InMind::Lowest(Known { pages, held }),
+        };
+    }
+    Freed {
+        root,
+        low,
+        in_mind: InMind::Nothing,
+    }
 }
 
 /// Where the piece lies that has some pages, and the way there.
@@ -237,6 +311,56 @@ pub(crate) fn fit(
     };
     let place = walk(nodes, root, &piece, way);
     Some(Spot { start, place })
+}
+
+/// The same, where the lowest free piece may be in mind: if it has so many pages, and they may lie anywhere, it is known
+/// where they are taken with no search.
+#[inline(always)]
+pub(crate) fn fit_in_mind(
+    nodes: &Slab<Node>,
+    root: Option<usize>,
+    pages: u64,
+    unit: u64,
+    in_mind: InMind,
+    way: &mut [Step; MOST_HEIGHT],
+) -> Option<Spot>
+    requires kept { IsKept root nodes.now (pieces_of nodes.now root) }
+    requires ordered { IsOrdered 1 (pieces_of nodes.now root) }
+    requires some_pages { 1 ≤ pages }
+    requires pages { pages < NUMBERS_END }
+    requires some_unit { 0 < unit }
+    requires unit { unit < NUMBERS_END }
+    requires in_mind { IsInMind nodes.now root way.old in_mind }
+    ensures lowest { IfSome result (λ spot. IsLowestFit (pieces_of nodes.now root) pages unit spot.start) }
+    ensures none { IfNone result ((start : ℕ) → IsFit (pieces_of nodes.now root) pages unit start → ⊥) }
+    ensures way { IfSome result (λ spot.
+        LeadsTo (get nodes.now) root (piece_of (record { first = spot.start; pages = pages }) PageState.Live) way.new spot.place) }
+{
+    if let InMind::Lowest(known) = in_mind {
+        let start = known.pages.first;
+        if unit == 1 && pages <= known.pages.last - start + 1 {
+            let place = Place {
+                at: Some(known.held.key),
+                depth: known.held.depth,
+            };
+            return Some(Spot { start, place });
+        }
+    }
+    fit(nodes, root, pages, unit, way)
+}
+
+/// A page below which no free piece begins once the lowest pages that fit are live, where none began below the page `low`.
+/// Where one page that may lie anywhere was wanted, all free pages lie behind it; else there may be some below.
+pub(crate) fn low_behind(low: u64, start: u64, pages: u64, unit: u64) -> u64
+    requires some_pages { 1 ≤ pages }
+    requires start { start < NUMBERS_END }
+    ensures { (pieces : List Piece) → IsOrdered 1 pieces → NoneFreeBelow low pieces → IsLowestFit pieces pages unit start
+        → NoneFreeBelow result (with_piece (piece_of (record { first = start; pages = pages }) PageState.Live) pieces) }
+{
+    if pages == 1 && unit == 1 {
+        return start + 1;
+    }
+    low
 }
 
 /// Whether so many pages, which all lie in pieces, cut a piece.

@@ -45,11 +45,22 @@ pub(crate) struct Held {
     pub(crate) depth: usize,
 }
 
-/// A live piece that was judged: its pages, and where it lies.
+/// A piece that is kept in mind: its pages, and where it lies.
 #[derive(Clone, Copy)]
-pub(crate) struct Judged {
+pub(crate) struct Known {
     pub(crate) pages: Ends,
     pub(crate) held: Held,
+}
+
+/// The piece to which a way leads, as far as it is kept in mind.
+#[derive(Clone, Copy)]
+pub(crate) enum InMind {
+    /// None, or the pieces have changed since.
+    Nothing,
+    /// The live piece that was judged.
+    Judged(Known),
+    /// The lowest free piece.
+    Lowest(Known),
 }
 
 /// Where pages are taken: the first of them, and where the piece lies that they are taken from.

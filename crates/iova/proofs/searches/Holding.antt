@@ -1,21 +1,25 @@
 -- A way leads to the one piece that has the pages.
-use Rattle.std.proofs.Common.{◌≡◌, ℕ, ◌+◌, ◌-◌, ◌≤◌, List, Option, IfSome, Some, ap, sym, ◌∙◌, subst, arith}
+use Rattle.std.proofs.Common.{◌≡◌, ℕ, ◌+◌, ◌-◌, ◌<◌, ◌≤◌, List, Option, ap, sym, ◌∙◌, subst, arith}
 use Rattle.slab.specs.Slab.{Slab, get}
 use Rattle.dmatypes.specs.Page.{Range}
 use Rattle.dmatypes.specs.World.{IsIn}
 use Rattle.iova.specs.declared.beside.Ends.{Ends}
 use Rattle.iova.specs.declared.piece.PageState.{PageState}
-use Rattle.iova.specs.declared.piece.PageState.TheVariants.{Live}
+use Rattle.iova.specs.declared.piece.PageState.TheVariants.{Free, Live}
 use Rattle.iova.specs.declared.piece.Piece.{Piece}
 use Rattle.iova.specs.declared.node.Node.{Node}
 use Rattle.iova.specs.declared.way.Held.{Held}
-use Rattle.iova.specs.declared.way.Judged.{Judged}
+use Rattle.iova.specs.declared.way.InMind.{InMind}
+use Rattle.iova.specs.declared.way.InMind.TheVariants.{Judged, Lowest}
+use Rattle.iova.specs.declared.way.Known.{Known}
 use Rattle.iova.specs.declared.way.Step.{Step}
-use Rattle.iova.specs.Pieces.{IsOrdered, piece_of}
+use Rattle.iova.specs.declared.node.TheConstants.{NUMBERS_END}
+use Rattle.iova.specs.Pieces.{IsOrdered, NoneFreeBelow, piece_of}
 use Rattle.iova.specs.Space.{MayRetire}
-use Rattle.iova.specs.Stored.{IsKept}
+use Rattle.iova.specs.Stored.{IsInMind, IsKept, IsKnown, pieces_of}
 use Rattle.iova.specs.Way.{CanWalk, IsLowBelow, IsHeld, pages_as}
 use Rattle.iova.proofs.Among.{in_le, in_one, in_state}
+use Rattle.iova.proofs.searches.CutAt.{items_fine}
 use Rattle.iova.proofs.searches.Seeking.{held_in}
 use Rattle.iova.proofs.shapes.Tall.{kept_below}
 
@@ -30,6 +34,13 @@ module _ (root : Option ℕ) (nodes : Slab Node) (pieces : List Piece) (k : IsKe
     -- it is one of them
     pub held_piece : (pages : Ends) (h : IsHeld (get nodes) root way held pages) → IsIn h.node.piece pieces
     held_piece pages h = subst (λ ps. IsIn h.node.piece ps) k.all (held_in (get nodes) root way held pages k.shape 1 h kept_low)
+
+    -- its pages are numbers of pages
+    pub held_narrow : (pages : Ends) → IsHeld (get nodes) root way held pages → pages.last < NUMBERS_END
+    held_narrow pages h =
+        let m = held_in (get nodes) root way held pages k.shape 1 h kept_low in
+        let i = items_fine k.shape h.node.piece k.tree.pieces m in
+        omega (arith, h.last, i.1)
 
     -- the pages are those of the piece that begins there
     pub held_pages : (pages : Ends) (last : ℕ) (state : PageState) → IsIn (pages_as pages state) pieces
@@ -64,12 +75,19 @@ may_whole range ps o some i = record {
       b.2 (h.0, omega (arith, h.1, some));
 }
 
--- the pages that were judged are those of the range
-pub judged_range : (pages : Ends) (first number : ℕ) (range : Range) (state : PageState) → pages.first ≡ first
+-- the pages that are known are those of the range
+pub known_range : (pages : Ends) (first number : ℕ) (range : Range) (state : PageState) → pages.first ≡ first
     → pages.last ≡ first + number - 1 → first ≡ range.first → number ≡ range.pages → pages_as pages state ≡ piece_of range state
-judged_range pages first number range state a b c d =
+known_range pages first number range state a b c d =
     ap (λ n. record { first = n; last = pages.last; state = state }) a ∙ ap (λ n. record { first = first; last = n; state = state }) b
     ∙ as_range first number range state c d
 
-pub judged_of : (o : Option Judged) (judged : Judged) (P : Judged → Type 0) → o ≡ Some judged → IfSome o P → P judged
-judged_of o judged P e i = subst (λ x. IfSome x P) e i
+module _ (nodes : Slab Node) (root : Option ℕ) (way : List Step) (in_mind : InMind) (known : Known) where
+  -- the live piece is in mind
+  pub judged_of : in_mind ≡ Judged known → IsInMind nodes root way in_mind → IsKnown nodes root way Live known
+  judged_of e i = subst (λ m. IsInMind nodes root way m) e i
+
+  -- the lowest free piece is in mind
+  pub lowest_of : in_mind ≡ Lowest known → IsInMind nodes root way in_mind
+      → IsKnown nodes root way Free known × NoneFreeBelow known.pages.first (pieces_of nodes root)
+  lowest_of e i = subst (λ m. IsInMind nodes root way m) e i

@@ -1,5 +1,5 @@
 -- The way down to the piece that begins at a page.
-use Rattle.std.proofs.Common.{◌≡◌, ℕ, ◌+◌, ◌<◌, List, [], ◌∷◌, ◌++◌, Option, Some, None, refl, ap, sym, ◌∙◌, inl, inr, subst, arith}
+use Rattle.std.proofs.Common.{◌≡◌, ℕ, ◌+◌, ◌<◌, ◌≤◌, List, [], ◌∷◌, ◌++◌, Option, Some, None, refl, ap, sym, ◌∙◌, inl, inr, subst, arith}
 use Rattle.slab.specs.Slab.{Slab, get}
 use Rattle.dmatypes.specs.World.{IsIn}
 use Rattle.iova.specs.declared.beside.Ends.{Ends}
@@ -10,7 +10,7 @@ use Rattle.iova.specs.declared.node.Node.{Node}
 use Rattle.iova.specs.declared.way.Held.{Held}
 use Rattle.iova.specs.declared.way.Step.{Step}
 use Rattle.iova.specs.Pieces.{IsOrdered, with_piece}
-use Rattle.iova.specs.Tree.{Look, Shape, items, IsBelow}
+use Rattle.iova.specs.Tree.{Look, Shape, items, IsBelow, IsPiece}
 use Rattle.iova.specs.Way.{Above, Whole, Before, Behind, among, CanWalk, IsLowBelow, IsHeld, LeadsTo, pages_as}
 use Rattle.iova.proofs.Among.{in_le}
 use Rattle.iova.proofs.parts.PutUp.{lows}
@@ -151,3 +151,28 @@ held_in look root way held pages t from h w =
     subst (λ ps. IsIn h.node.piece ps) (sym (ap items q.is ∙ plug-items q.path q.t))
     (in_among q.path h.node.piece (items q.t)
     (subst (λ y. IsIn h.node.piece (items y)) (sym s.is) (in_here h.node.piece (items s.l) (items s.r))))
+
+-- a piece that lies within the one to which a way leads is put there
+pub leads_within : (nodes : Slab Node) (root : Option ℕ) (way : List Step) (held : Held) (pages : Ends) (p : Piece)
+    → IsHeld (get nodes) root way held pages → IsPiece p → pages.first ≤ p.first → p.last ≤ pages.last
+    → LeadsTo (get nodes) root p way (record { at = Some held.key; depth = held.depth })
+leads_within nodes root way held pages p h i lo hi t from = record {
+  down = λ w.
+      let q = (h.leads Live t from).down w in
+      let o = passes (get nodes) (Some held.key) held.key h.node q.t q.from q.below refl h.here in
+      record {
+        path = q.path;
+        t = q.t;
+        from = q.from;
+        is = q.is;
+        below = q.below;
+        above = q.above;
+        fine = q.fine;
+        steps = q.steps;
+        list = ap (λ x. with_piece p (items x)) q.is
+            ∙ with_at q.path q.t from p h.node.piece i (subst (λ x. IsOrdered from (items x)) q.is w.below.whole.ordered) q.fine
+            (subst (λ x. IsIn h.node.piece (items x)) (sym o.is) (in_here h.node.piece (items o.l) (items o.r)))
+            (omega (arith, h.first)) (omega (arith, h.last));
+      };
+  meets = (h.node, h.here, (omega (arith, h.last, i.0), omega (arith, h.first, i.0)));
+}

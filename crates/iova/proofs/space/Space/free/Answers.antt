@@ -23,8 +23,8 @@ hold-held-requires-clause-piece c = (
       (subst (λ (v : Space). IsIn (piece_of c.args.range c.requires.0) v.pieces) (sym c.self.view_is) c.requires.1),
 )
 
-pub free-self-inside-requires-clause-few : goal.free-self-inside-requires-clause-few
-free-self-inside-requires-clause-few c =
+pub free-freed-requires-clause-few : goal.free-freed-requires-clause-few
+free-freed-requires-clause-few c =
     let a : Space = stored c.self.inside.last c.self.inside.root c.self.inside.nodes in
     let q : Piece = piece_of c.args.range c.requires.0 in
     let there : IsIn q a.pieces = subst (λ (v : Space). IsIn q v.pieces) (sym c.self.view_is) c.requires.1 in
@@ -36,8 +36,8 @@ free-self-inside-requires-clause-few c =
     let e = ap (λ (ps : List Piece). length ps) same in
     omega arith
 
-pub free-self-inside-requires-clause-piece : goal.free-self-inside-requires-clause-piece
-free-self-inside-requires-clause-piece c =
+pub free-freed-requires-clause-piece : goal.free-freed-requires-clause-piece
+free-freed-requires-clause-piece c =
     let a : Space = stored c.self.inside.last c.self.inside.root c.self.inside.nodes in
     let q : Piece = piece_of c.args.range c.requires.0 in
     let there : IsIn q a.pieces = subst (λ (v : Space). IsIn q v.pieces) (sym c.self.view_is) c.requires.1 in
@@ -53,11 +53,12 @@ invariant_of-self c =
     let same : with_free (pages_as pages Free) a.pieces ≡ with_free q a.pieces =
     ap (λ p. with_free p a.pieces) (as_range c.first-first.result c.pages.result c.args.range Free c.first-first.ensures.value
     c.pages.ensures.value) in (
-      kept_self c.free-self-inside.result c.free-self-inside.new.nodes (with_free (pages_as pages Free) a.pieces)
-          c.free-self-inside.ensures,
-      subst (λ ps. IsSpace (record a { pieces = ps })) (sym (kept_view c.free-self-inside.result c.free-self-inside.new.nodes
-          (with_free (pages_as pages Free) a.pieces) c.free-self-inside.ensures ∙ same)) (space_freed a q c.self.invariant.1 there),
-      tt,
+      kept_self c.free-freed.result.root c.free-freed.new.nodes (with_free (pages_as pages Free) a.pieces)
+          c.free-freed.ensures.kept,
+      subst (λ ps. IsSpace (record a { pieces = ps })) (sym (kept_view c.free-freed.result.root c.free-freed.new.nodes
+          (with_free (pages_as pages Free) a.pieces) c.free-freed.ensures.kept ∙ same)) (space_freed a q c.self.invariant.1 there),
+      c.free-freed.ensures.low,
+      c.free-freed.ensures.in_mind,
     )
 
 pub returns-clause-freed : goal.returns-clause-freed
@@ -69,11 +70,11 @@ returns-clause-freed c state among =
     let same : with_free (pages_as pages Free) a.pieces ≡ with_free q a.pieces =
     ap (λ p. with_free p a.pieces) (as_range c.first-first.result c.pages.result c.args.range Free c.first-first.ensures.value
     c.pages.ensures.value) in
-    let new : Space = stored c.self.inside.last c.free-self-inside.result c.free-self-inside.new.nodes in
+    let new : Space = stored c.self.inside.last c.free-freed.result.root c.free-freed.new.nodes in
     subst (λ v. Frees v new c.args.range state) c.self.view_is
     (frees a new c.args.range state c.self.invariant.1 c.first-first.ensures.range.some there
-    (ap (λ ps. record a { pieces = ps }) (kept_view c.free-self-inside.result c.free-self-inside.new.nodes
-    (with_free (pages_as pages Free) a.pieces) c.free-self-inside.ensures ∙ same)))
+    (ap (λ ps. record a { pieces = ps }) (kept_view c.free-freed.result.root c.free-freed.new.nodes
+    (with_free (pages_as pages Free) a.pieces) c.free-freed.ensures.kept ∙ same)))
 
 pub returns-clause-space : goal.returns-clause-space
 returns-clause-space c =
@@ -85,6 +86,6 @@ returns-clause-space c =
     ap (λ p. with_free p a.pieces) (as_range c.first-first.result c.pages.result c.args.range Free c.first-first.ensures.value
     c.pages.ensures.value) in (
       subst (λ v. IsSpace v) c.self.view_is c.self.invariant.1,
-      subst (λ ps. IsSpace (record a { pieces = ps })) (sym (kept_view c.free-self-inside.result c.free-self-inside.new.nodes
-          (with_free (pages_as pages Free) a.pieces) c.free-self-inside.ensures ∙ same)) (space_freed a q c.self.invariant.1 there),
+      subst (λ ps. IsSpace (record a { pieces = ps })) (sym (kept_view c.free-freed.result.root c.free-freed.new.nodes
+          (with_free (pages_as pages Free) a.pieces) c.free-freed.ensures.kept ∙ same)) (space_freed a q c.self.invariant.1 there),
     )

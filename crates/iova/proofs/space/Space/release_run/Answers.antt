@@ -1,11 +1,12 @@
 use Rattle.std.proofs.Common.{arith, ◌≡◌, ◌∙◌, ◌≤◌, ◌+◌, ◌-◌, List, length, ap, subst, sym}
 use Rattle.iova.specs.declared.piece.Piece.{Piece}
 use Rattle.iova.specs.declared.piece.PageState.TheVariants.{Free, Retired}
-use Rattle.iova.specs.Pieces.{IsRun, free_end, free_start, piece_of, with_piece}
+use Rattle.iova.specs.Pieces.{IsRun, NoneFreeBelow, free_end, free_start, piece_of, with_piece}
 use Rattle.iova.specs.Space.{Space, IsSpace, MayRetire}
 use Rattle.iova.specs.Changes.{FreesRun}
 use Rattle.iova.specs.Stored.{stored}
 use Rattle.iova.proofs.FreedRun.{freed_piece, frees_run, may_still_run, put_freed, space_freed}
+use Rattle.iova.proofs.LowestFree.{none_below_less, none_below_put}
 use Rattle.iova.proofs.shapes.Tall.{kept_self, kept_view}
 use Rattle.iova.proofs.space.Space.release_run.Goals as goal
 
@@ -51,13 +52,20 @@ invariant_of-self c =
     let high : c.with_free_around-whole.result.last ≡ free_end a.pieces q.last = c.with_free_around-whole.ensures.last
     ∙ ap (λ n. free_end a.pieces n) end in
     let same = put_freed a.pieces q c.with_free_around-whole.result.first c.with_free_around-whole.result.last low high in
-    let now = kept_view c.store-self-inside.result c.store-self-inside.new.nodes
+    let p = freed_piece a q c.self.invariant.1 wide run in
+    let view = kept_view c.store-self-inside.result c.store-self-inside.new.nodes
     (with_piece (record { first = c.with_free_around-whole.result.first; last = c.with_free_around-whole.result.last; state = Free }) a.pieces)
-    c.store-self-inside.ensures ∙ same in (
+    c.store-self-inside.ensures in
+    let now = view ∙ same in
+    let lower : NoneFreeBelow c.min-self-inside.result a.pieces = none_below_less c.min-self-inside.result c.self.inside.low a.pieces
+    (omega (arith, c.min-self-inside.ensures)) c.self.invariant.2 in (
       kept_self c.store-self-inside.result c.store-self-inside.new.nodes
           (with_piece (record { first = c.with_free_around-whole.result.first; last = c.with_free_around-whole.result.last; state = Free }) a.pieces)
           c.store-self-inside.ensures,
       subst (λ ps. IsSpace (record a { pieces = ps })) (sym now) (space_freed a q c.self.invariant.1 wide run),
+      subst (λ ps. NoneFreeBelow c.min-self-inside.result ps) (sym view)
+          (none_below_put c.min-self-inside.result c.with_free_around-whole.result.first c.with_free_around-whole.result.last Free a.pieces
+          c.self.invariant.1.ordered (omega (arith, low, high, p)) lower (λ e. omega (arith, c.min-self-inside.ensures))),
       tt,
     )
 

@@ -1,6 +1,8 @@
 use Rattle.std.proofs.Common.{◌∙◌, arith, ap, subst, sym}
+use Rattle.iova.specs.Pieces.{NoneFreeBelow}
 use Rattle.iova.specs.Space.{AllFree, IsSpace, new_space}
 use Rattle.iova.proofs.NewSpace.{new_space_is}
+use Rattle.iova.proofs.LowestFree.{none_below_start}
 use Rattle.iova.proofs.shapes.Tall.{kept_self, kept_view}
 use Rattle.iova.proofs.space.Space.reset.Goals as goal
 
@@ -19,6 +21,10 @@ invariant_of-self c = (
   subst (λ ps. IsSpace (record { last = c.self.inside.last; pieces = ps }))
       (sym (kept_view c.fill-self-inside.result c.fill-self-inside.new.nodes (new_space c.self.inside.last).pieces
       c.fill-self-inside.ensures)) (new_space_is c.self.inside.last c.self.invariant.1.some c.self.invariant.1.narrow).space,
+  subst (λ ps. NoneFreeBelow 1 ps)
+      (sym (kept_view c.fill-self-inside.result c.fill-self-inside.new.nodes (new_space c.self.inside.last).pieces
+      c.fill-self-inside.ensures)) (none_below_start 1 (new_space c.self.inside.last).pieces
+      (new_space_is c.self.inside.last c.self.invariant.1.some c.self.invariant.1.narrow).space.ordered),
   tt,
 )
 

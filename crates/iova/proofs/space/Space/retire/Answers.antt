@@ -1,10 +1,11 @@
-use Rattle.std.proofs.Common.{arith, ◌≡◌, ◌≤◌, ap, subst, sym}
+use Rattle.std.proofs.Common.{arith, ◌≡◌, ◌≤◌, ◌+◌, ◌-◌, ap, subst, sym}
 use Rattle.dmatypes.specs.Page.{Range}
 use Rattle.iova.specs.declared.piece.PageState.TheVariants.{Retired}
-use Rattle.iova.specs.Pieces.{piece_of, with_piece}
+use Rattle.iova.specs.Pieces.{NoneFreeBelow, piece_of, with_piece}
 use Rattle.iova.specs.Space.{Space, IsSpace, MayRetire}
 use Rattle.iova.specs.Changes.{Retires}
 use Rattle.iova.specs.Stored.{stored}
+use Rattle.iova.proofs.LowestFree.{none_below_put}
 use Rattle.iova.proofs.Taken.{retires, same_range, space_retired}
 use Rattle.iova.proofs.shapes.Tall.{kept_self, kept_view}
 use Rattle.iova.proofs.space.Space.retire.Goals as goal
@@ -35,6 +36,10 @@ invariant_of-self c =
           c.retire-self-inside.ensures,
       subst (λ ps. IsSpace (record a { pieces = ps })) (sym (kept_view c.retire-self-inside.result c.retire-self-inside.new.nodes
           (with_piece (piece_of range Retired) a.pieces) c.retire-self-inside.ensures)) space,
+      subst (λ ps. NoneFreeBelow c.self.inside.low ps) (sym (kept_view c.retire-self-inside.result c.retire-self-inside.new.nodes
+          (with_piece (piece_of range Retired) a.pieces) c.retire-self-inside.ensures))
+          (none_below_put c.self.inside.low range.first (range.first + range.pages - 1) Retired a.pieces c.self.invariant.1.ordered
+          (omega arith) c.self.invariant.2 (λ e. absurd (cc))),
       tt,
     )
 

@@ -3,7 +3,7 @@ use Rattle.std.proofs.Math.Pow.{pow_mono}
 use Rattle.dmatypes.specs.Page.{IsPageRange, Range}
 use Rattle.iova.specs.declared.piece.Piece.{Piece}
 use Rattle.iova.specs.declared.piece.PageState.TheVariants.{Free, Live}
-use Rattle.iova.specs.Pieces.{AllIn, piece_of, with_piece}
+use Rattle.iova.specs.Pieces.{AllIn, NoneFreeBelow, piece_of, with_piece}
 use Rattle.iova.specs.Space.{Space, CutsPiece, IsFit, IsLowestFit, IsSpace, IsTooMany}
 use Rattle.iova.specs.Changes.{Takes}
 use Rattle.iova.specs.Stored.{stored}
@@ -68,6 +68,15 @@ store_by-self-inside-requires-clause-piece c =
     (omega arith, omega (arith, c.requires.some_pages))).1 in
     (omega (arith, c.requires.some_pages), omega (arith, narrow, c.requires.few_pages))
 
+pub low_behind-self-inside-requires : goal.low_behind-self-inside-requires
+low_behind-self-inside-requires c =
+    let a : Space = stored c.self.inside.last c.self.inside.root c.self.inside.nodes in
+    let range : Range = record { first = c.in-Some.spot.start; pages = c.args.pages } in
+    let free : AllIn Free range a.pieces = c.in-Some.ensures.lowest.fit.free in
+    let narrow = ((page_range a range Free c.self.invariant.1 c.requires.some_pages c.requires.few_pages free).members c.in-Some.spot.start
+    (omega arith, omega (arith, c.requires.some_pages))).1 in
+    record { some_pages = c.requires.some_pages; start = omega (arith, narrow) }
+
 pub unwrap-requires : goal.unwrap-requires
 unwrap-requires c =
     let a : Space = stored c.self.inside.last c.self.inside.root c.self.inside.nodes in
@@ -93,6 +102,10 @@ invariant_of-self-2 c =
           c.store_by-self-inside.ensures,
       subst (λ ps. IsSpace (record a { pieces = ps })) (sym (kept_view c.store_by-self-inside.result c.store_by-self-inside.new.nodes
           (with_piece (piece_of range Live) a.pieces) c.store_by-self-inside.ensures)) space,
+      subst (λ ps. NoneFreeBelow c.low_behind-self-inside.result ps)
+          (sym (kept_view c.store_by-self-inside.result c.store_by-self-inside.new.nodes (with_piece (piece_of range Live) a.pieces)
+          c.store_by-self-inside.ensures))
+          (c.low_behind-self-inside.ensures a.pieces c.self.invariant.1.ordered c.self.invariant.2 c.in-Some.ensures.lowest),
       tt,
     )
 

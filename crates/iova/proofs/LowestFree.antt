@@ -1,0 +1,91 @@
+-- The page below which no free piece begins, and the lowest free piece.
+use Rattle.std.proofs.Common.{◌≡◌, ℕ, ◌+◌, ◌-◌, ◌≤◌, List, [], ◌∷◌, Some, refl, ap, sym, ◌∙◌, inl, inr, arith}
+use Rattle.dmatypes.specs.World.{IsIn}
+use Rattle.iova.specs.declared.piece.PageState.{PageState}
+use Rattle.iova.specs.declared.piece.PageState.TheVariants.{Free, Live}
+use Rattle.iova.specs.declared.piece.Piece.{Piece}
+use Rattle.iova.specs.Pieces.{Holds, IsOrdered, NoneFreeBelow, state_at}
+use Rattle.iova.specs.Space.{IsFit, IsLowestFit}
+use Rattle.iova.proofs.Pieces.{put, order, state-here, state-past, state-under, state-nil}
+use Rattle.iova.proofs.Puts.{none_some}
+use Rattle.iova.proofs.Among.{in_le, in_state, put_only}
+
+-- no piece begins below the first page
+pub none_below_start : (from : ℕ) (ps : List Piece) → IsOrdered from ps → NoneFreeBelow from ps
+none_below_start from ps o p m free = (in_le from p ps o m).0
+
+pub none_below_less : (less low : ℕ) (ps : List Piece) → less ≤ low → NoneFreeBelow low ps → NoneFreeBelow less ps
+none_below_less less low ps h none p m free = let a = none p m free in omega arith
+
+-- a piece that is put begins there, if it is free
+pub none_below_put : (low first last : ℕ) (s : PageState) (ps : List Piece) → IsOrdered 1 ps → first ≤ last → NoneFreeBelow low ps
+    → (s ≡ Free → low ≤ first) → NoneFreeBelow low (put first last s ps)
+none_below_put low first last s ps o w none own q m free = elim (put_only first last s q ps o m) [
+  | inl e ↦
+      let a : low ≤ first = own (sym (ap (λ (r : Piece). r.state) e) ∙ free) in
+      let b : q.first ≡ first = ap (λ (r : Piece). r.first) e in
+      omega arith
+  | inr x ↦ elim x [
+    | inl y ↦ none q y.0 free
+    | inr y ↦ elim y [
+      | inl z ↦ let a = none z.of z.among (z.state ∙ free) in omega (arith, z.begins)
+      | inr z ↦ let a = none z.of z.among (z.state ∙ free) in omega (arith, z.begins, z.under)
+    ]
+  ]
+]
+
+-- a free page is one that fits
+page_fits : (q : Piece) (ps : List Piece) → IsOrdered 1 ps → IsIn q ps → q.state ≡ Free → IsFit ps 1 1 q.first
+page_fits q ps o m free = record {
+  aligned = omega arith;
+  free = λ page w.
+      in_state 1 q ps page o m w.0 (let a = in_le 1 q ps o m in omega (arith, w.1, a.1)) ∙ ap (λ s. Some s) free;
+}
+
+-- once the lowest free page is live, all free pieces begin behind it
+pub none_below_taken : (start : ℕ) (ps : List Piece) → IsOrdered 1 ps → IsLowestFit ps 1 1 start
+    → NoneFreeBelow (start + 1) (put start (start + 1 - 1) Live ps)
+none_below_taken start ps o i q m free = elim (put_only start (start + 1 - 1) Live q ps o m) [
+  | inl e ↦ let b : q.state ≡ Live = ap (λ (r : Piece). r.state) e in absurd (cc)
+  | inr x ↦ elim x [
+    | inl y ↦
+        let a = in_le 1 q ps o y.0 in
+        let b = i.lowest q.first (page_fits q ps o y.0 free) in
+        elim y.1 [ inl h ↦ absurd (omega (arith, a.1)) | inr h ↦ omega arith ]
+    | inr y ↦ elim y [
+      | inl z ↦
+          let b = i.lowest z.of.first (page_fits z.of ps o z.among (z.state ∙ free)) in
+          absurd (omega (arith, z.under))
+      | inr z ↦ omega (arith, z.begins)
+    ]
+  ]
+]
+
+-- the piece that a page with a state lies in
+holding : (ps : List Piece) (page : ℕ) (s : PageState) → state_at ps page ≡ Some s
+    → (q : Piece) × IsIn q ps × Holds q page × (q.state ≡ s)
+holding [] page s e = absurd (none_some [] page s (state-nil page) e)
+holding (p ∷ ps) page s e = elim (order p.first page) [
+  | inr h ↦ let r = holding ps page s (sym (state-under p ps page h) ∙ e) in (r.0, inr r.1, r.2, r.3)
+  | inl h ↦ elim (order page p.last) [
+    | inr k ↦ let r = holding ps page s (sym (state-past p ps page k) ∙ e) in (r.0, inr r.1, r.2, r.3)
+    | inl k ↦ (p, inl refl, (h, k), same p.state s (sym (state-here p ps page h k) ∙ e))
+  ]
+]
+  where
+    same : (u v : PageState) → Some u ≡ Some v → u ≡ v
+    same u v g = cc
+
+-- so many pages at the front of the lowest free piece are the lowest that fit in any place
+pub front_lowest : (p : Piece) (pages : ℕ) (ps : List Piece) → IsOrdered 1 ps → IsIn p ps → p.state ≡ Free → NoneFreeBelow p.first ps
+    → 1 ≤ pages → p.first + pages ≤ p.last + 1 → IsLowestFit ps pages 1 p.first
+front_lowest p pages ps o m free none some room = record {
+  fit = record {
+    aligned = omega arith;
+    free = λ page w. in_state 1 p ps page o m w.0 (omega (arith, w.1)) ∙ ap (λ s. Some s) free;
+  };
+  lowest = λ other fit.
+      let h = holding ps other Free (fit.free other (omega arith, omega arith)) in
+      let a = none h.0 h.1 h.3 in
+      omega (arith, h.2.0);
+}
