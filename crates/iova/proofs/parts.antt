@@ -7,4 +7,5 @@ pub mod Covered
 pub mod PutIn
 pub mod PutUp
 pub mod PutWhole
+pub mod PutFront
 pub mod Filled

@@ -1,6 +1,6 @@
 //! A piece put over what a tree has.
 
-ghost use Rattle.std.specs.Prelude.{◌≡◌, ℕ, ◌+◌, ◌<◌, ◌≤◌, length, [], ◌∷◌, ◌++◌, Some, IfSome, true};
+ghost use Rattle.std.specs.Prelude.{◌≡◌, ℕ, ◌+◌, ◌<◌, ◌≤◌, length, [], ◌∷◌, ◌++◌, Some, None, IfSome, true};
 ghost use Rattle.slab.specs.Slab.{get, slab_len};
 ghost use Rattle.iova.specs.Pieces.{IsOrdered, part_above, part_below, with_piece};
 ghost use Rattle.iova.specs.declared.node.Node.{Node};
@@ -12,7 +12,7 @@ use crate::ends::{add_first, add_last, leaf};
 use crate::links::{free_length, longest, read};
 use crate::node::{Node, Top};
 use crate::piece::Piece;
-use crate::settle::{set_all, set_left, set_piece, set_right, set_whole, settle};
+use crate::settle::{set_all, set_front, set_left, set_piece, set_right, set_whole, settle};
 use crate::trims::{keep_above, keep_below};
 use crate::way::{Held, MOST_HEIGHT, NO_STEP, Place, Step, lift, mend, walk};
 use slab::Slab;
@@ -246,6 +246,43 @@ pub(crate) fn put_whole(
     lift(nodes, way, held.depth, was, top);
 }
 
+/// Puts a piece over the front of the one at a key, which has no tree before it but one behind it: the piece becomes a
+/// leaf before the key, which stays as high as it was, and what is longest is renewed from there up. The root stays.
+#[inline(always)]
+fn put_front(
+    nodes: &mut Slab<Node>,
+    root: Option<usize>,
+    piece: &Piece,
+    way: &[Step; MOST_HEIGHT],
+    held: Held,
+)
+    requires tree { CanPut nodes.old root piece.now }
+    requires low { CanWalk (get nodes.old) root }
+    requires place { LeadsTo (get nodes.old) root piece.now way.now (record { at = Some held.key; depth = held.depth }) }
+    requires front { (n : Node) × (get nodes.old held.key ≡ Some n) × (piece.now.first ≡ n.piece.first)
+        × (piece.now.last < n.piece.last) × (n.left ≡ None) × (1 < n.height) }
+    ensures { (t : Shape) (from : ℕ) → IsBelow (get nodes.old) root t from
+        → Leaves nodes.old nodes.new root t (with_piece piece.now (items t)) 1 }
+{
+    let node = &nodes[held.key];
+    let was = node.longest;
+    let height = node.height;
+    let rest = Piece {
+        first: piece.last + 1,
+        ..node.piece
+    };
+    let below = free_length(*piece).max(longest(nodes, node.right));
+    let now = free_length(rest).max(below);
+    let before = leaf(nodes, piece);
+    set_front(nodes, held.key, before, rest, now);
+    let top = Top {
+        root: Some(held.key),
+        height,
+        longest: now,
+    };
+    lift(nodes, way, held.depth, was, top);
+}
+
 /// Puts a piece over what lies where a way leads to, and brings the tree up to date from there.
 #[inline(never)]
 fn put_part(
@@ -288,13 +325,19 @@ pub(crate) fn put_by(
 {
     if let Some(key) = place.at {
         let node = &nodes[key];
-        if piece.first == node.piece.first && piece.last == node.piece.last {
+        if piece.first == node.piece.first && piece.last <= node.piece.last {
             let held = Held {
                 key,
                 depth: place.depth,
             };
-            put_whole(nodes, root, piece, way, held);
-            return root;
+            if piece.last == node.piece.last {
+                put_whole(nodes, root, piece, way, held);
+                return root;
+            }
+            if node.left.is_none() && node.height > 1 {
+                put_front(nodes, root, piece, way, held);
+                return root;
+            }
         }
     }
     put_part(nodes, root, piece, way, place)

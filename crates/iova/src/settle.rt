@@ -55,6 +55,26 @@ pub(crate) fn set_whole(nodes: &mut Slab<Node>, key: usize, piece: Piece, longes
     node.longest = longest;
 }
 
+/// Writes the child before a key, the piece there, and what is longest below it.
+#[inline(always)]
+pub(crate) fn set_front(
+    nodes: &mut Slab<Node>,
+    key: usize,
+    left: Option<usize>,
+    piece: Piece,
+    longest: u64,
+)
+    requires { IsSome (get nodes.old key) }
+    ensures updates { (n : Node) → get nodes.old key ≡ Some n
+        → Updates nodes.old nodes.new key (Some (record n { piece = piece; left = left; longest = longest })) }
+    ensures count { KeepsCount nodes.old nodes.new }
+{
+    let node = &mut nodes[key];
+    node.left = left;
+    node.piece = piece;
+    node.longest = longest;
+}
+
 /// Writes the piece and both children at a key.
 #[inline(always)]
 pub(crate) fn set_all(

@@ -22,7 +22,7 @@ use Rattle.iova.proofs.shapes.Ways.{plug-high, plug-uses}
 use Rattle.iova.proofs.shapes.Written.{held_written}
 
 -- what is read of a tree
-read_of : (look : Look) (at : Option ℕ) (top : Top) (t : Shape) → at ≡ root_of t → AreNodes look t → top ≡ top_of t → IsRead look at top
+pub read_of : (look : Look) (at : Option ℕ) (top : Top) (t : Shape) → at ≡ root_of t → AreNodes look t → top ≡ top_of t → IsRead look at top
 read_of look at top t e n is s h m = is ∙ same_top look t s (sym e ∙ h) n m
 
 -- ---- the key alone
