@@ -6,8 +6,10 @@ pub mod NewSpace
 pub mod FreeRange
 pub mod FreedRun
 pub mod Freed
+pub mod Shown
 pub mod Taken
 pub mod LowestFree
+pub mod PutFree
 pub mod Same
 pub mod shapes
 pub mod parts

@@ -1,5 +1,5 @@
 -- The page below which no free piece begins, and the lowest free piece.
-use Rattle.std.proofs.Common.{◌≡◌, ℕ, ◌+◌, ◌-◌, ◌≤◌, List, [], ◌∷◌, Some, refl, ap, sym, ◌∙◌, inl, inr, arith}
+use Rattle.std.proofs.Common.{◌≡◌, ℕ, ◌+◌, ◌-◌, ◌%◌, ◌≤◌, List, [], ◌∷◌, Some, refl, ap, sym, ◌∙◌, inl, inr, arith}
 use Rattle.dmatypes.specs.World.{IsIn}
 use Rattle.iova.specs.declared.piece.PageState.{PageState}
 use Rattle.iova.specs.declared.piece.PageState.TheVariants.{Free, Live}
@@ -76,12 +76,12 @@ holding (p ∷ ps) page s e = elim (order p.first page) [
     same : (u v : PageState) → Some u ≡ Some v → u ≡ v
     same u v g = cc
 
--- so many pages at the front of the lowest free piece are the lowest that fit in any place
-pub front_lowest : (p : Piece) (pages : ℕ) (ps : List Piece) → IsOrdered 1 ps → IsIn p ps → p.state ≡ Free → NoneFreeBelow p.first ps
-    → 1 ≤ pages → p.first + pages ≤ p.last + 1 → IsLowestFit ps pages 1 p.first
-front_lowest p pages ps o m free none some room = record {
+-- so many pages at the front of the lowest free piece are the lowest that fit, if they may begin there
+pub front_lowest : (p : Piece) (pages unit : ℕ) (ps : List Piece) → IsOrdered 1 ps → IsIn p ps → p.state ≡ Free → NoneFreeBelow p.first ps
+    → 1 ≤ pages → p.first + pages ≤ p.last + 1 → p.first % unit ≡ 0 → IsLowestFit ps pages unit p.first
+front_lowest p pages unit ps o m free none some room aligned = record {
   fit = record {
-    aligned = omega arith;
+    aligned = aligned;
     free = λ page w. in_state 1 p ps page o m w.0 (omega (arith, w.1)) ∙ ap (λ s. Some s) free;
   };
   lowest = λ other fit.

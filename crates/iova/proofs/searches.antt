@@ -9,4 +9,5 @@ pub mod Beside
 pub mod Descent
 pub mod Seeking
 pub mod Holding
+pub mod Last
 pub mod Touching

@@ -10,4 +10,8 @@ pub mod Steps
 pub mod Tall
 pub mod Ways
 pub mod Lifted
+pub mod Grown
+pub mod Longest
+pub mod TurnedOnce
+pub mod TurnedTwice
 pub mod Linked

@@ -8,10 +8,11 @@ use Rattle.dmatypes.specs.World.{IsIn}
 use Rattle.iova.specs.declared.piece.PageState.{PageState}
 use Rattle.iova.specs.declared.piece.PageState.TheVariants.{Free, Live}
 use Rattle.iova.specs.declared.way.InMind.{InMind}
-use Rattle.iova.specs.declared.way.InMind.TheVariants.{Nothing, Judged, Lowest}
+use Rattle.iova.specs.declared.way.InMind.TheVariants.{Nothing, Judged, Lowest, Freed}
 use Rattle.iova.specs.declared.way.Known.{Known}
+use Rattle.iova.specs.declared.beside.Ends.{Ends}
 use Rattle.iova.specs.declared.way.Step.{Step}
-use Rattle.iova.specs.Pieces.{NoneFreeBelow}
+use Rattle.iova.specs.Pieces.{NoneFreeBelow, free_end, free_start, with_piece}
 use Rattle.iova.specs.Space.{Space}
 use Rattle.iova.specs.Way.{IsHeld, pages_as}
 use Rattle.iova.specs.Tree.{Look, Shape, IsBelow, IsTree, at_root, height_of, items, root_of, top_of, uses}
@@ -29,9 +30,20 @@ contents look (suc depth) root = around (at_root look root) (contents look depth
 abbrev pub pieces_of : Slab Node → Option ℕ → List Piece
 pieces_of nodes root = contents (get nodes) 14 root
 
--- the last page and the pieces
+-- the last page and the pieces, as the tree has them
 abbrev pub stored : ℕ → Option ℕ → Slab Node → Space
 stored last root nodes = record { last = last; pieces = pieces_of nodes root }
+
+-- the pieces that a space shows, of those in its tree: one that came free since is free
+abbrev pub shown : InMind → List Piece → List Piece
+shown Nothing pieces = pieces
+shown (Judged known) pieces = pieces
+shown (Lowest known) pieces = pieces
+shown (Freed known) pieces = with_piece (pages_as known.pages Free) pieces
+
+-- the last page and the pieces, as the space shows them
+abbrev pub seen : ℕ → Option ℕ → Slab Node → InMind → Space
+seen last root nodes in_mind = record { last = last; pieces = shown in_mind (pieces_of nodes root) }
 
 -- the nodes are one balanced tree with these pieces, at most 14 high, and there is room for 1,024
 pub record IsKept (root : Option ℕ) (nodes : Slab Node) (pieces : List Piece) : Type 0 where
@@ -55,9 +67,16 @@ pub record IsKnown (nodes : Slab Node) (root : Option ℕ) (way : List Step) (st
   pub there : IsIn (pages_as known.pages state) (pieces_of nodes root)
   pub held : IsHeld (get nodes) root way known.held known.pages
 
--- the piece that is kept in mind is there: the live one, or the free one below which no free piece begins
+-- no free piece ends just before the pages or begins just after them
+abbrev pub NoneFreeBeside : Ends → List Piece → Type 0
+NoneFreeBeside pages pieces = (free_start pieces pages.first ≡ pages.first) × (free_end pieces pages.last ≡ pages.last)
+
+-- the piece that is kept in mind is there: the live one, the free one below which no free piece begins, or the one that
+-- came free, which the tree has as live and which touches no free one
 abbrev pub IsInMind : Slab Node → Option ℕ → List Step → InMind → Type 0
 IsInMind nodes root way Nothing = Unit {0}
 IsInMind nodes root way (Judged known) = IsKnown nodes root way Live known
 IsInMind nodes root way (Lowest known) =
     IsKnown nodes root way Free known × NoneFreeBelow known.pages.first (pieces_of nodes root)
+IsInMind nodes root way (Freed known) =
+    IsKnown nodes root way Live known × NoneFreeBeside known.pages (pieces_of nodes root)

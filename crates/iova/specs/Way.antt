@@ -1,5 +1,8 @@
 -- Ways down a tree: what lies above a place in it.
-use Rattle.std.specs.Prelude.{ℕ, ◌≡◌, ◌+◌, ◌≤◌, Bool, true, false, List, ◌∷◌, ◌++◌, Option, Some, None, IfSome, slice_index_or}
+use Rattle.std.specs.Prelude.{ℕ, ◌≡◌, ◌+◌, ◌-◌, ◌<◌, ◌≤◌, Bool, true, false, List, ◌∷◌, ◌++◌, Option, Some, None, IfSome}
+use Rattle.std.specs.Prelude.{IsSome, slice_index_or}
+use Rattle.slab.specs.Slab.{Slab, get}
+use Rattle.dmatypes.specs.World.{IsIn}
 use Rattle.iova.specs.declared.piece.Piece.{Piece}
 use Rattle.iova.specs.declared.node.Node.{Node}
 use Rattle.iova.specs.declared.node.Top.{Top}
@@ -12,7 +15,7 @@ use Rattle.iova.specs.declared.way.Step.{Step}
 use Rattle.iova.specs.declared.way.TheConstants.{MOST_HEIGHT}
 use Rattle.iova.specs.Pieces.{with_piece}
 use Rattle.iova.specs.Tree.{Look, Shape, Fork, items, height_of, root_of, node_of, one, uses, IsPiece, IsBalanced, ArePieces, AreNodes, IsTree}
-use Rattle.iova.specs.Tree.{AreParts, AreNear, IsBelow, Joins}
+use Rattle.iova.specs.Tree.{AreParts, AreNear, IsBelow, Joins, KeepsCount, top_of}
 
 -- nothing, or a key above a place, which lies before it or behind it, with its piece and the tree on its other side
 pub data Above : Type 0 where
@@ -119,6 +122,44 @@ pub record IsHeld (look : Look) (root : Option ℕ) (way : List Step) (held : He
   pub first : node.piece.first ≡ pages.first
   pub last : node.piece.last ≡ pages.last
   pub leads : (state : PageState) → LeadsTo look root (pages_as pages state) way (record { at = Some held.key; depth = held.depth })
+
+-- the step above goes on before a key whose piece ends with this page, which is of height 2 and has a tree behind it
+pub record EndsAbove (look : Look) (way : List Step) (depth last : ℕ) : Type 0 where
+  pub node : Node
+  pub above : 0 < depth
+  pub before : (step_at way (depth - 1)).before ≡ true
+  pub here : look (step_at way (depth - 1)).key ≡ Some node
+  pub ends : node.piece.last ≡ last
+  pub height : node.height ≡ 2
+  pub behind : IsSome node.right
+
+-- the key above, to which the way leads in one step less
+abbrev pub held_above : List Step → Held → Held
+held_above way held = record { key = (step_at way (held.depth - 1)).key; depth = held.depth - 1 }
+
+-- the way leads to a key, and a piece lies behind all of the tree before the key, and before the key's own
+pub record IsJustBefore (look : Look) (whole : Shape) (p : Piece) (way : List Step) (held : Held) : Type 0 where
+  pub place : IsPlace look whole p way (Some held.key) held.depth
+  pub node : Node
+  pub left : Shape
+  pub right : Shape
+  pub here : look held.key ≡ Some node
+  pub is : place.t ≡ Fork held.key node.piece left right
+  pub piece : IsPiece p
+  pub behind : (q : Piece) → IsIn q (items left) → q.last < p.first
+  pub before : p.last < node.piece.first
+
+-- the key at a place has another piece, and nothing else of the whole tree changed but what is longest
+pub record Renews (old new : Slab Node) (root : Option ℕ) (path : Above) (there : Shape) (key : ℕ) (p : Piece) : Type 0 where
+  pub node : Node
+  pub left : Shape
+  pub right : Shape
+  pub was : get old key ≡ Some node
+  pub is : there ≡ Fork key node.piece left right
+  pub here : root ≡ root_of (plug path (Fork key p left right))
+  pub tree : IsTree (get new) (top_of (plug path (Fork key p left right))) (plug path (Fork key p left right))
+  pub others : (k : ℕ) → uses (plug path there) k ≡ 0 → get new k ≡ get old k
+  pub count : KeepsCount old new
 
 -- ---- and up
 

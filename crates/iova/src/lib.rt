@@ -21,8 +21,10 @@
 
 mod beside;
 mod ends;
+mod grow;
 mod links;
 mod node;
+mod pending;
 mod piece;
 mod put;
 mod search;

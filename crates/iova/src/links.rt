@@ -3,7 +3,7 @@
 ghost use Rattle.std.specs.Prelude.{◌≡◌};
 ghost use Rattle.slab.specs.Slab.{get};
 ghost use Rattle.iova.specs.Tree.{AreNodes, CanLink, CanOpen, CanRead, IsLinked, IsOpened, IsPiece, IsRead, KeepsCount, Shape};
-ghost use Rattle.iova.specs.Tree.{free_pages, longest_of, root_of};
+ghost use Rattle.iova.specs.Tree.{free_pages, height_of, longest_of, root_of};
 
 use crate::node::{NO_TREE, Node, Opened, Top};
 use crate::piece::Piece;
@@ -31,6 +31,18 @@ pub(crate) fn longest(nodes: &Slab<Node>, root: Option<usize>) -> u64
 {
     match root {
         Some(key) => nodes[key].longest,
+        None => 0,
+    }
+}
+
+/// How high a tree below a root is.
+#[inline(always)]
+pub(crate) fn height(nodes: &Slab<Node>, root: Option<usize>) -> u64
+    requires { CanRead (get nodes.now) root }
+    ensures { (t : Shape) → root ≡ root_of t → AreNodes (get nodes.now) t → result ≡ height_of t }
+{
+    match root {
+        Some(key) => nodes[key].height,
         None => 0,
     }
 }

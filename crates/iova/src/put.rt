@@ -1,20 +1,21 @@
 //! A piece put over what a tree has.
 
-ghost use Rattle.std.specs.Prelude.{◌≡◌, ℕ, ◌+◌, ◌<◌, ◌≤◌, length, [], ◌∷◌, ◌++◌, Some, None, IfSome, true};
+ghost use Rattle.std.specs.Prelude.{◌≡◌, ℕ, Option, ◌+◌, ◌<◌, ◌≤◌, length, [], ◌∷◌, ◌++◌, Some, None, IfSome, true};
 ghost use Rattle.slab.specs.Slab.{get, slab_len};
 ghost use Rattle.iova.specs.Pieces.{IsOrdered, part_above, part_below, with_piece};
 ghost use Rattle.iova.specs.declared.node.Node.{Node};
-ghost use Rattle.iova.specs.Way.{CanWalk, IsHeld, LeadsTo, Meets};
+ghost use Rattle.iova.specs.Way.{CanWalk, EndsAbove, IsHeld, IsLowBelow, IsPlace, LeadsTo, Meets, Renews, held_above};
 ghost use Rattle.iova.specs.Tree.{CanPut, IsBelow, IsLow, IsPiece, Leaves, Shape, items, rest_above, rest_below};
 
 use crate::beside::Ends;
 use crate::ends::{add_first, add_last, leaf};
+use crate::grow::{grow, mend_apart};
 use crate::links::{free_length, longest, read};
 use crate::node::{Node, Top};
 use crate::piece::Piece;
 use crate::settle::{set_all, set_front, set_left, set_piece, set_right, set_whole, settle};
 use crate::trims::{keep_above, keep_below};
-use crate::way::{Held, MOST_HEIGHT, NO_STEP, Place, Step, lift, mend, walk};
+use crate::way::{Held, MOST_HEIGHT, NO_STEP, Place, Step, lift, mend, walk, walk_last};
 use slab::Slab;
 
 /// Keeps what a tree has below a page, where the tree lies before a place.
@@ -213,8 +214,32 @@ fn meets(nodes: &Slab<Node>, at: Option<usize>, piece: &Piece) -> bool
     piece.first <= node.piece.last && node.piece.first <= piece.last
 }
 
-/// Puts a piece in the place of the one at a key, which has its pages. No tree changes its height then, so what is longest
-/// alone is renewed from there up: the root stays, and the way still leads there.
+/// Writes another piece at a key to which a way leads. No tree changes its height then, so what is longest alone is
+/// renewed from there up: the root stays, and the way still leads there.
+#[inline(always)]
+fn renew(nodes: &mut Slab<Node>, piece: Piece, way: &[Step; MOST_HEIGHT], held: Held)
+    requires way { (root : Option ℕ) × (t : Shape) × (from : ℕ) × (p : Piece) × IsLowBelow (get nodes.old) root t from
+        × IsPlace (get nodes.old) t p way.now (Some held.key) held.depth }
+    requires piece { IsPiece piece }
+    ensures { (root : Option ℕ) (t : Shape) (from : ℕ) (p : Piece) → IsLowBelow (get nodes.old) root t from
+        → (q : IsPlace (get nodes.old) t p way.now (Some held.key) held.depth)
+        → Renews nodes.old nodes.new root q.path q.t held.key piece }
+{
+    let node = &nodes[held.key];
+    let was = node.longest;
+    let height = node.height;
+    let below = longest(nodes, node.left).max(longest(nodes, node.right));
+    let now = free_length(piece).max(below);
+    set_whole(nodes, held.key, piece, now);
+    let top = Top {
+        root: Some(held.key),
+        height,
+        longest: now,
+    };
+    lift(nodes, way, held.depth, was, top);
+}
+
+/// Puts a piece in the place of the one at a key, which has its pages: the root stays, and the way still leads there.
 #[inline(always)]
 pub(crate) fn put_whole(
     nodes: &mut Slab<Node>,
@@ -232,18 +257,7 @@ pub(crate) fn put_whole(
         → Leaves nodes.old nodes.new root t (with_piece piece.now (items t)) 1 }
     ensures held { (pages : Ends) → IsHeld (get nodes.old) root way.now held pages → IsHeld (get nodes.new) root way.now held pages }
 {
-    let node = &nodes[held.key];
-    let was = node.longest;
-    let height = node.height;
-    let below = longest(nodes, node.left).max(longest(nodes, node.right));
-    let now = free_length(*piece).max(below);
-    set_whole(nodes, held.key, *piece, now);
-    let top = Top {
-        root: Some(held.key),
-        height,
-        longest: now,
-    };
-    lift(nodes, way, held.depth, was, top);
+    renew(nodes, *piece, way, held);
 }
 
 /// Puts a piece over the front of the one at a key, which has no tree before it but one behind it: the piece becomes a
@@ -283,6 +297,103 @@ fn put_front(
     lift(nodes, way, held.depth, was, top);
 }
 
+/// Whether the last step of a way to a piece goes on before a key whose piece ends with a page, which is of height 2 and
+/// has a tree behind it: what lies before the key is a leaf then, and the key stays as high without it.
+#[inline(always)]
+pub(crate) fn is_before_end(
+    nodes: &Slab<Node>,
+    root: Option<usize>,
+    way: &[Step; MOST_HEIGHT],
+    held: Held,
+    last: u64,
+) -> bool
+    requires tree { CanWalk (get nodes.now) root }
+    requires held { (pages : Ends) × IsHeld (get nodes.now) root way.now held pages }
+    ensures { result ≡ true → EndsAbove (get nodes.now) way.now held.depth last }
+{
+    if held.depth == 0 {
+        return false;
+    }
+    let step = way[held.depth - 1];
+    if !step.before {
+        return false;
+    }
+    let node = &nodes[step.key];
+    node.piece.last == last && node.height == 2 && node.right.is_some()
+}
+
+/// Puts a piece over a leaf, to which a way leads, and the piece at the key right above it, which lies behind the leaf:
+/// the leaf goes, and the key has the piece. It stays as high as it was, so what is longest alone is renewed from there
+/// up: the root stays, and the way leads to the key above.
+#[inline(always)]
+pub(crate) fn put_over_leaf(
+    nodes: &mut Slab<Node>,
+    root: Option<usize>,
+    piece: &Piece,
+    way: &[Step; MOST_HEIGHT],
+    held: Held,
+)
+    requires tree { CanPut nodes.old root piece.now }
+    requires low { CanWalk (get nodes.old) root }
+    requires held { (pages : Ends) × IsHeld (get nodes.old) root way.now held pages × (piece.now.first ≡ pages.first) }
+    requires above { EndsAbove (get nodes.old) way.now held.depth piece.now.last }
+    ensures put { (t : Shape) (from : ℕ) → IsBelow (get nodes.old) root t from
+        → Leaves nodes.old nodes.new root t (with_piece piece.now (items t)) 1 }
+    ensures held { (pages : Ends) → piece.now.first ≡ pages.first → piece.now.last ≡ pages.last
+        → IsHeld (get nodes.new) root way.now (held_above way.now held) pages }
+{
+    let depth = held.depth - 1;
+    let key = way[depth].key;
+    let node = &nodes[key];
+    let was = node.longest;
+    let height = node.height;
+    let now = free_length(*piece).max(longest(nodes, node.right));
+    nodes.remove(held.key);
+    set_front(nodes, key, None, *piece, now);
+    let top = Top {
+        root: Some(key),
+        height,
+        longest: now,
+    };
+    lift(nodes, way, depth, was, top);
+}
+
+/// Puts a piece over the front of the one at a key, which keeps the rest: the piece becomes a leaf at the end of the tree
+/// before the key. The rest is written first, so that what the keys above it show is up to date on the way back up.
+#[inline(never)]
+fn put_last(
+    nodes: &mut Slab<Node>,
+    root: Option<usize>,
+    piece: &Piece,
+    way: &mut [Step; MOST_HEIGHT],
+    held: Held,
+) -> Option<usize>
+    requires tree { CanPut nodes.old root piece.now }
+    requires low { CanWalk (get nodes.old) root }
+    requires place { LeadsTo (get nodes.old) root piece.now way.old (record { at = Some held.key; depth = held.depth }) }
+    requires front { (n : Node) × (get nodes.old held.key ≡ Some n) × (piece.now.first ≡ n.piece.first)
+        × (piece.now.last < n.piece.last) }
+    ensures { (t : Shape) (from : ℕ) → IsBelow (get nodes.old) root t from
+        → Leaves nodes.old nodes.new result t (with_piece piece.now (items t)) 1 }
+{
+    let rest = Piece {
+        first: piece.last + 1,
+        ..nodes[held.key].piece
+    };
+    renew(nodes, rest, way, held);
+    let depth = walk_last(nodes, held, way);
+    let longest = free_length(*piece);
+    let end = Top {
+        root: leaf(nodes, piece),
+        height: 1,
+        longest,
+    };
+    if longest > 0 {
+        return mend_apart(nodes, way, depth, root, end);
+    }
+    grow(nodes, way, depth, root, end)
+}
+
 /// Puts a piece over what lies where a way leads to, and brings the tree up to date from there.
 #[inline(never)]
 fn put_part(
@@ -314,12 +425,12 @@ pub(crate) fn put_by(
     nodes: &mut Slab<Node>,
     root: Option<usize>,
     piece: &Piece,
-    way: &[Step; MOST_HEIGHT],
+    way: &mut [Step; MOST_HEIGHT],
     place: Place,
 ) -> Option<usize>
     requires tree { CanPut nodes.old root piece.now }
     requires low { CanWalk (get nodes.old) root }
-    requires place { LeadsTo (get nodes.old) root piece.now way.now place }
+    requires place { LeadsTo (get nodes.old) root piece.now way.old place }
     ensures { (t : Shape) (from : ℕ) → IsBelow (get nodes.old) root t from
         → Leaves nodes.old nodes.new result t (with_piece piece.now (items t)) 1 }
 {
@@ -338,6 +449,7 @@ pub(crate) fn put_by(
                 put_front(nodes, root, piece, way, held);
                 return root;
             }
+            return put_last(nodes, root, piece, way, held);
         }
     }
     put_part(nodes, root, piece, way, place)
@@ -353,7 +465,7 @@ fn put_below(nodes: &mut Slab<Node>, root: Option<usize>, piece: &Piece) -> Opti
 {
     let mut way = [NO_STEP; MOST_HEIGHT];
     let place = walk(nodes, root, piece, &mut way);
-    put_by(nodes, root, piece, &way, place)
+    put_by(nodes, root, piece, &mut way, place)
 }
 
 /// Puts a piece over what a tree has.

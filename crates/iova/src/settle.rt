@@ -118,6 +118,34 @@ pub(crate) fn set_longest(nodes: &mut Slab<Node>, key: usize, longest: u64)
     nodes[key].longest = longest;
 }
 
+/// Writes how high it is below a key.
+#[inline(always)]
+pub(crate) fn set_height(nodes: &mut Slab<Node>, key: usize, height: u64)
+    requires { IsSome (get nodes.old key) }
+    ensures updates { (n : Node) → get nodes.old key ≡ Some n → Updates nodes.old nodes.new key (Some (record n { height = height })) }
+    ensures count { KeepsCount nodes.old nodes.new }
+{
+    nodes[key].height = height;
+}
+
+/// Writes the child before a key, and what is longest below it.
+#[inline(always)]
+pub(crate) fn set_left_longest(
+    nodes: &mut Slab<Node>,
+    key: usize,
+    root: Option<usize>,
+    longest: u64,
+)
+    requires { IsSome (get nodes.old key) }
+    ensures updates { (n : Node) → get nodes.old key ≡ Some n
+        → Updates nodes.old nodes.new key (Some (record n { left = root; longest = longest })) }
+    ensures count { KeepsCount nodes.old nodes.new }
+{
+    let node = &mut nodes[key];
+    node.left = root;
+    node.longest = longest;
+}
+
 /// Writes the child behind a key, and how high and how long it is below it.
 #[inline(always)]
 pub(crate) fn set_right_reach(
@@ -154,6 +182,28 @@ pub(crate) fn set_left_reach(
 {
     let node = &mut nodes[key];
     node.left = root;
+    node.height = height;
+    node.longest = longest;
+}
+
+/// Writes both children at a key, and how high and how long it is below it.
+#[inline(always)]
+pub(crate) fn set_joint(
+    nodes: &mut Slab<Node>,
+    key: usize,
+    left: Option<usize>,
+    right: Option<usize>,
+    height: u64,
+    longest: u64,
+)
+    requires { IsSome (get nodes.old key) }
+    ensures updates { (n : Node) → get nodes.old key ≡ Some n → Updates nodes.old nodes.new key
+        (Some (record n { left = left; right = right; height = height; longest = longest })) }
+    ensures count { KeepsCount nodes.old nodes.new }
+{
+    let node = &mut nodes[key];
+    node.left = left;
+    node.right = right;
     node.height = height;
     node.longest = longest;
 }

@@ -5,9 +5,9 @@ ghost use Rattle.std.specs.Prelude.{◌≡◌, ◌≢◌, ℕ, ◌+◌, ◌^◌,
 use crate::beside::Ends;
 use crate::node::Node;
 use crate::piece::{PageState, Piece};
-use crate::store;
 use crate::walk::Iter;
 use crate::way::{InMind, Known, MOST_HEIGHT, NO_STEP, Step};
+use crate::{pending, store};
 use dmatypes::{MOST_PAGES, PAGES_END, Page, PageRange};
 use slab::Slab;
 use std::alloc::{AllocError, Global};
@@ -53,18 +53,19 @@ pub struct Space {
     low: u64,
     // The steps of the last way down.
     way: [Step; MOST_HEIGHT],
-    // The piece to which they lead, if it is still of use: one that was judged, or the lowest free one.
+    // The piece to which they lead, if it is still of use: one that was judged, the lowest free one, or one that came
+    // free and is taken again soon, as mostly, or else is written into the tree.
     in_mind: InMind,
 }
 
 impl Model for Space {
     ghost use Rattle.iova.specs.Pieces.{NoneFreeBelow};
     ghost use Rattle.iova.specs.Space.{Space, IsSpace};
-    ghost use Rattle.iova.specs.Stored.{IsInMind, IsKept, pieces_of, stored};
+    ghost use Rattle.iova.specs.Stored.{IsInMind, IsKept, pieces_of, seen, stored};
 
     ghost Value = { Space };
 
-    ghost view = { λ a. stored a.last a.root a.nodes };
+    ghost view = { λ a. seen a.last a.root a.nodes a.in_mind };
 
     ghost invariant = { λ a. IsKept a.root a.nodes (pieces_of a.nodes a.root) × IsSpace (stored a.last a.root a.nodes)
         × NoneFreeBelow a.low (pieces_of a.nodes a.root) × IsInMind a.nodes a.root a.way a.in_mind };
@@ -119,6 +120,7 @@ impl Space {
         Iter {
             nodes: &self.nodes,
             root: self.root,
+            in_mind: self.in_mind,
             page: 1,
         }
     }
@@ -136,7 +138,7 @@ impl Space {
         ensures state { result ≡ state_at self.now.pieces page }
         ensures some { IsSome result ↔ (page ≤ self.now.last) }
     {
-        store::state_of(&self.nodes, self.root, page.number())
+        pending::state_of(&self.nodes, self.root, self.in_mind, page.number())
     }
 
     /// Makes so many free pages, 1 to 4,096, one live piece, and answers the first of them: the lowest that is
@@ -160,6 +162,50 @@ impl Space {
             × IsTooMany self.old.pieces (record { first = start; pages = pages })) }
         ensures unchanged { OnErr result (self.new ≡ self.old) }
     {
+        let unit = 1 << order;
+        let fits = pending::fit_freed(
+            &self.nodes,
+            self.root,
+            self.low,
+            pages,
+            unit,
+            &self.way,
+            self.in_mind,
+        );
+        if let Some(known) = fits {
+            self.in_mind = InMind::Judged(known);
+            return Ok(Page::new(known.pages.first).unwrap());
+        }
+        self.take_from_tree(pages, order)
+    }
+
+    // The same, where the piece that came free is not taken again: it is written into the tree first.
+    #[inline(always)]
+    fn take_from_tree(&mut self, pages: u64, order: u64) -> Result<Page, TakeError>
+        requires some_pages { 1 ≤ pages }
+        requires few_pages { pages ≤ MOST_PAGES }
+        requires order { order ≤ MOST_ORDER }
+
+        // The start, and what the space then is.
+        ensures lowest { IfOk result (IsLowestFit self.old.pieces pages (2 ^ order)) }
+        ensures range { IfOk result (λ start. IsPageRange (record { first = start; pages = pages })) }
+        ensures taken { IfOk result (λ start. Takes self.old self.new (record { first = start; pages = pages })) }
+        ensures space { IsSpace self.old × IsSpace self.new }
+
+        // The refusals.
+        ensures no_range { (result ≡ Err TakeError.NoRange) ↔ ((start : ℕ) → IsFit self.old.pieces pages (2 ^ order) start → ⊥) }
+        ensures too_many { (result ≡ Err TakeError.TooManyPieces)
+            ↔ ((start : ℕ) × IsLowestFit self.old.pieces pages (2 ^ order) start
+            × IsTooMany self.old.pieces (record { first = start; pages = pages })) }
+        ensures unchanged { OnErr result (self.new ≡ self.old) }
+    {
+        pending::put_freed(
+            &mut self.nodes,
+            &mut self.root,
+            &mut self.low,
+            &self.way,
+            &mut self.in_mind,
+        );
         let in_mind = self.in_mind;
         self.in_mind = InMind::Nothing;
         let unit = 1 << order;
@@ -185,7 +231,7 @@ impl Space {
             state: PageState::Live,
         };
         self.low = store::low_behind(self.low, start, pages, unit);
-        self.root = store::store_by(&mut self.nodes, self.root, piece, &self.way, spot.place);
+        self.root = store::store_by(&mut self.nodes, self.root, piece, &mut self.way, spot.place);
         Ok(Page::new(start).unwrap())
     }
 
@@ -198,11 +244,12 @@ impl Space {
             ↔ (AllIn PageState.Live range self.now.pieces × IsTooMany self.now.pieces range) }
     {
         let first = range.first();
-        if store::not_live(&self.nodes, self.root, first, range.pages()).is_some() {
+        let pages = range.pages();
+        if pending::not_live(&self.nodes, self.root, self.in_mind, first, pages).is_some() {
             return Err(RetireError::NotLive);
         }
-        if self.nodes.len() > MOST_PIECES_TO_CUT
-            && store::cuts_piece(&self.nodes, self.root, first, range.pages())
+        if self.piece_count() > MOST_PIECES_TO_CUT
+            && pending::cuts_piece(&self.nodes, self.root, self.in_mind, first, pages)
         {
             return Err(RetireError::TooManyPieces);
         }
@@ -223,6 +270,18 @@ impl Space {
         let first = range.first();
         let last = first + range.pages() - 1;
         let pages = Ends { first, last };
+        if let InMind::Judged(known) = self.in_mind {
+            if known.pages.first == first && known.pages.last == last {
+                return Ok(());
+            }
+        }
+        pending::put_freed(
+            &mut self.nodes,
+            &mut self.root,
+            &mut self.low,
+            &self.way,
+            &mut self.in_mind,
+        );
         self.in_mind = InMind::Nothing;
         if let Some(held) = store::hold_live(&self.nodes, self.root, pages, &mut self.way) {
             self.in_mind = InMind::Judged(Known { pages, held });
@@ -244,6 +303,13 @@ impl Space {
             last: first + range.pages() - 1,
             state: PageState::Retired,
         };
+        pending::put_freed(
+            &mut self.nodes,
+            &mut self.root,
+            &mut self.low,
+            &self.way,
+            &mut self.in_mind,
+        );
         let in_mind = self.in_mind;
         self.in_mind = InMind::Nothing;
         self.root = store::retire(&mut self.nodes, self.root, piece, &self.way, in_mind);
@@ -261,6 +327,17 @@ impl Space {
         let pages = Ends { first, last };
         if let InMind::Judged(known) = self.in_mind {
             if known.pages.first == pages.first && known.pages.last == pages.last {
+                let ends = store::with_free_ends(
+                    &self.nodes,
+                    self.root,
+                    &self.way,
+                    known.held,
+                    pages,
+                );
+                if ends.first == pages.first && ends.last == pages.last {
+                    self.in_mind = InMind::Freed(known);
+                    return;
+                }
                 let freed = store::free(
                     &mut self.nodes,
                     self.root,
@@ -309,6 +386,13 @@ impl Space {
     {
         let first = range.first();
         let last = first + range.pages() - 1;
+        pending::put_freed(
+            &mut self.nodes,
+            &mut self.root,
+            &mut self.low,
+            &self.way,
+            &mut self.in_mind,
+        );
         self.in_mind = InMind::Nothing;
         let whole = store::with_free_around(&self.nodes, self.root, Ends { first, last });
         self.low = self.low.min(whole.first);
@@ -331,6 +415,13 @@ impl Space {
         let first = range.first();
         let last = first + range.pages() - 1;
         let pages = Ends { first, last };
+        pending::put_freed(
+            &mut self.nodes,
+            &mut self.root,
+            &mut self.low,
+            &self.way,
+            &mut self.in_mind,
+        );
         let held = store::hold(&self.nodes, self.root, pages, &mut self.way);
         let freed = store::free(&mut self.nodes, self.root, self.low, pages, &self.way, held);
         self.root = freed.root;

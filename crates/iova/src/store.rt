@@ -1,20 +1,21 @@
 //! The pieces of a space in a tree.
 
-ghost use Rattle.std.specs.Prelude.{◌≡◌, ◌≢◌, List, Some, ℕ, ◌+◌, ◌^◌, ◌<◌, ◌≤◌, ◌↔◌, [], length, IsTrue, IsSome, IfSome, IfNone};
+ghost use Rattle.std.specs.Prelude.{◌≡◌, ◌≢◌, List, Some, ℕ, ◌+◌, ◌^◌, ◌<◌, ◌≤◌, ◌↔◌, [], length, IsTrue, IsSome, IfSome};
+ghost use Rattle.std.specs.Prelude.{IfNone, true, false};
 ghost use Rattle.dmatypes.specs.Page.{IsWithin};
 ghost use Rattle.slab.specs.Slab.{get, slab_len};
 ghost use Rattle.dmatypes.specs.World.{IsIn};
 ghost use Rattle.iova.specs.Pieces.{AllIn, IsOrdered, NoneFreeBelow, free_end, free_start, freed, piece_of, state_at};
 ghost use Rattle.iova.specs.Pieces.{with_free, with_piece};
 ghost use Rattle.iova.specs.Space.{CutsPiece, IsFit, IsLowestFit, new_space};
-ghost use Rattle.iova.specs.Stored.{IsInMind, IsKept, pieces_of};
+ghost use Rattle.iova.specs.Stored.{IsInMind, IsKept, pieces_of, shown};
 ghost use Rattle.iova.specs.Tree.{IsPiece};
-ghost use Rattle.iova.specs.Way.{IsHeld, LeadsTo, pages_as};
+ghost use Rattle.iova.specs.Way.{EndsAbove, IsHeld, LeadsTo, held_above, pages_as};
 
 use crate::beside::{Ends, with_free, with_free_by};
 use crate::node::{NUMBERS_END, Node};
 use crate::piece::{PageState, Piece};
-use crate::put::{put, put_by, put_whole};
+use crate::put::{is_before_end, put, put_by, put_over_leaf, put_whole};
 use crate::search::{find, first_free, lowest_fit, seek};
 use crate::space::MOST_PIECES;
 use crate::way::{Held, InMind, Known, MOST_HEIGHT, Place, Spot, Step, walk};
@@ -44,14 +45,14 @@ pub(crate) fn store_by(
     nodes: &mut Slab<Node>,
     root: Option<usize>,
     piece: Piece,
-    way: &[Step; MOST_HEIGHT],
+    way: &mut [Step; MOST_HEIGHT],
     place: Place,
 ) -> Option<usize>
     requires kept { IsKept root nodes.old (pieces_of nodes.old root) }
     requires ordered { IsOrdered 1 (pieces_of nodes.old root) }
     requires few { length (with_piece piece (pieces_of nodes.old root)) ≤ MOST_PIECES }
     requires piece { IsPiece piece }
-    requires place { LeadsTo (get nodes.old) root piece way.now place }
+    requires place { LeadsTo (get nodes.old) root piece way.old place }
     ensures { IsKept result nodes.new (with_piece piece (pieces_of nodes.old root)) }
 {
     put_by(nodes, root, &piece, way, place)
@@ -78,6 +79,28 @@ pub(crate) fn store_held(
     root
 }
 
+/// Puts a piece over a leaf, to which a way leads, and the piece right behind it at the key above.
+#[inline(always)]
+fn store_over_leaf(
+    nodes: &mut Slab<Node>,
+    root: Option<usize>,
+    piece: Piece,
+    way: &[Step; MOST_HEIGHT],
+    held: Held,
+)
+    requires kept { IsKept root nodes.old (pieces_of nodes.old root) }
+    requires ordered { IsOrdered 1 (pieces_of nodes.old root) }
+    requires few { length (with_piece piece (pieces_of nodes.old root)) ≤ MOST_PIECES }
+    requires piece { IsPiece piece }
+    requires held { (pages : Ends) × IsHeld (get nodes.old) root way.now held pages × (piece.first ≡ pages.first) }
+    requires above { EndsAbove (get nodes.old) way.now held.depth piece.last }
+    ensures kept { IsKept root nodes.new (with_piece piece (pieces_of nodes.old root)) }
+    ensures held { (pages : Ends) → piece.first ≡ pages.first → piece.last ≡ pages.last
+        → IsHeld (get nodes.new) root way.now (held_above way.now held) pages }
+{
+    put_over_leaf(nodes, root, &piece, way, held);
+}
+
 /// Puts a piece over those that are there: where one was judged that has its pages, by the way that leads to that.
 #[inline(always)]
 pub(crate) fn retire(
@@ -102,13 +125,14 @@ pub(crate) fn retire(
     store(nodes, root, piece)
 }
 
-/// What is there once a piece is free: the root, a page below which no free piece begins, and whether the pages are the
-/// lowest free piece by themselves.
+/// What is there once a piece is free: the root, a page below which no free piece begins, whether the free piece is the
+/// lowest and the way still leads to it, and whether it lies at the key above then.
 #[derive(Clone, Copy)]
 struct SetFree {
     root: Option<usize>,
     low: u64,
     is_lowest: bool,
+    is_above: bool,
 }
 
 /// What is there once a piece is free: the root, a page below which no free piece begins, and the free piece, where it
@@ -138,8 +162,13 @@ fn set_free(
     requires low { NoneFreeBelow low (pieces_of nodes.old root) }
     ensures kept { IsKept result.root nodes.new (with_free (pages_as pages PageState.Free) (pieces_of nodes.old root)) }
     ensures low { NoneFreeBelow result.low (pieces_of nodes.new result.root) }
-    ensures lowest { IsTrue result.is_lowest
+    ensures lowest { IsTrue result.is_lowest → result.is_above ≡ false
         → IsInMind nodes.new result.root way.now (InMind.Lowest (record { pages = pages; held = held })) }
+    ensures above { IsTrue result.is_lowest → result.is_above ≡ true → (0 < held.depth) × (last : ℕ)
+        × IsInMind nodes.new result.root way.now (InMind.Lowest (record {
+          pages = record { first = pages.first; last = last };
+          held = held_above way.now held;
+        })) }
 {
     let ends = with_free_ends(nodes, root, way, held, pages);
     let piece = Piece {
@@ -148,12 +177,23 @@ fn set_free(
         state: PageState::Free,
     };
     let now_low = low.min(ends.first);
+    let is_lowest = pages.first <= low;
     if ends.first == pages.first && ends.last == pages.last {
         let root = store_held(nodes, root, piece, way, held);
         return SetFree {
             root,
             low: now_low,
-            is_lowest: pages.first <= low,
+            is_lowest,
+            is_above: false,
+        };
+    }
+    if ends.first == pages.first && is_before_end(nodes, root, way, held, ends.last) {
+        store_over_leaf(nodes, root, piece, way, held);
+        return SetFree {
+            root,
+            low: now_low,
+            is_lowest,
+            is_above: true,
         };
     }
     let root = store(nodes, root, piece);
@@ -161,11 +201,12 @@ fn set_free(
         root,
         low: now_low,
         is_lowest: false,
+        is_above: false,
     }
 }
 
 /// The same, with what is to be kept in mind of it. It is inlined: what a call answers goes through memory, and its
-/// caller knows the piece anyway.
+/// caller knows the piece anyway, or reads at the key above where it ends.
 #[inline(always)]
 pub(crate) fn free(
     nodes: &mut Slab<Node>,
@@ -184,11 +225,26 @@ pub(crate) fn free(
     ensures kept { IsKept result.root nodes.new (with_free (pages_as pages PageState.Free) (pieces_of nodes.old root)) }
     ensures low { NoneFreeBelow result.low (pieces_of nodes.new result.root) }
     ensures in_mind { IsInMind nodes.new result.root way.now result.in_mind }
+    ensures shows { (pieces : List Piece) → shown result.in_mind pieces ≡ pieces }
 {
     let set = set_free(nodes, root, low, pages, way, held);
     let root = set.root;
     let low = set.low;
-    if set.is_lowest {
+    if !set.is_lowest {
+        return Freed {
+            root,
+            low,
+            in_mind: InMind::Nothing,
+        };
+    }
+    if set.is_above {
+        let depth = held.depth - 1;
+        let key = way[depth].key;
+        let pages = Ends {
+            first: pages.first,
+            last: nodes[key].piece.last,
+        };
+        let held = Held { key, depth };
         return Freed {
             root,
             low,
@@ -198,7 +254,7 @@ pub(crate) fn free(
     Freed {
         root,
         low,
-        in_mind: InMind::Nothing,
+        in_mind: InMind::Lowest(Known { pages, held }),
     }
 }
 
@@ -382,7 +438,7 @@ pub(crate) fn cuts_piece(nodes: &Slab<Node>, root: Option<usize>, first: u64, pa
 /// The pages from the first of the free piece that ends just before some pages to the last of the one that begins
 /// just after them, where a way leads to the piece of these pages.
 #[inline(always)]
-fn with_free_ends(
+pub(crate) fn with_free_ends(
     nodes: &Slab<Node>,
     root: Option<usize>,
     way: &[Step; MOST_HEIGHT],

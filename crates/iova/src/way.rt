@@ -1,11 +1,12 @@
 //! Ways down a tree, and back up once what lies at their end has changed.
 
-ghost use Rattle.std.specs.Prelude.{◌≡◌, ◌≤◌, ℕ, Option, Some, true, false};
+ghost use Rattle.std.specs.Prelude.{◌≡◌, ◌≤◌, ℕ, Option, None, Some, true, false};
 ghost use Rattle.slab.specs.Slab.{get};
 ghost use Rattle.iova.specs.declared.node.Node.{Node};
 ghost use Rattle.iova.specs.Tree.{IsPiece, KeepsCount, KeepsLinks, Shape, longest_of};
 ghost use Rattle.iova.specs.Way.{Above, CanHangBefore, CanHangBehind, CanMend, CanWalk, Mends, Walks};
-ghost use Rattle.iova.specs.Way.{CanLift, IsHungBefore, IsHungBehind, JoinsBefore, JoinsBehind};
+ghost use Rattle.iova.specs.Way.{CanLift, IsHungBefore, IsHungBehind, IsJustBefore, IsLowBelow, IsPlace, JoinsBefore, JoinsBehind};
+ghost use Rattle.iova.specs.declared.piece.Piece.{Piece};
 
 use crate::beside::Ends;
 use crate::links::{free_length, longest, read};
@@ -61,6 +62,8 @@ pub(crate) enum InMind {
     Judged(Known),
     /// The lowest free piece.
     Lowest(Known),
+    /// A piece that came free, which touches no other free one: the tree still has it as live.
+    Freed(Known),
 }
 
 /// Where pages are taken: the first of them, and where the piece lies that they are taken from.
@@ -107,9 +110,29 @@ pub(crate) fn walk(
     Place { at, depth }
 }
 
+/// Goes on from a key to the end of the tree before it, where nothing lies, and answers how many steps lead there.
+#[inline(always)]
+pub(crate) fn walk_last(nodes: &Slab<Node>, held: Held, way: &mut [Step; MOST_HEIGHT]) -> usize
+    requires { (root : Option ℕ) × (t : Shape) × (from : ℕ) × (p : Piece) × IsLowBelow (get nodes.now) root t from
+        × IsJustBefore (get nodes.now) t p way.old held }
+    ensures { (root : Option ℕ) (t : Shape) (from : ℕ) (p : Piece) → IsLowBelow (get nodes.now) root t from
+        → IsJustBefore (get nodes.now) t p way.old held → IsPlace (get nodes.now) t p way.new None result }
+{
+    let key = held.key;
+    way[held.depth] = Step { key, before: true };
+    let mut depth = held.depth + 1;
+    let mut at = nodes[key].left;
+    while let Some(key) = at {
+        way[depth] = Step { key, before: false };
+        at = nodes[key].right;
+        depth += 1;
+    }
+    depth
+}
+
 /// Joins at a key with a tree before it, where the heights differ by more than one: mostly they don't.
 #[inline(never)]
-fn join_before(
+pub(crate) fn join_before(
     nodes: &mut Slab<Node>,
     key: usize,
     root: Option<usize>,
@@ -162,7 +185,7 @@ fn hang_before(nodes: &mut Slab<Node>, key: usize, tree: Top) -> Hung
 
 /// Joins at a key with a tree behind it, where the heights differ by more than one: mostly they don't.
 #[inline(never)]
-fn join_behind(
+pub(crate) fn join_behind(
     nodes: &mut Slab<Node>,
     key: usize,
     root: Option<usize>,
@@ -272,7 +295,7 @@ fn raise(nodes: &mut Slab<Node>, way: &[Step; MOST_HEIGHT], steps: usize, end: T
 /// The child that a step doesn't go to. A place is chosen and then read, with no branch: which side a step goes to is
 /// as good as random, and a branch on it is mostly foreseen wrong.
 #[inline(always)]
-fn other_child(node: &Node, before: bool) -> Option<usize>
+pub(crate) fn other_child(node: &Node, before: bool) -> Option<usize>
     ensures before { before ≡ true → result ≡ node.now.right }
     ensures behind { before ≡ false → result ≡ node.now.left }
 {

@@ -3,6 +3,7 @@ use Rattle.std.proofs.Common.{◌≡◌, ℕ, ◌+◌, ◌<◌, List, [], ◌∷
 use Rattle.iova.specs.declared.piece.Piece.{Piece}
 use Rattle.iova.specs.Pieces.{IsOrdered, part_below, part_above, with_piece}
 use Rattle.iova.specs.Tree.{IsPiece, rest_below, rest_above}
+use Rattle.iova.proofs.Pieces.{part_below-none}
 use Rattle.iova.proofs.parts.Parts.{below_past, below_before, below_whole, above_past, above_before, above_whole, ordered_behind}
 use Rattle.iova.proofs.parts.Added.{rest_above-none, rest_above-some, rest_below-none, with_over}
 
@@ -54,6 +55,13 @@ with_before from xs q ys p o j h b =
     ∙ ap (λ l. l ++ p ∷ (rest_above p.last q ++ part_above p.last ys)) (append-nil (part_below p.first xs))
     ∙ ap (λ l. part_below p.first xs ++ p ∷ (l ++ part_above p.last ys)) (rest_above-none p.last q (omega arith))
     ∙ ap (λ l. part_below p.first xs ++ p ∷ l) (above_whole (q.last + 1) p.last ys (ordered_behind from xs q ys o) (omega arith))
+
+-- two pieces, one behind the other
+pub with_two : (from : ℕ) (q r : Piece) (ys : List Piece) (p : Piece) → IsOrdered from (q ∷ r ∷ ys) → IsPiece r
+    → p.first ≡ q.first → p.last ≡ r.last → with_piece p (q ∷ r ∷ ys) ≡ p ∷ ys
+with_two from q r ys p o j a b =
+    with_before from (q ∷ []) r ys p o j (omega (arith, o.1, o.3.0)) b
+    ∙ ap (λ l. l ++ p ∷ ys) (part_below-none p.first q [] (omega (arith, o.1)) (omega arith))
 
 pub with_behind : (from : ℕ) (xs : List Piece) (q : Piece) (ys : List Piece) (p : Piece) → IsOrdered from (xs ++ q ∷ ys) → IsPiece q
     → p.first ≡ q.first → q.last < p.last → with_piece p (xs ++ q ∷ ys) ≡ xs ++ p ∷ part_above p.last ys

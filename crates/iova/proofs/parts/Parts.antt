@@ -69,6 +69,11 @@ below_whole from xs q ys page o h =
 
 -- ---- what lies above a page
 
+-- what lies before a piece is below each page that is not below that
+pub above_front : (from : ℕ) (xs : List Piece) (q : Piece) (ys zs : List Piece) (page : ℕ) → IsOrdered from (xs ++ q ∷ ys)
+    → q.first ≤ page → part_above page (xs ++ zs) ≡ part_above page zs
+above_front from xs q ys zs page o h = part_above_skip xs zs page (ends_le xs page (front_ends from xs q ys page o h))
+
 pub above_past : (from : ℕ) (xs : List Piece) (q : Piece) (ys : List Piece) (page : ℕ) → IsOrdered from (xs ++ q ∷ ys) → q.last ≤ page
     → part_above page (xs ++ q ∷ ys) ≡ part_above page ys
 above_past from xs q ys page o h =

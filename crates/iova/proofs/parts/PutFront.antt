@@ -13,23 +13,23 @@ use Rattle.iova.specs.Tree.{AreNodes, CanRead, IsPiece, IsTree, IsBelow, KeepsCo
 use Rattle.iova.specs.Way.{Above, CanLift, CanWalk, LeadsTo, Mends, IsLowBelow, IsPlace}
 use Rattle.iova.proofs.parts.PutIn.{k, put-left, put-right, front-rest, front-list, front-room}
 use Rattle.iova.proofs.parts.PutUp.{lows, up-lift, up-done, up-room}
-use Rattle.iova.proofs.parts.PutWhole.{read_of}
+use Rattle.iova.proofs.parts.Renewed.{read_of}
 use Rattle.iova.proofs.shapes.Held as work
 use Rattle.iova.proofs.shapes.Settled.{Opening}
 use Rattle.iova.proofs.shapes.Steps.{left-there}
 use Rattle.iova.proofs.shapes.Written.{held_written}
 
 -- a tree that nothing lies below
-no_tree : (t : Shape) → None ≡ root_of t → t ≡ Empty
+pub no_tree : (t : Shape) → None ≡ root_of t → t ≡ Empty
 no_tree Empty e = refl
 no_tree (Fork key p l r) e = absurd (cc)
 
-flat : (t : Shape) → height_of t ≤ 0 → t ≡ Empty
+pub flat : (t : Shape) → height_of t ≤ 0 → t ≡ Empty
 flat Empty h = refl
 flat (Fork key p l r) h = absurd (omega arith)
 
 -- a tree of one piece
-alone : (t : Shape) (p : Piece) → items t ≡ p ∷ [] → height_of t ≤ 1 → (height_of t ≡ 1) × (longest_of t ≡ free_pages p)
+pub alone : (t : Shape) (p : Piece) → items t ≡ p ∷ [] → height_of t ≤ 1 → (height_of t ≡ 1) × (longest_of t ≡ free_pages p)
 alone Empty p e h = absurd (cc)
 alone (Fork key q l r) p e h =
     let a : l ≡ Empty = flat l (omega arith) in
@@ -232,9 +232,9 @@ module _ (old : Slab Node) (root : Option ℕ) (p : Piece) (way : List Step) (he
           path = q.path;
           there = q.t;
           here = here;
-          can = up-lift old root p way (Some held.key) held.depth t from w q next (Some held.key) put top reads (top_of q.t)
+          can = up-lift old root p way (Some held.key) held.depth t from w q next (Some held.key) _ put top reads (top_of q.t)
               (read_of (get old) (Some held.key) (top_of q.t) q.t q.below.here q.below.whole.tree.nodes refl) refl
               (high_is old held.key n p q.t q.from q.below f i a b none tall_enough);
           longest = front-was old held.key n p q.t q.from q.below f i a b none tall_enough;
-          done = λ new m d. up-done old root p way (Some held.key) held.depth t from w q next (Some held.key) put top reads new root m d;
+          done = λ new m d. up-done old root p way (Some held.key) held.depth t from w q next (Some held.key) _ put top reads refl new root m d;
         }

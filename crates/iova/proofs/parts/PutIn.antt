@@ -12,7 +12,7 @@ use Rattle.iova.proofs.parts.Over.{with_past, with_under, with_front, with_befor
 use Rattle.iova.proofs.parts.Ends.{low_none}
 use Rattle.iova.proofs.shapes.Settled.{Opening, opening, opened_order, low_below, below_low, work_before, work_behind}
 
-with_none : (p : Piece) → with_piece p [] ≡ p ∷ []
+pub with_none : (p : Piece) → with_piece p [] ≡ p ∷ []
 with_none p = ap (λ x. x ++ p ∷ part_above p.last []) (part_below-nil p.first) ∙ ap (λ x. p ∷ x) (part_above-nil p.last)
 
 -- the first piece of all

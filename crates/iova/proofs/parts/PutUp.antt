@@ -49,7 +49,7 @@ module _ (old : Slab Node) (root : Option ℕ) (p : Piece) (way : List Step) (at
       let b = ap (λ (ps : List Piece). length ps) whole_items in
       omega (arith, among-length q.path (with_piece p (items q.t)) (items q.t))
 
-  module _ (mid : Slab Node) (end : Option ℕ) (m : Leaves old mid end q.t (with_piece p (items q.t)) 1) where
+  module _ (mid : Slab Node) (end : Option ℕ) (ps : List Piece) (m : Leaves old mid end q.t ps 1) where
     end_root : end ≡ root_of m.makes.shape
     end_root = sym m.here ∙ ap (λ (v : Top). v.root) m.makes.tree.is
 
@@ -100,7 +100,8 @@ module _ (old : Slab Node) (root : Option ℕ) (p : Piece) (way : List Step) (at
             ∙ ap (λ (v : Top). v.height) (i q.t q.below.here q.below.whole.tree.nodes);
       }
 
-      module _ (new : Slab Node) (done : Option ℕ) (n : Mends (get mid) (get new) done q.path q.t m.makes.shape) (c : KeepsCount mid new) where
+      module _ (put : ps ≡ with_piece p (items q.t)) (new : Slab Node) (done : Option ℕ)
+          (n : Mends (get mid) (get new) done q.path q.t m.makes.shape) (c : KeepsCount mid new) where
         pub up-done : Leaves old new done t (with_piece p (items t)) 1
         up-done = record {
           top = n.top;
@@ -108,7 +109,7 @@ module _ (old : Slab Node) (root : Option ℕ) (p : Piece) (way : List Step) (at
           makes = record {
             shape = n.shape;
             tree = n.tree;
-            all = n.all ∙ ap (λ ps. among q.path ps) m.makes.all ∙ sym q.list;
+            all = n.all ∙ ap (λ l. among q.path l) (m.makes.all ∙ put) ∙ sym q.list;
             once = λ k. omega (arith, n.keys k, keys k);
             apart = λ k z s.
                 let a = m.makes.apart k (omega (arith, whole_uses k)) s in
@@ -117,6 +118,7 @@ module _ (old : Slab Node) (root : Option ℕ) (p : Piece) (way : List Step) (at
             len =
                 let a = ap (λ (ps : List Piece). length ps) q.list in
                 let b = ap (λ (ps : List Piece). length ps) whole_items in
+                let g = ap (λ (ps : List Piece). length ps) put in
                 omega (arith, c.len, m.makes.len, among-length q.path (with_piece p (items q.t)) (items q.t));
             capacity = c.capacity ∙ m.makes.capacity;
           };

@@ -60,20 +60,27 @@ ordered_at (Behind key p l up) t from o =
     let a = ordered_at up (Fork key p l t) from o in
     (p.last + 1, ordered_behind a.0 (items l) p (items t) a.1)
 
--- a piece put within one at a place is put at the place
-pub with_at : (up : Above) (t : Shape) (from : ℕ) (p q : Piece) → IsPiece p → IsOrdered from (items (plug up t)) → AreFine up t
-    → IsIn q (items t) → q.first ≤ p.first → p.last ≤ q.last → with_piece p (items (plug up t)) ≡ among up (with_piece p (items t))
-with_at Whole t from p q i o f m lo hi = refl
-with_at (Before key b r up) t from p q i o f m lo hi =
-    let a = ordered_at up (Fork key b t r) from o in
-    let h = before_first a.0 (items t) b (items r) q a.1 m in
-    with_at up (Fork key b t r) from p q i o f.4 (in_front q (items t) (b ∷ items r) m) lo hi
-    ∙ ap (λ ps. among up ps) (with_under (items t) b (items r) p f.0 i (omega arith))
-with_at (Behind key b l up) t from p q i o f m lo hi =
+-- a piece put within the pages from one to another at a place is put at the place
+pub with_within : (up : Above) (t : Shape) (from : ℕ) (p q r : Piece) → IsPiece p → IsOrdered from (items (plug up t)) → AreFine up t
+    → IsIn q (items t) → IsIn r (items t) → q.first ≤ p.first → p.last ≤ r.last
+    → with_piece p (items (plug up t)) ≡ among up (with_piece p (items t))
+with_within Whole t from p q r i o f m n lo hi = refl
+with_within (Before key b s up) t from p q r i o f m n lo hi =
+    let a = ordered_at up (Fork key b t s) from o in
+    let h = before_first a.0 (items t) b (items s) r a.1 n in
+    with_within up (Fork key b t s) from p q r i o f.4 (in_front q (items t) (b ∷ items s) m) (in_front r (items t) (b ∷ items s) n) lo hi
+    ∙ ap (λ ps. among up ps) (with_under (items t) b (items s) p f.0 i (omega arith))
+with_within (Behind key b l up) t from p q r i o f m n lo hi =
     let a = ordered_at up (Fork key b l t) from o in
     let h = in_le (b.last + 1) q (items t) (ordered_behind a.0 (items l) b (items t) a.1) m in
-    with_at up (Fork key b l t) from p q i o f.4 (in_back q (items l) (b ∷ items t) (inr m)) lo hi
+    with_within up (Fork key b l t) from p q r i o f.4 (in_back q (items l) (b ∷ items t) (inr m))
+    (in_back r (items l) (b ∷ items t) (inr n)) lo hi
     ∙ ap (λ ps. among up ps) (with_past a.0 (items l) b (items t) p a.1 i (omega (arith, h.0)))
+
+-- and so one that is put within one piece
+pub with_at : (up : Above) (t : Shape) (from : ℕ) (p q : Piece) → IsPiece p → IsOrdered from (items (plug up t)) → AreFine up t
+    → IsIn q (items t) → q.first ≤ p.first → p.last ≤ q.last → with_piece p (items (plug up t)) ≡ among up (with_piece p (items t))
+with_at up t from p q i o f m lo hi = with_within up t from p q q i o f m m lo hi
 
 -- the pages that were found are pages
 pub found_narrow : (t : Shape) (pages unit start : ℕ) → ArePieces t → IsFound pages unit (items t) start → start + pages ≤ NUMBERS_END

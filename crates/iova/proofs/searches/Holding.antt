@@ -10,13 +10,13 @@ use Rattle.iova.specs.declared.piece.Piece.{Piece}
 use Rattle.iova.specs.declared.node.Node.{Node}
 use Rattle.iova.specs.declared.way.Held.{Held}
 use Rattle.iova.specs.declared.way.InMind.{InMind}
-use Rattle.iova.specs.declared.way.InMind.TheVariants.{Judged, Lowest}
+use Rattle.iova.specs.declared.way.InMind.TheVariants.{Judged, Lowest, Freed}
 use Rattle.iova.specs.declared.way.Known.{Known}
 use Rattle.iova.specs.declared.way.Step.{Step}
 use Rattle.iova.specs.declared.node.TheConstants.{NUMBERS_END}
 use Rattle.iova.specs.Pieces.{IsOrdered, NoneFreeBelow, piece_of}
-use Rattle.iova.specs.Space.{MayRetire}
-use Rattle.iova.specs.Stored.{IsInMind, IsKept, IsKnown, pieces_of}
+use Rattle.iova.specs.Space.{CutsPiece, MayRetire}
+use Rattle.iova.specs.Stored.{IsInMind, IsKept, IsKnown, NoneFreeBeside, pieces_of}
 use Rattle.iova.specs.Way.{CanWalk, IsLowBelow, IsHeld, pages_as}
 use Rattle.iova.proofs.Among.{in_le, in_one, in_state}
 use Rattle.iova.proofs.searches.CutAt.{items_fine}
@@ -62,17 +62,23 @@ as_range first pages range state a b =
     ap (λ n. record { first = n; last = n + pages - 1; state = state }) a
     ∙ ap (λ n. record { first = range.first; last = range.first + n - 1; state = state }) b
 
+-- a range that is one piece cuts none
+pub whole_uncut : (range : Range) (state : PageState) (ps : List Piece) → IsOrdered 1 ps → 1 ≤ range.pages → IsIn (piece_of range state) ps
+    → CutsPiece ps range → ⊥
+whole_uncut range state ps o some i cuts =
+    let p = piece_of range state in
+    let cut = cuts.2 in
+    let a = cut.some in
+    let b = cut.not_all in
+    let e : cuts.0 ≡ p = in_one 1 cuts.0 p ps a.0 o cuts.1 i a.1 (a.2.0, omega (arith, a.2.1)) in
+    let h = subst (λ (q : Piece). (q.first ≤ b.0) × (b.0 ≤ q.last)) e b.1 in
+    b.2 (h.0, omega (arith, h.1, some))
+
 -- a range that is one live piece can be retired
 pub may_whole : (range : Range) (ps : List Piece) → IsOrdered 1 ps → 1 ≤ range.pages → IsIn (piece_of range Live) ps → MayRetire ps range
 may_whole range ps o some i = record {
   live = λ page w. in_state 1 (piece_of range Live) ps page o i w.0 (omega (arith, w.1));
-  room = λ t.
-      let cut = t.0.2 in
-      let a = cut.some in
-      let b = cut.not_all in
-      let e : t.0.0 ≡ piece_of range Live = in_one 1 t.0.0 (piece_of range Live) ps a.0 o t.0.1 i a.1 (a.2.0, omega (arith, a.2.1)) in
-      let h = subst (λ (q : Piece). (q.first ≤ b.0) × (b.0 ≤ q.last)) e b.1 in
-      b.2 (h.0, omega (arith, h.1, some));
+  room = λ t. whole_uncut range Live ps o some i t.0;
 }
 
 -- the pages that are known are those of the range
@@ -91,3 +97,8 @@ module _ (nodes : Slab Node) (root : Option ℕ) (way : List Step) (in_mind : In
   pub lowest_of : in_mind ≡ Lowest known → IsInMind nodes root way in_mind
       → IsKnown nodes root way Free known × NoneFreeBelow known.pages.first (pieces_of nodes root)
   lowest_of e i = subst (λ m. IsInMind nodes root way m) e i
+
+  -- the one that came free is in mind
+  pub freed_of : in_mind ≡ Freed known → IsInMind nodes root way in_mind
+      → IsKnown nodes root way Live known × NoneFreeBeside known.pages (pieces_of nodes root)
+  freed_of e i = subst (λ m. IsInMind nodes root way m) e i

@@ -54,7 +54,7 @@ from_before (x ∷ xs) q ys page none h =
     ]
 
 -- the first of them begins at the page or after it
-from_found : (from : ℕ) (ps : List Piece) (page : ℕ) (p : Piece) → IsOrdered from ps → first_or (pieces_from page ps) None ≡ Some p
+pub from_found : (from : ℕ) (ps : List Piece) (page : ℕ) (p : Piece) → IsOrdered from ps → first_or (pieces_from page ps) None ≡ Some p
     → (page ≤ p.first) × (p.first ≤ p.last)
 from_found from [] page p o e = absurd (let f : first_or (pieces_from page []) None ≡ None =
     ap (λ ps. first_or ps None) (from-nil page) in cc)
@@ -175,15 +175,3 @@ from_in (x ∷ xs) page p e =
 pub listed_piece : (nodes : Slab Node) (root : Option ℕ) (page : ℕ) (p : Piece) (i : IsListed nodes root)
     → first_or (pieces_from page (items i.shape)) None ≡ Some p → IsPiece p
 listed_piece nodes root page p i e = items_fine i.shape p i.below.whole.tree.pieces (from_in (items i.shape) page p e)
-
-pub listed_step : (nodes : Slab Node) (root : Option ℕ) (page : ℕ) (p : Piece) (i : IsListed nodes root)
-    → first_or (pieces_from page (items i.shape)) None ≡ Some p
-    → pieces_from page (pieces_of nodes root) ≡ p ∷ pieces_from (p.last + 1) (pieces_of nodes root)
-listed_step nodes root page p i e =
-    ap (pieces_from page) (listed_is nodes root i)
-    ∙ from_step 1 (items i.shape) page p i.below.whole.ordered e
-    ∙ ap (λ l. p ∷ pieces_from (p.last + 1) l) (sym (listed_is nodes root i))
-
-pub listed_end : (nodes : Slab Node) (root : Option ℕ) (page : ℕ) (i : IsListed nodes root)
-    → first_or (pieces_from page (items i.shape)) None ≡ None → pieces_from page (pieces_of nodes root) ≡ []
-listed_end nodes root page i e = ap (pieces_from page) (listed_is nodes root i) ∙ from_none (items i.shape) page e

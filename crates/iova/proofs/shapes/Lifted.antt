@@ -54,7 +54,7 @@ lifts_start old way steps end root path t new can was e = record {
 }
 
 -- the whole tree keeps its root
-whole_root : (look : Look) (way : List Step) (root : Option ℕ) (top : Top) (up : Above) (there here : Shape)
+pub whole_root : (look : Look) (way : List Step) (root : Option ℕ) (top : Top) (up : Above) (there here : Shape)
     → CanMend look way 0 root top up there here → root_of here ≡ root_of there → top.root ≡ root
 whole_root look way root top Whole there here can e = ap (λ (v : Top). v.root) can.tree.is ∙ e ∙ sym can.here
 whole_root look way root top (Before key p r up) there here can e = absurd (omega (arith, can.steps.1))

@@ -38,6 +38,9 @@ same_linked look (Fork k p l r) (Fork o q x y) e m n =
     let g = same_linked look r y (ap (λ (v : Node). v.right) is) m.4 n.4 in
     cc
 
+pub same_shape : (look : Look) (s t : Shape) → root_of s ≡ root_of t → AreNodes look s → AreNodes look t → s ≡ t
+same_shape look s t e m n = same_linked look s t e (linked_nodes look s m) (linked_nodes look t n)
+
 kept_linked : (old new : Look) (t : Shape) → KeepsLinks old new → AreLinked old t → AreLinked new t
 kept_linked old new Empty k a = tt
 kept_linked old new (Fork key p l r) k a =

@@ -18,21 +18,21 @@ use Rattle.iova.proofs.shapes.Joined.{link_joins}
 -- ---- a tree hung below a key
 
 -- what is read on the other side is what is there
-read_right : (look : Look) (key : ℕ) (found node : Node) (left right a : Top) (l r : Shape) → look key ≡ Some found → look key ≡ Some node
+pub read_right : (look : Look) (key : ℕ) (found node : Node) (left right a : Top) (l r : Shape) → look key ≡ Some found → look key ≡ Some node
     → right.root ≡ node.right → AreParts look left key right l r → IsRead look found.right a → AreParts look left key a l r
 read_right look key found node left right a l r f e i parts p =
     let same : node ≡ found = cc in
     let fr : found.right ≡ root_of r = sym (ap (λ (n : Node). n.right) same) ∙ sym i ∙ ap (λ (v : Top). v.root) parts.behind.is in
     subst (λ x. AreParts look left key x l r) (parts.behind.is ∙ sym (p r fr parts.behind.nodes)) parts
 
-read_left : (look : Look) (key : ℕ) (found node : Node) (left right a : Top) (l r : Shape) → look key ≡ Some found → look key ≡ Some node
+pub read_left : (look : Look) (key : ℕ) (found node : Node) (left right a : Top) (l r : Shape) → look key ≡ Some found → look key ≡ Some node
     → left.root ≡ node.left → AreParts look left key right l r → IsRead look found.left a → AreParts look a key right l r
 read_left look key found node left right a l r f e i parts p =
     let same : node ≡ found = cc in
     let fl : found.left ≡ root_of l = sym (ap (λ (n : Node). n.left) same) ∙ sym i ∙ ap (λ (v : Top). v.root) parts.before.is in
     subst (λ x. AreParts look x key right l r) (parts.before.is ∙ sym (p l fl parts.before.nodes)) parts
 
-same_piece : (look : Look) (key : ℕ) (found node : Node) → look key ≡ Some found → look key ≡ Some node → node.piece ≡ found.piece
+pub same_piece : (look : Look) (key : ℕ) (found node : Node) → look key ≡ Some found → look key ≡ Some node → node.piece ≡ found.piece
 same_piece look key found node f e = let same : node ≡ found = cc in ap (λ (n : Node). n.piece) same
 
 -- what a key shows
@@ -108,6 +108,12 @@ pub plug-high : (up : Above) (t : Shape) → height_of t ≤ height_of (plug up 
 plug-high Whole t = omega arith
 plug-high (Before key p r up) t = omega (arith, plug-high up (Fork key p t r))
 plug-high (Behind key p l up) t = omega (arith, plug-high up (Fork key p l t))
+
+-- as high with a tree as with another that is as high
+pub plug-level : (up : Above) (s t : Shape) → height_of s ≡ height_of t → height_of (plug up s) ≡ height_of (plug up t)
+plug-level Whole s t e = e
+plug-level (Before key p r up) s t e = plug-level up (Fork key p s r) (Fork key p t r) (ap (λ h. 1 + max h (height_of r)) e)
+plug-level (Behind key p l up) s t e = plug-level up (Fork key p l s) (Fork key p l t) (ap (λ h. 1 + max (height_of l) h) e)
 
 pub plug-items : (up : Above) (t : Shape) → items (plug up t) ≡ among up (items t)
 plug-items Whole t = refl
@@ -229,7 +235,7 @@ pub record LastBehind (way : List Step) (depth : ℕ) (up : Above) : Type 0 wher
   pub is : up ≡ Behind (step_at way (depth - 1)).key piece left more
   pub steps : AreSteps way (depth - 1) more
 
-last_before : (way : List Step) (depth : ℕ) (up : Above) → AreSteps way depth up → 0 < depth → (step_at way (depth - 1)).before ≡ true
+pub last_before : (way : List Step) (depth : ℕ) (up : Above) → AreSteps way depth up → 0 < depth → (step_at way (depth - 1)).before ≡ true
     → LastBefore way depth up
 last_before way depth Whole s pos b = absurd (omega arith)
 last_before way depth (Before key p r up) s pos b =

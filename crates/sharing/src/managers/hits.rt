@@ -78,8 +78,10 @@ fn hit_by_words<B: Owner, R: Wait + Abort>(rt: &R, alloc: Global, seed: Seed) ->
         port.hit(&rows, 0x11234, Access::Read),
         (Some(0x11_0234), 6)
     );
-    // A check-in empties no word.
+    // A check-in empties no word, nor does a snapshot.
     manager.check_in(rt, &rows, &mut mine, &mut port);
+    let report = manager.snapshot(rt, alloc)?;
+    assert!(rt; report.text().starts_with("events 6\n"));
     assert_eq!(rt;
         port.hit(&rows, 0x11234, Access::Read),
         (Some(0x11_0234), 6)

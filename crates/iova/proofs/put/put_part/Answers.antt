@@ -17,7 +17,7 @@ read-top-requires c =
     let i = c.requires.tree in
     let w = lows (get c.args.nodes.now) c.args.root i.0 i.1 c.requires.low i.2 in
     let q = (c.requires.place i.0 i.1).down w in
-    up-read c.args.nodes.now c.args.root c.args.piece.now c.args.way.now c.args.place.at c.args.place.depth i.0 i.1 w q c.put_at-end.new.nodes c.put_at-end.result (c.put_at-end.ensures q.t q.from q.below)
+    up-read c.args.nodes.now c.args.root c.args.piece.now c.args.way.now c.args.place.at c.args.place.depth i.0 i.1 w q c.put_at-end.new.nodes c.put_at-end.result _ (c.put_at-end.ensures q.t q.from q.below)
 
 pub mend-requires : goal.mend-requires
 mend-requires c =
@@ -25,15 +25,15 @@ mend-requires c =
     let w = lows (get c.args.nodes.now) c.args.root i.0 i.1 c.requires.low i.2 in
     let q = (c.requires.place i.0 i.1).down w in
     let m = c.put_at-end.ensures q.t q.from q.below in
-    (q.path, q.t, m.makes.shape, up-can c.args.nodes.now c.args.root c.args.piece.now c.args.way.now c.args.place.at c.args.place.depth i.0 i.1 w q c.put_at-end.new.nodes c.put_at-end.result m c.read-top.result c.read-top.ensures)
+    (q.path, q.t, m.makes.shape, up-can c.args.nodes.now c.args.root c.args.piece.now c.args.way.now c.args.place.at c.args.place.depth i.0 i.1 w q c.put_at-end.new.nodes c.put_at-end.result _ m c.read-top.result c.read-top.ensures)
 
 pub returns : goal.returns
 returns c t from below =
     let w = lows (get c.args.nodes.now) c.args.root t from c.requires.low below in
     let q = (c.requires.place t from).down w in
     let m = c.put_at-end.ensures q.t q.from q.below in
-    let can = up-can c.args.nodes.now c.args.root c.args.piece.now c.args.way.now c.args.place.at c.args.place.depth t from w q c.put_at-end.new.nodes c.put_at-end.result m c.read-top.result c.read-top.ensures in
-    up-done c.args.nodes.now c.args.root c.args.piece.now c.args.way.now c.args.place.at c.args.place.depth t from w q c.put_at-end.new.nodes c.put_at-end.result m c.read-top.result c.read-top.ensures c.mend.new.nodes c.mend.result
+    let can = up-can c.args.nodes.now c.args.root c.args.piece.now c.args.way.now c.args.place.at c.args.place.depth t from w q c.put_at-end.new.nodes c.put_at-end.result _ m c.read-top.result c.read-top.ensures in
+    up-done c.args.nodes.now c.args.root c.args.piece.now c.args.way.now c.args.place.at c.args.place.depth t from w q c.put_at-end.new.nodes c.put_at-end.result _ m c.read-top.result c.read-top.ensures refl c.mend.new.nodes c.mend.result
     (c.mend.ensures.mended q.path q.t m.makes.shape can) c.mend.ensures.count
 
 same_place : (a b : Option ℕ) → option_eq nat_eq a b ≡ true → a ≡ b
@@ -53,7 +53,7 @@ lift-requires c =
       q.t,
       m.makes.shape,
       up-lift c.args.nodes.now c.args.root c.args.piece.now c.args.way.now c.args.place.at
-          c.args.place.depth i.0 i.1 w q c.put_at-end.new.nodes c.put_at-end.result m c.read-top.result c.read-top.ensures
+          c.args.place.depth i.0 i.1 w q c.put_at-end.new.nodes c.put_at-end.result _ m c.read-top.result c.read-top.ensures
           c.read-was.result c.read-was.ensures (same_place _ _ (sym c.eq.ensures ∙ c.if-eq.true)) c.if-top-was.true,
       up-was c.args.nodes.now c.args.root c.args.piece.now c.args.way.now c.args.place.at c.args.place.depth i.0 i.1 w q
           c.read-was.result c.read-was.ensures,
@@ -65,10 +65,10 @@ returns-then-top-was c t from below =
     let q = (c.requires.place t from).down w in
     let m = c.put_at-end.ensures q.t q.from q.below in
     let can = up-lift c.args.nodes.now c.args.root c.args.piece.now c.args.way.now c.args.place.at c.args.place.depth t from w q
-    c.put_at-end.new.nodes c.put_at-end.result m c.read-top.result c.read-top.ensures
+    c.put_at-end.new.nodes c.put_at-end.result _ m c.read-top.result c.read-top.ensures
     c.read-was.result c.read-was.ensures (same_place _ _ (sym c.eq.ensures ∙ c.if-eq.true)) c.if-top-was.true in
     up-done c.args.nodes.now c.args.root c.args.piece.now c.args.way.now c.args.place.at c.args.place.depth t from w q
-    c.put_at-end.new.nodes c.put_at-end.result m c.read-top.result c.read-top.ensures c.lift.new.nodes c.args.root
+    c.put_at-end.new.nodes c.put_at-end.result _ m c.read-top.result c.read-top.ensures refl c.lift.new.nodes c.args.root
     (c.lift.ensures.mended c.args.root q.path q.t m.makes.shape can
     (up-was c.args.nodes.now c.args.root c.args.piece.now c.args.way.now c.args.place.at c.args.place.depth t from w q
     c.read-was.result c.read-was.ensures)) c.lift.ensures.count

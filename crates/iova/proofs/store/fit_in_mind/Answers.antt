@@ -30,8 +30,8 @@ returns-then-pages-known-clause-lowest c =
     let a = in_le 1 p (pieces_of c.args.nodes.now c.args.root) c.requires.ordered k.0.there in
     subst (λ u. IsLowestFit (pieces_of c.args.nodes.now c.args.root) c.args.pages u c.in-Lowest.known.pages.first)
     (sym c.if-unit-eq1.true)
-    (front_lowest p c.args.pages (pieces_of c.args.nodes.now c.args.root) c.requires.ordered k.0.there refl k.1 c.requires.some_pages
-    (omega (arith, a.1, c.if-pages-known.true)))
+    (front_lowest p c.args.pages 1 (pieces_of c.args.nodes.now c.args.root) c.requires.ordered k.0.there refl k.1 c.requires.some_pages
+    (omega (arith, a.1, c.if-pages-known.true)) (omega arith))
 
 pub returns-then-pages-known-clause-way : goal.returns-then-pages-known-clause-way
 returns-then-pages-known-clause-way c =

@@ -1,183 +1,116 @@
-use Rattle.std.proofs.Common.{arith, ◌≡◌, ℕ, ◌*◌, ◌≤◌, ◌^◌, ◌%◌, Bool, true, false, IsTrue, Option, Some, IfSome, List, ap, subst, sym}
-use Rattle.std.proofs.Math.Pow.{pow_mono}
+use Rattle.std.proofs.Common.{arith, ◌≡◌, ◌∙◌, ℕ, ◌+◌, ◌-◌, ◌^◌, ap, subst, sym}
 use Rattle.dmatypes.specs.Page.{IsPageRange, Range}
-use Rattle.iova.specs.declared.piece.Piece.{Piece}
+use Rattle.dmatypes.specs.World.{IsIn}
 use Rattle.iova.specs.declared.piece.PageState.TheVariants.{Free, Live}
-use Rattle.iova.specs.Pieces.{AllIn, NoneFreeBelow, piece_of, with_piece}
-use Rattle.iova.specs.Space.{Space, CutsPiece, IsFit, IsLowestFit, IsSpace, IsTooMany}
+use Rattle.iova.specs.Pieces.{AllIn, piece_of, with_piece}
+use Rattle.iova.specs.Space.{Space, IsFit, IsLowestFit, IsSpace, IsTooMany}
 use Rattle.iova.specs.Changes.{Takes}
-use Rattle.iova.specs.Stored.{stored}
-use Rattle.iova.proofs.Taken.{page_range, space_taken, takes}
-use Rattle.iova.proofs.shapes.Tall.{kept_self, kept_view}
+use Rattle.iova.specs.Stored.{pieces_of, seen, shown, stored}
+use Rattle.iova.specs.Way.{pages_as}
+use Rattle.iova.proofs.Among.{put_piece}
+use Rattle.iova.proofs.Shown.{in_narrow, space_shown, taken_back}
+use Rattle.iova.proofs.Taken.{one_lowest, page_range, start_is, takes, unit_is}
+use Rattle.iova.proofs.searches.Holding.{freed_of, whole_uncut}
 use Rattle.iova.proofs.space.Space.take.Goals as goal
-use Rattle.iova.proofs.space.Space.take.Goals.{else-len-gt-MOST_PIECES_TO_CUT-via-then-len-gt-MOST_PIECES_TO_CUT+else-cuts_piece}
-use Rattle.iova.proofs.space.Space.take.Goals.{else-len-gt-MOST_PIECES_TO_CUT-via-else-len-gt-MOST_PIECES_TO_CUT}
 
-no_cut : (b : Bool) (P : Type 0) → (P → IsTrue b) → b ≡ false → P → ⊥
-no_cut true P h e p = absurd (cc)
-no_cut false P h e p = absurd (let k : IsTrue false = h p in cc)
-
--- the page that was made is the start
-start_is : (o : Option ℕ) (page start : ℕ) → o ≡ Some page → IfSome o (λ p. p ≡ start) → page ≡ start
-start_is o page start e v = subst (λ k. IfSome k (λ p. p ≡ start)) e v
-
--- the unit that the code computes
-shifted : (n : ℕ) → n ≤ 9 → (1 * 2 ^ n) % 18446744073709551616 ≡ 2 ^ n
-shifted n h = let b : 2 ^ n ≤ 2 ^ 9 = pow_mono h in omega arith
-
--- the lowest start is one
-one_start : (ps : List Piece) (pages unit start x : ℕ) → IsLowestFit ps pages unit start
-    → (IsTooMany ps (record { first = start; pages = pages }) → ⊥) → IsLowestFit ps pages unit x
-    → IsTooMany ps (record { first = x; pages = pages }) → ⊥
-one_start ps pages unit start x i h j m =
-    let a = i.lowest x j.fit in
-    let b = j.lowest start i.fit in
-    let same : x ≡ start = omega arith in
-    h (subst (λ n. IsTooMany ps (record { first = n; pages = pages })) same m)
-
-pub overflow_add-piece : goal.overflow_add-piece
-overflow_add-piece c =
-    let a : Space = stored c.self.inside.last c.self.inside.root c.self.inside.nodes in
-    let range : Range = record { first = c.in-Some.spot.start; pages = c.args.pages } in
-    let free : AllIn Free range a.pieces = c.in-Some.ensures.lowest.fit.free in
-    let narrow = ((page_range a range Free c.self.invariant.1 c.requires.some_pages c.requires.few_pages free).members c.in-Some.spot.start
-    (omega arith, omega (arith, c.requires.some_pages))).1 in
-    omega (arith, narrow, c.requires.few_pages)
-
-pub store_by-self-inside-requires-clause-few : goal.store_by-self-inside-requires-clause-few
-store_by-self-inside-requires-clause-few c =
-    let a : Space = stored c.self.inside.last c.self.inside.root c.self.inside.nodes in
-    let range : Range = record { first = c.in-Some.spot.start; pages = c.args.pages } in
-    let free : AllIn Free range a.pieces = c.in-Some.ensures.lowest.fit.free in
-    let room : IsTooMany a.pieces range → ⊥ = elim c.else-len-gt-MOST_PIECES_TO_CUT.branch [
-      | else-len-gt-MOST_PIECES_TO_CUT-via-then-len-gt-MOST_PIECES_TO_CUT+else-cuts_piece w ↦ λ t. no_cut w.cuts_piece.result
-          (CutsPiece a.pieces range) w.cuts_piece.ensures.1 w.if-cuts_piece.false t.0
-      | else-len-gt-MOST_PIECES_TO_CUT-via-else-len-gt-MOST_PIECES_TO_CUT w ↦ λ t. omega
-          (arith, c.len.ensures, c.self.invariant.0.count, w.if-len-gt-MOST_PIECES_TO_CUT.false, t.1)
-    ] in
-    let space : IsSpace (record a { pieces = with_piece (piece_of range Live) a.pieces }) =
-    space_taken a range c.self.invariant.1 c.requires.some_pages free room in
-    space.few
-
-pub store_by-self-inside-requires-clause-piece : goal.store_by-self-inside-requires-clause-piece
-store_by-self-inside-requires-clause-piece c =
-    let a : Space = stored c.self.inside.last c.self.inside.root c.self.inside.nodes in
-    let range : Range = record { first = c.in-Some.spot.start; pages = c.args.pages } in
-    let free : AllIn Free range a.pieces = c.in-Some.ensures.lowest.fit.free in
-    let narrow = ((page_range a range Free c.self.invariant.1 c.requires.some_pages c.requires.few_pages free).members c.in-Some.spot.start
-    (omega arith, omega (arith, c.requires.some_pages))).1 in
-    (omega (arith, c.requires.some_pages), omega (arith, narrow, c.requires.few_pages))
-
-pub low_behind-self-inside-requires : goal.low_behind-self-inside-requires
-low_behind-self-inside-requires c =
-    let a : Space = stored c.self.inside.last c.self.inside.root c.self.inside.nodes in
-    let range : Range = record { first = c.in-Some.spot.start; pages = c.args.pages } in
-    let free : AllIn Free range a.pieces = c.in-Some.ensures.lowest.fit.free in
-    let narrow = ((page_range a range Free c.self.invariant.1 c.requires.some_pages c.requires.few_pages free).members c.in-Some.spot.start
-    (omega arith, omega (arith, c.requires.some_pages))).1 in
-    record { some_pages = c.requires.some_pages; start = omega (arith, narrow) }
+pub fit_freed-fits-requires-clause-unit : goal.fit_freed-fits-requires-clause-unit
+fit_freed-fits-requires-clause-unit c = (c.args.order, unit_is c.args.order c.requires.order)
 
 pub unwrap-requires : goal.unwrap-requires
 unwrap-requires c =
-    let a : Space = stored c.self.inside.last c.self.inside.root c.self.inside.nodes in
-    let range : Range = record { first = c.in-Some.spot.start; pages = c.args.pages } in
+    let known = c.in-Some.known in
+    let a : Space = seen c.self.inside.last c.self.inside.root c.self.inside.nodes c.self.inside.in_mind in
+    let sp : IsSpace a = space_shown c.self.inside.last c.self.inside.root c.self.inside.nodes c.self.inside.way c.self.invariant.1
+    c.self.inside.in_mind c.self.invariant.3 in
+    let range : Range = record { first = known.pages.first; pages = c.args.pages } in
     let free : AllIn Free range a.pieces = c.in-Some.ensures.lowest.fit.free in
-    c.new.ensures.some.1 ((page_range a range Free c.self.invariant.1 c.requires.some_pages c.requires.few_pages free).members
-    c.in-Some.spot.start (omega arith, omega (arith, c.requires.some_pages)))
+    c.new.ensures.some.1 ((page_range a range Free sp c.requires.some_pages c.requires.few_pages free).members known.pages.first
+    (omega arith, omega (arith, c.requires.some_pages)))
 
-pub invariant_of-self-2 : goal.invariant_of-self-2
-invariant_of-self-2 c =
-    let a : Space = stored c.self.inside.last c.self.inside.root c.self.inside.nodes in
-    let range : Range = record { first = c.in-Some.spot.start; pages = c.args.pages } in
+pub returns-in-Some-clause-range : goal.returns-in-Some-clause-range
+returns-in-Some-clause-range c =
+    let known = c.in-Some.known in
+    let a : Space = seen c.self.inside.last c.self.inside.root c.self.inside.nodes c.self.inside.in_mind in
+    let sp : IsSpace a = space_shown c.self.inside.last c.self.inside.root c.self.inside.nodes c.self.inside.way c.self.invariant.1
+    c.self.inside.in_mind c.self.invariant.3 in
+    let range : Range = record { first = known.pages.first; pages = c.args.pages } in
     let free : AllIn Free range a.pieces = c.in-Some.ensures.lowest.fit.free in
-    let room : IsTooMany a.pieces range → ⊥ = elim c.else-len-gt-MOST_PIECES_TO_CUT.branch [
-      | else-len-gt-MOST_PIECES_TO_CUT-via-then-len-gt-MOST_PIECES_TO_CUT+else-cuts_piece w ↦ λ t. no_cut w.cuts_piece.result
-          (CutsPiece a.pieces range) w.cuts_piece.ensures.1 w.if-cuts_piece.false t.0
-      | else-len-gt-MOST_PIECES_TO_CUT-via-else-len-gt-MOST_PIECES_TO_CUT w ↦ λ t. omega
-          (arith, c.len.ensures, c.self.invariant.0.count, w.if-len-gt-MOST_PIECES_TO_CUT.false, t.1)
-    ] in
-    let space : IsSpace (record a { pieces = with_piece (piece_of range Live) a.pieces }) =
-    space_taken a range c.self.invariant.1 c.requires.some_pages free room in (
-      kept_self c.store_by-self-inside.result c.store_by-self-inside.new.nodes (with_piece (piece_of range Live) a.pieces)
-          c.store_by-self-inside.ensures,
-      subst (λ ps. IsSpace (record a { pieces = ps })) (sym (kept_view c.store_by-self-inside.result c.store_by-self-inside.new.nodes
-          (with_piece (piece_of range Live) a.pieces) c.store_by-self-inside.ensures)) space,
-      subst (λ ps. NoneFreeBelow c.low_behind-self-inside.result ps)
-          (sym (kept_view c.store_by-self-inside.result c.store_by-self-inside.new.nodes (with_piece (piece_of range Live) a.pieces)
-          c.store_by-self-inside.ensures))
-          (c.low_behind-self-inside.ensures a.pieces c.self.invariant.1.ordered c.self.invariant.2 c.in-Some.ensures.lowest),
-      tt,
-    )
+    let start = start_is c.new.result c.unwrap.result known.pages.first c.unwrap.ensures c.new.ensures.value in
+    subst (λ n. IsPageRange (record { first = n; pages = c.args.pages })) (sym start)
+    (page_range a range Free sp c.requires.some_pages c.requires.few_pages free)
 
-pub returns-clause-range : goal.returns-clause-range
-returns-clause-range c =
-    let a : Space = stored c.self.inside.last c.self.inside.root c.self.inside.nodes in
-    let range : Range = record { first = c.in-Some.spot.start; pages = c.args.pages } in
+pub returns-in-Some-clause-taken : goal.returns-in-Some-clause-taken
+returns-in-Some-clause-taken c =
+    let known = c.in-Some.known in
+    let a : Space = seen c.self.inside.last c.self.inside.root c.self.inside.nodes c.self.inside.in_mind in
+    let sp : IsSpace a = space_shown c.self.inside.last c.self.inside.root c.self.inside.nodes c.self.inside.way c.self.invariant.1
+    c.self.inside.in_mind c.self.invariant.3 in
+    let range : Range = record { first = known.pages.first; pages = c.args.pages } in
     let free : AllIn Free range a.pieces = c.in-Some.ensures.lowest.fit.free in
-    subst (λ n. IsPageRange (record { first = n; pages = c.args.pages }))
-    (sym (start_is c.new.result c.unwrap.result c.in-Some.spot.start c.unwrap.ensures c.new.ensures.value))
-    (page_range a range Free c.self.invariant.1 c.requires.some_pages c.requires.few_pages free)
+    let start = start_is c.new.result c.unwrap.result known.pages.first c.unwrap.ensures c.new.ensures.value in
+    let is = c.in-Some.ensures.freed in
+    let k = freed_of c.self.inside.nodes c.self.inside.root c.self.inside.way c.self.inside.in_mind known is c.self.invariant.3 in
+    let ps = pieces_of c.self.inside.nodes c.self.inside.root in
+    let last : known.pages.last ≡ known.pages.first + c.args.pages - 1 = omega (arith, c.in-Some.ensures.pages) in
+    let new : Space = stored c.self.inside.last c.self.inside.root c.self.inside.nodes in
+    let back : with_piece (pages_as known.pages Live) (shown c.self.inside.in_mind ps) ≡ ps =
+    subst (λ m. with_piece (pages_as known.pages Live) (shown m ps) ≡ ps) (sym is)
+    (taken_back known.pages ps c.self.invariant.1.ordered k.0.there
+    (in_narrow new (pages_as known.pages Live) c.self.invariant.1 k.0.there) k.1) in
+    let same : ps ≡ with_piece (piece_of range Live) (shown c.self.inside.in_mind ps) =
+    sym back ∙ ap (λ n. with_piece (record { first = known.pages.first; last = n; state = Live }) (shown c.self.inside.in_mind ps)) last in
+    subst (λ n. Takes c.args.self.now new (record { first = n; pages = c.args.pages })) (sym start)
+    (subst (λ v. Takes v new range) c.self.view_is
+    (takes a new range sp c.requires.some_pages free (ap (λ l. record a { pieces = l }) same)))
 
-pub returns-clause-taken : goal.returns-clause-taken
-returns-clause-taken c =
-    let a : Space = stored c.self.inside.last c.self.inside.root c.self.inside.nodes in
-    let range : Range = record { first = c.in-Some.spot.start; pages = c.args.pages } in
+pub returns-in-Some-clause-space : goal.returns-in-Some-clause-space
+returns-in-Some-clause-space c =
+    let known = c.in-Some.known in
+    let a : Space = seen c.self.inside.last c.self.inside.root c.self.inside.nodes c.self.inside.in_mind in
+    let sp : IsSpace a = space_shown c.self.inside.last c.self.inside.root c.self.inside.nodes c.self.inside.way c.self.invariant.1
+    c.self.inside.in_mind c.self.invariant.3 in
+    let range : Range = record { first = known.pages.first; pages = c.args.pages } in
     let free : AllIn Free range a.pieces = c.in-Some.ensures.lowest.fit.free in
-    let new : Space = stored c.self.inside.last c.store_by-self-inside.result c.store_by-self-inside.new.nodes in
-    subst (λ n. Takes c.args.self.now new (record { first = n; pages = c.args.pages }))
-    (sym (start_is c.new.result c.unwrap.result c.in-Some.spot.start c.unwrap.ensures c.new.ensures.value))
-    (subst (λ v. Takes v new range) c.self.view_is (takes a new range c.self.invariant.1 c.requires.some_pages free
-    (ap (λ ps. record a { pieces = ps }) (kept_view c.store_by-self-inside.result c.store_by-self-inside.new.nodes
-    (with_piece (piece_of range Live) a.pieces) c.store_by-self-inside.ensures))))
+    (subst (λ v. IsSpace v) c.self.view_is sp, c.self.invariant.1)
 
-pub returns-clause-space : goal.returns-clause-space
-returns-clause-space c =
-    let a : Space = stored c.self.inside.last c.self.inside.root c.self.inside.nodes in
-    let range : Range = record { first = c.in-Some.spot.start; pages = c.args.pages } in
+pub returns-in-Some-clause-no_range : goal.returns-in-Some-clause-no_range
+returns-in-Some-clause-no_range c =
+    let known = c.in-Some.known in
+    let a : Space = seen c.self.inside.last c.self.inside.root c.self.inside.nodes c.self.inside.in_mind in
+    let sp : IsSpace a = space_shown c.self.inside.last c.self.inside.root c.self.inside.nodes c.self.inside.way c.self.invariant.1
+    c.self.inside.in_mind c.self.invariant.3 in
+    let range : Range = record { first = known.pages.first; pages = c.args.pages } in
     let free : AllIn Free range a.pieces = c.in-Some.ensures.lowest.fit.free in
-    let room : IsTooMany a.pieces range → ⊥ = elim c.else-len-gt-MOST_PIECES_TO_CUT.branch [
-      | else-len-gt-MOST_PIECES_TO_CUT-via-then-len-gt-MOST_PIECES_TO_CUT+else-cuts_piece w ↦ λ t. no_cut w.cuts_piece.result
-          (CutsPiece a.pieces range) w.cuts_piece.ensures.1 w.if-cuts_piece.false t.0
-      | else-len-gt-MOST_PIECES_TO_CUT-via-else-len-gt-MOST_PIECES_TO_CUT w ↦ λ t. omega
-          (arith, c.len.ensures, c.self.invariant.0.count, w.if-len-gt-MOST_PIECES_TO_CUT.false, t.1)
-    ] in
-    let space : IsSpace (record a { pieces = with_piece (piece_of range Live) a.pieces }) =
-    space_taken a range c.self.invariant.1 c.requires.some_pages free room in (
-      subst (λ v. IsSpace v) c.self.view_is c.self.invariant.1,
-      subst (λ ps. IsSpace (record a { pieces = ps }))
-          (sym (kept_view c.store_by-self-inside.result c.store_by-self-inside.new.nodes (with_piece (piece_of range Live) a.pieces)
-          c.store_by-self-inside.ensures)) space,
-    )
-
-pub returns-clause-no_range : goal.returns-clause-no_range
-returns-clause-no_range c =
-    let a : Space = stored c.self.inside.last c.self.inside.root c.self.inside.nodes in
-    let range : Range = record { first = c.in-Some.spot.start; pages = c.args.pages } in
-    let free : AllIn Free range a.pieces = c.in-Some.ensures.lowest.fit.free in
-    let unit = shifted c.args.order c.requires.order in
-    let lowest : IsLowestFit a.pieces c.args.pages (2 ^ c.args.order) c.in-Some.spot.start =
-    subst (λ u. IsLowestFit a.pieces c.args.pages u c.in-Some.spot.start) unit c.in-Some.ensures.lowest in (
+    let unit = unit_is c.args.order c.requires.order in
+    let lowest : IsLowestFit a.pieces c.args.pages (2 ^ c.args.order) known.pages.first =
+    subst (λ u. IsLowestFit a.pieces c.args.pages u known.pages.first) unit c.in-Some.ensures.lowest in (
       (λ e. absurd (cc)),
-      (λ h. absurd (h c.in-Some.spot.start (subst
-          (λ (v : Space). IsFit v.pieces c.args.pages (2 ^ c.args.order) c.in-Some.spot.start) c.self.view_is lowest.fit))),
+      (λ h. absurd (h known.pages.first (subst (λ (v : Space). IsFit v.pieces c.args.pages (2 ^ c.args.order) known.pages.first)
+          c.self.view_is lowest.fit))),
     )
 
-pub returns-clause-too_many : goal.returns-clause-too_many
-returns-clause-too_many c =
-    let a : Space = stored c.self.inside.last c.self.inside.root c.self.inside.nodes in
-    let range : Range = record { first = c.in-Some.spot.start; pages = c.args.pages } in
+pub returns-in-Some-clause-too_many : goal.returns-in-Some-clause-too_many
+returns-in-Some-clause-too_many c =
+    let known = c.in-Some.known in
+    let a : Space = seen c.self.inside.last c.self.inside.root c.self.inside.nodes c.self.inside.in_mind in
+    let sp : IsSpace a = space_shown c.self.inside.last c.self.inside.root c.self.inside.nodes c.self.inside.way c.self.invariant.1
+    c.self.inside.in_mind c.self.invariant.3 in
+    let range : Range = record { first = known.pages.first; pages = c.args.pages } in
     let free : AllIn Free range a.pieces = c.in-Some.ensures.lowest.fit.free in
-    let room : IsTooMany a.pieces range → ⊥ = elim c.else-len-gt-MOST_PIECES_TO_CUT.branch [
-      | else-len-gt-MOST_PIECES_TO_CUT-via-then-len-gt-MOST_PIECES_TO_CUT+else-cuts_piece w ↦ λ t. no_cut w.cuts_piece.result
-          (CutsPiece a.pieces range) w.cuts_piece.ensures.1 w.if-cuts_piece.false t.0
-      | else-len-gt-MOST_PIECES_TO_CUT-via-else-len-gt-MOST_PIECES_TO_CUT w ↦ λ t. omega
-          (arith, c.len.ensures, c.self.invariant.0.count, w.if-len-gt-MOST_PIECES_TO_CUT.false, t.1)
-    ] in
-    let unit = shifted c.args.order c.requires.order in
-    let lowest : IsLowestFit a.pieces c.args.pages (2 ^ c.args.order) c.in-Some.spot.start =
-    subst (λ u. IsLowestFit a.pieces c.args.pages u c.in-Some.spot.start) unit c.in-Some.ensures.lowest in (
+    let unit = unit_is c.args.order c.requires.order in
+    let lowest : IsLowestFit a.pieces c.args.pages (2 ^ c.args.order) known.pages.first =
+    subst (λ u. IsLowestFit a.pieces c.args.pages u known.pages.first) unit c.in-Some.ensures.lowest in
+    let is = c.in-Some.ensures.freed in
+    let k = freed_of c.self.inside.nodes c.self.inside.root c.self.inside.way c.self.inside.in_mind known is c.self.invariant.3 in
+    let ps = pieces_of c.self.inside.nodes c.self.inside.root in
+    let last : known.pages.last ≡ known.pages.first + c.args.pages - 1 = omega (arith, c.in-Some.ensures.pages) in
+    let there : IsIn (piece_of range Free) a.pieces =
+    subst (λ m. IsIn (piece_of range Free) (shown m ps)) (sym is)
+    (subst (λ n. IsIn (record { first = known.pages.first; last = n; state = Free }) (with_piece (pages_as known.pages Free) ps)) last
+    (put_piece known.pages.first known.pages.last Free ps)) in
+    let room : IsTooMany a.pieces range → ⊥ = λ t. whole_uncut range Free a.pieces sp.ordered c.requires.some_pages there t.0 in (
       (λ e. absurd (cc)),
       (λ h. absurd (subst (λ (v : Space). (x : ℕ) → IsLowestFit v.pieces c.args.pages (2 ^ c.args.order) x
           → IsTooMany v.pieces (record { first = x; pages = c.args.pages }) → ⊥) c.self.view_is
-          (λ x j m. one_start a.pieces c.args.pages (2 ^ c.args.order) c.in-Some.spot.start x lowest room j m) h.0 h.1 h.2)),
+          (λ x j m. one_lowest a.pieces c.args.pages (2 ^ c.args.order) known.pages.first x lowest room j m) h.0 h.1 h.2)),
     )
