@@ -3,6 +3,7 @@ pub mod Puts
 pub mod Among
 pub mod Keep
 pub mod NewSpace
+pub mod FirstFreed
 pub mod FreeRange
 pub mod FreedRun
 pub mod Freed

@@ -1,14 +1,15 @@
--- The page below which no free piece begins, and the lowest free piece.
-use Rattle.std.proofs.Common.{◌≡◌, ℕ, ◌+◌, ◌-◌, ◌%◌, ◌≤◌, List, [], ◌∷◌, Some, refl, ap, sym, ◌∙◌, inl, inr, arith}
+-- The page below which no free piece begins, the lowest free piece, and the first that is long enough.
+use Rattle.std.proofs.Common.{◌≡◌, ◌≢◌, ℕ, IsTrue, ◌+◌, ◌-◌, ◌%◌, ◌<◌, ◌≤◌, List, [], ◌∷◌, Some, refl, ap, sym, ◌∙◌, inl, inr, subst, arith}
 use Rattle.dmatypes.specs.World.{IsIn}
 use Rattle.iova.specs.declared.piece.PageState.{PageState}
 use Rattle.iova.specs.declared.piece.PageState.TheVariants.{Free, Live}
 use Rattle.iova.specs.declared.piece.Piece.{Piece}
-use Rattle.iova.specs.Pieces.{Holds, IsOrdered, NoneFreeBelow, state_at}
+use Rattle.iova.specs.Pieces.{Holds, IsOrdered, NoneFreeBelow, is_free, state_at}
 use Rattle.iova.specs.Space.{IsFit, IsLowestFit}
 use Rattle.iova.proofs.Pieces.{put, order, state-here, state-past, state-under, state-nil}
 use Rattle.iova.proofs.Puts.{none_some}
 use Rattle.iova.proofs.Among.{in_le, in_state, put_only}
+use Rattle.iova.proofs.searches.Fit.{touching}
 
 -- no piece begins below the first page
 pub none_below_start : (from : ℕ) (ps : List Piece) → IsOrdered from ps → NoneFreeBelow from ps
@@ -62,7 +63,7 @@ none_below_taken start ps o i q m free = elim (put_only start (start + 1 - 1) Li
 ]
 
 -- the piece that a page with a state lies in
-holding : (ps : List Piece) (page : ℕ) (s : PageState) → state_at ps page ≡ Some s
+pub holding : (ps : List Piece) (page : ℕ) (s : PageState) → state_at ps page ≡ Some s
     → (q : Piece) × IsIn q ps × Holds q page × (q.state ≡ s)
 holding [] page s e = absurd (none_some [] page s (state-nil page) e)
 holding (p ∷ ps) page s e = elim (order p.first page) [
@@ -76,16 +77,40 @@ holding (p ∷ ps) page s e = elim (order p.first page) [
     same : (u v : PageState) → Some u ≡ Some v → u ≡ v
     same u v g = cc
 
--- so many pages at the front of the lowest free piece are the lowest that fit, if they may begin there
-pub front_lowest : (p : Piece) (pages unit : ℕ) (ps : List Piece) → IsOrdered 1 ps → IsIn p ps → p.state ≡ Free → NoneFreeBelow p.first ps
+-- the page after a free piece isn't free
+next_not_free : (from : ℕ) (q : Piece) (ps : List Piece) → IsOrdered from ps → IsIn q ps → q.state ≡ Free
+    → state_at ps (q.last + 1) ≢ Some Free
+next_not_free from q [] o m free e = absurd m
+next_not_free from q (p ∷ ps) o m free e = elim m [
+  | inl g ↦
+      let f : IsTrue (is_free p.state) = subst (λ s. IsTrue (is_free s)) (sym free ∙ ap (λ (r : Piece). r.state) g) refl in
+      let next : state_at (p ∷ ps) (p.last + 1) ≡ Some Free = subst (λ (r : Piece). state_at (p ∷ ps) (r.last + 1) ≡ Some Free) g e in
+      o.2 (touching p ps o.3 f (sym (state-past p ps (p.last + 1) (omega arith)) ∙ next))
+  | inr n ↦
+      let a = in_le (p.last + 1) q ps o.3 n in
+      next_not_free (p.last + 1) q ps o.3 n free (sym (state-past p ps (q.last + 1) (omega (arith, a.0, a.1))) ∙ e)
+]
+
+-- so many pages at the front of the first free piece that has them are the lowest that fit, if they may begin there
+pub front_first : (p : Piece) (pages unit : ℕ) (ps : List Piece) → IsOrdered 1 ps → IsIn p ps → p.state ≡ Free
+    → ((q : Piece) → IsIn q ps → q.state ≡ Free → q.first < p.first → q.last + 1 < q.first + pages)
     → 1 ≤ pages → p.first + pages ≤ p.last + 1 → p.first % unit ≡ 0 → IsLowestFit ps pages unit p.first
-front_lowest p pages unit ps o m free none some room aligned = record {
+front_first p pages unit ps o m free none some room aligned = record {
   fit = record {
     aligned = aligned;
     free = λ page w. in_state 1 p ps page o m w.0 (omega (arith, w.1)) ∙ ap (λ s. Some s) free;
   };
-  lowest = λ other fit.
-      let h = holding ps other Free (fit.free other (omega arith, omega arith)) in
-      let a = none h.0 h.1 h.3 in
-      omega (arith, h.2.0);
+  lowest = λ other fit. elim (order p.first other) [
+    | inl k ↦ k
+    | inr k ↦
+        let h = holding ps other Free (fit.free other (omega arith, omega arith)) in
+        let a = none h.0 h.1 h.3 (omega (arith, h.2.0)) in
+        absurd (next_not_free 1 h.0 ps o h.1 h.3 (fit.free (h.0.last + 1) (omega (arith, h.2.1), omega (arith, h.2.0))))
+  ];
 }
+
+-- and so of the lowest free piece
+pub front_lowest : (p : Piece) (pages unit : ℕ) (ps : List Piece) → IsOrdered 1 ps → IsIn p ps → p.state ≡ Free → NoneFreeBelow p.first ps
+    → 1 ≤ pages → p.first + pages ≤ p.last + 1 → p.first % unit ≡ 0 → IsLowestFit ps pages unit p.first
+front_lowest p pages unit ps o m free none some room aligned =
+    front_first p pages unit ps o m free (λ q n f h. let a = none q n f in absurd (omega arith)) some room aligned

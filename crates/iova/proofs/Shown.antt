@@ -1,8 +1,9 @@
 -- What a space shows while a piece that came free is in mind, which its tree has as live.
-use Rattle.std.proofs.Common.{◌≡◌, ◌≢◌, ℕ, ◌+◌, ◌<◌, ◌≤◌, ◌⊎◌, ◌↔◌, List, [], ◌∷◌, ◌++◌, length, Option, Some, None, IsSome}
-use Rattle.std.proofs.Common.{refl, ap, sym, ◌∙◌, inl, inr, subst, arith, length-append}
+use Rattle.std.proofs.Common.{◌≡◌, ◌≢◌, ℕ, ◌+◌, ◌-◌, ◌<◌, ◌≤◌, ◌⊎◌, ◌↔◌, List, [], ◌∷◌, ◌++◌, length, Option, Some, IsSome}
+use Rattle.std.proofs.Common.{refl, ap, sym, ◌∙◌, inl, inr, subst, arith, append-nil, append_assoc, length-append}
+use Rattle.std.specs.List.{AllByRecursion}
 use Rattle.slab.specs.Slab.{Slab}
-use Rattle.dmatypes.specs.Page.{Range}
+use Rattle.dmatypes.specs.Page.{IsWithin, Range}
 use Rattle.dmatypes.specs.World.{IsIn}
 use Rattle.iova.specs.declared.beside.Ends.{Ends}
 use Rattle.iova.specs.declared.node.Node.{Node}
@@ -14,22 +15,22 @@ use Rattle.iova.specs.declared.way.InMind.{InMind}
 use Rattle.iova.specs.declared.way.InMind.TheVariants.{Nothing, Judged, Lowest, Freed}
 use Rattle.iova.specs.declared.way.Known.{Known}
 use Rattle.iova.specs.declared.way.Step.{Step}
-use Rattle.iova.specs.Pieces.{IsCut, IsOrdered, free_end, free_start, state_at, with_free, with_piece}
-use Rattle.iova.specs.Search.{first_or, pieces_from}
+use Rattle.iova.specs.Pieces.{AllIn, IsOrdered, free_end, free_start, freed, part_above, piece_of, state_at, with_free, with_piece}
 use Rattle.iova.specs.Space.{Space, CutsPiece, IsSpace}
-use Rattle.iova.specs.Stored.{IsInMind, IsListed, NoneFreeBeside, pieces_of, seen, shown, stored}
+use Rattle.iova.specs.Changes.{Frees, Takes}
+use Rattle.iova.specs.Stored.{IsInMind, TakesPlace, pieces_of, seen, shown, stored}
+use Rattle.iova.specs.Tree.{rest_above, rest_below}
 use Rattle.iova.specs.Way.{pages_as}
-use Rattle.iova.proofs.Pieces.{order, put_past, put_under}
+use Rattle.iova.proofs.Pieces.{order}
 use Rattle.iova.proofs.Puts.{ordered_put}
-use Rattle.iova.proofs.Among.{in_le, in_state}
+use Rattle.iova.proofs.Among.{in_le, in_one, in_state, put_piece}
 use Rattle.iova.proofs.Keep.{is_some}
-use Rattle.iova.proofs.Freed.{one_run, space_freed}
-use Rattle.iova.proofs.FreedRun.{joined, put_freed}
-use Rattle.iova.proofs.FreeRange.{free_start_le}
-use Rattle.iova.proofs.parts.Over.{with_same}
-use Rattle.iova.proofs.parts.Parts.{first_from}
-use Rattle.iova.proofs.searches.CutAt.{items_fine}
-use Rattle.iova.proofs.searches.Walked.{from-here, from-past, from_found, listed_is}
+use Rattle.iova.proofs.Freed.{frees, one_run, space_freed}
+use Rattle.iova.proofs.FreedRun.{joined}
+use Rattle.iova.proofs.Same.{same_pieces}
+use Rattle.iova.proofs.Taken.{takes}
+use Rattle.iova.proofs.parts.Added.{rest_above-none, rest_above-some, rest_below-none, rest_below-some, with_over}
+use Rattle.iova.proofs.parts.Parts.{above_whole, below_whole, ordered_behind}
 
 -- a piece that is there, and those before and behind it
 parted : (p : Piece) (ps : List Piece) → IsIn p ps → (xs : List Piece) × (ys : List Piece) × (ps ≡ xs ++ p ∷ ys)
@@ -46,229 +47,281 @@ in_narrow a p sp i =
     let s = sp.others p.last (is_some a.pieces p.last p.state (in_state 1 p a.pieces p.last sp.ordered i w.1 (omega arith))) in
     omega (arith, s.1, sp.narrow)
 
-module _ (pages : Ends) (ps : List Piece) (o : IsOrdered 1 ps) (i : IsIn (pages_as pages Live) ps) (n : pages.last < NUMBERS_END) where
-  abbrev was : Piece
-  was = pages_as pages Live
+-- the pages as a range
+abbrev range_of : Ends → Range
+range_of pages = record { first = pages.first; pages = pages.last - pages.first + 1 }
 
-  abbrev now : Piece
-  now = pages_as pages Free
+range_is : (pages : Ends) (s : PageState) → pages.first ≤ pages.last → pages_as pages s ≡ piece_of (range_of pages) s
+range_is pages s w =
+    let e : pages.last ≡ pages.first + (pages.last - pages.first + 1) - 1 = omega arith in
+    ap (λ n. record { first = pages.first; last = n; state = s }) e
 
-  wide : pages.first ≤ pages.last
-  wide = (in_le 1 was ps o i).1
+-- ---- a live piece that came free
 
-  -- the one piece alone is another
-  pub shown_parts : (xs : List Piece) × (ys : List Piece) × (ps ≡ xs ++ pages_as pages Live ∷ ys)
-      × (with_piece (pages_as pages Free) ps ≡ xs ++ pages_as pages Free ∷ ys)
-  shown_parts =
-      let r = parted was ps i in (
-        r.0,
-        r.1,
-        r.2,
-        ap (λ l. with_piece now l) r.2
-            ∙ with_same 1 r.0 was r.1 now (subst (λ l. IsOrdered 1 l) r.2 o) (wide, n) refl refl,
+module _ (a : Space) (pages : Ends) (sp : IsSpace a) (i : IsIn (pages_as pages Live) a.pieces) where
+  abbrev q : Piece
+  q = pages_as pages Live
+
+  -- the free piece that it is by then
+  abbrev m : Piece
+  m = freed q a.pieces
+
+  abbrev b : Space
+  b = record a { pieces = with_free q a.pieces }
+
+  pub wide : pages.first ≤ pages.last
+  wide = (in_le 1 q a.pieces sp.ordered i).1
+
+  pub space_shown_free : IsSpace (record a { pieces = with_free (pages_as pages Live) a.pieces })
+  space_shown_free = space_freed a q sp i
+
+  pub bounds : (1 ≤ free_start a.pieces pages.first) × (free_start a.pieces pages.first ≤ pages.first)
+      × (pages.last ≤ free_end a.pieces pages.last)
+  bounds =
+      let j = joined q a.pieces sp.ordered wide (one_run q a.pieces i) in
+      let there = (space_shown_free.others m.first (is_some b.pieces m.first Free
+      (in_state 1 m b.pieces m.first space_shown_free.ordered (put_piece m.first m.last Free a.pieces) (omega arith)
+      (omega (arith, j.low, j.high, wide))))).0 in
+      (there.0, j.low, j.high)
+
+  came_free : Frees a b (range_of pages) Live
+  came_free =
+      let e = range_is pages Live wide in
+      frees a b (range_of pages) Live sp (omega arith) (subst (λ p. IsIn p a.pieces) e i)
+      (ap (λ p. record a { pieces = with_free p a.pieces }) e)
+
+  pub freed_inside : (page : ℕ) → pages.first ≤ page → page ≤ pages.last
+      → state_at (with_free (pages_as pages Live) a.pieces) page ≡ Some Free
+  freed_inside page l h = came_free.states.inside page (l, omega (arith, wide))
+
+  pub freed_outside : (page : ℕ) → (page < pages.first) ⊎ (pages.last < page)
+      → state_at (with_free (pages_as pages Live) a.pieces) page ≡ state_at a.pieces page
+  freed_outside page x =
+      came_free.states.outside page (λ w. elim x [ inl h ↦ omega (arith, w.0, h) | inr h ↦ omega (arith, w.1, h, wide) ])
+
+  pub freed_fewer : length (with_free (pages_as pages Live) a.pieces) ≤ length a.pieces
+  freed_fewer = came_free.fewer
+
+  -- the pieces in use are those of before without it
+  pub freed_others : (r : Piece) → r.state ≢ Free → IsIn r (with_free (pages_as pages Live) a.pieces)
+      ↔ (IsIn r a.pieces × (r ≢ pages_as pages Live))
+  freed_others r n =
+      let e = range_is pages Live wide in
+      let f = came_free.in_use r n in (
+        (λ k. let x = f.0 k in (x.0, (λ y. x.1 (y ∙ e)))),
+        (λ k. f.1 (k.0, (λ y. k.1 (y ∙ sym e)))),
       )
 
-  pub shown_length : length (with_piece (pages_as pages Free) ps) ≡ length ps
-  shown_length =
-      let r = shown_parts in
-      omega (arith, length-append r.0 (now ∷ r.1), length-append r.0 (was ∷ r.1), ap length r.2, ap length r.3)
+  -- ---- and is taken again
 
-  module _ (beside : NoneFreeBeside pages ps) where
-    -- they are as if the piece were freed
-    pub as_freed : with_piece (pages_as pages Free) ps ≡ with_free (pages_as pages Live) ps
-    as_freed = put_freed ps was pages.first pages.last (sym beside.0) (sym beside.1)
+  abbrev c : List Piece
+  c = with_piece q b.pieces
 
-    pub shown_ordered : IsOrdered 1 (with_piece (pages_as pages Free) ps)
-    shown_ordered =
-        let j = joined was ps o wide (one_run was ps i) in
-        let low = free_start_le 1 pages.first ps o (in_le 1 was ps o i).0 in
-        subst (λ l. IsOrdered 1 l) (sym as_freed)
-        (ordered_put 1 (free_start ps pages.first) (free_end ps pages.last) Free ps o low.0 j.wide (omega arith) j.alone)
+  back_takes : Takes b (record b { pieces = c }) (range_of pages)
+  back_takes =
+      takes b (record b { pieces = c }) (range_of pages) space_shown_free (omega arith)
+      (λ page w. freed_inside page w.0 (omega (arith, w.1, wide)))
+      (ap (λ p. record b { pieces = with_piece p b.pieces }) (range_is pages Live wide))
 
-    -- and once it is taken again, those of the tree
-    pub taken_back : with_piece (pages_as pages Live) (with_piece (pages_as pages Free) ps) ≡ ps
-    taken_back =
-        let r = shown_parts in
-        ap (λ l. with_piece was l) r.3
-        ∙ with_same 1 r.0 now r.1 was (subst (λ l. IsOrdered 1 l) r.3 shown_ordered) (wide, n) refl refl
-        ∙ sym r.2
+  back_ordered : IsOrdered 1 c
+  back_ordered =
+      ordered_put 1 pages.first pages.last Live b.pieces space_shown_free.ordered (in_le 1 q a.pieces sp.ordered i).0 wide (omega arith)
+      (λ f. absurd (cc))
+
+  back_states : (page : ℕ) → state_at c page ≡ state_at a.pieces page
+  back_states page = elim (order pages.first page) [
+    | inr h ↦ back_takes.states.outside page (λ w. omega (arith, w.0, h)) ∙ freed_outside page (inl h)
+    | inl h ↦ elim (order page pages.last) [
+      | inl l ↦ back_takes.states.inside page (h, omega (arith, wide, l)) ∙ sym (in_state 1 q a.pieces page sp.ordered i h l)
+      | inr l ↦ back_takes.states.outside page (λ w. omega (arith, w.1, l, wide)) ∙ freed_outside page (inr l)
+    ]
+  ]
+
+  same_or_other : (r : Piece) → IsIn r a.pieces → (r ≡ q) ⊎ (r ≢ q)
+  same_or_other r k =
+      let w = in_le 1 r a.pieces sp.ordered k in
+      elim (order r.first pages.first) [
+        | inr h ↦ inr (λ e. let f : r.first ≡ pages.first = ap (λ (p : Piece). p.first) e in omega (arith, f, h))
+        | inl h ↦ elim (order pages.first r.first) [
+          | inr l ↦ inr (λ e. let f : r.first ≡ pages.first = ap (λ (p : Piece). p.first) e in omega (arith, f, l))
+          | inl l ↦ inl (in_one 1 r q a.pieces pages.first sp.ordered k i (h, omega (arith, l, h, w.1)) (omega arith, wide))
+        ]
+      ]
+
+  pub taken_back : with_piece (pages_as pages Live) (with_free (pages_as pages Live) a.pieces) ≡ a.pieces
+  taken_back =
+      let e = range_is pages Live wide in
+      same_pieces 1 c a.pieces back_ordered sp.ordered back_states
+      (λ r n k. elim ((back_takes.in_use r n).0 k) [
+        | inl x ↦ subst (λ p. IsIn p a.pieces) (e ∙ sym x) i
+        | inr x ↦ ((freed_others r n).0 x).0
+      ])
+      (λ r n k. (back_takes.in_use r n).1 (elim (same_or_other r k) [
+        | inl x ↦ inl (x ∙ e)
+        | inr x ↦ inr ((freed_others r n).1 (k, x))
+      ]))
+
+  -- ---- the pieces of before that it takes the place of
+
+  parts : (xs : List Piece) × (ys : List Piece) × (b.pieces ≡ xs ++ m ∷ ys)
+  parts = parted m b.pieces (put_piece m.first m.last Free a.pieces)
+
+  was : a.pieces ≡ (parts.0 ++ rest_below pages.first m) ++ q ∷ (rest_above pages.last m ++ parts.1)
+  was =
+      let r = parts in
+      let o = subst (λ l. IsOrdered 1 l) r.2 space_shown_free.ordered in
+      let w = wide in
+      let bs = bounds in
+      sym taken_back ∙ ap (λ l. with_piece q l) r.2
+      ∙ with_over 1 r.0 m r.1 q o (omega (arith, bs.2, w)) (omega (arith, bs.1, w))
+      ∙ ap (λ l. (l ++ rest_below pages.first m) ++ q ∷ (rest_above pages.last m ++ part_above pages.last r.1))
+      (below_whole 1 r.0 m r.1 pages.first o bs.1)
+      ∙ ap (λ l. (r.0 ++ rest_below pages.first m) ++ q ∷ (rest_above pages.last m ++ l))
+      (above_whole (m.last + 1) pages.last r.1 (ordered_behind 1 r.0 m r.1 o) (omega (arith, bs.2)))
+
+  count_is : length a.pieces
+      ≡ length (with_free (pages_as pages Live) a.pieces) + length (rest_below pages.first m) + length (rest_above pages.last m)
+  count_is =
+      let r = parts in
+      let x = rest_below pages.first m in
+      let y = rest_above pages.last m in
+      omega (
+        arith,
+        ap length was,
+        ap length r.2,
+        length-append (r.0 ++ x) (q ∷ (y ++ r.1)),
+        length-append r.0 x,
+        length-append y r.1,
+        length-append r.0 (m ∷ r.1),
+      )
+
+  -- how many more pieces there were
+  pub freed_count : (before behind : ℕ) → (free_start a.pieces pages.first < pages.first → before ≡ 1)
+      → (pages.first ≤ free_start a.pieces pages.first → before ≡ 0) → (pages.last < free_end a.pieces pages.last → behind ≡ 1)
+      → (free_end a.pieces pages.last ≤ pages.last → behind ≡ 0)
+      → length a.pieces ≡ length (with_free (pages_as pages Live) a.pieces) + before + behind
+  freed_count before behind f g h k =
+      let x : length (rest_below pages.first m) ≡ before = elim (order pages.first m.first) [
+        | inl l ↦ ap length (rest_below-none pages.first m l) ∙ sym (g l)
+        | inr l ↦ ap length (rest_below-some pages.first m l) ∙ sym (f l)
+      ] in
+      let y : length (rest_above pages.last m) ≡ behind = elim (order m.last pages.last) [
+        | inl l ↦ ap length (rest_above-none pages.last m l) ∙ sym (k l)
+        | inr l ↦ ap length (rest_above-some pages.last m l) ∙ sym (h l)
+      ] in
+      omega (arith, count_is, x, y)
+
+  within_above : AllByRecursion (λ p. p.first ≤ m.last) (rest_above pages.last m)
+  within_above = elim (order m.last pages.last) [
+    | inl l ↦ subst (λ ps. AllByRecursion (λ (p : Piece). p.first ≤ m.last) ps) (sym (rest_above-none pages.last m l)) tt
+    | inr l ↦ subst (λ ps. AllByRecursion (λ (p : Piece). p.first ≤ m.last) ps) (sym (rest_above-some pages.last m l)) (omega (arith, l), tt)
+  ]
+
+  pub freed_place : TakesPlace (record { first = free_start a.pieces pages.first; last = free_end a.pieces pages.last }) a.pieces
+  freed_place =
+      let r = parts in
+      let y = rest_above pages.last m in
+      let bs = bounds in
+      elim (order pages.first m.first) [
+        | inl l ↦ record {
+          before = r.0;
+          first = q;
+          rest = y;
+          behind = r.1;
+          parts = was ∙ ap (λ xs. (r.0 ++ xs) ++ q ∷ (y ++ r.1)) (rest_below-none pages.first m l) ∙ ap (λ xs. xs ++ q ∷ (y ++ r.1)) (append-nil r.0)
+              ∙ sym (append_assoc r.0 (q ∷ y) r.1);
+          begins = omega (arith, l, bs.1);
+          within = within_above;
+          now = r.2;
+        }
+        | inr l ↦
+            let z : Piece = record m { last = pages.first - 1 } in
+            record {
+              before = r.0;
+              first = z;
+              rest = q ∷ y;
+              behind = r.1;
+              parts = was ∙ ap (λ xs. (r.0 ++ xs) ++ q ∷ (y ++ r.1)) (rest_below-some pages.first m l)
+                  ∙ append_assoc r.0 (z ∷ []) (q ∷ (y ++ r.1)) ∙ sym (append_assoc r.0 (z ∷ q ∷ y) r.1);
+              begins = refl;
+              within = (omega (arith, bs.2, wide), within_above);
+              now = r.2;
+            }
+      ]
+
+  -- ---- ranges
+
+  -- a live range cuts what it cut before
+  pub cuts_shown : (range : Range) → AllIn Live range (with_free (pages_as pages Live) a.pieces)
+      → CutsPiece a.pieces range ↔ CutsPiece (with_free (pages_as pages Live) a.pieces) range
+  cuts_shown range live = (
+    (λ k.
+        let x = k.2.some in
+        let s : Some k.0.state ≡ Some Live =
+        sym (in_state 1 k.0 a.pieces x.0 sp.ordered k.1 x.1.0 x.1.1) ∙ sym (freed_outside x.0 (apart range live x.0 x.2)) ∙ live x.0 x.2 in (
+          k.0,
+          (freed_others k.0 (not_free k.0.state s)).1 (
+            k.1,
+            (λ e.
+                let h : (pages.first ≤ x.0) × (x.0 ≤ pages.last) = subst (λ (p : Piece). (p.first ≤ x.0) × (x.0 ≤ p.last)) e x.1 in
+                elim (apart range live x.0 x.2) [ inl l ↦ omega (arith, h.0, l) | inr l ↦ omega (arith, h.1, l) ]),
+          ),
+          k.2,
+        )),
+    (λ k.
+        let x = k.2.some in
+        let s : Some k.0.state ≡ Some Live =
+        sym (in_state 1 k.0 b.pieces x.0 space_shown_free.ordered k.1 x.1.0 x.1.1) ∙ live x.0 x.2 in
+        (k.0, ((freed_others k.0 (not_free k.0.state s)).0 k.1).0, k.2)),
+  )
+    where
+      not_free : (s : PageState) → Some s ≡ Some Live → s ≢ Free
+      not_free s e f = absurd (cc)
+
+      -- a live page is none that came free
+      apart : (range : Range) → AllIn Live range (with_free (pages_as pages Live) a.pieces) → (page : ℕ) → IsWithin range page
+          → (page < pages.first) ⊎ (pages.last < page)
+      apart range live page w = elim (order pages.first page) [
+        | inr h ↦ inl h
+        | inl h ↦ elim (order page pages.last) [
+          | inr l ↦ inr l
+          | inl l ↦ let e : Some Live ≡ Some Free = sym (live page w) ∙ freed_inside page h l in absurd (cc)
+        ]
+      ]
+
+-- where none came free, the tree's pieces are shown
+pub unfreed : (m : InMind) → (m ≡ Nothing) ⊎ (((k : Known) × (m ≡ Judged k)) ⊎ ((k : Known) × (m ≡ Lowest k))) → (ps : List Piece)
+    → shown m ps ≡ ps
+unfreed m (inl e) ps = ap (λ x. shown x ps) e
+unfreed m (inr (inl w)) ps = ap (λ x. shown x ps) w.1
+unfreed m (inr (inr w)) ps = ap (λ x. shown x ps) w.1
 
 -- ---- a space
 
 module _ (last : ℕ) (root : Option ℕ) (nodes : Slab Node) (way : List Step) (sp : IsSpace (stored last root nodes)) where
   pub space_shown : (in_mind : InMind) → IsInMind nodes root way in_mind → IsSpace (seen last root nodes in_mind)
-  space_shown Nothing m = sp
-  space_shown (Judged known) m = sp
-  space_shown (Lowest known) m = sp
-  space_shown (Freed known) m =
-      let p : Piece = pages_as known.pages Live in
-      subst (λ ps. IsSpace (record { last = last; pieces = ps }))
-      (sym (as_freed known.pages (pieces_of nodes root) sp.ordered m.0.there (in_narrow (stored last root nodes) p sp m.0.there) m.1))
-      (space_freed (stored last root nodes) p sp m.0.there)
+  space_shown Nothing k = sp
+  space_shown (Judged known) k = sp
+  space_shown (Lowest known) k = sp
+  space_shown (Freed known) k = space_shown_free (stored last root nodes) known.pages sp k.there
 
-  pub count_shown : (in_mind : InMind) → IsInMind nodes root way in_mind
-      → length (shown in_mind (pieces_of nodes root)) ≡ length (pieces_of nodes root)
-  count_shown Nothing m = refl
-  count_shown (Judged known) m = refl
-  count_shown (Lowest known) m = refl
-  count_shown (Freed known) m =
-      shown_length known.pages (pieces_of nodes root) sp.ordered m.0.there
-      (in_narrow (stored last root nodes) (pages_as known.pages Live) sp m.0.there)
+  -- no more pieces are shown than there are
+  pub few_shown : (in_mind : InMind) → IsInMind nodes root way in_mind
+      → length (shown in_mind (pieces_of nodes root)) ≤ length (pieces_of nodes root)
+  few_shown Nothing k = omega arith
+  few_shown (Judged known) k = omega arith
+  few_shown (Lowest known) k = omega arith
+  few_shown (Freed known) k = freed_fewer (stored last root nodes) known.pages sp k.there
 
--- ---- one piece after the other
-
--- the first piece from a page on, where one piece is in another state
-pub first_same : (from : ℕ) (xs : List Piece) (q : Piece) (s : PageState) (ys : List Piece) (page : ℕ) (p : Piece)
-    → IsOrdered from (xs ++ q ∷ ys) → first_or (pieces_from page (xs ++ q ∷ ys)) None ≡ Some p
-    → ((p.first ≡ q.first) × (first_or (pieces_from page (xs ++ record q { state = s } ∷ ys)) None ≡ Some (record p { state = s })))
-    ⊎ ((p.first ≢ q.first) × (first_or (pieces_from page (xs ++ record q { state = s } ∷ ys)) None ≡ Some p))
-first_same from [] q s ys page p o e = elim (order page q.first) [
-  | inl h ↦
-      let f : first_or (pieces_from page (q ∷ ys)) None ≡ Some q = ap (λ l. first_or l None) (from-here q ys page h) in
-      let same : q ≡ p = cc in
-      inl (
-        ap (λ r. r.first) (sym same),
-        ap (λ l. first_or l None) (from-here (record q { state = s }) ys page h) ∙ ap (λ (r : Piece). Some (record r { state = s })) same,
-      )
-  | inr h ↦
-      let g : first_or (pieces_from page ys) None ≡ Some p = sym (ap (λ l. first_or l None) (from-past q ys page h)) ∙ e in
-      let w = from_found (q.last + 1) ys page p o.3 g in
-      inr ((λ x. omega (arith, w.0, h, x)), ap (λ l. first_or l None) (from-past (record q { state = s }) ys page h) ∙ g)
-]
-first_same from (x ∷ xs) q s ys page p o e = elim (order page x.first) [
-  | inl h ↦
-      let all = xs ++ q ∷ ys in
-      let f : first_or (pieces_from page (x ∷ all)) None ≡ Some x = ap (λ l. first_or l None) (from-here x all page h) in
-      let same : x ≡ p = cc in
-      let a = first_from (x.last + 1) xs q ys o.3 in
-      inr (
-        (λ y. let b : x.first ≡ p.first = ap (λ r. r.first) same in omega (arith, y, b, a, o.1)),
-        ap (λ l. first_or l None) (from-here x (xs ++ record q { state = s } ∷ ys) page h) ∙ ap (λ r. Some r) same,
-      )
-  | inr h ↦
-      let g : first_or (pieces_from page (xs ++ q ∷ ys)) None ≡ Some p =
-      sym (ap (λ l. first_or l None) (from-past x (xs ++ q ∷ ys) page h)) ∙ e in
-      let k = ap (λ l. first_or l None) (from-past x (xs ++ record q { state = s } ∷ ys) page h) in
-      elim (first_same (x.last + 1) xs q s ys page p o.3 g) [ inl r ↦ inl (r.0, k ∙ r.1) | inr r ↦ inr (r.0, k ∙ r.1) ]
-]
-
-pub first_none : (xs : List Piece) (q : Piece) (s : PageState) (ys : List Piece) (page : ℕ)
-    → first_or (pieces_from page (xs ++ q ∷ ys)) None ≡ None → first_or (pieces_from page (xs ++ record q { state = s } ∷ ys)) None ≡ None
-first_none [] q s ys page e = elim (order page q.first) [
-  | inl h ↦ absurd (let f : first_or (pieces_from page (q ∷ ys)) None ≡ Some q =
-      ap (λ l. first_or l None) (from-here q ys page h) in cc)
-  | inr h ↦ ap (λ l. first_or l None) (from-past (record q { state = s }) ys page h)
-      ∙ sym (ap (λ l. first_or l None) (from-past q ys page h)) ∙ e
-]
-first_none (x ∷ xs) q s ys page e = elim (order page x.first) [
-  | inl h ↦ absurd (let f : first_or (pieces_from page (x ∷ xs ++ q ∷ ys)) None ≡ Some x =
-      ap (λ l. first_or l None) (from-here x (xs ++ q ∷ ys) page h) in cc)
-  | inr h ↦ ap (λ l. first_or l None) (from-past x (xs ++ record q { state = s } ∷ ys) page h)
-      ∙ first_none xs q s ys page (sym (ap (λ l. first_or l None) (from-past x (xs ++ q ∷ ys) page h)) ∙ e)
-]
-
--- ---- one after the other, in a tree
-
-module _ (nodes : Slab Node) (root : Option ℕ) (way : List Step) (l : IsListed nodes root) where
-  listed_ordered : IsOrdered 1 (pieces_of nodes root)
-  listed_ordered = subst (λ ps. IsOrdered 1 ps) (sym (listed_is nodes root l)) l.below.whole.ordered
-
-  pub listed_parts : (known : Known) → IsInMind nodes root way (Freed known) → (xs : List Piece) × (ys : List Piece)
-      × (pieces_of nodes root ≡ xs ++ pages_as known.pages Live ∷ ys)
-      × (shown (Freed known) (pieces_of nodes root) ≡ xs ++ pages_as known.pages Free ∷ ys)
-  listed_parts known m =
-      let p : Piece = pages_as known.pages Live in
-      let fine = items_fine l.shape p l.below.whole.tree.pieces (subst (λ ps. IsIn p ps) (listed_is nodes root l) m.0.there) in
-      shown_parts known.pages (pieces_of nodes root) listed_ordered m.0.there fine.1
-
-  pub listed_seen : (in_mind : InMind) → IsInMind nodes root way in_mind → IsOrdered 1 (shown in_mind (pieces_of nodes root))
-  listed_seen Nothing m = listed_ordered
-  listed_seen (Judged known) m = listed_ordered
-  listed_seen (Lowest known) m = listed_ordered
-  listed_seen (Freed known) m =
-      let p : Piece = pages_as known.pages Live in
-      let fine = items_fine l.shape p l.below.whole.tree.pieces (subst (λ ps. IsIn p ps) (listed_is nodes root l) m.0.there) in
-      shown_ordered known.pages (pieces_of nodes root) listed_ordered m.0.there fine.1 m.1
-
-  module _ (page : ℕ) where
-    pub listed_none : (in_mind : InMind) → IsInMind nodes root way in_mind
-        → first_or (pieces_from page (pieces_of nodes root)) None ≡ None
-        → first_or (pieces_from page (shown in_mind (pieces_of nodes root))) None ≡ None
-    listed_none Nothing m e = e
-    listed_none (Judged known) m e = e
-    listed_none (Lowest known) m e = e
-    listed_none (Freed known) m e =
-        let r = listed_parts known m in
-        ap (λ ps. first_or (pieces_from page ps) None) r.3
-        ∙ first_none r.0 (pages_as known.pages Live) Free r.1 page (sym (ap (λ ps. first_or (pieces_from page ps) None) r.2) ∙ e)
-
-    module _ (known : Known) (p : Piece) (m : IsInMind nodes root way (Freed known))
-        (e : first_or (pieces_from page (pieces_of nodes root)) None ≡ Some p) where
-      listed_cases : ((p.first ≡ known.pages.first)
-          × (first_or (pieces_from page (shown (Freed known) (pieces_of nodes root))) None ≡ Some (record p { state = Free })))
-          ⊎ ((p.first ≢ known.pages.first)
-          × (first_or (pieces_from page (shown (Freed known) (pieces_of nodes root))) None ≡ Some p))
-      listed_cases =
-          let r = listed_parts known m in
-          let k = ap (λ ps. first_or (pieces_from page ps) None) r.3 in
-          elim (first_same 1 r.0 (pages_as known.pages Live) Free r.1 page p (subst (λ ps. IsOrdered 1 ps) r.2 listed_ordered)
-          (sym (ap (λ ps. first_or (pieces_from page ps) None) r.2) ∙ e)) [ inl x ↦ inl (x.0, k ∙ x.1) | inr x ↦ inr (x.0, k ∙ x.1) ]
-
-      pub listed_freed : p.first ≡ known.pages.first
-          → first_or (pieces_from page (shown (Freed known) (pieces_of nodes root))) None ≡ Some (record p { state = Free })
-      listed_freed h = elim listed_cases [ inl x ↦ x.1 | inr x ↦ absurd (x.0 h) ]
-
-      pub listed_other : p.first ≢ known.pages.first
-          → first_or (pieces_from page (shown (Freed known) (pieces_of nodes root))) None ≡ Some p
-      listed_other h = elim listed_cases [ inl x ↦ absurd (h x.0) | inr x ↦ x.1 ]
-
--- ---- ranges
-
-in_there : (xs : List Piece) (r : Piece) (ys : List Piece) → IsIn r (xs ++ r ∷ ys)
-in_there [] r ys = inl refl
-in_there (x ∷ xs) r ys = inr (in_there xs r ys)
-
-in_other_state : (xs : List Piece) (p q r : Piece) (ys : List Piece) → IsIn p (xs ++ q ∷ ys) → (p ≡ q) ⊎ IsIn p (xs ++ r ∷ ys)
-in_other_state [] p q r ys m = elim m [ inl e ↦ inl e | inr n ↦ inr (inr n) ]
-in_other_state (x ∷ xs) p q r ys m = elim m [
-  | inl e ↦ inr (inl e)
-  | inr n ↦ elim (in_other_state xs p q r ys n) [ inl e ↦ inl e | inr k ↦ inr (inr k) ]
-]
-
--- a range cuts a piece in whatever state that is
-pub cuts_same : (xs : List Piece) (q : Piece) (s : PageState) (ys : List Piece) (range : Range) → CutsPiece (xs ++ q ∷ ys) range
-    → CutsPiece (xs ++ record q { state = s } ∷ ys) range
-cuts_same xs q s ys range c = elim (in_other_state xs c.0 q (record q { state = s }) ys c.1) [
-  | inl e ↦ let k : IsCut range q = subst (λ r. IsCut range r) e c.2 in
-      (record q { state = s }, in_there xs (record q { state = s }) ys, record { some = k.some; not_all = k.not_all })
-  | inr m ↦ (c.0, m, c.2)
-]
-
-module _ (last : ℕ) (root : Option ℕ) (nodes : Slab Node) (way : List Step) (sp : IsSpace (stored last root nodes)) where
-  pub cuts_shown : (in_mind : InMind) → IsInMind nodes root way in_mind → (range : Range)
+  pub cuts_seen : (in_mind : InMind) → IsInMind nodes root way in_mind → (range : Range)
+      → AllIn Live range (shown in_mind (pieces_of nodes root))
       → CutsPiece (pieces_of nodes root) range ↔ CutsPiece (shown in_mind (pieces_of nodes root)) range
-  cuts_shown Nothing m range = ((λ c. c), (λ c. c))
-  cuts_shown (Judged known) m range = ((λ c. c), (λ c. c))
-  cuts_shown (Lowest known) m range = ((λ c. c), (λ c. c))
-  cuts_shown (Freed known) m range =
-      let was : Piece = pages_as known.pages Live in
-      let now : Piece = pages_as known.pages Free in
-      let r = shown_parts known.pages (pieces_of nodes root) sp.ordered m.0.there (in_narrow (stored last root nodes) was sp m.0.there) in (
-        (λ c. subst (λ l. CutsPiece l range) (sym r.3) (cuts_same r.0 was Free r.1 range (subst (λ l. CutsPiece l range) r.2 c))),
-        (λ c. subst (λ l. CutsPiece l range) (sym r.2) (cuts_same r.0 now Live r.1 range (subst (λ l. CutsPiece l range) r.3 c))),
-      )
+  cuts_seen Nothing k range live = ((λ c. c), (λ c. c))
+  cuts_seen (Judged known) k range live = ((λ c. c), (λ c. c))
+  cuts_seen (Lowest known) k range live = ((λ c. c), (λ c. c))
+  cuts_seen (Freed known) k range live = cuts_shown (stored last root nodes) known.pages sp k.there range live
 
   -- each page that has a state has one in the tree
   pub some_shown : (in_mind : InMind) → IsInMind nodes root way in_mind → (page : ℕ)
       → IsSome (state_at (shown in_mind (pieces_of nodes root)) page) → IsSome (state_at (pieces_of nodes root) page)
-  some_shown in_mind m page h = sp.pages page ((space_shown last root nodes way sp in_mind m).others page h)
-
--- ---- one page
-
--- the pages that are not the piece's are as in the tree
-pub state_beside : (known : Known) (ps : List Piece) (page : ℕ) → IsOrdered 1 ps → known.pages.first ≤ known.pages.last
-    → (page < known.pages.first) ⊎ (known.pages.last < page) → state_at (shown (Freed known) ps) page ≡ state_at ps page
-state_beside known ps page o w x = elim x [
-  | inl h ↦ put_under 1 known.pages.first known.pages.last Free ps page o w h
-  | inr h ↦ put_past 1 known.pages.first known.pages.last Free ps page o w h
-]
+  some_shown in_mind k page h = sp.pages page ((space_shown in_mind k).others page h)

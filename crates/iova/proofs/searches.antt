@@ -4,6 +4,8 @@ pub mod CutAt
 pub mod FreeEnds
 pub mod Narrowed
 pub mod Walked
+pub mod InPlace
+pub mod ShortBefore
 pub mod Walk
 pub mod Beside
 pub mod Descent

@@ -19,6 +19,7 @@
 //! ```
 #![tactic(auto)]
 
+mod before;
 mod beside;
 mod ends;
 mod grow;

@@ -1,17 +1,22 @@
 //! The piece that came free and that the tree still has as live.
 
-ghost use Rattle.std.specs.Prelude.{◌≡◌, ◌≢◌, List, None, Some, ℕ, ◌+◌, ◌^◌, ◌<◌, ◌≤◌, ◌↔◌, IsTrue, IsSome, IfSome, IfNone};
+ghost use Rattle.std.specs.Prelude.{◌≡◌, ◌≢◌, List, None, Some, ℕ, ◌+◌, ◌^◌, ◌<◌, ◌≤◌, ◌↔◌, length, IsTrue, IfSome, IfNone, true};
 ghost use Rattle.dmatypes.specs.Page.{IsWithin};
-ghost use Rattle.iova.specs.Pieces.{AllIn, IsOrdered, NoneFreeBelow, state_at};
-ghost use Rattle.iova.specs.Search.{first_or, pieces_from};
+ghost use Rattle.dmatypes.specs.World.{IsIn};
+ghost use Rattle.iova.specs.Pieces.{AllIn, IsOrdered, NoneFreeBelow, free_start, state_at};
 ghost use Rattle.iova.specs.Space.{CutsPiece, IsLowestFit, IsSpace};
-ghost use Rattle.iova.specs.Stored.{IsInMind, IsKept, IsListed, pieces_of, shown, stored};
+ghost use Rattle.iova.specs.Stored.{IsInMind, IsKept, TakesPlace, pieces_of, shown, stored, with_freed};
+ghost use Rattle.iova.specs.Way.{IsHeld};
+ghost use Rattle.slab.specs.Slab.{get};
 
+use crate::before::none_long_before;
+use crate::beside::Ends;
 use crate::node::{NUMBERS_END, Node};
 use crate::piece::{PageState, Piece};
-use crate::store::{Freed, store_held};
+use crate::space::MOST_PIECES_TO_CUT;
+use crate::store;
+use crate::store::{Freed, free};
 use crate::way::{InMind, Known, MOST_HEIGHT, Step};
-use crate::{search, store};
 use slab::Slab;
 
 /// Writes a piece that came free into the tree. It is kept out of line: mostly none is in mind, or it is taken again.
@@ -32,24 +37,7 @@ fn write(
     ensures in_mind { IsInMind nodes.new result.root way.now result.in_mind }
     ensures shows { (pieces : List Piece) → shown result.in_mind pieces ≡ pieces }
 {
-    let piece = Piece {
-        first: known.pages.first,
-        last: known.pages.last,
-        state: PageState::Free,
-    };
-    let root = store_held(nodes, root, piece, way, known.held);
-    if low < piece.first {
-        return Freed {
-            root,
-            low,
-            in_mind: InMind::Nothing,
-        };
-    }
-    Freed {
-        root,
-        low: piece.first,
-        in_mind: InMind::Lowest(known),
-    }
+    free(nodes, root, low, known.pages, way, known.held)
 }
 
 /// Writes the piece that came free, if one is in mind: the pieces of the tree are then those that the space shows. What is
@@ -85,8 +73,29 @@ pub(crate) fn put_freed(
     }
 }
 
-/// The piece that came free, where so many pages that begin at a multiple of the unit are just that piece, and no free
-/// piece of the tree begins before it: it is the lowest that fits.
+/// Whether the piece that came free is the first of so many free pages, where free ones begin before it: none of these has so
+/// many, and none touches it.
+#[inline(never)]
+fn is_first(
+    nodes: &Slab<Node>,
+    root: Option<usize>,
+    way: &[Step; MOST_HEIGHT],
+    known: Known,
+    pages: u64,
+) -> bool
+    requires kept { IsKept root nodes.now (pieces_of nodes.now root) }
+    requires space { (last : ℕ) × IsSpace (stored last root nodes.now) }
+    requires in_mind { IsInMind nodes.now root way.now (InMind.Freed known) }
+    ensures alone { result ≡ true → free_start (pieces_of nodes.now root) known.pages.first ≡ known.pages.first }
+    ensures first { result ≡ true → (p : Piece) → IsIn p (pieces_of nodes.now root) → p.state ≡ PageState.Free
+        → p.first < known.pages.first → p.last + 1 < p.first + pages }
+{
+    let ends = store::with_free_ends(nodes, root, way, known.held, known.pages);
+    ends.first == known.pages.first && none_long_before(nodes, root, way, known, pages)
+}
+
+/// The piece that came free, where so many pages that begin at a multiple of the unit are just that piece, and it is the
+/// first that has so many. It isn't told where there are so many pieces that a cut might be refused.
 #[inline(always)]
 pub(crate) fn fit_freed(
     nodes: &Slab<Node>,
@@ -106,12 +115,20 @@ pub(crate) fn fit_freed(
     ensures freed { IfSome result (λ known. in_mind ≡ InMind.Freed known) }
     ensures pages { IfSome result (λ known. known.pages.last + 1 ≡ known.pages.first + pages) }
     ensures lowest { IfSome result (λ known. IsLowestFit (shown in_mind (pieces_of nodes.now root)) pages unit known.pages.first) }
+    ensures few { IfSome result (λ _. length (pieces_of nodes.now root) ≤ MOST_PIECES_TO_CUT) }
 {
-    if let InMind::Freed(known) = in_mind {
-        let start = known.pages.first;
-        if start <= low && pages == known.pages.last - start + 1 && start & (unit - 1) == 0 {
-            return Some(known);
-        }
+    let InMind::Freed(known) = in_mind else {
+        return None;
+    };
+    let start = known.pages.first;
+    if pages != known.pages.last - start + 1
+        || start & (unit - 1) != 0
+        || nodes.len() > MOST_PIECES_TO_CUT
+    {
+        return None;
+    }
+    if start <= low || is_first(nodes, root, way, known, pages) {
+        return Some(known);
     }
     None
 }
@@ -186,7 +203,7 @@ pub(crate) fn not_live(
     }
 }
 
-/// Whether so many pages, which all lie in pieces, cut a piece: the one that came free is the same pages in the tree.
+/// Whether so many live pages cut a piece: the one that came free has none of them, and all that are live are the tree's.
 pub(crate) fn cuts_piece(
     nodes: &Slab<Node>,
     root: Option<usize>,
@@ -199,34 +216,54 @@ pub(crate) fn cuts_piece(
     requires in_mind { (way : List Step) × IsInMind nodes.now root way in_mind }
     requires some_pages { 1 ≤ pages }
     requires range { first + pages < NUMBERS_END }
-    requires held { (page : ℕ) → IsWithin (record { first = first; pages = pages }) page
-        → IsSome (state_at (shown in_mind (pieces_of nodes.now root)) page) }
+    requires live { AllIn PageState.Live (record { first = first; pages = pages }) (shown in_mind (pieces_of nodes.now root)) }
     ensures { IsTrue result ↔ CutsPiece (shown in_mind (pieces_of nodes.now root)) (record { first = first; pages = pages }) }
 {
     store::cuts_piece(nodes, root, first, pages)
 }
 
-/// The first piece that begins at a page or after it.
-pub(crate) fn first_from(
+/// The free piece that one that came free is by now, with the free ones that it touches.
+pub(crate) fn freed_ends(
     nodes: &Slab<Node>,
     root: Option<usize>,
+    way: &[Step; MOST_HEIGHT],
     in_mind: InMind,
-    page: u64,
-) -> Option<Piece>
-    requires listed { IsListed nodes.now root }
-    requires in_mind { (way : List Step) × IsInMind nodes.now root way in_mind }
-    ensures first { result ≡ first_or (pieces_from page (shown in_mind (pieces_of nodes.now root))) None }
-    ensures narrow { IfSome result (λ piece. piece.last < NUMBERS_END) }
+) -> Option<Ends>
+    requires kept { IsKept root nodes.now (pieces_of nodes.now root) }
+    requires space { (last : ℕ) × IsSpace (stored last root nodes.now) }
+    requires in_mind { IsInMind nodes.now root way.now in_mind }
+    ensures shown { shown in_mind (pieces_of nodes.now root) ≡ with_freed result (pieces_of nodes.now root) }
+    ensures place { IfSome result (λ ends. TakesPlace ends (pieces_of nodes.now root)) }
+    ensures narrow { IfSome result (λ ends. ends.last < NUMBERS_END) }
 {
-    let piece = search::first_from(nodes, root, page)?;
     match in_mind {
         InMind::Freed(known) => {
-            if known.pages.first == piece.first {
-                let state = PageState::Free;
-                return Some(Piece { state, ..piece });
-            }
-            Some(piece)
+            let ends = store::with_free_ends(nodes, root, way, known.held, known.pages);
+            Some(ends)
         }
-        InMind::Nothing | InMind::Judged(_) | InMind::Lowest(_) => Some(piece),
+        InMind::Nothing | InMind::Judged(_) | InMind::Lowest(_) => None,
+    }
+}
+
+/// How many pieces there are: one that came free is one with the free ones that it touches.
+pub(crate) fn count(
+    nodes: &Slab<Node>,
+    root: Option<usize>,
+    way: &[Step; MOST_HEIGHT],
+    in_mind: InMind,
+) -> usize
+    requires kept { IsKept root nodes.now (pieces_of nodes.now root) }
+    requires space { (last : ℕ) × IsSpace (stored last root nodes.now) }
+    requires in_mind { IsInMind nodes.now root way.now in_mind }
+    ensures { result ≡ length (shown in_mind (pieces_of nodes.now root)) }
+{
+    match in_mind {
+        InMind::Freed(known) => {
+            let ends = store::with_free_ends(nodes, root, way, known.held, known.pages);
+            let before = usize::from(ends.first < known.pages.first);
+            let behind = usize::from(known.pages.last < ends.last);
+            nodes.len() - before - behind
+        }
+        InMind::Nothing | InMind::Judged(_) | InMind::Lowest(_) => nodes.len(),
     }
 }

@@ -18,7 +18,7 @@ use thiserror::Error;
 pub(crate) const MOST_PIECES: usize = 1024;
 
 /// How many pieces may be there where one is cut (own): a cut can make two more.
-const MOST_PIECES_TO_CUT: usize = MOST_PIECES - 2;
+pub(crate) const MOST_PIECES_TO_CUT: usize = MOST_PIECES - 2;
 
 /// Why no pages are taken.
 #[derive(Clone, Copy, Debug, PartialEq, Eq, Error)]
@@ -120,7 +120,7 @@ impl Space {
         Iter {
             nodes: &self.nodes,
             root: self.root,
-            in_mind: self.in_mind,
+            freed: pending::freed_ends(&self.nodes, self.root, &self.way, self.in_mind),
             page: 1,
         }
     }
@@ -130,7 +130,7 @@ impl Space {
         ensures count { result ≡ length self.now.pieces }
         ensures few { result ≤ MOST_PIECES }
     {
-        self.nodes.len()
+        pending::count(&self.nodes, self.root, &self.way, self.in_mind)
     }
 
     /// What a page is; `None` exactly where it is past the last one.
@@ -327,28 +327,7 @@ impl Space {
         let pages = Ends { first, last };
         if let InMind::Judged(known) = self.in_mind {
             if known.pages.first == pages.first && known.pages.last == pages.last {
-                let ends = store::with_free_ends(
-                    &self.nodes,
-                    self.root,
-                    &self.way,
-                    known.held,
-                    pages,
-                );
-                if ends.first == pages.first && ends.last == pages.last {
-                    self.in_mind = InMind::Freed(known);
-                    return;
-                }
-                let freed = store::free(
-                    &mut self.nodes,
-                    self.root,
-                    self.low,
-                    pages,
-                    &self.way,
-                    known.held,
-                );
-                self.root = freed.root;
-                self.low = freed.low;
-                self.in_mind = freed.in_mind;
+                self.in_mind = InMind::Freed(known);
                 return;
             }
         }

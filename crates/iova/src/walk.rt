@@ -1,11 +1,14 @@
 //! The pieces of a space, one after the other.
 
 ghost use Rattle.std.specs.Iterator.{YieldsFirst, item_count};
+ghost use Rattle.std.specs.Prelude.{◌≡◌, ◌+◌, ◌<◌, None, IfSome};
+ghost use Rattle.iova.specs.Search.{first_or, pieces_from};
+ghost use Rattle.iova.specs.Stored.{CanList, pieces_of, with_freed};
 
-use crate::node::Node;
-use crate::pending::first_from;
-use crate::piece::Piece;
-use crate::way::InMind;
+use crate::beside::Ends;
+use crate::node::{NUMBERS_END, Node};
+use crate::piece::{PageState, Piece};
+use crate::search;
 use slab::Slab;
 use std::marker::Model;
 
@@ -14,7 +17,8 @@ use std::marker::Model;
 pub struct Iter<'a> {
     pub(crate) nodes: &'a Slab<Node>,
     pub(crate) root: Option<usize>,
-    pub(crate) in_mind: InMind,
+    // The free piece that the tree doesn't show yet, where a piece came free.
+    pub(crate) freed: Option<Ends>,
     // The pieces that are left are those that begin at this page or after it.
     pub(crate) page: u64,
 }
@@ -22,16 +26,14 @@ pub struct Iter<'a> {
 impl<'a> Model for Iter<'a> {
     ghost use Rattle.std.specs.Prelude.{List};
     ghost use Rattle.iova.specs.declared.piece.Piece.{Piece};
-    ghost use Rattle.iova.specs.declared.way.Step.{Step};
     ghost use Rattle.iova.specs.Search.{pieces_from};
-    ghost use Rattle.iova.specs.Stored.{IsInMind, IsListed, pieces_of, shown};
+    ghost use Rattle.iova.specs.Stored.{CanList, pieces_of, with_freed};
 
     ghost Value = { List Piece };
 
-    ghost view = { λ it. pieces_from it.page (shown it.in_mind (pieces_of it.nodes.now it.root)) };
+    ghost view = { λ it. pieces_from it.page (with_freed it.freed (pieces_of it.nodes.now it.root)) };
 
-    ghost invariant = { λ it. IsListed it.nodes.now it.root
-        × ((way : List Step) × IsInMind it.nodes.now it.root way it.in_mind) };
+    ghost invariant = { λ it. CanList it.nodes.now it.root it.freed it.page };
 }
 
 impl<'a> Iterator for Iter<'a> {
@@ -42,8 +44,34 @@ impl<'a> Iterator for Iter<'a> {
     ghost remaining = { item_count (λ rest. rest) };
 
     fn next(&mut self) -> Option<Piece> {
-        let piece = first_from(self.nodes, self.root, self.in_mind, self.page)?;
+        let piece = first_from(self.nodes, self.root, self.freed, self.page)?;
         self.page = piece.last + 1;
         Some(piece)
     }
+}
+
+/// The first piece that begins at a page or after it, where the free one, if there is one, stands in the place of those of the
+/// tree that begin in it.
+fn first_from(
+    nodes: &Slab<Node>,
+    root: Option<usize>,
+    freed: Option<Ends>,
+    page: u64,
+) -> Option<Piece>
+    requires { CanList nodes.now root freed page }
+    ensures first { result ≡ first_or (pieces_from page (with_freed freed (pieces_of nodes.now root))) None }
+    ensures narrow { IfSome result (λ piece. piece.last < NUMBERS_END) }
+    ensures goes_on { IfSome result (λ piece. CanList nodes.now root freed (piece.last + 1)) }
+{
+    let piece = search::first_from(nodes, root, page)?;
+    if let Some(ends) = freed {
+        if ends.first == piece.first {
+            return Some(Piece {
+                first: ends.first,
+                last: ends.last,
+                state: PageState::Free,
+            });
+        }
+    }
+    Some(piece)
 }

@@ -89,7 +89,7 @@ no_fit from pages unit [] o pos n t f = none_some [] t Free (state-nil t) (f.fre
 no_fit from pages unit (p ∷ ps) o pos n t f = no_fit (p.last + 1) pages unit ps o.3 pos n.1 t
     (fits_tail from p ps pages unit t o n.0 pos f)
 
-in_split : (xs ys : List Piece) (q : Piece) → IsIn q (xs ++ ys) → IsIn q xs ⊎ IsIn q ys
+pub in_split : (xs ys : List Piece) (q : Piece) → IsIn q (xs ++ ys) → IsIn q xs ⊎ IsIn q ys
 in_split [] ys q i = inr i
 in_split (x ∷ xs) ys q (inl e) = inl (inl e)
 in_split (x ∷ xs) ys q (inr i) = elim (in_split xs ys q i) [ inl a ↦ inl (inr a) | inr b ↦ inr b ]

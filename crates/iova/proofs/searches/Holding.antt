@@ -16,7 +16,7 @@ use Rattle.iova.specs.declared.way.Step.{Step}
 use Rattle.iova.specs.declared.node.TheConstants.{NUMBERS_END}
 use Rattle.iova.specs.Pieces.{IsOrdered, NoneFreeBelow, piece_of}
 use Rattle.iova.specs.Space.{CutsPiece, MayRetire}
-use Rattle.iova.specs.Stored.{IsInMind, IsKept, IsKnown, NoneFreeBeside, pieces_of}
+use Rattle.iova.specs.Stored.{IsInMind, IsKept, IsKnown, pieces_of}
 use Rattle.iova.specs.Way.{CanWalk, IsLowBelow, IsHeld, pages_as}
 use Rattle.iova.proofs.Among.{in_le, in_one, in_state}
 use Rattle.iova.proofs.searches.CutAt.{items_fine}
@@ -99,6 +99,5 @@ module _ (nodes : Slab Node) (root : Option ℕ) (way : List Step) (in_mind : In
   lowest_of e i = subst (λ m. IsInMind nodes root way m) e i
 
   -- the one that came free is in mind
-  pub freed_of : in_mind ≡ Freed known → IsInMind nodes root way in_mind
-      → IsKnown nodes root way Live known × NoneFreeBeside known.pages (pieces_of nodes root)
+  pub freed_of : in_mind ≡ Freed known → IsInMind nodes root way in_mind → IsKnown nodes root way Live known
   freed_of e i = subst (λ m. IsInMind nodes root way m) e i

@@ -252,7 +252,7 @@ last_before way depth (Behind key p l up) s pos b =
     let f : (step_at way (depth - 1)).before ≡ false = ap (λ (x : Step). x.before) (ap (step_at way) e ∙ s.2) in
     absurd (cc)
 
-last_behind : (way : List Step) (depth : ℕ) (up : Above) → AreSteps way depth up → 0 < depth → (step_at way (depth - 1)).before ≡ false
+pub last_behind : (way : List Step) (depth : ℕ) (up : Above) → AreSteps way depth up → 0 < depth → (step_at way (depth - 1)).before ≡ false
     → LastBehind way depth up
 last_behind way depth Whole s pos b = absurd (omega arith)
 last_behind way depth (Behind key p l up) s pos b =

@@ -1,16 +1,14 @@
 use Rattle.std.proofs.Common.{arith, ◌≡◌, ◌∙◌, ℕ, ◌+◌, ◌-◌, ◌^◌, ap, subst, sym}
 use Rattle.dmatypes.specs.Page.{IsPageRange, Range}
-use Rattle.dmatypes.specs.World.{IsIn}
 use Rattle.iova.specs.declared.piece.PageState.TheVariants.{Free, Live}
 use Rattle.iova.specs.Pieces.{AllIn, piece_of, with_piece}
 use Rattle.iova.specs.Space.{Space, IsFit, IsLowestFit, IsSpace, IsTooMany}
 use Rattle.iova.specs.Changes.{Takes}
 use Rattle.iova.specs.Stored.{pieces_of, seen, shown, stored}
 use Rattle.iova.specs.Way.{pages_as}
-use Rattle.iova.proofs.Among.{put_piece}
-use Rattle.iova.proofs.Shown.{in_narrow, space_shown, taken_back}
+use Rattle.iova.proofs.Shown.{few_shown, space_shown, taken_back}
 use Rattle.iova.proofs.Taken.{one_lowest, page_range, start_is, takes, unit_is}
-use Rattle.iova.proofs.searches.Holding.{freed_of, whole_uncut}
+use Rattle.iova.proofs.searches.Holding.{freed_of}
 use Rattle.iova.proofs.space.Space.take.Goals as goal
 
 pub fit_freed-fits-requires-clause-unit : goal.fit_freed-fits-requires-clause-unit
@@ -55,8 +53,7 @@ returns-in-Some-clause-taken c =
     let new : Space = stored c.self.inside.last c.self.inside.root c.self.inside.nodes in
     let back : with_piece (pages_as known.pages Live) (shown c.self.inside.in_mind ps) ≡ ps =
     subst (λ m. with_piece (pages_as known.pages Live) (shown m ps) ≡ ps) (sym is)
-    (taken_back known.pages ps c.self.invariant.1.ordered k.0.there
-    (in_narrow new (pages_as known.pages Live) c.self.invariant.1 k.0.there) k.1) in
+    (taken_back new known.pages c.self.invariant.1 k.there) in
     let same : ps ≡ with_piece (piece_of range Live) (shown c.self.inside.in_mind ps) =
     sym back ∙ ap (λ n. with_piece (record { first = known.pages.first; last = n; state = Live }) (shown c.self.inside.in_mind ps)) last in
     subst (λ n. Takes c.args.self.now new (record { first = n; pages = c.args.pages })) (sym start)
@@ -100,15 +97,9 @@ returns-in-Some-clause-too_many c =
     let unit = unit_is c.args.order c.requires.order in
     let lowest : IsLowestFit a.pieces c.args.pages (2 ^ c.args.order) known.pages.first =
     subst (λ u. IsLowestFit a.pieces c.args.pages u known.pages.first) unit c.in-Some.ensures.lowest in
-    let is = c.in-Some.ensures.freed in
-    let k = freed_of c.self.inside.nodes c.self.inside.root c.self.inside.way c.self.inside.in_mind known is c.self.invariant.3 in
-    let ps = pieces_of c.self.inside.nodes c.self.inside.root in
-    let last : known.pages.last ≡ known.pages.first + c.args.pages - 1 = omega (arith, c.in-Some.ensures.pages) in
-    let there : IsIn (piece_of range Free) a.pieces =
-    subst (λ m. IsIn (piece_of range Free) (shown m ps)) (sym is)
-    (subst (λ n. IsIn (record { first = known.pages.first; last = n; state = Free }) (with_piece (pages_as known.pages Free) ps)) last
-    (put_piece known.pages.first known.pages.last Free ps)) in
-    let room : IsTooMany a.pieces range → ⊥ = λ t. whole_uncut range Free a.pieces sp.ordered c.requires.some_pages there t.0 in (
+    let fewer = few_shown c.self.inside.last c.self.inside.root c.self.inside.nodes c.self.inside.way c.self.invariant.1
+    c.self.inside.in_mind c.self.invariant.3 in
+    let room : IsTooMany a.pieces range → ⊥ = λ t. omega (arith, t.1, fewer, c.in-Some.ensures.few) in (
       (λ e. absurd (cc)),
       (λ h. absurd (subst (λ (v : Space). (x : ℕ) → IsLowestFit v.pieces c.args.pages (2 ^ c.args.order) x
           → IsTooMany v.pieces (record { first = x; pages = c.args.pages }) → ⊥) c.self.view_is

@@ -3,8 +3,7 @@ use Rattle.std.specs.Iterator.{YieldsFirst}
 use Rattle.iova.specs.declared.node.TheConstants.{NUMBERS_END}
 use Rattle.iova.specs.declared.piece.Piece.{Piece}
 use Rattle.iova.specs.Search.{pieces_from}
-use Rattle.iova.specs.Stored.{pieces_of, shown}
-use Rattle.iova.proofs.Shown.{listed_seen}
+use Rattle.iova.specs.Stored.{pieces_of, with_freed}
 use Rattle.iova.proofs.searches.Walked.{from_none, from_step}
 use Rattle.iova.proofs.walk.IterIterator.next.Goals as goal
 
@@ -13,7 +12,7 @@ some_of o p P e i = subst (λ x. IfSome x P) e i
 
 pub returns-in_err-piece-clause-steps : goal.returns-in_err-piece-clause-steps
 returns-in_err-piece-clause-steps c =
-    let ps = shown c.self.inside.in_mind (pieces_of c.self.inside.nodes.now c.self.inside.root) in
+    let ps = with_freed c.self.inside.freed (pieces_of c.self.inside.nodes.now c.self.inside.root) in
     let e : c.args.self.now ≡ [] = sym c.self.view_is ∙ from_none ps c.self.inside.page
     (sym c.first_from.ensures.first ∙ c.in_err-piece.was) in
     subst (λ (r : Option Piece). YieldsFirst (λ (rest : List Piece). rest) c.args.self.now r c.args.self.now)
@@ -26,19 +25,15 @@ overflow_add-self c =
 
 pub returns-clause-steps : goal.returns-clause-steps
 returns-clause-steps c =
-    let i = c.self.invariant in
-    let ps = shown c.self.inside.in_mind (pieces_of c.self.inside.nodes.now c.self.inside.root) in
-    sym c.self.view_is ∙ from_step 1 ps c.self.inside.page c.in_ok-piece.piece
-    (listed_seen c.self.inside.nodes.now c.self.inside.root i.1.0 i.0 c.self.inside.in_mind i.1.1)
+    let ps = with_freed c.self.inside.freed (pieces_of c.self.inside.nodes.now c.self.inside.root) in
+    sym c.self.view_is ∙ from_step 1 ps c.self.inside.page c.in_ok-piece.piece c.self.invariant.ordered
     (sym c.first_from.ensures.first ∙ c.in_ok-piece.was)
 
 pub returns-clause-goes : goal.returns-clause-goes
 returns-clause-goes c =
-    let i = c.self.invariant in
-    let ps = shown c.self.inside.in_mind (pieces_of c.self.inside.nodes.now c.self.inside.root) in
+    let ps = with_freed c.self.inside.freed (pieces_of c.self.inside.nodes.now c.self.inside.root) in
     let e : c.args.self.now ≡ c.in_ok-piece.piece ∷ pieces_from (c.in_ok-piece.piece.last + 1) ps =
-    sym c.self.view_is ∙ from_step 1 ps c.self.inside.page c.in_ok-piece.piece
-    (listed_seen c.self.inside.nodes.now c.self.inside.root i.1.0 i.0 c.self.inside.in_mind i.1.1)
+    sym c.self.view_is ∙ from_step 1 ps c.self.inside.page c.in_ok-piece.piece c.self.invariant.ordered
     (sym c.first_from.ensures.first ∙ c.in_ok-piece.was) in
     let l : length c.args.self.now ≡ length (c.in_ok-piece.piece ∷ pieces_from (c.in_ok-piece.piece.last + 1) ps) =
     ap (λ (xs : List Piece). length xs) e in

@@ -1,0 +1,56 @@
+-- A piece that came free is the lowest fit for as many pages, where no free piece before it fits them.
+use Rattle.std.proofs.Common.{◌≡◌, ℕ, ◌+◌, ◌%◌, ◌<◌, ◌≤◌, refl, ap, ◌∙◌, inl, inr, subst, arith}
+use Rattle.dmatypes.specs.World.{IsIn}
+use Rattle.iova.specs.declared.beside.Ends.{Ends}
+use Rattle.iova.specs.declared.piece.PageState.TheVariants.{Free, Live}
+use Rattle.iova.specs.declared.piece.Piece.{Piece}
+use Rattle.iova.specs.Pieces.{NoneFreeBelow, free_start, freed, with_free}
+use Rattle.iova.specs.Space.{Space, IsLowestFit, IsSpace}
+use Rattle.iova.specs.Way.{pages_as}
+use Rattle.iova.proofs.Pieces.{order}
+use Rattle.iova.proofs.Among.{in_one, put_only, put_piece}
+use Rattle.iova.proofs.FreeRange.{free_start_free}
+use Rattle.iova.proofs.LowestFree.{front_first, holding}
+use Rattle.iova.proofs.Shown.{bounds, space_shown_free, wide}
+
+module _ (a : Space) (pages : Ends) (sp : IsSpace a) (i : IsIn (pages_as pages Live) a.pieces) where
+  abbrev m : Piece
+  m = freed (pages_as pages Live) a.pieces
+
+  -- it touches no free piece before it, if none begins below it
+  pub alone_lowest : (low : ℕ) → NoneFreeBelow low a.pieces → pages.first ≤ low → free_start a.pieces pages.first ≡ pages.first
+  alone_lowest low none h =
+      let b = bounds a pages sp i in
+      elim (order pages.first m.first) [
+        | inl l ↦ omega (arith, l, b.1)
+        | inr l ↦
+            let r = holding a.pieces m.first Free (free_start_free 1 pages.first a.pieces m.first sp.ordered (omega arith) l) in
+            let n = none r.0 r.1 r.3 in
+            absurd (omega (arith, n, r.2.0, l, h))
+      ]
+
+  -- the first free piece that is long enough
+  pub first_fit : (wanted unit : ℕ) → free_start a.pieces pages.first ≡ pages.first
+      → ((p : Piece) → IsIn p a.pieces → p.state ≡ Free → p.first < pages.first → p.last + 1 < p.first + wanted)
+      → 1 ≤ wanted → pages.last + 1 ≡ pages.first + wanted → pages.first % unit ≡ 0
+      → IsLowestFit (with_free (pages_as pages Live) a.pieces) wanted unit pages.first
+  first_fit wanted unit alone none some long aligned =
+      let b = bounds a pages sp i in
+      let w = wide a pages sp i in
+      let s = space_shown_free a pages sp i in
+      subst (λ n. IsLowestFit (with_free (pages_as pages Live) a.pieces) wanted unit n) alone
+      (front_first m wanted unit (with_free (pages_as pages Live) a.pieces) s.ordered (put_piece m.first m.last Free a.pieces) refl
+      (λ p k free less. elim (put_only m.first m.last Free p a.pieces sp.ordered k) [
+        | inl e ↦ let f : p.first ≡ m.first = ap (λ (q : Piece). q.first) e in absurd (omega (arith, f, less))
+        | inr x ↦ elim x [
+          | inl y ↦ none p y.0 free (omega (arith, less, alone))
+          | inr y ↦ elim y [
+            | inl z ↦
+                let e = in_one 1 z.of (pages_as pages Live) a.pieces pages.first sp.ordered z.among i
+                (omega (arith, z.under, alone), omega (arith, z.past, alone)) (omega arith, w) in
+                let f : z.of.first ≡ pages.first = ap (λ (q : Piece). q.first) e in
+                absurd (omega (arith, f, z.under, alone))
+            | inr z ↦ absurd (omega (arith, z.begins, less, b.2, b.1, w))
+          ]
+        ]
+      ]) some (omega (arith, b.2, alone, long)) (ap (λ n. n % unit) alone ∙ aligned))
