@@ -1,9 +1,9 @@
 -- What a space shows while a piece that came free is in mind, which its tree has as live.
-use Rattle.std.proofs.Common.{◌≡◌, ◌≢◌, ℕ, ◌+◌, ◌-◌, ◌<◌, ◌≤◌, ◌⊎◌, ◌↔◌, List, [], ◌∷◌, ◌++◌, length, Option, Some, IsSome}
+use Rattle.std.proofs.Common.{◌≡◌, ◌≢◌, ℕ, ◌+◌, ◌-◌, ◌<◌, ◌≤◌, ◌⊎◌, ◌↔◌, List, [], ◌∷◌, ◌++◌, length, Option, Some}
 use Rattle.std.proofs.Common.{refl, ap, sym, ◌∙◌, inl, inr, subst, arith, append-nil, append_assoc, length-append}
 use Rattle.std.specs.List.{AllByRecursion}
 use Rattle.slab.specs.Slab.{Slab}
-use Rattle.dmatypes.specs.Page.{IsWithin, Range}
+use Rattle.dmatypes.specs.Page.{Range}
 use Rattle.dmatypes.specs.World.{IsIn}
 use Rattle.iova.specs.declared.beside.Ends.{Ends}
 use Rattle.iova.specs.declared.node.Node.{Node}
@@ -15,8 +15,8 @@ use Rattle.iova.specs.declared.way.InMind.{InMind}
 use Rattle.iova.specs.declared.way.InMind.TheVariants.{Nothing, Judged, Lowest, Freed}
 use Rattle.iova.specs.declared.way.Known.{Known}
 use Rattle.iova.specs.declared.way.Step.{Step}
-use Rattle.iova.specs.Pieces.{AllIn, IsOrdered, free_end, free_start, freed, part_above, piece_of, state_at, with_free, with_piece}
-use Rattle.iova.specs.Space.{Space, CutsPiece, IsSpace}
+use Rattle.iova.specs.Pieces.{Holds, IsOrdered, free_end, free_start, freed, part_above, piece_of, state_at, with_free, with_piece}
+use Rattle.iova.specs.Space.{Space, IsSpace}
 use Rattle.iova.specs.Changes.{Frees, Takes}
 use Rattle.iova.specs.Stored.{IsInMind, TakesPlace, pieces_of, seen, shown, stored}
 use Rattle.iova.specs.Tree.{rest_above, rest_below}
@@ -33,7 +33,7 @@ use Rattle.iova.proofs.parts.Added.{rest_above-none, rest_above-some, rest_below
 use Rattle.iova.proofs.parts.Parts.{above_whole, below_whole, ordered_behind}
 
 -- a piece that is there, and those before and behind it
-parted : (p : Piece) (ps : List Piece) → IsIn p ps → (xs : List Piece) × (ys : List Piece) × (ps ≡ xs ++ p ∷ ys)
+pub parted : (p : Piece) (ps : List Piece) → IsIn p ps → (xs : List Piece) × (ys : List Piece) × (ps ≡ xs ++ p ∷ ys)
 parted p [] m = absurd m
 parted p (q ∷ ps) m = elim m [
   | inl e ↦ ([], ps, ap (λ r. r ∷ ps) (sym e))
@@ -249,46 +249,6 @@ module _ (a : Space) (pages : Ends) (sp : IsSpace a) (i : IsIn (pages_as pages L
             }
       ]
 
-  -- ---- ranges
-
-  -- a live range cuts what it cut before
-  pub cuts_shown : (range : Range) → AllIn Live range (with_free (pages_as pages Live) a.pieces)
-      → CutsPiece a.pieces range ↔ CutsPiece (with_free (pages_as pages Live) a.pieces) range
-  cuts_shown range live = (
-    (λ k.
-        let x = k.2.some in
-        let s : Some k.0.state ≡ Some Live =
-        sym (in_state 1 k.0 a.pieces x.0 sp.ordered k.1 x.1.0 x.1.1) ∙ sym (freed_outside x.0 (apart range live x.0 x.2)) ∙ live x.0 x.2 in (
-          k.0,
-          (freed_others k.0 (not_free k.0.state s)).1 (
-            k.1,
-            (λ e.
-                let h : (pages.first ≤ x.0) × (x.0 ≤ pages.last) = subst (λ (p : Piece). (p.first ≤ x.0) × (x.0 ≤ p.last)) e x.1 in
-                elim (apart range live x.0 x.2) [ inl l ↦ omega (arith, h.0, l) | inr l ↦ omega (arith, h.1, l) ]),
-          ),
-          k.2,
-        )),
-    (λ k.
-        let x = k.2.some in
-        let s : Some k.0.state ≡ Some Live =
-        sym (in_state 1 k.0 b.pieces x.0 space_shown_free.ordered k.1 x.1.0 x.1.1) ∙ live x.0 x.2 in
-        (k.0, ((freed_others k.0 (not_free k.0.state s)).0 k.1).0, k.2)),
-  )
-    where
-      not_free : (s : PageState) → Some s ≡ Some Live → s ≢ Free
-      not_free s e f = absurd (cc)
-
-      -- a live page is none that came free
-      apart : (range : Range) → AllIn Live range (with_free (pages_as pages Live) a.pieces) → (page : ℕ) → IsWithin range page
-          → (page < pages.first) ⊎ (pages.last < page)
-      apart range live page w = elim (order pages.first page) [
-        | inr h ↦ inl h
-        | inl h ↦ elim (order page pages.last) [
-          | inr l ↦ inr l
-          | inl l ↦ let e : Some Live ≡ Some Free = sym (live page w) ∙ freed_inside page h l in absurd (cc)
-        ]
-      ]
-
 -- where none came free, the tree's pieces are shown
 pub unfreed : (m : InMind) → (m ≡ Nothing) ⊎ (((k : Known) × (m ≡ Judged k)) ⊎ ((k : Known) × (m ≡ Lowest k))) → (ps : List Piece)
     → shown m ps ≡ ps
@@ -313,15 +273,22 @@ module _ (last : ℕ) (root : Option ℕ) (nodes : Slab Node) (way : List Step) 
   few_shown (Lowest known) k = omega arith
   few_shown (Freed known) k = freed_fewer (stored last root nodes) known.pages sp k.there
 
-  pub cuts_seen : (in_mind : InMind) → IsInMind nodes root way in_mind → (range : Range)
-      → AllIn Live range (shown in_mind (pieces_of nodes root))
-      → CutsPiece (pieces_of nodes root) range ↔ CutsPiece (shown in_mind (pieces_of nodes root)) range
-  cuts_seen Nothing k range live = ((λ c. c), (λ c. c))
-  cuts_seen (Judged known) k range live = ((λ c. c), (λ c. c))
-  cuts_seen (Lowest known) k range live = ((λ c. c), (λ c. c))
-  cuts_seen (Freed known) k range live = cuts_shown (stored last root nodes) known.pages sp k.there range live
-
-  -- each page that has a state has one in the tree
-  pub some_shown : (in_mind : InMind) → IsInMind nodes root way in_mind → (page : ℕ)
-      → IsSome (state_at (shown in_mind (pieces_of nodes root)) page) → IsSome (state_at (pieces_of nodes root) page)
-  some_shown in_mind k page h = sp.pages page ((space_shown in_mind k).others page h)
+  -- a live piece of the tree is shown, if one of its pages is shown as it is in the tree
+  pub live_shown : (in_mind : InMind) → IsInMind nodes root way in_mind → (p : Piece) (page : ℕ) → IsIn p (pieces_of nodes root)
+      → Holds p page → p.state ≡ Live
+      → state_at (shown in_mind (pieces_of nodes root)) page ≡ state_at (pieces_of nodes root) page
+      → IsIn p (shown in_mind (pieces_of nodes root))
+  live_shown Nothing k p page i h l e = i
+  live_shown (Judged known) k p page i h l e = i
+  live_shown (Lowest known) k p page i h l e = i
+  live_shown (Freed known) k p page i h l e =
+      let a : Space = stored last root nodes in
+      (freed_others a known.pages sp k.there p (λ f. absurd (cc))).1 (
+        i,
+        (λ f.
+            let g : (known.pages.first ≤ page) × (page ≤ known.pages.last) =
+            subst (λ (r : Piece). (r.first ≤ page) × (page ≤ r.last)) f h in
+            let x : Some Free ≡ Some Live = sym (freed_inside a known.pages sp k.there page g.0 g.1) ∙ e
+            ∙ in_state 1 p a.pieces page sp.ordered i h.0 h.1 ∙ ap (λ s. Some s) l in
+            absurd (cc)),
+      )
