@@ -147,9 +147,9 @@ pub(crate) fn open(tree: &mut PieceTree, front: &mut Front) -> Option<Ends>
 
 /// Writes all pieces that are cut into the tree.
 #[inline(never)]
-fn write(tree: &mut PieceTree, front: &mut Front)
+fn write(tree: &mut PieceTree, front: &mut Front, rest: Ends)
     requires space { IsSpace tree.old }
-    requires front { (rest : Ends) × AreCut tree.old.pieces front.old.cut.items rest }
+    requires front { AreCut tree.old.pieces front.old.cut.items rest }
     ensures tree { tree.new ≡ fronted front.old.cut.items tree.old }
     ensures space { IsSpace tree.new }
     ensures cut { front.new.cut.items ≡ [] }
@@ -159,6 +159,7 @@ fn write(tree: &mut PieceTree, front: &mut Front)
     for piece in front.cut.iter() {
         tree.put(*piece);
     }
+    tree.set_low(rest.first);
     front.cut.clear();
     front.rest = None;
 }
@@ -175,7 +176,7 @@ pub(crate) fn settle(tree: &mut PieceTree, front: &mut Front)
     ensures capacity { vec_capacity front.new.cut ≡ vec_capacity front.old.cut }
 {
     match front.rest {
-        Some(_) => write(tree, front),
+        Some(rest) => write(tree, front, rest),
         None => {}
     }
 }

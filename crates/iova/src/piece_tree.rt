@@ -328,6 +328,21 @@ impl PieceTree {
         self.root = store::store_walked(&mut self.nodes, self.root, piece, &mut self.way);
     }
 
+    /// Notes that no free piece begins below a page, so that pages which come free there are known to be the lowest.
+    pub(crate) fn set_low(&mut self, page: u64)
+        requires { NoneFreeBelow page self.old.pieces }
+        ensures unchanged { self.new ≡ self.old }
+    {
+        pending::put_freed(
+            &mut self.nodes,
+            &mut self.root,
+            &mut self.low,
+            &self.way,
+            &mut self.in_mind,
+        );
+        self.low = page;
+    }
+
     /// Frees a range that is made of whole retired pieces, one after the other, as one release for each of them would.
     pub(crate) fn release_run(&mut self, range: PageRange)
         requires { IsRun (piece_of range PageState.Retired) self.old.pieces }

@@ -1,8 +1,9 @@
-use Rattle.std.proofs.Common.{◌≡◌, ◌∙◌, ◌∷◌, ◌+◌, ◌<◌, ℕ, List, drop, length, refl, ap, sym, subst, arith, slice_index_or}
-use Rattle.std.proofs.lemmas.List.{drop_more}
+use Rattle.std.proofs.Common.{◌≡◌, ◌∙◌, ◌∷◌, ◌+◌, ◌<◌, ℕ, List, [], drop, length, refl, ap, sym, subst, arith, slice_index_or}
+use Rattle.std.proofs.lemmas.List.{drop_more, drop_all}
 use Rattle.iova.specs.declared.piece.PageState.TheVariants.{Free}
 use Rattle.iova.specs.declared.piece.Piece.{Piece}
 use Rattle.iova.specs.Front.{fronted}
+use Rattle.iova.specs.Pieces.{NoneFreeBelow}
 use Rattle.iova.specs.Space.{Space}
 use Rattle.iova.proofs.Shown.{in_narrow}
 use Rattle.iova.proofs.fronts.Cut.{free_piece}
@@ -16,10 +17,10 @@ is_next items now i d e h = drop_more items i d h ∙ ap (λ (l : List Piece). s
 
 pub loop-piece-init : goal.loop-piece-init
 loop-piece-init c =
-    let r = c.requires.front in
+    let f = c.requires.front in
     record {
       same = refl;
-      can = (r.1.from, r.0.last, r.0.first, can_cut c.args.tree.now c.args.front.now.cut.items r.0 c.requires.space r.1);
+      can = (f.from, can_cut c.args.tree.now c.args.front.now.cut.items c.args.rest c.requires.space f);
     }
 
 pub put-requires-clause-space : goal.put-requires-clause-space
@@ -29,10 +30,10 @@ put-requires-clause-space c =
     let items = c.args.front.now.cut.items in
     let e = slice_index_or c.deref-piece-items.result.now i d in
     let k = c.loop-piece.invariant.can in
-    let can : CanCut c.loop-piece.tree k.0 k.1 (e ∷ drop (i + 1) items) k.2 =
-    subst (λ l. CanCut c.loop-piece.tree k.0 k.1 l k.2)
-    (is_next items c.deref-piece-items.result.now i d c.deref-piece-items.ensures.value (omega arith)) k.3 in
-    now_space c.loop-piece.tree k.0 k.1 e (drop (i + 1) items) k.2 can
+    let can : CanCut c.loop-piece.tree k.0 c.args.rest.last (e ∷ drop (i + 1) items) c.args.rest.first =
+    subst (λ l. CanCut c.loop-piece.tree k.0 c.args.rest.last l c.args.rest.first)
+    (is_next items c.deref-piece-items.result.now i d c.deref-piece-items.ensures.value (omega arith)) k.1 in
+    now_space c.loop-piece.tree k.0 c.args.rest.last e (drop (i + 1) items) c.args.rest.first can
 
 pub put-requires-clause-narrow : goal.put-requires-clause-narrow
 put-requires-clause-narrow c =
@@ -41,11 +42,11 @@ put-requires-clause-narrow c =
     let items = c.args.front.now.cut.items in
     let e = slice_index_or c.deref-piece-items.result.now i d in
     let k = c.loop-piece.invariant.can in
-    let can : CanCut c.loop-piece.tree k.0 k.1 (e ∷ drop (i + 1) items) k.2 =
-    subst (λ l. CanCut c.loop-piece.tree k.0 k.1 l k.2)
-    (is_next items c.deref-piece-items.result.now i d c.deref-piece-items.ensures.value (omega arith)) k.3 in
-    let narrow = in_narrow c.loop-piece.tree (free_piece k.0 k.1) can.space can.there in
-    omega (arith, narrow, follow_le (e.last + 1) (drop (i + 1) items) k.2 can.follow.3, can.left)
+    let can : CanCut c.loop-piece.tree k.0 c.args.rest.last (e ∷ drop (i + 1) items) c.args.rest.first =
+    subst (λ l. CanCut c.loop-piece.tree k.0 c.args.rest.last l c.args.rest.first)
+    (is_next items c.deref-piece-items.result.now i d c.deref-piece-items.ensures.value (omega arith)) k.1 in
+    let narrow = in_narrow c.loop-piece.tree (free_piece k.0 c.args.rest.last) can.space can.there in
+    omega (arith, narrow, follow_le (e.last + 1) (drop (i + 1) items) c.args.rest.first can.follow.3, can.left)
 
 pub loop-piece-preserved : goal.loop-piece-preserved
 loop-piece-preserved c =
@@ -55,15 +56,25 @@ loop-piece-preserved c =
     let e = slice_index_or c.deref-piece-items.result.now i d in
     let k = c.loop-piece.invariant.can in
     let is = is_next items c.deref-piece-items.result.now i d c.deref-piece-items.ensures.value (omega arith) in
-    let can : CanCut c.loop-piece.tree k.0 k.1 (e ∷ drop (i + 1) items) k.2 = subst (λ l. CanCut c.loop-piece.tree k.0 k.1 l k.2) is k.3 in
+    let can : CanCut c.loop-piece.tree k.0 c.args.rest.last (e ∷ drop (i + 1) items) c.args.rest.first =
+    subst (λ l. CanCut c.loop-piece.tree k.0 c.args.rest.last l c.args.rest.first) is k.1 in
     record {
       same = ap (λ (a : Space). fronted (drop (i + 1) items) a) c.put.ensures.is ∙ ap (λ l. fronted l c.loop-piece.tree) (sym is)
           ∙ c.loop-piece.invariant.same;
       can = (
         e.last + 1,
-        k.1,
-        k.2,
-        subst (λ (a : Space). CanCut a (e.last + 1) k.1 (drop (i + 1) items) k.2) (sym c.put.ensures.is)
-            (next c.loop-piece.tree k.0 k.1 e (drop (i + 1) items) k.2 can),
+        subst (λ (a : Space). CanCut a (e.last + 1) c.args.rest.last (drop (i + 1) items) c.args.rest.first) (sym c.put.ensures.is)
+            (next c.loop-piece.tree k.0 c.args.rest.last e (drop (i + 1) items) c.args.rest.first can),
       );
     }
+
+pub set_low-requires : goal.set_low-requires
+set_low-requires c =
+    let items = c.args.front.now.cut.items in
+    let i = c.loop-piece.piece-index in
+    let k = c.loop-piece.invariant.can in
+    let e = ap (λ (l : List Piece). length l) c.deref-piece-items.ensures.value in
+    let none : drop i items ≡ [] = drop_all i items (omega (arith, e, c.loop-piece-test.false)) in
+    let can : CanCut c.loop-piece.tree k.0 c.args.rest.last [] c.args.rest.first =
+    subst (λ l. CanCut c.loop-piece.tree k.0 c.args.rest.last l c.args.rest.first) none k.1 in
+    subst (λ n. NoneFreeBelow n c.loop-piece.tree.pieces) can.follow can.lowest

@@ -7,5 +7,5 @@ use Rattle.iova.proofs.front.write.Given as goal
 abbrev pub invariant-loop-piece : goal.invariant-loop-piece
 invariant-loop-piece l = record {
   same : fronted (drop l.piece-index l.fn.front.cut.items) l.tree ≡ fronted l.fn.front.cut.items l.fn.tree;
-  can : (from : ℕ) × (last : ℕ) × (end : ℕ) × CanCut l.tree from last (drop l.piece-index l.fn.front.cut.items) end;
+  can : (from : ℕ) × CanCut l.tree from l.fn.rest.last (drop l.piece-index l.fn.front.cut.items) l.fn.rest.first;
 }
