@@ -6,3 +6,4 @@ pub mod Taken
 pub mod PieceAt
 pub mod PageIn
 pub mod InPlace
+pub mod Run

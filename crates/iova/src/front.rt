@@ -1,6 +1,6 @@
 //! Pieces that are cut off the front of the lowest free piece, before the tree shows them.
 
-ghost use Rattle.std.specs.Prelude.{◌≡◌, List, [], ◌∷◌, ◌++◌, None, Some, ℕ, ◌+◌, ◌-◌, ◌≤◌, ◌<◌, length, IfSome, IsTrue, vec_capacity};
+ghost use Rattle.std.specs.Prelude.{◌≡◌, List, [], ◌∷◌, ◌++◌, None, Some, ℕ, ◌+◌, ◌-◌, ◌≤◌, ◌<◌, length, drop, slice_get, IfSome, IsTrue, vec_capacity};
 ghost use Rattle.iova.specs.Front.{AreCut, FollowOn, IsFront, fronted};
 ghost use Rattle.iova.specs.Search.{piece_at};
 ghost use Rattle.iova.specs.Space.{IsSpace};
@@ -10,10 +10,11 @@ use crate::beside::Ends;
 use crate::piece::{PageState, Piece};
 use crate::piece_tree::PieceTree;
 
-/// How many pieces can be cut before the tree shows them (own): as many as a lazy domain retires before it flushes.
-pub(crate) const MOST_CUT: usize = 256;
+/// How many pieces can be cut before the tree shows them (own): as many as a lazy domain retires before it has to flush, and
+/// what is taken just before that.
+pub(crate) const MOST_CUT: usize = 272;
 
-/// How many can be while the last of them is live (own): then others mostly come free before it, and the tree has to show all.
+/// Where so many are, none is cut behind a live one (own): older ones mostly come free before it then, and the tree has to show all.
 const MOST_BEHIND_LIVE: usize = 16;
 
 /// The pieces that were cut off the front of the lowest free piece, in the order of their pages, and what is left of it, if one
@@ -101,15 +102,19 @@ pub(crate) fn last_state(cut: &[Piece], pages: Ends) -> Option<PageState>
     None
 }
 
-/// Whether the pages are those from the first of the first piece to the last of the last one.
-pub(crate) fn is_whole(cut: &[Piece], pages: Ends) -> bool
-    ensures { IsTrue result → (first : Piece) × (behind : List Piece) × (before : List Piece) × (last : Piece)
-        × (cut.now ≡ first ∷ behind) × (cut.now ≡ before ++ last ∷ []) × (first.first ≡ pages.first) × (last.last ≡ pages.last) }
+/// How many pieces, from the first of them on, have just these pages, if some have.
+pub(crate) fn run_count(cut: &[Piece], pages: Ends) -> Option<usize>
+    ensures first { IfSome result (λ _. (piece : Piece) × (slice_get cut.now 0 ≡ Some piece) × (piece.first ≡ pages.first)) }
+    ensures last { IfSome result (λ count. (piece : Piece) × (slice_get cut.now (count - 1) ≡ Some piece) × (piece.last ≡ pages.last)) }
+    ensures count { IfSome result (λ count. (0 < count) × (count ≤ length cut.now)) }
 {
-    match (cut.first(), cut.last()) {
-        (Some(first), Some(last)) => first.first == pages.first && last.last == pages.last,
-        _ => false,
+    let first = cut.first()?;
+    let before = cut.partition_point(|piece| piece.last < pages.last);
+    let last = cut.get(before)?;
+    if first.first == pages.first && last.last == pages.last {
+        return Some(before + 1);
     }
+    None
 }
 
 /// The piece that a page lies in.
@@ -145,6 +150,19 @@ pub(crate) fn open(tree: &mut PieceTree, front: &mut Front) -> Option<Ends>
     }
 }
 
+/// Writes pieces that are cut into the tree, of whose free piece this is left.
+fn put_all(tree: &mut PieceTree, cut: &[Piece], rest: Ends)
+    requires space { IsSpace tree.old }
+    requires cut { AreCut tree.old.pieces cut.now rest }
+    ensures tree { tree.new ≡ fronted cut.now tree.old }
+    ensures space { IsSpace tree.new }
+{
+    for piece in cut.iter() {
+        tree.put(*piece);
+    }
+    tree.set_low(rest.first);
+}
+
 /// Writes all pieces that are cut into the tree.
 #[inline(never)]
 fn write(tree: &mut PieceTree, front: &mut Front, rest: Ends)
@@ -156,10 +174,32 @@ fn write(tree: &mut PieceTree, front: &mut Front, rest: Ends)
     ensures rest { front.new.rest ≡ None }
     ensures capacity { vec_capacity front.new.cut ≡ vec_capacity front.old.cut }
 {
-    for piece in front.cut.iter() {
-        tree.put(*piece);
-    }
-    tree.set_low(rest.first);
+    put_all(tree, &front.cut, rest);
+    front.cut.clear();
+    front.rest = None;
+}
+
+/// The same, where the first pieces, so many, have some pages and are retired: they are one retired piece in the tree.
+pub(crate) fn write_run(tree: &mut PieceTree, front: &mut Front, pages: Ends, count: usize)
+    requires space { IsSpace tree.old }
+    requires count { count ≤ length front.old.cut.items }
+    requires front { (rest : Ends) × (front.old.rest ≡ Some rest)
+        × AreCut tree.old.pieces (pages_as pages PageState.Retired ∷ drop count front.old.cut.items) rest }
+    ensures tree { tree.new ≡ fronted (pages_as pages PageState.Retired ∷ drop count front.old.cut.items) tree.old }
+    ensures space { IsSpace tree.new }
+    ensures cut { front.new.cut.items ≡ [] }
+    ensures rest { front.new.rest ≡ None }
+    ensures capacity { vec_capacity front.new.cut ≡ vec_capacity front.old.cut }
+{
+    let Some(rest) = front.rest else {
+        unreachable!()
+    };
+    tree.put(Piece {
+        first: pages.first,
+        last: pages.last,
+        state: PageState::Retired,
+    });
+    put_all(tree, &front.cut[count..], rest);
     front.cut.clear();
     front.rest = None;
 }
@@ -176,6 +216,7 @@ pub(crate) fn settle(tree: &mut PieceTree, front: &mut Front)
     ensures capacity { vec_capacity front.new.cut ≡ vec_capacity front.old.cut }
 {
     match front.rest {
+        Some(_) if front.cut.is_empty() => front.rest = None,
         Some(rest) => write(tree, front, rest),
         None => {}
     }

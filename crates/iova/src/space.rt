@@ -212,7 +212,7 @@ impl Space {
             return None;
         }
         let first = start + pages;
-        let _ = self.front.cut.push(Piece {
+        self.front.cut.push_reserved(Piece {
             first: start,
             last: first - 1,
             state: PageState::Live,
@@ -372,12 +372,17 @@ impl Space {
         ensures space { IsSpace self.old × IsSpace self.new }
     {
         let pages = ends_of(range);
-        if front::is_whole(&self.front.cut, pages) {
-            self.front.give_back_all(pages.first);
-            return;
+        match front::run_count(&self.front.cut, pages) {
+            Some(count) if count == self.front.cut.len() => self.front.give_back_all(pages.first),
+            Some(count) => {
+                front::write_run(&mut self.tree, &mut self.front, pages, count);
+                self.tree.free(range);
+            }
+            None => {
+                front::settle(&mut self.tree, &mut self.front);
+                self.tree.release_run(range);
+            }
         }
-        front::settle(&mut self.tree, &mut self.front);
-        self.tree.release_run(range);
     }
 
     // Frees a range that is one piece.

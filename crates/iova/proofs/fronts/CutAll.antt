@@ -8,10 +8,10 @@ use Rattle.iova.specs.declared.piece.Piece.{Piece}
 use Rattle.iova.specs.declared.space.TheConstants.{MOST_PIECES}
 use Rattle.iova.specs.Front.{AreCut, FollowOn, fronted, with_pieces}
 use Rattle.iova.specs.declared.beside.Ends.{Ends}
-use Rattle.iova.specs.Pieces.{IsOrdered, NoneFreeBelow, is_free, state_at, with_piece}
+use Rattle.iova.specs.Pieces.{Holds, IsOrdered, NoneFreeBelow, is_free, state_at, with_piece}
 use Rattle.iova.specs.Space.{Space, IsSpace}
 use Rattle.iova.proofs.Pieces.{put_past, put_under}
-use Rattle.iova.proofs.Among.{in_append_cases, in_append_left, in_append_right, in_le, in_state, put_keeps, put_only, put_piece}
+use Rattle.iova.proofs.Among.{in_append_cases, in_append_left, in_append_right, in_le, in_one, in_state, is_apart, put_keeps, put_only, put_piece}
 use Rattle.iova.proofs.Keep.{is_some, space_put}
 use Rattle.iova.proofs.Shown.{parted}
 use Rattle.iova.proofs.fronts.Cut.{cut_is, cut_length, free_piece}
@@ -154,6 +154,18 @@ cut_keeps a from last (e ∷ es) end c q m h =
           (put_keeps e.first e.last e.state q a.pieces c.space.ordered m (inr (omega (arith, k, le)))) (inr k)
     ]
 
+-- so are all that are in use
+pub uncut_stays : (a : Space) (from last : ℕ) (cut : List Piece) (end : ℕ) → CanCut a from last cut end → (q : Piece)
+    → IsIn q a.pieces → q.state ≢ Free → IsIn q (with_pieces cut a.pieces)
+uncut_stays a from last cut end c q m n =
+    let w = in_le 1 q a.pieces c.space.ordered m in
+    let v = in_le 1 (free_piece from last) a.pieces c.space.ordered c.there in
+    let none : (page : ℕ) → Holds q page → from ≤ page → page ≤ last → ⊥ = λ page h x y.
+    let e = in_one 1 q (free_piece from last) a.pieces page c.space.ordered m c.there h (x, y) in
+    n (ap (λ (r : Piece). r.state) e) in
+    cut_keeps a from last cut end c q m
+    (elim (is_apart q from last w.1 v.1 none) [ inl h ↦ inl h | inr h ↦ inr (omega (arith, h, c.left)) ])
+
 -- those that are cut are there
 pub cut_among : (a : Space) (from last : ℕ) (cut : List Piece) (end : ℕ) → CanCut a from last cut end → (q : Piece) → IsIn q cut
     → IsIn q (with_pieces cut a.pieces)
@@ -248,6 +260,17 @@ module _ (a : Space) (from last : ℕ) (es : List Piece) (e : Piece) (end : ℕ)
 pub can_cut : (a : Space) (cut : List Piece) (rest : Ends) → IsSpace a → (c : AreCut a.pieces cut rest) → CanCut a c.from rest.last cut rest.first
 can_cut a cut rest sp c = record {
   space = sp;
+  there = c.there;
+  lowest = c.lowest;
+  follow = c.follow;
+  left = c.left;
+  few = c.few;
+}
+
+pub are_cut : {a : Space} {from last : ℕ} {cut : List Piece} {end : ℕ} → CanCut a from last cut end
+    → AreCut a.pieces cut (record { first = end; last = last })
+are_cut {from = from} c = record {
+  from = from;
   there = c.there;
   lowest = c.lowest;
   follow = c.follow;

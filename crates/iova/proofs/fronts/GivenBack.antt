@@ -10,13 +10,13 @@ use Rattle.iova.specs.Pieces.{Holds, IsOrdered, IsRun, piece_of, state_at, with_
 use Rattle.iova.specs.Space.{Space, IsSpace}
 use Rattle.iova.specs.Changes.{FreesRun}
 use Rattle.iova.proofs.Pieces.{order, part_above-keep}
-use Rattle.iova.proofs.Among.{in_le, in_one, in_state, is_apart}
+use Rattle.iova.proofs.Among.{in_one, in_state}
 use Rattle.iova.proofs.FreedRun as run
 use Rattle.iova.proofs.Same.{InUseIn, same_pieces}
 use Rattle.iova.proofs.parts.Parts.{above_past, below_before, below_whole}
 use Rattle.iova.proofs.Shown.{parted}
 use Rattle.iova.proofs.fronts.Cut.{cut_is, free_piece}
-use Rattle.iova.proofs.fronts.CutAll.{CanCut, cut_keeps, cut_only, cut_outside, cut_space, follow_in}
+use Rattle.iova.proofs.fronts.CutAll.{CanCut, cut_only, cut_outside, cut_space, follow_in, uncut_stays}
 
 -- all of them
 module _ (a : Space) (from last : ℕ) (cut : List Piece) (end : ℕ) (c : CanCut a from last cut end) (range : Range) (s : PageState)
@@ -59,13 +59,10 @@ module _ (a : Space) (from last : ℕ) (cut : List Piece) (end : ℕ) (c : CanCu
 
   came : InUseIn a.pieces new.pieces
   came q n m =
-      let w = in_le 1 q a.pieces c.space.ordered m in
       let none : (page : ℕ) → Holds q page → from ≤ page → page ≤ last → ⊥ = λ page h x y.
       let e = in_one 1 q (free_piece from last) a.pieces page c.space.ordered m c.there h (x, y) in
       n (ap (λ (r : Piece). r.state) e) in
-      let v = in_le 1 (free_piece from last) a.pieces c.space.ordered c.there in
-      let there : IsIn q ps = cut_keeps a from last cut end c q m
-      (elim (is_apart q from last w.1 v.1 none) [ inl h ↦ inl h | inr h ↦ inr (omega (arith, h, c.left)) ]) in
+      let there : IsIn q ps = uncut_stays a from last cut end c q m n in
       (comes.in_use q n).1 (
         there,
         (λ page h k. none page k (omega (arith, h.0, begins)) (omega (arith, h.1, ends, some, c.left))),

@@ -10,15 +10,14 @@ use Rattle.iova.specs.Search.{piece_at}
 use Rattle.iova.specs.Space.{Space, IsSpace}
 use Rattle.iova.proofs.Pieces.{order}
 use Rattle.iova.proofs.Puts.{none_some}
-use Rattle.iova.proofs.Among.{in_le, in_one, in_state, is_apart}
+use Rattle.iova.proofs.Among.{in_state}
 use Rattle.iova.proofs.parts.Filled.{its_state, state_is}
 use Rattle.iova.proofs.searches.CutAt.{at_in}
-use Rattle.iova.proofs.fronts.Cut.{free_piece}
-use Rattle.iova.proofs.fronts.CutAll.{can_cut, cut_among, cut_keeps, cut_outside}
+use Rattle.iova.proofs.fronts.CutAll.{can_cut, cut_among, cut_outside, uncut_stays}
 use Rattle.iova.proofs.fronts.PieceAt.{follow_ordered}
 
 -- a page from the first of them to the last lies in one of them
-some_follow : (from : ℕ) (cut : List Piece) (end page : ℕ) → FollowOn from cut end → from ≤ page → page < end
+pub some_follow : (from : ℕ) (cut : List Piece) (end page : ℕ) → FollowOn from cut end → from ≤ page → page < end
     → (q : Piece) × IsIn q cut × Holds q page
 some_follow from [] end page f h l = absurd (omega (arith, f))
 some_follow from (e ∷ es) end page f h l = elim (order page e.last) [
@@ -60,11 +59,4 @@ pub stays_in : (a : Space) (cut : List Piece) (rest : Option Ends) (q : Piece) �
     → q.state ≡ Live → IsIn q (fronted cut a).pieces
 stays_in a cut None q sp f i live = subst (λ l. IsIn q (fronted l a).pieces) (sym f) i
 stays_in a cut (Some r) q sp f i live =
-    let w = in_le 1 q a.pieces sp.ordered i in
-    let v = in_le 1 (free_piece f.from r.last) a.pieces sp.ordered f.there in
-    let none : (page : ℕ) → Holds q page → f.from ≤ page → page ≤ r.last → ⊥ = λ page h x y.
-    let e = in_one 1 q (free_piece f.from r.last) a.pieces page sp.ordered i f.there h (x, y) in
-    let s : q.state ≡ Free = ap (λ (p : Piece). p.state) e in
-    cc in
-    cut_keeps a f.from r.last cut r.first (can_cut a cut r sp f) q i
-    (elim (is_apart q f.from r.last w.1 v.1 none) [ inl h ↦ inl h | inr h ↦ inr (omega (arith, h, f.left)) ])
+    uncut_stays a f.from r.last cut r.first (can_cut a cut r sp f) q i (λ free. let e : Live ≡ Free = sym live ∙ free in cc)

@@ -1,4 +1,4 @@
-use Rattle.std.proofs.Common.{refl, ◌<◌, ◌≡◌, ◌∙◌, ◌∷◌, ◌++◌, ◌+◌, ◌-◌, ◌≤◌, [], Some, length, if◌then◌else◌, ap, sym, subst, arith, vec_capacity}
+use Rattle.std.proofs.Common.{refl, ◌<◌, ◌≡◌, ◌∙◌, ◌∷◌, ◌++◌, ◌+◌, ◌-◌, ◌≤◌, [], Some, length, ap, sym, subst, arith, vec_capacity}
 use Rattle.dmatypes.specs.Page.{IsPageRange}
 use Rattle.iova.specs.declared.beside.Ends.{Ends}
 use Rattle.iova.specs.declared.piece.PageState.TheVariants.{Live}
@@ -49,13 +49,9 @@ invariant_of-self-2 c =
     let e = ap (λ (v : Space). length v.pieces) now_is in
     omega (arith, c.piece_count.ensures.count, c.if-piece_count-gt-MOST_PIECES_TO_CUT.false, e) in
     let capacity = ap (λ v. vec_capacity v) c.open.ensures.cut in
-    let pushed : c.push.new.self.items ≡ cut ++ record { first = r.first; last = r.first + c.args.pages - 1; state = Live } ∷ [] =
-    c.push.ensures.items ∙ ap (λ b. if b then cut ++ record { first = r.first; last = r.first + c.args.pages - 1; state = Live } ∷ [] else cut)
-    (c.push.ensures.succeeds (let room : length c.deref.result.now < MOST_CUT = c.if-not-has_room.ensures refl in
-    omega (arith, capacity, c.self.invariant.2, room, c.deref.ensures.len))) in
-    let roomy = c.push.ensures.capacity in (
+    let roomy = c.push_reserved.ensures.capacity in (
       sp,
-      subst (λ l. AreCut a.pieces l (record { first = r.first + c.args.pages; last = r.last })) (sym pushed)
+      subst (λ l. AreCut a.pieces l (record { first = r.first + c.args.pages; last = r.last })) (sym c.push_reserved.ensures.items)
           (front_more a sp cut r f c.args.pages c.requires.some_pages less few),
       omega (arith, capacity, c.self.invariant.2, roomy),
     )
@@ -99,14 +95,10 @@ returns-clause-taken c =
     let less : r.first + c.args.pages ≤ r.last = omega (arith, c.if-rest-start.false, f.left) in
     let start = start_is c.new.result c.unwrap.result r.first c.unwrap.ensures c.new.ensures.value in
     let capacity = ap (λ v. vec_capacity v) c.open.ensures.cut in
-    let pushed : c.push.new.self.items ≡ cut ++ record { first = r.first; last = r.first + c.args.pages - 1; state = Live } ∷ [] =
-    c.push.ensures.items ∙ ap (λ b. if b then cut ++ record { first = r.first; last = r.first + c.args.pages - 1; state = Live } ∷ [] else cut)
-    (c.push.ensures.succeeds (let room : length c.deref.result.now < MOST_CUT = c.if-not-has_room.ensures refl in
-    omega (arith, capacity, c.self.invariant.2, room, c.deref.ensures.len))) in
-    let new : Space = fronted c.push.new.self.items a in
+    let new : Space = fronted c.push_reserved.new.self.items a in
     subst (λ v. Takes v new (record { first = c.unwrap.result; pages = c.args.pages })) now_is
     (subst (λ n. Takes (fronted cut a) new (record { first = n; pages = c.args.pages })) (sym start)
-    (subst (λ l. Takes (fronted cut a) (fronted l a) (record { first = r.first; pages = c.args.pages })) (sym pushed)
+    (subst (λ l. Takes (fronted cut a) (fronted l a) (record { first = r.first; pages = c.args.pages })) (sym c.push_reserved.ensures.items)
     (front_taken a sp cut r f c.args.pages c.requires.some_pages less)))
 
 pub returns-clause-space : goal.returns-clause-space
@@ -123,13 +115,15 @@ returns-clause-space c =
     let e = ap (λ (v : Space). length v.pieces) now_is in
     omega (arith, c.piece_count.ensures.count, c.if-piece_count-gt-MOST_PIECES_TO_CUT.false, e) in
     let capacity = ap (λ v. vec_capacity v) c.open.ensures.cut in
-    let pushed : c.push.new.self.items ≡ cut ++ record { first = r.first; last = r.first + c.args.pages - 1; state = Live } ∷ [] =
-    c.push.ensures.items ∙ ap (λ b. if b then cut ++ record { first = r.first; last = r.first + c.args.pages - 1; state = Live } ∷ [] else cut)
-    (c.push.ensures.succeeds (let room : length c.deref.result.now < MOST_CUT = c.if-not-has_room.ensures refl in
-    omega (arith, capacity, c.self.invariant.2, room, c.deref.ensures.len))) in
     let more = front_more a sp cut r f c.args.pages c.requires.some_pages less few in (
       subst (λ v. IsSpace v) now_is (view_space a cut (Some r) sp f),
-      subst (λ l. IsSpace (fronted l a)) (sym pushed)
+      subst (λ l. IsSpace (fronted l a)) (sym c.push_reserved.ensures.items)
           (view_space a (cut ++ record { first = r.first; last = r.first + c.args.pages - 1; state = Live } ∷ [])
           (Some (record { first = r.first + c.args.pages; last = r.last })) sp more),
     )
+
+pub push_reserved-requires : goal.push_reserved-requires
+push_reserved-requires c =
+    let capacity = ap (λ v. vec_capacity v) c.open.ensures.cut in
+    let room : length c.deref.result.now < MOST_CUT = c.if-not-has_room.ensures refl in
+    omega (arith, capacity, c.self.invariant.2, room, c.deref.ensures.len)
