@@ -15,4 +15,5 @@ pub mod Same
 pub mod shapes
 pub mod parts
 pub mod searches
+pub mod fronts
 mod FreedLive

@@ -43,6 +43,10 @@ page_fits q ps o m free = record {
       in_state 1 q ps page o m w.0 (let a = in_le 1 q ps o m in omega (arith, w.1, a.1)) ∙ ap (λ s. Some s) free;
 }
 
+-- no free piece begins below the lowest free page
+pub none_below_lowest : (start : ℕ) (ps : List Piece) → IsOrdered 1 ps → IsLowestFit ps 1 1 start → NoneFreeBelow start ps
+none_below_lowest start ps o i q m free = i.lowest q.first (page_fits q ps o m free)
+
 -- once the lowest free page is live, all free pieces begin behind it
 pub none_below_taken : (start : ℕ) (ps : List Piece) → IsOrdered 1 ps → IsLowestFit ps 1 1 start
     → NoneFreeBelow (start + 1) (put start (start + 1 - 1) Live ps)

@@ -15,7 +15,7 @@ use Rattle.iova.specs.declared.way.InMind.{InMind}
 use Rattle.iova.specs.declared.way.InMind.TheVariants.{Nothing, Judged, Lowest, Freed}
 use Rattle.iova.specs.declared.way.Known.{Known}
 use Rattle.iova.specs.declared.way.Step.{Step}
-use Rattle.iova.specs.Pieces.{AllIn, IsOrdered, free_end, free_start, freed, part_above, piece_of, state_at, with_free, with_piece}
+use Rattle.iova.specs.Pieces.{AllIn, Holds, IsOrdered, free_end, free_start, freed, part_above, piece_of, state_at, with_free, with_piece}
 use Rattle.iova.specs.Space.{Space, CutsPiece, IsSpace}
 use Rattle.iova.specs.Changes.{Frees, Takes}
 use Rattle.iova.specs.Stored.{IsInMind, TakesPlace, pieces_of, seen, shown, stored}
@@ -33,7 +33,7 @@ use Rattle.iova.proofs.parts.Added.{rest_above-none, rest_above-some, rest_below
 use Rattle.iova.proofs.parts.Parts.{above_whole, below_whole, ordered_behind}
 
 -- a piece that is there, and those before and behind it
-parted : (p : Piece) (ps : List Piece) → IsIn p ps → (xs : List Piece) × (ys : List Piece) × (ps ≡ xs ++ p ∷ ys)
+pub parted : (p : Piece) (ps : List Piece) → IsIn p ps → (xs : List Piece) × (ys : List Piece) × (ps ≡ xs ++ p ∷ ys)
 parted p [] m = absurd m
 parted p (q ∷ ps) m = elim m [
   | inl e ↦ ([], ps, ap (λ r. r ∷ ps) (sym e))
@@ -325,3 +325,23 @@ module _ (last : ℕ) (root : Option ℕ) (nodes : Slab Node) (way : List Step) 
   pub some_shown : (in_mind : InMind) → IsInMind nodes root way in_mind → (page : ℕ)
       → IsSome (state_at (shown in_mind (pieces_of nodes root)) page) → IsSome (state_at (pieces_of nodes root) page)
   some_shown in_mind k page h = sp.pages page ((space_shown in_mind k).others page h)
+
+  -- a live piece of the tree is shown, if one of its pages is shown as it is in the tree
+  pub live_shown : (in_mind : InMind) → IsInMind nodes root way in_mind → (p : Piece) (page : ℕ) → IsIn p (pieces_of nodes root)
+      → Holds p page → p.state ≡ Live
+      → state_at (shown in_mind (pieces_of nodes root)) page ≡ state_at (pieces_of nodes root) page
+      → IsIn p (shown in_mind (pieces_of nodes root))
+  live_shown Nothing k p page i h l e = i
+  live_shown (Judged known) k p page i h l e = i
+  live_shown (Lowest known) k p page i h l e = i
+  live_shown (Freed known) k p page i h l e =
+      let a : Space = stored last root nodes in
+      (freed_others a known.pages sp k.there p (λ f. absurd (cc))).1 (
+        i,
+        (λ f.
+            let g : (known.pages.first ≤ page) × (page ≤ known.pages.last) =
+            subst (λ (r : Piece). (r.first ≤ page) × (page ≤ r.last)) f h in
+            let x : Some Free ≡ Some Live = sym (freed_inside a known.pages sp k.there page g.0 g.1) ∙ e
+            ∙ in_state 1 p a.pieces page sp.ordered i h.0 h.1 ∙ ap (λ s. Some s) l in
+            absurd (cc)),
+      )

@@ -13,3 +13,4 @@ pub mod Seeking
 pub mod Holding
 pub mod Last
 pub mod Touching
+pub mod LowestHeld

@@ -22,21 +22,25 @@
 mod before;
 mod beside;
 mod ends;
+mod front;
 mod grow;
+mod iter;
 mod links;
+mod look;
 mod node;
 mod pending;
 mod piece;
+mod piece_tree;
 mod put;
 mod search;
 mod settle;
 mod space;
 mod store;
+mod tree_iter;
 mod trims;
 mod turns;
-mod walk;
 mod way;
 
+pub use iter::Iter;
 pub use piece::{PageState, Piece};
 pub use space::{RetireError, Space, TakeError};
-pub use walk::Iter;

@@ -1,10 +1,9 @@
 //! The piece that came free and that the tree still has as live.
 
 ghost use Rattle.std.specs.Prelude.{◌≡◌, ◌≢◌, List, None, Some, ℕ, ◌+◌, ◌^◌, ◌<◌, ◌≤◌, ◌↔◌, length, IsTrue, IfSome, IfNone, true};
-ghost use Rattle.dmatypes.specs.Page.{IsWithin};
 ghost use Rattle.dmatypes.specs.World.{IsIn};
-ghost use Rattle.iova.specs.Pieces.{AllIn, IsOrdered, NoneFreeBelow, free_start, state_at};
-ghost use Rattle.iova.specs.Space.{CutsPiece, IsLowestFit, IsSpace};
+ghost use Rattle.iova.specs.Pieces.{Holds, IsOrdered, NoneFreeBelow, free_start, state_at};
+ghost use Rattle.iova.specs.Space.{IsLowestFit, IsSpace};
 ghost use Rattle.iova.specs.Stored.{IsInMind, IsKept, TakesPlace, pieces_of, shown, stored, with_freed};
 ghost use Rattle.iova.specs.Way.{IsHeld};
 ghost use Rattle.slab.specs.Slab.{get};
@@ -14,9 +13,9 @@ use crate::beside::Ends;
 use crate::node::{NUMBERS_END, Node};
 use crate::piece::{PageState, Piece};
 use crate::space::MOST_PIECES_TO_CUT;
-use crate::store;
 use crate::store::{Freed, free};
 use crate::way::{InMind, Known, MOST_HEIGHT, Step};
+use crate::{look, store};
 use slab::Slab;
 
 /// Writes a piece that came free into the tree. It is kept out of line: mostly none is in mind, or it is taken again.
@@ -175,51 +174,28 @@ pub(crate) fn state_of(
 {
     match freed_in(nodes, root, in_mind, page, page) {
         Some(_) => Some(PageState::Free),
-        None => store::state_of(nodes, root, page),
+        None => look::state_of(nodes, root, page),
     }
 }
 
-/// A page of a range that isn't live, if there is one.
-pub(crate) fn not_live(
+/// The live piece that a page lies in.
+pub(crate) fn live_at(
     nodes: &Slab<Node>,
     root: Option<usize>,
     in_mind: InMind,
-    first: u64,
-    pages: u64,
-) -> Option<u64>
+    page: u64,
+) -> Option<Piece>
     requires kept { IsKept root nodes.now (pieces_of nodes.now root) }
     requires space { (last : ℕ) × IsSpace (stored last root nodes.now) }
     requires in_mind { (way : List Step) × IsInMind nodes.now root way in_mind }
-    requires some_pages { 1 ≤ pages }
-    requires range { first + pages < NUMBERS_END }
-    ensures within { IfSome result (IsWithin (record { first = first; pages = pages })) }
-    ensures state { IfSome result (λ page. state_at (shown in_mind (pieces_of nodes.now root)) page ≢ Some PageState.Live) }
-    ensures live { IfNone result (AllIn PageState.Live (record { first = first; pages = pages })
-        (shown in_mind (pieces_of nodes.now root))) }
+    ensures live { IfSome result (λ piece. IsIn piece (shown in_mind (pieces_of nodes.now root)) × Holds piece page
+        × (piece.state ≡ PageState.Live)) }
+    ensures none { IfNone result (state_at (shown in_mind (pieces_of nodes.now root)) page ≢ Some PageState.Live) }
 {
-    match freed_in(nodes, root, in_mind, first, first + pages - 1) {
-        Some(page) => Some(page),
-        None => store::not_live(nodes, root, first, pages),
+    match freed_in(nodes, root, in_mind, page, page) {
+        Some(_) => None,
+        None => look::live_at(nodes, root, page),
     }
-}
-
-/// Whether so many live pages cut a piece: the one that came free has none of them, and all that are live are the tree's.
-pub(crate) fn cuts_piece(
-    nodes: &Slab<Node>,
-    root: Option<usize>,
-    in_mind: InMind,
-    first: u64,
-    pages: u64,
-) -> bool
-    requires kept { IsKept root nodes.now (pieces_of nodes.now root) }
-    requires space { (last : ℕ) × IsSpace (stored last root nodes.now) }
-    requires in_mind { (way : List Step) × IsInMind nodes.now root way in_mind }
-    requires some_pages { 1 ≤ pages }
-    requires range { first + pages < NUMBERS_END }
-    requires live { AllIn PageState.Live (record { first = first; pages = pages }) (shown in_mind (pieces_of nodes.now root)) }
-    ensures { IsTrue result ↔ CutsPiece (shown in_mind (pieces_of nodes.now root)) (record { first = first; pages = pages }) }
-{
-    store::cuts_piece(nodes, root, first, pages)
 }
 
 /// The free piece that one that came free is by now, with the free ones that it touches.

@@ -1,15 +1,17 @@
 //! The address space of a domain.
 
-ghost use Rattle.std.specs.Prelude.{◌≡◌, ◌≢◌, ℕ, ◌+◌, ◌^◌, ◌<◌, ◌≤◌, ◌↔◌, length, Some, IsSome, IfOk, OnErr, IsOk, Ok, Err};
+ghost use Rattle.std.specs.Prelude.{◌≡◌, ◌≢◌, ℕ, ◌+◌, ◌^◌, ◌<◌, ◌≤◌, ◌↔◌, length, Some, None, IsSome, IfSome, IfNone, IfOk, OnErr};
+ghost use Rattle.dmatypes.specs.Page.{IsPageRange};
+ghost use Rattle.std.specs.Prelude.{◌-◌, IsOk, IsTrue, Ok, Err, vec_capacity};
 
 use crate::beside::Ends;
-use crate::node::Node;
+use crate::front;
+use crate::front::{Front, MOST_CUT};
+use crate::iter::Iter;
+use crate::node::NUMBERS_END;
 use crate::piece::{PageState, Piece};
-use crate::walk::Iter;
-use crate::way::{InMind, Known, MOST_HEIGHT, NO_STEP, Step};
-use crate::{pending, store};
+use crate::piece_tree::PieceTree;
 use dmatypes::{MOST_PAGES, PAGES_END, Page, PageRange};
-use slab::Slab;
 use std::alloc::{AllocError, Global};
 use std::marker::Model;
 use thiserror::Error;
@@ -42,41 +44,49 @@ pub enum RetireError {
     TooManyPieces,
 }
 
+// The first and the last page of a range.
+#[inline(always)]
+fn ends_of(range: PageRange) -> Ends
+    ensures first { result.first ≡ range.first }
+    ensures last { result.last ≡ range.first + range.pages - 1 }
+    ensures range { IsPageRange range }
+{
+    let first = range.first();
+    Ends {
+        first,
+        last: first + range.pages() - 1,
+    }
+}
+
 /// The pages of a domain's addresses, as at most 1,024 pieces (own). A live piece is made by one `take`, a
 /// retired piece is one retired range, and free neighbours are one piece.
 #[derive(Drop)]
 pub struct Space {
-    last: u64,
-    root: Option<usize>,
-    nodes: Slab<Node>,
-    // No free piece begins below this page.
-    low: u64,
-    // The steps of the last way down.
-    way: [Step; MOST_HEIGHT],
-    // The piece to which they lead, if it is still of use: one that was judged, the lowest free one, or one that came
-    // free and is taken again soon, as mostly, or else is written into the tree.
-    in_mind: InMind,
+    tree: PieceTree,
+    // What was taken last off the lowest free piece, and mostly comes free before the tree has to show it.
+    front: Front,
 }
 
 impl Model for Space {
-    ghost use Rattle.iova.specs.Pieces.{NoneFreeBelow};
+    ghost use Rattle.std.specs.Prelude.{vec_capacity, ◌≤◌};
+    ghost use Rattle.iova.specs.Front.{IsFront, fronted};
     ghost use Rattle.iova.specs.Space.{Space, IsSpace};
-    ghost use Rattle.iova.specs.Stored.{IsInMind, IsKept, pieces_of, seen, stored};
+    ghost use Rattle.iova.specs.declared.front.TheConstants.{MOST_CUT};
 
     ghost Value = { Space };
 
-    ghost view = { λ a. seen a.last a.root a.nodes a.in_mind };
+    ghost view = { λ a. fronted a.front.cut.items a.tree };
 
-    ghost invariant = { λ a. IsKept a.root a.nodes (pieces_of a.nodes a.root) × IsSpace (stored a.last a.root a.nodes)
-        × NoneFreeBelow a.low (pieces_of a.nodes a.root) × IsInMind a.nodes a.root a.way a.in_mind };
+    ghost invariant = { λ a. IsSpace a.tree × IsFront a.tree.pieces a.front.cut.items a.front.rest
+        × (MOST_CUT ≤ vec_capacity a.front.cut) };
 }
 
 impl Space {
-    ghost use Rattle.dmatypes.specs.Page.{IsPageRange, IsWithin, Range};
+    ghost use Rattle.dmatypes.specs.Page.{IsWithin, Range};
     ghost use Rattle.dmatypes.specs.World.{IsIn};
     ghost use Rattle.dmatypes.specs.declared.limits.TheConstants.{MOST_ORDER};
-    ghost use Rattle.iova.specs.Pieces.{AllIn, IsRun, piece_of, state_at};
-    ghost use Rattle.iova.specs.Space.{Space, AllFree, IsFit, IsLowestFit, IsSpace, IsTooMany, MayRetire, new_space};
+    ghost use Rattle.iova.specs.Pieces.{AllIn, Holds, IsRun, piece_of, state_at};
+    ghost use Rattle.iova.specs.Space.{Space, AllFree, IsFit, IsLowestFit, IsSpace, IsTooMany, CutsPiece, MayRetire, new_space};
     ghost use Rattle.iova.specs.Changes.{Frees, FreesLive, FreesRun, Retires, Takes};
 
     /// A space of the pages up to a last one, all free. It takes the memory for all its pieces; no other call
@@ -88,15 +98,11 @@ impl Space {
         ensures free { IfOk result AllFree }
         ensures space { IfOk result IsSpace }
     {
-        let mut nodes = Slab::with_capacity(alloc, MOST_PIECES)?;
-        let root = store::fill(&mut nodes, last);
+        let tree = PieceTree::new(alloc, last)?;
+        let cut = Vec::with_capacity(alloc, MOST_CUT)?;
         Ok(Space {
-            last,
-            root,
-            nodes,
-            low: 1,
-            way: [NO_STEP; MOST_HEIGHT],
-            in_mind: InMind::Nothing,
+            tree,
+            front: Front { cut, rest: None },
         })
     }
 
@@ -106,10 +112,9 @@ impl Space {
         ensures free { AllFree self.new }
         ensures space { IsSpace self.new }
     {
-        self.low = 1;
-        self.in_mind = InMind::Nothing;
-        self.nodes.clear();
-        self.root = store::fill(&mut self.nodes, self.last);
+        self.front.cut.clear();
+        self.front.rest = None;
+        self.tree.reset();
     }
 
     /// Its pieces in the order of their pages.
@@ -117,11 +122,22 @@ impl Space {
         ensures pieces { result ≡ self.now.pieces }
         ensures space { IsSpace self.now }
     {
-        Iter {
-            nodes: &self.nodes,
-            root: self.root,
-            freed: pending::freed_ends(&self.nodes, self.root, &self.way, self.in_mind),
-            page: 1,
+        let cut = self.front.cut.as_slice();
+        match cut.first() {
+            Some(piece) => Iter {
+                tree: self.tree.pieces(),
+                first: piece.first,
+                cut,
+                rest: self.front.rest,
+                passed: false,
+            },
+            None => Iter {
+                tree: self.tree.pieces(),
+                first: 0,
+                cut,
+                rest: None,
+                passed: true,
+            },
         }
     }
 
@@ -130,7 +146,7 @@ impl Space {
         ensures count { result ≡ length self.now.pieces }
         ensures few { result ≤ MOST_PIECES }
     {
-        pending::count(&self.nodes, self.root, &self.way, self.in_mind)
+        self.tree.piece_count() + self.front.cut.len()
     }
 
     /// What a page is; `None` exactly where it is past the last one.
@@ -138,7 +154,10 @@ impl Space {
         ensures state { result ≡ state_at self.now.pieces page }
         ensures some { IsSome result ↔ (page ≤ self.now.last) }
     {
-        pending::state_of(&self.nodes, self.root, self.in_mind, page.number())
+        match front::piece_at(&self.front.cut, page.number()) {
+            Some(piece) => Some(piece.state),
+            None => self.tree.state_of(page),
+        }
     }
 
     /// Makes so many free pages, 1 to 4,096, one live piece, and answers the first of them: the lowest that is
@@ -162,77 +181,47 @@ impl Space {
             × IsTooMany self.old.pieces (record { first = start; pages = pages })) }
         ensures unchanged { OnErr result (self.new ≡ self.old) }
     {
-        let unit = 1 << order;
-        let fits = pending::fit_freed(
-            &self.nodes,
-            self.root,
-            self.low,
-            pages,
-            unit,
-            &self.way,
-            self.in_mind,
-        );
-        if let Some(known) = fits {
-            self.in_mind = InMind::Judged(known);
-            return Ok(Page::new(known.pages.first).unwrap());
+        if order == 0 {
+            if let Some(start) = self.take_front(pages) {
+                return Ok(start);
+            }
         }
-        self.take_from_tree(pages, order)
+        front::settle(&mut self.tree, &mut self.front);
+        self.tree.take(pages, order)
     }
 
-    // The same, where the piece that came free is not taken again: it is written into the tree first.
+    // The same for pages that may lie anywhere, where they are cut off the front of the lowest free piece and some of it is left;
+    // else nothing has changed.
     #[inline(always)]
-    fn take_from_tree(&mut self, pages: u64, order: u64) -> Result<Page, TakeError>
+    fn take_front(&mut self, pages: u64) -> Option<Page>
         requires some_pages { 1 ≤ pages }
         requires few_pages { pages ≤ MOST_PAGES }
-        requires order { order ≤ MOST_ORDER }
-
-        // The start, and what the space then is.
-        ensures lowest { IfOk result (IsLowestFit self.old.pieces pages (2 ^ order)) }
-        ensures range { IfOk result (λ start. IsPageRange (record { first = start; pages = pages })) }
-        ensures taken { IfOk result (λ start. Takes self.old self.new (record { first = start; pages = pages })) }
+        ensures lowest { IfSome result (IsLowestFit self.old.pieces pages 1) }
+        ensures range { IfSome result (λ start. IsPageRange (record { first = start; pages = pages })) }
+        ensures taken { IfSome result (λ start. Takes self.old self.new (record { first = start; pages = pages })) }
+        ensures room { IfSome result (λ start. IsTooMany self.old.pieces (record { first = start; pages = pages }) → ⊥) }
         ensures space { IsSpace self.old × IsSpace self.new }
-
-        // The refusals.
-        ensures no_range { (result ≡ Err TakeError.NoRange) ↔ ((start : ℕ) → IsFit self.old.pieces pages (2 ^ order) start → ⊥) }
-        ensures too_many { (result ≡ Err TakeError.TooManyPieces)
-            ↔ ((start : ℕ) × IsLowestFit self.old.pieces pages (2 ^ order) start
-            × IsTooMany self.old.pieces (record { first = start; pages = pages })) }
-        ensures unchanged { OnErr result (self.new ≡ self.old) }
+        ensures unchanged { IfNone result (self.new ≡ self.old) }
     {
-        pending::put_freed(
-            &mut self.nodes,
-            &mut self.root,
-            &mut self.low,
-            &self.way,
-            &mut self.in_mind,
-        );
-        let in_mind = self.in_mind;
-        self.in_mind = InMind::Nothing;
-        let unit = 1 << order;
-        let Some(spot) = store::fit_in_mind(
-            &self.nodes,
-            self.root,
-            pages,
-            unit,
-            in_mind,
-            &mut self.way,
-        ) else {
-            return Err(TakeError::NoRange);
-        };
-        let start = spot.start;
-        if self.nodes.len() > MOST_PIECES_TO_CUT
-            && store::cuts_piece(&self.nodes, self.root, start, pages)
+        let rest = front::open(&mut self.tree, &mut self.front)?;
+        let start = rest.first;
+        if rest.last - start < pages
+            || self.front.cut.len() >= MOST_CUT
+            || self.piece_count() > MOST_PIECES_TO_CUT
         {
-            return Err(TakeError::TooManyPieces);
+            return None;
         }
-        let piece = Piece {
+        let first = start + pages;
+        let _ = self.front.cut.push(Piece {
             first: start,
-            last: start + pages - 1,
+            last: first - 1,
             state: PageState::Live,
-        };
-        self.low = store::low_behind(self.low, start, pages, unit);
-        self.root = store::store_by(&mut self.nodes, self.root, piece, &mut self.way, spot.place);
-        Ok(Page::new(start).unwrap())
+        });
+        self.front.rest = Some(Ends {
+            first,
+            last: rest.last,
+        });
+        Some(Page::new(start).unwrap())
     }
 
     /// Whether a range can be retired.
@@ -245,15 +234,59 @@ impl Space {
     {
         let first = range.first();
         let pages = range.pages();
-        if pending::not_live(&self.nodes, self.root, self.in_mind, first, pages).is_some() {
+        if self.not_live(first, pages).is_some() {
             return Err(RetireError::NotLive);
         }
-        if self.piece_count() > MOST_PIECES_TO_CUT
-            && pending::cuts_piece(&self.nodes, self.root, self.in_mind, first, pages)
-        {
+        if self.piece_count() > MOST_PIECES_TO_CUT && self.cuts_piece(first, pages) {
             return Err(RetireError::TooManyPieces);
         }
         Ok(())
+    }
+
+    // The live piece that a page lies in.
+    fn live_at(&self, page: u64) -> Option<Piece>
+        ensures live { IfSome result (λ piece. IsIn piece self.now.pieces × Holds piece page × (piece.state ≡ PageState.Live)) }
+        ensures none { IfNone result (state_at self.now.pieces page ≢ Some PageState.Live) }
+        ensures space { IsSpace self.now }
+    {
+        match front::piece_at(&self.front.cut, page) {
+            Some(piece) => match piece.state {
+                PageState::Live => Some(piece),
+                PageState::Free | PageState::Retired => None,
+            },
+            None => self.tree.live_at(page),
+        }
+    }
+
+    // A page of a range that isn't live, if there is one.
+    fn not_live(&self, first: u64, pages: u64) -> Option<u64>
+        requires range { first + pages < NUMBERS_END }
+        ensures within { IfSome result (IsWithin (record { first = first; pages = pages })) }
+        ensures state { IfSome result (λ page. state_at self.now.pieces page ≢ Some PageState.Live) }
+        ensures live { IfNone result (AllIn PageState.Live (record { first = first; pages = pages }) self.now.pieces) }
+    {
+        let end = first + pages;
+        let mut next = first;
+        while next < end {
+            let Some(piece) = self.live_at(next) else {
+                return Some(next);
+            };
+            next = piece.last + 1;
+        }
+        None
+    }
+
+    // Whether so many live pages cut a piece.
+    fn cuts_piece(&self, first: u64, pages: u64) -> bool
+        requires some_pages { 1 ≤ pages }
+        requires range { first + pages < NUMBERS_END }
+        requires live { AllIn PageState.Live (record { first = first; pages = pages }) self.now.pieces }
+        ensures { IsTrue result ↔ CutsPiece self.now.pieces (record { first = first; pages = pages }) }
+    {
+        let last = first + pages - 1;
+        let low = self.live_at(first).unwrap();
+        let high = self.live_at(last).unwrap();
+        low.first < first || last < high.last
     }
 
     /// Whether a range can be retired, as `may_retire`. Where it is one live piece, the space keeps in mind where that lies: what
@@ -267,24 +300,12 @@ impl Space {
             ↔ (AllIn PageState.Live range self.old.pieces × IsTooMany self.old.pieces range) }
         ensures unchanged { self.new ≡ self.old }
     {
-        let first = range.first();
-        let last = first + range.pages() - 1;
-        let pages = Ends { first, last };
-        if let InMind::Judged(known) = self.in_mind {
-            if known.pages.first == first && known.pages.last == last {
-                return Ok(());
-            }
+        let pages = ends_of(range);
+        if let Some(PageState::Live) = front::last_state(&self.front.cut, pages) {
+            return Ok(());
         }
-        pending::put_freed(
-            &mut self.nodes,
-            &mut self.root,
-            &mut self.low,
-            &self.way,
-            &mut self.in_mind,
-        );
-        self.in_mind = InMind::Nothing;
-        if let Some(held) = store::hold_live(&self.nodes, self.root, pages, &mut self.way) {
-            self.in_mind = InMind::Judged(Known { pages, held });
+        front::settle(&mut self.tree, &mut self.front);
+        if self.tree.hold_live(pages) {
             return Ok(());
         }
         self.may_retire(range)
@@ -297,22 +318,13 @@ impl Space {
         ensures retired { Retires self.old self.new range }
         ensures space { IsSpace self.old × IsSpace self.new }
     {
-        let first = range.first();
-        let piece = Piece {
-            first,
-            last: first + range.pages() - 1,
-            state: PageState::Retired,
-        };
-        pending::put_freed(
-            &mut self.nodes,
-            &mut self.root,
-            &mut self.low,
-            &self.way,
-            &mut self.in_mind,
-        );
-        let in_mind = self.in_mind;
-        self.in_mind = InMind::Nothing;
-        self.root = store::retire(&mut self.nodes, self.root, piece, &self.way, in_mind);
+        let pages = ends_of(range);
+        if front::last_state(&self.front.cut, pages).is_some() {
+            self.front.retire_last(pages);
+            return;
+        }
+        front::settle(&mut self.tree, &mut self.front);
+        self.tree.retire(range);
     }
 
     /// Makes a range of live pages free, as `retire` and then `release` would.
@@ -322,17 +334,13 @@ impl Space {
         ensures freed { FreesLive self.old self.new range }
         ensures space { IsSpace self.old × IsSpace self.new }
     {
-        let first = range.first();
-        let last = first + range.pages() - 1;
-        let pages = Ends { first, last };
-        if let InMind::Judged(known) = self.in_mind {
-            if known.pages.first == pages.first && known.pages.last == pages.last {
-                self.in_mind = InMind::Freed(known);
-                return;
-            }
+        let pages = ends_of(range);
+        if front::last_state(&self.front.cut, pages).is_some() {
+            self.front.give_back_last(pages);
+            return;
         }
-        self.retire(range);
-        self.release(range);
+        front::settle(&mut self.tree, &mut self.front);
+        self.tree.free_live(range);
     }
 
     /// Frees a range that is one live piece. After a `take` the space is as it was before it.
@@ -363,24 +371,13 @@ impl Space {
         ensures retirable { (other : Range) → MayRetire self.old.pieces other → MayRetire self.new.pieces other }
         ensures space { IsSpace self.old × IsSpace self.new }
     {
-        let first = range.first();
-        let last = first + range.pages() - 1;
-        pending::put_freed(
-            &mut self.nodes,
-            &mut self.root,
-            &mut self.low,
-            &self.way,
-            &mut self.in_mind,
-        );
-        self.in_mind = InMind::Nothing;
-        let whole = store::with_free_around(&self.nodes, self.root, Ends { first, last });
-        self.low = self.low.min(whole.first);
-        let piece = Piece {
-            first: whole.first,
-            last: whole.last,
-            state: PageState::Free,
-        };
-        self.root = store::store(&mut self.nodes, self.root, piece);
+        let pages = ends_of(range);
+        if front::is_whole(&self.front.cut, pages) {
+            self.front.give_back_all(pages.first);
+            return;
+        }
+        front::settle(&mut self.tree, &mut self.front);
+        self.tree.release_run(range);
     }
 
     // Frees a range that is one piece.
@@ -391,20 +388,12 @@ impl Space {
         ensures range { IsPageRange range }
         ensures space { IsSpace self.old × IsSpace self.new }
     {
-        let first = range.first();
-        let last = first + range.pages() - 1;
-        let pages = Ends { first, last };
-        pending::put_freed(
-            &mut self.nodes,
-            &mut self.root,
-            &mut self.low,
-            &self.way,
-            &mut self.in_mind,
-        );
-        let held = store::hold(&self.nodes, self.root, pages, &mut self.way);
-        let freed = store::free(&mut self.nodes, self.root, self.low, pages, &self.way, held);
-        self.root = freed.root;
-        self.low = freed.low;
-        self.in_mind = freed.in_mind;
+        let pages = ends_of(range);
+        if front::last_state(&self.front.cut, pages).is_some() {
+            self.front.give_back_last(pages);
+            return;
+        }
+        front::settle(&mut self.tree, &mut self.front);
+        self.tree.free(range);
     }
 }

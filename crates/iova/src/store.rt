@@ -1,13 +1,11 @@
 //! The pieces of a space in a tree.
 
-ghost use Rattle.std.specs.Prelude.{◌≡◌, ◌≢◌, List, Some, ℕ, ◌+◌, ◌^◌, ◌<◌, ◌≤◌, ◌↔◌, [], length, IsTrue, IsSome, IfSome};
-ghost use Rattle.std.specs.Prelude.{IfNone, true, false};
-ghost use Rattle.dmatypes.specs.Page.{IsWithin};
-ghost use Rattle.slab.specs.Slab.{get, slab_len};
+ghost use Rattle.std.specs.Prelude.{◌≡◌, List, ℕ, ◌<◌, ◌≤◌, [], length, IsTrue, IfSome, IfNone, true, false};
+ghost use Rattle.slab.specs.Slab.{get};
 ghost use Rattle.dmatypes.specs.World.{IsIn};
-ghost use Rattle.iova.specs.Pieces.{AllIn, IsOrdered, NoneFreeBelow, free_end, free_start, freed, piece_of, state_at};
+ghost use Rattle.iova.specs.Pieces.{IsOrdered, NoneFreeBelow, free_end, free_start, freed, piece_of};
 ghost use Rattle.iova.specs.Pieces.{with_free, with_piece};
-ghost use Rattle.iova.specs.Space.{CutsPiece, IsFit, IsLowestFit, new_space};
+ghost use Rattle.iova.specs.Space.{IsFit, IsLowestFit, new_space};
 ghost use Rattle.iova.specs.Stored.{IsInMind, IsKept, pieces_of, shown};
 ghost use Rattle.iova.specs.Tree.{IsPiece};
 ghost use Rattle.iova.specs.Way.{EndsAbove, IsHeld, LeadsTo, held_above, pages_as};
@@ -16,7 +14,7 @@ use crate::beside::{Ends, with_free, with_free_by};
 use crate::node::{NUMBERS_END, Node};
 use crate::piece::{PageState, Piece};
 use crate::put::{is_before_end, put, put_by, put_over_leaf, put_whole};
-use crate::search::{find, first_free, lowest_fit, seek};
+use crate::search::{first_free, lowest_fit, seek};
 use crate::space::MOST_PIECES;
 use crate::way::{Held, InMind, Known, MOST_HEIGHT, Place, Spot, Step, walk};
 use dmatypes::{PAGES_END, WINDOW_FIRST, WINDOW_LAST};
@@ -56,6 +54,23 @@ pub(crate) fn store_by(
     ensures { IsKept result nodes.new (with_piece piece (pieces_of nodes.old root)) }
 {
     put_by(nodes, root, &piece, way, place)
+}
+
+/// The same, where the way to its place is looked for.
+pub(crate) fn store_walked(
+    nodes: &mut Slab<Node>,
+    root: Option<usize>,
+    piece: Piece,
+    way: &mut [Step; MOST_HEIGHT],
+) -> Option<usize>
+    requires kept { IsKept root nodes.old (pieces_of nodes.old root) }
+    requires ordered { IsOrdered 1 (pieces_of nodes.old root) }
+    requires few { length (with_piece piece (pieces_of nodes.old root)) ≤ MOST_PIECES }
+    requires piece { IsPiece piece }
+    ensures { IsKept result nodes.new (with_piece piece (pieces_of nodes.old root)) }
+{
+    let place = walk(nodes, root, &piece, way);
+    store_by(nodes, root, piece, way, place)
 }
 
 /// Puts a piece in the place of one that has its pages, to which a way leads, and answers the root.
@@ -324,18 +339,6 @@ pub(crate) fn fill(nodes: &mut Slab<Node>, last: u64) -> Option<usize>
     store(nodes, root, high)
 }
 
-/// The state of the piece that a page lies in.
-pub(crate) fn state_of(nodes: &Slab<Node>, root: Option<usize>, page: u64) -> Option<PageState>
-    requires kept { IsKept root nodes.now (pieces_of nodes.now root) }
-    requires ordered { IsOrdered 1 (pieces_of nodes.now root) }
-    ensures { result ≡ state_at (pieces_of nodes.now root) page }
-{
-    match find(nodes, root, page) {
-        Some(piece) => Some(piece.state),
-        None => None,
-    }
-}
-
 /// The lowest start of so many free pages that is a multiple of the unit, and the way to the piece that they lie in.
 #[inline(always)]
 pub(crate) fn fit(
@@ -405,6 +408,30 @@ pub(crate) fn fit_in_mind(
     fit(nodes, root, pages, unit, way)
 }
 
+/// The lowest free piece, if there is one, and the way to it.
+#[inline(always)]
+pub(crate) fn lowest_free(
+    nodes: &Slab<Node>,
+    root: Option<usize>,
+    way: &mut [Step; MOST_HEIGHT],
+) -> Option<Known>
+    requires kept { IsKept root nodes.now (pieces_of nodes.now root) }
+    requires ordered { IsOrdered 1 (pieces_of nodes.now root) }
+    ensures { IfSome result (λ known. IsInMind nodes.now root way.new (InMind.Lowest known)) }
+{
+    let spot = first_free(nodes, root, 1, way)?;
+    let key = spot.place.at?;
+    let pages = Ends {
+        first: spot.start,
+        last: nodes[key].piece.last,
+    };
+    let held = Held {
+        key,
+        depth: spot.place.depth,
+    };
+    Some(Known { pages, held })
+}
+
 /// A page below which no free piece begins once the lowest pages that fit are live, where none began below the page `low`.
 /// Where one page that may lie anywhere was wanted, all free pages lie behind it; else there may be some below.
 pub(crate) fn low_behind(low: u64, start: u64, pages: u64, unit: u64) -> u64
@@ -417,22 +444,6 @@ pub(crate) fn low_behind(low: u64, start: u64, pages: u64, unit: u64) -> u64
         return start + 1;
     }
     low
-}
-
-/// Whether so many pages, which all lie in pieces, cut a piece.
-pub(crate) fn cuts_piece(nodes: &Slab<Node>, root: Option<usize>, first: u64, pages: u64) -> bool
-    requires kept { IsKept root nodes.now (pieces_of nodes.now root) }
-    requires ordered { IsOrdered 1 (pieces_of nodes.now root) }
-    requires some_pages { 1 ≤ pages }
-    requires range { first + pages < NUMBERS_END }
-    requires held { (page : ℕ) → IsWithin (record { first = first; pages = pages }) page
-        → IsSome (state_at (pieces_of nodes.now root) page) }
-    ensures { IsTrue result ↔ CutsPiece (pieces_of nodes.now root) (record { first = first; pages = pages }) }
-{
-    let last = first + pages - 1;
-    let low = find(nodes, root, first).unwrap();
-    let high = find(nodes, root, last).unwrap();
-    low.first < first || last < high.last
 }
 
 /// The pages from the first of the free piece that ends just before some pages to the last of the one that begins
@@ -464,32 +475,4 @@ pub(crate) fn with_free_around(nodes: &Slab<Node>, root: Option<usize>, pages: E
     ensures last { result.last ≡ free_end (pieces_of nodes.now root) pages.last }
 {
     with_free(nodes, root, pages)
-}
-
-/// A page of a range that isn't live, if there is one.
-pub(crate) fn not_live(
-    nodes: &Slab<Node>,
-    root: Option<usize>,
-    first: u64,
-    pages: u64,
-) -> Option<u64>
-    requires kept { IsKept root nodes.now (pieces_of nodes.now root) }
-    requires ordered { IsOrdered 1 (pieces_of nodes.now root) }
-    requires range { first + pages < NUMBERS_END }
-    ensures within { IfSome result (IsWithin (record { first = first; pages = pages })) }
-    ensures state { IfSome result (λ page. state_at (pieces_of nodes.now root) page ≢ Some PageState.Live) }
-    ensures live { IfNone result (AllIn PageState.Live (record { first = first; pages = pages }) (pieces_of nodes.now root)) }
-{
-    let end = first + pages;
-    let mut next = first;
-    while next < end {
-        let Some(piece) = find(nodes, root, next) else {
-            return Some(next);
-        };
-        match piece.state {
-            PageState::Live => next = piece.last + 1,
-            PageState::Free | PageState::Retired => return Some(next),
-        }
-    }
-    None
 }

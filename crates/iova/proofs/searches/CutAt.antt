@@ -1,6 +1,6 @@
 -- Whether a range cuts a piece, by the pieces of its first and of its last page; and no fit where no piece has room.
 use Rattle.std.proofs.Common.{◌≡◌, ℕ, ◌+◌, ◌<◌, ◌≤◌, ◌⊎◌, List, [], ◌∷◌, ◌++◌, Option, Some, None, IsSome, IfSome, true, refl, ap, sym}
-use Rattle.std.proofs.Common.{◌∙◌, inl, inr, subst, arith}
+use Rattle.std.proofs.Common.{◌∙◌, ◌↔◌, IsTrue, nat_lt, lt-ltb, ltb-true, inl, inr, subst, arith}
 use Rattle.std.specs.List.{AllByRecursion}
 use Rattle.dmatypes.specs.Page.{Range}
 use Rattle.dmatypes.specs.World.{IsIn}
@@ -36,35 +36,31 @@ some_of (Some p) h = refl
 pub at_some : (ps : List Piece) (page : ℕ) → IsSome (state_at ps page) → IsSome (piece_at ps page)
 at_some ps page h = some_of (piece_at ps page) (subst (λ o. IsSome o) (sym (state_is ps page)) h)
 
-pub cut_low : (ps : List Piece) (range : Range) (q : Piece) → 1 ≤ range.pages → piece_at ps range.first ≡ Some q → q.first < range.first
+cut_low : (ps : List Piece) (range : Range) (q : Piece) → 1 ≤ range.pages → IsIn q ps × Holds q range.first → q.first < range.first
     → CutsPiece ps range
-cut_low ps range q pos e h =
-    let i = at_in ps range.first q e in (
-      q,
-      i.0,
-      record {
-        some = (range.first, i.1, (omega arith, omega arith));
-        not_all = (q.first, (omega arith, omega (arith, i.1)), (λ w. omega (arith, w.0)));
-      },
-    )
+cut_low ps range q pos i h = (
+  q,
+  i.0,
+  record {
+    some = (range.first, i.1, (omega arith, omega arith));
+    not_all = (q.first, (omega arith, omega (arith, i.1)), (λ w. omega (arith, w.0)));
+  },
+)
 
-pub cut_high : (ps : List Piece) (range : Range) (last : ℕ) (q : Piece) → 1 ≤ range.pages → last + 1 ≡ range.first + range.pages
-    → piece_at ps last ≡ Some q → last < q.last → CutsPiece ps range
-cut_high ps range last q pos l e h =
-    let i = at_in ps last q e in (
-      q,
-      i.0,
-      record {
-        some = (last, i.1, (omega arith, omega arith));
-        not_all = (q.last, (omega (arith, i.1), omega arith), (λ w. omega (arith, w.1)));
-      },
-    )
+cut_high : (ps : List Piece) (range : Range) (last : ℕ) (q : Piece) → 1 ≤ range.pages → last + 1 ≡ range.first + range.pages
+    → IsIn q ps × Holds q last → last < q.last → CutsPiece ps range
+cut_high ps range last q pos l i h = (
+  q,
+  i.0,
+  record {
+    some = (last, i.1, (omega arith, omega arith));
+    not_all = (q.last, (omega (arith, i.1), omega arith), (λ w. omega (arith, w.1)));
+  },
+)
 
-pub cut_none : (ps : List Piece) (range : Range) (last : ℕ) (q r : Piece) → IsOrdered 1 ps → last + 1 ≡ range.first + range.pages
-    → piece_at ps range.first ≡ Some q → piece_at ps last ≡ Some r → range.first ≤ q.first → r.last ≤ last → CutsPiece ps range → ⊥
-cut_none ps range last q r o l e f h k c =
-    let i = at_in ps range.first q e in
-    let j = at_in ps last r f in
+cut_none : (ps : List Piece) (range : Range) (last : ℕ) (q r : Piece) → IsOrdered 1 ps → last + 1 ≡ range.first + range.pages
+    → IsIn q ps × Holds q range.first → IsIn r ps × Holds r last → range.first ≤ q.first → r.last ≤ last → CutsPiece ps range → ⊥
+cut_none ps range last q r o l i j h k c =
     let p = c.0 in
     let x = c.2.some.0 in
     let y = c.2.not_all.0 in
@@ -82,6 +78,22 @@ cut_none ps range last q r o l e f h k c =
             omega (arith, c.2.not_all.1)
       ]
     ]
+
+-- whether the range cuts a piece, by where that of its first page begins, or else by where that of its last page ends
+pub cut_by_first : (ps : List Piece) (range : Range) (q : Piece) → 1 ≤ range.pages → IsIn q ps × Holds q range.first
+    → q.first < range.first → IsTrue (nat_lt q.first range.first) ↔ CutsPiece ps range
+cut_by_first ps range q pos i h = ((λ t. cut_low ps range q pos i h), (λ c. lt-ltb q.first range.first h))
+
+pub cut_by_last : (ps : List Piece) (range : Range) (last : ℕ) (q r : Piece) → IsOrdered 1 ps → 1 ≤ range.pages
+    → last + 1 ≡ range.first + range.pages → IsIn q ps × Holds q range.first → IsIn r ps × Holds r last → range.first ≤ q.first
+    → IsTrue (nat_lt last r.last) ↔ CutsPiece ps range
+cut_by_last ps range last q r o pos l i j h = (
+  (λ t. cut_high ps range last r pos l j (ltb-true last r.last t)),
+  (λ c. elim (order r.last last) [
+    | inl k ↦ absurd (cut_none ps range last q r o l i j h k c)
+    | inr k ↦ lt-ltb last r.last k
+  ]),
+)
 
 pub no_fit : (from pages unit : ℕ) (ps : List Piece) → IsOrdered from ps → 1 ≤ pages → AllByRecursion (HasNoRoom pages unit) ps → (t : ℕ)
     → IsFit ps pages unit t → ⊥

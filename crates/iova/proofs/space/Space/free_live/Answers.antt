@@ -1,44 +1,57 @@
-use Rattle.std.proofs.Common.{◌≡◌, ◌∙◌, ap, subst, sym}
+use Rattle.std.proofs.Common.{◌≡◌, ◌∙◌, ◌∷◌, ◌++◌, [], ap, refl, sym, subst, arith}
 use Rattle.dmatypes.specs.World.{IsIn}
-use Rattle.iova.specs.declared.piece.PageState.TheVariants.{Live}
-use Rattle.iova.specs.declared.way.InMind.TheVariants.{Freed}
-use Rattle.iova.specs.Changes.{FreesLive}
-use Rattle.iova.specs.Pieces.{piece_of, with_free}
-use Rattle.iova.specs.Space.{Space, IsSpace}
-use Rattle.iova.specs.Stored.{seen, stored}
+use Rattle.iova.specs.Front.{fronted}
+use Rattle.iova.specs.Space.{Space, IsSpace, MayRetire}
 use Rattle.iova.specs.Way.{pages_as}
-use Rattle.iova.proofs.FreedLive.{frees_live}
-use Rattle.iova.proofs.Shown.{space_shown_free}
-use Rattle.iova.proofs.searches.Holding.{judged_of, known_range}
+use Rattle.std.proofs.Common.{Some}
+use Rattle.iova.specs.Changes.{FreesLive}
+use Rattle.iova.proofs.fronts.Last.{front_less, front_now, last_cut, last_freed_live, view_space}
 use Rattle.iova.proofs.space.Space.free_live.Goals as goal
 
 pub invariant_of-self : goal.invariant_of-self
 invariant_of-self c =
-    let j = judged_of c.self.inside.nodes c.self.inside.root c.self.inside.way c.self.inside.in_mind c.in-Judged.known c.in-Judged.is
-    c.self.invariant.3 in
-    (c.self.invariant.0, c.self.invariant.1, c.self.invariant.2, j)
+    let a : Space = c.self.inside.tree in
+    let pages = c.ends_of-pages.result in
+    let k = last_cut a c.self.inside.front.cut.items c.deref.result.now c.self.inside.front.rest pages c.last_state.result
+    c.self.invariant.1 c.deref.ensures.value (sym c.is_some.ensures ∙ c.if-is_some.true) c.last_state.ensures in
+    let capacity = c.give_back_last.ensures.capacity in (
+      c.self.invariant.0,
+      front_now a.pieces k.0 c.give_back_last.new.self.cut.items c.give_back_last.new.self.rest (record { first = pages.first; last = k.2.last })
+          (c.give_back_last.ensures.cut k.0 k.1 k.3) (c.give_back_last.ensures.rest k.2 k.4)
+          (front_less a c.self.invariant.0 k.0 pages k.1 k.2 k.5 c.args.range c.ends_of-pages.ensures.first c.ends_of-pages.ensures.last
+          c.ends_of-pages.ensures.range.some),
+      omega (arith, capacity, c.self.invariant.2),
+    )
 
-pub returns-then-known-pages-2-clause-freed : goal.returns-then-known-pages-2-clause-freed
-returns-then-known-pages-2-clause-freed c =
-    let a : Space = stored c.self.inside.last c.self.inside.root c.self.inside.nodes in
-    let view : a ≡ c.args.self.now = ap (λ m. seen c.self.inside.last c.self.inside.root c.self.inside.nodes m) (sym c.in-Judged.is)
-    ∙ c.self.view_is in
-    let known = c.in-Judged.known in
-    let j = judged_of c.self.inside.nodes c.self.inside.root c.self.inside.way c.self.inside.in_mind known c.in-Judged.is
-    c.self.invariant.3 in
-    let range : pages_as known.pages Live ≡ piece_of c.args.range Live = known_range known.pages c.first-first.result c.pages.result
-    c.args.range Live c.if-known-pages.true c.if-known-pages-2.true c.first-first.ensures.value c.pages.ensures.value in
-    let there : IsIn (piece_of c.args.range Live) a.pieces = subst (λ p. IsIn p a.pieces) range j.there in
-    let new : Space = seen c.self.inside.last c.self.inside.root c.self.inside.nodes (Freed known) in
-    subst (λ v. FreesLive v new c.args.range) view
-    (frees_live a c.args.range c.self.invariant.1 c.first-first.ensures.range.some there new
-    (ap (λ p. record a { pieces = with_free p a.pieces }) range))
+pub returns-then-is_some-clause-freed : goal.returns-then-is_some-clause-freed
+returns-then-is_some-clause-freed c =
+    let a : Space = c.self.inside.tree in
+    let pages = c.ends_of-pages.result in
+    let k = last_cut a c.self.inside.front.cut.items c.deref.result.now c.self.inside.front.rest pages c.last_state.result
+    c.self.invariant.1 c.deref.ensures.value (sym c.is_some.ensures ∙ c.if-is_some.true) c.last_state.ensures in
+    let now_is : fronted (k.0 ++ pages_as pages k.1 ∷ []) a ≡ c.args.self.now = ap (λ l. fronted l a) (sym k.3) ∙ c.self.view_is in
+    subst (λ v. FreesLive v (fronted c.give_back_last.new.self.cut.items a) c.args.range) now_is
+    (subst (λ l. FreesLive (fronted (k.0 ++ pages_as pages k.1 ∷ []) a) (fronted l a) c.args.range)
+    (sym (c.give_back_last.ensures.cut k.0 k.1 k.3))
+    (last_freed_live a c.self.invariant.0 k.0 pages k.1 k.2 k.5 c.args.range c.ends_of-pages.ensures.first c.ends_of-pages.ensures.last
+    c.ends_of-pages.ensures.range.some
+    (subst (λ (v : Space). MayRetire v.pieces c.args.range) (sym now_is) c.requires)))
 
-pub returns-then-known-pages-2-clause-space : goal.returns-then-known-pages-2-clause-space
-returns-then-known-pages-2-clause-space c =
-    let a : Space = stored c.self.inside.last c.self.inside.root c.self.inside.nodes in
-    let view : a ≡ c.args.self.now = ap (λ m. seen c.self.inside.last c.self.inside.root c.self.inside.nodes m) (sym c.in-Judged.is)
-    ∙ c.self.view_is in
-    let j = judged_of c.self.inside.nodes c.self.inside.root c.self.inside.way c.self.inside.in_mind c.in-Judged.known c.in-Judged.is
-    c.self.invariant.3 in
-    (subst (λ v. IsSpace v) view c.self.invariant.1, space_shown_free a c.in-Judged.known.pages c.self.invariant.1 j.there)
+pub returns-then-is_some-clause-space : goal.returns-then-is_some-clause-space
+returns-then-is_some-clause-space c =
+    let a : Space = c.self.inside.tree in
+    let pages = c.ends_of-pages.result in
+    let k = last_cut a c.self.inside.front.cut.items c.deref.result.now c.self.inside.front.rest pages c.last_state.result
+    c.self.invariant.1 c.deref.ensures.value (sym c.is_some.ensures ∙ c.if-is_some.true) c.last_state.ensures in
+    let new : IsSpace (fronted (k.0) a) = view_space a (k.0) (Some (record { first = pages.first; last = k.2.last })) c.self.invariant.0 (front_less a c.self.invariant.0 k.0 pages k.1 k.2 k.5 c.args.range c.ends_of-pages.ensures.first c.ends_of-pages.ensures.last
+    c.ends_of-pages.ensures.range.some) in (
+      subst (λ v. IsSpace v) c.self.view_is (view_space a c.self.inside.front.cut.items c.self.inside.front.rest c.self.invariant.0
+          c.self.invariant.1),
+      subst (λ l. IsSpace (fronted l a)) (sym (c.give_back_last.ensures.cut k.0 k.1 k.3)) new,
+    )
+
+pub returns-clause-freed : goal.returns-clause-freed
+returns-clause-freed c =
+    let was : c.settle.new.tree ≡ c.args.self.now = c.settle.ensures.tree ∙ c.self.view_is in
+    subst (λ v. FreesLive v (fronted c.settle.new.front.cut.items c.free_live.new.self) c.args.range) was
+    (subst (λ l. FreesLive c.settle.new.tree (fronted l c.free_live.new.self) c.args.range) (sym c.settle.ensures.cut) c.free_live.ensures.freed)

@@ -1,9 +1,7 @@
-use Rattle.std.proofs.Common.{◌≡◌, ◌≢◌, ◌∙◌, Some, refl, sym, subst, arith}
+use Rattle.std.proofs.Common.{◌≡◌, ◌≢◌, ◌∙◌, Some, refl, sym, subst}
 use Rattle.dmatypes.specs.Page.{IsWithin, Range}
 use Rattle.iova.specs.declared.piece.PageState.TheVariants.{Live}
 use Rattle.iova.specs.Pieces.{state_at}
-use Rattle.iova.specs.Space.{Space}
-use Rattle.iova.specs.Stored.{pieces_of, shown}
 use Rattle.iova.proofs.Taken.{same_range}
 use Rattle.iova.proofs.searches.CutAt.{witness}
 use Rattle.iova.proofs.space.Space.may_retire.Goals as goal
@@ -13,15 +11,8 @@ returns-then-is_some-clause-not_live c =
     let range : Range = record { first = c.first-first.result; pages = c.pages-pages.result } in
     let is : range ≡ c.args.range = same_range c.first-first.result c.pages-pages.result c.args.range c.first-first.ensures.value
     c.pages-pages.ensures.value in
-    let ps = shown c.self.inside.in_mind (pieces_of c.self.inside.nodes c.self.inside.root) in
-    let w = witness c.not_live.result (IsWithin range) (λ page. state_at ps page ≢
-    Some Live) (sym c.is_some.ensures ∙ c.if-is_some.true) c.not_live.ensures.within c.not_live.ensures.state in (
-      (λ e. (w.0, subst (λ k. IsWithin k w.0) is w.1, subst (λ (v : Space). state_at v.pieces w.0 ≢ Some Live) c.self.view_is w.2)),
+    let w = witness c.not_live.result (IsWithin range) (λ page. state_at c.args.self.now.pieces page ≢ Some Live)
+    (sym c.is_some.ensures ∙ c.if-is_some.true) c.not_live.ensures.within c.not_live.ensures.state in (
+      (λ e. (w.0, subst (λ k. IsWithin k w.0) is w.1, w.2)),
       (λ h. refl),
     )
-
-pub cuts_piece-requires-clause-range : goal.cuts_piece-requires-clause-range
-cuts_piece-requires-clause-range c =
-    let r = c.first-first.ensures.range in
-    let narrow = (r.members c.args.range.first (omega arith, omega (arith, r.some))).1 in
-    omega (arith, narrow, r.few, c.first-first.ensures.value, c.pages-pages.ensures.value)

@@ -1,141 +1,70 @@
-use Rattle.std.proofs.Common.{arith, ◌≡◌, ◌∙◌, ◌≤◌, ◌+◌, ◌-◌, List, length, ap, subst, sym}
+use Rattle.std.proofs.Common.{◌≡◌, ◌∙◌, ◌∷◌, ◌++◌, ◌+◌, ◌-◌, ◌≤◌, List, Option, Some, [], IsTrue, ap, refl, sym, subst, arith}
+use Rattle.dmatypes.specs.Page.{Range}
+use Rattle.iova.specs.declared.beside.Ends.{Ends}
+use Rattle.iova.specs.declared.piece.PageState.TheVariants.{Retired}
 use Rattle.iova.specs.declared.piece.Piece.{Piece}
-use Rattle.iova.specs.declared.piece.PageState.TheVariants.{Free, Retired}
-use Rattle.iova.specs.Pieces.{IsRun, NoneFreeBelow, free_end, free_start, piece_of, with_piece}
-use Rattle.iova.specs.Space.{Space, IsSpace, MayRetire}
 use Rattle.iova.specs.Changes.{FreesRun}
-use Rattle.iova.specs.Stored.{stored}
-use Rattle.iova.proofs.FreedRun.{freed_piece, frees_run, may_still_run, put_freed, space_freed}
-use Rattle.iova.proofs.LowestFree.{none_below_less, none_below_put}
-use Rattle.iova.proofs.shapes.Tall.{kept_self, kept_view}
+use Rattle.iova.specs.Front.{AreCut, IsFront, fronted}
+use Rattle.iova.specs.Pieces.{IsRun, piece_of}
+use Rattle.iova.specs.Space.{Space, IsSpace, MayRetire}
+use Rattle.iova.proofs.FreedRun.{may_still_run}
+use Rattle.iova.proofs.fronts.Last.{all_freed, front_empty, front_now, view_space, whole_cut}
 use Rattle.iova.proofs.space.Space.release_run.Goals as goal
-
-pub store-self-inside-requires-clause-few : goal.store-self-inside-requires-clause-few
-store-self-inside-requires-clause-few c =
-    let a : Space = stored c.self.inside.last c.put_freed.new.root c.put_freed.new.nodes in
-    let sp : IsSpace a = c.put_freed.ensures.space c.self.inside.last c.self.invariant.1 in
-    let view : a ≡ c.args.self.now = ap (λ ps. record a { pieces = ps }) c.put_freed.ensures.pieces ∙ c.self.view_is in
-    let q : Piece = piece_of c.args.range Retired in
-    let run : IsRun q a.pieces = subst (λ (v : Space). IsRun q v.pieces) (sym view) c.requires in
-    let wide : q.first ≤ q.last = omega (arith, c.first-first.ensures.range.some) in
-    let low : c.with_free_around-whole.result.first ≡ free_start a.pieces q.first = c.with_free_around-whole.ensures.first
-    ∙ ap (λ n. free_start a.pieces n) c.first-first.ensures.value in
-    let end : c.first-first.result + c.pages.result - 1 ≡ q.last = omega (arith, c.first-first.ensures.value, c.pages.ensures.value) in
-    let high : c.with_free_around-whole.result.last ≡ free_end a.pieces q.last = c.with_free_around-whole.ensures.last
-    ∙ ap (λ n. free_end a.pieces n) end in
-    let same = put_freed a.pieces q c.with_free_around-whole.result.first c.with_free_around-whole.result.last low high in
-    let few = (space_freed a q sp wide run).few in
-    let e = ap (λ (ps : List Piece). length ps) same in
-    omega arith
-
-pub store-self-inside-requires-clause-piece : goal.store-self-inside-requires-clause-piece
-store-self-inside-requires-clause-piece c =
-    let a : Space = stored c.self.inside.last c.put_freed.new.root c.put_freed.new.nodes in
-    let sp : IsSpace a = c.put_freed.ensures.space c.self.inside.last c.self.invariant.1 in
-    let view : a ≡ c.args.self.now = ap (λ ps. record a { pieces = ps }) c.put_freed.ensures.pieces ∙ c.self.view_is in
-    let q : Piece = piece_of c.args.range Retired in
-    let run : IsRun q a.pieces = subst (λ (v : Space). IsRun q v.pieces) (sym view) c.requires in
-    let wide : q.first ≤ q.last = omega (arith, c.first-first.ensures.range.some) in
-    let low : c.with_free_around-whole.result.first ≡ free_start a.pieces q.first = c.with_free_around-whole.ensures.first
-    ∙ ap (λ n. free_start a.pieces n) c.first-first.ensures.value in
-    let end : c.first-first.result + c.pages.result - 1 ≡ q.last = omega (arith, c.first-first.ensures.value, c.pages.ensures.value) in
-    let high : c.with_free_around-whole.result.last ≡ free_end a.pieces q.last = c.with_free_around-whole.ensures.last
-    ∙ ap (λ n. free_end a.pieces n) end in
-    let p = freed_piece a q sp wide run in
-    (omega (arith, p), omega (arith, p))
 
 pub invariant_of-self : goal.invariant_of-self
 invariant_of-self c =
-    let a : Space = stored c.self.inside.last c.put_freed.new.root c.put_freed.new.nodes in
-    let sp : IsSpace a = c.put_freed.ensures.space c.self.inside.last c.self.invariant.1 in
-    let view : a ≡ c.args.self.now = ap (λ ps. record a { pieces = ps }) c.put_freed.ensures.pieces ∙ c.self.view_is in
-    let q : Piece = piece_of c.args.range Retired in
-    let run : IsRun q a.pieces = subst (λ (v : Space). IsRun q v.pieces) (sym view) c.requires in
-    let wide : q.first ≤ q.last = omega (arith, c.first-first.ensures.range.some) in
-    let low : c.with_free_around-whole.result.first ≡ free_start a.pieces q.first = c.with_free_around-whole.ensures.first
-    ∙ ap (λ n. free_start a.pieces n) c.first-first.ensures.value in
-    let end : c.first-first.result + c.pages.result - 1 ≡ q.last = omega (arith, c.first-first.ensures.value, c.pages.ensures.value) in
-    let high : c.with_free_around-whole.result.last ≡ free_end a.pieces q.last = c.with_free_around-whole.ensures.last
-    ∙ ap (λ n. free_end a.pieces n) end in
-    let same = put_freed a.pieces q c.with_free_around-whole.result.first c.with_free_around-whole.result.last low high in
-    let p = freed_piece a q sp wide run in
-    let view = kept_view c.store-self-inside.result c.store-self-inside.new.nodes
-    (with_piece (record { first = c.with_free_around-whole.result.first; last = c.with_free_around-whole.result.last; state = Free }) a.pieces)
-    c.store-self-inside.ensures in
-    let now = view ∙ same in
-    let lower : NoneFreeBelow c.min-self-inside.result a.pieces = none_below_less c.min-self-inside.result c.put_freed.new.low a.pieces
-    (omega (arith, c.min-self-inside.ensures)) c.put_freed.ensures.low in (
-      kept_self c.store-self-inside.result c.store-self-inside.new.nodes
-          (with_piece (record { first = c.with_free_around-whole.result.first; last = c.with_free_around-whole.result.last; state = Free }) a.pieces)
-          c.store-self-inside.ensures,
-      subst (λ ps. IsSpace (record a { pieces = ps })) (sym now) (space_freed a q sp wide run),
-      subst (λ ps. NoneFreeBelow c.min-self-inside.result ps) (sym view)
-          (none_below_put c.min-self-inside.result c.with_free_around-whole.result.first c.with_free_around-whole.result.last Free a.pieces
-          sp.ordered (omega (arith, low, high, p)) lower (λ e. omega (arith, c.min-self-inside.ensures))),
-      tt,
+    let a : Space = c.self.inside.tree in
+    let k = whole_cut a c.self.inside.front.cut.items c.deref.result.now c.self.inside.front.rest c.ends_of-pages.result c.args.range
+    c.self.invariant.1 c.deref.ensures.value c.ends_of-pages.ensures.first c.ends_of-pages.ensures.last c.ends_of-pages.ensures.range.some
+    (c.is_whole.ensures c.if-is_whole.true) in
+    let capacity = c.give_back_all.ensures.capacity in (
+      c.self.invariant.0,
+      front_now a.pieces [] c.give_back_all.new.self.cut.items c.give_back_all.new.self.rest (record { first = c.args.range.first; last = k.0.last })
+          c.give_back_all.ensures.cut
+          (c.give_back_all.ensures.rest k.0 k.1 ∙ ap (λ n. Some (record { first = n; last = k.0.last })) c.ends_of-pages.ensures.first)
+          (front_empty a c.self.invariant.0 c.self.inside.front.cut.items k.0 k.2 c.args.range k.3 k.4 c.ends_of-pages.ensures.range.some),
+      omega (arith, capacity, c.self.invariant.2),
     )
 
-pub returns-clause-freed : goal.returns-clause-freed
-returns-clause-freed c =
-    let a : Space = stored c.self.inside.last c.put_freed.new.root c.put_freed.new.nodes in
-    let sp : IsSpace a = c.put_freed.ensures.space c.self.inside.last c.self.invariant.1 in
-    let view : a ≡ c.args.self.now = ap (λ ps. record a { pieces = ps }) c.put_freed.ensures.pieces ∙ c.self.view_is in
-    let q : Piece = piece_of c.args.range Retired in
-    let run : IsRun q a.pieces = subst (λ (v : Space). IsRun q v.pieces) (sym view) c.requires in
-    let wide : q.first ≤ q.last = omega (arith, c.first-first.ensures.range.some) in
-    let low : c.with_free_around-whole.result.first ≡ free_start a.pieces q.first = c.with_free_around-whole.ensures.first
-    ∙ ap (λ n. free_start a.pieces n) c.first-first.ensures.value in
-    let end : c.first-first.result + c.pages.result - 1 ≡ q.last = omega (arith, c.first-first.ensures.value, c.pages.ensures.value) in
-    let high : c.with_free_around-whole.result.last ≡ free_end a.pieces q.last = c.with_free_around-whole.ensures.last
-    ∙ ap (λ n. free_end a.pieces n) end in
-    let same = put_freed a.pieces q c.with_free_around-whole.result.first c.with_free_around-whole.result.last low high in
-    let now = kept_view c.store-self-inside.result c.store-self-inside.new.nodes
-    (with_piece (record { first = c.with_free_around-whole.result.first; last = c.with_free_around-whole.result.last; state = Free }) a.pieces)
-    c.store-self-inside.ensures ∙ same in
-    let new : Space = stored c.self.inside.last c.store-self-inside.result c.store-self-inside.new.nodes in
-    subst (λ v. FreesRun v new c.args.range Retired) view
-    (frees_run a new c.args.range Retired sp c.first-first.ensures.range.some run (ap (λ ps. record a { pieces = ps }) now))
+pub returns-then-is_whole-clause-freed : goal.returns-then-is_whole-clause-freed
+returns-then-is_whole-clause-freed c =
+    let a : Space = c.self.inside.tree in
+    let k = whole_cut a c.self.inside.front.cut.items c.deref.result.now c.self.inside.front.rest c.ends_of-pages.result c.args.range
+    c.self.invariant.1 c.deref.ensures.value c.ends_of-pages.ensures.first c.ends_of-pages.ensures.last c.ends_of-pages.ensures.range.some
+    (c.is_whole.ensures c.if-is_whole.true) in
+    subst (λ v. FreesRun v (fronted c.give_back_all.new.self.cut.items a) c.args.range Retired) c.self.view_is
+    (subst (λ l. FreesRun (fronted c.self.inside.front.cut.items a) (fronted l a) c.args.range Retired) (sym c.give_back_all.ensures.cut)
+    (all_freed a c.self.invariant.0 c.self.inside.front.cut.items k.0 k.2 c.args.range k.3 k.4 c.ends_of-pages.ensures.range.some
+    (subst (λ (v : Space). IsRun (piece_of c.args.range Retired) v.pieces) (sym c.self.view_is) c.requires)))
+
+pub returns-then-is_whole-clause-retirable : goal.returns-then-is_whole-clause-retirable
+returns-then-is_whole-clause-retirable c other may =
+    let a : Space = c.self.inside.tree in
+    let k = whole_cut a c.self.inside.front.cut.items c.deref.result.now c.self.inside.front.rest c.ends_of-pages.result c.args.range
+    c.self.invariant.1 c.deref.ensures.value c.ends_of-pages.ensures.first c.ends_of-pages.ensures.last c.ends_of-pages.ensures.range.some
+    (c.is_whole.ensures c.if-is_whole.true) in
+    let run = subst (λ (v : Space). IsRun (piece_of c.args.range Retired) v.pieces) (sym c.self.view_is) c.requires in
+    subst (λ l. MayRetire (fronted l a).pieces other) (sym c.give_back_all.ensures.cut)
+    (may_still_run (fronted c.self.inside.front.cut.items a) a c.args.range other
+    (view_space a c.self.inside.front.cut.items c.self.inside.front.rest c.self.invariant.0 c.self.invariant.1) c.self.invariant.0 run
+    (all_freed a c.self.invariant.0 c.self.inside.front.cut.items k.0 k.2 c.args.range k.3 k.4 c.ends_of-pages.ensures.range.some run)
+    (subst (λ (v : Space). MayRetire v.pieces other) (sym c.self.view_is) may))
+
+pub returns-then-is_whole-clause-space : goal.returns-then-is_whole-clause-space
+returns-then-is_whole-clause-space c =
+    let a : Space = c.self.inside.tree in (
+      subst (λ v. IsSpace v) c.self.view_is (view_space a c.self.inside.front.cut.items c.self.inside.front.rest c.self.invariant.0
+          c.self.invariant.1),
+      subst (λ l. IsSpace (fronted l a)) (sym c.give_back_all.ensures.cut) c.self.invariant.0,
+    )
+
+pub release_run-requires : goal.release_run-requires
+release_run-requires c =
+    let was : c.settle.new.tree ≡ c.args.self.now = c.settle.ensures.tree ∙ c.self.view_is in
+    subst (λ (v : Space). IsRun (piece_of c.args.range Retired) v.pieces) (sym was) c.requires
 
 pub returns-clause-retirable : goal.returns-clause-retirable
 returns-clause-retirable c other may =
-    let a : Space = stored c.self.inside.last c.put_freed.new.root c.put_freed.new.nodes in
-    let sp : IsSpace a = c.put_freed.ensures.space c.self.inside.last c.self.invariant.1 in
-    let view : a ≡ c.args.self.now = ap (λ ps. record a { pieces = ps }) c.put_freed.ensures.pieces ∙ c.self.view_is in
-    let q : Piece = piece_of c.args.range Retired in
-    let run : IsRun q a.pieces = subst (λ (v : Space). IsRun q v.pieces) (sym view) c.requires in
-    let wide : q.first ≤ q.last = omega (arith, c.first-first.ensures.range.some) in
-    let low : c.with_free_around-whole.result.first ≡ free_start a.pieces q.first = c.with_free_around-whole.ensures.first
-    ∙ ap (λ n. free_start a.pieces n) c.first-first.ensures.value in
-    let end : c.first-first.result + c.pages.result - 1 ≡ q.last = omega (arith, c.first-first.ensures.value, c.pages.ensures.value) in
-    let high : c.with_free_around-whole.result.last ≡ free_end a.pieces q.last = c.with_free_around-whole.ensures.last
-    ∙ ap (λ n. free_end a.pieces n) end in
-    let same = put_freed a.pieces q c.with_free_around-whole.result.first c.with_free_around-whole.result.last low high in
-    let now = kept_view c.store-self-inside.result c.store-self-inside.new.nodes
-    (with_piece (record { first = c.with_free_around-whole.result.first; last = c.with_free_around-whole.result.last; state = Free }) a.pieces)
-    c.store-self-inside.ensures ∙ same in
-    let new : Space = stored c.self.inside.last c.store-self-inside.result c.store-self-inside.new.nodes in
-    may_still_run a new c.args.range other sp
-    (subst (λ ps. IsSpace (record a { pieces = ps })) (sym now) (space_freed a q sp wide run)) run
-    (frees_run a new c.args.range Retired sp c.first-first.ensures.range.some run (ap (λ ps. record a { pieces = ps }) now))
-    (subst (λ (v : Space). MayRetire v.pieces other) (sym view) may)
-
-pub returns-clause-space : goal.returns-clause-space
-returns-clause-space c =
-    let a : Space = stored c.self.inside.last c.put_freed.new.root c.put_freed.new.nodes in
-    let sp : IsSpace a = c.put_freed.ensures.space c.self.inside.last c.self.invariant.1 in
-    let view : a ≡ c.args.self.now = ap (λ ps. record a { pieces = ps }) c.put_freed.ensures.pieces ∙ c.self.view_is in
-    let q : Piece = piece_of c.args.range Retired in
-    let run : IsRun q a.pieces = subst (λ (v : Space). IsRun q v.pieces) (sym view) c.requires in
-    let wide : q.first ≤ q.last = omega (arith, c.first-first.ensures.range.some) in
-    let low : c.with_free_around-whole.result.first ≡ free_start a.pieces q.first = c.with_free_around-whole.ensures.first
-    ∙ ap (λ n. free_start a.pieces n) c.first-first.ensures.value in
-    let end : c.first-first.result + c.pages.result - 1 ≡ q.last = omega (arith, c.first-first.ensures.value, c.pages.ensures.value) in
-    let high : c.with_free_around-whole.result.last ≡ free_end a.pieces q.last = c.with_free_around-whole.ensures.last
-    ∙ ap (λ n. free_end a.pieces n) end in
-    let same = put_freed a.pieces q c.with_free_around-whole.result.first c.with_free_around-whole.result.last low high in
-    let now = kept_view c.store-self-inside.result c.store-self-inside.new.nodes
-    (with_piece (record { first = c.with_free_around-whole.result.first; last = c.with_free_around-whole.result.last; state = Free }) a.pieces)
-    c.store-self-inside.ensures ∙ same in (
-      subst (λ v. IsSpace v) view sp,
-      subst (λ ps. IsSpace (record a { pieces = ps })) (sym now) (space_freed a q sp wide run),
-    )
+    let was : c.settle.new.tree ≡ c.args.self.now = c.settle.ensures.tree ∙ c.self.view_is in
+    subst (λ l. MayRetire (fronted l c.release_run.new.self).pieces other) (sym c.settle.ensures.cut)
+    (c.release_run.ensures.retirable other (subst (λ (v : Space). MayRetire v.pieces other) (sym was) may))

@@ -1,17 +1,45 @@
-use Rattle.std.proofs.Common.{◌≡◌, ◌∙◌, ◌≤◌, IsSome, ap, subst, sym}
-use Rattle.iova.specs.Pieces.{state_at}
-use Rattle.iova.specs.Space.{Space}
-use Rattle.iova.specs.Stored.{pieces_of, shown}
-use Rattle.iova.proofs.Shown.{space_shown}
+use Rattle.std.proofs.Common.{◌≡◌, ◌≢◌, ◌↔◌, ◌≤◌, ◌∙◌, ℕ, Option, Some, None, IfSome, IfNone, IsSome, ap, refl, sym, subst, arith}
+use Rattle.dmatypes.specs.World.{IsIn}
+use Rattle.iova.specs.declared.piece.PageState.{PageState}
+use Rattle.iova.specs.declared.piece.PageState.TheVariants.{Free, Live, Retired}
+use Rattle.iova.specs.declared.piece.Piece.{Piece}
+use Rattle.iova.specs.Pieces.{Holds, state_at}
+use Rattle.iova.specs.Search.{piece_at}
+use Rattle.iova.specs.Space.{Space, IsSpace}
+use Rattle.iova.proofs.Among.{in_state}
+use Rattle.iova.proofs.fronts.Last.{follows, view_space}
+use Rattle.iova.proofs.fronts.PageIn.{found_in, lies_as, stays_in}
+use Rattle.iova.proofs.Keep.{is_some}
 use Rattle.iova.proofs.space.Space.state_of.Goals as goal
 
-pub returns-clause-some : goal.returns-clause-some
-returns-clause-some c =
-    let sp = space_shown c.self.inside.last c.self.inside.root c.self.inside.nodes c.self.inside.way c.self.invariant.1
-    c.self.inside.in_mind c.self.invariant.3 in
-    let ps = shown c.self.inside.in_mind (pieces_of c.self.inside.nodes c.self.inside.root) in
-    let state : c.state_of.result ≡ state_at ps c.args.page = c.state_of.ensures ∙ ap (λ n. state_at ps n) c.number.ensures.value in
-    let last = ap (λ (v : Space). v.last) c.self.view_is in (
-      (λ h. subst (λ n. c.args.page ≤ n) last (sp.others c.args.page (subst (λ o. IsSome o) state h)).1),
-      (λ h. subst (λ o. IsSome o) (sym state) (sp.pages c.args.page (c.number.ensures.page, subst (λ n. c.args.page ≤ n) (sym last) h))),
-    )
+pub returns-in-Some-clause-state : goal.returns-in-Some-clause-state
+returns-in-Some-clause-state c =
+    let view : IsSpace c.args.self.now = subst (λ v. IsSpace v) c.self.view_is (view_space c.self.inside.tree c.self.inside.front.cut.items
+    c.self.inside.front.rest c.self.invariant.0 c.self.invariant.1) in
+    let at : piece_at c.self.inside.front.cut.items c.args.page ≡ Some c.in-Some.piece = ap (λ l. piece_at l c.args.page) (sym c.deref.ensures.value)
+    ∙ ap (λ n. piece_at c.deref.result.now n) (sym c.number.ensures.value) ∙ sym c.piece_at.ensures ∙ c.in-Some.is in
+    let i = found_in c.self.inside.tree c.self.inside.front.cut.items c.self.inside.front.rest c.args.page c.in-Some.piece c.self.invariant.0
+    c.self.invariant.1 at in
+    let there : IsIn c.in-Some.piece c.args.self.now.pieces = subst (λ (v : Space). IsIn c.in-Some.piece v.pieces) c.self.view_is i.0 in
+    sym (in_state 1 c.in-Some.piece c.args.self.now.pieces c.args.page view.ordered there i.1.0 i.1.1)
+
+pub returns-in-Some-clause-some : goal.returns-in-Some-clause-some
+returns-in-Some-clause-some c =
+    let view : IsSpace c.args.self.now = subst (λ v. IsSpace v) c.self.view_is (view_space c.self.inside.tree c.self.inside.front.cut.items
+    c.self.inside.front.rest c.self.invariant.0 c.self.invariant.1) in
+    let at : piece_at c.self.inside.front.cut.items c.args.page ≡ Some c.in-Some.piece = ap (λ l. piece_at l c.args.page) (sym c.deref.ensures.value)
+    ∙ ap (λ n. piece_at c.deref.result.now n) (sym c.number.ensures.value) ∙ sym c.piece_at.ensures ∙ c.in-Some.is in
+    let i = found_in c.self.inside.tree c.self.inside.front.cut.items c.self.inside.front.rest c.args.page c.in-Some.piece c.self.invariant.0
+    c.self.invariant.1 at in
+    let there : IsIn c.in-Some.piece c.args.self.now.pieces = subst (λ (v : Space). IsIn c.in-Some.piece v.pieces) c.self.view_is i.0 in
+    let here = in_state 1 c.in-Some.piece c.args.self.now.pieces c.args.page view.ordered there i.1.0 i.1.1 in
+    ((λ e. (view.others c.args.page (is_some c.args.self.now.pieces c.args.page c.in-Some.piece.state here)).1), (λ l. refl))
+
+pub returns-in-None-clause-state : goal.returns-in-None-clause-state
+returns-in-None-clause-state c =
+    let at : piece_at c.self.inside.front.cut.items c.args.page ≡ None = ap (λ l. piece_at l c.args.page) (sym c.deref.ensures.value)
+    ∙ ap (λ n. piece_at c.deref.result.now n) (sym c.number.ensures.value) ∙ sym c.piece_at.ensures ∙ c.in-None.is in
+    let same : state_at c.args.self.now.pieces c.args.page ≡ state_at c.self.inside.tree.pieces c.args.page =
+    ap (λ (v : Space). state_at v.pieces c.args.page) (sym c.self.view_is) ∙ lies_as c.self.inside.tree c.self.inside.front.cut.items
+    c.self.inside.front.rest c.args.page c.self.invariant.0 c.self.invariant.1 at in
+    c.state_of.ensures.state ∙ sym same

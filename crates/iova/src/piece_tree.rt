@@ -1,0 +1,382 @@
+//! The pieces of a space in a balanced tree.
+
+ghost use Rattle.std.specs.Prelude.{◌≡◌, ◌≢◌, ℕ, ◌+◌, ◌^◌, ◌<◌, ◌≤◌, ◌↔◌, length, Some, IsSome, IsTrue, IfSome, IfNone, IfOk, OnErr, Err};
+
+use crate::beside::Ends;
+use crate::node::{NUMBERS_END, Node};
+use crate::piece::{PageState, Piece};
+use crate::space::{MOST_PIECES, MOST_PIECES_TO_CUT, TakeError};
+use crate::tree_iter::TreeIter;
+use crate::way::{InMind, Known, MOST_HEIGHT, NO_STEP, Step};
+use crate::{look, pending, store};
+use dmatypes::{MOST_PAGES, PAGES_END, Page, PageRange};
+use slab::Slab;
+use std::alloc::{AllocError, Global};
+use std::marker::Model;
+
+/// The pieces of a space in a balanced tree (own), seen as a space is.
+#[derive(Drop)]
+pub(crate) struct PieceTree {
+    last: u64,
+    root: Option<usize>,
+    nodes: Slab<Node>,
+    // No free piece begins below this page.
+    low: u64,
+    // The steps of the last way down.
+    way: [Step; MOST_HEIGHT],
+    // The piece to which they lead, if it is still of use: one that was judged, the lowest free one, or one that came
+    // free and is taken again soon, as mostly, or else is written into the tree.
+    in_mind: InMind,
+}
+
+impl Model for PieceTree {
+    ghost use Rattle.iova.specs.Pieces.{NoneFreeBelow};
+    ghost use Rattle.iova.specs.Space.{Space, IsSpace};
+    ghost use Rattle.iova.specs.Stored.{IsInMind, IsKept, pieces_of, seen, stored};
+
+    ghost Value = { Space };
+
+    ghost view = { λ a. seen a.last a.root a.nodes a.in_mind };
+
+    ghost invariant = { λ a. IsKept a.root a.nodes (pieces_of a.nodes a.root) × IsSpace (stored a.last a.root a.nodes)
+        × NoneFreeBelow a.low (pieces_of a.nodes a.root) × IsInMind a.nodes a.root a.way a.in_mind };
+}
+
+impl PieceTree {
+    ghost use Rattle.dmatypes.specs.Page.{IsPageRange, Range};
+    ghost use Rattle.dmatypes.specs.World.{IsIn};
+    ghost use Rattle.dmatypes.specs.declared.limits.TheConstants.{MOST_ORDER};
+    ghost use Rattle.iova.specs.Pieces.{Holds, IsRun, NoneFreeBelow, piece_of, state_at, with_piece};
+    ghost use Rattle.iova.specs.Way.{pages_as};
+    ghost use Rattle.iova.specs.Space.{Space, AllFree, IsFit, IsLowestFit, IsSpace, IsTooMany, MayRetire, new_space};
+    ghost use Rattle.iova.specs.Changes.{Frees, FreesLive, FreesRun, Retires, Takes};
+
+    /// A space of the pages up to a last one, all free. It takes the memory for all its pieces; no other call
+    /// takes any.
+    pub(crate) fn new(alloc: Global, last: u64) -> Result<PieceTree, AllocError>
+        requires some { 1 ≤ last }
+        requires narrow { last < PAGES_END }
+        ensures new { IfOk result (λ space. space ≡ new_space last) }
+        ensures free { IfOk result AllFree }
+        ensures space { IfOk result IsSpace }
+    {
+        let mut nodes = Slab::with_capacity(alloc, MOST_PIECES)?;
+        let root = store::fill(&mut nodes, last);
+        Ok(PieceTree {
+            last,
+            root,
+            nodes,
+            low: 1,
+            way: [NO_STEP; MOST_HEIGHT],
+            in_mind: InMind::Nothing,
+        })
+    }
+
+    /// Makes it new: all its pages are free.
+    pub(crate) fn reset(&mut self)
+        ensures new { self.new ≡ new_space self.old.last }
+        ensures free { AllFree self.new }
+        ensures space { IsSpace self.new }
+    {
+        self.low = 1;
+        self.in_mind = InMind::Nothing;
+        self.nodes.clear();
+        self.root = store::fill(&mut self.nodes, self.last);
+    }
+
+    /// Its pieces in the order of their pages.
+    pub(crate) fn pieces(&self) -> TreeIter<'_>
+        ensures pieces { result ≡ self.now.pieces }
+        ensures space { IsSpace self.now }
+    {
+        TreeIter {
+            nodes: &self.nodes,
+            root: self.root,
+            freed: pending::freed_ends(&self.nodes, self.root, &self.way, self.in_mind),
+            page: 1,
+        }
+    }
+
+    /// How many pieces it has.
+    pub(crate) fn piece_count(&self) -> usize
+        ensures count { result ≡ length self.now.pieces }
+        ensures few { result ≤ MOST_PIECES }
+    {
+        pending::count(&self.nodes, self.root, &self.way, self.in_mind)
+    }
+
+    /// What a page is; `None` exactly where it is past the last one.
+    pub(crate) fn state_of(&self, page: Page) -> Option<PageState>
+        ensures state { result ≡ state_at self.now.pieces page }
+        ensures some { IsSome result ↔ (page ≤ self.now.last) }
+    {
+        pending::state_of(&self.nodes, self.root, self.in_mind, page.number())
+    }
+
+    /// Makes so many free pages, 1 to 4,096, one live piece, and answers the first of them: the lowest that is
+    /// a multiple of 2^order (order 0 to 9). Where it is refused, nothing has changed.
+    #[inline(always)]
+    pub(crate) fn take(&mut self, pages: u64, order: u64) -> Result<Page, TakeError>
+        requires some_pages { 1 ≤ pages }
+        requires few_pages { pages ≤ MOST_PAGES }
+        requires order { order ≤ MOST_ORDER }
+
+        // The start, and what the space then is.
+        ensures lowest { IfOk result (IsLowestFit self.old.pieces pages (2 ^ order)) }
+        ensures range { IfOk result (λ start. IsPageRange (record { first = start; pages = pages })) }
+        ensures taken { IfOk result (λ start. Takes self.old self.new (record { first = start; pages = pages })) }
+        ensures space { IsSpace self.old × IsSpace self.new }
+
+        // The refusals.
+        ensures no_range { (result ≡ Err TakeError.NoRange) ↔ ((start : ℕ) → IsFit self.old.pieces pages (2 ^ order) start → ⊥) }
+        ensures too_many { (result ≡ Err TakeError.TooManyPieces)
+            ↔ ((start : ℕ) × IsLowestFit self.old.pieces pages (2 ^ order) start
+            × IsTooMany self.old.pieces (record { first = start; pages = pages })) }
+        ensures unchanged { OnErr result (self.new ≡ self.old) }
+    {
+        let unit = 1 << order;
+        let fits = pending::fit_freed(
+            &self.nodes,
+            self.root,
+            self.low,
+            pages,
+            unit,
+            &self.way,
+            self.in_mind,
+        );
+        if let Some(known) = fits {
+            self.in_mind = InMind::Judged(known);
+            return Ok(Page::new(known.pages.first).unwrap());
+        }
+        self.take_from_tree(pages, order)
+    }
+
+    // The same, where the piece that came free is not taken again: it is written into the tree first.
+    #[inline(always)]
+    fn take_from_tree(&mut self, pages: u64, order: u64) -> Result<Page, TakeError>
+        requires some_pages { 1 ≤ pages }
+        requires few_pages { pages ≤ MOST_PAGES }
+        requires order { order ≤ MOST_ORDER }
+
+        // The start, and what the space then is.
+        ensures lowest { IfOk result (IsLowestFit self.old.pieces pages (2 ^ order)) }
+        ensures range { IfOk result (λ start. IsPageRange (record { first = start; pages = pages })) }
+        ensures taken { IfOk result (λ start. Takes self.old self.new (record { first = start; pages = pages })) }
+        ensures space { IsSpace self.old × IsSpace self.new }
+
+        // The refusals.
+        ensures no_range { (result ≡ Err TakeError.NoRange) ↔ ((start : ℕ) → IsFit self.old.pieces pages (2 ^ order) start → ⊥) }
+        ensures too_many { (result ≡ Err TakeError.TooManyPieces)
+            ↔ ((start : ℕ) × IsLowestFit self.old.pieces pages (2 ^ order) start
+            × IsTooMany self.old.pieces (record { first = start; pages = pages })) }
+        ensures unchanged { OnErr result (self.new ≡ self.old) }
+    {
+        pending::put_freed(
+            &mut self.nodes,
+            &mut self.root,
+            &mut self.low,
+            &self.way,
+            &mut self.in_mind,
+        );
+        let in_mind = self.in_mind;
+        self.in_mind = InMind::Nothing;
+        let unit = 1 << order;
+        let Some(spot) = store::fit_in_mind(
+            &self.nodes,
+            self.root,
+            pages,
+            unit,
+            in_mind,
+            &mut self.way,
+        ) else {
+            return Err(TakeError::NoRange);
+        };
+        let start = spot.start;
+        if self.nodes.len() > MOST_PIECES_TO_CUT
+            && look::cuts_piece(&self.nodes, self.root, start, pages)
+        {
+            return Err(TakeError::TooManyPieces);
+        }
+        let piece = Piece {
+            first: start,
+            last: start + pages - 1,
+            state: PageState::Live,
+        };
+        self.low = store::low_behind(self.low, start, pages, unit);
+        self.root = store::store_by(&mut self.nodes, self.root, piece, &mut self.way, spot.place);
+        Ok(Page::new(start).unwrap())
+    }
+
+    /// The live piece that a page lies in.
+    pub(crate) fn live_at(&self, page: u64) -> Option<Piece>
+        ensures live { IfSome result (λ piece. IsIn piece self.now.pieces × Holds piece page × (piece.state ≡ PageState.Live)) }
+        ensures none { IfNone result (state_at self.now.pieces page ≢ Some PageState.Live) }
+    {
+        pending::live_at(&self.nodes, self.root, self.in_mind, page)
+    }
+
+    /// Whether one live piece has some pages. If so, the tree keeps in mind where it lies: what is done to it next, if nothing
+    /// is done before, need not look for it.
+    #[inline(always)]
+    pub(crate) fn hold_live(&mut self, pages: Ends) -> bool
+        ensures live { IsTrue result → IsIn (pages_as pages PageState.Live) self.old.pieces }
+        ensures unchanged { self.new ≡ self.old }
+    {
+        if let InMind::Judged(known) = self.in_mind {
+            if known.pages.first == pages.first && known.pages.last == pages.last {
+                return true;
+            }
+        }
+        pending::put_freed(
+            &mut self.nodes,
+            &mut self.root,
+            &mut self.low,
+            &self.way,
+            &mut self.in_mind,
+        );
+        self.in_mind = InMind::Nothing;
+        match store::hold_live(&self.nodes, self.root, pages, &mut self.way) {
+            Some(held) => {
+                self.in_mind = InMind::Judged(Known { pages, held });
+                true
+            }
+            None => false,
+        }
+    }
+
+    /// Makes a range of live pages one retired piece.
+    #[inline(always)]
+    pub(crate) fn retire(&mut self, range: PageRange)
+        requires { MayRetire self.old.pieces range }
+        ensures retired { Retires self.old self.new range }
+        ensures space { IsSpace self.old × IsSpace self.new }
+    {
+        let first = range.first();
+        let piece = Piece {
+            first,
+            last: first + range.pages() - 1,
+            state: PageState::Retired,
+        };
+        pending::put_freed(
+            &mut self.nodes,
+            &mut self.root,
+            &mut self.low,
+            &self.way,
+            &mut self.in_mind,
+        );
+        let in_mind = self.in_mind;
+        self.in_mind = InMind::Nothing;
+        self.root = store::retire(&mut self.nodes, self.root, piece, &self.way, in_mind);
+    }
+
+    /// Makes a range of live pages free, as `retire` and then `release` would.
+    #[inline(always)]
+    pub(crate) fn free_live(&mut self, range: PageRange)
+        requires { MayRetire self.old.pieces range }
+        ensures freed { FreesLive self.old self.new range }
+        ensures space { IsSpace self.old × IsSpace self.new }
+    {
+        let first = range.first();
+        let last = first + range.pages() - 1;
+        let pages = Ends { first, last };
+        if let InMind::Judged(known) = self.in_mind {
+            if known.pages.first == pages.first && known.pages.last == pages.last {
+                self.in_mind = InMind::Freed(known);
+                return;
+            }
+        }
+        self.retire(range);
+        self.free(range);
+    }
+
+    /// The pages of the lowest free piece, if it is to be found: a piece that came free is rather taken again.
+    #[inline(always)]
+    pub(crate) fn lowest_free(&mut self) -> Option<Ends>
+        ensures there { IfSome result (λ pages. IsIn (pages_as pages PageState.Free) self.old.pieces) }
+        ensures lowest { IfSome result (λ pages. NoneFreeBelow pages.first self.old.pieces) }
+        ensures unchanged { self.new ≡ self.old }
+    {
+        match self.in_mind {
+            InMind::Lowest(known) => Some(known.pages),
+            InMind::Freed(_) => None,
+            InMind::Nothing | InMind::Judged(_) => {
+                // The way that leads to what is in mind is written over.
+                self.in_mind = InMind::Nothing;
+                let known = store::lowest_free(&self.nodes, self.root, &mut self.way)?;
+                self.in_mind = InMind::Lowest(known);
+                Some(known.pages)
+            }
+        }
+    }
+
+    /// Puts a piece in use over free pages.
+    pub(crate) fn put(&mut self, piece: Piece)
+        requires some { piece.first ≤ piece.last }
+        requires in_use { piece.state ≢ PageState.Free }
+        requires space { IsSpace (record self.old { pieces = with_piece piece self.old.pieces }) }
+        requires narrow { piece.last < NUMBERS_END }
+        ensures is { self.new ≡ record self.old { pieces = with_piece piece self.old.pieces } }
+    {
+        pending::put_freed(
+            &mut self.nodes,
+            &mut self.root,
+            &mut self.low,
+            &self.way,
+            &mut self.in_mind,
+        );
+        self.in_mind = InMind::Nothing;
+        self.root = store::store_walked(&mut self.nodes, self.root, piece, &mut self.way);
+    }
+
+    /// Frees a range that is made of whole retired pieces, one after the other, as one release for each of them would.
+    pub(crate) fn release_run(&mut self, range: PageRange)
+        requires { IsRun (piece_of range PageState.Retired) self.old.pieces }
+        ensures freed { FreesRun self.old self.new range PageState.Retired }
+        ensures retirable { (other : Range) → MayRetire self.old.pieces other → MayRetire self.new.pieces other }
+        ensures space { IsSpace self.old × IsSpace self.new }
+    {
+        let first = range.first();
+        let last = first + range.pages() - 1;
+        pending::put_freed(
+            &mut self.nodes,
+            &mut self.root,
+            &mut self.low,
+            &self.way,
+            &mut self.in_mind,
+        );
+        self.in_mind = InMind::Nothing;
+        let whole = store::with_free_around(&self.nodes, self.root, Ends { first, last });
+        self.low = self.low.min(whole.first);
+        let piece = Piece {
+            first: whole.first,
+            last: whole.last,
+            state: PageState::Free,
+        };
+        self.root = store::store(&mut self.nodes, self.root, piece);
+    }
+
+    /// Frees a range that is one piece.
+    #[inline(always)]
+    pub(crate) fn free(&mut self, range: PageRange)
+        requires { (state : PageState) × IsIn (piece_of range state) self.old.pieces }
+        ensures freed { (state : PageState) → IsIn (piece_of range state) self.old.pieces → Frees self.old self.new range state }
+        ensures range { IsPageRange range }
+        ensures space { IsSpace self.old × IsSpace self.new }
+    {
+        let first = range.first();
+        let last = first + range.pages() - 1;
+        let pages = Ends { first, last };
+        pending::put_freed(
+            &mut self.nodes,
+            &mut self.root,
+            &mut self.low,
+            &self.way,
+            &mut self.in_mind,
+        );
+        let held = store::hold(&self.nodes, self.root, pages, &mut self.way);
+        let freed = store::free(&mut self.nodes, self.root, self.low, pages, &self.way, held);
+        self.root = freed.root;
+        self.low = freed.low;
+        self.in_mind = freed.in_mind;
+    }
+}
