@@ -1,0 +1,5 @@
+use Rattle.std.proofs.Common.{ap}
+use Rattle.vtdbits.proofs.number.PageBlock.order.Goals as goal
+
+pub returns-clause-value : goal.returns-clause-value
+returns-clause-value c = ap (λ b. b.order) c.self.view_is
