@@ -1,6 +1,6 @@
 //! A map and its unmap.
 
-ghost use Rattle.std.specs.Prelude.{◌<◌};
+ghost use Rattle.std.specs.Prelude.{◌<◌, ◌≤◌};
 ghost use Rattle.dmatypes.specs.declared.limits.TheConstants.{MOST_RECORDS};
 
 use crate::driver::{Driver, UNALIGNED_FRAME};
@@ -167,5 +167,36 @@ impl Work for Deferred {
             Flushing::InTwoHalves => self.driver.flush_in_two_halves()?,
         };
         check(released == put_off)
+    }
+}
+
+/// Maps one page into a lazy domain and unmaps it. No call flushes: the domain does by itself, at an unmap for which it has no
+/// record left.
+#[derive(Drop)]
+pub(crate) struct Unflushed {
+    driver: Driver,
+    put_off: u64,
+    ghost few: { put_off ≤ MOST_RECORDS },
+}
+
+impl Unflushed {
+    pub(crate) fn new(alloc: Global) -> Result<Unflushed, Trouble> {
+        Ok(Unflushed {
+            driver: Driver::new(alloc, Mode::Lazy)?,
+            put_off: 0,
+        })
+    }
+}
+
+impl Work for Unflushed {
+    fn once(&mut self) -> Result<(), Trouble> {
+        let mapped = self.driver.map(UNALIGNED_FRAME, 1, 0)?;
+        let released = self.driver.unmap(mapped, 1)?;
+        if self.put_off < MOST_RECORDS {
+            self.put_off += 1;
+            return check(released == 0);
+        }
+        self.put_off = 1;
+        check(released == MOST_RECORDS)
     }
 }

@@ -5,7 +5,7 @@ use crate::driver::UNALIGNED_FRAME;
 use crate::hitting::{Hits, time_hits};
 use crate::loading::time_loads;
 use crate::managing::{Way, time_manager};
-use crate::mapping::{Deferred, Flushing, Listing, Mapping, Shape, Splitting};
+use crate::mapping::{Deferred, Flushing, Listing, Mapping, Shape, Splitting, Unflushed};
 use crate::request::Request;
 use crate::reusing::{Bursts, Freed, Holes, Reusing, Sizes};
 use crate::scripting::{Lines, time_script};
@@ -36,6 +36,7 @@ enum Kind {
     Split,
     // With a flush after this number of rounds.
     MapLazily(u64, Flushing),
+    MapUnflushed,
     // Behind this number of live pieces.
     Take(u32),
     // While this number of ranges are live.
@@ -60,7 +61,7 @@ const LAST_DEVICE: u64 = DEVICES - 1;
 
 /// All that is measured, in the table's order. The maps begin at frames behind the table frames; leaves of 2 MiB
 /// come where the frame is a multiple of a span's pages.
-pub(crate) const SUBJECTS: [Subject; 55] = [
+pub(crate) const SUBJECTS: [Subject; 56] = [
     Subject {
         name: "map and unmap 1 page",
         kind: Kind::Map(Shape {
@@ -129,6 +130,10 @@ pub(crate) const SUBJECTS: [Subject; 55] = [
     Subject {
         name: "map and unmap lazily, 16 a flush",
         kind: Kind::MapLazily(16, Flushing::AtOnce),
+    },
+    Subject {
+        name: "map and unmap lazily, flushed by itself",
+        kind: Kind::MapUnflushed,
     },
     Subject {
         name: "take and release behind 16 live pieces",
@@ -386,6 +391,7 @@ impl Subject {
             Kind::MapLazily(most, flushing) => {
                 time(clock, rounds, &mut Deferred::new(alloc, most, flushing)?)
             }
+            Kind::MapUnflushed => time(clock, rounds, &mut Unflushed::new(alloc)?),
             Kind::Take(live) => time(clock, rounds, &mut Taking::new(alloc, live)?),
             Kind::Reuse(live, freed, sizes) => {
                 let mut reusing = Reusing::new(alloc, live, freed, sizes)?;
