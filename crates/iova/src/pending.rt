@@ -1,6 +1,6 @@
 //! The piece that came free and that the tree still has as live.
 
-ghost use Rattle.std.specs.Prelude.{◌≡◌, ◌≢◌, List, None, Some, ℕ, ◌+◌, ◌^◌, ◌<◌, ◌≤◌, ◌↔◌, length, IsTrue, IfSome, IfNone, true};
+ghost use Rattle.std.specs.Prelude.{◌≡◌, ◌≢◌, List, None, Some, ℕ, ◌+◌, ◌^◌, ◌<◌, ◌≤◌, ◌↔◌, length, IsTrue, IfSome, IfNone, true, false};
 ghost use Rattle.dmatypes.specs.World.{IsIn};
 ghost use Rattle.iova.specs.Pieces.{Holds, IsOrdered, NoneFreeBelow, free_start, state_at};
 ghost use Rattle.iova.specs.Space.{IsLowestFit, IsSpace};
@@ -132,31 +132,16 @@ pub(crate) fn fit_freed(
     None
 }
 
-/// One of the pages from a first to a last one that the piece has that came free, if there is one.
-fn freed_in(
-    nodes: &Slab<Node>,
-    root: Option<usize>,
-    in_mind: InMind,
-    first: u64,
-    last: u64,
-) -> Option<u64>
+/// Whether a page is one of the piece that came free.
+fn came_free(nodes: &Slab<Node>, root: Option<usize>, in_mind: InMind, page: u64) -> bool
     requires space { (last : ℕ) × IsSpace (stored last root nodes.now) }
     requires in_mind { (way : List Step) × IsInMind nodes.now root way in_mind }
-    ensures within { IfSome result (λ page. (first ≤ page) × (page ≤ last)) }
-    ensures free { IfSome result (λ page. state_at (shown in_mind (pieces_of nodes.now root)) page ≡ Some PageState.Free) }
-    ensures none { IfNone result ((page : ℕ) → first ≤ page → page ≤ last
-        → state_at (shown in_mind (pieces_of nodes.now root)) page ≡ state_at (pieces_of nodes.now root) page) }
+    ensures free { IsTrue result → state_at (shown in_mind (pieces_of nodes.now root)) page ≡ Some PageState.Free }
+    ensures other { result ≡ false → state_at (shown in_mind (pieces_of nodes.now root)) page ≡ state_at (pieces_of nodes.now root) page }
 {
     match in_mind {
-        InMind::Freed(known) => {
-            let page = first.max(known.pages.first);
-            let end = last.min(known.pages.last);
-            if page <= end {
-                return Some(page);
-            }
-            None
-        }
-        InMind::Nothing | InMind::Judged(_) | InMind::Lowest(_) => None,
+        InMind::Freed(known) => known.pages.first <= page && page <= known.pages.last,
+        InMind::Nothing | InMind::Judged(_) | InMind::Lowest(_) => false,
     }
 }
 
@@ -172,10 +157,10 @@ pub(crate) fn state_of(
     requires in_mind { (way : List Step) × IsInMind nodes.now root way in_mind }
     ensures { result ≡ state_at (shown in_mind (pieces_of nodes.now root)) page }
 {
-    match freed_in(nodes, root, in_mind, page, page) {
-        Some(_) => Some(PageState::Free),
-        None => look::state_of(nodes, root, page),
+    if came_free(nodes, root, in_mind, page) {
+        return Some(PageState::Free);
     }
+    look::state_of(nodes, root, page)
 }
 
 /// The live piece that a page lies in.
@@ -192,10 +177,10 @@ pub(crate) fn live_at(
         × (piece.state ≡ PageState.Live)) }
     ensures none { IfNone result (state_at (shown in_mind (pieces_of nodes.now root)) page ≢ Some PageState.Live) }
 {
-    match freed_in(nodes, root, in_mind, page, page) {
-        Some(_) => None,
-        None => look::live_at(nodes, root, page),
+    if came_free(nodes, root, in_mind, page) {
+        return None;
     }
+    look::live_at(nodes, root, page)
 }
 
 /// The free piece that one that came free is by now, with the free ones that it touches.

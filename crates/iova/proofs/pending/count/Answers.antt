@@ -17,8 +17,10 @@ overflow_sub-result-in-Freed c =
       c.len.ensures,
       c.requires.kept.count,
       freed_count a known.pages c.requires.space.1 k.there c.from-before.result c.from-behind.result
-          (λ h. grind (arith, nat_tests, c.from-before.ensures, e.first, h)) (λ h. grind (arith, nat_tests, c.from-before.ensures, e.first, h))
-          (λ h. grind (arith, nat_tests, c.from-behind.ensures, e.last, h)) (λ h. grind (arith, nat_tests, c.from-behind.ensures, e.last, h)),
+          (λ h. grind (arith, nat_tests, c.from-before.ensures, e.first, h)) (λ h. grind
+          (arith, nat_tests, c.from-before.ensures, e.first, h))
+          (λ h. grind (arith, nat_tests, c.from-behind.ensures, e.last, h)) (λ h. grind
+          (arith, nat_tests, c.from-behind.ensures, e.last, h)),
     )
 
 pub returns-in-Freed : goal.returns-in-Freed
@@ -33,10 +35,13 @@ returns-in-Freed c =
       c.len.ensures,
       c.requires.kept.count,
       freed_count a known.pages c.requires.space.1 k.there c.from-before.result c.from-behind.result
-          (λ h. grind (arith, nat_tests, c.from-before.ensures, e.first, h)) (λ h. grind (arith, nat_tests, c.from-before.ensures, e.first, h))
-          (λ h. grind (arith, nat_tests, c.from-behind.ensures, e.last, h)) (λ h. grind (arith, nat_tests, c.from-behind.ensures, e.last, h)),
+          (λ h. grind (arith, nat_tests, c.from-before.ensures, e.first, h)) (λ h. grind
+          (arith, nat_tests, c.from-before.ensures, e.first, h))
+          (λ h. grind (arith, nat_tests, c.from-behind.ensures, e.last, h)) (λ h. grind
+          (arith, nat_tests, c.from-behind.ensures, e.last, h)),
     ))
 
 pub returns-in-Nothing : goal.returns-in-Nothing
 returns-in-Nothing c =
-    c.len-in-Nothing.ensures ∙ c.requires.kept.count ∙ ap length (sym (unfreed c.args.in_mind c.in-Nothing.is (pieces_of c.args.nodes.now c.args.root)))
+    c.len-in-Nothing.ensures ∙ c.requires.kept.count ∙ ap length (sym (unfreed c.args.in_mind c.in-Nothing.is
+    (pieces_of c.args.nodes.now c.args.root)))
