@@ -70,7 +70,8 @@ AreJoined a b range = (range.pages ≡ a.pages + b.pages)
     × (((range.first ≡ a.first) × (a.first + a.pages ≡ b.first)) ⊎ ((range.first ≡ b.first) × (b.first + b.pages ≡ a.first)))
 
 -- the last ones of the records are released, one at least, and these are left
-pub record ReleasesLast (pool : Pool) (space : Space) (all : List Record) (pool' : Pool) (space' : Space) (rest : List Record) : Type 0 where
+pub record ReleasesLast (pool : Pool) (space : Space) (all : List Record) (pool' : Pool) (space' : Space)
+    (rest : List Record) : Type 0 where
   pub last : List Record
   pub parts : rest ++ last ≡ all
   pub some : 0 < length last

@@ -15,7 +15,8 @@ ghost use Rattle.engine.specs.Ending.{FreesEnded, Reaps, RetiresAndUnmaps, Unmap
 ghost use Rattle.engine.specs.State.{begins};
 ghost use Rattle.engine.specs.Judged.{AreMappable};
 ghost use Rattle.engine.specs.Placing.{CanPlace, IsUnplaced, Places};
-ghost use Rattle.engine.specs.Ready.{AreInvalidated, AreReleasable, CanCut, CanUnmap, IsDone, IsFreeable, IsInvalidated, IsReady, IsReleasable};
+ghost use Rattle.engine.specs.Ready.{AreInvalidated, AreReleasable, CanCut, CanUnmap, IsDone};
+ghost use Rattle.engine.specs.Ready.{IsFreeable, IsInvalidated, IsReady, IsReleasable};
 ghost use Rattle.engine.specs.Ready.{last_done};
 
 use crate::iommu::Iommu;

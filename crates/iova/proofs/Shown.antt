@@ -214,7 +214,8 @@ module _ (a : Space) (pages : Ends) (sp : IsSpace a) (i : IsIn (pages_as pages L
   within_above : AllByRecursion (λ p. p.first ≤ m.last) (rest_above pages.last m)
   within_above = elim (order m.last pages.last) [
     | inl l ↦ subst (λ ps. AllByRecursion (λ (p : Piece). p.first ≤ m.last) ps) (sym (rest_above-none pages.last m l)) tt
-    | inr l ↦ subst (λ ps. AllByRecursion (λ (p : Piece). p.first ≤ m.last) ps) (sym (rest_above-some pages.last m l)) (omega (arith, l), tt)
+    | inr l ↦ subst (λ ps. AllByRecursion (λ (p : Piece). p.first ≤ m.last) ps) (sym (rest_above-some pages.last m l))
+        (omega (arith, l), tt)
   ]
 
   pub freed_place : TakesPlace (record { first = free_start a.pieces pages.first; last = free_end a.pieces pages.last }) a.pieces
@@ -228,7 +229,8 @@ module _ (a : Space) (pages : Ends) (sp : IsSpace a) (i : IsIn (pages_as pages L
           first = q;
           rest = y;
           behind = r.1;
-          parts = was ∙ ap (λ xs. (r.0 ++ xs) ++ q ∷ (y ++ r.1)) (rest_below-none pages.first m l) ∙ ap (λ xs. xs ++ q ∷ (y ++ r.1)) (append-nil r.0)
+          parts = was ∙ ap (λ xs. (r.0 ++ xs) ++ q ∷ (y ++ r.1)) (rest_below-none pages.first m l)
+              ∙ ap (λ xs. xs ++ q ∷ (y ++ r.1)) (append-nil r.0)
               ∙ sym (append_assoc r.0 (q ∷ y) r.1);
           begins = omega (arith, l, bs.1);
           within = within_above;

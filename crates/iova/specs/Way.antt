@@ -14,7 +14,8 @@ use Rattle.iova.specs.declared.way.Place.{Place}
 use Rattle.iova.specs.declared.way.Step.{Step}
 use Rattle.iova.specs.declared.way.TheConstants.{MOST_HEIGHT}
 use Rattle.iova.specs.Pieces.{with_piece}
-use Rattle.iova.specs.Tree.{Look, Shape, Fork, items, height_of, root_of, node_of, one, uses, IsPiece, IsBalanced, ArePieces, AreNodes, IsTree}
+use Rattle.iova.specs.Tree.{Look, Shape, Fork, items, height_of, root_of, node_of}
+use Rattle.iova.specs.Tree.{one, uses, IsPiece, IsBalanced, ArePieces, AreNodes, IsTree}
 use Rattle.iova.specs.Tree.{AreParts, AreNear, IsBelow, Joins, KeepsCount, top_of}
 
 -- nothing, or a key above a place, which lies before it or behind it, with its piece and the tree on its other side

@@ -1,6 +1,7 @@
 //! Pieces that are cut off the front of the lowest free piece, before the tree shows them.
 
-ghost use Rattle.std.specs.Prelude.{◌≡◌, List, [], ◌∷◌, ◌++◌, None, Some, ℕ, ◌+◌, ◌-◌, ◌≤◌, ◌<◌, length, drop, slice_get, IfSome, IsTrue, vec_capacity};
+ghost use Rattle.std.specs.Prelude.{◌≡◌, List, [], ◌∷◌, ◌++◌, None, Some, ℕ, ◌+◌};
+ghost use Rattle.std.specs.Prelude.{◌-◌, ◌≤◌, ◌<◌, length, drop, slice_get, IfSome, IsTrue, vec_capacity};
 ghost use Rattle.iova.specs.Front.{AreCut, FollowOn, IsFront, fronted};
 ghost use Rattle.iova.specs.Search.{piece_at};
 ghost use Rattle.iova.specs.Space.{IsSpace};

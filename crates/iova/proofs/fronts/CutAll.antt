@@ -11,7 +11,8 @@ use Rattle.iova.specs.declared.beside.Ends.{Ends}
 use Rattle.iova.specs.Pieces.{Holds, IsOrdered, NoneFreeBelow, is_free, state_at, with_piece}
 use Rattle.iova.specs.Space.{Space, IsSpace}
 use Rattle.iova.proofs.Pieces.{put_past, put_under}
-use Rattle.iova.proofs.Among.{in_append_cases, in_append_left, in_append_right, in_le, in_one, in_state, is_apart, put_keeps, put_only, put_piece}
+use Rattle.iova.proofs.Among.{in_append_cases, in_append_left, in_append_right, in_le, in_one}
+use Rattle.iova.proofs.Among.{in_state, is_apart, put_keeps, put_only, put_piece}
 use Rattle.iova.proofs.Keep.{is_some, space_put}
 use Rattle.iova.proofs.Shown.{parted}
 use Rattle.iova.proofs.fronts.Cut.{cut_is, cut_length, free_piece}
@@ -257,7 +258,8 @@ module _ (a : Space) (from last : ℕ) (es : List Piece) (e : Piece) (end : ℕ)
       }
 
 -- the pieces of a front can be cut off the tree's
-pub can_cut : (a : Space) (cut : List Piece) (rest : Ends) → IsSpace a → (c : AreCut a.pieces cut rest) → CanCut a c.from rest.last cut rest.first
+pub can_cut : (a : Space) (cut : List Piece) (rest : Ends) → IsSpace a → (c : AreCut a.pieces cut rest)
+    → CanCut a c.from rest.last cut rest.first
 can_cut a cut rest sp c = record {
   space = sp;
   there = c.there;

@@ -1,5 +1,6 @@
 -- The last of the pieces that are cut is retired, or comes free, and so do all of them.
-use Rattle.std.proofs.Common.{◌≡◌, ℕ, ◌+◌, ◌-◌, ◌≤◌, List, [], ◌∷◌, ◌++◌, Option, Some, None, IfSome, IsTrue, is_some, refl, ap, sym, ◌∙◌, inl, subst, arith}
+use Rattle.std.proofs.Common.{◌≡◌, ℕ, ◌+◌, ◌-◌, ◌≤◌, List, [], ◌∷◌, ◌++◌, Option, Some}
+use Rattle.std.proofs.Common.{None, IfSome, IsTrue, is_some, refl, ap, sym, ◌∙◌, inl, subst, arith}
 use Rattle.std.proofs.Common.{length-append}
 use Rattle.dmatypes.specs.Page.{Range}
 use Rattle.dmatypes.specs.World.{IsIn}
@@ -36,7 +37,8 @@ view_space a cut None sp f = subst (λ l. IsSpace (fronted l a)) (sym f) sp
 view_space a cut (Some r) sp f = let c = can_cut a cut r sp f in cut_space a f.from r.last cut r.first c
 
 -- the pieces follow on one another
-pub follows : (a : Space) (cut : List Piece) (rest : Option Ends) → IsFront a.pieces cut rest → (from : ℕ) × (end : ℕ) × FollowOn from cut end
+pub follows : (a : Space) (cut : List Piece) (rest : Option Ends) → IsFront a.pieces cut rest → (from : ℕ) × (end : ℕ)
+    × FollowOn from cut end
 follows a cut None f = (0, 0, subst (λ l. FollowOn 0 l 0) (sym f) refl)
 follows a cut (Some r) f = (f.from, r.first, f.follow)
 
@@ -92,7 +94,8 @@ module _ (a : Space) (sp : IsSpace a) (before : List Piece) (pages : Ends) (st :
   -- the piece with these pages is the last one
   pub last_is : (s : PageState) → IsIn (piece_of range s) view.pieces → s ≡ st
   last_is s i =
-      let w : piece_of range s ≡ piece_of range st = in_one 1 (piece_of range s) (piece_of range st) view.pieces range.first viewed.ordered i
+      let w : piece_of range s ≡ piece_of range st = in_one 1 (piece_of range s) (piece_of range st) view.pieces range.first
+      viewed.ordered i
       last_there (omega arith, omega (arith, some)) (omega arith, omega (arith, some)) in
       ap (λ (p : Piece). p.state) w
 
@@ -172,7 +175,8 @@ module _ (a : Space) (sp : IsSpace a) (before : List Piece) (pages : Ends) (st :
       }
 
 -- all that are cut, where the pages go from the first of the first to the last of the last
-pub whole_cut : (a : Space) (cut now : List Piece) (rest : Option Ends) (pages : Ends) (range : Range) → IsFront a.pieces cut rest → now ≡ cut
+pub whole_cut : (a : Space) (cut now : List Piece) (rest : Option Ends) (pages : Ends) (range : Range) → IsFront a.pieces cut rest
+    → now ≡ cut
     → pages.first ≡ range.first → pages.last ≡ range.first + range.pages - 1 → 1 ≤ range.pages
     → (first : Piece) × (behind : List Piece) × (before : List Piece) × (last : Piece) × (now ≡ first ∷ behind)
     × (now ≡ before ++ last ∷ []) × (first.first ≡ pages.first) × (last.last ≡ pages.last)
@@ -185,7 +189,8 @@ whole_cut a cut now rest pages range f e first last some w =
     (l.0, l.1, g, omega (arith, begins.0, w.6, first), omega (arith, ends, w.7, last, some))
 
 -- all of them come free
-module _ (a : Space) (sp : IsSpace a) (cut : List Piece) (r : Ends) (f : AreCut a.pieces cut r) (range : Range) (begins : range.first ≡ f.from)
+module _ (a : Space) (sp : IsSpace a) (cut : List Piece) (r : Ends) (f : AreCut a.pieces cut r) (range : Range)
+    (begins : range.first ≡ f.from)
     (ends : range.first + range.pages ≡ r.first) (some : 1 ≤ range.pages) where
   pub all_freed : IsRun (piece_of range Retired) (fronted cut a).pieces → FreesRun (fronted cut a) a range Retired
   all_freed run =

@@ -1,5 +1,6 @@
 -- The first of the pieces that are cut are a run of retired pages, which comes free: as if they were one piece.
-use Rattle.std.proofs.Common.{◌≡◌, ℕ, zero, suc, ◌+◌, ◌-◌, ◌<◌, ◌≤◌, List, [], ◌∷◌, ◌++◌, drop, length, take, Option, Some, None, slice_get, refl, ap, sym}
+use Rattle.std.proofs.Common.{◌≡◌, ℕ, zero, suc, ◌+◌, ◌-◌, ◌<◌, ◌≤◌, List, [], ◌∷◌}
+use Rattle.std.proofs.Common.{◌++◌, drop, length, take, Option, Some, None, slice_get, refl, ap, sym}
 use Rattle.std.proofs.Common.{◌∙◌, inl, inr, subst, arith}
 use Rattle.std.proofs.lemmas.List.{take-append-drop}
 use Rattle.dmatypes.specs.Page.{Range}
@@ -117,7 +118,8 @@ module _ (a : Space) (from mid last end : ℕ) (ys : List Piece) (g : FollowOn m
 
   states : (xs zs : List Piece) → HasRun xs → HasRun zs → (page : ℕ) → state_at (freed xs).pieces page ≡ state_at (freed zs).pieces page
   states xs zs h k page = elim (order from page) [
-    | inr l ↦ (comes xs h).states.outside page (λ w. omega (arith, w.0, l, begins)) ∙ cut_outside a from last (xs ++ ys) end h.can page (inl l)
+    | inr l ↦ (comes xs h).states.outside page (λ w. omega (arith, w.0, l, begins))
+        ∙ cut_outside a from last (xs ++ ys) end h.can page (inl l)
         ∙ sym (cut_outside a from last (zs ++ ys) end k.can page (inl l))
         ∙ sym ((comes zs k).states.outside page (λ w. omega (arith, w.0, l, begins)))
     | inl l ↦ elim (order mid page) [
@@ -130,7 +132,8 @@ module _ (a : Space) (from mid last end : ℕ) (ys : List Piece) (g : FollowOn m
     where
       past : (page : ℕ) → mid ≤ page → state_at (with_pieces (xs ++ ys) a.pieces) page ≡ state_at (with_pieces (zs ++ ys) a.pieces) page
       past page x = elim (order end page) [
-        | inl y ↦ cut_outside a from last (xs ++ ys) end h.can page (inr y) ∙ sym (cut_outside a from last (zs ++ ys) end k.can page (inr y))
+        | inl y ↦ cut_outside a from last (xs ++ ys) end h.can page (inr y) ∙ sym
+            (cut_outside a from last (zs ++ ys) end k.can page (inr y))
         | inr y ↦
             let w = some_follow mid ys end page g x y in
             let z : (q : Piece) × IsIn q ys × (q.first ≤ page) × (page ≤ q.last) = (w.0, w.1, w.2.0, w.2.1) in
@@ -179,7 +182,8 @@ first_run a cut now rest pages (suc n) sp f e some p q =
       joined = joined a cut l.0 sp l.2 pages n p.0 q.0 first p.2 last q.2;
       begins = b;
       again = b;
-      run = subst (λ k. FollowOn pages.first (take (suc n) cut) (k + 1)) q.2 (subst (λ k. FollowOn k (take (suc n) cut) (q.0.last + 1)) b d.0);
+      run = subst (λ k. FollowOn pages.first (take (suc n) cut) (k + 1)) q.2 (subst
+          (λ k. FollowOn k (take (suc n) cut) (q.0.last + 1)) b d.0);
       behind = subst (λ k. FollowOn (k + 1) (drop (suc n) cut) l.0.first) q.2 d.1;
       some = wide a cut l.0 sp l.2 pages n p.0 q.0 first p.2 last q.2;
     }
@@ -210,7 +214,8 @@ module _ (a : Space) (sp : IsSpace a) (cut : List Piece) (rest : Option Ends) (p
     mid_is : range.first + range.pages ≡ pages.last + 1
     mid_is = omega (arith, last, some)
 
-    was : HasRun a pages.first (pages.last + 1) k.left.last k.left.first kept k.behind range Retired (sym first) mid_is some (take count cut)
+    was : HasRun a pages.first (pages.last + 1) k.left.last k.left.first kept k.behind range Retired (sym first) mid_is some
+        (take count cut)
     was = record {
       can = subst (λ l. CanCut a pages.first k.left.last l k.left.first) (sym whole) can;
       follow = k.run;

@@ -323,7 +323,8 @@ module _ (old : Slab Node) (root : Option ℕ) (p : Piece) (way : List Step) (he
           here = here;
           can = can;
           longest = own-was old at_key n p q.t q.from q.below f i;
-          done = λ new y z. up-done old root p way (Some at_key) (held.depth - 1) t from w q next (Some at_key) _ put top reads refl new root y z;
+          done = λ new y z. up-done old root p way (Some at_key) (held.depth - 1) t from w q next (Some at_key) _ put top reads refl new
+              root y z;
           leads = λ new kept. lifted-held next new root way (held.depth - 1) top q.path q.t at_key p
               (small old at_key n p q.t q.from q.below f i b two behind held.key h.node e h.here c mid x s d next now right u c' rr l)
               (own old at_key n p q.t q.from q.below f i b two behind held.key h.node e h.here c).r can i kept

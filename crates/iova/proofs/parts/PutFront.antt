@@ -130,7 +130,11 @@ module _ (old : Slab Node) (key : ℕ) (n : Node) (p : Piece) (t : Shape) (from 
     tree : IsTree (get next) (top_of fork) fork
     tree = record {
       is = refl;
-      nodes = ((u n (front-there mid child leaf)).changed ∙ ap (λ (x : Node). Some x) node_is, stands.parts.before.nodes, stands.parts.behind.nodes);
+      nodes = (
+        (u n (front-there mid child leaf)).changed ∙ ap (λ (x : Node). Some x) node_is,
+        stands.parts.before.nodes,
+        stands.parts.behind.nodes,
+      );
       balanced = (omega (arith, one.0), omega (arith, behind_high), stands.parts.before.balanced, stands.parts.behind.balanced);
       pieces = (front-rest old (Some key) key n p t from w refl f i a b, stands.parts.before.pieces, stands.parts.behind.pieces);
     }
@@ -178,7 +182,8 @@ pub record PutsFront (old mid : Slab Node) (root : Option ℕ) (p : Piece) (way 
   pub done : (new : Slab Node) → Mends (get mid) (get new) root path there here → KeepsCount mid new
       → Leaves old new root t (with_piece p (items t)) 1
 
-module _ (old : Slab Node) (root : Option ℕ) (p : Piece) (way : List Step) (held : Held) (t : Shape) (from : ℕ) (can : CanWalk (get old) root)
+module _ (old : Slab Node) (root : Option ℕ) (p : Piece) (way : List Step) (held : Held) (t : Shape) (from : ℕ)
+    (can : CanWalk (get old) root)
     (below : IsBelow (get old) root t from) (leads : LeadsTo (get old) root p way (record { at = Some held.key; depth = held.depth }))
     (n : Node) (f : get old held.key ≡ Some n) (i : IsPiece p) (same : Node) (g : get old held.key ≡ Some same)
     (first : p.first ≡ same.piece.first) (last : p.last < same.piece.last) (alone : same.left ≡ None) (high : 1 < same.height) where
@@ -236,5 +241,6 @@ module _ (old : Slab Node) (root : Option ℕ) (p : Piece) (way : List Step) (he
               (read_of (get old) (Some held.key) (top_of q.t) q.t q.below.here q.below.whole.tree.nodes refl) refl
               (high_is old held.key n p q.t q.from q.below f i a b none tall_enough);
           longest = front-was old held.key n p q.t q.from q.below f i a b none tall_enough;
-          done = λ new m d. up-done old root p way (Some held.key) held.depth t from w q next (Some held.key) _ put top reads refl new root m d;
+          done = λ new m d. up-done old root p way (Some held.key) held.depth t from w q next (Some held.key) _ put top reads refl new
+              root m d;
         }

@@ -17,7 +17,8 @@ use Rattle.iova.proofs.shapes.Held.{known, unused}
 use Rattle.iova.proofs.shapes.Ways.{plug-uses, plug-items, same_above}
 
 -- all trees below a root are as low
-pub lows : (look : Look) (root : Option ℕ) (t : Shape) (from : ℕ) → CanWalk look root → IsBelow look root t from → IsLowBelow look root t from
+pub lows : (look : Look) (root : Option ℕ) (t : Shape) (from : ℕ) → CanWalk look root → IsBelow look root t from
+    → IsLowBelow look root t from
 lows look root t from c w =
     let a = search_height look root c.0 c.1 c.2.below in
     let b = search_height look root t from w in
@@ -28,7 +29,13 @@ among-length Whole ps qs = omega arith
 among-length (Before key p r up) ps qs =
     omega (arith, among-length up (ps ++ p ∷ items r) (qs ++ p ∷ items r), length-append ps (p ∷ items r), length-append qs (p ∷ items r))
 among-length (Behind key p l up) ps qs =
-    omega (arith, among-length up (items l ++ p ∷ ps) (items l ++ p ∷ qs), length-append (items l) (p ∷ ps), length-append (items l) (p ∷ qs))
+    omega (
+      arith,
+      among-length up (items l ++ p ∷ ps) (items l ++ p ∷ qs),
+      length-append (items l) (p ∷ ps),
+      length-append (items l)
+          (p ∷ qs),
+    )
 
 module _ (old : Slab Node) (root : Option ℕ) (p : Piece) (way : List Step) (at : Option ℕ) (depth : ℕ) (t : Shape) (from : ℕ)
     (w : IsLowBelow (get old) root t from) (q : IsPlace (get old) t p way at depth) where
@@ -75,7 +82,8 @@ module _ (old : Slab Node) (root : Option ℕ) (p : Piece) (way : List Step) (at
       pub up-can : CanMend (get mid) way depth root top q.path q.t m.makes.shape
       up-can = record {
         steps = q.steps;
-        above = same_above (get old) (get mid) q.path q.t q.above (λ k g. (m.makes.apart k (omega (arith, whole_uses k, w.below.whole.once k))
+        above = same_above (get old) (get mid) q.path q.t q.above (λ k g. (m.makes.apart k
+            (omega (arith, whole_uses k, w.below.whole.once k))
             (has_node (get old) t k w.below.whole.tree.nodes (omega (arith, whole_uses k)))).0);
         fine = q.fine;
         here = w.below.here ∙ ap root_of q.is;

@@ -13,7 +13,8 @@ use Rattle.iova.proofs.searches.Descent.{in_here, ordered_at, with_at}
 use Rattle.iova.proofs.shapes.Linked.{lifted_is, plug_nodes, plug_fine}
 use Rattle.iova.proofs.shapes.Ways.{plug-high, plug-uses}
 
-module _ (new : Slab Node) (root : Option ℕ) (way : List Step) (depth : ℕ) (path : Above) (key : ℕ) (p : Piece) (l r : Shape) (i : IsPiece p)
+module _ (new : Slab Node) (root : Option ℕ) (way : List Step) (depth : ℕ) (path : Above) (key : ℕ) (p : Piece) (l r : Shape)
+    (i : IsPiece p)
     (steps : AreSteps way depth path) where
   -- it leads to the place of each piece of the pages that the one there has
   pub still_place : (s : Shape) (start : ℕ) → s ≡ plug path (Fork key p l r) → IsLowBelow (get new) root s start → (q : Piece)

@@ -164,7 +164,13 @@ module _ (nodes : Slab Node) (root : Option ℕ) (way : List Step) (at : Option 
             whole.whole.tree.pieces.1,
             subst (λ x. AreFine q.path x) o.is q.fine,
           );
-          steps = (depth, refl, get_or-set_same way depth _ _ (omega (arith, i.long)), steps_kept way _ depth depth q.path q.steps (omega arith));
+          steps = (
+            depth,
+            refl,
+            get_or-set_same way depth _ _ (omega (arith, i.long)),
+            steps_kept way _ depth depth q.path q.steps
+                (omega arith),
+          );
         };
     long = length-set way depth _ ∙ i.long;
   }
@@ -190,7 +196,13 @@ module _ (nodes : Slab Node) (root : Option ℕ) (way : List Step) (at : Option 
             whole.whole.tree.pieces.2,
             subst (λ x. AreFine q.path x) o.is q.fine,
           );
-          steps = (depth, refl, get_or-set_same way depth _ _ (omega (arith, i.long)), steps_kept way _ depth depth q.path q.steps (omega arith));
+          steps = (
+            depth,
+            refl,
+            get_or-set_same way depth _ _ (omega (arith, i.long)),
+            steps_kept way _ depth depth q.path q.steps
+                (omega arith),
+          );
         };
     long = length-set way depth _ ∙ i.long;
   }

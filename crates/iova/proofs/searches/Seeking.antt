@@ -65,7 +65,8 @@ pick_before from (x ∷ xs) q ys p o h m = elim m [
 ]
 
 module _ (nodes : Slab Node) (root : Option ℕ) (first : ℕ) (way : List Step) (at : Option ℕ) (depth key : ℕ) (n : Node)
-    (i : IsSeeking (get nodes) root first way at depth) (can : CanWalk (get nodes) root) (e : at ≡ Some key) (f : get nodes key ≡ Some n) where
+    (i : IsSeeking (get nodes) root first way at depth) (can : CanWalk (get nodes) root) (e : at ≡ Some key)
+    (f : get nodes key ≡ Some n) where
   module _ (t : Shape) (from : ℕ) (w : IsBelow (get nodes) root t from) where
     abbrev x : Shape
     x = (i.down.place t from (lows (get nodes) root t from can w)).t

@@ -12,7 +12,8 @@ use Rattle.iova.specs.Grow.{CanClimb, CanGrow}
 use Rattle.iova.proofs.shapes.Lifted.{same_top, whole_root}
 use Rattle.iova.proofs.shapes.Longest.{as_long}
 use Rattle.iova.proofs.shapes.Trees.{is_there}
-use Rattle.iova.proofs.shapes.Ways.{Mending, mending_start, mending_end, mending-before, mending-behind, before-written, behind-written, steps_few}
+use Rattle.iova.proofs.shapes.Ways.{Mending, mending_start, mending_end, mending-before}
+use Rattle.iova.proofs.shapes.Ways.{mending-behind, before-written, behind-written, steps_few}
 use Rattle.iova.proofs.shapes.Ways.{LastBefore, LastBehind, last, can, j, last-b, can-b, j-b}
 use Rattle.iova.proofs.shapes.Ways.{mending-few, mending-stops_before, mending-stops_behind}
 
@@ -82,7 +83,8 @@ module _ (old now : Slab Node) (way : List Step) (depth : ℕ) (root : Option �
     abbrev node : Node
     node = node_of la.piece g.m.there la.right
 
-    hangs-before : (next : Slab Node) (height : ℕ) (same : Bool) → Updates now next key (Some (record node { left = top.root; height = height }))
+    hangs-before : (next : Slab Node) (height : ℕ) (same : Bool) → Updates now next key
+        (Some (record node { left = top.root; height = height }))
         → Fits height top.height (height_of la.right) → (same ≡ true → height ≡ node.height)
         → IsHungBefore (get now) (get next) key top
         (record { top = record { root = Some key; height = height; longest = node.longest }; same = same })
@@ -217,7 +219,12 @@ module _ (old now : Slab Node) (way : List Step) (depth : ℕ) (root : Option �
       left = λ e. absurd (cc);
       right = λ e. refl;
       was = record { is = omega arith; low = (ca-b b).fine.1.1; high = (ca-b b).fine.1.0 };
-      few = omega (arith, (ca-b b).low, steps_few way (depth - 1) (la-b b).more (Fork key (la-b b).piece (la-b b).left g.m.there) (la-b b).steps);
+      few = omega (
+        arith,
+        (ca-b b).low,
+        steps_few way (depth - 1) (la-b b).more (Fork key (la-b b).piece (la-b b).left g.m.there)
+            (la-b b).steps,
+      );
       goes = goes-behind b;
       ends = ends-behind b;
       turns = λ next turned on off c. turns-behind b next turned (off b) c;
@@ -276,7 +283,8 @@ abbrev pub IsRising : Slab Node → Slab Node → List Step → ℕ → Option �
 IsRising old now way steps root end depth top = (path : Above) (t new : Shape) → CanClimb (get old) way steps root end path t new
     → Rises old now way depth root top path t new
 
-pub rising_start : (old : Slab Node) (way : List Step) (steps : ℕ) (root : Option ℕ) (end : Top) → IsRising old old way steps root end steps end
+pub rising_start : (old : Slab Node) (way : List Step) (steps : ℕ) (root : Option ℕ) (end : Top)
+    → IsRising old old way steps root end steps end
 unfolding mending_start
 rising_start old way steps root end path t new can = record {
   g = record { m = mending_start old way steps root end path t new can.can; long = can.same_longest };

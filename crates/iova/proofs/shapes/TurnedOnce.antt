@@ -108,15 +108,26 @@ module _ (old mid new : Slab Node) (key top : ℕ) (found above : Node) (tree le
     level = omega (arith, higher, lower, h.open.near)
 
     abbrev low : Top
-    low = record { root = Some key; height = (joint found.piece left (top_of h.a)).height; longest = (joint found.piece left (top_of h.a)).longest }
+    low = record {
+      root = Some key;
+      height = (joint found.piece left (top_of h.a)).height;
+      longest = (joint found.piece left (top_of h.a)).longest;
+    }
 
     low_node : record found { right = inner.root; height = tree.height - 1; longest = low_long } ≡ joint found.piece left (top_of h.a)
     low_node =
         let e : tree.height - 1 ≡ 1 + max left.height (height_of h.a) = omega (arith, taller, level, left_high) in
         ap (λ x. record { piece = found.piece; left = x; right = inner.root; height = tree.height - 1; longest = low_long }) left_at
-        ∙ ap (λ (x : Top). record { piece = found.piece; left = left.root; right = x.root; height = tree.height - 1; longest = low_long }) inner_top
+        ∙ ap (λ (x : Top). record { piece = found.piece; left = left.root; right = x.root; height = tree.height - 1; longest = low_long })
+        inner_top
         ∙ ap (λ x. record { piece = found.piece; left = left.root; right = root_of h.a; height = x; longest = low_long }) e
-        ∙ ap (λ x. record { piece = found.piece; left = left.root; right = root_of h.a; height = 1 + max left.height (height_of h.a); longest = x })
+        ∙ ap (λ x. record {
+          piece = found.piece;
+          left = left.root;
+          right = root_of h.a;
+          height = 1 + max left.height (height_of h.a);
+          longest = x;
+        })
         (low_is ∙ ap (λ (x : Top). (joint found.piece left x).longest) inner_top)
 
     first : Links (get old) (get mid) low key found.piece l h.a
@@ -131,23 +142,32 @@ module _ (old mid new : Slab Node) (key top : ℕ) (found above : Node) (tree le
         let was : above.height ≡ 1 + max (height_of h.a) (height_of h.b) = ap (λ (n : Node). n.height) h.node in
         let is : above.height ≡ 1 + max low.height (height_of h.b) = omega (arith, was, level, left_high, lower, h.open.near) in
         let long : all ≡ max (free_pages above.piece) (max low.longest (longest_of h.b)) =
-        whole_long (free_pages found.piece) (free_pages above.piece) left.longest (longest_of h.a) (longest_of h.b) low.longest tree.longest all
+        whole_long (free_pages found.piece) (free_pages above.piece) left.longest (longest_of h.a) (longest_of h.b) low.longest
+        tree.longest all
         (ap (λ (x : Top). x.longest) tree_is) refl (all_is ∙ ap (λ x. max tree.longest x) (ap (λ (n : Node). n.longest) low_node)) in
         ap (λ x. record { piece = above.piece; left = Some key; right = x; height = above.height; longest = all }) right_at
         ∙ ap (λ x. record { piece = above.piece; left = Some key; right = root_of h.b; height = x; longest = all }) is
-        ∙ ap (λ x. record { piece = above.piece; left = Some key; right = root_of h.b; height = 1 + max low.height (height_of h.b); longest = x })
+        ∙ ap (λ x. record {
+          piece = above.piece;
+          left = Some key;
+          right = root_of h.b;
+          height = 1 + max low.height (height_of h.b);
+          longest = x;
+        })
         long
 
     second : Links (get mid) (get new) whole top above.piece (Fork key found.piece l h.a) h.b
     second =
-        let o = once-second (get old) left tree key top found.piece node l h.a h.b parts higher h.open (omega (arith, lower)) (get mid) low first in
+        let o = once-second (get old) left tree key top found.piece node l h.a h.b parts higher h.open (omega (arith, lower)) (get mid)
+        low first in
         linked mid new low (top_of h.b) top above.piece (Fork key found.piece l h.a) h.b o.0 h.open.piece o.1
         (subst (λ (n : Node). Updates mid new top (Some n)) top_node v) whole root
         (tree_high ∙ omega (arith, level, left_high, lower, h.open.near)) (ap (λ (n : Node). n.longest) top_node)
 
     joins : Joins (get old) (get new) whole key found.piece l r
     joins = subst (λ x. Joins (get old) (get new) whole key found.piece l x) (sym h.is)
-        (once-third (get old) left tree key top found.piece node l h.a h.b parts higher h.open (omega (arith, lower)) (get mid) (get new) low
+        (once-third (get old) left tree key top found.piece node l h.a h.b parts higher h.open (omega (arith, lower)) (get mid)
+        (get new) low
         whole first second)
 
   pub turned_once : JoinsBehind (get old) (get new) key tree whole

@@ -68,7 +68,8 @@ module _ (old one two new : Slab Node) (key top middle : ℕ) (found below inner
   abbrev whole : Top
   whole = record { root = Some middle; height = tree.height; longest = all }
 
-  module _ (l r : Shape) (a : AreParts (get old) tree key right l r) (right_at : found.right ≡ right.root) (piece : IsPiece found.piece) where
+  module _ (l r : Shape) (a : AreParts (get old) tree key right l r) (right_at : found.right ≡ right.root)
+      (piece : IsPiece found.piece) where
     abbrev q : HasForks (get old) top middle below inner l
     q = has_forks (get old) tree key right top middle below inner l r a root t middle_is m
 
@@ -115,10 +116,18 @@ module _ (old one two new : Slab Node) (key top middle : ℕ) (found below inner
     level = (omega (arith, high, lower, o.near, right_high), omega (arith, high, lower, o.near, right_high))
 
     abbrev low : Top
-    low = record { root = Some key; height = (joint found.piece (top_of lrr) right).height; longest = (joint found.piece (top_of lrr) right).longest }
+    low = record {
+      root = Some key;
+      height = (joint found.piece (top_of lrr) right).height;
+      longest = (joint found.piece (top_of lrr) right).longest;
+    }
 
     abbrev up : Top
-    up = record { root = Some top; height = (joint below.piece (top_of ll) (top_of lrl)).height; longest = (joint below.piece (top_of ll) (top_of lrl)).longest }
+    up = record {
+      root = Some top;
+      height = (joint below.piece (top_of ll) (top_of lrl)).height;
+      longest = (joint below.piece (top_of ll) (top_of lrl)).longest;
+    }
 
     low_node : record found { left = inner.right; height = right.height + 1; longest = low_long } ≡ joint found.piece (top_of lrr) right
     low_node =
@@ -128,16 +137,24 @@ module _ (old one two new : Slab Node) (key top middle : ℕ) (found below inner
         ap (λ v. record { piece = found.piece; left = inner.right; right = v; height = right.height + 1; longest = low_long }) right_at
         ∙ ap (λ v. record { piece = found.piece; left = v; right = right.root; height = right.height + 1; longest = low_long }) at
         ∙ ap (λ v. record { piece = found.piece; left = root_of lrr; right = right.root; height = v; longest = low_long }) tall
-        ∙ ap (λ v. record { piece = found.piece; left = root_of lrr; right = right.root; height = 1 + max (height_of lrr) right.height; longest = v })
+        ∙ ap (λ v. record {
+          piece = found.piece;
+          left = root_of lrr;
+          right = right.root;
+          height = 1 + max (height_of lrr) right.height;
+          longest = v;
+        })
         long
 
     first : Links (get old) (get one) low key found.piece lrr r
     first =
         let s = twice-first (get old) right tree key top middle found.piece node within r lrr lrl ll parts high o q.k.open lower in
-        linked old one (top_of lrr) right key found.piece lrr r s.0 piece s.1 (subst (λ (n : Node). Updates old one key (Some n)) low_node u)
+        linked old one (top_of lrr) right key found.piece lrr r s.0 piece s.1 (subst (λ (n : Node). Updates old one key (Some n))
+        low_node u)
         low refl refl refl
 
-    up_node : record below { right = inner.left; height = right.height + 1; longest = high_long } ≡ joint below.piece (top_of ll) (top_of lrl)
+    up_node : record below { right = inner.left; height = right.height + 1; longest = high_long } ≡ joint below.piece (top_of ll)
+        (top_of lrl)
     up_node =
         let left_at : below.left ≡ root_of ll = ap (λ (n : Node). n.left) q.h.node in
         let at : inner.left ≡ root_of lrl = ap (λ (n : Node). n.left) q.k.node in
@@ -170,7 +187,13 @@ module _ (old one two new : Slab Node) (key top middle : ℕ) (found below inner
         (longest_of lrl) right.longest tree.longest low.longest up.longest all (ap (λ (v : Top). v.longest) parts.before.is) refl refl
         (all_is ∙ ap (λ v. max tree.longest v) (ap (λ (n : Node). n.longest) low_node)) in
         ap (λ v. record { piece = inner.piece; left = Some top; right = Some key; height = v; longest = all }) tall
-        ∙ ap (λ v. record { piece = inner.piece; left = Some top; right = Some key; height = 1 + max up.height low.height; longest = v }) long
+        ∙ ap (λ v. record {
+          piece = inner.piece;
+          left = Some top;
+          right = Some key;
+          height = 1 + max up.height low.height;
+          longest = v;
+        }) long
 
     third : Links (get two) (get new) whole middle inner.piece (Fork top below.piece ll lrl) (Fork key found.piece lrr r)
     third =
@@ -183,7 +206,8 @@ module _ (old one two new : Slab Node) (key top middle : ℕ) (found below inner
     joins : Joins (get old) (get new) whole key found.piece l r
     joins = subst (λ s. Joins (get old) (get new) whole key found.piece s r)
         (sym (shape_is (get old) tree right key top middle below inner l r a q))
-        (twice-fourth (get old) right tree key top middle found.piece node within r lrr lrl ll parts high o q.k.open lower (get one) (get two)
+        (twice-fourth (get old) right tree key top middle found.piece node within r lrr lrl ll parts high o q.k.open lower (get one)
+        (get two)
         (get new) low up whole first second third)
 
   pub turned_twice : JoinsBefore (get old) (get new) key tree whole

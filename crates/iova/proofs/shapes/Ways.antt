@@ -18,14 +18,16 @@ use Rattle.iova.proofs.shapes.Joined.{link_joins}
 -- ---- a tree hung below a key
 
 -- what is read on the other side is what is there
-pub read_right : (look : Look) (key : ℕ) (found node : Node) (left right a : Top) (l r : Shape) → look key ≡ Some found → look key ≡ Some node
+pub read_right : (look : Look) (key : ℕ) (found node : Node) (left right a : Top) (l r : Shape) → look key ≡ Some found
+    → look key ≡ Some node
     → right.root ≡ node.right → AreParts look left key right l r → IsRead look found.right a → AreParts look left key a l r
 read_right look key found node left right a l r f e i parts p =
     let same : node ≡ found = cc in
     let fr : found.right ≡ root_of r = sym (ap (λ (n : Node). n.right) same) ∙ sym i ∙ ap (λ (v : Top). v.root) parts.behind.is in
     subst (λ x. AreParts look left key x l r) (parts.behind.is ∙ sym (p r fr parts.behind.nodes)) parts
 
-pub read_left : (look : Look) (key : ℕ) (found node : Node) (left right a : Top) (l r : Shape) → look key ≡ Some found → look key ≡ Some node
+pub read_left : (look : Look) (key : ℕ) (found node : Node) (left right a : Top) (l r : Shape) → look key ≡ Some found
+    → look key ≡ Some node
     → left.root ≡ node.left → AreParts look left key right l r → IsRead look found.left a → AreParts look a key right l r
 read_left look key found node left right a l r f e i parts p =
     let same : node ≡ found = cc in
@@ -51,7 +53,10 @@ pub before-written : (old new : Slab Node) (key : ℕ) (found : Node) (left a : 
     → height ≡ (joint found.piece left a).height → longest ≡ (joint found.piece left a).longest
     → left.height ≤ a.height + 1 → a.height ≤ left.height + 1
     → (same ≡ true → (height ≡ found.height) × (longest ≡ found.longest))
-    → IsHungBefore (get old) (get new) key left (record { top = record { root = Some key; height = height; longest = longest }; same = same })
+    → IsHungBefore (get old) (get new) key left (record {
+      top = record { root = Some key; height = height; longest = longest };
+      same = same;
+    })
 before-written old new key found left a height longest same f p u hj lj lo hi shows node right l r e i parts piece =
     let own = read_right (get old) key found node left right a l r f e i parts p in
     let q = same_piece (get old) key found node f e in
@@ -61,7 +66,13 @@ before-written old new key found left a height longest same f p u hj lj lo hi sh
     let is : record found { left = left.root; height = height; longest = longest } ≡ joint found.piece left a =
     ap (λ x. record { piece = found.piece; left = left.root; right = x; height = height; longest = longest }) fr
     ∙ ap (λ x. record { piece = found.piece; left = left.root; right = a.root; height = x; longest = longest }) hj
-    ∙ ap (λ x. record { piece = found.piece; left = left.root; right = a.root; height = (joint found.piece left a).height; longest = x }) lj in
+    ∙ ap (λ x. record {
+      piece = found.piece;
+      left = left.root;
+      right = a.root;
+      height = (joint found.piece left a).height;
+      longest = x;
+    }) lj in
     let hl = root_height (get old) left l own.before in
     let hr = root_height (get old) a r own.behind in
     let near : AreNear l r = (omega arith, omega arith) in
@@ -78,7 +89,10 @@ pub behind-written : (old new : Slab Node) (key : ℕ) (found : Node) (right a :
     → height ≡ (joint found.piece a right).height → longest ≡ (joint found.piece a right).longest
     → a.height ≤ right.height + 1 → right.height ≤ a.height + 1
     → (same ≡ true → (height ≡ found.height) × (longest ≡ found.longest))
-    → IsHungBehind (get old) (get new) key right (record { top = record { root = Some key; height = height; longest = longest }; same = same })
+    → IsHungBehind (get old) (get new) key right (record {
+      top = record { root = Some key; height = height; longest = longest };
+      same = same;
+    })
 behind-written old new key found right a height longest same f p u hj lj lo hi shows node left l r e i parts piece =
     let own = read_left (get old) key found node left right a l r f e i parts p in
     let q = same_piece (get old) key found node f e in
@@ -88,7 +102,13 @@ behind-written old new key found right a height longest same f p u hj lj lo hi s
     let is : record found { right = right.root; height = height; longest = longest } ≡ joint found.piece a right =
     ap (λ x. record { piece = found.piece; left = x; right = right.root; height = height; longest = longest }) fl
     ∙ ap (λ x. record { piece = found.piece; left = a.root; right = right.root; height = x; longest = longest }) hj
-    ∙ ap (λ x. record { piece = found.piece; left = a.root; right = right.root; height = (joint found.piece a right).height; longest = x }) lj in
+    ∙ ap (λ x. record {
+      piece = found.piece;
+      left = a.root;
+      right = right.root;
+      height = (joint found.piece a right).height;
+      longest = x;
+    }) lj in
     let hl = root_height (get old) a l own.before in
     let hr = root_height (get old) right r own.behind in
     let near : AreNear l r = (omega arith, omega arith) in
@@ -175,7 +195,8 @@ stops look (Behind key p l up) old new a f i e =
 -- ---- up
 
 -- so far: what lies at a place further up, and what becomes of the whole
-pub record Mending (old now : Slab Node) (way : List Step) (depth : ℕ) (root : Option ℕ) (top : Top) (path : Above) (t new : Shape) : Type 0 where
+pub record Mending (old now : Slab Node) (way : List Step) (depth : ℕ) (root : Option ℕ) (top : Top) (path : Above)
+    (t new : Shape) : Type 0 where
   pub up : Above
   pub there : Shape
   pub here : Shape
@@ -188,7 +209,8 @@ abbrev pub IsMending : Slab Node → Slab Node → List Step → ℕ → Option 
 IsMending old now way steps root end depth top = (path : Above) (t new : Shape) → CanMend (get old) way steps root end path t new
     → Mending old now way depth root top path t new
 
-unfoldable pub mending_start : (old : Slab Node) (way : List Step) (steps : ℕ) (root : Option ℕ) (end : Top) → IsMending old old way steps root end steps end
+unfoldable pub mending_start : (old : Slab Node) (way : List Step) (steps : ℕ) (root : Option ℕ) (end : Top)
+    → IsMending old old way steps root end steps end
 mending_start old way steps root end path t new can = record {
   up = path;
   there = t;
@@ -308,7 +330,8 @@ module _ (old now : Slab Node) (way : List Step) (depth : ℕ) (root : Option �
       here = is_there _ _ can.above.0;
       once = λ k. omega (arith, can.once k);
       low =
-          (let h = plug-high last.more (Fork (step_at way (depth - 1)).key last.piece m.there last.right) in (omega (arith, can.low, can.more), omega (arith, can.low)));
+          (let h = plug-high last.more (Fork (step_at way (depth - 1)).key last.piece m.there last.right) in
+          (omega (arith, can.low, can.more), omega (arith, can.low)));
     }
 
     pub mending-can_before : CanHangBefore (get now) (step_at way (depth - 1)).key top
@@ -323,11 +346,13 @@ module _ (old now : Slab Node) (way : List Step) (depth : ℕ) (root : Option �
       can.fine.0,
     )
 
-    module _ (next : Slab Node) (hung : Hung) (i : IsHungBefore (get now) (get next) (step_at way (depth - 1)).key top hung) (c : KeepsCount now next) where
+    module _ (next : Slab Node) (hung : Hung) (i : IsHungBefore (get now) (get next) (step_at way (depth - 1)).key top hung)
+        (c : KeepsCount now next) where
       pub j : Joins (get now) (get next) hung.top (step_at way (depth - 1)).key last.piece m.here last.right
       j = (i (node_of last.piece m.there last.right) (top_of last.right) m.here last.right can.above.0 refl parts can.fine.0).0
 
-      pub further : CanMend (get next) way (depth - 1) root hung.top last.more (Fork (step_at way (depth - 1)).key last.piece m.there last.right) j.shape
+      pub further : CanMend (get next) way (depth - 1) root hung.top last.more
+          (Fork (step_at way (depth - 1)).key last.piece m.there last.right) j.shape
       further = record {
         steps = last.steps;
         above = same_above (get now) (get next) last.more (Fork (step_at way (depth - 1)).key last.piece m.there last.right) can.above.2
@@ -340,7 +365,8 @@ module _ (old now : Slab Node) (way : List Step) (depth : ℕ) (root : Option �
         low = can.low;
       }
 
-      pub back : (then : Slab Node) (whole : Option ℕ) → Mends (get next) (get then) whole last.more (Fork (step_at way (depth - 1)).key last.piece m.there last.right) j.shape
+      pub back : (then : Slab Node) (whole : Option ℕ) → Mends (get next) (get then) whole last.more
+          (Fork (step_at way (depth - 1)).key last.piece m.there last.right) j.shape
           → Mends (get old) (get then) whole path t new
       back then whole n = m.back then whole (subst (λ u. Mends (get now) (get then) whole u m.there m.here) (sym last.is) (record {
         shape = n.shape;
@@ -373,16 +399,19 @@ module _ (old now : Slab Node) (way : List Step) (depth : ℕ) (root : Option �
 
         pub mending-stops_before : Mends (get old) (get next) root path t new
         mending-stops_before =
-            let s = stops (get next) last.more (Fork (step_at way (depth - 1)).key last.piece m.there last.right) j.shape further.above further.fine
+            let s = stops (get next) last.more (Fork (step_at way (depth - 1)).key last.piece m.there last.right) j.shape further.above
+            further.fine
             (record { is = refl; nodes = j.tree.nodes; balanced = j.tree.balanced; pieces = j.tree.pieces }) as_was in
-            back next root (stopped (get next) way (depth - 1) root hung.top last.more (Fork (step_at way (depth - 1)).key last.piece m.there last.right) j.shape
+            back next root (stopped (get next) way (depth - 1) root hung.top last.more
+            (Fork (step_at way (depth - 1)).key last.piece m.there last.right) j.shape
             further s.0 s.1)
 
   module _ (b : (step_at way (depth - 1)).before ≡ false) where
     pub last-b : LastBehind way depth m.up
     last-b = last_behind way depth m.up m.can.steps pos b
 
-    pub can-b : CanMend (get now) way depth root top (Behind (step_at way (depth - 1)).key last-b.piece last-b.left last-b.more) m.there m.here
+    pub can-b : CanMend (get now) way depth root top (Behind (step_at way (depth - 1)).key last-b.piece last-b.left last-b.more)
+        m.there m.here
     can-b = subst (λ u. CanMend (get now) way depth root top u m.there m.here) last-b.is m.can
 
     pub parts-b : AreParts (get now) (top_of last-b.left) (step_at way (depth - 1)).key top last-b.left m.here
@@ -392,7 +421,8 @@ module _ (old now : Slab Node) (way : List Step) (depth : ℕ) (root : Option �
       here = is_there _ _ can-b.above.0;
       once = λ k. omega (arith, can-b.once k);
       low =
-          (let h = plug-high last-b.more (Fork (step_at way (depth - 1)).key last-b.piece last-b.left m.there) in (omega (arith, can-b.low), omega (arith, can-b.low, can-b.more)));
+          (let h = plug-high last-b.more (Fork (step_at way (depth - 1)).key last-b.piece last-b.left m.there) in
+          (omega (arith, can-b.low), omega (arith, can-b.low, can-b.more)));
     }
 
     pub mending-can_behind : CanHangBehind (get now) (step_at way (depth - 1)).key top
@@ -407,14 +437,17 @@ module _ (old now : Slab Node) (way : List Step) (depth : ℕ) (root : Option �
       can-b.fine.0,
     )
 
-    module _ (next : Slab Node) (hung : Hung) (i : IsHungBehind (get now) (get next) (step_at way (depth - 1)).key top hung) (c : KeepsCount now next) where
+    module _ (next : Slab Node) (hung : Hung) (i : IsHungBehind (get now) (get next) (step_at way (depth - 1)).key top hung)
+        (c : KeepsCount now next) where
       pub j-b : Joins (get now) (get next) hung.top (step_at way (depth - 1)).key last-b.piece last-b.left m.here
       j-b = (i (node_of last-b.piece last-b.left m.there) (top_of last-b.left) last-b.left m.here can-b.above.0 refl parts-b can-b.fine.0).0
 
-      pub further-b : CanMend (get next) way (depth - 1) root hung.top last-b.more (Fork (step_at way (depth - 1)).key last-b.piece last-b.left m.there) j-b.shape
+      pub further-b : CanMend (get next) way (depth - 1) root hung.top last-b.more
+          (Fork (step_at way (depth - 1)).key last-b.piece last-b.left m.there) j-b.shape
       further-b = record {
         steps = last-b.steps;
-        above = same_above (get now) (get next) last-b.more (Fork (step_at way (depth - 1)).key last-b.piece last-b.left m.there) can-b.above.2
+        above = same_above (get now) (get next) last-b.more (Fork (step_at way (depth - 1)).key last-b.piece last-b.left m.there)
+            can-b.above.2
             (λ k g. j-b.others k (omega (arith, can-b.once k)));
         fine = can-b.fine.4;
         here = can-b.here;
@@ -424,7 +457,8 @@ module _ (old now : Slab Node) (way : List Step) (depth : ℕ) (root : Option �
         low = can-b.low;
       }
 
-      pub back-b : (then : Slab Node) (whole : Option ℕ) → Mends (get next) (get then) whole last-b.more (Fork (step_at way (depth - 1)).key last-b.piece last-b.left m.there) j-b.shape
+      pub back-b : (then : Slab Node) (whole : Option ℕ) → Mends (get next) (get then) whole last-b.more
+          (Fork (step_at way (depth - 1)).key last-b.piece last-b.left m.there) j-b.shape
           → Mends (get old) (get then) whole path t new
       back-b then whole n = m.back then whole (subst (λ u. Mends (get now) (get then) whole u m.there m.here) (sym last-b.is) (record {
         shape = n.shape;
@@ -457,7 +491,9 @@ module _ (old now : Slab Node) (way : List Step) (depth : ℕ) (root : Option �
 
         pub mending-stops_behind : Mends (get old) (get next) root path t new
         mending-stops_behind =
-            let s = stops (get next) last-b.more (Fork (step_at way (depth - 1)).key last-b.piece last-b.left m.there) j-b.shape further-b.above further-b.fine
+            let s = stops (get next) last-b.more (Fork (step_at way (depth - 1)).key last-b.piece last-b.left m.there) j-b.shape
+            further-b.above further-b.fine
             (record { is = refl; nodes = j-b.tree.nodes; balanced = j-b.tree.balanced; pieces = j-b.tree.pieces }) as_was-b in
-            back-b next root (stopped (get next) way (depth - 1) root hung.top last-b.more (Fork (step_at way (depth - 1)).key last-b.piece last-b.left m.there) j-b.shape
+            back-b next root (stopped (get next) way (depth - 1) root hung.top last-b.more
+            (Fork (step_at way (depth - 1)).key last-b.piece last-b.left m.there) j-b.shape
             further-b s.0 s.1)

@@ -10,6 +10,7 @@ release_last-requires-clause-invalidated c r inside =
 pub loop-id-preserved : goal.loop-id-preserved
 loop-id-preserved c = (
   releasing_last c.args.pool.now c.loop-id.pool c.release_last.new.pool c.args.space.now c.loop-id.space c.release_last.new.space
-      c.args.records.now.items c.loop-id.records.items c.release_last.new.records.items c.loop-id.invariant.0 c.release_last.ensures.released,
+      c.args.records.now.items c.loop-id.records.items c.release_last.new.records.items c.loop-id.invariant.0
+      c.release_last.ensures.released,
   c.release_last.ensures.room ∙ c.loop-id.invariant.1,
 )

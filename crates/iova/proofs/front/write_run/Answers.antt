@@ -46,7 +46,8 @@ put_all-requires-clause-space c =
     (same_rest c.requires.front.0 c.in-Some.rest (sym c.requires.front.1 ∙ c.in-Some.is)) c.requires.front.2 in
     let can = can_cut c.args.tree.now (pages_as c.args.pages Retired ∷ drop c.args.count c.args.front.now.cut.items) c.in-Some.rest
     c.requires.space f in
-    subst (λ v. IsSpace v) (sym c.put.ensures.is) (now_space c.args.tree.now f.from c.in-Some.rest.last (pages_as c.args.pages Retired) (drop c.args.count c.args.front.now.cut.items)
+    subst (λ v. IsSpace v) (sym c.put.ensures.is) (now_space c.args.tree.now f.from c.in-Some.rest.last (pages_as c.args.pages Retired)
+    (drop c.args.count c.args.front.now.cut.items)
     c.in-Some.rest.first can)
 
 pub put_all-requires-clause-cut : goal.put_all-requires-clause-cut

@@ -98,7 +98,8 @@ returns-then-node-top-clause-count c = let q = c.requires in (c.loop-depth.invar
 pub returns-then-height-top-clause-count : goal.returns-then-height-top-clause-count
 returns-then-height-top-clause-count c =
     let q = c.requires in
-    counts_twice c.args.nodes.now c.loop-depth.nodes c.turn.new.nodes (c.loop-depth.invariant q.0 q.1 q.2 q.3).g.m.count c.turn.ensures.count
+    counts_twice c.args.nodes.now c.loop-depth.nodes c.turn.new.nodes (c.loop-depth.invariant q.0 q.1 q.2 q.3).g.m.count
+    c.turn.ensures.count
 
 pub returns-clause-count : goal.returns-clause-count
 returns-clause-count c = let q = c.requires in (c.loop-depth.invariant q.0 q.1 q.2 q.3).g.m.count

@@ -37,11 +37,13 @@ returns-then-outer-inner-clause-joins c =
     let found = c.index-node.result.now in
     let below = c.index-below.result.now in
     let inner = c.index-inner.result.now in
-    let s = has_forks (get c.args.nodes.now) c.args.tree c.args.key q.1 top middle below inner q.2 q.3 q.6 c.in-Some.is c.index-below.ensures
+    let s = has_forks (get c.args.nodes.now) c.args.tree c.args.key q.1 top middle below inner q.2 q.3 q.6 c.in-Some.is
+    c.index-below.ensures
     c.in-Some-right.is c.index-inner.ensures in
     let u = c.set_left_reach.ensures.updates found c.index-node.ensures in
     let v = c.set_right_reach.ensures.updates below
-    (u.others top (top_beside (get c.args.nodes.now) c.args.tree q.1 c.args.key top middle below inner q.2 q.3 q.6 s) ∙ c.index-below.ensures) in
+    (u.others top (top_beside (get c.args.nodes.now) c.args.tree q.1 c.args.key top middle below inner q.2 q.3 q.6 s)
+    ∙ c.index-below.ensures) in
     let w = c.set_joint.ensures.updates inner
     (v.others middle (middle_below (get c.args.nodes.now) c.args.tree q.1 c.args.key top middle below inner q.2 q.3 q.6 s)
     ∙ u.others middle (middle_beside (get c.args.nodes.now) c.args.tree q.1 c.args.key top middle below inner q.2 q.3 q.6 s)

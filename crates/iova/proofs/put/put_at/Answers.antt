@@ -8,7 +8,8 @@ index-node-requires c = search_there (get c.args.nodes.now) c.args.at c.in-Some.
     c.in-Some.is
 
 pub leaf-requires-clause-room : goal.leaf-requires-clause-room
-leaf-requires-clause-room c = put-none_room c.args.nodes.now c.args.at c.args.piece.now c.requires.tree.0 c.requires.tree.1 c.requires.tree.2
+leaf-requires-clause-room c =
+    put-none_room c.args.nodes.now c.args.at c.args.piece.now c.requires.tree.0 c.requires.tree.1 c.requires.tree.2
     c.in_default.is c.requires.tree.3
 
 pub returns-in_default : goal.returns-in_default

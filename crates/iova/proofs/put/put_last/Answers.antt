@@ -82,7 +82,8 @@ returns c t from below =
     below c.requires.place c.index.result.now c.index.ensures c.requires.tree.4 s.0 s.1 s.2 s.3
     (c.renew.ensures c.args.root t from c.args.piece.now) in
     let u = c.walk_last-depth.ensures c.args.root y.cut from c.args.piece.now y.low y.before in
-    let can = leaf-grows c.renew.new.nodes c.args.root c.args.piece.now c.walk_last-depth.new.way c.walk_last-depth.result y.cut from y.low u
+    let can = leaf-grows c.renew.new.nodes c.args.root c.args.piece.now c.walk_last-depth.new.way c.walk_last-depth.result y.cut
+    from y.low u
     c.leaf.new.nodes c.leaf.result c.leaf.ensures c.free_length-longest.result c.free_length-longest.ensures (omega arith) in
     y.done c.grow.new.nodes c.grow.result
     (leaf-done c.renew.new.nodes c.args.root c.args.piece.now c.walk_last-depth.new.way c.walk_last-depth.result y.cut from y.low u

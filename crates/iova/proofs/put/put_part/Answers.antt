@@ -9,31 +9,45 @@ pub put_at-end-requires-clause-tree : goal.put_at-end-requires-clause-tree
 put_at-end-requires-clause-tree c =
     let i = c.requires.tree in
     let w = lows (get c.args.nodes.now) c.args.root i.0 i.1 c.requires.low i.2 in
-    let q = (c.requires.place i.0 i.1).down w in
-    (q.t, q.from, q.below, up-room c.args.nodes.now c.args.root c.args.piece.now c.args.way.now c.args.place.at c.args.place.depth i.0 i.1 w q i.3, i.4)
+    let q = (c.requires.place i.0 i.1).down w in (
+      q.t,
+      q.from,
+      q.below,
+      up-room c.args.nodes.now c.args.root c.args.piece.now c.args.way.now c.args.place.at c.args.place.depth i.0 i.1
+          w q i.3,
+      i.4,
+    )
 
 pub read-top-requires : goal.read-top-requires
 read-top-requires c =
     let i = c.requires.tree in
     let w = lows (get c.args.nodes.now) c.args.root i.0 i.1 c.requires.low i.2 in
     let q = (c.requires.place i.0 i.1).down w in
-    up-read c.args.nodes.now c.args.root c.args.piece.now c.args.way.now c.args.place.at c.args.place.depth i.0 i.1 w q c.put_at-end.new.nodes c.put_at-end.result _ (c.put_at-end.ensures q.t q.from q.below)
+    up-read c.args.nodes.now c.args.root c.args.piece.now c.args.way.now c.args.place.at c.args.place.depth i.0 i.1 w q
+    c.put_at-end.new.nodes c.put_at-end.result _ (c.put_at-end.ensures q.t q.from q.below)
 
 pub mend-requires : goal.mend-requires
 mend-requires c =
     let i = c.requires.tree in
     let w = lows (get c.args.nodes.now) c.args.root i.0 i.1 c.requires.low i.2 in
     let q = (c.requires.place i.0 i.1).down w in
-    let m = c.put_at-end.ensures q.t q.from q.below in
-    (q.path, q.t, m.makes.shape, up-can c.args.nodes.now c.args.root c.args.piece.now c.args.way.now c.args.place.at c.args.place.depth i.0 i.1 w q c.put_at-end.new.nodes c.put_at-end.result _ m c.read-top.result c.read-top.ensures)
+    let m = c.put_at-end.ensures q.t q.from q.below in (
+      q.path,
+      q.t,
+      m.makes.shape,
+      up-can c.args.nodes.now c.args.root c.args.piece.now c.args.way.now c.args.place.at c.args.place.depth
+          i.0 i.1 w q c.put_at-end.new.nodes c.put_at-end.result _ m c.read-top.result c.read-top.ensures,
+    )
 
 pub returns : goal.returns
 returns c t from below =
     let w = lows (get c.args.nodes.now) c.args.root t from c.requires.low below in
     let q = (c.requires.place t from).down w in
     let m = c.put_at-end.ensures q.t q.from q.below in
-    let can = up-can c.args.nodes.now c.args.root c.args.piece.now c.args.way.now c.args.place.at c.args.place.depth t from w q c.put_at-end.new.nodes c.put_at-end.result _ m c.read-top.result c.read-top.ensures in
-    up-done c.args.nodes.now c.args.root c.args.piece.now c.args.way.now c.args.place.at c.args.place.depth t from w q c.put_at-end.new.nodes c.put_at-end.result _ m c.read-top.result c.read-top.ensures refl c.mend.new.nodes c.mend.result
+    let can = up-can c.args.nodes.now c.args.root c.args.piece.now c.args.way.now c.args.place.at c.args.place.depth t from w q
+    c.put_at-end.new.nodes c.put_at-end.result _ m c.read-top.result c.read-top.ensures in
+    up-done c.args.nodes.now c.args.root c.args.piece.now c.args.way.now c.args.place.at c.args.place.depth t from w q
+    c.put_at-end.new.nodes c.put_at-end.result _ m c.read-top.result c.read-top.ensures refl c.mend.new.nodes c.mend.result
     (c.mend.ensures.mended q.path q.t m.makes.shape can) c.mend.ensures.count
 
 same_place : (a b : Option ℕ) → option_eq nat_eq a b ≡ true → a ≡ b

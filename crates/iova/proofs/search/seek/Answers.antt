@@ -45,7 +45,8 @@ loop-at-preserved c =
     c.loop-at.invariant.down q.2 c.in-Some.is in
     elim c.if-before.branch [
       | then-before w ↦
-          subst (λ (a : Bor (Option ℕ)). IsSeeking (get c.args.nodes.now) c.args.root c.args.first (slice_set c.loop-at.way c.loop-at.depth (record {
+          subst (λ (a : Bor (Option ℕ)). IsSeeking (get c.args.nodes.now) c.args.root c.args.first
+          (slice_set c.loop-at.way c.loop-at.depth (record {
             key =
                 c.in-Some.key;
             before = nat_lt c.args.first c.index-node.result.now.piece.first;
@@ -62,7 +63,8 @@ loop-at-preserved c =
                 c.index-node.result.now c.loop-at.invariant q c.in-Some.is c.index-node.ensures w.if-before.true;
           }))
       | else-before w ↦
-          subst (λ (a : Bor (Option ℕ)). IsSeeking (get c.args.nodes.now) c.args.root c.args.first (slice_set c.loop-at.way c.loop-at.depth (record {
+          subst (λ (a : Bor (Option ℕ)). IsSeeking (get c.args.nodes.now) c.args.root c.args.first
+          (slice_set c.loop-at.way c.loop-at.depth (record {
             key =
                 c.in-Some.key;
             before = nat_lt c.args.first c.index-node.result.now.piece.first;

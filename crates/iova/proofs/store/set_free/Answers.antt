@@ -49,7 +49,8 @@ returns-then-ends-pages-2-clause-lowest c h _ =
     let ends = c.with_free_ends-ends in
     let lower : c.args.pages.first ≤ c.args.low = grind (arith, nat_tests, h) in (
       record {
-        there = put_there c.store_held-root.result c.store_held-root.new.nodes (pieces_of c.args.nodes.now c.args.root) ends.result c.args.pages
+        there = put_there c.store_held-root.result c.store_held-root.new.nodes (pieces_of c.args.nodes.now c.args.root) ends.result
+            c.args.pages
             c.store_held-root.ensures.kept c.if-ends-pages.true c.if-ends-pages-2.true;
         held = c.store_held-root.ensures.held c.args.pages c.requires.held;
       },

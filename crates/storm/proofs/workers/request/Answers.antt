@@ -14,7 +14,8 @@ loop-made-preserved g c =
       c.hit.ensures.same ∙ i.1,
       one_hit_more c.args.device c.loop-made.made c.hit.result.1 hit.word c.loop-made.port.did c.hit.new.self.did i.2
           (hit.did ∙ ap (λ device. c.loop-made.port.did
-          ++ Loaded counter c.hit.result.1 ∷ Loaded (place_of device (slot_of (page_of (address_read (c.loop-made.made + 1))))) hit.word ∷ [])
+          ++ Loaded counter c.hit.result.1 ∷ Loaded (place_of device (slot_of (page_of (address_read (c.loop-made.made + 1)))))
+          hit.word ∷ [])
           i.1),
     )
 

@@ -4,7 +4,8 @@ use Rattle.engine.proofs.domain.runs.give_back_all.Goals as goal
 
 pub give_back-requires-clause-once : goal.give_back-requires-clause-once
 give_back-requires-clause-once c =
-    rw (c.frames.ensures.all) (gives_once c.args.pool.now c.loop-record.pool c.args.records.now c.loop-record.record-index c.record-item.result
+    rw (c.frames.ensures.all) (gives_once c.args.pool.now c.loop-record.pool c.args.records.now c.loop-record.record-index
+    c.record-item.result
     c.loop-record.invariant c.loop-record-test.true c.record-item.is c.requires.once)
 
 pub give_back-requires-clause-within : goal.give_back-requires-clause-within

@@ -23,7 +23,8 @@ release_run-requires c =
 pub returns : goal.returns
 returns c =
     released_run c.args.pool.now c.give_back_all.new.pool c.args.space.now c.release_run.new.self c.args.records.now c.args.range
-    c.requires.can c.requires.some c.requires.range c.release_run.ensures.space.1 c.release_run.ensures.freed c.release_run.ensures.retirable
+    c.requires.can c.requires.some c.requires.range c.release_run.ensures.space.1 c.release_run.ensures.freed
+    c.release_run.ensures.retirable
     (record {
       free = c.give_back_all.ensures.free;
       more = c.give_back_all.ensures.more;

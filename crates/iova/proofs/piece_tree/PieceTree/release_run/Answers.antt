@@ -60,13 +60,18 @@ invariant_of-self c =
     let same = put_freed a.pieces q c.with_free_around-whole.result.first c.with_free_around-whole.result.last low high in
     let p = freed_piece a q sp wide run in
     let view = kept_view c.store-self-inside.result c.store-self-inside.new.nodes
-    (with_piece (record { first = c.with_free_around-whole.result.first; last = c.with_free_around-whole.result.last; state = Free }) a.pieces)
+    (with_piece (record { first = c.with_free_around-whole.result.first; last = c.with_free_around-whole.result.last; state = Free })
+    a.pieces)
     c.store-self-inside.ensures in
     let now = view ∙ same in
     let lower : NoneFreeBelow c.min-self-inside.result a.pieces = none_below_less c.min-self-inside.result c.put_freed.new.low a.pieces
     (omega (arith, c.min-self-inside.ensures)) c.put_freed.ensures.low in (
       kept_self c.store-self-inside.result c.store-self-inside.new.nodes
-          (with_piece (record { first = c.with_free_around-whole.result.first; last = c.with_free_around-whole.result.last; state = Free }) a.pieces)
+          (with_piece (record {
+            first = c.with_free_around-whole.result.first;
+            last = c.with_free_around-whole.result.last;
+            state = Free;
+          }) a.pieces)
           c.store-self-inside.ensures,
       subst (λ ps. IsSpace (record a { pieces = ps })) (sym now) (space_freed a q sp wide run),
       subst (λ ps. NoneFreeBelow c.min-self-inside.result ps) (sym view)
@@ -90,7 +95,8 @@ returns-clause-freed c =
     ∙ ap (λ n. free_end a.pieces n) end in
     let same = put_freed a.pieces q c.with_free_around-whole.result.first c.with_free_around-whole.result.last low high in
     let now = kept_view c.store-self-inside.result c.store-self-inside.new.nodes
-    (with_piece (record { first = c.with_free_around-whole.result.first; last = c.with_free_around-whole.result.last; state = Free }) a.pieces)
+    (with_piece (record { first = c.with_free_around-whole.result.first; last = c.with_free_around-whole.result.last; state = Free })
+    a.pieces)
     c.store-self-inside.ensures ∙ same in
     let new : Space = stored c.self.inside.last c.store-self-inside.result c.store-self-inside.new.nodes in
     subst (λ v. FreesRun v new c.args.range Retired) view
@@ -111,7 +117,8 @@ returns-clause-retirable c other may =
     ∙ ap (λ n. free_end a.pieces n) end in
     let same = put_freed a.pieces q c.with_free_around-whole.result.first c.with_free_around-whole.result.last low high in
     let now = kept_view c.store-self-inside.result c.store-self-inside.new.nodes
-    (with_piece (record { first = c.with_free_around-whole.result.first; last = c.with_free_around-whole.result.last; state = Free }) a.pieces)
+    (with_piece (record { first = c.with_free_around-whole.result.first; last = c.with_free_around-whole.result.last; state = Free })
+    a.pieces)
     c.store-self-inside.ensures ∙ same in
     let new : Space = stored c.self.inside.last c.store-self-inside.result c.store-self-inside.new.nodes in
     may_still_run a new c.args.range other sp
@@ -134,7 +141,8 @@ returns-clause-space c =
     ∙ ap (λ n. free_end a.pieces n) end in
     let same = put_freed a.pieces q c.with_free_around-whole.result.first c.with_free_around-whole.result.last low high in
     let now = kept_view c.store-self-inside.result c.store-self-inside.new.nodes
-    (with_piece (record { first = c.with_free_around-whole.result.first; last = c.with_free_around-whole.result.last; state = Free }) a.pieces)
+    (with_piece (record { first = c.with_free_around-whole.result.first; last = c.with_free_around-whole.result.last; state = Free })
+    a.pieces)
     c.store-self-inside.ensures ∙ same in (
       subst (λ v. IsSpace v) view sp,
       subst (λ ps. IsSpace (record a { pieces = ps })) (sym now) (space_freed a q sp wide run),

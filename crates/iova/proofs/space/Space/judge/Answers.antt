@@ -13,9 +13,11 @@ pub returns-in-Some-Live-clause-ok : goal.returns-in-Some-Live-clause-ok
 returns-in-Some-Live-clause-ok c =
     let a : Space = c.self.inside.tree in
     let pages = c.ends_of-pages.result in
-    let same : c.self.inside.front.cut.items ≡ c.in-Some-Live.ensures.0 ++ pages_as pages c.in-Some-Live.field-0 ∷ [] = sym c.deref.ensures.value
+    let same : c.self.inside.front.cut.items ≡ c.in-Some-Live.ensures.0 ++ pages_as pages c.in-Some-Live.field-0 ∷ [] = sym
+    c.deref.ensures.value
     ∙ c.in-Some-Live.ensures.1 in
-    let l = some_left a c.self.inside.front.cut.items c.self.inside.front.rest c.in-Some-Live.ensures.0 (pages_as pages c.in-Some-Live.field-0)
+    let l = some_left a c.self.inside.front.cut.items c.self.inside.front.rest c.in-Some-Live.ensures.0
+    (pages_as pages c.in-Some-Live.field-0)
     c.self.invariant.1 same in
     let view = ap (λ l. fronted l a) (sym same) ∙ c.self.view_is in
     let may : MayRetire c.args.self.now.pieces c.args.range = subst (λ (v : Space). MayRetire v.pieces c.args.range) view
@@ -27,9 +29,11 @@ pub returns-in-Some-Live-clause-not_live : goal.returns-in-Some-Live-clause-not_
 returns-in-Some-Live-clause-not_live c =
     let a : Space = c.self.inside.tree in
     let pages = c.ends_of-pages.result in
-    let same : c.self.inside.front.cut.items ≡ c.in-Some-Live.ensures.0 ++ pages_as pages c.in-Some-Live.field-0 ∷ [] = sym c.deref.ensures.value
+    let same : c.self.inside.front.cut.items ≡ c.in-Some-Live.ensures.0 ++ pages_as pages c.in-Some-Live.field-0 ∷ [] = sym
+    c.deref.ensures.value
     ∙ c.in-Some-Live.ensures.1 in
-    let l = some_left a c.self.inside.front.cut.items c.self.inside.front.rest c.in-Some-Live.ensures.0 (pages_as pages c.in-Some-Live.field-0)
+    let l = some_left a c.self.inside.front.cut.items c.self.inside.front.rest c.in-Some-Live.ensures.0
+    (pages_as pages c.in-Some-Live.field-0)
     c.self.invariant.1 same in
     let view = ap (λ l. fronted l a) (sym same) ∙ c.self.view_is in
     let may : MayRetire c.args.self.now.pieces c.args.range = subst (λ (v : Space). MayRetire v.pieces c.args.range) view
@@ -41,9 +45,11 @@ pub returns-in-Some-Live-clause-too_many : goal.returns-in-Some-Live-clause-too_
 returns-in-Some-Live-clause-too_many c =
     let a : Space = c.self.inside.tree in
     let pages = c.ends_of-pages.result in
-    let same : c.self.inside.front.cut.items ≡ c.in-Some-Live.ensures.0 ++ pages_as pages c.in-Some-Live.field-0 ∷ [] = sym c.deref.ensures.value
+    let same : c.self.inside.front.cut.items ≡ c.in-Some-Live.ensures.0 ++ pages_as pages c.in-Some-Live.field-0 ∷ [] = sym
+    c.deref.ensures.value
     ∙ c.in-Some-Live.ensures.1 in
-    let l = some_left a c.self.inside.front.cut.items c.self.inside.front.rest c.in-Some-Live.ensures.0 (pages_as pages c.in-Some-Live.field-0)
+    let l = some_left a c.self.inside.front.cut.items c.self.inside.front.rest c.in-Some-Live.ensures.0
+    (pages_as pages c.in-Some-Live.field-0)
     c.self.invariant.1 same in
     let view = ap (λ l. fronted l a) (sym same) ∙ c.self.view_is in
     let may : MayRetire c.args.self.now.pieces c.args.range = subst (λ (v : Space). MayRetire v.pieces c.args.range) view

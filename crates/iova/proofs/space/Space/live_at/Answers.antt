@@ -13,9 +13,11 @@ use Rattle.iova.proofs.space.Space.live_at.Goals as goal
 
 pub returns-in-Live-clause-live : goal.returns-in-Live-clause-live
 returns-in-Live-clause-live c =
-    let at : piece_at c.self.inside.front.cut.items c.args.page ≡ Some c.in-Some.piece = ap (λ l. piece_at l c.args.page) (sym c.deref.ensures.value)
+    let at : piece_at c.self.inside.front.cut.items c.args.page ≡ Some c.in-Some.piece = ap (λ l. piece_at l c.args.page)
+    (sym c.deref.ensures.value)
     ∙ sym c.piece_at.ensures ∙ c.in-Some.is in
-    let i = found_in c.self.inside.tree c.self.inside.front.cut.items c.self.inside.front.rest c.args.page c.in-Some.piece c.self.invariant.0
+    let i = found_in c.self.inside.tree c.self.inside.front.cut.items c.self.inside.front.rest c.args.page c.in-Some.piece
+    c.self.invariant.0
     c.self.invariant.1 at in
     let there : IsIn c.in-Some.piece c.args.self.now.pieces = subst (λ (v : Space). IsIn c.in-Some.piece v.pieces) c.self.view_is i.0 in
     (there, i.1, c.in-Live.is)
@@ -34,9 +36,11 @@ pub returns-in-Free : goal.returns-in-Free
 returns-in-Free c =
     let view : IsSpace c.args.self.now = subst (λ v. IsSpace v) c.self.view_is (view_space c.self.inside.tree c.self.inside.front.cut.items
     c.self.inside.front.rest c.self.invariant.0 c.self.invariant.1) in
-    let at : piece_at c.self.inside.front.cut.items c.args.page ≡ Some c.in-Some.piece = ap (λ l. piece_at l c.args.page) (sym c.deref.ensures.value)
+    let at : piece_at c.self.inside.front.cut.items c.args.page ≡ Some c.in-Some.piece = ap (λ l. piece_at l c.args.page)
+    (sym c.deref.ensures.value)
     ∙ sym c.piece_at.ensures ∙ c.in-Some.is in
-    let i = found_in c.self.inside.tree c.self.inside.front.cut.items c.self.inside.front.rest c.args.page c.in-Some.piece c.self.invariant.0
+    let i = found_in c.self.inside.tree c.self.inside.front.cut.items c.self.inside.front.rest c.args.page c.in-Some.piece
+    c.self.invariant.0
     c.self.invariant.1 at in
     let there : IsIn c.in-Some.piece c.args.self.now.pieces = subst (λ (v : Space). IsIn c.in-Some.piece v.pieces) c.self.view_is i.0 in
     record {

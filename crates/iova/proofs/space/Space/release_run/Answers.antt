@@ -19,14 +19,16 @@ invariant_of-self c =
     c.self.invariant.1 c.deref.ensures.value c.in-Some.ensures.count.0 c.in-Some.ensures.first c.in-Some.ensures.last in
     let none : drop c.in-Some.count cut ≡ [] = drop_all c.in-Some.count cut (omega (arith, c.if-count-len.true, c.len.ensures)) in
     let begins : c.args.range.first ≡ k.all.from = sym (k.begins ∙ c.ends_of-pages.ensures.first) in
-    let stop : c.ends_of-pages.result.last + 1 ≡ k.left.first = subst (λ l. FollowOn (c.ends_of-pages.result.last + 1) l k.left.first) none k.behind in
+    let stop : c.ends_of-pages.result.last + 1 ≡ k.left.first = subst (λ l. FollowOn (c.ends_of-pages.result.last + 1) l k.left.first)
+    none k.behind in
     let ends : c.args.range.first + c.args.range.pages ≡ k.left.first =
     omega (arith, stop, c.ends_of-pages.ensures.last, c.ends_of-pages.ensures.range.some) in
     let capacity = c.give_back_all.ensures.capacity in (
       c.self.invariant.0,
       front_now a.pieces [] c.give_back_all.new.self.cut.items c.give_back_all.new.self.rest
           (record { first = c.args.range.first; last = k.left.last }) c.give_back_all.ensures.cut
-          (c.give_back_all.ensures.rest k.left k.is ∙ ap (λ n. Some (record { first = n; last = k.left.last })) c.ends_of-pages.ensures.first)
+          (c.give_back_all.ensures.rest k.left k.is ∙ ap (λ n. Some (record { first = n; last = k.left.last }))
+          c.ends_of-pages.ensures.first)
           (front_empty a c.self.invariant.0 cut k.left k.all c.args.range begins ends c.ends_of-pages.ensures.range.some),
       omega (arith, capacity, c.self.invariant.2),
     )
@@ -39,7 +41,8 @@ returns-in-Some-clause-freed c =
     c.self.invariant.1 c.deref.ensures.value c.in-Some.ensures.count.0 c.in-Some.ensures.first c.in-Some.ensures.last in
     let none : drop c.in-Some.count cut ≡ [] = drop_all c.in-Some.count cut (omega (arith, c.if-count-len.true, c.len.ensures)) in
     let begins : c.args.range.first ≡ k.all.from = sym (k.begins ∙ c.ends_of-pages.ensures.first) in
-    let stop : c.ends_of-pages.result.last + 1 ≡ k.left.first = subst (λ l. FollowOn (c.ends_of-pages.result.last + 1) l k.left.first) none k.behind in
+    let stop : c.ends_of-pages.result.last + 1 ≡ k.left.first = subst (λ l. FollowOn (c.ends_of-pages.result.last + 1) l k.left.first)
+    none k.behind in
     let ends : c.args.range.first + c.args.range.pages ≡ k.left.first =
     omega (arith, stop, c.ends_of-pages.ensures.last, c.ends_of-pages.ensures.range.some) in
     let run = subst (λ (v : Space). IsRun (piece_of c.args.range Retired) v.pieces) (sym c.self.view_is) c.requires in
@@ -55,7 +58,8 @@ returns-in-Some-clause-retirable c other may =
     c.self.invariant.1 c.deref.ensures.value c.in-Some.ensures.count.0 c.in-Some.ensures.first c.in-Some.ensures.last in
     let none : drop c.in-Some.count cut ≡ [] = drop_all c.in-Some.count cut (omega (arith, c.if-count-len.true, c.len.ensures)) in
     let begins : c.args.range.first ≡ k.all.from = sym (k.begins ∙ c.ends_of-pages.ensures.first) in
-    let stop : c.ends_of-pages.result.last + 1 ≡ k.left.first = subst (λ l. FollowOn (c.ends_of-pages.result.last + 1) l k.left.first) none k.behind in
+    let stop : c.ends_of-pages.result.last + 1 ≡ k.left.first = subst (λ l. FollowOn (c.ends_of-pages.result.last + 1) l k.left.first)
+    none k.behind in
     let ends : c.args.range.first + c.args.range.pages ≡ k.left.first =
     omega (arith, stop, c.ends_of-pages.ensures.last, c.ends_of-pages.ensures.range.some) in
     let run = subst (λ (v : Space). IsRun (piece_of c.args.range Retired) v.pieces) (sym c.self.view_is) c.requires in
@@ -99,7 +103,8 @@ returns-in-Some-2-clause-freed c =
     let k = first_run a cut c.deref.result.now c.self.inside.front.rest c.ends_of-pages.result c.in-Some.count c.self.invariant.0
     c.self.invariant.1 c.deref.ensures.value c.in-Some.ensures.count.0 c.in-Some.ensures.first c.in-Some.ensures.last in
     let run = subst (λ (v : Space). IsRun (piece_of c.args.range Retired) v.pieces) (sym c.self.view_is) c.requires in
-    let freed = c.free.ensures.freed Retired (subst (λ (v : Space). IsIn (piece_of c.args.range Retired) v.pieces) (sym c.write_run.ensures.tree)
+    let freed = c.free.ensures.freed Retired (subst (λ (v : Space). IsIn (piece_of c.args.range Retired) v.pieces)
+    (sym c.write_run.ensures.tree)
     (run_there a c.self.invariant.0 cut c.self.inside.front.rest c.ends_of-pages.result c.in-Some.count k c.args.range
     c.ends_of-pages.ensures.first c.ends_of-pages.ensures.last c.ends_of-pages.ensures.range.some)) in
     let frees : FreesRun (fronted cut a) c.free.new.self c.args.range Retired =
@@ -116,7 +121,8 @@ returns-in-Some-2-clause-retirable c other may =
     let k = first_run a cut c.deref.result.now c.self.inside.front.rest c.ends_of-pages.result c.in-Some.count c.self.invariant.0
     c.self.invariant.1 c.deref.ensures.value c.in-Some.ensures.count.0 c.in-Some.ensures.first c.in-Some.ensures.last in
     let run = subst (λ (v : Space). IsRun (piece_of c.args.range Retired) v.pieces) (sym c.self.view_is) c.requires in
-    let freed = c.free.ensures.freed Retired (subst (λ (v : Space). IsIn (piece_of c.args.range Retired) v.pieces) (sym c.write_run.ensures.tree)
+    let freed = c.free.ensures.freed Retired (subst (λ (v : Space). IsIn (piece_of c.args.range Retired) v.pieces)
+    (sym c.write_run.ensures.tree)
     (run_there a c.self.invariant.0 cut c.self.inside.front.rest c.ends_of-pages.result c.in-Some.count k c.args.range
     c.ends_of-pages.ensures.first c.ends_of-pages.ensures.last c.ends_of-pages.ensures.range.some)) in
     let frees : FreesRun (fronted cut a) c.free.new.self c.args.range Retired =

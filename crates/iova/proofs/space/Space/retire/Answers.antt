@@ -43,7 +43,9 @@ returns-then-is_some-clause-space c =
     let pages = c.ends_of-pages.result in
     let k = last_cut a c.self.inside.front.cut.items c.deref.result.now c.self.inside.front.rest pages c.last_state.result
     c.self.invariant.1 c.deref.ensures.value (sym c.is_some.ensures ∙ c.if-is_some.true) c.last_state.ensures in
-    let new : IsSpace (fronted ((k.0 ++ pages_as pages Retired ∷ [])) a) = view_space a ((k.0 ++ pages_as pages Retired ∷ [])) (Some k.2) c.self.invariant.0 (front_retired a c.self.invariant.0 k.0 pages k.1 k.2 k.5 c.args.range c.ends_of-pages.ensures.first c.ends_of-pages.ensures.last
+    let new : IsSpace (fronted ((k.0 ++ pages_as pages Retired ∷ [])) a) = view_space a ((k.0 ++ pages_as pages Retired ∷ [])) (Some k.2)
+    c.self.invariant.0 (front_retired a c.self.invariant.0 k.0 pages k.1 k.2 k.5 c.args.range c.ends_of-pages.ensures.first
+    c.ends_of-pages.ensures.last
     c.ends_of-pages.ensures.range.some) in (
       subst (λ v. IsSpace v) c.self.view_is (view_space a c.self.inside.front.cut.items c.self.inside.front.rest c.self.invariant.0
           c.self.invariant.1),

@@ -13,9 +13,11 @@ pub returns-in-Some-clause-state : goal.returns-in-Some-clause-state
 returns-in-Some-clause-state c =
     let view : IsSpace c.args.self.now = subst (λ v. IsSpace v) c.self.view_is (view_space c.self.inside.tree c.self.inside.front.cut.items
     c.self.inside.front.rest c.self.invariant.0 c.self.invariant.1) in
-    let at : piece_at c.self.inside.front.cut.items c.args.page ≡ Some c.in-Some.piece = ap (λ l. piece_at l c.args.page) (sym c.deref.ensures.value)
+    let at : piece_at c.self.inside.front.cut.items c.args.page ≡ Some c.in-Some.piece = ap (λ l. piece_at l c.args.page)
+    (sym c.deref.ensures.value)
     ∙ ap (λ n. piece_at c.deref.result.now n) (sym c.number.ensures.value) ∙ sym c.piece_at.ensures ∙ c.in-Some.is in
-    let i = found_in c.self.inside.tree c.self.inside.front.cut.items c.self.inside.front.rest c.args.page c.in-Some.piece c.self.invariant.0
+    let i = found_in c.self.inside.tree c.self.inside.front.cut.items c.self.inside.front.rest c.args.page c.in-Some.piece
+    c.self.invariant.0
     c.self.invariant.1 at in
     let there : IsIn c.in-Some.piece c.args.self.now.pieces = subst (λ (v : Space). IsIn c.in-Some.piece v.pieces) c.self.view_is i.0 in
     sym (in_state 1 c.in-Some.piece c.args.self.now.pieces c.args.page view.ordered there i.1.0 i.1.1)
@@ -24,9 +26,11 @@ pub returns-in-Some-clause-some : goal.returns-in-Some-clause-some
 returns-in-Some-clause-some c =
     let view : IsSpace c.args.self.now = subst (λ v. IsSpace v) c.self.view_is (view_space c.self.inside.tree c.self.inside.front.cut.items
     c.self.inside.front.rest c.self.invariant.0 c.self.invariant.1) in
-    let at : piece_at c.self.inside.front.cut.items c.args.page ≡ Some c.in-Some.piece = ap (λ l. piece_at l c.args.page) (sym c.deref.ensures.value)
+    let at : piece_at c.self.inside.front.cut.items c.args.page ≡ Some c.in-Some.piece = ap (λ l. piece_at l c.args.page)
+    (sym c.deref.ensures.value)
     ∙ ap (λ n. piece_at c.deref.result.now n) (sym c.number.ensures.value) ∙ sym c.piece_at.ensures ∙ c.in-Some.is in
-    let i = found_in c.self.inside.tree c.self.inside.front.cut.items c.self.inside.front.rest c.args.page c.in-Some.piece c.self.invariant.0
+    let i = found_in c.self.inside.tree c.self.inside.front.cut.items c.self.inside.front.rest c.args.page c.in-Some.piece
+    c.self.invariant.0
     c.self.invariant.1 at in
     let there : IsIn c.in-Some.piece c.args.self.now.pieces = subst (λ (v : Space). IsIn c.in-Some.piece v.pieces) c.self.view_is i.0 in
     let here = in_state 1 c.in-Some.piece c.args.self.now.pieces c.args.page view.ordered there i.1.0 i.1.1 in
