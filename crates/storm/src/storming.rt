@@ -92,7 +92,7 @@ pub fn storm<G: Gate, R: Threads + Wait + Sync>(
     requires drivers { (1 ≤ drivers) × (drivers ≤ MOST_DRIVERS) }
     requires devices { (1 ≤ devices) × (devices ≤ MOST_DEVICES) }
     requires calls { (1 ≤ calls) × (calls ≤ MOST_WORKER_CALLS) }
-    ensures { IfOk result (λ events. events ≡ 2 + devices + calls * (drivers + devices + 1)) }
+    ensures events { IfOk result (λ events. events ≡ 2 + devices + calls * (drivers + devices + 1)) }
 {
     let plan = Plan {
         drivers,

@@ -133,8 +133,8 @@ fn drive<B: Owner, G: Gate, R: Wait>(
     }
 }
 
-// An odd call maps a page. An even one unmaps what the call before mapped, or flushes the domain where that mapped none.
-fn driver_call(domain: u64, frame: u64, number: u64, mapped: Option<u64>) -> Call {
+/// An odd call maps a page. An even one unmaps what the call before mapped, or flushes the domain where that mapped none.
+pub(crate) fn driver_call(domain: u64, frame: u64, number: u64, mapped: Option<u64>) -> Call {
     if number % 2 == 1 {
         return Call::Map {
             domain,

@@ -4,7 +4,8 @@ ghost use Rattle.std.specs.Prelude.{◌≡◌, ◌+◌, ◌*◌};
 ghost use Rattle.manager.specs.Kept.{IsNamedBy};
 
 use crate::OpenGate;
-use crate::storming::{Outcome, Plan, TABLE_FRAMES, outcome_of};
+use crate::storming::{Outcome, Plan, outcome_of};
+use crate::workers::driver_call;
 use dmatypes::{Access, Call, Event, Mode, PAGE_BYTES, Reply, Whim};
 use manager::{Config, Owner, Seed};
 use std::alloc::Global;
@@ -19,6 +20,9 @@ pub(super) const FIRST_FRAME: u64 = 0x1000;
 
 pub(super) const PAGES_READ: u64 = 16;
 
+// The table frames of a storm's manager.
+pub(super) const FRAMES: u64 = 64;
+
 #[test]
 fn calls_of_each_worker(rt: HostRuntime) -> Result<(), Fail> {
     for (drivers, devices, calls) in [(1, 1, 1), (3, 2, 35), (2, 8, 17), (8, 1, 64)] {
@@ -27,7 +31,7 @@ fn calls_of_each_worker(rt: HostRuntime) -> Result<(), Fail> {
             devices,
             calls,
         };
-        let config = Config::new(TABLE_FRAMES, plan.events(), plan.workers() + 1).ok_or(
+        let config = Config::new(FRAMES, plan.events(), plan.workers() + 1).ok_or(
             "within the limits",
         )?;
         let seed = Seed::new(rt.alloc(), config)?;
@@ -46,7 +50,7 @@ fn made_by_each<B: Owner + Send + Sync, R: Threads + Wait + Abort + Sync>(
     requires named { IsNamedBy seed B.name B.parts B.shares B.room B.frames B.rows }
     requires room { seed.room ≡ 2 + plan.devices + plan.calls * (plan.drivers + plan.devices + 1) }
     requires shares { seed.shares ≡ plan.drivers + plan.devices + 2 }
-    requires frames { seed.frames ≡ TABLE_FRAMES }
+    requires frames { seed.frames ≡ FRAMES }
 {
     let Ok(Outcome { history, ports }) = outcome_of::<B, _, R>(rt, alloc, seed, plan, &OpenGate)
     else {
@@ -59,6 +63,21 @@ fn made_by_each<B: Owner + Send + Sync, R: Threads + Wait + Abort + Sync>(
     assert!(rt; (0..plan.devices).all(|device| are_read(events, device, plan.calls)));
     assert_eq!(rt; times(events, &Call::Unit), plan.calls);
     Ok(())
+}
+
+// Where the call before mapped no page, there is none to unmap: a driver flushes its domain.
+#[test]
+fn flush_where_nothing_was_mapped(rt: HostRuntime) {
+    assert_eq!(rt;
+        driver_call(2, FIRST_FRAME, 4, None),
+        Call::Flush { domain: 2 }
+    );
+    let unmap = Call::Unmap {
+        domain: 2,
+        address: PAGE_BYTES,
+        pages: 1,
+    };
+    assert_eq!(rt; driver_call(2, FIRST_FRAME, 4, Some(PAGE_BYTES)), unmap);
 }
 
 // How often a call is among the events.

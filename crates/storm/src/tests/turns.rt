@@ -3,9 +3,9 @@
 ghost use Rattle.std.specs.Prelude.{◌≡◌, ◌+◌, ◌*◌};
 ghost use Rattle.manager.specs.Kept.{IsNamedBy};
 
-use super::calls::{FIRST_FRAME, PAGES_READ};
+use super::calls::{FIRST_FRAME, FRAMES, PAGES_READ};
 use crate::Gate;
-use crate::storming::{Outcome, Plan, TABLE_FRAMES, outcome_of};
+use crate::storming::{Outcome, Plan, outcome_of};
 use dmatypes::{Call, Event, PAGE_BYTES};
 use manager::{Config, Owner, Seed};
 use std::alloc::Global;
@@ -76,9 +76,7 @@ fn calls_by_turns(rt: HostRuntime) -> Result<(), Fail> {
         devices: 2,
         calls: CALLS,
     };
-    let config = Config::new(TABLE_FRAMES, plan.events(), plan.workers() + 1).ok_or(
-        "within the limits",
-    )?;
+    let config = Config::new(FRAMES, plan.events(), plan.workers() + 1).ok_or("within the limits")?;
     let seed = Seed::new(rt.alloc(), config)?;
     called_by_turns::<Brand, _>(&rt, rt.alloc(), seed, plan)
 }
@@ -94,7 +92,7 @@ fn called_by_turns<B: Owner + Send + Sync, R: Threads + Wait + Abort + Sync>(
     requires named { IsNamedBy seed B.name B.parts B.shares B.room B.frames B.rows }
     requires room { seed.room ≡ 2 + plan.devices + plan.calls * (plan.drivers + plan.devices + 1) }
     requires shares { seed.shares ≡ plan.drivers + plan.devices + 2 }
-    requires frames { seed.frames ≡ TABLE_FRAMES }
+    requires frames { seed.frames ≡ FRAMES }
 {
     let gate = Rounds {
         entered: AtomicU64::new(0),
