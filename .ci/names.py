@@ -1,9 +1,11 @@
 #!/usr/bin/env python3
-"""Looks up each name of the tables in docs/PROVED.md: definitions in their files, contracts with their clauses, edits, tests.
+"""Looks up each name of the tables in docs/PROVED.md: definitions in their files, contracts with their clauses, edits, tests; and
+those of docs/DEFINITIONS.md, each of which is a definition, or a word of the code.
 
-A contract's row has a clause at least, and each clause that it names stands in each of its contracts: as a clause's label, or as
-a definition, or a part of a value, of which a clause speaks. In no other row is a cell of names empty either. Prints the names
-that don't exist. The last line is `N passed, M failed`, a table each."""
+A contract's row has a clause at least that the function ensures, and each clause that it names stands in each of its contracts: as a
+clause's label, or as a definition, or a part of a value, of which a clause speaks. In no other row is a cell of names empty either. A
+test's module is one that its crate has, and a step of a script is one that the script takes. Prints the names that don't exist.
+The last line is `N passed, M failed`, a table each and docs/DEFINITIONS.md."""
 
 import functools
 import glob
@@ -62,7 +64,7 @@ def contract_of(name):
 
 
 def is_defined(name):
-    return any(re.search(rf"^{DEFINED}{name}\b", it, re.M) for it in definitions())
+    return any(re.search(rf"^\s*{DEFINED}{name}\b", it, re.M) for it in definitions())
 
 
 @functools.cache
@@ -71,9 +73,10 @@ def definitions():
     return [text_of(it) for it in sorted(glob.glob(f"{CRATES}/*/specs/**/*.antt", recursive=True))]
 
 
-def cites(contract, clause):
+def cites(contract, clause, kinds="ensures|requires"):
     """Whether a contract has a clause of this label, or one that speaks of this definition or of this part of a value."""
-    clauses = re.split(r"^\s*(?:ensures|requires)\b", contract, flags=re.M)[1:]
+    found = re.split(r"^\s*(ensures|requires)\b", contract, flags=re.M)
+    clauses = [text for kind, text in zip(found[1::2], found[2::2]) if re.fullmatch(kinds, kind)]
     if any(re.match(rf" {clause} \{{|.*\.{clause}\b", it, re.S) for it in clauses):
         return True
     return is_defined(clause) and any(re.search(rf"\b{clause}\b", it) for it in clauses)
@@ -83,12 +86,23 @@ def lacks_contract(row):
     lost = []
     for name in words(row[1]):
         contract = contract_of(name)
-        lost += [name] if contract is None else [f"{it} in {name}" for it in words(row[2]) if not cites(contract, it)]
+        if contract is None:
+            lost.append(name)
+            continue
+        lost += [f"{it} in {name}" for it in words(row[2]) if not cites(contract, it)]
+        if not any(cites(contract, it, "ensures") for it in words(row[2])):
+            lost.append(f"clause that {name} ensures")
     return lost
 
 
 def lacks_edit(row):
     return [it for it in words(row[1]) if not os.path.isfile(f"{CRATES}/{it.replace('/', '/must-fail/')}.edit")]
+
+
+def is_reached(texts, module):
+    """Whether each module on the way to this one is named by the one above it."""
+    steps = range(len(module))
+    return all(re.search(rf"^\s*(?:pub )?mod {module[at]};", texts.get("::".join(module[:at]), ""), re.M) for at in steps)
 
 
 def lacks_test(row):
@@ -102,12 +116,23 @@ def lacks_test(row):
         crate, *module, function = name.split("::")
         if crate.endswith(".py"):
             script = f"{TOP}/.ci/{crate}"
-            lost += [] if os.path.isfile(script) and f"\ndef {function}(" in text_of(script) else [name]
+            text = text_of(script) if os.path.isfile(script) else ""
+            lost += [] if f"\ndef {function}(" in text and len(re.findall(rf"\b{function}\b", text)) > 1 else [name]
             continue
-        text = sources(crate).get("::".join(module), "")
+        texts = sources(crate)
+        text = texts.get("::".join(module), "") if is_reached(texts, module) else ""
         if not re.search(rf"#\[test\]\n(?:\s*//[^\n]*\n)*\s*fn {function}\(", text):
             lost.append(name)
     return lost
+
+
+def lost_definitions():
+    """The names of docs/DEFINITIONS.md that are neither defined nor a word of the code, and its files that aren't there."""
+    text = text_of(f"{TOP}/docs/DEFINITIONS.md")
+    files = {os.path.basename(it) for it in glob.glob(f"{CRATES}/*/specs/**/*.antt", recursive=True)}
+    code = {word for it in os.listdir(CRATES) for file in sources(it).values() for word in re.findall(r"\w+", file)}
+    names = [it for it in words(text) if re.fullmatch(r"[A-Za-z_]\w*", it) and not is_defined(it) and it not in code]
+    return sorted({*names, *(it for it in words(text) if it.endswith(".antt") and "/" not in it and it not in files)})
 
 
 TABLES = {"Definition": lacks_definition, "Promise": lacks_contract, "Body": lacks_edit, "Row": lacks_test}
@@ -133,8 +158,11 @@ def main():
     missing = [it for it in TABLES if it not in seen]
     for kind in missing:
         print(f"docs/PROVED.md has no table that begins with {kind}")
-    failed = len(set(lost) | set(missing))
-    print(f"{len(TABLES) - failed} passed, {failed} failed")
+    undefined = lost_definitions()
+    for name in undefined:
+        print(f"docs/DEFINITIONS.md: there is no {name}")
+    failed = len(set(lost) | set(missing)) + bool(undefined)
+    print(f"{len(TABLES) + 1 - failed} passed, {failed} failed")
     return 1 if failed else 0
 
 

@@ -1,7 +1,8 @@
 // Preloaded into a program, sees each of its requests for memory, and refuses one: the one whose number, from 1, stands in REFUSE.
-// Likewise it refuses the thread whose number stands in REFUSE_THREAD. At the program's end it writes four numbers into the file
+// Likewise it refuses the thread whose number stands in REFUSE_THREAD. At the program's end it writes five numbers into the file
 // that REFUSE_LOG names: the requests; those before the first thread was asked for; those that the C library made while it made
-// threads; and the blocks that weren't given back, but for those of the latter, which the C library keeps.
+// threads; the blocks that weren't given back, but for those of the latter, which the C library keeps; and the threads that were
+// joined.
 #define _GNU_SOURCE
 #include <dlfcn.h>
 #include <errno.h>
@@ -26,7 +27,7 @@
 
 #define MOST_KEPT 256
 
-static atomic_long asked, held, threads, asked_in_making;
+static atomic_long asked, held, threads, joined, asked_in_making;
 // The requests before the first thread, once one was asked for.
 static atomic_long before = -1;
 // Whether the C library is making a thread for this one.
@@ -119,12 +120,20 @@ int pthread_create(pthread_t *thread, const pthread_attr_t *attributes, void *(*
     return fault;
 }
 
+int pthread_join(pthread_t thread, void **answer) {
+    int fault = NEXT(pthread_join)(thread, answer);
+    if (!fault)
+        atomic_fetch_add(&joined, 1);
+    return fault;
+}
+
 __attribute__((destructor)) static void tell(void) {
     const char *name = getenv("REFUSE_LOG");
     int file = name ? open(name, O_WRONLY | O_CREAT | O_TRUNC, 0600) : -1;
     if (file >= 0) {
         long all = atomic_load(&asked), first = atomic_load(&before);
-        dprintf(file, "%ld %ld %ld %ld\n", all, first < 0 ? all : first, atomic_load(&asked_in_making), atomic_load(&held));
+        dprintf(file, "%ld %ld %ld ", all, first < 0 ? all : first, atomic_load(&asked_in_making));
+        dprintf(file, "%ld %ld\n", atomic_load(&held), atomic_load(&joined));
         close(file);
     }
 }

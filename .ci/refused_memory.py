@@ -40,7 +40,7 @@ class Run:
     """One run of a program in which the request of this number is refused, or none where it is 0.
 
     Its output, what it said on standard error, its status; and its requests: all, those before the first thread, and those of the
-    C library while threads were made; and how many blocks it held at its end."""
+    C library while threads were made; how many blocks it held at its end; and how many threads it joined."""
 
     def __init__(self, room, words, given, number, what="REFUSE"):
         log = f"{room}/log"
@@ -48,7 +48,7 @@ class Run:
         ran = subprocess.run(words, input=given, capture_output=True, env=env, timeout=60)
         self.number, self.output, self.said, self.status = number, ran.stdout, ran.stderr, ran.returncode
         with open(log, encoding="ascii") as file:
-            self.asked, self.before, self.in_making, self.held = map(int, file.read().split())
+            self.asked, self.before, self.in_making, self.held, self.joined = map(int, file.read().split())
         os.remove(log)
 
 
@@ -121,12 +121,16 @@ def fault_of_requests(ample):
 
 
 def fault_of_threads(room):
-    """Why a storm with a refused thread goes wrong, if it does: the others run to their end, and nothing leaks."""
+    """Why a storm with a refused thread goes wrong, if it does: those that were made before it are joined, and nothing leaks."""
     ample = Run(room, STORM, b"", 0)
+    if ample.joined != STORM_THREADS:
+        return f"{ample.joined} of {STORM_THREADS} threads are joined"
     for number in range(1, STORM_THREADS + 1):
         run = Run(room, STORM, b"", number, "REFUSE_THREAD")
         if (run.status, run.said) != NO_THREAD or run.output or run.held:
             return f"thread {number}: status {run.status}, {run.said!r}, {run.output!r}, {run.held} blocks held"
+        if run.joined != number - 1:
+            return f"thread {number}: {run.joined} of the {number - 1} before it are joined"
     if not is_same(Run(room, STORM, b"", STORM_THREADS + 1, "REFUSE_THREAD"), ample):
         return "there are more threads"
     return fault_of_requests(ample)
