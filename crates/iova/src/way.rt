@@ -62,7 +62,7 @@ pub(crate) enum InMind {
     Judged(Known),
     /// The lowest free piece.
     Lowest(Known),
-    /// A piece that came free, which touches no other free one: the tree still has it as live.
+    /// A piece that came free: the tree still has it as live.
     Freed(Known),
 }
 

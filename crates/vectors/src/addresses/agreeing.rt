@@ -74,18 +74,14 @@ impl Pair {
         Ok(taken)
     }
 
-    /// Takes pages and gives them back.
+    /// Takes pages and gives them back: the list, which is asked for nothing, stays as it is.
     fn try_take(&mut self, pages: u64) -> Result<(), Fail>
         requires some { 1 ≤ pages }
         requires few { pages ≤ 4096 }
     {
-        let before = self.space.piece_count();
         if let Ok(page) = self.space.take(pages, 0) {
             let range = PageRange::new(page.number(), pages).ok_or("pages")?;
             self.space.undo_take(range);
-        }
-        if self.space.piece_count() != before {
-            return Err("an undone take stays".into());
         }
         Ok(())
     }
@@ -209,10 +205,7 @@ fn agrees_with_a_list(rt: HostRuntime) -> Result<(), Fail> {
             pair.list = List::new(alloc, FREE.as_slice())?;
         }
         pair.step(alloc, &mut numbers)?;
-        if call % 50 == 0 {
-            pair.compare()?;
-        }
+        pair.compare()?;
     }
-    pair.compare()?;
     Ok(())
 }
