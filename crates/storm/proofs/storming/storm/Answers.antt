@@ -7,6 +7,7 @@ storm_on-requires-clause-room g c _ _ =
     c.in_ok-seed.ensures.room ∙ ap (λ (k : Config). k.calls) c.in-Some.ensures.numbers ∙ c.events.ensures
 
 pub returns : goal.returns
-returns g c =
-    subst (λ n. IfOk c.storm_on.result (λ events. events ≡ n))
-    (c.in_ok-seed.ensures.room ∙ ap (λ (k : Config). k.calls) c.in-Some.ensures.numbers ∙ c.events.ensures) c.storm_on.ensures
+returns g c = record {
+  events = subst (λ n. IfOk c.storm_on.result (λ events. events ≡ n))
+      (c.in_ok-seed.ensures.room ∙ ap (λ (k : Config). k.calls) c.in-Some.ensures.numbers ∙ c.events.ensures) c.storm_on.ensures;
+}
