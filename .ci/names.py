@@ -1,11 +1,11 @@
 #!/usr/bin/env python3
 """Looks up each name of the tables in docs/PROVED.md: definitions in their files, contracts with their clauses, edits, tests; and
-those of docs/DEFINITIONS.md, each of which is a definition, or a word of the code.
+those of three documents in plain words, each of which is a definition, a crate, or a word of the code.
 
 A contract's row has a clause at least that the function ensures, and each clause that it names stands in each of its contracts: as a
 clause's label, or as a definition, or a part of a value, of which a clause speaks. In no other row is a cell of names empty either. A
 test's module is one that its crate has, and a step of a script is one that the script takes. Prints the names that don't exist.
-The last line is `N passed, M failed`, a table each and docs/DEFINITIONS.md."""
+The last line is `N passed, M failed`, a table or a document each."""
 
 import functools
 import glob
@@ -126,15 +126,24 @@ def lacks_test(row):
     return lost
 
 
-def lost_definitions():
-    """The names of docs/DEFINITIONS.md that are neither defined nor a word of the code, and its files that aren't there."""
-    text = text_of(f"{TOP}/docs/DEFINITIONS.md")
-    files = {os.path.basename(it) for it in glob.glob(f"{CRATES}/*/specs/**/*.antt", recursive=True)}
-    code = {word for it in os.listdir(CRATES) for file in sources(it).values() for word in re.findall(r"\w+", file)}
-    names = [it for it in words(text) if re.fullmatch(r"[A-Za-z_]\w*", it) and not is_defined(it) and it not in code]
+@functools.cache
+def code_words():
+    """The words of the crates' code and of the gate's programs in C, and the crates themselves."""
+    crates = os.listdir(CRATES)
+    texts = [file for it in crates for file in sources(it).values()] + [text_of(it) for it in glob.glob(f"{TOP}/.ci/*.c")]
+    return {*crates, *(word for it in texts for word in re.findall(r"\w+", it))}
+
+
+def lost_in(document):
+    """The names in a document that are neither defined nor of the code, by their last part, and the files that aren't there."""
+    text = text_of(f"{TOP}/docs/{document}")
+    files = {os.path.basename(it) for part in ("specs", "proofs") for it in glob.glob(f"{CRATES}/*/{part}/**/*.antt", recursive=True)}
+    paths = [it for it in words(text) if re.fullmatch(r"[A-Za-z_]\w*(::[A-Za-z_]\w*)*", it)]
+    names = [it for it in paths if it.split("::")[-1] not in code_words() and not is_defined(it.split("::")[-1])]
     return sorted({*names, *(it for it in words(text) if it.endswith(".antt") and "/" not in it and it not in files)})
 
 
+DOCUMENTS = ("ARCHITECTURE.md", "DEFINITIONS.md", "PROVED.md")
 TABLES = {"Definition": lacks_definition, "Promise": lacks_contract, "Body": lacks_edit, "Row": lacks_test}
 
 
@@ -158,11 +167,12 @@ def main():
     missing = [it for it in TABLES if it not in seen]
     for kind in missing:
         print(f"docs/PROVED.md has no table that begins with {kind}")
-    undefined = lost_definitions()
-    for name in undefined:
-        print(f"docs/DEFINITIONS.md: there is no {name}")
-    failed = len(set(lost) | set(missing)) + bool(undefined)
-    print(f"{len(TABLES) + 1 - failed} passed, {failed} failed")
+    undefined = {it: lost_in(it) for it in DOCUMENTS}
+    for document, names in undefined.items():
+        for name in names:
+            print(f"docs/{document}: there is no {name}")
+    failed = len(set(lost) | set(missing)) + sum(bool(it) for it in undefined.values())
+    print(f"{len(TABLES) + len(DOCUMENTS) - failed} passed, {failed} failed")
     return 1 if failed else 0
 
 
