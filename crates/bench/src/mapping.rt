@@ -173,22 +173,22 @@ impl Work for Deferred {
 /// Maps one page into a lazy domain and unmaps it. No call flushes: the domain does by itself, at an unmap for which it has no
 /// record left.
 #[derive(Drop)]
-pub(crate) struct Unflushed {
+pub(crate) struct SelfFlushing {
     driver: Driver,
     put_off: u64,
     ghost few: { put_off ≤ MOST_RECORDS },
 }
 
-impl Unflushed {
-    pub(crate) fn new(alloc: Global) -> Result<Unflushed, Trouble> {
-        Ok(Unflushed {
+impl SelfFlushing {
+    pub(crate) fn new(alloc: Global) -> Result<SelfFlushing, Trouble> {
+        Ok(SelfFlushing {
             driver: Driver::new(alloc, Mode::Lazy)?,
             put_off: 0,
         })
     }
 }
 
-impl Work for Unflushed {
+impl Work for SelfFlushing {
     fn once(&mut self) -> Result<(), Trouble> {
         let mapped = self.driver.map(UNALIGNED_FRAME, 1, 0)?;
         let released = self.driver.unmap(mapped, 1)?;

@@ -5,7 +5,7 @@ use crate::driver::UNALIGNED_FRAME;
 use crate::hitting::{Hits, time_hits};
 use crate::loading::time_loads;
 use crate::managing::{Way, time_manager};
-use crate::mapping::{Deferred, Flushing, Listing, Mapping, Shape, Splitting, Unflushed};
+use crate::mapping::{Deferred, Flushing, Listing, Mapping, SelfFlushing, Shape, Splitting};
 use crate::request::Request;
 use crate::reusing::{Bursts, Freed, Holes, Reusing, Sizes};
 use crate::scripting::{Lines, time_script};
@@ -36,7 +36,7 @@ enum Kind {
     Split,
     // With a flush after this number of rounds.
     MapLazily(u64, Flushing),
-    MapUnflushed,
+    MapSelfFlushing,
     // Behind this number of live pieces.
     Take(u32),
     // While this number of ranges are live.
@@ -133,7 +133,7 @@ pub(crate) const SUBJECTS: [Subject; 56] = [
     },
     Subject {
         name: "map and unmap lazily, flushed by itself",
-        kind: Kind::MapUnflushed,
+        kind: Kind::MapSelfFlushing,
     },
     Subject {
         name: "take and release behind 16 live pieces",
@@ -391,7 +391,7 @@ impl Subject {
             Kind::MapLazily(most, flushing) => {
                 time(clock, rounds, &mut Deferred::new(alloc, most, flushing)?)
             }
-            Kind::MapUnflushed => time(clock, rounds, &mut Unflushed::new(alloc)?),
+            Kind::MapSelfFlushing => time(clock, rounds, &mut SelfFlushing::new(alloc)?),
             Kind::Take(live) => time(clock, rounds, &mut Taking::new(alloc, live)?),
             Kind::Reuse(live, freed, sizes) => {
                 let mut reusing = Reusing::new(alloc, live, freed, sizes)?;
