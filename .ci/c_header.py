@@ -8,8 +8,10 @@ import re
 TOP = os.path.dirname(os.path.dirname(os.path.abspath(__file__)))
 HEADER = f"{TOP}/c/vtdm.h"
 CRATES = f"{TOP}/crates"
-# The sources of the numbers that the header names.
-LIMITS = ["dmatypes/src/limits.rt", "dmatypes/src/page.rt", "dmatypes/src/width.rt", "iova/src/space.rt"]
+# The sources of the numbers that the header names, and the widths whose ends it names.
+LIMITS = ["dmatypes/src/limits.rt", "dmatypes/src/page.rt", "iova/src/space.rt"]
+WIDTH = "dmatypes/src/width.rt"
+ENDS = {"W39": "ADDRESSES_END", "W48": "WIDE_ADDRESSES_END"}
 REFUSALS = "dmatypes/src/refusal.rt"
 ANSWERS = "vtdm_c/src/answer.rt"
 # A refusal that only a manager with a history has.
@@ -98,9 +100,15 @@ def statuses():
     return difference(wanted, enum_of("vtdm_status"))
 
 
+def ends():
+    """Where the device addresses of each width end, by the name that the header gives it."""
+    body = re.search(r"fn addresses_end\b.*?^    \}", source(WIDTH), re.S | re.M)[0]
+    return {ENDS.get(width, width): end for width, end in re.findall(r"Width::(\w+) => ([^,]+),", body)}
+
+
 def limits():
-    """Each macro that has a number has the name and the number of a constant."""
-    have = {}
+    """Each macro that has a number has the name and the number of a constant, or of a width's end."""
+    have = ends()
     for path in LIMITS:
         have.update(re.findall(r"const (\w+): (?:u64|usize) = ([^;]+);", source(path)))
     macros = dict(re.findall(r"^#define VTDM_(\w+) (.*\d.*)$", header_text(), re.M))

@@ -13,9 +13,10 @@ Lines between `@ FIRST..LAST` and `@` stand for themselves with n from FIRST to 
 are numbers, and `{hex 4096*n}` one in hexadecimal. `\\` is a backslash, `\xHH` the byte of these two hexadecimal digits, and
 `\{TEXT*N}` the text N times.
 
-Besides, each run whose domains are all strict is run again with entries of each cache evicted between all lines, and the answers
-are to be the same; the scripts of CUT are cut at each byte; and each command meets input and output that fail. The last line of
-this script is `N passed, M failed`, a run each."""
+Besides, each run of a script is run again with Caching Mode, but those of RING_ASKED, and is to do the same; each whose domains are
+all strict is run again with entries of each cache evicted between all lines, with Caching Mode and without it, and the answers are
+to be the same; the scripts of CUT are cut at each byte; and each command meets input and output that fail. The last line of this
+script is `N passed, M failed`, a run each."""
 
 import os
 import re
@@ -33,10 +34,15 @@ LOOP = re.compile(r"@ (\d+)\.\.(\d+)")
 FULL = "refused 15"
 # The rows whose scripts are cut at each byte.
 CUT = ["split-leaf.row", "lazy-reuse.row"]
+# What asks for Caching Mode, and the runs, by file and number, where it changes an answer: a map comes while descriptors wait, and
+# works them off with its own, and a step of the unit is asked for later.
+CACHING_MODE = "--caching-mode"
+RING_ASKED = [("begun-flush-and-a-device.row", 1), ("caching-mode.row", 6)]
 # Between two lines, the entries that are evicted of each cache, and what that is answered.
 EVICTED = 4
-EVICTIONS = b"".join(b"evict %s %d\n" % (cache, place) for place in range(EVICTED) for cache in (b"leaf", b"nonleaf", b"context"))
-EVICTION_ANSWERS = b"ok\n" * (3 * EVICTED)
+CACHES = (b"leaf", b"nonleaf", b"context", b"fault")
+EVICTIONS = b"".join(b"evict %s %d\n" % (cache, place) for place in range(EVICTED) for cache in CACHES)
+EVICTION_ANSWERS = b"ok\n" * (len(CACHES) * EVICTED)
 # What the caches, or their number of descriptors, may change.
 UNEVICTED = re.compile(rb"^(domain lazy|begin|reap|unit|evict)\b", re.M)
 
@@ -50,6 +56,12 @@ class Run:
     def fault(self, program):
         """Why a program does otherwise, if it does."""
         return fault_of([*program, *self.words], self.script, pattern_of(self.output), self.errors, self.status)
+
+    def with_caching_mode(self):
+        """The same run with Caching Mode."""
+        run = Run([*self.words, CACHING_MODE])
+        run.script, run.output, run.errors, run.status = self.script, self.output, self.errors, self.status
+        return run
 
 
 def unescaped(text):
@@ -156,26 +168,36 @@ def is_evicted(run):
     return run.words[0] == "run" and not (run.status or "--calls" in run.words or UNEVICTED.search(run.script))
 
 
+def with_the_mode(name, number, run):
+    """A run of a file, and the same with Caching Mode where that changes no answer."""
+    yield run
+    if (name, number) not in RING_ASKED and CACHING_MODE not in run.words and run.words[0] in ("run", "report"):
+        yield run.with_caching_mode()
+
+
 def faults_of(name):
     """Each thing that is tried of a file, and why it fails."""
     for number, run in enumerate(runs_of(name), 1):
-        yield f"run {number}", run.fault([VTDM])
-        if is_evicted(run):
-            yield f"run {number}, with evictions", fault_where_evicted(run, [VTDM])
+        for each in with_the_mode(name, number, run):
+            yield f"run {number} by {each.words}", each.fault([VTDM])
+            if is_evicted(each):
+                yield f"run {number} by {each.words}, with evictions", fault_where_evicted(each, [VTDM])
         if name in CUT and run.words[0] == "run":
             yield f"run {number}, cut", fault_where_cut(run)
 
 
 def fault_elsewhere(program, evicts):
-    """Why another program, which answers good lines, has no history and no option but --frames, fails at a row, if it does."""
+    """Why another program, which answers good lines, and has no history and no option but --frames and Caching Mode, fails at a row,
+    if it does."""
     for name in sorted(os.listdir(ROWS)):
         runs = runs_of(name)
         for number, run in enumerate(runs, 1):
             if any(FULL in it.output for it in runs) or run.errors or {"--calls", "--iova"} & set(run.words):
                 continue
-            fault = run.fault(program) or (evicts and is_evicted(run) and fault_where_evicted(run, program))
-            if fault:
-                return f"{name}, run {number}: {fault}"
+            for each in with_the_mode(name, number, run):
+                fault = each.fault(program) or (evicts and is_evicted(each) and fault_where_evicted(each, program))
+                if fault:
+                    return f"{name}, run {number} by {each.words}: {fault}"
     return None
 
 

@@ -1,10 +1,11 @@
 /* vtdm.h: a proved manager of DMA addresses, for C11 and C++17.
  *
  * A manager keeps up to 15 domains (address spaces of devices), attaches up to 16 devices to them, and maps and unmaps pages. It
- * follows the Intel VT-d specification in legacy mode: a context entry for each device, second-stage tables of three levels for
- * each domain, and a queue of invalidation descriptors. The unit that works off the queue is simulated; it has an IOTLB, a
- * paging-structure cache and a context cache. What is proved: whatever calls are made, no page and no table frame is free while
- * an entry in one of these caches can still reach it. Each function below has a contract in crates/vtdm_c, which its body meets.
+ * follows the Intel VT-d specification in legacy mode: context entries for devices, second-stage tables of three or four levels for
+ * domains, and a queue of invalidation descriptors. The unit that works off the queue is simulated; it has an IOTLB, a
+ * paging-structure cache and a context cache, and with Caching Mode it also remembers pages that it found absent. What is proved:
+ * whatever calls are made, no page and no table frame is free while an entry in one of these caches can still reach it, and no mapped
+ * page is remembered as absent. Each function below has a contract in crates/vtdm_c, which its body meets.
  *
  * A FIRST PROGRAM.
  *     struct vtdm manager = VTDM_INIT;
@@ -20,9 +21,13 @@
  * VTDM_PAGE_BYTES bytes of device addresses, a frame is as many bytes of host memory. Host frames are numbered from 0, so frame F
  * begins at host address F * VTDM_PAGE_BYTES. Lengths of ranges are in pages.
  *
+ * WIDTHS. A domain has device addresses of 39 bits and tables of three levels (vtdm_domain), or addresses of 48 bits and tables of
+ * four levels (vtdm_domain_wide), as long as it lives. A manager may have domains of both widths. They differ in where addresses
+ * end (VTDM_ADDRESSES_END, VTDM_WIDE_ADDRESSES_END), where maps begin (vtdm_map), and how many table frames they need (vtdm_create).
+ *
  * WHAT C OWES. None of this is checked. Where one is broken, nothing that this header says holds.
- *  - A `struct vtdm` is zeros (VTDM_INIT) before vtdm_create, and only the functions below write its members afterwards: its
- *    address member says where the manager lies, and a call follows it.
+ *  - A `struct vtdm` is zeros (VTDM_INIT) before vtdm_create or vtdm_create_caching, and only the functions below write its members
+ *    afterwards: its address member says where the manager lies, and a call follows it.
  *  - It is not copied. After vtdm_destroy on one copy, the other still has the address, and a call on it would use freed memory.
  *    It may be moved between two calls, since nothing points to it, if the old place is not used again.
  *  - vtdm_destroy is called before the struct goes away. Otherwise its memory is lost: nothing else frees it.
@@ -35,7 +40,8 @@
  *    child of a fork of a process with several threads.
  * Every number that is passed may be any number: one outside its limits is refused by a status.
  *
- * MEMORY. vtdm_create takes all that the manager ever needs, vtdm_destroy gives it back, and no other function asks for any.
+ * MEMORY. vtdm_create and vtdm_create_caching take all that a manager ever needs, vtdm_destroy gives it back, and no other
+ * function asks for any.
  *
  * IT DOES NOT WEAR OUT. A manager answers VTDM_CALLS_END calls, 2^56, and VTDM_SPENT to each further one, since its counts have 64
  * bits. Nobody gets there: at a billion calls a second it takes more than two years. Readers are not counted.
@@ -57,7 +63,8 @@ extern "C" {
 /* ---- Limits */
 
 #define VTDM_PAGE_BYTES UINT64_C(4096)               /* bytes of a page, and of a frame */
-#define VTDM_ADDRESSES_END (UINT64_C(1) << 39)       /* device addresses are below it */
+#define VTDM_ADDRESSES_END (UINT64_C(1) << 39)       /* device addresses of a 39-bit domain are below it .. */
+#define VTDM_WIDE_ADDRESSES_END (UINT64_C(1) << 48)  /* .. and those of a 48-bit domain below this */
 #define VTDM_FRAMES_END (UINT64_C(1) << 24)          /* numbers of host frames are below it */
 #define VTDM_WINDOW_FIRST UINT64_C(0xFEE00)          /* the first page of the interrupt address range, which is not translated .. */
 #define VTDM_WINDOW_LAST UINT64_C(0xFEEFF)           /* .. and the last: device addresses 0xfee00000 to 0xfeefffff */
@@ -106,7 +113,7 @@ enum vtdm_status {
     VTDM_NOT_ATTACHED = 4,      /* the device is attached to no domain */
     VTDM_BAD_RANGE = 5,         /* pages, frames, order, rights or address are outside their limits */
     VTDM_FRAME_OWNED = 6,       /* a segment begins at a table frame */
-    VTDM_NO_RANGE = 7,          /* no free range is long enough, which does not happen with the limits above */
+    VTDM_NO_RANGE = 7,          /* no free range is long enough, which does not happen with the limits above at either width */
     VTDM_NO_FRAMES = 8,         /* too few table frames are free */
     VTDM_TOO_MANY_PIECES = 9,   /* the range cuts a piece of the address space, and there are VTDM_MOST_PIECES - 1 or more */
     VTDM_NOT_LIVE = 10,         /* a page of the range is not mapped */
@@ -117,16 +124,16 @@ enum vtdm_status {
 
     /* Faults of a request, by vtdm_dma: 32 more than the fault reason of the VT-d specification. */
     VTDM_FAULT_NOT_ATTACHED = 34, /* the device is attached to no domain */
-    VTDM_FAULT_BEYOND_WIDTH = 36, /* the address is VTDM_ADDRESSES_END or more */
+    VTDM_FAULT_BEYOND_WIDTH = 36, /* the address is VTDM_ADDRESSES_END or more, in a 48-bit domain VTDM_WIDE_ADDRESSES_END */
     VTDM_FAULT_WRITE = 37,        /* the page is not mapped, or without the right to write */
     VTDM_FAULT_READ = 38,         /* the page is not mapped, or without the right to read */
 
     /* Of this interface itself. Nothing has changed; of these VTDM_PENDING alone counts as a call. */
     VTDM_ABSENT = 64,        /* there is no manager at the struct */
     VTDM_SPENT = 65,         /* the manager has answered VTDM_CALLS_END calls */
-    VTDM_PRESENT = 66,       /* vtdm_create: there is a manager at the struct already */
-    VTDM_BAD_FRAMES = 67,    /* vtdm_create: the number of table frames is outside its limits */
-    VTDM_NO_MEMORY = 68,     /* vtdm_create: malloc or realloc gave none, and what was taken is freed */
+    VTDM_PRESENT = 66,       /* vtdm_create, vtdm_create_caching: there is a manager at the struct already */
+    VTDM_BAD_FRAMES = 67,    /* vtdm_create, vtdm_create_caching: the number of table frames is outside its limits */
+    VTDM_NO_MEMORY = 68,     /* vtdm_create, vtdm_create_caching: malloc or realloc gave none, what was taken is freed */
     VTDM_MANY_SEGMENTS = 69, /* vtdm_map_list: more than VTDM_MOST_SEGMENTS segments */
     VTDM_PENDING = 70,       /* vtdm_reap: the unit has not done the ticket's invalidation wait descriptor */
     VTDM_NO_WORD = 71,       /* vtdm_table_word: there is no such table frame, or no such index */
@@ -139,17 +146,24 @@ enum vtdm_rights { VTDM_READ = 1, VTDM_WRITE = 2 };
 /* How a domain unmaps. Strict: an unmap invalidates before it returns. Lazy: it leaves that to a later flush. */
 enum vtdm_mode { VTDM_STRICT = 0, VTDM_LAZY = 1 };
 
-/* The caches of the unit: the IOTLB, the paging-structure cache, and the context cache. */
-enum vtdm_cache { VTDM_CACHE_LEAF = 0, VTDM_CACHE_NON_LEAF = 1, VTDM_CACHE_CONTEXT = 2 };
+/* The caches of the unit: the IOTLB, the paging-structure cache, the context cache, and, with Caching Mode alone, the pages that it
+ * remembers as absent. */
+enum vtdm_cache { VTDM_CACHE_LEAF = 0, VTDM_CACHE_NON_LEAF = 1, VTDM_CACHE_CONTEXT = 2, VTDM_CACHE_FAULT = 3 };
 
 /* ---- Begin and end */
 
 /* Makes a manager with VTDM_LEAST_TABLE_FRAMES to VTDM_MOST_TABLE_FRAMES table frames: no domain, no device attached, nothing
  * mapped. The table frames are host frames 0 to frames - 1; no device reaches them, for no map takes them. A domain needs one for
- * its root, one for each 1 GiB of addresses in use, and one for each 2 MiB of them that is not mapped by a leaf of 2 MiB. An unmap
- * takes the last kind away where it covers all its 2 MiB; the others stay until vtdm_drop.
+ * its root, a 48-bit domain one more for each 512 GiB of addresses in use, and each domain one for each 1 GiB of them and one for
+ * each 2 MiB of them that is not mapped by a leaf of 2 MiB. An unmap takes the last kind away where it covers all its 2 MiB; the
+ * others stay until vtdm_drop.
  * Answers a status: VTDM_OK, VTDM_PRESENT, VTDM_BAD_FRAMES, VTDM_NO_MEMORY. */
 uint64_t vtdm_create(struct vtdm *manager, uint64_t frames);
+
+/* Makes a manager whose unit has Caching Mode (capability bit 7), as the emulated unit of a hypervisor may: it may remember that a
+ * page is absent, and vtdm_map and vtdm_map_list have it forget that of the pages which they map before they return. What waits in
+ * the queue is done before. Otherwise as vtdm_create. */
+uint64_t vtdm_create_caching(struct vtdm *manager, uint64_t frames);
 
 /* Ends the manager, if there is one, and frees its memory. Then the struct is as at VTDM_INIT and can be used again. */
 void vtdm_destroy(struct vtdm *manager);
@@ -157,8 +171,11 @@ void vtdm_destroy(struct vtdm *manager);
 /* ---- Calls. Each can also answer VTDM_ABSENT and VTDM_SPENT. Its other statuses are named in the order in which they are judged:
  * the first whose condition holds is answered. */
 
-/* Makes an empty domain, and answers its id. VTDM_TOO_MANY_DOMAINS, VTDM_NO_FRAMES. */
+/* Makes an empty 39-bit domain, and answers its id. VTDM_TOO_MANY_DOMAINS, VTDM_NO_FRAMES. */
 struct vtdm_answer vtdm_domain(struct vtdm *manager, bool lazy);
+
+/* Makes an empty 48-bit domain; otherwise as vtdm_domain. */
+struct vtdm_answer vtdm_domain_wide(struct vtdm *manager, bool lazy);
 
 /* Ends a domain with all its mapped pages and retired ranges, and gives its table frames back. No device may be attached to it,
  * and no ticket of it open. VTDM_NO_DOMAIN, VTDM_BUSY. */
@@ -171,7 +188,8 @@ struct vtdm_answer vtdm_attach(struct vtdm *manager, uint64_t device, uint64_t d
 struct vtdm_answer vtdm_detach(struct vtdm *manager, uint64_t device);
 
 /* Maps 1 to VTDM_MOST_PAGES pages to the host frames from `frame` on, and answers the device address of the first page: the lowest
- * free one that is a multiple of 2^order pages. `order` is at most VTDM_MOST_ORDER, and the frames are below VTDM_FRAMES_END.
+ * free one that is a multiple of 2^order pages; in a 48-bit domain the lowest at VTDM_ADDRESSES_END (512 GiB) or above, and where
+ * there is none there the lowest of all. `order` is at most VTDM_MOST_ORDER, and the frames are below VTDM_FRAMES_END.
  * Where page and frame are multiples of 512, 512 pages are mapped by one leaf of 2 MiB. `rights` are of enum vtdm_rights.
  * VTDM_NO_DOMAIN, VTDM_BAD_RANGE, VTDM_FRAME_OWNED, VTDM_NO_RANGE, VTDM_TOO_MANY_PIECES, VTDM_NO_FRAMES. */
 struct vtdm_answer vtdm_map(struct vtdm *manager, uint64_t domain, uint64_t frame, uint64_t pages, uint64_t order,
@@ -249,6 +267,9 @@ struct vtdm_answer vtdm_devices_of(struct vtdm *manager, uint64_t domain);
 /* The mode of a domain, of enum vtdm_mode. VTDM_NO_DOMAIN. */
 struct vtdm_answer vtdm_mode_of(struct vtdm *manager, uint64_t domain);
 
+/* The bits of a domain's device addresses: 39 or 48. VTDM_NO_DOMAIN. */
+struct vtdm_answer vtdm_width_of(struct vtdm *manager, uint64_t domain);
+
 /* ---- The words that a unit walks. With these readers the tables can be laid out in a memory that an emulated or a real unit
  * reads: word I of table frame F at host address F * VTDM_PAGE_BYTES + 8 * I. No call tells which words it has written: lay out
  * anew what may have changed, and have that unit invalidate what it cached, before memory that it could reach is used again. */
@@ -262,8 +283,8 @@ struct vtdm_answer vtdm_root_of(struct vtdm *manager, uint64_t domain);
 struct vtdm_answer vtdm_table_word(struct vtdm *manager, uint64_t frame, uint64_t index);
 
 /* The two words of the context entry of a device, in legacy mode: both 0 where it is attached to no domain; else bit 0 of the low
- * word is set and its bits 12 and up are the root's frame, and the high word has the address width in bits 0 to 2 (1: 39 bits) and
- * the id of the domain in bits 8 to 23. VTDM_NO_DEVICE. */
+ * word is set and its bits 12 and up are the root's frame, and the high word has the address width (AGAW) in bits 0 to 2 (1: 39
+ * bits, the root is a table of level 3; 2: 48 bits, level 4) and the id of the domain in bits 8 to 23. VTDM_NO_DEVICE. */
 struct vtdm_context_answer {
     uint64_t status;
     uint64_t low;

@@ -1,5 +1,5 @@
 /* Answers the lines of standard input through vtdm.h as `vtdm run` does, or writes at their end what `vtdm report` does. The words
- * are `run` or `report`, and the option `--frames N`. The lines are good ones. */
+ * are `run` or `report`, and the options `--frames N` and `--caching-mode`. The lines are good ones. */
 #include "script.h"
 
 #include <stdio.h>
@@ -11,11 +11,18 @@ enum { TABLE_FRAMES = 64, TEXT = 4096 };
 
 int main(int argc, char **argv) {
     bool reports = argc > 1 && strcmp(argv[1], "report") == 0;
-    uint64_t frames = argc > 3 && strcmp(argv[2], "--frames") == 0 ? strtoull(argv[3], NULL, 10) : TABLE_FRAMES;
+    uint64_t frames = TABLE_FRAMES;
+    bool caching = false;
+    for (int i = 2; i < argc; i++) {
+        if (strcmp(argv[i], "--caching-mode") == 0)
+            caching = true;
+        else if (strcmp(argv[i], "--frames") == 0 && i + 1 < argc)
+            frames = strtoull(argv[++i], NULL, 10);
+    }
     struct vtdm manager = VTDM_INIT;
     char line[TEXT], text[TEXT];
     unsigned events = 0;
-    if (vtdm_create(&manager, frames) != VTDM_OK)
+    if ((caching ? vtdm_create_caching(&manager, frames) : vtdm_create(&manager, frames)) != VTDM_OK)
         return 1;
     for (; fgets(line, sizeof line, stdin); events++) {
         line[strcspn(line, "\n")] = '\0';

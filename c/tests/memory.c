@@ -39,12 +39,12 @@ void __wrap_free(void *block) {
     __real_free(block);
 }
 
-/* Refuses one request of a creation; answers whether there were as many. */
-static bool refuse(uint64_t frames, long number) {
+/* Refuses one request of a creation, with Caching Mode or without; answers whether there were as many. */
+static bool refuse(uint64_t frames, bool caching, long number) {
     struct vtdm manager = VTDM_INIT;
     asked = 0;
     refused = number;
-    uint64_t status = vtdm_create(&manager, frames);
+    uint64_t status = caching ? vtdm_create_caching(&manager, frames) : vtdm_create(&manager, frames);
     refused = 0;
     if (asked < number) {
         CHECK(status == VTDM_OK);
@@ -75,15 +75,15 @@ static void create_and_destroy(void) {
     CHECK(same);
 }
 
-/* Every function but vtdm_create. */
+/* Every function but vtdm_create and vtdm_create_caching. */
 enum function {
-    DOMAIN, DROP, ATTACH, DETACH, MAP, MAP_LIST, UNMAP, FLUSH, BEGIN, UNIT, REAP, DMA, EVICT,
-    TOTALS, DOMAIN_TOTALS, DOMAIN_OF, DEVICES_OF, MODE_OF, ROOT_OF, TABLE_WORD, CONTEXT, DESTROY, FUNCTIONS
+    DOMAIN, DOMAIN_WIDE, DROP, ATTACH, DETACH, MAP, MAP_LIST, UNMAP, FLUSH, BEGIN, UNIT, REAP, DMA, EVICT,
+    TOTALS, DOMAIN_TOTALS, DOMAIN_OF, DEVICES_OF, MODE_OF, WIDTH_OF, ROOT_OF, TABLE_WORD, CONTEXT, DESTROY, FUNCTIONS
 };
 
 static const char *const names[FUNCTIONS] = {
-    "domain", "drop", "attach", "detach", "map", "map_list", "unmap", "flush", "begin", "unit", "reap", "dma", "evict",
-    "totals", "domain_totals", "domain_of", "devices_of", "mode_of", "root_of", "table_word", "context", "destroy",
+    "domain", "domain_wide", "drop", "attach", "detach", "map", "map_list", "unmap", "flush", "begin", "unit", "reap", "dma", "evict",
+    "totals", "domain_totals", "domain_of", "devices_of", "mode_of", "width_of", "root_of", "table_word", "context", "destroy",
 };
 
 /* How often each function was called, and how often it answered VTDM_OK. */
@@ -156,6 +156,7 @@ static uint64_t request(struct vtdm *manager) {
 static uint64_t call(struct vtdm *manager, enum function function) {
     switch (function) {
     case DOMAIN: return vtdm_domain(manager, pick(2)).status;
+    case DOMAIN_WIDE: return vtdm_domain_wide(manager, pick(2)).status;
     case DROP: return vtdm_drop(manager, any_domain()).status;
     case ATTACH: return vtdm_attach(manager, pick(VTDM_DEVICES), lasting_domain()).status;
     case DETACH: return vtdm_detach(manager, pick(VTDM_DEVICES)).status;
@@ -173,6 +174,7 @@ static uint64_t call(struct vtdm *manager, enum function function) {
     case DOMAIN_OF: return vtdm_domain_of(manager, pick(VTDM_DEVICES)).status;
     case DEVICES_OF: return vtdm_devices_of(manager, any_domain()).status;
     case MODE_OF: return vtdm_mode_of(manager, any_domain()).status;
+    case WIDTH_OF: return vtdm_width_of(manager, any_domain()).status;
     case ROOT_OF: return vtdm_root_of(manager, any_domain()).status;
     case TABLE_WORD: return vtdm_table_word(manager, pick(4100), pick(520)).status;
     case CONTEXT: return vtdm_context(manager, pick(17)).status;
@@ -206,9 +208,9 @@ int main(void) {
     static const uint64_t sizes[] = {VTDM_LEAST_TABLE_FRAMES, 64, VTDM_MOST_TABLE_FRAMES};
     printf("memory\n"); /* the C library's buffer, outside the counts */
     held = 0;
-    for (size_t i = 0; i < sizeof sizes / sizeof sizes[0]; i++) {
+    for (size_t i = 0; i < 2 * sizeof sizes / sizeof sizes[0]; i++) {
         long number = 1;
-        while (refuse(sizes[i], number))
+        while (refuse(sizes[i / 2], i % 2, number))
             number++;
         CHECK(number > LEAST_REQUESTS);
     }

@@ -51,8 +51,16 @@ static struct vtdm_answer map_list(struct vtdm *manager, const struct words *wor
     return vtdm_map_list(manager, number(words, 1), number(words, 2), rights(words, 3), segments, count);
 }
 
+static struct vtdm_answer make_domain(struct vtdm *manager, const struct words *words) {
+    bool lazy = has(words, "lazy");
+    return has(words, "48") ? vtdm_domain_wide(manager, lazy) : vtdm_domain(manager, lazy);
+}
+
 static uint64_t cache(const struct words *words) {
-    return has(words, "leaf") ? VTDM_CACHE_LEAF : has(words, "nonleaf") ? VTDM_CACHE_NON_LEAF : VTDM_CACHE_CONTEXT;
+    return has(words, "leaf")      ? VTDM_CACHE_LEAF
+           : has(words, "nonleaf") ? VTDM_CACHE_NON_LEAF
+           : has(words, "fault")   ? VTDM_CACHE_FAULT
+                                   : VTDM_CACHE_CONTEXT;
 }
 
 static struct vtdm_answer request(struct vtdm *manager, const struct words *words) {
@@ -69,7 +77,7 @@ static struct called call(struct vtdm *manager, const struct words *words) {
     const char *name = words->at[0];
     uint64_t first = number(words, 1), second = number(words, 2), third = number(words, 3), fourth = number(words, 4);
     if (strcmp(name, "domain") == 0)
-        return (struct called){vtdm_domain(manager, has(words, "lazy")), "domain %"};
+        return (struct called){make_domain(manager, words), "domain %"};
     if (strcmp(name, "drop") == 0)
         return (struct called){vtdm_drop(manager, first), "ok"};
     if (strcmp(name, "attach") == 0)

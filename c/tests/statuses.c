@@ -8,6 +8,7 @@ enum { MANY_SEGMENTS = VTDM_MOST_SEGMENTS + 1 };
 static void check_absent(struct vtdm *manager) {
     struct vtdm_segment segments[MANY_SEGMENTS] = {{0x100, 1}};
     ANSWERS(vtdm_domain(manager, true), VTDM_ABSENT, 0);
+    ANSWERS(vtdm_domain_wide(manager, true), VTDM_ABSENT, 0);
     ANSWERS(vtdm_drop(manager, 1), VTDM_ABSENT, 0);
     ANSWERS(vtdm_attach(manager, 0, 1), VTDM_ABSENT, 0);
     ANSWERS(vtdm_detach(manager, 0), VTDM_ABSENT, 0);
@@ -25,6 +26,7 @@ static void check_absent(struct vtdm *manager) {
     ANSWERS(vtdm_domain_of(manager, 0), VTDM_ABSENT, 0);
     ANSWERS(vtdm_devices_of(manager, 1), VTDM_ABSENT, 0);
     ANSWERS(vtdm_mode_of(manager, 1), VTDM_ABSENT, 0);
+    ANSWERS(vtdm_width_of(manager, 1), VTDM_ABSENT, 0);
     ANSWERS(vtdm_root_of(manager, 1), VTDM_ABSENT, 0);
     ANSWERS(vtdm_table_word(manager, 0, 0), VTDM_ABSENT, 0);
     CHECK(vtdm_totals(manager).status == VTDM_ABSENT);
@@ -51,7 +53,8 @@ static void check_limits(struct vtdm *manager) {
     ANSWERS(vtdm_detach(manager, 15), VTDM_NOT_ATTACHED, 0);
     ANSWERS(vtdm_dma(manager, 15, UINT64_MAX, true, true, true), VTDM_FAULT_NOT_ATTACHED, 0);
     ANSWERS(vtdm_evict(manager, VTDM_CACHE_CONTEXT, UINT64_MAX), VTDM_OK, 0);
-    ANSWERS(vtdm_evict(manager, 3, 0), VTDM_BAD_CACHE, 0);
+    ANSWERS(vtdm_evict(manager, VTDM_CACHE_FAULT, 0), VTDM_OK, 0);
+    ANSWERS(vtdm_evict(manager, VTDM_CACHE_FAULT + 1, 0), VTDM_BAD_CACHE, 0);
     ANSWERS(vtdm_evict(manager, UINT64_MAX, 0), VTDM_BAD_CACHE, 0);
 }
 
@@ -91,6 +94,55 @@ static void check_edges(void) {
     vtdm_destroy(&manager);
 }
 
+/* A page that the unit remembers as absent is reached once it is mapped; without Caching Mode a map leaves the queue alone. */
+static void check_caching_mode(bool caching) {
+    struct vtdm manager = VTDM_INIT;
+    CHECK((caching ? vtdm_create_caching(&manager, 64) : vtdm_create(&manager, 64)) == VTDM_OK);
+    ANSWERS(vtdm_domain(&manager, false), VTDM_OK, 1);
+    ANSWERS(vtdm_attach(&manager, 3, 1), VTDM_OK, 0);
+    ANSWERS(vtdm_dma(&manager, 3, 0x1000, false, true, true), VTDM_FAULT_READ, 0);
+    ANSWERS(vtdm_begin(&manager, 1), VTDM_OK, 1);
+    ANSWERS(map_read(&manager, 0x100, 0, 0), VTDM_BAD_RANGE, 0);
+    CHECK(vtdm_totals(&manager).pending == 2);
+    ANSWERS(map_read(&manager, 0x100, 1, 0), VTDM_OK, 0x1000);
+    CHECK(vtdm_totals(&manager).pending == (caching ? 0 : 2));
+    ANSWERS(vtdm_dma(&manager, 3, 0x1000, false, true, false), VTDM_OK, 0x100000);
+    vtdm_destroy(&manager);
+}
+
+/* The last address of a width is within it, the next one beyond. */
+static void check_end_of_width(struct vtdm *manager, uint64_t domain, uint64_t end) {
+    const uint64_t device = domain;
+    ANSWERS(vtdm_attach(manager, device, domain), VTDM_OK, 0);
+    ANSWERS(vtdm_dma(manager, device, end - 1, false, true, true), VTDM_FAULT_READ, 0);
+    ANSWERS(vtdm_dma(manager, device, end, false, true, true), VTDM_FAULT_BEYOND_WIDTH, 0);
+    ANSWERS(vtdm_dma(manager, device, UINT64_MAX, true, false, false), VTDM_FAULT_BEYOND_WIDTH, 0);
+    ANSWERS(vtdm_unmap(manager, domain, end - VTDM_PAGE_BYTES, 1), VTDM_NOT_LIVE, 0);
+    ANSWERS(vtdm_unmap(manager, domain, end - VTDM_PAGE_BYTES, 2), VTDM_BAD_RANGE, 0);
+    ANSWERS(vtdm_unmap(manager, domain, end, 1), VTDM_BAD_RANGE, 0);
+}
+
+/* A domain of each width and mode, and what the width changes: where addresses end, where maps begin, and the tables of a page. */
+static void check_widths(void) {
+    struct vtdm manager = VTDM_INIT;
+    CHECK(vtdm_create(&manager, 64) == VTDM_OK);
+    for (uint64_t domain = 1; domain <= 4; domain++) {
+        bool wide = domain > 2, lazy = domain % 2;
+        ANSWERS(wide ? vtdm_domain_wide(&manager, lazy) : vtdm_domain(&manager, lazy), VTDM_OK, domain);
+        ANSWERS(vtdm_width_of(&manager, domain), VTDM_OK, wide ? 48 : 39);
+        ANSWERS(vtdm_mode_of(&manager, domain), VTDM_OK, lazy ? VTDM_LAZY : VTDM_STRICT);
+        check_end_of_width(&manager, domain, wide ? VTDM_WIDE_ADDRESSES_END : VTDM_ADDRESSES_END);
+        ANSWERS(vtdm_dma(&manager, domain, VTDM_ADDRESSES_END, true, true, true), wide ? VTDM_FAULT_WRITE : VTDM_FAULT_BEYOND_WIDTH, 0);
+        ANSWERS(vtdm_unmap(&manager, domain, VTDM_ADDRESSES_END - VTDM_PAGE_BYTES, 2), wide ? VTDM_NOT_LIVE : VTDM_BAD_RANGE, 0);
+        uint64_t before = vtdm_totals(&manager).used, at = wide ? VTDM_ADDRESSES_END : VTDM_PAGE_BYTES;
+        ANSWERS(vtdm_map(&manager, domain, 0x100, 1, 0, VTDM_READ), VTDM_OK, at);
+        CHECK(vtdm_totals(&manager).used == before + (wide ? 3 : 2));
+        ANSWERS(vtdm_dma(&manager, domain, at + 1, false, true, true), VTDM_OK, 0x100001);
+        ANSWERS(vtdm_unmap(&manager, domain, at, 1), VTDM_OK, 0);
+    }
+    vtdm_destroy(&manager);
+}
+
 /* Refusals and faults by their names. The limit on pieces has a row of its own, and keeps a range from ever lacking. */
 static void check_names(void) {
     struct vtdm manager = VTDM_INIT;
@@ -98,6 +150,7 @@ static void check_names(void) {
     for (uint64_t domain = 1; domain <= VTDM_MOST_DOMAINS; domain++)
         ANSWERS(vtdm_domain(&manager, domain == 2), VTDM_OK, domain);
     ANSWERS(vtdm_domain(&manager, false), VTDM_TOO_MANY_DOMAINS, 0);
+    ANSWERS(vtdm_domain_wide(&manager, false), VTDM_TOO_MANY_DOMAINS, 0);
     ANSWERS(vtdm_attach(&manager, 0, 1), VTDM_OK, 0);
     ANSWERS(vtdm_attach(&manager, 0, 2), VTDM_BUSY, 0);
     ANSWERS(vtdm_drop(&manager, 1), VTDM_BUSY, 0);
@@ -149,6 +202,9 @@ static void check_readers(struct vtdm *manager) {
     ANSWERS(vtdm_mode_of(manager, 1), VTDM_OK, VTDM_STRICT);
     ANSWERS(vtdm_mode_of(manager, 2), VTDM_OK, VTDM_LAZY);
     ANSWERS(vtdm_mode_of(manager, 3), VTDM_NO_DOMAIN, 0);
+    ANSWERS(vtdm_width_of(manager, 1), VTDM_OK, 39);
+    ANSWERS(vtdm_width_of(manager, 3), VTDM_NO_DOMAIN, 0);
+    ANSWERS(vtdm_width_of(manager, UINT64_MAX), VTDM_NO_DOMAIN, 0);
     ANSWERS(vtdm_root_of(manager, 3), VTDM_NO_DOMAIN, 0);
     ANSWERS(vtdm_table_word(manager, 63, 511), VTDM_OK, vtdm_table_word(manager, 63, 511).value);
     ANSWERS(vtdm_table_word(manager, 64, 0), VTDM_NO_WORD, 0);
@@ -172,12 +228,17 @@ int main(void) {
     check_absent(&manager);
     CHECK(is_empty(&manager));
     CHECK(vtdm_create(&manager, UINT64_MAX) == VTDM_BAD_FRAMES && is_empty(&manager));
+    CHECK(vtdm_create_caching(&manager, 15) == VTDM_BAD_FRAMES && is_empty(&manager));
     check_absent(&manager);
     CHECK(vtdm_create(&manager, 64) == VTDM_OK && !is_empty(&manager));
     CHECK(vtdm_create(&manager, 64) == VTDM_PRESENT);
     CHECK(vtdm_create(&manager, 0) == VTDM_PRESENT);
+    CHECK(vtdm_create_caching(&manager, 64) == VTDM_PRESENT);
     CHECK(vtdm_create(&other, 4096) == VTDM_OK);
     check_edges();
+    check_caching_mode(false);
+    check_caching_mode(true);
+    check_widths();
     check_names();
     check_caches();
     check_limits(&manager);

@@ -5,8 +5,12 @@
 
 enum { DOMAINS = 4, STEPS = 20000, MOST_LIVE = 400, LEAST_REACHED = 1000, TABLE_FRAMES = 64 };
 
-/* Tables of second-stage paging: their levels and words, the bytes of a page, and the bit of a leaf of 2 MiB. */
-enum { LEVELS = 3, TABLE_WORDS = 512, PAGE = 4096, LARGE = 0x80 };
+/* Tables of second-stage paging: their words, the bytes of a page, and the bit of a leaf of 2 MiB. */
+enum { TABLE_WORDS = 512, PAGE = 4096, LARGE = 0x80 };
+
+/* The address width in a context entry's high word: its bits, its numbers for 39 and for 48 bits of address, and how many levels of
+ * tables a walk has more than its number. */
+enum { AGAW = 7, AGAW_39 = 1, AGAW_48 = 2, LEVELS_OVER_AGAW = 2 };
 
 static uint64_t seed = 20;
 
@@ -29,10 +33,13 @@ static struct vtdm_answer walk(struct vtdm *manager, uint64_t device, uint64_t a
     const uint64_t right = write ? VTDM_WRITE : VTDM_READ;
     const struct vtdm_answer fault = {write ? VTDM_FAULT_WRITE : VTDM_FAULT_READ, 0};
     struct vtdm_context_answer context = vtdm_context(manager, device);
+    int levels = (int)(context.high & AGAW) + LEVELS_OVER_AGAW;
     uint64_t table = context.low >> 12;
     if (!(context.low & 1))
         return (struct vtdm_answer){VTDM_FAULT_NOT_ATTACHED, 0};
-    for (int level = LEVELS; level > 0; level--) {
+    if (address >> lowest(levels + 1))
+        return (struct vtdm_answer){VTDM_FAULT_BEYOND_WIDTH, 0};
+    for (int level = levels; level > 0; level--) {
         uint64_t word = word_at(manager, table, address, level);
         if (!(word & right))
             return fault;
@@ -43,10 +50,16 @@ static struct vtdm_answer walk(struct vtdm *manager, uint64_t device, uint64_t a
     return fault;
 }
 
+static bool is_wide(struct vtdm *manager, uint64_t domain) {
+    return vtdm_width_of(manager, domain).value == 48;
+}
+
 /* The word of level 2 for an address, of a domain that has tables there. */
 static uint64_t word_of_2_mib(struct vtdm *manager, uint64_t domain, uint64_t address) {
-    uint64_t table = word_at(manager, vtdm_root_of(manager, domain).value, address, LEVELS) >> 12;
-    return word_at(manager, table, address, LEVELS - 1);
+    uint64_t table = vtdm_root_of(manager, domain).value;
+    for (int level = is_wide(manager, domain) ? 4 : 3; level > 2; level--)
+        table = word_at(manager, table, address, level) >> 12;
+    return word_at(manager, table, address, 2);
 }
 
 /* How many words of a table are present. */
@@ -57,63 +70,74 @@ static int present(struct vtdm *manager, uint64_t table) {
     return count;
 }
 
-static void make(struct vtdm *manager, bool lazy) {
+static struct vtdm_answer make_domain(struct vtdm *manager, bool lazy, bool wide) {
+    return wide ? vtdm_domain_wide(manager, lazy) : vtdm_domain(manager, lazy);
+}
+
+static void make(struct vtdm *manager, bool lazy, bool wide) {
     CHECK(vtdm_create(manager, TABLE_FRAMES) == VTDM_OK);
-    ANSWERS(vtdm_domain(manager, lazy), VTDM_OK, 1);
+    ANSWERS(make_domain(manager, lazy, wide), VTDM_OK, 1);
     ANSWERS(vtdm_attach(manager, 3, 1), VTDM_OK, 0);
 }
 
+/* Maps pages of domain 1, and answers where. */
+static uint64_t mapped(struct vtdm *manager, uint64_t frame, uint64_t pages, uint64_t order, uint64_t rights) {
+    struct vtdm_answer at = vtdm_map(manager, 1, frame, pages, order, rights);
+    CHECK(at.status == VTDM_OK && at.value % ((uint64_t)PAGE << order) == 0);
+    return at.value;
+}
+
 /* A detached device has an empty context entry, and no other device's changes. */
-static void detach(void) {
+static void detach(bool wide) {
     struct vtdm manager = VTDM_INIT;
-    make(&manager, false);
+    make(&manager, false, wide);
     ANSWERS(vtdm_attach(&manager, 4, 1), VTDM_OK, 0);
-    ANSWERS(vtdm_map(&manager, 1, 0x100, 1, 0, VTDM_READ), VTDM_OK, 0x1000);
-    ANSWERS(walk(&manager, 3, 0x1234, false), VTDM_OK, 0x100234);
+    uint64_t at = mapped(&manager, 0x100, 1, 0, VTDM_READ);
+    ANSWERS(walk(&manager, 3, at + 0x234, false), VTDM_OK, 0x100234);
     ANSWERS(vtdm_detach(&manager, 3), VTDM_OK, 0);
     CHECK(vtdm_context(&manager, 3).low == 0 && vtdm_context(&manager, 3).high == 0);
-    ANSWERS(walk(&manager, 3, 0x1234, false), VTDM_FAULT_NOT_ATTACHED, 0);
-    ANSWERS(walk(&manager, 4, 0x1234, false), VTDM_OK, 0x100234);
+    ANSWERS(walk(&manager, 3, at + 0x234, false), VTDM_FAULT_NOT_ATTACHED, 0);
+    ANSWERS(walk(&manager, 4, at + 0x234, false), VTDM_OK, 0x100234);
     vtdm_destroy(&manager);
 }
 
 /* An unmap inside a leaf of 2 MiB puts a table of 511 leaves in its place. */
-static void unmap_splits(void) {
+static void unmap_splits(bool wide) {
     struct vtdm manager = VTDM_INIT;
-    make(&manager, false);
-    ANSWERS(vtdm_map(&manager, 1, 0x400, TABLE_WORDS, 9, VTDM_READ | VTDM_WRITE), VTDM_OK, 0x200000);
-    CHECK(word_of_2_mib(&manager, 1, 0x200000) == (UINT64_C(0x400000) | LARGE | VTDM_READ | VTDM_WRITE));
-    ANSWERS(walk(&manager, 3, 0x201008, true), VTDM_OK, 0x401008);
-    ANSWERS(vtdm_unmap(&manager, 1, 0x201000, 1), VTDM_OK, 0);
-    uint64_t word = word_of_2_mib(&manager, 1, 0x200000), table = word >> 12;
+    make(&manager, false, wide);
+    uint64_t at = mapped(&manager, 0x400, TABLE_WORDS, 9, VTDM_READ | VTDM_WRITE);
+    CHECK(word_of_2_mib(&manager, 1, at) == (UINT64_C(0x400000) | LARGE | VTDM_READ | VTDM_WRITE));
+    ANSWERS(walk(&manager, 3, at + 0x1008, true), VTDM_OK, 0x401008);
+    ANSWERS(vtdm_unmap(&manager, 1, at + PAGE, 1), VTDM_OK, 0);
+    uint64_t word = word_of_2_mib(&manager, 1, at), table = word >> 12;
     CHECK((word & (PAGE - 1)) == (VTDM_READ | VTDM_WRITE) && table < TABLE_FRAMES);
     CHECK(present(&manager, table) == TABLE_WORDS - 1);
     for (uint64_t index = 0; index < TABLE_WORDS; index++) {
         uint64_t wanted = index == 1 ? 0 : (0x400 + index) << 12 | VTDM_READ | VTDM_WRITE;
         ANSWERS(vtdm_table_word(&manager, table, index), VTDM_OK, wanted);
     }
-    ANSWERS(walk(&manager, 3, 0x201008, true), VTDM_FAULT_WRITE, 0);
-    ANSWERS(walk(&manager, 3, 0x202008, true), VTDM_OK, 0x402008);
+    ANSWERS(walk(&manager, 3, at + 0x1008, true), VTDM_FAULT_WRITE, 0);
+    ANSWERS(walk(&manager, 3, at + 0x2008, true), VTDM_OK, 0x402008);
     vtdm_destroy(&manager);
 }
 
 /* A dropped domain has no root, its tables and those of its retired ranges are free, and the next domain that gets them begins with
  * nothing present. */
-static void drop(void) {
+static void drop(bool wide) {
     struct vtdm manager = VTDM_INIT;
-    make(&manager, true);
+    make(&manager, true, wide);
     uint64_t root = vtdm_root_of(&manager, 1).value;
-    ANSWERS(vtdm_map(&manager, 1, 0x101, TABLE_WORDS, 0, VTDM_READ), VTDM_OK, 0x1000);
-    ANSWERS(vtdm_map(&manager, 1, 0x101, TABLE_WORDS, 9, VTDM_READ), VTDM_OK, 0x400000);
+    mapped(&manager, 0x101, TABLE_WORDS, 0, VTDM_READ);
+    uint64_t at = mapped(&manager, 0x101, TABLE_WORDS, 9, VTDM_READ);
     CHECK(present(&manager, root) == 1);
-    ANSWERS(vtdm_unmap(&manager, 1, 0x400000, TABLE_WORDS), VTDM_OK, 0);
+    ANSWERS(vtdm_unmap(&manager, 1, at, TABLE_WORDS), VTDM_OK, 0);
     CHECK(vtdm_totals(&manager).held == 1);
     ANSWERS(vtdm_detach(&manager, 3), VTDM_OK, 0);
     ANSWERS(vtdm_drop(&manager, 1), VTDM_OK, 0);
     ANSWERS(vtdm_root_of(&manager, 1), VTDM_NO_DOMAIN, 0);
     CHECK(vtdm_totals(&manager).free == TABLE_FRAMES && vtdm_totals(&manager).held == 0);
     for (uint64_t domain = 1; domain <= VTDM_MOST_DOMAINS; domain++) {
-        ANSWERS(vtdm_domain(&manager, false), VTDM_OK, domain);
+        ANSWERS(make_domain(&manager, false, domain % 2), VTDM_OK, domain);
         CHECK(present(&manager, vtdm_root_of(&manager, domain).value) == 0);
     }
     ANSWERS(vtdm_attach(&manager, 3, 1), VTDM_OK, 0);
@@ -122,23 +146,23 @@ static void drop(void) {
 }
 
 /* A lazy unmap empties the words at once; what it cut off is held until a flush, and then serves the next map. */
-static void flush(void) {
+static void flush(bool wide) {
     struct vtdm manager = VTDM_INIT;
-    make(&manager, true);
-    ANSWERS(vtdm_map(&manager, 1, 0x101, TABLE_WORDS, 9, VTDM_READ), VTDM_OK, 0x200000);
-    ANSWERS(vtdm_dma(&manager, 3, 0x200008, false, true, true), VTDM_OK, 0x101008);
-    uint64_t table = word_of_2_mib(&manager, 1, 0x200000) >> 12;
+    make(&manager, true, wide);
+    uint64_t at = mapped(&manager, 0x101, TABLE_WORDS, 9, VTDM_READ);
+    ANSWERS(vtdm_dma(&manager, 3, at + 8, false, true, true), VTDM_OK, 0x101008);
+    uint64_t table = word_of_2_mib(&manager, 1, at) >> 12;
     CHECK(present(&manager, table) == TABLE_WORDS);
-    ANSWERS(vtdm_unmap(&manager, 1, 0x200000, TABLE_WORDS), VTDM_OK, 0);
-    CHECK(word_of_2_mib(&manager, 1, 0x200000) == 0 && present(&manager, table) == 0);
-    ANSWERS(vtdm_dma(&manager, 3, 0x200008, false, true, false), VTDM_OK, 0x101008);
-    ANSWERS(walk(&manager, 3, 0x200008, false), VTDM_FAULT_READ, 0);
+    ANSWERS(vtdm_unmap(&manager, 1, at, TABLE_WORDS), VTDM_OK, 0);
+    CHECK(word_of_2_mib(&manager, 1, at) == 0 && present(&manager, table) == 0);
+    ANSWERS(vtdm_dma(&manager, 3, at + 8, false, true, false), VTDM_OK, 0x101008);
+    ANSWERS(walk(&manager, 3, at + 8, false), VTDM_FAULT_READ, 0);
     CHECK(vtdm_totals(&manager).held == 1);
     ANSWERS(vtdm_flush(&manager, 1), VTDM_OK, 1);
     CHECK(vtdm_totals(&manager).held == 0);
-    ANSWERS(vtdm_dma(&manager, 3, 0x200008, false, true, false), VTDM_FAULT_READ, 0);
-    ANSWERS(vtdm_map(&manager, 1, 0x801, TABLE_WORDS, 9, VTDM_READ), VTDM_OK, 0x200000);
-    ANSWERS(walk(&manager, 3, 0x200008, false), VTDM_OK, 0x801008);
+    ANSWERS(vtdm_dma(&manager, 3, at + 8, false, true, false), VTDM_FAULT_READ, 0);
+    CHECK(mapped(&manager, 0x801, TABLE_WORDS, 9, VTDM_READ) == at);
+    ANSWERS(walk(&manager, 3, at + 8, false), VTDM_OK, 0x801008);
     vtdm_destroy(&manager);
 }
 
@@ -175,7 +199,7 @@ static void unmap_some(struct vtdm *manager) {
         *one = lives[--count];
 }
 
-/* A device goes to another domain, a lazy domain is flushed, or a domain without devices is dropped and made again. */
+/* A device goes to another domain, a lazy domain is flushed, or a domain without devices is dropped and made again, of any width. */
 static void change_some(struct vtdm *manager) {
     uint64_t domain = 1 + pick(DOMAINS), device = pick(VTDM_DEVICES);
     if (pick(2)) {
@@ -186,15 +210,21 @@ static void change_some(struct vtdm *manager) {
             if (vtdm_domain_of(manager, each).value == domain)
                 vtdm_detach(manager, each);
         ANSWERS(vtdm_drop(manager, domain), VTDM_OK, 0);
-        ANSWERS(vtdm_domain(manager, domain % 2), VTDM_OK, domain);
+        ANSWERS(make_domain(manager, domain % 2, pick(2)), VTDM_OK, domain);
         for (size_t i = count; i-- > 0;)
             if (lives[i].domain == domain)
                 lives[i] = lives[--count];
     }
 }
 
+/* An address of both widths, of wide domains alone, or of neither. */
+static uint64_t any_address(void) {
+    static const uint64_t firsts[] = {0, VTDM_ADDRESSES_END, VTDM_WIDE_ADDRESSES_END};
+    return firsts[pick(3)] + pick(UINT64_C(1) << 30);
+}
+
 static void ask_some(struct vtdm *manager) {
-    uint64_t device = pick(VTDM_DEVICES), address = pick(2) && count ? lives[pick(count)].address : pick(UINT64_C(1) << 30);
+    uint64_t device = pick(VTDM_DEVICES), address = pick(4) && count ? lives[pick(count)].address : any_address();
     bool write = pick(2);
     address += pick(PAGE);
     struct vtdm_answer said = vtdm_dma(manager, device, address, write, false, pick(2)), read = walk(manager, device, address, write);
@@ -207,8 +237,9 @@ static void check_contexts(struct vtdm *manager) {
         struct vtdm_context_answer context = vtdm_context(manager, device);
         struct vtdm_answer domain = vtdm_domain_of(manager, device);
         uint64_t root = domain.status == VTDM_OK ? vtdm_root_of(manager, domain.value).value : 0;
+        uint64_t width = is_wide(manager, domain.value) ? AGAW_48 : AGAW_39;
         CHECK(context.low == (domain.status == VTDM_OK ? root << 12 | 1 : 0));
-        CHECK(context.high == (domain.status == VTDM_OK ? domain.value << 8 | 1 : 0));
+        CHECK(context.high == (domain.status == VTDM_OK ? domain.value << 8 | width : 0));
     }
 }
 
@@ -216,7 +247,7 @@ static void random_domains(void) {
     struct vtdm manager = VTDM_INIT;
     CHECK(vtdm_create(&manager, TABLE_FRAMES) == VTDM_OK);
     for (uint64_t domain = 1; domain <= DOMAINS; domain++)
-        ANSWERS(vtdm_domain(&manager, domain % 2), VTDM_OK, domain);
+        ANSWERS(make_domain(&manager, domain % 2, domain > DOMAINS / 2), VTDM_OK, domain);
     for (uint64_t device = 0; device < VTDM_DEVICES - 2; device++)
         ANSWERS(vtdm_attach(&manager, device, 1 + device % DOMAINS), VTDM_OK, 0);
     for (int step = 0; step < STEPS; step++) {
@@ -232,10 +263,12 @@ static void random_domains(void) {
 }
 
 int main(void) {
-    detach();
-    unmap_splits();
-    drop();
-    flush();
+    for (int wide = 0; wide < 2; wide++) {
+        detach(wide);
+        unmap_splits(wide);
+        drop(wide);
+        flush(wide);
+    }
     random_domains();
     return check_end();
 }

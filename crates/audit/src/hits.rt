@@ -3,7 +3,7 @@
 ghost use Rattle.manager.specs.Kept.{IsNamedBy};
 
 use crate::judge::Judge;
-use dmatypes::{Access, Call, Event, Mode, PAGE_BYTES, Reply, Whim};
+use dmatypes::{Access, Call, Event, Mode, PAGE_BYTES, Reply, Whim, Width};
 use manager::*;
 use std::alloc::{AllocError, Global};
 use std::marker::Brand;
@@ -72,7 +72,14 @@ impl<B: Owner> Device<B> {
             device: self.notes.device,
             domain,
         };
-        for call in [Call::Domain(mode), attach, map_of(domain, 0x800)] {
+        for call in [
+            Call::Domain {
+                mode,
+                width: Width::W39,
+            },
+            attach,
+            map_of(domain, 0x800),
+        ] {
             let _ = manager.call(rt, rows, &mut self.share, call);
         }
         self.request(rt, manager, rows, PAGE_BYTES);
@@ -181,7 +188,7 @@ fn audited<B: Owner + Send + Sync, R: Threads + Wait + Abort + Sync>(
     alloc: Global,
     seed: Seed,
 ) -> Result<(), Fail>
-    requires { IsNamedBy seed B.name B.parts B.shares B.room B.frames B.rows }
+    requires { IsNamedBy seed B.name B.parts B.shares B.room B.frames B.mode B.rows }
 {
     let Made {
         manager,
@@ -365,7 +372,13 @@ fn short_history(alloc: Global, mode: Mode) -> Result<Vec<Event>, AllocError> {
         pages: 1,
     };
     for (call, reply) in [
-        (Call::Domain(mode), Reply::Made(1)),
+        (
+            Call::Domain {
+                mode,
+                width: Width::W39,
+            },
+            Reply::Made(1),
+        ),
         (attach, Reply::Done),
         (map_of(1, 0x800), Reply::Mapped(PAGE_BYTES)),
         (unmap, Reply::Unmapped(0)),

@@ -85,7 +85,7 @@ impl Judge {
     /// Goes on by one event.
     pub(super) fn see(&mut self, event: &Event) -> Result<(), AllocError> {
         match (&event.call, event.reply) {
-            (Call::Domain(mode), Reply::Made(id)) => self.add(id, *mode),
+            (Call::Domain { mode, .. }, Reply::Made(id)) => self.add(id, *mode),
             (Call::Attach { device, domain }, Reply::Done) => {
                 Ok(self.attached.push((*device, *domain))?)
             }

@@ -5,7 +5,9 @@ ghost use Rattle.std.specs.Prelude.{◌≡◌, ◌+◌, ◌≤◌};
 use crate::driver::{BOTH_RIGHTS, UNALIGNED_FRAME, count};
 use crate::timing::Work;
 use crate::trouble::{Trouble, check};
-use dmatypes::{Access, DEVICES, MOST_ORDER, MOST_PAGES, Mode, PAGE_BYTES, SPAN_PAGES, Whim};
+use dmatypes::{
+    Access, DEVICES, MOST_ORDER, MOST_PAGES, Mode, PAGE_BYTES, SPAN_PAGES, Whim, Width,
+};
 use engine::State;
 use std::alloc::Global;
 
@@ -52,7 +54,7 @@ impl Crowded {
         requires { first ≤ HALF_DEVICES }
     {
         count(&mut self.made)?;
-        self.domain = self.state.domain(Mode::Strict)?;
+        self.domain = self.state.domain(Mode::Strict, Width::W39)?;
         self.attach_from(first)?;
         self.map_spans()?;
         self.read_pages(first)

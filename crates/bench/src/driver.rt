@@ -6,6 +6,7 @@ use crate::trouble::{Trouble, check};
 use arrayvec::ArrayVec;
 use dmatypes::{
     Access, Fault, LEAST_TABLE_FRAMES, MOST_CALLS, MOST_SEGMENTS, Mode, Progress, Segment, Whim,
+    Width,
 };
 use engine::State;
 use std::alloc::Global;
@@ -21,6 +22,51 @@ pub(crate) const UNALIGNED_FRAME: u64 = 0x1001;
 /// The rights to read and to write.
 pub(crate) const BOTH_RIGHTS: u64 = 3;
 
+/// What a driver's domain and unit are like.
+#[derive(Clone, Copy)]
+pub(crate) struct Setting {
+    pub(crate) mode: Mode,
+    pub(crate) width: Width,
+    /// Whether the unit has Caching Mode.
+    pub(crate) caching: bool,
+}
+
+pub(crate) const STRICT: Setting = Setting {
+    mode: Mode::Strict,
+    width: Width::W39,
+    caching: false,
+};
+
+pub(crate) const STRICT_WIDE: Setting = Setting {
+    mode: Mode::Strict,
+    width: Width::W48,
+    caching: false,
+};
+
+pub(crate) const STRICT_CACHING: Setting = Setting {
+    mode: Mode::Strict,
+    width: Width::W39,
+    caching: true,
+};
+
+pub(crate) const LAZY: Setting = Setting {
+    mode: Mode::Lazy,
+    width: Width::W39,
+    caching: false,
+};
+
+pub(crate) const LAZY_WIDE: Setting = Setting {
+    mode: Mode::Lazy,
+    width: Width::W48,
+    caching: false,
+};
+
+pub(crate) const LAZY_CACHING: Setting = Setting {
+    mode: Mode::Lazy,
+    width: Width::W39,
+    caching: true,
+};
+
 /// A driver of a device that is attached to a domain of its own, in a state of its own. The state is asked
 /// for no more calls than it takes.
 #[derive(Drop)]
@@ -32,9 +78,9 @@ pub(crate) struct Driver {
 }
 
 impl Driver {
-    pub(crate) fn new(alloc: Global, mode: Mode) -> Result<Driver, Trouble> {
-        let mut state = State::new(alloc, TABLE_FRAMES)?;
-        let domain = state.domain(mode)?;
+    pub(crate) fn new(alloc: Global, setting: Setting) -> Result<Driver, Trouble> {
+        let mut state = State::with_caching(alloc, TABLE_FRAMES, setting.caching)?;
+        let domain = state.domain(setting.mode, setting.width)?;
         state.attach(DEVICE, domain)?;
         Ok(Driver {
             state,

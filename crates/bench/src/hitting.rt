@@ -7,7 +7,7 @@ use crate::managing::check_reply;
 use crate::timing::{Tenths, Work};
 use crate::together::{Meeting, time_together};
 use crate::trouble::{Trouble, check};
-use dmatypes::{Access, Call, DEVICES, MOST_CALLS, Mode, PAGE_BYTES, Reply, Whim};
+use dmatypes::{Access, Call, DEVICES, MOST_CALLS, Mode, PAGE_BYTES, Reply, Whim, Width};
 use manager::{Config, Made, Manager, Owner, Port, Rows, Seed, Share};
 use std::alloc::{AllocError, Global};
 use std::marker::Brand;
@@ -63,7 +63,7 @@ fn time_owned<B: Owner + Send + Sync, C: Clock + Wait + Threads + Sync>(
     hits: Hits,
     seed: Seed,
 ) -> Result<Tenths, Trouble>
-    requires { IsNamedBy seed B.name B.parts B.shares B.room B.frames B.rows }
+    requires { IsNamedBy seed B.name B.parts B.shares B.room B.frames B.mode B.rows }
 {
     let Made {
         manager,
@@ -102,7 +102,15 @@ fn state_page<B: Owner, C: Wait>(
     rows: &Rows<B>,
     mine: &mut Share<B>,
 ) -> Result<(), Trouble> {
-    let made = manager.call(clock, rows, mine, Call::Domain(Mode::Strict));
+    let made = manager.call(
+        clock,
+        rows,
+        mine,
+        Call::Domain {
+            mode: Mode::Strict,
+            width: Width::W39,
+        },
+    );
     check_reply(made, Reply::Made(1))?;
     let mapped = manager.call(clock, rows, mine, MAP);
     check_reply(mapped, Reply::Mapped(PAGE_BYTES))?;

@@ -5,7 +5,7 @@ ghost use Rattle.manager.specs.Kept.{IsNamedBy};
 use crate::driver::{BOTH_RIGHTS, TABLE_FRAMES, UNALIGNED_FRAME};
 use crate::timing::{Tenths, Work, time};
 use crate::trouble::{Trouble, check};
-use dmatypes::{Call, Mode, PAGE_BYTES, Reply};
+use dmatypes::{Call, Mode, PAGE_BYTES, Reply, Width};
 use manager::{Book, Config, HistoryFull, Made, Manager, Owner, Rows, Seed, Share};
 use std::alloc::Global;
 use std::marker::Brand;
@@ -46,7 +46,7 @@ fn time_owned<B: Owner, C: Clock + Wait>(
     attached: bool,
     seed: Seed,
 ) -> Result<Tenths, Trouble>
-    requires { IsNamedBy seed B.name B.parts B.shares B.room B.frames B.rows }
+    requires { IsNamedBy seed B.name B.parts B.shares B.room B.frames B.mode B.rows }
 {
     let Made {
         manager,
@@ -86,7 +86,15 @@ fn make_domain<B: Owner, C: Wait>(
     mine: &mut Share<B>,
     attached: bool,
 ) -> Result<(), Trouble> {
-    let made = manager.call(clock, rows, mine, Call::Domain(Mode::Strict));
+    let made = manager.call(
+        clock,
+        rows,
+        mine,
+        Call::Domain {
+            mode: Mode::Strict,
+            width: Width::W39,
+        },
+    );
     check_reply(made, Reply::Made(1))?;
     if attached {
         let attached = manager.call(clock, rows, mine, ATTACH);

@@ -3,17 +3,20 @@
 ghost use Rattle.std.specs.Prelude.{◌<◌, ◌≤◌};
 ghost use Rattle.dmatypes.specs.declared.limits.TheConstants.{MOST_RECORDS};
 
-use crate::driver::{Driver, UNALIGNED_FRAME};
+use crate::driver::{Driver, LAZY, STRICT, Setting, UNALIGNED_FRAME};
 use crate::timing::Work;
 use crate::trouble::{Trouble, check};
 use arrayvec::ArrayVec;
-use dmatypes::{MOST_ORDER, MOST_RECORDS, MOST_SEGMENTS, Mode, PAGE_BYTES, SPAN_PAGES, Segment};
+use dmatypes::{
+    ADDRESSES_END, MOST_ORDER, MOST_RECORDS, MOST_SEGMENTS, PAGE_BYTES, SPAN_PAGES, Segment, Width,
+};
 use std::alloc::Global;
 
 /// What is mapped: pages from a host frame on, at a multiple of 2^`order` pages, and so at this byte
 /// address where the domain is empty.
 #[derive(Clone, Copy)]
 pub(crate) struct Shape {
+    pub(crate) setting: Setting,
     pub(crate) frame: u64,
     pub(crate) pages: u64,
     pub(crate) order: u64,
@@ -31,7 +34,7 @@ pub(crate) struct Mapping {
 impl Mapping {
     pub(crate) fn new(alloc: Global, shape: Shape) -> Result<Mapping, Trouble> {
         Ok(Mapping {
-            driver: Driver::new(alloc, Mode::Strict)?,
+            driver: Driver::new(alloc, shape.setting)?,
             shape,
         })
     }
@@ -44,6 +47,7 @@ impl Work for Mapping {
             pages,
             order,
             address,
+            ..
         } = self.shape;
         let mapped = self.driver.map(frame, pages, order)?;
         check(mapped == address)?;
@@ -73,7 +77,7 @@ impl Listing {
             check(segments.try_push(Segment { frame, pages: 1 }).is_ok())?;
         }
         Ok(Listing {
-            driver: Driver::new(alloc, Mode::Strict)?,
+            driver: Driver::new(alloc, STRICT)?,
             segments,
         })
     }
@@ -101,7 +105,7 @@ pub(crate) struct Splitting {
 impl Splitting {
     pub(crate) fn new(alloc: Global) -> Result<Splitting, Trouble> {
         Ok(Splitting {
-            driver: Driver::new(alloc, Mode::Strict)?,
+            driver: Driver::new(alloc, STRICT)?,
         })
     }
 }
@@ -115,6 +119,17 @@ impl Work for Splitting {
         check(page == leaf)?;
         let released = self.driver.unmap(leaf, SPAN_PAGES)?;
         check(released == 0)
+    }
+}
+
+/// The byte address of the page that an empty domain maps first: the first that can be mapped, or of a 48-bit domain the first
+/// that no 39-bit one has.
+pub(crate) fn first_address(width: Width) -> u64
+    ensures { result < ADDRESSES_END }
+{
+    match width {
+        Width::W39 => PAGE_BYTES,
+        Width::W48 => Width::W39.addresses_end(),
     }
 }
 
@@ -132,6 +147,7 @@ pub(crate) enum Flushing {
 #[derive(Drop)]
 pub(crate) struct Deferred {
     driver: Driver,
+    width: Width,
     flushing: Flushing,
     put_off: u64,
     most: u64,
@@ -140,9 +156,15 @@ pub(crate) struct Deferred {
 
 impl Deferred {
     /// The pages that are put off before a flush: at least one, and at most as many as a domain keeps.
-    pub(crate) fn new(alloc: Global, most: u64, flushing: Flushing) -> Result<Deferred, Trouble> {
+    pub(crate) fn new(
+        alloc: Global,
+        setting: Setting,
+        most: u64,
+        flushing: Flushing,
+    ) -> Result<Deferred, Trouble> {
         Ok(Deferred {
-            driver: Driver::new(alloc, Mode::Lazy)?,
+            driver: Driver::new(alloc, setting)?,
+            width: setting.width,
             flushing,
             put_off: 0,
             most,
@@ -153,7 +175,7 @@ impl Deferred {
 impl Work for Deferred {
     fn once(&mut self) -> Result<(), Trouble> {
         let mapped = self.driver.map(UNALIGNED_FRAME, 1, 0)?;
-        check(mapped == PAGE_BYTES * (self.put_off + 1))?;
+        check(mapped == first_address(self.width) + PAGE_BYTES * self.put_off)?;
         let released = self.driver.unmap(mapped, 1)?;
         check(released == 0)?;
         if self.put_off + 1 < self.most.min(MOST_RECORDS) {
@@ -182,7 +204,7 @@ pub(crate) struct SelfFlushing {
 impl SelfFlushing {
     pub(crate) fn new(alloc: Global) -> Result<SelfFlushing, Trouble> {
         Ok(SelfFlushing {
-            driver: Driver::new(alloc, Mode::Lazy)?,
+            driver: Driver::new(alloc, LAZY)?,
             put_off: 0,
         })
     }

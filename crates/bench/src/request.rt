@@ -1,9 +1,9 @@
 //! A device's request.
 
-use crate::driver::{Driver, UNALIGNED_FRAME};
+use crate::driver::{Driver, STRICT, UNALIGNED_FRAME};
 use crate::timing::Work;
 use crate::trouble::{Trouble, check};
-use dmatypes::{Mode, PAGE_BYTES, Whim};
+use dmatypes::{PAGE_BYTES, Whim};
 use std::alloc::Global;
 
 const OFFSET: u64 = 0x234;
@@ -21,7 +21,7 @@ pub(crate) struct Request {
 
 impl Request {
     pub(crate) fn new(alloc: Global, look: bool) -> Result<Request, Trouble> {
-        let mut driver = Driver::new(alloc, Mode::Strict)?;
+        let mut driver = Driver::new(alloc, STRICT)?;
         let address = driver.map(UNALIGNED_FRAME, 1, 0)?;
         check(address == PAGE_BYTES)?;
         let address = PAGE_BYTES + OFFSET;

@@ -1,7 +1,9 @@
 //! What is measured.
 
 use crate::crowding::Crowded;
-use crate::driver::UNALIGNED_FRAME;
+use crate::driver::{
+    LAZY, LAZY_CACHING, LAZY_WIDE, STRICT, STRICT_CACHING, STRICT_WIDE, Setting, UNALIGNED_FRAME,
+};
 use crate::hitting::{Hits, time_hits};
 use crate::loading::time_loads;
 use crate::managing::{Way, time_manager};
@@ -14,7 +16,7 @@ use crate::taking::Taking;
 use crate::timing::{Tenths, time};
 use crate::trouble::Trouble;
 use crate::walking::Walking;
-use dmatypes::DEVICES;
+use dmatypes::{DEVICES, Width};
 use std::alloc::Global;
 use std::num::NonZeroU32;
 use std::sync::Wait;
@@ -35,7 +37,7 @@ enum Kind {
     MapCrowded,
     Split,
     // With a flush after this number of rounds.
-    MapLazily(u64, Flushing),
+    MapLazily(Setting, u64, Flushing),
     MapSelfFlushing,
     // Behind this number of live pieces.
     Take(u32),
@@ -43,7 +45,8 @@ enum Kind {
     Reuse(u32, Freed, Sizes),
     TakeBehindHoles,
     TakeBursts,
-    Walk,
+    // Of a tree of this width.
+    Walk(Width),
     // Whether the unit may look in its caches.
     Request(bool),
     // Whether a device is attached to the domain.
@@ -61,10 +64,31 @@ const LAST_DEVICE: u64 = DEVICES - 1;
 
 /// All that is measured, in the table's order. The maps begin at frames behind the table frames; leaves of 2 MiB
 /// come where the frame is a multiple of a span's pages.
-pub(crate) const SUBJECTS: [Subject; 56] = [
+pub(crate) const SUBJECTS: [Subject; 61] = [
     Subject {
         name: "map and unmap 1 page",
         kind: Kind::Map(Shape {
+            setting: STRICT,
+            frame: UNALIGNED_FRAME,
+            pages: 1,
+            order: 0,
+            address: 0x1000,
+        }),
+    },
+    Subject {
+        name: "map and unmap 1 page, 48 bits",
+        kind: Kind::Map(Shape {
+            setting: STRICT_WIDE,
+            frame: UNALIGNED_FRAME,
+            pages: 1,
+            order: 0,
+            address: 0x80_0000_0000,
+        }),
+    },
+    Subject {
+        name: "map and unmap 1 page, Caching Mode",
+        kind: Kind::Map(Shape {
+            setting: STRICT_CACHING,
             frame: UNALIGNED_FRAME,
             pages: 1,
             order: 0,
@@ -74,6 +98,7 @@ pub(crate) const SUBJECTS: [Subject; 56] = [
     Subject {
         name: "map and unmap 16 pages",
         kind: Kind::Map(Shape {
+            setting: STRICT,
             frame: UNALIGNED_FRAME,
             pages: 16,
             order: 4,
@@ -83,6 +108,7 @@ pub(crate) const SUBJECTS: [Subject; 56] = [
     Subject {
         name: "map and unmap 512 pages, leaves of 4 KiB",
         kind: Kind::Map(Shape {
+            setting: STRICT,
             frame: UNALIGNED_FRAME,
             pages: 512,
             order: 9,
@@ -92,6 +118,7 @@ pub(crate) const SUBJECTS: [Subject; 56] = [
     Subject {
         name: "map and unmap 512 pages, a leaf of 2 MiB",
         kind: Kind::Map(Shape {
+            setting: STRICT,
             frame: 0x1000,
             pages: 512,
             order: 9,
@@ -101,6 +128,7 @@ pub(crate) const SUBJECTS: [Subject; 56] = [
     Subject {
         name: "map and unmap 4096 pages, leaves of 4 KiB",
         kind: Kind::Map(Shape {
+            setting: STRICT,
             frame: UNALIGNED_FRAME,
             pages: 4096,
             order: 9,
@@ -121,15 +149,23 @@ pub(crate) const SUBJECTS: [Subject; 56] = [
     },
     Subject {
         name: "map and unmap lazily, 256 a flush",
-        kind: Kind::MapLazily(256, Flushing::AtOnce),
+        kind: Kind::MapLazily(LAZY, 256, Flushing::AtOnce),
+    },
+    Subject {
+        name: "map and unmap lazily, 256 a flush, 48 bits",
+        kind: Kind::MapLazily(LAZY_WIDE, 256, Flushing::AtOnce),
+    },
+    Subject {
+        name: "map and unmap lazily, 256, Caching Mode",
+        kind: Kind::MapLazily(LAZY_CACHING, 256, Flushing::AtOnce),
     },
     Subject {
         name: "map and unmap lazily, 256 a flush in two halves",
-        kind: Kind::MapLazily(256, Flushing::InTwoHalves),
+        kind: Kind::MapLazily(LAZY, 256, Flushing::InTwoHalves),
     },
     Subject {
         name: "map and unmap lazily, 16 a flush",
-        kind: Kind::MapLazily(16, Flushing::AtOnce),
+        kind: Kind::MapLazily(LAZY, 16, Flushing::AtOnce),
     },
     Subject {
         name: "map and unmap lazily, flushed by itself",
@@ -181,7 +217,11 @@ pub(crate) const SUBJECTS: [Subject; 56] = [
     },
     Subject {
         name: "walk of a tree, 3 levels",
-        kind: Kind::Walk,
+        kind: Kind::Walk(Width::W39),
+    },
+    Subject {
+        name: "walk of a tree, 4 levels",
+        kind: Kind::Walk(Width::W48),
     },
     Subject {
         name: "dma answered by the caches",
@@ -388,8 +428,9 @@ impl Subject {
             Kind::MapList => time(clock, rounds, &mut Listing::new(alloc)?),
             Kind::MapCrowded => time(clock, rounds, &mut Crowded::new(alloc)?),
             Kind::Split => time(clock, rounds, &mut Splitting::new(alloc)?),
-            Kind::MapLazily(most, flushing) => {
-                time(clock, rounds, &mut Deferred::new(alloc, most, flushing)?)
+            Kind::MapLazily(setting, most, flushing) => {
+                let mut deferred = Deferred::new(alloc, setting, most, flushing)?;
+                time(clock, rounds, &mut deferred)
             }
             Kind::MapSelfFlushing => time(clock, rounds, &mut SelfFlushing::new(alloc)?),
             Kind::Take(live) => time(clock, rounds, &mut Taking::new(alloc, live)?),
@@ -399,7 +440,7 @@ impl Subject {
             }
             Kind::TakeBehindHoles => time(clock, rounds, &mut Holes::new(alloc)?),
             Kind::TakeBursts => time(clock, rounds, &mut Bursts::new(alloc)?),
-            Kind::Walk => time(clock, rounds, &mut Walking::new(alloc)?),
+            Kind::Walk(width) => time(clock, rounds, &mut Walking::new(alloc, width)?),
             Kind::Request(look) => time(clock, rounds, &mut Request::new(alloc, look)?),
             Kind::Manage(way, attached) => time_manager(clock, alloc, rounds, way, attached),
             Kind::Load(threads) => time_loads(clock, alloc, rounds, threads),

@@ -47,3 +47,6 @@ pub const MOST_CACHED_NON_LEAVES: usize = 32;
 
 /// The most contexts that a unit remembers.
 pub const MOST_CACHED_CONTEXTS: usize = 16;
+
+/// The most absent pages that a unit remembers.
+pub const MOST_CACHED_FAULTS: usize = 64;

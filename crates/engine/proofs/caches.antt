@@ -4,5 +4,7 @@ pub mod StrictRange
 pub mod Widened
 pub mod Spans
 pub mod WorkedOff
+pub mod MapSent
+pub mod Faults
 pub mod Sent
 pub mod ReadyToSend

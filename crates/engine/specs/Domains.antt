@@ -3,25 +3,29 @@ use Rattle.std.specs.Prelude.{ℕ, ◌-◌, ◌<◌, ◌==◌, List, [], Option,
 use Rattle.std.specs.Option.{option_flatten}
 use Rattle.dmatypes.specs.declared.call.Mode.{Mode}
 use Rattle.dmatypes.specs.World.{IsIn}
-use Rattle.dmatypes.specs.declared.width.TheConstants.{PAGES_END}
+use Rattle.dmatypes.specs.Page.{pages_end}
+use Rattle.dmatypes.specs.declared.width.Width.{Width}
 use Rattle.iova.specs.Space.{Space, new_space}
 use Rattle.tables.specs.Pool.{Pool, occurs}
 use Rattle.engine.specs.declared.iommu.Iommu.{Iommu}
 use Rattle.engine.specs.declared.record.Record.{Record}
 
--- a domain of the state: its mode, the number of flushes begun, the root of its tree, its address space, and its retired
+-- a domain of the state: its mode, the number of flushes begun, the width of its addresses, the root of its tree, its address
+-- space, and its retired
 -- records. The world has a `Domain` too, the pages that are live and retired as a caller sees them: where a file speaks
 -- of both, that one is `world.Domain`
 pub record Domain : Type 0 where
   pub mode : Mode
   pub begun : ℕ
+  pub width : Width
   pub root : ℕ
   pub space : Space
   pub records : List Record
 
 -- a domain with no page, of an empty tree
-abbrev pub new_domain : Mode → ℕ → Domain
-new_domain mode root = record { mode = mode; begun = 0; root = root; space = new_space (PAGES_END - 1); records = [] }
+abbrev pub new_domain : Mode → Width → ℕ → Domain
+new_domain mode width root =
+    record { mode = mode; begun = 0; width = width; root = root; space = new_space (pages_end width - 1); records = [] }
 
 -- the domain of an id: domains 1 to 15 stand at places 0 to 14
 abbrev pub domain_at : List (Option Domain) → ℕ → Option Domain

@@ -5,10 +5,10 @@ use Rattle.std.specs.Prelude.{◌∷◌, length}
 use Rattle.std.specs.Prelude.{filter, nat_lt, reverse, take, Option, None, Some, Result, Ok, Err}
 use Rattle.dmatypes.specs.declared.limits.TheConstants.{MOST_RECORDS, MOST_STEPS}
 use Rattle.dmatypes.specs.Block.{Block, Holds, IsAligned}
-use Rattle.dmatypes.specs.Page.{Range, IsWithin}
+use Rattle.dmatypes.specs.Page.{Range, IsWithin, levels}
 use Rattle.dmatypes.specs.World.{IsIn}
 use Rattle.dmatypes.specs.declared.page.TheConstants.{SPAN_ORDER, SPAN_PAGES}
-use Rattle.dmatypes.specs.declared.width.TheConstants.{LEVELS}
+use Rattle.dmatypes.specs.declared.width.Width.{Width}
 use Rattle.dmatypes.specs.declared.call.Mode.{Mode}
 use Rattle.dmatypes.specs.declared.call.Mode.TheVariants.{Strict, Lazy}
 use Rattle.dmatypes.specs.declared.refusal.Refusal.{Refusal}
@@ -33,14 +33,14 @@ use Rattle.vtdbits.specs.declared.number.TheConstants.{MOST_BLOCK_ORDER}
 use Rattle.engine.specs.declared.record.Record.{Record}
 use Rattle.engine.specs.declared.iommu.Iommu.{Iommu}
 use Rattle.engine.specs.declared.iommu.Shown.{Shown}
-use Rattle.engine.specs.declared.iommu.Shown.TheVariants.{OneRecord, Records}
+use Rattle.engine.specs.declared.iommu.Shown.TheVariants.{Mapped, OneRecord, Records}
 use Rattle.engine.specs.Domains.{Domain, Parts, held_in}
 
 -- ---- in the tree and the address space
 
 -- how many leaves of 2 MiB an unmap splits
-abbrev pub leaves_split : Pool → ℕ → Range → ℕ
-leaves_split pool root range = leaves_splitting (memory pool.words) LEVELS root range.first (range.first + range.pages)
+abbrev pub leaves_split : Pool → Width → ℕ → Range → ℕ
+leaves_split pool width root range = leaves_splitting (memory pool.words) (levels width) root range.first (range.first + range.pages)
 
 -- the pages of the record are retired in the domain's address space, and gone from its tree; what was cut from the
 -- tree is zeroed and neither free nor used. Nothing else of the domain changes
@@ -49,31 +49,32 @@ pub record RetiresAndUnmaps (pool : Pool) (old : Domain) (r : Record) (pool' : P
   pub mark : r.mark ≡ old.begun
   pub retires : Retires old.space new.space r.range
   pub is_space : IsSpace new.space
-  pub count : length pool'.free + leaves_split pool old.root r.range ≡ length pool.free
-  pub moves : TakesAndGivesFrames pool pool' LEVELS old.root r.cut.frames
-  pub unmaps : UnmapsPages pool pool' LEVELS old.root r.range.first (r.range.first + r.range.pages) r.cut.frames
-  pub split : IsTrue r.cut.split ↔ (0 < leaves_split pool old.root r.range)
+  pub count : length pool'.free + leaves_split pool old.width old.root r.range ≡ length pool.free
+  pub moves : TakesAndGivesFrames pool pool' (levels old.width) old.root r.cut.frames
+  pub unmaps : UnmapsPages pool pool' (levels old.width) old.root r.range.first (r.range.first + r.range.pages) r.cut.frames
+  pub split : IsTrue r.cut.split ↔ (0 < leaves_split pool old.width old.root r.range)
   pub is_pool : IsPool pool'
   pub same : new ≡ record old { space = new.space }
 
 -- the tree loses the range, and the record says what was cut; the address space is as it was
 pub record UnmapsAlone (pool : Pool) (domain : Domain) (r : Record) (pool' : Pool) : Type 0 where
   pub mark : r.mark ≡ domain.begun
-  pub count : length pool'.free + leaves_split pool domain.root r.range ≡ length pool.free
-  pub moves : TakesAndGivesFrames pool pool' LEVELS domain.root r.cut.frames
-  pub unmaps : UnmapsPages pool pool' LEVELS domain.root r.range.first (r.range.first + r.range.pages) r.cut.frames
-  pub split : IsTrue r.cut.split ↔ (0 < leaves_split pool domain.root r.range)
+  pub count : length pool'.free + leaves_split pool domain.width domain.root r.range ≡ length pool.free
+  pub moves : TakesAndGivesFrames pool pool' (levels domain.width) domain.root r.cut.frames
+  pub unmaps : UnmapsPages pool pool' (levels domain.width) domain.root r.range.first (r.range.first + r.range.pages) r.cut.frames
+  pub split : IsTrue r.cut.split ↔ (0 < leaves_split pool domain.width domain.root r.range)
   pub is_pool : IsPool pool'
 
 -- what an end is refused for: a page that isn't live, else a range that cuts a piece where there are more than 1,022,
 -- else more leaves to split than frames are free
 abbrev pub IsJudgedEnd : Pool → Domain → Range → Result (Unit {0}) Refusal → Type 0
-IsJudgedEnd pool domain range (Ok u) = MayRetire domain.space.pieces range × (leaves_split pool domain.root range ≤ length pool.free)
+IsJudgedEnd pool domain range (Ok u) = MayRetire domain.space.pieces range
+    × (leaves_split pool domain.width domain.root range ≤ length pool.free)
 IsJudgedEnd pool domain range (Err refusals.NotLive) =
     (p : ℕ) × IsWithin range p × (state_at domain.space.pieces p ≢ Some Live)
 IsJudgedEnd pool domain range (Err refusals.TooManyPieces) = AllIn Live range domain.space.pieces × IsTooMany domain.space.pieces range
 IsJudgedEnd pool domain range (Err refusals.NoFrames) =
-    MayRetire domain.space.pieces range × (length pool.free < leaves_split pool domain.root range)
+    MayRetire domain.space.pieces range × (length pool.free < leaves_split pool domain.width domain.root range)
 IsJudgedEnd pool domain range (Err _) = ⊥
 
 -- ---- what is sent
@@ -98,6 +99,13 @@ abbrev pub IsSent : ℕ → Range → Cut → Descriptor → Type 0
 IsSent domain range cut d =
     (b : Block) × IsBlockOf range cut.split b
     × (((b.order ≤ MOST_BLOCK_ORDER) × (d ≡ IotlbPages domain b (hint_of cut))) ⊎ ((MOST_BLOCK_ORDER < b.order) × (d ≡ IotlbDomain domain)))
+
+-- what a map sends in Caching Mode: page-selective for the smallest aligned block that holds the range, or beyond 512 pages
+-- domain-selective; the hint is clear (own)
+abbrev pub IsSentForMap : ℕ → Range → Descriptor → Type 0
+IsSentForMap domain range d =
+    (b : Block) × IsBlockOf range false b
+    × (((b.order ≤ MOST_BLOCK_ORDER) × (d ≡ IotlbPages domain b false)) ⊎ ((MOST_BLOCK_ORDER < b.order) × (d ≡ IotlbDomain domain)))
 
 -- ---- the unit
 
@@ -127,8 +135,8 @@ abbrev pub status_of : ℕ → ℕ
 status_of number = number % 2 ^ 32
 
 -- what waited, then the descriptor, then a wait were taken, in this order, and nothing else was; the unit has done as many
--- as were taken, each in a step of its own, with no other step, in at most `MOST_STEPS`; the row of context entries stays.
--- This was shown of a domain when it was sent
+-- as were taken, each in a step of its own, with no other step, in at most `MOST_STEPS`; the row of context entries and the
+-- unit's mode stay. This was shown of a domain when it was sent
 pub record Invalidates (old : Iommu) (d : Descriptor) (seen : Option Shown) (new : Iommu) : Type 0 where
   pub number : new.sent ≡ old.sent + 1
   pub done : new.ring ≡ ring_of [] (status_of new.sent) (taken_after (old.ring.waiting ++ d ∷ Wait (status_of new.sent) ∷ [])
@@ -137,8 +145,16 @@ pub record Invalidates (old : Iommu) (d : Descriptor) (seen : Option Shown) (new
   pub steps : new.unit.steps ≡ old.unit.steps + (length old.ring.waiting + 2)
   pub each : new.unit.done ≡ old.unit.done + (length old.ring.waiting + 2)
   pub few : length old.ring.waiting + 2 ≤ MOST_STEPS
+  pub caching : new.unit.caching ≡ old.unit.caching
   pub contexts : new.contexts ≡ old.contexts
   pub shown : new.shown ≡ seen
+
+-- after a map in Caching Mode: the unit did the descriptor for the range and a wait, and was shown the tree of the root, which
+-- states the range. Without the mode nothing is sent
+abbrev pub SendsForMap : Bool → Iommu → ℕ → ℕ → Range → Iommu → Type 0
+SendsForMap false old domain root range new = new ≡ old
+SendsForMap true old domain root range new =
+    (d : Descriptor) × IsSentForMap domain range d × Invalidates old d (Some (Mapped root range)) new
 
 -- a descriptor that names the domain and then a wait wait last, and nothing is taken. Nothing is shown of the domain: nothing
 -- comes free by it alone
@@ -221,11 +237,11 @@ pub record Reaps (pool : Pool) (old : Domain) (number : ℕ) (pool' : Pool) (new
   pub same : new ≡ record old { space = new.space; records = filter (λ r. not (was_before number r)) old.records }
 
 -- the tree of a root is gone: its frames are free and zeroed, and no other tree changed
-pub record Destroys (pool : Pool) (root : ℕ) (pool' : Pool) : Type 0 where
-  pub free : (f : ℕ) → occurs f pool'.free ≡ occurs f pool.free + uses (memory pool.words) LEVELS root f
-  pub words : (f k : ℕ) → k < SPAN_PAGES → uses (memory pool.words) LEVELS root f ≡ 0
+pub record Destroys (pool : Pool) (width : Width) (root : ℕ) (pool' : Pool) : Type 0 where
+  pub free : (f : ℕ) → occurs f pool'.free ≡ occurs f pool.free + uses (memory pool.words) (levels width) root f
+  pub words : (f k : ℕ) → k < SPAN_PAGES → uses (memory pool.words) (levels width) root f ≡ 0
       → word pool'.words f k ≡ word pool.words f k
-  pub others : (level table : ℕ) → IsTree pool level table → IsApart pool LEVELS root level table
+  pub others : (level table : ℕ) → IsTree pool level table → IsApart pool (levels width) root level table
       → TreeStays pool pool' level table
   pub frames : pool'.frames ≡ pool.frames
   pub is_pool : IsPool pool'
@@ -234,7 +250,7 @@ pub record Destroys (pool : Pool) (root : ℕ) (pool' : Pool) : Type 0 where
 pub record Closes (old : Parts) (id : ℕ) (pool' : Pool) (iommu' : Iommu) : Type 0 where
   pub flushed : Parts
   pub flushes : Flushes old id flushed
-  pub destroys : Destroys flushed.pool flushed.domain.root pool'
+  pub destroys : Destroys flushed.pool flushed.domain.width flushed.domain.root pool'
   pub quiet : iommu' ≡ flushed.iommu
 
 -- there is room for one more record: with fewer than `MOST_RECORDS` nothing changes, else all are flushed

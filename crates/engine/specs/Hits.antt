@@ -14,6 +14,7 @@ use Rattle.dmatypes.specs.declared.limits.TheConstants.{DEVICES}
 use Rattle.dmatypes.specs.declared.refusal.Fault.{Fault}
 use Rattle.dmatypes.specs.declared.refusal.Refusal.{Refusal}
 use Rattle.dmatypes.specs.declared.reply.Reply.{Reply}
+use Rattle.dmatypes.specs.declared.width.Width.{Width}
 use Rattle.dmatypes.specs.declared.reply.Reply.TheVariants.{Host}
 use Rattle.unit.specs.declared.hit.Hit.{Hit}
 use Rattle.vtdbits.specs.Translation.{target}
@@ -54,3 +55,7 @@ hit_in (Err refusal) = None
 abbrev pub mode_of : Option Domain → Option Mode
 mode_of None = None
 mode_of (Some domain) = Some domain.mode
+
+abbrev pub width_of : Option Domain → Option Width
+width_of None = None
+width_of (Some domain) = Some domain.width

@@ -2,11 +2,11 @@
 -- what the state does needs none of it: each state has it.
 use Rattle.std.specs.Prelude.{◌≡◌, ◌≢◌, ℕ, ◌+◌, ◌-◌, ◌%◌, ◌^◌, ◌<◌, ◌≤◌, ◌⊎◌, List, [], ◌∷◌, ◌++◌, length, None, Some, IsSome, IsTrue}
 use Rattle.dmatypes.specs.Block.{Holds, IsAligned}
-use Rattle.dmatypes.specs.Page.{Range, IsWithin}
+use Rattle.dmatypes.specs.Page.{Range, IsWithin, levels}
 use Rattle.dmatypes.specs.World.{IsIn}
 use Rattle.dmatypes.specs.declared.limits.TheConstants.{MOST_STEPS}
 use Rattle.dmatypes.specs.declared.page.TheConstants.{SPAN_ORDER}
-use Rattle.dmatypes.specs.declared.width.TheConstants.{LEVELS}
+use Rattle.dmatypes.specs.declared.width.Width.{Width}
 use Rattle.iova.specs.declared.piece.PageState.TheVariants.{Live, Retired}
 use Rattle.iova.specs.Pieces.{piece_of, state_at}
 use Rattle.iova.specs.Space.{Space, IsSpace, MayRetire}
@@ -23,12 +23,16 @@ use Rattle.engine.specs.Domains.{Domain, IsMadeBefore, held_in}
 
 -- its tree is one of the pool, and maps each live page
 pub record CanCut (pool : Pool) (domain : Domain) : Type 0 where
-  pub tree : IsTree pool LEVELS domain.root
-  pub there : (p : ℕ) → state_at domain.space.pieces p ≡ Some Live → IsSome (states (memory pool.words) LEVELS domain.root p)
+  pub tree : IsTree pool (levels domain.width) domain.root
+  pub there : (p : ℕ) → state_at domain.space.pieces p ≡ Some Live → IsSome (states (memory pool.words) (levels domain.width) domain.root p)
 
 -- the tree of the root states no page of the range
-abbrev pub IsCleared : Pool → ℕ → Range → Type 0
-IsCleared pool root range = (p : ℕ) → IsWithin range p → states (memory pool.words) LEVELS root p ≡ None
+abbrev pub IsCleared : Pool → Width → ℕ → Range → Type 0
+IsCleared pool width root range = (p : ℕ) → IsWithin range p → states (memory pool.words) (levels width) root p ≡ None
+
+-- the tree of the root states each page of the range
+abbrev pub IsStated : Pool → Width → ℕ → Range → Type 0
+IsStated pool width root range = (p : ℕ) → IsWithin range p → IsSome (states (memory pool.words) (levels width) root p)
 
 -- the record's range is one retired piece, and what was cut are different zeroed frames of the pool that are not free
 pub record IsReleasable (pool : Pool) (space : Space) (r : Record) : Type 0 where

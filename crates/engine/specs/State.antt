@@ -14,7 +14,7 @@ use Rattle.dmatypes.specs.declared.reply.Progress.TheVariants.{Did, Idle}
 use Rattle.dmatypes.specs.World.{IsIn}
 use Rattle.dmatypes.specs.declared.limits.TheConstants.{DEVICES, MOST_DOMAINS}
 use Rattle.dmatypes.specs.declared.page.TheConstants.{PAGE_BYTES}
-use Rattle.dmatypes.specs.declared.width.Width.TheVariants.{W39}
+use Rattle.dmatypes.specs.declared.width.Width.{Width}
 use Rattle.queue.specs.Ring.{ring_of}
 use Rattle.tables.specs.Pool.{Pool, memory, occurs, IsZeroed}
 use Rattle.tables.specs.Tree.{one_if_same}
@@ -30,10 +30,10 @@ use Rattle.tables.specs.Segments.{one_segment}
 use Rattle.vtdbits.specs.declared.descriptor.Descriptor.TheVariants.{ContextDevice}
 use Rattle.engine.specs.declared.iommu.Iommu.{Iommu}
 use Rattle.engine.specs.declared.ticket.Ticket.{Ticket}
-use Rattle.engine.specs.Ending.{Begins, Closes, EndsBy, Flushes, Invalidates, IsJudgedEnd, Reaps}
+use Rattle.engine.specs.Ending.{Begins, Closes, EndsBy, Flushes, Invalidates, IsJudgedEnd, Reaps, SendsForMap}
 use Rattle.engine.specs.Ready.{last_done}
 use Rattle.engine.specs.Domains.{Domain, Parts, domain_at, new_domain, parts_of}
-use Rattle.engine.specs.Placing.{IsCrowded, IsShort, IsTaken, Placement, Places, frames_taken}
+use Rattle.engine.specs.Placing.{IsCrowded, IsShort, IsTaken, Placement, Places, frames_taken, range_of}
 
 -- the table frames, domains 1 to 15, the row of context entries with the ring and the unit, the flushes that were begun and
 -- not reaped, and how many calls were made. The world has a `Ticket` too, without the number of its wait: where a file
@@ -45,8 +45,9 @@ pub record State : Type 0 where
   pub tickets : List Ticket
   pub calls : ℕ
 
--- all table frames are free and zeroed; there is no domain and no device, nothing waits and nothing is remembered
-pub record IsNew (frames : ℕ) (m : State) : Type 0 where
+-- all table frames are free and zeroed; there is no domain and no device, nothing waits and nothing is remembered; the unit
+-- has Caching Mode or not
+pub record IsNew (frames : ℕ) (caching : Bool) (m : State) : Type 0 where
   pub frames_are : m.pool.frames ≡ frames
   pub free : (f : ℕ) → f < frames → occurs f m.pool.free ≡ 1
   pub past : (f : ℕ) → frames ≤ f → occurs f m.pool.free ≡ 0
@@ -55,7 +56,7 @@ pub record IsNew (frames : ℕ) (m : State) : Type 0 where
   pub domains_are : m.domains ≡ replicate MOST_DOMAINS None
   pub contexts_are : m.iommu.contexts ≡ replicate DEVICES Absent
   pub ring_is : m.iommu.ring ≡ ring_of [] 0 []
-  pub unit_is : m.iommu.unit ≡ unit_state nothing 0 0
+  pub unit_is : m.iommu.unit ≡ unit_state nothing 0 0 caching
   pub sent_is : m.iommu.sent ≡ 0
   pub tickets_are : m.tickets ≡ []
   pub calls_are : m.calls ≡ 0
@@ -73,25 +74,25 @@ SomeTicket m domain number P = (t : Ticket) × IsIn t m.tickets × (t.domain ≡
 abbrev pub begins : Domain → Domain
 begins h = record h { begun = h.begun + 1 }
 
--- a map takes the lowest start
+-- a map takes the start at which its domain serves it
 abbrev pub IsExactMap : State → ℕ → List Segment → ℕ → Reply → Type 0
 IsExactMap m domain segments order (Mapped address) =
-    IsSomeAnd (domain_at m.domains domain) (λ h. IsTaken h.space.pieces (total_pages segments) order (address / PAGE_BYTES)
-    × (frames_taken m.pool h.root segments (address / PAGE_BYTES) ≤ length m.pool.free))
+    IsSomeAnd (domain_at m.domains domain) (λ h. IsTaken h (total_pages segments) order (address / PAGE_BYTES)
+    × (frames_taken m.pool h.width h.root segments (address / PAGE_BYTES) ≤ length m.pool.free))
 IsExactMap m domain segments order (Refused refusals.TooManyPieces) =
-    IsSomeAnd (domain_at m.domains domain) (λ h. IsCrowded h.space.pieces (total_pages segments) order)
+    IsSomeAnd (domain_at m.domains domain) (λ h. IsCrowded h (total_pages segments) order)
 IsExactMap m domain segments order (Refused refusals.NoFrames) =
     IsSomeAnd (domain_at m.domains domain) (λ h. IsShort m.pool h segments order)
 IsExactMap m domain segments order reply = Unit {0}
 
 -- what the model leaves open: a domain is refused for its root exactly where no frame is free; a map, which takes
--- the lowest start, is refused for its pieces exactly where the range there cuts a piece and there are more than
+-- the start at which its domain serves it, is refused for its pieces exactly where the range there cuts a piece and there are more than
 -- 1,022, and else for its frames exactly where more tables are lacking than frames are free; an unmap likewise, for
 -- its frames where more leaves of 2 MiB are to be split; a step of the unit finds nothing exactly where nothing waits, and a
 -- reap is answered that it is pending exactly where the ticket's wait isn't done
 unfoldable pub Exact : State → Call → Reply → Type 0
-Exact m (calls.Domain mode) (Made d) = 0 < length m.pool.free
-Exact m (calls.Domain mode) (Refused refusals.NoFrames) = length m.pool.free ≡ 0
+Exact m (calls.Domain mode width) (Made d) = 0 < length m.pool.free
+Exact m (calls.Domain mode width) (Refused refusals.NoFrames) = length m.pool.free ≡ 0
 Exact m (calls.Map domain frame pages order rights) reply = IsExactMap m domain (one_segment frame pages) order reply
 Exact m (calls.MapList domain order rights segments) reply = IsExactMap m domain segments.items order reply
 Exact m (calls.Unmap domain address pages) (Unmapped released) =
@@ -132,37 +133,38 @@ with_domain m id new t = record m {
   calls = m.calls + 1;
 }
 
--- a map changes its domain and the table frames alone, as it takes its range and maps it
+-- a map changes its domain and the table frames, as it takes its range and maps it, and in Caching Mode the IOMMU, as it sends
 abbrev pub BecomesMapped : State → ℕ → Placement → State → Type 0
 BecomesMapped m domain at t =
     (old : Domain) × (new : Domain) × (domain_at m.domains domain ≡ Some old) × Places m.pool old at t.pool new
-    × (t ≡ record m { pool = t.pool; domains = slice_set m.domains (domain - 1) (Some new); calls = m.calls + 1 })
+    × SendsForMap m.iommu.unit.caching m.iommu domain old.root (range_of at) t.iommu
+    × (t ≡ with_domain m domain (Some new) t)
 
 -- the parts of the state that a call of this domain works on
 abbrev pub parts_in : State → Domain → Parts
 parts_in m domain = parts_of m.pool domain m.iommu
 
 -- what becomes of the state: a new domain has a whole space and an empty tree, an attached device its entry, and a
--- detached one none; a drop, a flush and an unmap change their domain, the table frames and the IOMMU, an unmap as it ends
+-- detached one none; a map, a drop, a flush and an unmap change their domain, the table frames and the IOMMU, an unmap as it ends
 -- its range by the domain's mode; a request and an eviction what the unit remembers, and with a fill a context and a leaf
 -- that state a request's answer are remembered then; a begun flush sends its descriptor and its wait, and opens its ticket; a
 -- step of the unit does the oldest descriptor; a reap releases the records of its domain that were there when its flush was
 -- begun, and closes its ticket; nothing else changes, but for the count of calls
 unfoldable pub Becomes : State → Call → Reply → State → Type 0
-Becomes m (calls.Domain mode) (Made d) t =
+Becomes m (calls.Domain mode width) (Made d) t =
     (root : ℕ) × TakesRoot m.pool t.pool root
-    × (t ≡ record m { pool = t.pool; domains = slice_set m.domains (d - 1) (Some (new_domain mode root)); calls = m.calls + 1 })
+    × (t ≡ record m { pool = t.pool; domains = slice_set m.domains (d - 1) (Some (new_domain mode width root)); calls = m.calls + 1 })
 Becomes m (calls.Attach device domain) Done t =
     (h : Domain) × (domain_at m.domains domain ≡ Some h)
     × (t ≡ record m {
-      iommu = record m.iommu { contexts = slice_set m.iommu.contexts device (Present h.root W39 domain) };
+      iommu = record m.iommu { contexts = slice_set m.iommu.contexts device (Present h.root h.width domain) };
       calls = m.calls + 1;
     })
 Becomes m (calls.Drop domain) Done t =
     (old : Domain) × (domain_at m.domains domain ≡ Some old)
     × Closes (parts_in m old) domain t.pool t.iommu × (t ≡ with_domain m domain None t)
 Becomes m (calls.Detach device) Done t =
-    (domain : ℕ) × (root : ℕ) × (slice_get m.iommu.contexts device ≡ Some (Present root W39 domain))
+    (domain : ℕ) × (root : ℕ) × (width : Width) × (slice_get m.iommu.contexts device ≡ Some (Present root width domain))
     × Invalidates (record m.iommu { contexts = slice_set m.iommu.contexts device Absent }) (ContextDevice domain device) None t.iommu
     × (t ≡ record m { iommu = t.iommu; calls = m.calls + 1 })
 Becomes m (calls.Map domain frame pages order rights) (Mapped address) t =
@@ -180,16 +182,18 @@ Becomes m (calls.Unmap domain address pages) (Unmapped released) t =
 Becomes m (calls.Dma device address access whim) (Refused refusal) t = t ≡ record m { calls = m.calls + 1 }
 Becomes m (calls.Dma device address access whim) reply t =
     (answer : Result Hit Fault) × (reply ≡ reached_reply (host_in answer))
-    × Answers (memory m.pool.words) m.iommu.contexts whim.look whim.fill device address access
+    × Answers (memory m.pool.words) m.iommu.contexts whim.look whim.fill m.iommu.unit.caching device address access
     m.iommu.unit.caches t.iommu.unit.caches answer
     × (IsTrue whim.fill → IfOk answer (IsRemembered t.iommu.unit.caches device address))
     × (t ≡ record m {
-      iommu = record m.iommu { unit = unit_state t.iommu.unit.caches m.iommu.unit.steps m.iommu.unit.done };
+      iommu = record m.iommu { unit = unit_state t.iommu.unit.caches m.iommu.unit.steps m.iommu.unit.done m.iommu.unit.caching };
       calls = m.calls + 1;
     })
 Becomes m (calls.Evict kind place) Done t =
     t ≡ record m {
-      iommu = record m.iommu { unit = unit_state (without kind place m.iommu.unit.caches) m.iommu.unit.steps m.iommu.unit.done };
+      iommu = record m.iommu {
+        unit = unit_state (without kind place m.iommu.unit.caches) m.iommu.unit.steps m.iommu.unit.done m.iommu.unit.caching;
+      };
       calls = m.calls + 1;
     }
 Becomes m (calls.Begin domain) (Reply.Ticket other number) t =
@@ -202,7 +206,7 @@ Becomes m calls.Unit (Stepped progress) t =
       iommu = record m.iommu {
         ring = after_first m.iommu.ring.waiting m.iommu.ring.status m.iommu.ring.taken;
         unit = unit_state (left_by_first m.iommu.ring.waiting m.iommu.unit.caches) (m.iommu.unit.steps + 1)
-            (done_after m.iommu.ring.waiting m.iommu.unit.done);
+            (done_after m.iommu.ring.waiting m.iommu.unit.done) m.iommu.unit.caching;
       };
       calls = m.calls + 1;
     }

@@ -1,5 +1,5 @@
 -- What a method of the state does, and which states a history follows.
-use Rattle.std.specs.Prelude.{◌≡◌, ℕ, ◌+◌, List, [], ◌∷◌}
+use Rattle.std.specs.Prelude.{◌≡◌, ℕ, ◌+◌, Bool, List, [], ◌∷◌}
 use Rattle.dmatypes.specs.declared.call.Call.{Call}
 use Rattle.dmatypes.specs.declared.reply.Reply.{Reply}
 use Rattle.dmatypes.specs.declared.reply.Event.{Event}
@@ -26,6 +26,6 @@ abbrev pub Goes : State → List Event → State → Type 0
 Goes m [] t = m ≡ t
 Goes m (e ∷ es) t = (s : State) × (Does m e.call e.reply s × Goes s es t)
 
--- they lead from some new state to the last
-abbrev pub GoesTo : ℕ → List Event → State → Type 0
-GoesTo frames events t = (m : State) × (IsNew frames m × Goes m events t)
+-- they lead from some new state to the last, of so many table frames and with Caching Mode or not
+abbrev pub GoesTo : ℕ → Bool → List Event → State → Type 0
+GoesTo frames caching events t = (m : State) × (IsNew frames caching m × Goes m events t)

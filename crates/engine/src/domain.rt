@@ -2,19 +2,20 @@
 
 ghost use Rattle.std.specs.Prelude.{◌≡◌, ◌<◌, ◌≤◌, ◌+◌, ◌^◌, ◌++◌, ◌∷◌, filter, length, IfOk, IfErr, OnErr, Ok, [], vec_capacity};
 ghost use Rattle.dmatypes.specs.Conditions.{total_pages};
-ghost use Rattle.dmatypes.specs.Page.{Range};
+ghost use Rattle.dmatypes.specs.Page.{Fits, IsPageRange, Range};
 ghost use Rattle.dmatypes.specs.Rights.{bits_of};
 ghost use Rattle.dmatypes.specs.declared.limits.TheConstants.{MOST_RECORDS, MOST_SEGMENTS};
-ghost use Rattle.dmatypes.specs.declared.width.TheConstants.{LEVELS, PAGES_END};
+ghost use Rattle.dmatypes.specs.Page.{levels, pages_end};
+ghost use Rattle.dmatypes.specs.declared.width.TheConstants.{PAGES_END};
 ghost use Rattle.iova.specs.Space.{AllFree, IsSpace, MayRetire};
 ghost use Rattle.tables.specs.Pool.{IsTree};
 ghost use Rattle.vtdbits.specs.declared.descriptor.Descriptor.TheVariants.{IotlbDomain};
 ghost use Rattle.engine.specs.Domains.{AreMadeBefore, new_domain, parts_of};
 ghost use Rattle.engine.specs.Ending.{Closes, Destroys, Flushes, IsJudgedEnd, IsUnmapped, MakesRoom, PutsOff, Releases, ReleasesAll};
-ghost use Rattle.engine.specs.Ending.{FreesEnded, Reaps, RetiresAndUnmaps, UnmapsAlone, UnmapsStrictly, was_before};
+ghost use Rattle.engine.specs.Ending.{FreesEnded, Reaps, RetiresAndUnmaps, SendsForMap, UnmapsAlone, UnmapsStrictly, was_before};
 ghost use Rattle.engine.specs.State.{begins};
 ghost use Rattle.engine.specs.Judged.{AreMappable};
-ghost use Rattle.engine.specs.Placing.{CanPlace, IsUnplaced, Places};
+ghost use Rattle.engine.specs.Placing.{CanPlace, IsUnplaced, Places, floor_of};
 ghost use Rattle.engine.specs.Ready.{AreInvalidated, AreReleasable, CanCut, CanUnmap, IsDone};
 ghost use Rattle.engine.specs.Ready.{IsFreeable, IsInvalidated, IsReady, IsReleasable};
 ghost use Rattle.engine.specs.Ready.{last_done};
@@ -24,7 +25,7 @@ use crate::record::Record;
 use crate::room::Room;
 use crate::ticket::Ticket;
 use crate::wanted::Wanted;
-use dmatypes::{Frame, MOST_RECORDS, Mode, PageRange, Refusal, Segment};
+use dmatypes::{Frame, MOST_RECORDS, Mode, Page, PageRange, Refusal, Segment, Width};
 use iova::{RetireError, Space, TakeError};
 use std::marker::Model;
 use tables::{NoFrames, Pool, Tree};
@@ -46,27 +47,28 @@ pub(crate) struct Domain {
 impl Model for Domain {
     ghost use Rattle.std.specs.Prelude.{◌≡◌, ◌≤◌, ◌-◌, vec_capacity, vec_len};
     ghost use Rattle.dmatypes.specs.declared.limits.TheConstants.{MOST_RECORDS};
-    ghost use Rattle.dmatypes.specs.declared.width.TheConstants.{PAGES_END};
+    ghost use Rattle.dmatypes.specs.Page.{pages_end};
     ghost use Rattle.engine.specs.Domains.{Domain};
 
     ghost Value = { Domain };
 
-    ghost view = { λ d. record { mode = d.mode; begun = d.begun; root = d.tree.root; space = d.space; records = d.records.items } };
+    ghost view = { λ d.
+        record { mode = d.mode; begun = d.begun; width = d.tree.width; root = d.tree.root; space = d.space; records = d.records.items } };
 
-    ghost invariant = { λ d. (d.space.last ≡ PAGES_END - 1)
+    ghost invariant = { λ d. (d.space.last ≡ pages_end d.tree.width - 1)
         × (MOST_RECORDS ≤ vec_capacity d.records) × (vec_len d.records ≤ MOST_RECORDS) };
 }
 
 impl Domain {
     /// A domain with no page, of an empty tree.
     pub(crate) fn new(mode: Mode, tree: Tree, room: Room) -> Domain
-        ensures new { result ≡ new_domain mode tree.root }
+        ensures new { result ≡ new_domain mode tree.width tree.root }
         ensures free { AllFree result.space }
         ensures space { IsSpace result.space }
     {
         let mut space = room.space;
         let mut records = room.records;
-        space.reset();
+        space.reset(tree.width().pages_end() - 1);
         records.clear();
         Domain {
             mode,
@@ -84,6 +86,13 @@ impl Domain {
         self.mode
     }
 
+    /// The width of its addresses.
+    pub(crate) fn width(&self) -> Width
+        ensures { result ≡ self.now.width }
+    {
+        self.tree.width()
+    }
+
     /// The root of its tree.
     pub(crate) fn root(&self) -> Frame
         ensures { result ≡ self.now.root }
@@ -91,13 +100,16 @@ impl Domain {
         self.tree.root()
     }
 
-    /// Makes the pages of the segments live at the lowest aligned start where they are free, maps them, and answers the
-    /// first of them. Changes nothing where it refuses: `NoRange` where there is no start, else `TooManyPieces` where the
+    /// Makes the pages of the segments live at the lowest aligned start at or above the domain's floor where they are free, or
+    /// where there is none at the lowest of all, maps them, and answers the first of them. Changes nothing where it refuses:
+    /// `NoRange` where there is no start, else `TooManyPieces` where the
     /// address space would be cut into too many pieces, else `NoFrames` where the tables that the pages lack are more
-    /// than the free frames.
+    /// than the free frames. In Caching Mode the unit then forgets that the pages were absent.
     pub(crate) fn map(
         &mut self,
         pool: &mut Pool,
+        iommu: &mut Iommu,
+        id: DomainId,
         segments: &[Segment],
         wanted: Wanted,
     ) -> Result<u64, Refusal>
@@ -105,28 +117,31 @@ impl Domain {
         requires mappable { AreMappable segments.now }
         requires few { length segments.now ≤ MOST_SEGMENTS }
         requires pages { wanted.pages ≡ total_pages segments.now }
+        requires ready { IsReady iommu.old }
         ensures placed { IfOk result (λ first. Places pool.old self.old
             (record { segments = segments.now; order = wanted.order; rights = bits_of wanted.rights; first = first }) pool.new self.new) }
+        ensures sends { IfOk result (λ first. SendsForMap iommu.old.unit.caching iommu.old id self.old.root
+            (record { first = first; pages = total_pages segments.now }) iommu.new) }
         ensures near { IfOk result (λ first. first < PAGES_END) }
         ensures refused { IfErr result (IsUnplaced pool.old self.old segments.now wanted.order) }
         ensures pool { OnErr result (pool.new ≡ pool.old) }
         ensures domain { OnErr result (self.new ≡ self.old) }
+        ensures quiet { OnErr result (iommu.new ≡ iommu.old) }
     {
-        let start = match self.space.take(wanted.pages, wanted.order) {
+        let floor = floor_of(self.width());
+        let start = match self.space.take_from(floor, wanted.pages, wanted.order) {
             Ok(start) => start,
             Err(TakeError::NoRange) => return Err(Refusal::NoRange),
             Err(TakeError::TooManyPieces) => return Err(Refusal::TooManyPieces),
         };
-        match self.tree.map_list(pool, start, segments, wanted.rights) {
-            Ok(()) => Ok(start.number()),
-            Err(NoFrames) => {
-                let Some(range) = PageRange::new(start.number(), wanted.pages) else {
-                    unreachable!()
-                };
-                self.space.undo_take(range);
-                Err(Refusal::NoFrames)
-            }
+        if let Err(NoFrames) = self.tree.map_list(pool, start, segments, wanted.rights) {
+            self.space.undo_take(range_from(start, wanted.pages));
+            return Err(Refusal::NoFrames);
         }
+        if iommu.is_caching() {
+            iommu.invalidate_mapped(id, range_from(start, wanted.pages), pool, &self.tree);
+        }
+        Ok(start.number())
     }
 
     /// Ends a range of live pages, and answers how many retired records went for it. Refuses, and changes nothing, where
@@ -139,6 +154,7 @@ impl Domain {
         id: DomainId,
         range: PageRange,
     ) -> Result<u64, Refusal>
+        requires fits { Fits range self.old.width }
         requires can { CanUnmap pool.old self.old }
         requires made { AreMadeBefore (iommu.old.sent + 1) self.old.records }
         requires ready { IsReady iommu.old }
@@ -156,6 +172,7 @@ impl Domain {
 
     // Only when the wait is done are the pages free and the table frames given back: until then they are live.
     fn unmap_strictly(&mut self, pool: &mut Pool, iommu: &mut Iommu, id: DomainId, range: PageRange)
+        requires fits { Fits range self.old.width }
         requires can { CanCut pool.old self.old }
         requires may { IsJudgedEnd pool.old self.old range (Ok tt) }
         requires ready { IsReady iommu.old }
@@ -174,6 +191,7 @@ impl Domain {
         id: DomainId,
         range: PageRange,
     ) -> u64
+        requires fits { Fits range self.old.width }
         requires can { CanUnmap pool.old self.old }
         requires may { IsJudgedEnd pool.old self.old range (Ok tt) }
         requires made { AreMadeBefore (iommu.old.sent + 1) self.old.records }
@@ -270,7 +288,8 @@ impl Domain {
     // be cut into too many pieces, else `NoFrames` where the leaves of 2 MiB that are to be split are more than the free
     // frames.
     fn may_end(&mut self, pool: &Pool, range: PageRange) -> Result<(), Refusal>
-        requires { IsTree pool.now LEVELS self.old.root }
+        requires tree { IsTree pool.now (levels self.old.width) self.old.root }
+        requires fits { Fits range self.old.width }
         ensures judged { IsJudgedEnd pool.now self.old range result }
         ensures same { self.new ≡ self.old }
     {
@@ -289,6 +308,7 @@ impl Domain {
     // wait that was sent by then frees them.
     #[inline(always)]
     fn cut(&mut self, pool: &mut Pool, iommu: &Iommu, range: PageRange) -> Record
+        requires fits { Fits range self.old.width }
         requires can { CanCut pool.old self.old }
         requires may { IsJudgedEnd pool.old self.old range (Ok tt) }
         ensures range { result.range ≡ range }
@@ -308,6 +328,7 @@ impl Domain {
     // Retires a range of live pages in the address space, unmaps it in the tree, and answers its record.
     #[inline(always)]
     fn end(&mut self, pool: &mut Pool, iommu: &Iommu, range: PageRange) -> Record
+        requires fits { Fits range self.old.width }
         requires can { CanCut pool.old self.old }
         requires may { IsJudgedEnd pool.old self.old range (Ok tt) }
         ensures range { result.range ≡ range }
@@ -317,6 +338,25 @@ impl Domain {
         let record = self.cut(pool, iommu, range);
         self.space.retire(range);
         record
+    }
+}
+
+// So many pages from a first one on, which can be mapped at once.
+fn range_from(first: Page, pages: u64) -> PageRange
+    requires { IsPageRange (record { first = first; pages = pages }) }
+    ensures { result ≡ record { first = first; pages = pages } }
+{
+    PageRange::new(first.number(), pages).unwrap()
+}
+
+// The page at or above which a domain of this width is served first: a wide one has the pages that no narrow one has (own).
+fn floor_of(width: Width) -> u64
+    ensures exact { result ≡ floor_of width }
+    ensures some { 1 ≤ result }
+{
+    match width {
+        Width::W39 => 1,
+        Width::W48 => Width::W39.pages_end(),
     }
 }
 
@@ -406,9 +446,9 @@ fn release_before(
 /// descriptor that names all of the domain.
 #[inline(always)]
 fn destroy(tree: Tree, pool: &mut Pool, iommu: &Iommu, id: DomainId)
-    requires tree { IsTree pool.old LEVELS tree.root }
+    requires tree { IsTree pool.old (levels tree.width) tree.root }
     requires invalidated { IsDone iommu.now (IotlbDomain id) iommu.now.sent }
-    ensures { Destroys pool.old tree.root pool.new }
+    ensures { Destroys pool.old tree.width tree.root pool.new }
 {
     tree.destroy(pool);
 }

@@ -1,13 +1,15 @@
 //! The row of context entries, the ring and the unit that reads both, as the manager uses them.
 
-ghost use Rattle.std.specs.Prelude.{◌≡◌, ◌≢◌, ◌↔◌, ℕ, ◌+◌, ◌<◌, ◌≤◌, ◌^◌, ◌++◌, ◌∷◌, [], None, Some, length, replicate, slice_get};
+ghost use Rattle.std.specs.Prelude.{◌≡◌, ◌≢◌, ◌↔◌, ℕ, ◌+◌, ◌<◌, ◌≤◌, ◌^◌, ◌++◌};
+ghost use Rattle.std.specs.Prelude.{◌∷◌, [], None, Some, false, length, replicate, slice_get, IsTrue};
 ghost use Rattle.dmatypes.specs.declared.limits.TheConstants.{DEVICES, MOST_STEPS};
-ghost use Rattle.dmatypes.specs.declared.width.TheConstants.{LEVELS};
+ghost use Rattle.dmatypes.specs.Page.{levels};
 ghost use Rattle.tables.specs.Pool.{IsTree};
 ghost use Rattle.dmatypes.specs.declared.reply.Progress.{Progress};
 ghost use Rattle.queue.specs.declared.ring.TheConstants.Ring.{CAPACITY};
-ghost use Rattle.engine.specs.Ending.{Begins, Invalidates, IsSent, left_by_all, record_shown, shown_of, status_of, taken_after};
-ghost use Rattle.engine.specs.Ready.{AreReleasable, IsCleared, IsReady, IsFreeable, NoneWrites, last_done};
+ghost use Rattle.engine.specs.Ending.{Begins, Invalidates, IsSent, SendsForMap, left_by_all, record_shown, shown_of, status_of};
+ghost use Rattle.engine.specs.Ending.{taken_after};
+ghost use Rattle.engine.specs.Ready.{AreReleasable, IsCleared, IsReady, IsFreeable, IsStated, NoneWrites, last_done};
 ghost use Rattle.queue.specs.Ring.{ring_of};
 ghost use Rattle.unit.specs.Caches.{nothing, unit_state};
 ghost use Rattle.unit.specs.Filters.{after_first, done_after, left_by_first, status_after};
@@ -15,7 +17,7 @@ ghost use Rattle.vtdbits.specs.declared.descriptor.Descriptor.{Descriptor};
 ghost use Rattle.vtdbits.specs.declared.descriptor.Descriptor.TheVariants.{ContextDevice, IotlbDomain, Wait};
 
 use crate::record::Record;
-use crate::sending::descriptor_of;
+use crate::sending::{descriptor_for_map, descriptor_of};
 use dmatypes::{Frame, PageRange, Progress};
 use iova::Space;
 use queue::Ring;
@@ -34,12 +36,13 @@ pub(crate) struct Iommu {
     pub(crate) ring: Ring,
     pub(crate) unit: Unit,
     sent: u64,
-    // Only contracts read it: what was shown is what comes free behind the sending, and not before. Nothing is shown where
-    // a context is forgotten.
+    // Only contracts read it. For an unmap or a flush what was shown comes free after the sending, and not before; for a map
+    // it was written before. Nothing is shown where a context is forgotten or a flush begun.
     shown: Option<Shown>,
 }
 
-/// What is shown of a domain when it has pages and tables forgotten, and how many table frames are free then.
+/// What is shown of a domain when it has pages and tables forgotten, and where some come free by it, how many table frames
+/// are free then.
 #[derive(Clone, Copy)]
 pub(crate) enum Shown {
     /// The root of its tree, and the range of one retired record.
@@ -54,15 +57,20 @@ pub(crate) enum Shown {
         records: u64,
         free: u64,
     },
+    /// The root of its tree, which states each page of a range.
+    Mapped {
+        root: Frame,
+        range: PageRange,
+    },
 }
 
 impl Iommu {
-    /// No device is attached, nothing waits, and the unit remembers nothing.
-    pub(crate) fn new() -> Iommu
+    /// No device is attached, nothing waits, and the unit remembers nothing. It has Caching Mode or not.
+    pub(crate) fn new(caching: bool) -> Iommu
         ensures { result ≡ record {
           contexts = replicate DEVICES ContextEntry.Absent;
           ring = ring_of [] 0 [];
-          unit = unit_state nothing 0 0;
+          unit = unit_state nothing 0 0 caching;
           sent = 0;
           shown = None;
         } }
@@ -70,18 +78,18 @@ impl Iommu {
         Iommu {
             contexts: Contexts::new(),
             ring: Ring::new(),
-            unit: Unit::new(),
+            unit: Unit::with_caching(caching),
             sent: 0,
             shown: None,
         }
     }
 
-    /// The same, as after `waits` waits that are all done.
+    /// The same without Caching Mode, as after `waits` waits that are all done.
     pub(crate) fn after(waits: u64) -> Iommu
         ensures { result ≡ record {
           contexts = replicate DEVICES ContextEntry.Absent;
           ring = ring_of [] (status_of waits) [];
-          unit = unit_state nothing 0 0;
+          unit = unit_state nothing 0 0 false;
           sent = waits;
           shown = None;
         } }
@@ -91,7 +99,7 @@ impl Iommu {
         Iommu {
             ring,
             sent: waits,
-            ..Iommu::new()
+            ..Iommu::new(false)
         }
     }
 
@@ -116,7 +124,7 @@ impl Iommu {
         space: &Space,
     )
         requires ready { IsReady self.old }
-        requires cleared { IsCleared pool.now tree.now.root ended.now.range }
+        requires cleared { IsCleared pool.now tree.now.width tree.now.root ended.now.range }
         requires kept { IsFreeable pool.now space.now ended.now }
         ensures { (descriptor : Descriptor) × IsSent domain ended.now.range ended.now.cut descriptor
             × Invalidates self.old descriptor (record_shown tree.now.root ended.now.range (length pool.now.free)) self.new }
@@ -140,7 +148,7 @@ impl Iommu {
         space: &Space,
     )
         requires ready { IsReady self.old }
-        requires standing { IsTree pool.now LEVELS tree.now.root }
+        requires standing { IsTree pool.now (levels tree.now.width) tree.now.root }
         requires kept { AreReleasable pool.now space.now records.now }
         ensures { Invalidates self.old (IotlbDomain domain) (shown_of tree.now.root (length records.now) (length pool.now.free)) self.new }
     {
@@ -150,6 +158,34 @@ impl Iommu {
             free: pool.free_count(),
         };
         self.send(Descriptor::IotlbDomain(domain), Some(shown));
+    }
+
+    /// Whether the unit has Caching Mode.
+    pub(crate) fn is_caching(&self) -> bool
+        ensures { result ≡ self.now.unit.caching }
+    {
+        self.unit.is_caching()
+    }
+
+    /// Has the unit forget that pages were absent that are mapped now, in the same way: with Caching Mode it may remember that.
+    /// The domain's tree states each of them by now: a request could find them absent again before.
+    pub(crate) fn invalidate_mapped(
+        &mut self,
+        domain: DomainId,
+        range: PageRange,
+        pool: &Pool,
+        tree: &Tree,
+    )
+        requires ready { IsReady self.old }
+        requires caching { IsTrue self.old.unit.caching }
+        requires stated { IsStated pool.now tree.now.width tree.now.root range }
+        ensures { SendsForMap self.old.unit.caching self.old domain tree.now.root range self.new }
+    {
+        let shown = Shown::Mapped {
+            root: tree.root(),
+            range,
+        };
+        self.send(descriptor_for_map(domain, range), Some(shown));
     }
 
     /// Has the unit forget the context of a device of a domain in the same way, once the row's entry of the device is
@@ -184,7 +220,7 @@ impl Iommu {
         ensures steps { self.new ≡ record self.old {
           ring = after_first self.old.ring.waiting self.old.ring.status self.old.ring.taken;
           unit = unit_state (left_by_first self.old.ring.waiting self.old.unit.caches) (self.old.unit.steps + 1)
-              (done_after self.old.ring.waiting self.old.unit.done);
+              (done_after self.old.ring.waiting self.old.unit.done) self.old.unit.caching;
         } }
     {
         self.unit.step(&mut self.ring)
@@ -234,6 +270,7 @@ fn work_off(ring: &mut Ring, unit: &mut Unit, status: u32, descriptor: Descripto
     ensures caches { unit.new.caches ≡ left_by_all (ring.old.waiting ++ descriptor ∷ Wait status ∷ []) unit.old.caches }
     ensures steps { unit.new.steps ≡ unit.old.steps + (length ring.old.waiting + 2) }
     ensures each { unit.new.done ≡ unit.old.done + (length ring.old.waiting + 2) }
+    ensures caching { unit.new.caching ≡ unit.old.caching }
 {
     let _ = ring.submit(descriptor);
     let _ = ring.submit(Descriptor::Wait(status));

@@ -2,12 +2,12 @@
 //! are attached to them, the invalidation queue and the unit. Each method is a step of the model.
 //!
 //! ```rust
-//! use dmatypes::Mode;
+//! use dmatypes::{Mode, Width};
 //! use engine::State;
 //!
 //! // 64 table frames. Frame 0x100 is mapped to read and to write, unmapped lazily, and its page is released by a flush.
 //! let mut state = State::new(rt.alloc(), 64)?;
-//! assert_eq!(rt; state.domain(Mode::Lazy), Ok(1));
+//! assert_eq!(rt; state.domain(Mode::Lazy, Width::W39), Ok(1));
 //! assert_eq!(rt; state.map(1, 0x100, 1, 0, 3), Ok(0x1000));
 //! assert_eq!(rt; state.unmap(1, 0x1000, 1), Ok(0));
 //! assert_eq!(rt; state.flush(1), Ok(1));

@@ -1,15 +1,14 @@
 //! The memory of a domain that isn't there.
 
-ghost use Rattle.std.specs.Prelude.{◌≡◌, ◌-◌, ◌≤◌, vec_capacity};
+ghost use Rattle.std.specs.Prelude.{◌≤◌, vec_capacity};
 ghost use Rattle.dmatypes.specs.declared.limits.TheConstants.{MOST_RECORDS};
-ghost use Rattle.dmatypes.specs.declared.width.TheConstants.{PAGES_END};
 
 use crate::record::Record;
 use dmatypes::{MOST_RECORDS, PAGES_END};
 use iova::Space;
 use std::alloc::{AllocError, Global};
 
-// The last page of a domain.
+// The last page of the widest domain.
 const LAST_PAGE: u64 = PAGES_END - 1;
 
 /// An address space and room for retired records, reserved when the state is made: a domain takes them, and leaves them
@@ -18,7 +17,6 @@ const LAST_PAGE: u64 = PAGES_END - 1;
 pub(crate) struct Room {
     pub(crate) space: Space,
     pub(crate) records: Vec<Record>,
-    ghost whole: { space.last ≡ PAGES_END - 1 },
     ghost roomy: { MOST_RECORDS ≤ vec_capacity records },
 }
 

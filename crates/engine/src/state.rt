@@ -1,9 +1,9 @@
 //! The sequential manager, one method a call.
 
 ghost use Rattle.std.specs.Prelude.{◌≡◌, ◌+◌, ◌%◌, ◌<◌, ◌≤◌, ◌==◌, ℕ, IfOk, IfSome, IfNone, length, slice_get, replicate};
-ghost use Rattle.std.specs.Prelude.{vec_capacity, vec_len, Some, None, IsSome, IsFalse, IsTrue, ◌↔◌};
+ghost use Rattle.std.specs.Prelude.{vec_capacity, vec_len, Some, None, IsSome, IsFalse, IsTrue, ◌↔◌, false};
 ghost use Rattle.dmatypes.specs.Conditions.{IsBadUnmap};
-ghost use Rattle.dmatypes.specs.Page.{IsInWindow, IsPageRange, range_at};
+ghost use Rattle.dmatypes.specs.Page.{Fits, IsInWindow, IsPageRange, range_at};
 ghost use Rattle.dmatypes.specs.World.{empty};
 ghost use Rattle.dmatypes.specs.declared.limits.TheConstants.{CALLS_END, DEVICES, LEAST_TABLE_FRAMES, MOST_DOMAINS, MOST_SEGMENTS};
 ghost use Rattle.dmatypes.specs.declared.limits.TheConstants.{MOST_TABLE_FRAMES};
@@ -81,25 +81,37 @@ impl Model for State {
 }
 
 impl State {
-    /// A state with no domain and no attached device, with `frames` table frames.
+    /// A state with no domain and no attached device, with `frames` table frames, 16 to 4,096, and without Caching Mode. Fails
+    /// where memory is lacking.
     pub fn new(alloc: Global, frames: u64) -> Result<State, AllocError>
         requires some { LEAST_TABLE_FRAMES ≤ frames }
         requires few { frames ≤ MOST_TABLE_FRAMES }
-        ensures new { IfOk result (IsNew frames) }
+        ensures new { IfOk result (IsNew frames false) }
+        ensures empty { IfOk result (λ state. Quarantine state (empty frames)) }
+    {
+        State::with_caching(alloc, frames, false)
+    }
+
+    /// The same, with Caching Mode (bit 7 of the capability register) where `on` says so: then the unit may also remember that
+    /// a page is absent, and a map has it forget that before it answers.
+    pub fn with_caching(alloc: Global, frames: u64, on: bool) -> Result<State, AllocError>
+        requires some { LEAST_TABLE_FRAMES ≤ frames }
+        requires few { frames ≤ MOST_TABLE_FRAMES }
+        ensures new { IfOk result (IsNew frames on) }
         ensures empty { IfOk result (λ state. Quarantine state (empty frames)) }
     {
         Ok(State {
             pool: Pool::new(alloc, frames)?,
             domains: no_domains(alloc)?,
             rooms: all_rooms(alloc)?,
-            iommu: Iommu::new(),
+            iommu: Iommu::new(on),
             tickets: ArrayVec::new(),
             calls: 0,
         })
     }
 
-    /// The same as a state would be after `calls` calls, each with a wait that is done, 2^56 at most: for a test of what comes
-    /// late in a state's life, as wait numbers that pass 2^32 (own).
+    /// The same without the mode, as a state would be after `calls` calls, each with a wait that is done, 2^56 at most: for a
+    /// test of what comes late in a state's life, as wait numbers that pass 2^32 (own).
     pub fn after(alloc: Global, frames: u64, calls: u64) -> Result<State, AllocError>
         requires some { LEAST_TABLE_FRAMES ≤ frames }
         requires few { frames ≤ MOST_TABLE_FRAMES }
@@ -114,17 +126,17 @@ impl State {
         Ok(state)
     }
 
-    /// Makes an empty domain, and answers its id, 1 to 15. Refuses with `TooManyDomains` where all ids are in use, else
-    /// with `NoFrames` where no table frame is free.
-    pub fn domain(&mut self, mode: Mode) -> Result<u64, Refusal>
+    /// Makes an empty domain with addresses of this width, and answers its id, 1 to 15. Refuses with `TooManyDomains` where all
+    /// ids are in use, else with `NoFrames` where no table frame is free.
+    pub fn domain(&mut self, mode: Mode, width: Width) -> Result<u64, Refusal>
         requires { self.old.calls < CALLS_END }
-        ensures { Does self.old (calls.Domain mode) (made_reply result) self.new }
+        ensures { Does self.old (calls.Domain mode width) (made_reply result) self.new }
     {
         self.calls += 1;
         let Some(index) = first_vacant(self.domains.as_slice()) else {
             return Err(Refusal::TooManyDomains);
         };
-        let tree = match Tree::new(&mut self.pool) {
+        let tree = match Tree::new(&mut self.pool, width) {
             Ok(tree) => tree,
             Err(NoFrames) => return Err(Refusal::NoFrames),
         };
@@ -154,7 +166,7 @@ impl State {
         };
         let entry = ContextEntry::Present {
             root: domain.root(),
-            width: Width::W39,
+            width: domain.width(),
             domain: id,
         };
         self.iommu.contexts.set(device, entry);
@@ -205,7 +217,8 @@ impl State {
     }
 
     /// Maps 1 to 4,096 pages, from a host frame on, at the lowest free multiple of 2^`order` pages, and answers the byte
-    /// address of the first. The rights are 1 to read, 2 to write, 3 for both. Refuses as `map_list` does.
+    /// address of the first; a 48-bit domain is served at 512 GiB and above, where there is room. The rights are 1 to read, 2 to
+    /// write, 3 for both. Refuses as `map_list` does.
     pub fn map(
         &mut self,
         domain: u64,
@@ -220,8 +233,8 @@ impl State {
         self.map_segments(domain, order, rights, &[Segment { frame, pages }])
     }
 
-    /// Maps the pages of all segments, 1 to 4,096 together, one segment after the other, at the lowest free multiple of
-    /// 2^`order` pages, and answers the byte address of the first. Refuses, and maps nothing, with `NoDomain`, `BadRange`
+    /// Maps the pages of all segments, 1 to 4,096 together, one segment after the other, where `map` would map as many
+    /// pages, and answers the byte address of the first. Refuses, and maps nothing, with `NoDomain`, `BadRange`
     /// (what no map can ask for), `FrameOwned` (a segment begins at a table frame), `NoRange`, `TooManyPieces` (the address
     /// space would be cut into too many), or `NoFrames` (the tables that are lacking are more than the free frames), the
     /// first of these that stands.
@@ -260,7 +273,7 @@ impl State {
             Ok(wanted) => wanted,
             Err(refusal) => return Err(refusal),
         };
-        let first = match domain.map(&mut self.pool, segments, wanted) {
+        let first = match domain.map(&mut self.pool, &mut self.iommu, id, segments, wanted) {
             Ok(first) => first,
             Err(refusal) => return Err(refusal),
         };
@@ -314,7 +327,7 @@ impl State {
         let Some(domain) = &mut self.domains[place_of(id)] else {
             return Err(Refusal::NoDomain);
         };
-        let Some(range) = range_at(address, pages) else {
+        let Some(range) = range_at(address, pages, domain.width()) else {
             return Err(Refusal::BadRange);
         };
         domain.unmap(&mut self.pool, &mut self.iommu, id, range)
@@ -418,15 +431,16 @@ fn attaches(entry: ContextEntry, id: DomainId) -> bool
 }
 
 // The pages of an unmap, where it names some.
-fn range_at(address: u64, pages: u64) -> Option<PageRange>
+fn range_at(address: u64, pages: u64, width: Width) -> Option<PageRange>
     ensures some { IfSome result (λ range. (address % PAGE_BYTES ≡ 0)
-        × (range ≡ range_at address pages) × IsPageRange (range_at address pages)) }
-    ensures none { IfNone result (IsBadUnmap address pages) }
+        × (range ≡ range_at address pages) × IsPageRange (range_at address pages) × Fits (range_at address pages) width) }
+    ensures none { IfNone result (IsBadUnmap width address pages) }
 {
     if address % PAGE_BYTES != 0 {
         return None;
     }
-    PageRange::new(address / PAGE_BYTES, pages)
+    let range = PageRange::new(address / PAGE_BYTES, pages)?;
+    if range.fits(width) { Some(range) } else { None }
 }
 
 // Whether the address lies in the interrupt address range.

@@ -35,6 +35,12 @@ none_below_put low first last s ps o w none own q m free = elim (put_only first 
   ]
 ]
 
+-- and not if it is live
+pub none_below_live : (low first pages : ℕ) (ps : List Piece) → IsOrdered 1 ps → NoneFreeBelow low ps → 1 ≤ pages
+    → NoneFreeBelow low (put first (first + pages - 1) Live ps)
+none_below_live low first pages ps o none some =
+    none_below_put low first (first + pages - 1) Live ps o (omega arith) none (λ e. absurd (cc))
+
 -- a free page is one that fits
 page_fits : (q : Piece) (ps : List Piece) → IsOrdered 1 ps → IsIn q ps → q.state ≡ Free → IsFit ps 1 1 q.first
 page_fits q ps o m free = record {

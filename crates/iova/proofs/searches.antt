@@ -1,5 +1,6 @@
 pub mod Fit
 pub mod Found
+pub mod FromFloor
 pub mod CutAt
 pub mod FreeEnds
 pub mod Narrowed

@@ -1,5 +1,5 @@
 -- What a search in pieces finds.
-use Rattle.std.specs.Prelude.{ℕ, ◌≡◌, ◌+◌, ◌%◌, ◌≤◌, ◌&&◌, nat_eq, nat_le, nat_lt}
+use Rattle.std.specs.Prelude.{ℕ, ◌≡◌, ◌+◌, ◌%◌, ◌≤◌, ◌&&◌, max, nat_eq, nat_le, nat_lt}
 use Rattle.std.specs.Prelude.{IsTrue, if◌then◌else◌, List, [], ◌∷◌, ◌++◌, Option, Some, None}
 use Rattle.std.specs.List.{AllByRecursion}
 use Rattle.iova.specs.declared.piece.Piece.{Piece}
@@ -24,19 +24,19 @@ first_or (p ∷ ps) other = Some p
 abbrev pub IsRoundUp : ℕ → ℕ → ℕ → Type 0
 IsRoundUp page unit up = (up % unit ≡ 0) × (page ≤ up) × ((other : ℕ) → other % unit ≡ 0 → page ≤ other → up ≤ other)
 
--- no aligned range of that length lies in the piece, or it isn't free
-abbrev pub HasNoRoom : ℕ → ℕ → Piece → Type 0
-HasNoRoom pages unit p = IsTrue (is_free p.state) → (t : ℕ) → p.first ≤ t → t % unit ≡ 0 → t + pages ≤ p.last + 1 → ⊥
+-- no aligned range of that length lies in the piece from the floor on, or it isn't free
+abbrev pub HasNoRoom : ℕ → ℕ → ℕ → Piece → Type 0
+HasNoRoom floor pages unit p = IsTrue (is_free p.state) → (t : ℕ) → max p.first floor ≤ t → t % unit ≡ 0 → t + pages ≤ p.last + 1 → ⊥
 
--- the start lies in the first piece that has room
-pub record IsFound (pages unit : ℕ) (pieces : List Piece) (start : ℕ) : Type 0 where
+-- the start lies in the first piece that has room from the floor on
+pub record IsFound (floor pages unit : ℕ) (pieces : List Piece) (start : ℕ) : Type 0 where
   pub before : List Piece
   pub piece : Piece
   pub behind : List Piece
   pub parts : pieces ≡ before ++ piece ∷ behind
-  pub none : AllByRecursion (HasNoRoom pages unit) before
+  pub none : AllByRecursion (HasNoRoom floor pages unit) before
   pub free : IsTrue (is_free piece.state)
-  pub up : IsRoundUp piece.first unit start
+  pub up : IsRoundUp (max piece.first floor) unit start
   pub room : start + pages ≤ piece.last + 1
 
 -- where a free piece that ends just before a page begins, or that page

@@ -22,6 +22,7 @@
 mod before;
 mod beside;
 mod ends;
+mod fits;
 mod front;
 mod grow;
 mod iter;

@@ -8,7 +8,7 @@ use crate::piece::{PageState, Piece};
 use crate::space::{MOST_PIECES, MOST_PIECES_TO_CUT, TakeError};
 use crate::tree_iter::TreeIter;
 use crate::way::{InMind, Known, MOST_HEIGHT, NO_STEP, Step};
-use crate::{look, pending, store};
+use crate::{fits, look, pending, store};
 use dmatypes::{MOST_PAGES, PAGES_END, Page, PageRange};
 use slab::Slab;
 use std::alloc::{AllocError, Global};
@@ -48,7 +48,7 @@ impl PieceTree {
     ghost use Rattle.dmatypes.specs.declared.limits.TheConstants.{MOST_ORDER};
     ghost use Rattle.iova.specs.Pieces.{Holds, IsRun, NoneFreeBelow, piece_of, state_at, with_piece};
     ghost use Rattle.iova.specs.Way.{pages_as};
-    ghost use Rattle.iova.specs.Space.{Space, AllFree, IsFit, IsLowestFit, IsSpace, IsTooMany, MayRetire, new_space};
+    ghost use Rattle.iova.specs.Space.{Space, AllFree, IsFit, IsLowestFit, IsLowestFrom, IsSpace, IsTooMany, MayRetire, new_space};
     ghost use Rattle.iova.specs.Changes.{Frees, FreesLive, FreesRun, Retires, Takes};
 
     /// A space of the pages up to a last one, all free. It takes the memory for all its pieces; no other call
@@ -72,16 +72,19 @@ impl PieceTree {
         })
     }
 
-    /// Makes it new: all its pages are free.
-    pub(crate) fn reset(&mut self)
-        ensures new { self.new ≡ new_space self.old.last }
+    /// Makes it a new space of the pages up to a last one: all are free.
+    pub(crate) fn reset(&mut self, last: u64)
+        requires some { 1 ≤ last }
+        requires narrow { last < PAGES_END }
+        ensures new { self.new ≡ new_space last }
         ensures free { AllFree self.new }
         ensures space { IsSpace self.new }
     {
         self.low = 1;
         self.in_mind = InMind::Nothing;
         self.nodes.clear();
-        self.root = store::fill(&mut self.nodes, self.last);
+        self.last = last;
+        self.root = store::fill(&mut self.nodes, last);
     }
 
     /// Its pieces in the order of their pages.
@@ -181,7 +184,7 @@ impl PieceTree {
         let in_mind = self.in_mind;
         self.in_mind = InMind::Nothing;
         let unit = 1 << order;
-        let Some(spot) = store::fit_in_mind(
+        let Some(spot) = fits::fit_in_mind(
             &self.nodes,
             self.root,
             pages,
@@ -202,9 +205,58 @@ impl PieceTree {
             last: start + pages - 1,
             state: PageState::Live,
         };
-        self.low = store::low_behind(self.low, start, pages, unit);
+        self.low = fits::low_behind(self.low, start, pages, unit);
         self.root = store::store_by(&mut self.nodes, self.root, piece, &mut self.way, spot.place);
         Ok(Page::new(start).unwrap())
+    }
+
+    /// As `take`, where the pages are the lowest at or above a floor, and where there are none the lowest of all.
+    pub(crate) fn take_from(
+        &mut self,
+        floor: u64,
+        pages: u64,
+        order: u64,
+    ) -> Result<Page, TakeError>
+        requires some_pages { 1 ≤ pages }
+        requires few_pages { pages ≤ MOST_PAGES }
+        requires order { order ≤ MOST_ORDER }
+
+        // The start, and what the space then is.
+        ensures lowest { IfOk result (IsLowestFrom floor self.old.pieces pages (2 ^ order)) }
+        ensures range { IfOk result (λ start. IsPageRange (record { first = start; pages = pages })) }
+        ensures taken { IfOk result (λ start. Takes self.old self.new (record { first = start; pages = pages })) }
+        ensures space { IsSpace self.old × IsSpace self.new }
+
+        // The refusals.
+        ensures no_range { (result ≡ Err TakeError.NoRange) ↔ ((start : ℕ) → IsFit self.old.pieces pages (2 ^ order) start → ⊥) }
+        ensures too_many { (result ≡ Err TakeError.TooManyPieces)
+            ↔ ((start : ℕ) × IsLowestFrom floor self.old.pieces pages (2 ^ order) start
+            × IsTooMany self.old.pieces (record { first = start; pages = pages })) }
+        ensures unchanged { OnErr result (self.new ≡ self.old) }
+    {
+        pending::put_freed(
+            &mut self.nodes,
+            &mut self.root,
+            &mut self.low,
+            &self.way,
+            &mut self.in_mind,
+        );
+        self.in_mind = InMind::Nothing;
+        let Some(first) = fits::fit_from(&self.nodes, self.root, floor, pages, 1 << order) else {
+            return Err(TakeError::NoRange);
+        };
+        if self.nodes.len() > MOST_PIECES_TO_CUT
+            && look::cuts_piece(&self.nodes, self.root, first, pages)
+        {
+            return Err(TakeError::TooManyPieces);
+        }
+        let piece = Piece {
+            first,
+            last: first + pages - 1,
+            state: PageState::Live,
+        };
+        self.root = store::store_walked(&mut self.nodes, self.root, piece, &mut self.way);
+        Ok(Page::new(first).unwrap())
     }
 
     /// The live piece that a page lies in.
@@ -302,7 +354,7 @@ impl PieceTree {
             InMind::Nothing | InMind::Judged(_) => {
                 // The way that leads to what is in mind is written over.
                 self.in_mind = InMind::Nothing;
-                let known = store::lowest_free(&self.nodes, self.root, &mut self.way)?;
+                let known = fits::lowest_free(&self.nodes, self.root, &mut self.way)?;
                 self.in_mind = InMind::Lowest(known);
                 Some(known.pages)
             }

@@ -68,9 +68,9 @@ pub(crate) fn first_free(
     requires some_pages { 1 ≤ pages }
     requires pages { pages < NUMBERS_END }
     ensures found { (t : Shape) (from : ℕ) → IsBelow (get nodes.now) root t from
-        → IfSome result (λ spot. IsFound pages 1 (items t) spot.start) }
+        → IfSome result (λ spot. IsFound 0 pages 1 (items t) spot.start) }
     ensures none { (t : Shape) (from : ℕ) → IsBelow (get nodes.now) root t from
-        → IfNone result (AllByRecursion (HasNoRoom pages 1) (items t)) }
+        → IfNone result (AllByRecursion (HasNoRoom 0 pages 1) (items t)) }
     ensures way { IfSome result (λ spot.
         LeadsTo (get nodes.now) root (piece_of (record { first = spot.start; pages = pages }) PageState.Live) way.new spot.place) }
 {
@@ -128,21 +128,24 @@ pub(crate) fn seek(
     None
 }
 
-/// The first start of so many free pages that is a multiple of the unit.
+/// The first start of so many free pages from a floor on that is a multiple of the unit.
 pub(crate) fn lowest_fit(
     nodes: &Slab<Node>,
     root: Option<usize>,
+    floor: u64,
     pages: u64,
     unit: u64,
 ) -> Option<u64>
     requires tree { CanSearch nodes.now root }
+    requires floor { floor ≤ NUMBERS_END }
+    requires some_pages { 1 ≤ pages }
     requires pages { pages < NUMBERS_END }
     requires some_unit { 0 < unit }
     requires unit { unit < NUMBERS_END }
     ensures found { (t : Shape) (from : ℕ) → IsBelow (get nodes.now) root t from
-        → IfSome result (IsFound pages unit (items t)) }
+        → IfSome result (IsFound floor pages unit (items t)) }
     ensures none { (t : Shape) (from : ℕ) → IsBelow (get nodes.now) root t from
-        → IfNone result (AllByRecursion (HasNoRoom pages unit) (items t)) }
+        → IfNone result (AllByRecursion (HasNoRoom floor pages unit) (items t)) }
 {
     let Some(key) = root else {
         return None;
@@ -151,14 +154,17 @@ pub(crate) fn lowest_fit(
     if node.longest < pages {
         return None;
     }
-    if let Some(start) = lowest_fit(nodes, node.left, pages, unit) {
-        return Some(start);
+    // Else all pieces before it end below the floor.
+    if floor < node.piece.first {
+        if let Some(start) = lowest_fit(nodes, node.left, floor, pages, unit) {
+            return Some(start);
+        }
     }
     if node.piece.is_free() {
-        let start = node.piece.first.next_multiple_of(unit);
+        let start = node.piece.first.max(floor).next_multiple_of(unit);
         if start + pages <= node.piece.last + 1 {
             return Some(start);
         }
     }
-    lowest_fit(nodes, node.right, pages, unit)
+    lowest_fit(nodes, node.right, floor, pages, unit)
 }

@@ -86,7 +86,8 @@ impl Space {
     ghost use Rattle.dmatypes.specs.World.{IsIn};
     ghost use Rattle.dmatypes.specs.declared.limits.TheConstants.{MOST_ORDER};
     ghost use Rattle.iova.specs.Pieces.{AllIn, Holds, IsRun, piece_of, state_at};
-    ghost use Rattle.iova.specs.Space.{Space, AllFree, IsFit, IsLowestFit, IsSpace, IsTooMany, CutsPiece, MayRetire, new_space};
+    ghost use Rattle.iova.specs.Space.{Space, AllFree, IsFit, IsLowestFit, IsLowestFrom, IsSpace, IsTooMany, CutsPiece};
+    ghost use Rattle.iova.specs.Space.{MayRetire, new_space};
     ghost use Rattle.iova.specs.Changes.{Frees, FreesLive, FreesRun, Retires, Takes};
 
     /// A space of the pages up to a last one, all free. It takes the memory for all its pieces; no other call
@@ -106,15 +107,17 @@ impl Space {
         })
     }
 
-    /// Makes it new: all its pages are free.
-    pub fn reset(&mut self)
-        ensures new { self.new ≡ new_space self.old.last }
+    /// Makes it a new space of the pages up to a last one: all are free.
+    pub fn reset(&mut self, last: u64)
+        requires some { 1 ≤ last }
+        requires narrow { last < PAGES_END }
+        ensures new { self.new ≡ new_space last }
         ensures free { AllFree self.new }
         ensures space { IsSpace self.new }
     {
         self.front.cut.clear();
         self.front.rest = None;
-        self.tree.reset();
+        self.tree.reset(last);
     }
 
     /// Its pieces in the order of their pages.
@@ -190,7 +193,37 @@ impl Space {
         self.tree.take(pages, order)
     }
 
-    // The same for pages that may lie anywhere, where they are cut off the front of the lowest free piece and some of it is left;
+    /// Makes so many free pages, 1 to 4,096, one live piece, and answers the first of them: the lowest at or above the floor
+    /// that is a multiple of 2^order (order 0 to 9), and where there is none the lowest of all. Where it is refused, nothing
+    /// has changed.
+    pub fn take_from(&mut self, floor: u64, pages: u64, order: u64) -> Result<Page, TakeError>
+        requires floor { 1 ≤ floor }
+        requires some_pages { 1 ≤ pages }
+        requires few_pages { pages ≤ MOST_PAGES }
+        requires order { order ≤ MOST_ORDER }
+
+        // The start, and what the space then is.
+        ensures lowest { IfOk result (IsLowestFrom floor self.old.pieces pages (2 ^ order)) }
+        ensures range { IfOk result (λ start. IsPageRange (record { first = start; pages = pages })) }
+        ensures taken { IfOk result (λ start. Takes self.old self.new (record { first = start; pages = pages })) }
+        ensures space { IsSpace self.old × IsSpace self.new }
+
+        // The refusals.
+        ensures no_range { (result ≡ Err TakeError.NoRange) ↔ ((start : ℕ) → IsFit self.old.pieces pages (2 ^ order) start → ⊥) }
+        ensures too_many { (result ≡ Err TakeError.TooManyPieces)
+            ↔ ((start : ℕ) × IsLowestFrom floor self.old.pieces pages (2 ^ order) start
+            × IsTooMany self.old.pieces (record { first = start; pages = pages })) }
+        ensures unchanged { OnErr result (self.new ≡ self.old) }
+    {
+        // No page is below the first, so it is a plain take, which mostly needs no search.
+        if floor == 1 {
+            return self.take(pages, order);
+        }
+        front::settle(&mut self.tree, &mut self.front);
+        self.tree.take_from(floor, pages, order)
+    }
+
+    // As `take` for pages that may lie anywhere, where they are cut off the front of the lowest free piece and some of it is left;
     // else nothing has changed.
     #[inline(always)]
     fn take_front(&mut self, pages: u64) -> Option<Page>

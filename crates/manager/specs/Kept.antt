@@ -1,5 +1,5 @@
 -- What a book keeps, and what contracts see of managers, seeds and shares.
-use Rattle.std.specs.Prelude.{◌≡◌, ◌≤◌, ◌++◌, ◌∷◌, [], ℕ, All, List, length}
+use Rattle.std.specs.Prelude.{◌≡◌, ◌≤◌, ◌++◌, ◌∷◌, [], ℕ, All, Bool, List, length}
 use mathlib.Core.List.{IsPrefix}
 use Rattle.dmatypes.specs.declared.call.Call.{Call}
 use Rattle.dmatypes.specs.declared.reply.Event.{Event}
@@ -29,26 +29,28 @@ pub record Share : Type 0 where
 abbrev pub new_share : Share
 new_share = record { calls = 0; seen = [] }
 
--- what a configuration says
+-- what a configuration says: three numbers, and whether the unit has Caching Mode
 pub record Config : Type 0 where
   pub frames : ℕ
   pub calls : ℕ
   pub shares : ℕ
+  pub caching : Bool
 
-pub record IsWithinLimits (c : Config) : Type 0 where
-  pub least_frames : LEAST_TABLE_FRAMES ≤ c.frames
-  pub most_frames : c.frames ≤ MOST_TABLE_FRAMES
-  pub least_calls : 1 ≤ c.calls
-  pub most_calls : c.calls ≤ MOST_CALLS
-  pub least_shares : 1 ≤ c.shares
-  pub most_shares : c.shares ≤ MOST_SHARES
+pub record IsWithinLimits (frames calls shares : ℕ) : Type 0 where
+  pub least_frames : LEAST_TABLE_FRAMES ≤ frames
+  pub most_frames : frames ≤ MOST_TABLE_FRAMES
+  pub least_calls : 1 ≤ calls
+  pub most_calls : calls ≤ MOST_CALLS
+  pub least_shares : 1 ≤ shares
+  pub most_shares : shares ≤ MOST_SHARES
 
--- one manager's numbers, the name of its ledger, and its rows
+-- one manager's numbers, whether its unit has Caching Mode, the name of its ledger, and its rows
 pub record Seed : Type 0 where
   pub name : ℕ
   pub shares : ℕ
   pub room : ℕ
   pub frames : ℕ
+  pub caching : Bool
   pub rows : Rows
 
 -- the rows of no table
@@ -58,23 +60,26 @@ no_rows = record {
   frames = 0;
 }
 
--- an owner with this ledger, these numbers and these rows names the manager that the seed becomes: one part of the ledger for each share
-pub record IsNamedBy (seed : Seed) (name parts shares room frames : ℕ) (rows : Rows) : Type 0 where
+-- an owner with this ledger, these numbers, this mode and these rows names the manager that the seed becomes: one part of the ledger
+-- for each share
+pub record IsNamedBy (seed : Seed) (name parts shares room frames : ℕ) (mode : Bool) (rows : Rows) : Type 0 where
   pub name_is : seed.name ≡ name
   pub parts_are : seed.shares ≡ parts
   pub shares_are : seed.shares ≡ shares
   pub room_is : seed.room ≡ room
   pub frames_are : seed.frames ≡ frames
+  pub mode_is : seed.caching ≡ mode
   pub rows_are : seed.rows ≡ rows
 
 -- the history is legal, the state is one of the world after it, with all places for domains and devices and nothing
--- that waits in the ring but descriptors of tickets, the history follows states from a new one to this one, it is no
--- longer than the room, and the state has counted its calls; every word that was last stored in the rows is lawful after the history
-pub record IsKept (frames room : ℕ) (a : Book) : Type 0 where
+-- that waits in the ring but descriptors of tickets, the history follows states from a new one of this mode (whether the unit has
+-- Caching Mode) to this one, it is no longer than the room, and the state has counted its calls; every word that was last stored
+-- in the rows is lawful after the history
+pub record IsKept (frames room : ℕ) (mode : Bool) (a : Book) : Type 0 where
   pub legal : IsLegal frames a.history
   pub quarantine : Quarantine a.state (after frames a.history)
   pub whole : IsWhole frames a.state
-  pub goes : GoesTo frames a.history a.state
+  pub goes : GoesTo frames mode a.history a.state
   pub within : length a.history ≤ room
   pub calls : a.state.calls ≡ length a.history
   pub lawful : AreLawful (IsLawfulAfter frames) a.history a.last

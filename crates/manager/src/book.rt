@@ -52,7 +52,7 @@ impl<B: Owner> Model for Book<B> {
 
     ghost view = { λ b. record { history = b.history.items; state = b.state; last = b.desk.last } };
 
-    ghost invariant = { λ b. IsKept B.frames B.room (record { history = b.history.items; state = b.state; last = b.desk.last })
+    ghost invariant = { λ b. IsKept B.frames B.room B.mode (record { history = b.history.items; state = b.state; last = b.desk.last })
         × (b.room ≡ B.room) × (B.room ≤ vec_capacity b.history) × (B.room ≤ MOST_CALLS) × (b.counted.total ≡ vec_len b.history)
         × (1 ≤ B.shares) × (B.shares ≡ B.parts) × (b.desk.rows ≡ B.rows) × (B.rows.frames ≡ B.frames)
         × (b.desk.history ≡ b.history.items) };
@@ -67,7 +67,9 @@ impl<B: Owner> Book<B> {
         desk: Desk,
         passes: Vec<Pass>,
     ) -> Result<(Book<B>, Vec<Share<B>>), AllocError>
-        requires config { IsWithinLimits config × (config.shares ≡ B.shares) × (config.calls ≡ B.room) × (config.frames ≡ B.frames) }
+        requires config { IsWithinLimits config.frames config.calls config.shares × (config.shares ≡ B.shares) × (config.calls ≡ B.room)
+            × (config.frames ≡ B.frames)
+            × (config.caching ≡ B.mode) }
         requires blank { (blank.name ≡ B.name) × (blank.parts ≡ B.parts) × (B.shares ≡ B.parts) }
         requires desk { (desk ≡ new_desk B.rows) × (B.rows.frames ≡ B.frames) }
         requires passes { (vec_len passes ≡ B.shares) × All (λ pass. (pass.rows ≡ B.rows) × (pass.seen ≡ [])) passes.items }
@@ -78,7 +80,7 @@ impl<B: Owner> Book<B> {
         let (counted, whole) = blank.open::<B>();
         let history = Vec::with_capacity(alloc, config.calls() as usize)?;
         let shares = cut(alloc, whole, passes)?;
-        let state = State::new(alloc, config.frames())?;
+        let state = State::with_caching(alloc, config.frames(), config.is_caching())?;
         Ok((
             Book {
                 state,
@@ -114,7 +116,7 @@ impl<B: Owner> Book<B> {
 
     /// What a book keeps, as a fact for its caller.
     pub fn keeps(&self)
-        ensures { IsKept B.frames B.room self.now }
+        ensures { IsKept B.frames B.room B.mode self.now }
     {
         let _ = &self.room;
     }
@@ -125,7 +127,7 @@ impl<B: Owner> Book<B> {
         ensures share { mine.new ≡ mine.old }
         ensures bound { mine.old.calls ≤ length self.old.history }
         ensures alone { B.shares ≡ 1 → length self.old.history ≡ mine.old.calls }
-        ensures kept { IsKept B.frames B.room self.old }
+        ensures kept { IsKept B.frames B.room B.mode self.old }
     {
         let Book { counted, .. } = self;
         let Share { part, .. } = mine;
@@ -156,7 +158,7 @@ impl<B: Owner> Book<B> {
         ensures all { vec_len shares ≡ B.shares }
         ensures counted { length result.history ≡ sum_by (λ s. s.calls) shares.items }
         ensures saw { AllSaw result.history shares.items }
-        ensures kept { IsKept B.frames B.room result }
+        ensures kept { IsKept B.frames B.room B.mode result }
     {
         let mut book = self;
         let Book { counted, desk, .. } = &mut book;
@@ -183,7 +185,7 @@ impl<B: Owner> Book<B> {
         ensures last { IfOk result (λ r. IsLastAfter (after B.frames self.old.history) call r.1 self.old.last self.new.last) }
         ensures alone { B.shares ≡ 1 → length self.new.history ≡ mine.new.calls }
         ensures bound { mine.new.calls ≤ length self.new.history }
-        ensures kept { IsKept B.frames B.room self.new }
+        ensures kept { IsKept B.frames B.room B.mode self.new }
     {
         let Book {
             state,

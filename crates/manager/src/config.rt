@@ -1,6 +1,6 @@
 //! How large a manager is to be, and what it is made of.
 
-ghost use Rattle.std.specs.Prelude.{◌≡◌, ◌≤◌, ℕ, IsSome, IfSome, IfOk, ◌↔◌};
+ghost use Rattle.std.specs.Prelude.{◌≡◌, ◌≤◌, ℕ, IsSome, IfSome, IfOk, ◌↔◌, false};
 ghost use Rattle.manager.specs.Kept.{Config, IsWithinLimits, Seed};
 
 use dmatypes::{LEAST_TABLE_FRAMES, MOST_CALLS, MOST_SHARES, MOST_TABLE_FRAMES};
@@ -9,12 +9,14 @@ use std::alloc::{AllocError, Global};
 use std::marker::Model;
 use std::sync::ledger::Blank;
 
-/// How large a manager is to be: its table frames, the calls in its history, and its shares, each within its limits (own).
+/// How large a manager is to be: its table frames, the calls in its history, and its shares, each within its limits (own); and
+/// whether its unit has Caching Mode (capability bit 7).
 #[derive(Clone, Copy)]
 pub struct Config {
     frames: u64,
     calls: u64,
     shares: u64,
+    caching: bool,
 }
 
 impl Model for Config {
@@ -22,18 +24,18 @@ impl Model for Config {
 
     ghost Value = { Config };
 
-    ghost view = { λ c. record { frames = c.frames; calls = c.calls; shares = c.shares } };
+    ghost view = { λ c. record { frames = c.frames; calls = c.calls; shares = c.shares; caching = c.caching } };
 
-    ghost invariant = { λ c. IsWithinLimits (record { frames = c.frames; calls = c.calls; shares = c.shares }) };
+    ghost invariant = { λ c. IsWithinLimits c.frames c.calls c.shares };
 
-    ghost inverse = { λ v. record { frames = v.frames; calls = v.calls; shares = v.shares } };
+    ghost inverse = { λ v. record { frames = v.frames; calls = v.calls; shares = v.shares; caching = v.caching } };
 }
 
 impl Config {
-    /// A configuration; `None` exactly where a number is outside its limits.
+    /// A configuration of a unit without Caching Mode; `None` exactly where a number is outside its limits.
     pub fn new(frames: u64, calls: u64, shares: u64) -> Option<Config>
-        ensures some { IsSome result ↔ IsWithinLimits (record { frames = frames; calls = calls; shares = shares }) }
-        ensures numbers { IfSome result (λ c. c ≡ record { frames = frames; calls = calls; shares = shares }) }
+        ensures some { IsSome result ↔ IsWithinLimits frames calls shares }
+        ensures numbers { IfSome result (λ c. c ≡ record { frames = frames; calls = calls; shares = shares; caching = false }) }
     {
         if (LEAST_TABLE_FRAMES..=MOST_TABLE_FRAMES).contains(&frames)
             && (1..=MOST_CALLS).contains(&calls)
@@ -43,16 +45,27 @@ impl Config {
                 frames,
                 calls,
                 shares,
+                caching: false,
             })
         } else {
             None
         }
     }
 
+    /// The same, with Caching Mode on or off: a unit with it may remember that a page is absent, and a map invalidates.
+    pub fn caching_mode(self, on: bool) -> Config
+        ensures { result ≡ record self { caching = on } }
+    {
+        Config {
+            caching: on,
+            ..self
+        }
+    }
+
     /// How many table frames there are.
     pub fn frames(&self) -> u64
         ensures value { result ≡ self.now.frames }
-        ensures within { IsWithinLimits self.now }
+        ensures within { IsWithinLimits self.now.frames self.now.calls self.now.shares }
     {
         self.frames
     }
@@ -60,7 +73,7 @@ impl Config {
     /// For how many calls the history has room.
     pub fn calls(&self) -> u64
         ensures value { result ≡ self.now.calls }
-        ensures within { IsWithinLimits self.now }
+        ensures within { IsWithinLimits self.now.frames self.now.calls self.now.shares }
     {
         self.calls
     }
@@ -68,9 +81,17 @@ impl Config {
     /// How many shares are made.
     pub fn shares(&self) -> u64
         ensures value { result ≡ self.now.shares }
-        ensures within { IsWithinLimits self.now }
+        ensures within { IsWithinLimits self.now.frames self.now.calls self.now.shares }
     {
         self.shares
+    }
+
+    /// Whether the unit has Caching Mode.
+    pub fn is_caching(&self) -> bool
+        ensures value { result ≡ self.now.caching }
+        ensures within { IsWithinLimits self.now.frames self.now.calls self.now.shares }
+    {
+        self.caching
     }
 }
 
@@ -93,9 +114,17 @@ impl Model for Seed {
     ghost Value = { Seed };
 
     ghost view = { λ s.
-        record { name = s.blank.name; shares = s.config.shares; room = s.config.calls; frames = s.config.frames; rows = s.rows } };
+        record {
+          name = s.blank.name;
+          shares = s.config.shares;
+          room = s.config.calls;
+          frames = s.config.frames;
+          caching = s.config.caching;
+          rows = s.rows;
+        } };
 
-    ghost invariant = { λ s. (s.blank.parts ≡ s.config.shares) × IsWithinLimits s.config × (s.rows.frames ≡ s.config.frames)
+    ghost invariant = { λ s. (s.blank.parts ≡ s.config.shares) × IsWithinLimits s.config.frames s.config.calls s.config.shares
+        × (s.rows.frames ≡ s.config.frames)
         × (s.desk ≡ new_desk s.rows) × (vec_len s.ports ≡ 16) × ArePorts s.rows s.ports.items 16
         × (vec_len s.passes ≡ s.config.shares) × ArePasses s.rows s.passes.items s.config.shares };
 }
@@ -106,6 +135,7 @@ impl Seed {
         ensures shares { IfOk result (λ s. s.shares ≡ config.shares) }
         ensures room { IfOk result (λ s. s.room ≡ config.calls) }
         ensures frames { IfOk result (λ s. s.frames ≡ config.frames) }
+        ensures caching { IfOk result (λ s. s.caching ≡ config.caching) }
     {
         let (rows, desk, ports, passes) = Rows::new(alloc, config.frames(), config.shares())?;
         Ok(Seed {

@@ -21,7 +21,7 @@ ghost use Rattle.manager.specs.Words.{AreCleared, AreFilled, IsLastAfter};
 use dmatypes::{Call, Event, MOST_RECORDS, Mode, PAGE_BYTES, Page, Reply};
 use engine::{Hit, State};
 use ports::{Desk, Rows};
-use vtdbits::{PortWord, Translation, WidePage};
+use vtdbits::{PortWord, Translation};
 
 /// Clears the rows of the devices that an event takes pages away from, appends the event, and fills the word of a request
 /// with what it hit. The state is the one after the event.
@@ -134,7 +134,7 @@ fn port_word(address: u64, hit: Hit) -> PortWord
         unreachable!()
     };
     PortWord {
-        page: WidePage::from(page),
+        page,
         translation: Translation::new(hit.frame, hit.rights),
     }
 }

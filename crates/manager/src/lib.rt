@@ -8,12 +8,12 @@
 //! work::<Brand, _>(&rt, rt.alloc(), seed)
 //!
 //! fn work<B: Owner, R: Wait>(rt: &R, alloc: Global, seed: Seed) -> Result<(), AllocError>
-//!     requires { IsNamedBy seed B.name B.parts B.shares B.room B.frames B.rows }
+//!     requires { IsNamedBy seed B.name B.parts B.shares B.room B.frames B.mode B.rows }
 //! {
 //!     let Made { manager, rows, mut ports, mut shares } = Manager::<B>::new(alloc, seed)?;
 //!     let Some(mut mine) = shares.pop() else { return Ok(()) };
 //!     // A call, under the lock: its place in the history, from 1, and its reply. An error says that the history is full.
-//!     let answer = manager.call(rt, &rows, &mut mine, Call::Domain(Mode::Strict));
+//!     let answer = manager.call(rt, &rows, &mut mine, Call::Domain { mode: Mode::Strict, width: Width::W39 });
 //!     // A hit, without it: the host address, where the port's word states the page, and the length of the history.
 //!     let mut port = ports.remove(3);
 //!     let (host, count) = port.hit(&rows, 0x1000, Access::Read);

@@ -62,7 +62,7 @@ impl<B: Owner> History<B> {
     /// The events, the first of them first.
     pub fn events(&self) -> &[Event]
         ensures events { result.now ≡ self.now.history }
-        ensures kept { IsKept B.frames B.room self.now }
+        ensures kept { IsKept B.frames B.room B.mode self.now }
     {
         // It changes nothing: its contract says what every book keeps.
         self.book.keeps();
@@ -83,7 +83,7 @@ impl<B: Owner> Manager<B> {
     /// Makes a manager with an empty history, its port words and ports, and its shares: no call was made by one, and none of
     /// the ports and shares has seen anything.
     pub fn new(alloc: Global, seed: Seed) -> Result<Made<B>, AllocError>
-        requires { IsNamedBy seed B.name B.parts B.shares B.room B.frames B.rows }
+        requires { IsNamedBy seed B.name B.parts B.shares B.room B.frames B.mode B.rows }
         ensures ports { IfOk result (λ m. (vec_len m.ports ≡ 16)
             × ((k : ℕ) → k < 16 → slice_get m.ports.items k ≡ Some (new_port B.rows k))) }
         ensures shares { IfOk result (λ m. vec_len m.shares ≡ B.shares) }
@@ -116,7 +116,7 @@ impl<B: Owner> Manager<B> {
     /// Waits for the lock. The book found there has kept all that a book keeps: its history is legal, and
     /// its state fits the world after it.
     pub fn lock<R: Wait>(&self, rt: &R) -> MutexGuard<'_, Book<B>>
-        ensures { IsKept B.frames B.room (mutex_guard_value result) }
+        ensures { IsKept B.frames B.room B.mode (mutex_guard_value result) }
     {
         let guard = self.book.lock(rt);
         // What is under the lock has no value in contracts, but its type keeps this at every moment, and here says so.
@@ -166,7 +166,7 @@ impl<B: Owner> Manager<B> {
         ensures back { IfErr result (λ o. o.shares ≡ shares) }
         ensures counted { IfOk result (λ h. length h.history ≡ sum_by (λ s. s.calls) shares.items) }
         ensures saw { IfOk result (λ h. AllSaw h.history shares.items) }
-        ensures kept { IfOk result (λ h. IsKept B.frames B.room h) }
+        ensures kept { IfOk result (λ h. IsKept B.frames B.room B.mode h) }
     {
         if (shares.len() as u64) < self.shares {
             return Err(SharesOut {

@@ -1,14 +1,14 @@
 //! Which manager a value belongs to.
 
-ghost use Rattle.std.specs.Prelude.{ℕ, []};
+ghost use Rattle.std.specs.Prelude.{Bool, ℕ, [], false};
 ghost use Rattle.ports.specs.Seen.{Rows};
 ghost use Rattle.manager.specs.Kept.{no_rows};
 
 use std::marker::Brand;
 use std::sync::ledger::Ledger;
 
-/// One manager's numbers: its shares, the room of its history in calls, its table frames, and its rows of port words. All work
-/// on a manager stands in a function that is generic in its owner, takes its seed, and is called once
+/// One manager's numbers: its shares, the room of its history in calls, its table frames; whether its unit has Caching Mode; and its
+/// rows of port words. All work on a manager stands in a function that is generic in its owner, takes its seed, and is called once
 /// with `Brand`.
 pub trait Owner: Ledger {
     ghost shares: { ℕ };
@@ -16,6 +16,8 @@ pub trait Owner: Ledger {
     ghost room: { ℕ };
 
     ghost frames: { ℕ };
+
+    ghost mode: { Bool };
 
     ghost rows: { Rows };
 }
@@ -26,6 +28,8 @@ impl Owner for Brand {
     ghost room = { 0 };
 
     ghost frames = { 0 };
+
+    ghost mode = { false };
 
     ghost rows = { no_rows };
 }

@@ -4,7 +4,7 @@
 
 ghost use Rattle.manager.specs.Kept.{IsNamedBy};
 
-use dmatypes::{Call, LEAST_TABLE_FRAMES, Mode};
+use dmatypes::{Call, LEAST_TABLE_FRAMES, Mode, Width};
 use engine::State;
 use iova::Space;
 use manager::*;
@@ -73,7 +73,7 @@ fn tell_manager<B: Owner, R: Wait, W: Write>(
     output: &mut W,
     seed: Seed,
 ) -> io::Result<()>
-    requires { IsNamedBy seed B.name B.parts B.shares B.room B.frames B.rows }
+    requires { IsNamedBy seed B.name B.parts B.shares B.room B.frames B.mode B.rows }
 {
     let Ok(made) = Manager::<B>::new(alloc, seed) else {
         return tell(output, "manager", Err(AllocError));
@@ -86,7 +86,15 @@ fn tell_manager<B: Owner, R: Wait, W: Write>(
     } = made;
     tell(output, "manager", Ok(shares.len() as u64))?;
     if let Some(mine) = shares.last_mut() {
-        let _ = manager.call(rt, &rows, mine, Call::Domain(Mode::Lazy));
+        let _ = manager.call(
+            rt,
+            &rows,
+            mine,
+            Call::Domain {
+                mode: Mode::Lazy,
+                width: Width::W39,
+            },
+        );
     }
     for _ in 0..2u64 {
         match manager.snapshot(rt, alloc) {

@@ -35,7 +35,7 @@ entered_none room =
       take_nil zero = refl
       take_nil (suc n) = refl
 
-unfoldable pub answers : (size : Size) (book : Book) (calls : List Call) (written : List ℕ) → IsKept size.frames size.room book
+unfoldable pub answers : (size : Size) (book : Book) (calls : List Call) (written : List ℕ) → IsKept size.frames size.room size.caching book
     → Entered size.room book.history calls written → Answers size calls written
 answers size book calls written kept entered = record {
   history = book.history;

@@ -38,12 +38,12 @@ pub record Going (replies : Replies) (size : Size) (old left before : Option (Li
   pub read : Consumes old left taken
   pub wrote : Sent before after pending block (shown replies written)
   pub script : ScriptSays taken calls []
-  pub kept : IsKept size.frames size.room book
+  pub kept : IsKept size.frames size.room size.caching book
   pub entered : Entered size.room book.history calls written
   pub place : number ≡ min (length calls + 1) (2 ^ 64 - 1)
 
 pub begins : (replies : Replies) (size : Size) (old before : Option (List ℕ)) (pending : List ℕ) (book : Book)
-    → IsKept size.frames size.room book → book.history ≡ [] → Going replies size old old before pending before pending book 1
+    → IsKept size.frames size.room size.caching book → book.history ≡ [] → Going replies size old old before pending before pending book 1
 begins replies size old before pending book kept none = record {
   calls = [];
   taken = [];
@@ -225,7 +225,7 @@ pub goes_on : (replies : Replies) (size : Size) (old left left' before : Option 
     (call : Call) (text : List ℕ)
     → Going replies size old left before pending after block book number
     → Consumes left left' (line ++ 10 ∷ []) → LineSays line call → Sent after after' block block' []
-    → IsKept size.frames size.room book' → AnswersOne size.room book book' call text
+    → IsKept size.frames size.room size.caching book' → AnswersOne size.room book book' call text
     → Sent after' after'' block' block'' (shown replies text)
     → Going replies size old left' before pending after'' block'' book' (min (number + 1) (2 ^ 64 - 1))
 goes_on replies size old left left' before pending after after' after'' block block' block'' book book' number line call text g
@@ -315,9 +315,9 @@ run_known U size (Some input) (Some left) (Some before) pending (Some after) boo
 none_called : (size : Size) → Answers size [] []
 none_called size = record {
   history = [];
-  state = new_state size.frames;
+  state = new_state size.frames size.caching;
   legal = tt;
-  along = (new_state size.frames, (new_is_new size.frames, refl));
+  along = (new_state size.frames size.caching, (new_is_new size.frames size.caching, refl));
   calls_are = (entered_none size.room).calls_are;
   text_is = (entered_none size.room).text_is;
 }

@@ -1,5 +1,6 @@
 -- What a run reads and writes.
-use Rattle.std.specs.Prelude.{◌≡◌, ◌≢◌, ℕ, ◌+◌, ◌-◌, ◌^◌, ◌<◌, ◌≤◌, ◌⊎◌, min, List, [], ◌∷◌, ◌++◌, length, take, map, replicate, Option}
+use Rattle.std.specs.Prelude.{◌≡◌, ◌≢◌, ℕ, ◌+◌, ◌-◌, ◌^◌, ◌<◌, ◌≤◌, ◌⊎◌, min}
+use Rattle.std.specs.Prelude.{Bool, List, [], ◌∷◌, ◌++◌, length, take, map, replicate, Option}
 use Rattle.std.specs.Prelude.{Some, None, Result, Ok, Err}
 use Rattle.std.specs.List.{flat_map}
 use Rattle.dmatypes.specs.declared.call.Call.{Call}
@@ -38,10 +39,11 @@ pub record BeginsBadly (rest : List ℕ) : Type 0 where
 
 -- ---- what is answered
 
--- how large a manager is: its table frames, and for how many calls its history has room
+-- what manager it is: its table frames, for how many calls its history has room, and whether its unit has Caching Mode
 pub record Size : Type 0 where
   pub frames : ℕ
   pub room : ℕ
+  pub caching : Bool
 
 abbrev pub call_of : Event → Call
 call_of e = e.call
@@ -51,13 +53,13 @@ abbrev pub refusal_line : List ℕ
 refusal_line = line_of (Refused refusals.HistoryFull)
 
 -- these calls are answered so: by the text of a legal history of the first of them, as many as there is
--- room for, which follows states from a new one by what the state's methods do, and then by a refusal
+-- room for, which follows states from a new one of that mode by what the state's methods do, and then by a refusal
 -- for each further call
 pub record Answers (size : Size) (calls : List Call) (written : List ℕ) : Type 0 where
   pub history : List Event
   pub state : State
   pub legal : IsLegal size.frames history
-  pub along : GoesTo size.frames history state
+  pub along : GoesTo size.frames size.caching history state
   pub calls_are : map call_of history ≡ take size.room calls
   pub text_is : written ≡ text history ++ flat_map line_of (replicate (length calls - size.room) (Refused refusals.HistoryFull))
 

@@ -38,7 +38,7 @@ pub(crate) fn answer_lines<B: Owner, T: Wait, R: Read, W: Write>(
     requires none { book.old.history ≡ [] }
     requires reader { reader.old.wrapped.failed ≡ false }
     requires writer { writer.old.wrapped.failed ≡ false }
-    ensures written { GoneThroughKnown replies (record { frames = B.frames; room = B.room })
+    ensures written { GoneThroughKnown replies (record { frames = B.frames; room = B.room; caching = B.mode })
         (prepend_known reader.old.block (R.remaining reader.old.wrapped.inner))
         (prepend_known reader.new.block (R.remaining reader.new.wrapped.inner))
         (W.contents writer.old.wrapped.inner) writer.old.block (W.contents writer.new.wrapped.inner) book.new result }
@@ -96,7 +96,7 @@ fn answer<B: Owner>(
     text: &mut ArrayString<64>,
 )
     ensures one { AnswersOne B.room book.old book.new call text.new.bytes }
-    ensures kept { IsKept B.frames B.room book.new }
+    ensures kept { IsKept B.frames B.room B.mode book.new }
 {
     let reply = match book.call(rows, mine, call) {
         Ok((_, reply)) => reply,

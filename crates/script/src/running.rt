@@ -44,7 +44,7 @@ pub fn run<T: Wait, R: Read, W: Write>(
     requires one { config.shares ≡ 1 }
     requires reader { reader.old.wrapped.failed ≡ false }
     requires writer { writer.old.wrapped.failed ≡ false }
-    ensures written { RanKnown (record { frames = config.frames; room = config.calls })
+    ensures written { RanKnown (record { frames = config.frames; room = config.calls; caching = config.caching })
         (prepend_known reader.old.block (R.remaining reader.old.wrapped.inner))
         (prepend_known reader.new.block (R.remaining reader.new.wrapped.inner))
         (W.contents writer.old.wrapped.inner) writer.old.block (W.contents writer.new.wrapped.inner) result }
@@ -76,7 +76,7 @@ pub fn report<T: Wait, R: Read, W: Write>(
     requires one { config.shares ≡ 1 }
     requires reader { reader.old.wrapped.failed ≡ false }
     requires writer { writer.old.wrapped.failed ≡ false }
-    ensures written { ReportedKnown (record { frames = config.frames; room = config.calls })
+    ensures written { ReportedKnown (record { frames = config.frames; room = config.calls; caching = config.caching })
         (prepend_known reader.old.block (R.remaining reader.old.wrapped.inner))
         (prepend_known reader.new.block (R.remaining reader.new.wrapped.inner))
         (W.contents writer.old.wrapped.inner) writer.old.block (W.contents writer.new.wrapped.inner) result }
@@ -136,11 +136,11 @@ fn work_through<B: Owner, T: Wait, R: Read, W: Write>(
     seed: Seed,
     output: Output,
 ) -> Result<(), RunError>
-    requires named { IsNamedBy seed B.name B.parts B.shares B.room B.frames B.rows }
+    requires named { IsNamedBy seed B.name B.parts B.shares B.room B.frames B.mode B.rows }
     requires one { seed.shares ≡ 1 }
     requires reader { reader.old.wrapped.failed ≡ false }
     requires writer { writer.old.wrapped.failed ≡ false }
-    ensures written { OutputKnown output (record { frames = seed.frames; room = seed.room })
+    ensures written { OutputKnown output (record { frames = seed.frames; room = seed.room; caching = seed.caching })
         (prepend_known reader.old.block (R.remaining reader.old.wrapped.inner))
         (prepend_known reader.new.block (R.remaining reader.new.wrapped.inner))
         (W.contents writer.old.wrapped.inner) writer.old.block (W.contents writer.new.wrapped.inner) result }

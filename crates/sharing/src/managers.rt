@@ -3,7 +3,7 @@
 ghost use Rattle.std.specs.Prelude.{◌≡◌, IfOk, vec_len};
 ghost use Rattle.manager.specs.Kept.{IsNamedBy};
 
-use dmatypes::{Access, Call, Fault, Mode, Refusal, Reply, Whim};
+use dmatypes::{Access, Call, Fault, Mode, Refusal, Reply, Whim, Width};
 use manager::*;
 use std::alloc::{AllocError, Global};
 use std::marker::Brand;
@@ -28,7 +28,7 @@ fn made<B: Owner>(
     alloc: Global,
     seed: Seed,
 ) -> Result<(Manager<B>, Rows<B>, Vec<Port<B>>, Share<B>), Fail>
-    requires { IsNamedBy seed B.name B.parts B.shares B.room B.frames B.rows }
+    requires { IsNamedBy seed B.name B.parts B.shares B.room B.frames B.mode B.rows }
     ensures { IfOk result (λ r. vec_len r.2 ≡ 16) }
 {
     let Made {
@@ -134,7 +134,7 @@ fn shared_by_two<B: Owner + Send + Sync, R: Threads + Wait + Abort + Sync>(
     alloc: Global,
     seed: Seed,
 ) -> Result<(), Fail>
-    requires { IsNamedBy seed B.name B.parts B.shares B.room B.frames B.rows }
+    requires { IsNamedBy seed B.name B.parts B.shares B.room B.frames B.mode B.rows }
 {
     let Made {
         manager,
@@ -144,7 +144,15 @@ fn shared_by_two<B: Owner + Send + Sync, R: Threads + Wait + Abort + Sync>(
     } = Manager::<B>::new(alloc, seed)?;
     let mut one = shares.pop().ok_or("a share")?;
     let two = shares.pop().ok_or("a share")?;
-    let made = manager.call(rt, &rows, &mut one, Call::Domain(Mode::Strict));
+    let made = manager.call(
+        rt,
+        &rows,
+        &mut one,
+        Call::Domain {
+            mode: Mode::Strict,
+            width: Width::W39,
+        },
+    );
     assert_eq!(rt; made, Ok((1, Reply::Made(1))));
     let shared = &manager;
     let (first, second) = join(
@@ -171,7 +179,7 @@ fn two_shares_fill_the_history(rt: HostRuntime) -> Result<(), Fail> {
 
 // More than a thousand calls by each of two shares, in turn: the last of them finds no room, and not one before.
 fn filled_by_two<B: Owner, R: Wait + Abort>(rt: &R, alloc: Global, seed: Seed) -> Result<(), Fail>
-    requires { IsNamedBy seed B.name B.parts B.shares B.room B.frames B.rows }
+    requires { IsNamedBy seed B.name B.parts B.shares B.room B.frames B.mode B.rows }
 {
     let Made {
         manager,
@@ -221,14 +229,21 @@ fn calls_of_one_share(rt: HostRuntime) -> Result<(), Fail> {
 // Each call through the book that the lock guards, a domain with as many pieces as it can have, and a
 // full history.
 fn called_by_one<B: Owner, R: Wait + Abort>(rt: &R, alloc: Global, seed: Seed) -> Result<(), Fail>
-    requires { IsNamedBy seed B.name B.parts B.shares B.room B.frames B.rows }
+    requires { IsNamedBy seed B.name B.parts B.shares B.room B.frames B.mode B.rows }
 {
     let (manager, rows, _, mut mine) = made::<B>(alloc, seed)?;
     {
         let mut guard = manager.lock(rt);
         let book = &mut *guard;
         assert_eq!(rt;
-            book.call(&rows, &mut mine, Call::Domain(Mode::Lazy)),
+            book.call(
+                &rows,
+                &mut mine,
+                Call::Domain {
+                    mode: Mode::Lazy,
+                    width: Width::W39
+                }
+            ),
             Ok((1, Reply::Made(1)))
         );
         for k in 1..1022u64 {
@@ -251,10 +266,18 @@ fn pieces_run_out(rt: HostRuntime) -> Result<(), Fail> {
 
 // The 1,022nd piece of one page is one too many; devices go on.
 fn crowded<B: Owner, R: Wait + Abort>(rt: &R, alloc: Global, seed: Seed) -> Result<(), Fail>
-    requires { IsNamedBy seed B.name B.parts B.shares B.room B.frames B.rows }
+    requires { IsNamedBy seed B.name B.parts B.shares B.room B.frames B.mode B.rows }
 {
     let (manager, rows, _, mut mine) = made::<B>(alloc, seed)?;
-    let _ = manager.call(rt, &rows, &mut mine, Call::Domain(Mode::Strict));
+    let _ = manager.call(
+        rt,
+        &rows,
+        &mut mine,
+        Call::Domain {
+            mode: Mode::Strict,
+            width: Width::W39,
+        },
+    );
     for _ in 0..1021u64 {
         let _ = manager.call(rt, &rows, &mut mine, one_page(1));
     }
@@ -297,7 +320,7 @@ fn snapshots(rt: HostRuntime) -> Result<(), Fail> {
 
 // A new manager, and one with as many domains and devices as there can be.
 fn told_at_moments<B: Owner, R: Wait + Abort>(rt: &R, alloc: Global, seed: Seed) -> Result<(), Fail>
-    requires { IsNamedBy seed B.name B.parts B.shares B.room B.frames B.rows }
+    requires { IsNamedBy seed B.name B.parts B.shares B.room B.frames B.mode B.rows }
 {
     let (manager, rows, _, mut mine) = made::<B>(alloc, seed)?;
     let report = manager.snapshot(rt, alloc)?;
@@ -306,7 +329,15 @@ fn told_at_moments<B: Owner, R: Wait + Abort>(rt: &R, alloc: Global, seed: Seed)
         "events 0\nframes 16 free 0 used 0 retired\ntickets 0 open\nring 0 pending\n"
     );
     for _ in 0..15u64 {
-        let _ = manager.call(rt, &rows, &mut mine, Call::Domain(Mode::Lazy));
+        let _ = manager.call(
+            rt,
+            &rows,
+            &mut mine,
+            Call::Domain {
+                mode: Mode::Lazy,
+                width: Width::W39,
+            },
+        );
     }
     for device in 0..16u64 {
         let attach = Call::Attach { device, domain: 15 };

@@ -2,7 +2,7 @@
 
 ghost use Rattle.std.specs.Prelude.{◌<◌, ◌^◌};
 
-use dmatypes::{Mode, Progress, Refusal};
+use dmatypes::{Mode, Progress, Refusal, Width};
 use engine::State;
 use std::process::Abort;
 use std::test::Fail;
@@ -21,8 +21,8 @@ fn waits_pass_32_bits(rt: HostRuntime) -> Result<(), Fail> {
 fn flush_around<R: Abort>(rt: &R, state: &mut State) -> Result<(), Fail>
     requires { state.old.calls < 2 ^ 41 }
 {
-    assert_eq!(rt; state.domain(Mode::Lazy), Ok(1));
-    assert_eq!(rt; state.domain(Mode::Strict), Ok(2));
+    assert_eq!(rt; state.domain(Mode::Lazy, Width::W39), Ok(1));
+    assert_eq!(rt; state.domain(Mode::Strict, Width::W39), Ok(2));
     assert_eq!(rt; state.map(1, 0x100, 1, 0, 3), Ok(0x1000));
     assert_eq!(rt; state.map(2, 0x100, 1, 0, 3), Ok(0x1000));
     assert_eq!(rt; state.begin(1), Ok(1));

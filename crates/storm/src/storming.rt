@@ -8,7 +8,7 @@ ghost use Rattle.storm.specs.Storms.{AreNewFrom, HasChecked, HasMade, HasMet, Ha
 use crate::crew::{Returned, run_all};
 use crate::gate::Gate;
 use crate::workers::{Role, Site, Worker};
-use dmatypes::{Call, Mode};
+use dmatypes::{Call, Mode, Width};
 use manager::{Config, History, Made, Manager, Owner, Port, Rows, Seed, Share};
 use std::alloc::{AllocError, Global};
 use std::marker::Brand;
@@ -114,7 +114,7 @@ fn storm_on<B: Owner + Send + Sync, G: Gate, R: Threads + Wait + Sync>(
     plan: Plan,
     gate: &G,
 ) -> Result<u64, StormError>
-    requires named { IsNamedBy seed B.name B.parts B.shares B.room B.frames B.rows }
+    requires named { IsNamedBy seed B.name B.parts B.shares B.room B.frames B.mode B.rows }
     requires room { seed.room ≡ 2 + plan.devices + plan.calls * (plan.drivers + plan.devices + 1) }
     requires shares { seed.shares ≡ plan.drivers + plan.devices + 2 }
     requires frames { seed.frames ≡ TABLE_FRAMES }
@@ -140,7 +140,7 @@ pub(crate) fn outcome_of<B: Owner + Send + Sync, G: Gate, R: Threads + Wait + Sy
     plan: Plan,
     gate: &G,
 ) -> Result<Outcome<B>, StormError>
-    requires named { IsNamedBy seed B.name B.parts B.shares B.room B.frames B.rows }
+    requires named { IsNamedBy seed B.name B.parts B.shares B.room B.frames B.mode B.rows }
     requires room { seed.room ≡ 2 + plan.devices + plan.calls * (plan.drivers + plan.devices + 1) }
     requires shares { seed.shares ≡ plan.drivers + plan.devices + 2 }
     requires frames { seed.frames ≡ TABLE_FRAMES }
@@ -198,8 +198,24 @@ fn set_up<B: Owner, R: Wait>(
     requires { first.old.calls ≡ 0 }
     ensures { HasMade B.room (2 + devices) first.new }
 {
-    let _ = manager.call(rt, rows, first, Call::Domain(Mode::Strict));
-    let _ = manager.call(rt, rows, first, Call::Domain(Mode::Lazy));
+    let _ = manager.call(
+        rt,
+        rows,
+        first,
+        Call::Domain {
+            mode: Mode::Strict,
+            width: Width::W39,
+        },
+    );
+    let _ = manager.call(
+        rt,
+        rows,
+        first,
+        Call::Domain {
+            mode: Mode::Lazy,
+            width: Width::W39,
+        },
+    );
     for device in 0..devices {
         let attach = Call::Attach {
             device,

@@ -1,6 +1,8 @@
 -- Trees of tables, and walks through them. A memory gives the entry at a level, a table and an index.
 use Rattle.std.specs.Prelude.{◌≡◌, ℕ, zero, suc, ◌+◌, ◌*◌, ◌/◌, ◌%◌, ◌<◌, ◌≤◌, Bool, false, ◌==◌, nat_lt, if◌then◌else◌, Option, Some, None}
 use Rattle.tables.specs.declared.entries.TheConstants.{TABLE_ENTRIES}
+use Rattle.dmatypes.specs.Page.{levels, pages_end}
+use Rattle.dmatypes.specs.declared.width.Width.{Width}
 use Rattle.dmatypes.specs.World.{Target}
 use Rattle.vtdbits.specs.Translation.{target}
 use Rattle.vtdbits.specs.declared.entry.SsEntry.{SsEntry}
@@ -54,9 +56,13 @@ abbrev pub stated : ℕ → Option Found → Option Target
 stated p None = None
 stated p (Some x) = Some (target (x.frame + p % span x.size) x.rights)
 
--- what a table of the level states of a page: the meaning of a tree
+-- what a table of the level states of a page
 abbrev pub states : Memory → ℕ → ℕ → ℕ → Option Target
 states m l t p = stated p (leaf_from m l t p)
+
+-- what a root states of a page, by the levels of its width, and of pages of its width alone: the meaning of a tree
+abbrev pub root_states : Memory → Width → ℕ → ℕ → Option Target
+root_states m width root p = if nat_lt p (pages_end width) then states m (levels width) root p else None
 
 -- a leaf that stands for more than one page
 abbrev pub is_large_leaf : Option Found → Bool

@@ -8,20 +8,11 @@ ghost use Rattle.tables.specs.Tree.{span, index_in, states, leaf_from, table_fro
 ghost use Rattle.tables.specs.Pool.{memory, IsTree};
 
 use crate::frames::Pool;
-use dmatypes::{FRAMES_END, Frame, Rights, SPAN_PAGES};
+use dmatypes::{FRAMES_END, Frame, MOST_LEVELS, Rights, SPAN_PAGES};
 use vtdbits::{SsEntry, Translation};
 
 /// Entries of a table, one a word of its frame; those of a lowest table have a page each (second-stage paging).
 pub const TABLE_ENTRIES: u64 = SPAN_PAGES;
-
-/// The most levels that trees can have here: those of 48-bit addresses (second-stage paging).
-pub(crate) const MOST_LEVELS: u64 = 4;
-
-/// The pages of such a tree are below it.
-pub(crate) const WIDEST_PAGES_END: u64 = TABLE_ENTRIES
-    * TABLE_ENTRIES
-    * TABLE_ENTRIES
-    * TABLE_ENTRIES;
 
 /// How many pages a table of a level covers, and an entry of the level above (second-stage paging): one at level 0.
 #[tactic(auto, unfolding(crate::specs::Tree::span))]

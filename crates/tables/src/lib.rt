@@ -2,11 +2,11 @@
 //! leaves of 4 KiB and of 2 MiB, and a call knows beforehand how many table frames it takes. `specs/` has the meaning of a tree.
 //!
 //! ```rust
-//! use dmatypes::Page;
+//! use dmatypes::{Page, Width};
 //! use tables::{Pool, Tree};
 //!
 //! let mut pool = Pool::new(rt.alloc(), 16)?;
-//! let mut tree = Tree::new(&mut pool)?;
+//! let mut tree = Tree::new(&mut pool, Width::W39)?;
 //! // `pages` and `frame` make a `PageRange` and a `Frame` of numbers: 512 pages, as one leaf of 2 MiB.
 //! tree.map(&mut pool, pages(0x200, 512), frame(0x400), rights)
 //!     .expect(&rt, "a free frame");

@@ -12,14 +12,12 @@ ghost use Rattle.tables.specs.Segments.{is_large_at, AreSegments};
 ghost use Rattle.tables.specs.Lacks.{lacks_table, tables_lacking, tables_lacking_at, frames_to_map, sum_spans};
 ghost use Rattle.tables.specs.Pieces.{piece_states, is_large, WritesEntries, leaf_at};
 
-use crate::entries::{
-    MOST_LEVELS, TABLE_ENTRIES, WIDEST_PAGES_END, entry, index_of, span_of, table_at,
-};
+use crate::entries::{TABLE_ENTRIES, entry, index_of, span_of, table_at};
 use crate::error::NoFrames;
 use crate::frames::Pool;
 use crate::piece::Piece;
 use crate::segments::is_large_at;
-use dmatypes::{Frame, Rights, SPAN_PAGES, Segment};
+use dmatypes::{Frame, MOST_LEVELS, PAGES_END, Rights, SPAN_PAGES, Segment};
 use vtdbits::{LargeTranslation, SsEntry};
 
 /// Writes the leaves of a piece in a table of level 1.
@@ -132,7 +130,7 @@ fn lacks_table(
     requires high { level ≤ MOST_LEVELS }
     requires tree { IsTree pool.now level root }
     requires segments { AreSegments segments.now }
-    requires within { first + total_pages segments.now ≤ WIDEST_PAGES_END }
+    requires within { first + total_pages segments.now ≤ PAGES_END }
     ensures { (if result then 1 else 0) ≡ lacks_table (memory pool.now.words) level root (is_large_at segments.now first page) wanted page }
 {
     if table_at(pool, level, root, page, wanted).is_some() {
@@ -158,10 +156,10 @@ fn spans_lacking(
     requires segments { AreSegments segments.now }
     requires some { first < end }
     requires end { end ≡ first + total_pages segments.now }
-    requires within { end ≤ WIDEST_PAGES_END }
+    requires within { end ≤ PAGES_END }
     ensures value { result
         ≡ sum_spans (λ p. lacks_table (memory pool.now.words) level root (is_large_at segments.now first p) wanted p) wanted first end }
-    ensures small { result ≤ WIDEST_PAGES_END }
+    ensures small { result ≤ PAGES_END }
 {
     let width = span_of(wanted);
     let mut count = 0;
@@ -189,7 +187,7 @@ fn tables_lacking(
     requires segments { AreSegments segments.now }
     requires some { first < end }
     requires end { end ≡ first + total_pages segments.now }
-    requires within { end ≤ WIDEST_PAGES_END }
+    requires within { end ≤ PAGES_END }
     ensures { result ≡ tables_lacking (memory pool.now.words) level root (is_large_at segments.now first) first end }
 {
     let mut count = 0;
@@ -205,7 +203,7 @@ fn most_lacking(level: u64, first: u64, end: u64) -> u64
     requires low { 1 ≤ level }
     requires high { level ≤ MOST_LEVELS }
     requires some { first < end }
-    requires within { end ≤ WIDEST_PAGES_END }
+    requires within { end ≤ PAGES_END }
     ensures { (m : Memory) (root : ℕ) (large : ℕ → Bool) → tables_lacking m level root large first end ≤ result }
 {
     let mut most = 0;
@@ -231,7 +229,7 @@ fn map_pieces(
     requires tree { IsTree pool.old level root }
     requires segments { AreSegments segments.now }
     requires some { 0 < total_pages segments.now }
-    requires within { first + total_pages segments.now ≤ WIDEST_PAGES_END }
+    requires within { first + total_pages segments.now ≤ PAGES_END }
     requires one_span { first / span level ≡ (first + total_pages segments.now - 1) / span level }
     requires rights { AreRights (bits_of rights) }
     requires absent { (p : ℕ) → first ≤ p → p < first + total_pages segments.now → leaf_from (memory pool.old.words) level root p ≡ None }
@@ -265,7 +263,7 @@ pub(crate) fn map_segments(
     requires tree { IsTree pool.old level root }
     requires segments { AreSegments segments.now }
     requires some { 0 < total_pages segments.now }
-    requires within { first + total_pages segments.now ≤ WIDEST_PAGES_END }
+    requires within { first + total_pages segments.now ≤ PAGES_END }
     requires one_span { first / span level ≡ (first + total_pages segments.now - 1) / span level }
     requires rights { AreRights (bits_of rights) }
     requires absent { (p : ℕ) → first ≤ p → p < first + total_pages segments.now → leaf_from (memory pool.old.words) level root p ≡ None }

@@ -3,11 +3,10 @@
 ghost use Rattle.std.specs.Prelude.{◌≡◌, ◌+◌, ◌-◌, ◌/◌, ◌^◌, ◌<◌, ◌≤◌};
 ghost use Rattle.dmatypes.specs.Rights.{AreRights, bits_of};
 ghost use Rattle.dmatypes.specs.declared.page.TheConstants.{FRAMES_END, SPAN_PAGES};
-ghost use Rattle.tables.specs.declared.entries.TheConstants.{WIDEST_PAGES_END};
+ghost use Rattle.dmatypes.specs.declared.width.TheConstants.{PAGES_END};
 
-use crate::entries::WIDEST_PAGES_END;
 use crate::segments::rest_at;
-use dmatypes::{FRAMES_END, Rights, SPAN_PAGES, Segment};
+use dmatypes::{FRAMES_END, PAGES_END, Rights, SPAN_PAGES, Segment};
 
 /// Pages in one span of 512, and the host frames from a first one on that they are to be mapped to.
 #[derive(Clone, Copy)]
@@ -18,7 +17,7 @@ pub struct Piece {
     pub rights: Rights,
     ghost some: { from < to },
     ghost one_span: { from / SPAN_PAGES ≡ (to - 1) / SPAN_PAGES },
-    ghost pages: { to ≤ WIDEST_PAGES_END },
+    ghost pages: { to ≤ PAGES_END },
     ghost frames: { frame + (to - from) ≤ FRAMES_END },
     ghost may: { AreRights (bits_of rights) },
 }
@@ -34,7 +33,7 @@ impl Piece {
     /// the end of the page's segment or of its span.
     pub(crate) fn at(segments: &[Segment], first: u64, page: u64, rights: Rights) -> Option<Piece>
         requires segments { AreSegments segments.now }
-        requires within { first + total_pages segments.now ≤ WIDEST_PAGES_END }
+        requires within { first + total_pages segments.now ≤ PAGES_END }
         requires after { first ≤ page }
         requires rights { AreRights (bits_of rights) }
         ensures none { IfNone result (first + total_pages segments.now ≤ page) }

@@ -4,14 +4,13 @@ ghost use Rattle.std.specs.Prelude.{◌≡◌, ◌+◌, ◌<◌, ◌≤◌, ◌^
 ghost use Rattle.dmatypes.specs.Conditions.{total_pages};
 ghost use Rattle.tables.specs.Segments.{rest_at, is_large_at, AreSegments};
 
-use crate::entries::WIDEST_PAGES_END;
-use dmatypes::{SPAN_PAGES, Segment};
+use dmatypes::{PAGES_END, SPAN_PAGES, Segment};
 
 /// What is left of a page's segment from that page on, where the segments follow one another from a first
 /// page on.
 pub(crate) fn rest_at(segments: &[Segment], first: u64, page: u64) -> Option<Segment>
     requires segments { AreSegments segments.now }
-    requires within { first + total_pages segments.now ≤ WIDEST_PAGES_END }
+    requires within { first + total_pages segments.now ≤ PAGES_END }
     ensures { result ≡ rest_at segments.now first page }
 {
     let mut start = first;
@@ -31,7 +30,7 @@ pub(crate) fn rest_at(segments: &[Segment], first: u64, page: u64) -> Option<Seg
 /// Whether a leaf of 512 pages begins at the page, where no table is there.
 pub(crate) fn is_large_at(segments: &[Segment], first: u64, page: u64) -> bool
     requires segments { AreSegments segments.now }
-    requires within { first + total_pages segments.now ≤ WIDEST_PAGES_END }
+    requires within { first + total_pages segments.now ≤ PAGES_END }
     ensures { result ≡ is_large_at segments.now first page }
 {
     if page % SPAN_PAGES != 0 {

@@ -3,11 +3,11 @@
 ghost use Rattle.std.specs.Prelude.{◌≡◌, ◌↔◌, ℕ, ◌+◌, ◌-◌, ◌/◌, ◌^◌, ◌<◌, ◌≤◌, ◌⊎◌, [], false, Some, None, length, IsErr, IsSome, IfOk};
 ghost use Rattle.std.specs.Prelude.{OnOk, OnErr, IfSome, IfNone, IsTrue};
 ghost use Rattle.dmatypes.specs.Conditions.{total_pages};
-ghost use Rattle.dmatypes.specs.Page.{IsPageRange, IsWithin};
+ghost use Rattle.dmatypes.specs.Page.{Fits, IsPageRange, IsWithin, levels};
 ghost use Rattle.dmatypes.specs.Rights.{AreRights, bits_of};
 ghost use Rattle.dmatypes.specs.World.{placed};
 ghost use Rattle.vtdbits.specs.Translation.{target};
-ghost use Rattle.tables.specs.Tree.{one_if_same, span, states, leaf_from, table_from, uses, IsLeafAt, IsTableAt, Found};
+ghost use Rattle.tables.specs.Tree.{one_if_same, root_states, span, states, leaf_from, table_from, uses, IsLeafAt, IsTableAt, Found};
 ghost use Rattle.tables.specs.Pool.{word, memory, occurs, IsPool, IsTree};
 ghost use Rattle.tables.specs.Changes.{TakesAndGivesFrames, MapsPages, MakesTables, UnmapsPages, KeepsLeaves, KeepsTables, KeepsOthers};
 ghost use Rattle.tables.specs.Segments.{AreSegments, is_large_at, one_segment};
@@ -19,24 +19,27 @@ use crate::error::NoFrames;
 use crate::frames::Pool;
 use crate::mapping::map_segments;
 use crate::unmapping::{leaves_splitting, release, spans_met, unmap_pieces};
-use dmatypes::{FRAMES_END, Frame, LEVELS, Page, PageRange, Rights, SPAN_PAGES, Segment};
+use dmatypes::{FRAMES_END, Frame, Page, PageRange, Rights, SPAN_PAGES, Segment, Width};
 
-/// A tree of tables in a pool, by the frame of its root. Its calls ask that it is a tree of the pool that
+/// A tree of tables in a pool, by the frame of its root and the width of its pages. Its calls ask that it is a tree of the pool that
 /// they are given.
 #[derive(Drop)]
 pub struct Tree {
     root: Frame,
+    width: Width,
 }
 
 impl Tree {
-    /// A tree that maps no page, in one free frame.
-    pub fn new(pool: &mut Pool) -> Result<Tree, NoFrames>
+    /// A tree of this width that maps no page, in one free frame.
+    pub fn new(pool: &mut Pool, width: Width) -> Result<Tree, NoFrames>
         ensures refused { IsErr result ↔ (length pool.old.free ≡ 0) }
         ensures unchanged { OnErr result (pool.new ≡ pool.old) }
-        ensures tree { IfOk result (λ tree. IsTree pool.new LEVELS tree.root) }
-        ensures empty { IfOk result (λ tree. (p : ℕ) → leaf_from (memory pool.new.words) LEVELS tree.root p ≡ None) }
-        ensures tables { IfOk result (λ tree. (p w : ℕ) → w < LEVELS → table_from (memory pool.new.words) LEVELS tree.root p w ≡ None) }
-        ensures frames { IfOk result (λ tree. (f : ℕ) → uses (memory pool.new.words) LEVELS tree.root f ≡ one_if_same tree.root f) }
+        ensures width { IfOk result (λ tree. tree.width ≡ width) }
+        ensures tree { IfOk result (λ tree. IsTree pool.new (levels width) tree.root) }
+        ensures empty { IfOk result (λ tree. (p : ℕ) → leaf_from (memory pool.new.words) (levels width) tree.root p ≡ None) }
+        ensures tables { IfOk result (λ tree. (p w : ℕ) → w < levels width
+            → table_from (memory pool.new.words) (levels width) tree.root p w ≡ None) }
+        ensures frames { IfOk result (λ tree. (f : ℕ) → uses (memory pool.new.words) (levels width) tree.root f ≡ one_if_same tree.root f) }
         ensures free { IfOk result (λ tree. (f : ℕ) → occurs f pool.new.free + one_if_same tree.root f ≡ occurs f pool.old.free) }
         ensures count { OnOk result (length pool.new.free + 1 ≡ length pool.old.free) }
         ensures words { pool.new.words ≡ pool.old.words }
@@ -46,7 +49,10 @@ impl Tree {
         if pool.free_count() == 0 {
             return Err(NoFrames);
         }
-        Ok(Tree { root: pool.take() })
+        Ok(Tree {
+            root: pool.take(),
+            width,
+        })
     }
 
     /// The frame of its root.
@@ -56,13 +62,25 @@ impl Tree {
         self.root
     }
 
-    /// The host frame and the rights that a page is mapped to.
-    pub fn walk(&self, pool: &Pool, page: Page) -> Option<(Frame, Rights)>
-        requires { IsTree pool.now LEVELS self.now.root }
-        ensures some { IfSome result (λ to. states (memory pool.now.words) LEVELS self.now.root page ≡ Some (target to.0 (bits_of to.1))) }
-        ensures none { IfNone result (states (memory pool.now.words) LEVELS self.now.root page ≡ None) }
+    /// The width of its pages.
+    pub fn width(&self) -> Width
+        ensures { result ≡ self.now.width }
     {
-        find(pool, LEVELS, self.root, page.number()).map(|to| (to.frame(), to.rights()))
+        self.width
+    }
+
+    /// The host frame and the rights that a page is mapped to; nothing where it is none of the tree's width.
+    pub fn walk(&self, pool: &Pool, page: Page) -> Option<(Frame, Rights)>
+        requires { IsTree pool.now (levels self.now.width) self.now.root }
+        ensures some { IfSome result
+            (λ to. root_states (memory pool.now.words) self.now.width self.now.root page ≡ Some (target to.0 (bits_of to.1))) }
+        ensures none { IfNone result (root_states (memory pool.now.words) self.now.width self.now.root page ≡ None) }
+    {
+        if page.number() >= self.width.pages_end() {
+            return None;
+        }
+        let levels = self.width.levels();
+        find(pool, levels, self.root, page.number()).map(|to| (to.frame(), to.rights()))
     }
 
     /// Maps the pages of a range, which are absent, to as many host frames from one on.
@@ -73,25 +91,30 @@ impl Tree {
         frame: Frame,
         rights: Rights,
     ) -> Result<(), NoFrames>
-        requires tree { IsTree pool.old LEVELS self.old.root }
-        requires absent { (p : ℕ) → IsWithin range p → states (memory pool.old.words) LEVELS self.old.root p ≡ None }
+        requires tree { IsTree pool.old (levels self.old.width) self.old.root }
+        requires fits { Fits range self.old.width }
+        requires absent { (p : ℕ) → IsWithin range p → states (memory pool.old.words) (levels self.old.width) self.old.root p ≡ None }
         requires frames { frame + range.pages ≤ FRAMES_END }
         requires rights { AreRights (bits_of rights) }
         ensures refused { IsErr result
-            ↔ (length pool.old.free < frames_to_map pool.old LEVELS self.old.root (one_segment frame range.pages) range.first) }
+            ↔ (length pool.old.free < frames_to_map pool.old (levels self.old.width) self.old.root (one_segment frame range.pages)
+            range.first) }
         ensures unchanged { OnErr result (pool.new ≡ pool.old) }
         ensures root { self.new ≡ self.old }
-        ensures moves { TakesAndGivesFrames pool.old pool.new LEVELS self.old.root [] }
-        ensures maps { OnOk result (MapsPages pool.old pool.new LEVELS self.old.root range.first (range.first + range.pages)
+        ensures moves { TakesAndGivesFrames pool.old pool.new (levels self.old.width) self.old.root [] }
+        ensures maps { OnOk result (MapsPages pool.old pool.new (levels self.old.width) self.old.root range.first
+            (range.first + range.pages)
             (λ p. Some (target (frame + (p - range.first)) (bits_of rights)))) }
-        ensures makes { OnOk result (MakesTables pool.old pool.new LEVELS self.old.root range.first (range.first + range.pages)
+        ensures makes { OnOk result (MakesTables pool.old pool.new (levels self.old.width) self.old.root range.first
+            (range.first + range.pages)
             (is_large_at (one_segment frame range.pages) range.first)) }
         ensures count { OnOk result (length pool.new.free
-            + frames_to_map pool.old LEVELS self.old.root (one_segment frame range.pages) range.first ≡ length pool.old.free) }
-        ensures leaves { KeepsLeaves pool.old pool.new LEVELS self.old.root }
-        ensures tables { KeepsTables pool.old pool.new LEVELS self.old.root }
-        ensures others { KeepsOthers pool.old pool.new LEVELS self.old.root }
-        ensures tree { IsTree pool.new LEVELS self.old.root }
+            + frames_to_map pool.old (levels self.old.width) self.old.root (one_segment frame range.pages)
+            range.first ≡ length pool.old.free) }
+        ensures leaves { KeepsLeaves pool.old pool.new (levels self.old.width) self.old.root }
+        ensures tables { KeepsTables pool.old pool.new (levels self.old.width) self.old.root }
+        ensures others { KeepsOthers pool.old pool.new (levels self.old.width) self.old.root }
+        ensures tree { IsTree pool.new (levels self.old.width) self.old.root }
         ensures pool { IsPool pool.new }
     {
         let segment = Segment {
@@ -110,47 +133,54 @@ impl Tree {
         segments: &[Segment],
         rights: Rights,
     ) -> Result<(), NoFrames>
-        requires tree { IsTree pool.old LEVELS self.old.root }
+        requires tree { IsTree pool.old (levels self.old.width) self.old.root }
         requires some { 1 ≤ length segments.now }
         requires few { length segments.now ≤ 16 }
         requires segments { AreSegments segments.now }
         requires range { IsPageRange (record { first = start; pages = total_pages segments.now }) }
+        requires fits { Fits (record { first = start; pages = total_pages segments.now }) self.old.width }
         requires absent { (p : ℕ) → start ≤ p → p < start + total_pages segments.now
-            → states (memory pool.old.words) LEVELS self.old.root p ≡ None }
+            → states (memory pool.old.words) (levels self.old.width) self.old.root p ≡ None }
         requires rights { AreRights (bits_of rights) }
-        ensures refused { IsErr result ↔ (length pool.old.free < frames_to_map pool.old LEVELS self.old.root segments.now start) }
+        ensures refused { IsErr result ↔ (length pool.old.free < frames_to_map pool.old (levels self.old.width)
+            self.old.root segments.now start) }
         ensures unchanged { OnErr result (pool.new ≡ pool.old) }
         ensures root { self.new ≡ self.old }
-        ensures moves { TakesAndGivesFrames pool.old pool.new LEVELS self.old.root [] }
-        ensures maps { OnOk result (MapsPages pool.old pool.new LEVELS self.old.root start (start + total_pages segments.now)
+        ensures moves { TakesAndGivesFrames pool.old pool.new (levels self.old.width) self.old.root [] }
+        ensures maps { OnOk result (MapsPages pool.old pool.new (levels self.old.width) self.old.root start
+            (start + total_pages segments.now)
             (placed segments.now start (bits_of rights))) }
-        ensures makes { OnOk result (MakesTables pool.old pool.new LEVELS self.old.root start (start + total_pages segments.now)
+        ensures makes { OnOk result (MakesTables pool.old pool.new (levels self.old.width) self.old.root start
+            (start + total_pages segments.now)
             (is_large_at segments.now start)) }
         ensures count { OnOk result
-            (length pool.new.free + frames_to_map pool.old LEVELS self.old.root segments.now start ≡ length pool.old.free) }
-        ensures leaves { KeepsLeaves pool.old pool.new LEVELS self.old.root }
-        ensures tables { KeepsTables pool.old pool.new LEVELS self.old.root }
-        ensures others { KeepsOthers pool.old pool.new LEVELS self.old.root }
-        ensures tree { IsTree pool.new LEVELS self.old.root }
+            (length pool.new.free + frames_to_map pool.old (levels self.old.width)
+            self.old.root segments.now start ≡ length pool.old.free) }
+        ensures leaves { KeepsLeaves pool.old pool.new (levels self.old.width) self.old.root }
+        ensures tables { KeepsTables pool.old pool.new (levels self.old.width) self.old.root }
+        ensures others { KeepsOthers pool.old pool.new (levels self.old.width) self.old.root }
+        ensures tree { IsTree pool.new (levels self.old.width) self.old.root }
         ensures pool { IsPool pool.new }
     {
-        map_segments(pool, LEVELS, self.root, segments, start.number(), rights)
+        let levels = self.width.levels();
+        map_segments(pool, levels, self.root, segments, start.number(), rights)
     }
 
     /// Whether the free frames suffice to unmap a range: each leaf of 2 MiB that it meets and doesn't cover
     /// takes one.
     pub fn may_unmap(&self, pool: &Pool, range: PageRange) -> Result<(), NoFrames>
-        requires { IsTree pool.now LEVELS self.now.root }
+        requires tree { IsTree pool.now (levels self.now.width) self.now.root }
+        requires fits { Fits range self.now.width }
         ensures { IsErr result
             ↔ (length pool.now.free
-            < leaves_splitting (memory pool.now.words) LEVELS self.now.root range.first (range.first + range.pages)) }
+            < leaves_splitting (memory pool.now.words) (levels self.now.width) self.now.root range.first (range.first + range.pages)) }
     {
         let from = range.first();
         let to = from + range.pages();
         let free = pool.free_count();
         // Where as many frames are free as the range meets spans, the leaves to be split needn't be counted.
         if free < spans_met(from, to)
-            && free < leaves_splitting(pool, LEVELS, self.root, from, to)
+            && free < leaves_splitting(pool, self.width.levels(), self.root, from, to)
         {
             return Err(NoFrames);
         }
@@ -161,46 +191,52 @@ impl Tree {
     /// the range covers is cut.
     #[inline(always)]
     pub fn unmap(&mut self, pool: &mut Pool, range: PageRange) -> Cut
-        requires tree { IsTree pool.old LEVELS self.old.root }
-        requires there { (p : ℕ) → IsWithin range p → IsSome (states (memory pool.old.words) LEVELS self.old.root p) }
-        requires may { leaves_splitting (memory pool.old.words) LEVELS self.old.root range.first (range.first + range.pages)
+        requires tree { IsTree pool.old (levels self.old.width) self.old.root }
+        requires fits { Fits range self.old.width }
+        requires there { (p : ℕ) → IsWithin range p → IsSome (states (memory pool.old.words) (levels self.old.width) self.old.root p) }
+        requires may { leaves_splitting (memory pool.old.words) (levels self.old.width) self.old.root range.first
+            (range.first + range.pages)
             ≤ length pool.old.free }
         ensures root { self.new ≡ self.old }
-        ensures moves { TakesAndGivesFrames pool.old pool.new LEVELS self.old.root result.frames }
-        ensures unmaps { UnmapsPages pool.old pool.new LEVELS self.old.root range.first (range.first + range.pages) result.frames }
+        ensures moves { TakesAndGivesFrames pool.old pool.new (levels self.old.width) self.old.root result.frames }
+        ensures unmaps { UnmapsPages pool.old pool.new (levels self.old.width) self.old.root range.first (range.first + range.pages)
+            result.frames }
         ensures split { IsTrue result.split
-            ↔ (0 < leaves_splitting (memory pool.old.words) LEVELS self.old.root range.first (range.first + range.pages)) }
+            ↔ (0 < leaves_splitting (memory pool.old.words) (levels self.old.width) self.old.root range.first (range.first + range.pages)) }
         ensures whole { (p : ℕ) (x : Found) → IsWithin range p → result.split ≡ false
-            → leaf_from (memory pool.old.words) LEVELS self.old.root p ≡ Some x
+            → leaf_from (memory pool.old.words) (levels self.old.width) self.old.root p ≡ Some x
             → (q : ℕ) → q / span x.size ≡ p / span x.size → IsWithin range q }
         ensures count { length pool.new.free
-            + leaves_splitting (memory pool.old.words) LEVELS self.old.root range.first (range.first + range.pages)
+            + leaves_splitting (memory pool.old.words) (levels self.old.width) self.old.root range.first (range.first + range.pages)
             ≡ length pool.old.free }
-        ensures leaves { (first pages frame rights : ℕ) → IsLeafAt (memory pool.old.words) LEVELS self.old.root first pages frame rights
+        ensures leaves { (first pages frame rights : ℕ) → IsLeafAt (memory pool.old.words) (levels self.old.width)
+            self.old.root first pages frame rights
             → (first + pages ≤ range.first) ⊎ (range.first + range.pages ≤ first)
-            → IsLeafAt (memory pool.new.words) LEVELS self.old.root first pages frame rights }
-        ensures tables { (first level table : ℕ) → IsTableAt (memory pool.old.words) LEVELS self.old.root first level table
-            → IsTableAt (memory pool.new.words) LEVELS self.old.root first level table
+            → IsLeafAt (memory pool.new.words) (levels self.old.width) self.old.root first pages frame rights }
+        ensures tables { (first level table : ℕ) → IsTableAt (memory pool.old.words) (levels self.old.width) self.old.root first level table
+            → IsTableAt (memory pool.new.words) (levels self.old.width) self.old.root first level table
             ⊎ ((level ≡ 1) × (range.first ≤ first) × (first + SPAN_PAGES ≤ range.first + range.pages) × (0 < occurs table result.frames)) }
-        ensures others { KeepsOthers pool.old pool.new LEVELS self.old.root }
-        ensures tree { IsTree pool.new LEVELS self.old.root }
+        ensures others { KeepsOthers pool.old pool.new (levels self.old.width) self.old.root }
+        ensures tree { IsTree pool.new (levels self.old.width) self.old.root }
         ensures pool { IsPool pool.new }
     {
         let from = range.first();
-        unmap_pieces(pool, LEVELS, self.root, from, from + range.pages())
+        let levels = self.width.levels();
+        unmap_pieces(pool, levels, self.root, from, from + range.pages())
     }
 
     /// Gives all its frames back.
     pub fn destroy(self, pool: &mut Pool)
-        requires { IsTree pool.old LEVELS self.root }
-        ensures free { (f : ℕ) → occurs f pool.new.free ≡ occurs f pool.old.free + uses (memory pool.old.words) LEVELS self.root f }
-        ensures words { (f k : ℕ) → k < TABLE_ENTRIES → uses (memory pool.old.words) LEVELS self.root f ≡ 0
+        requires { IsTree pool.old (levels self.width) self.root }
+        ensures free { (f : ℕ) → occurs f pool.new.free
+            ≡ occurs f pool.old.free + uses (memory pool.old.words) (levels self.width) self.root f }
+        ensures words { (f k : ℕ) → k < TABLE_ENTRIES → uses (memory pool.old.words) (levels self.width) self.root f ≡ 0
             → word pool.new.words f k ≡ word pool.old.words f k }
-        ensures others { KeepsOthers pool.old pool.new LEVELS self.root }
+        ensures others { KeepsOthers pool.old pool.new (levels self.width) self.root }
         ensures size { pool.new.frames ≡ pool.old.frames }
         ensures pool { IsPool pool.new }
     {
-        let Tree { root } = self;
-        release(pool, LEVELS, root);
+        let Tree { root, width } = self;
+        release(pool, width.levels(), root);
     }
 }

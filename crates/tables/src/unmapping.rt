@@ -12,13 +12,11 @@ ghost use Rattle.tables.specs.Under.{IsSplit, used_at};
 ghost use Rattle.tables.specs.Pieces.{WritesEntries, cut_of, was_split, piece_splits};
 
 use crate::cut::Cut;
-use crate::entries::{
-    MOST_LEVELS, TABLE_ENTRIES, WIDEST_PAGES_END, entry, index_of, is_in_large_leaf,
-};
+use crate::entries::{TABLE_ENTRIES, entry, index_of, is_in_large_leaf};
 use crate::frames::Pool;
 use crate::mapping::write_run;
 use crate::piece::Piece;
-use dmatypes::{Frame, MOST_PAGES, SPAN_PAGES};
+use dmatypes::{Frame, MOST_LEVELS, MOST_PAGES, PAGES_END, SPAN_PAGES};
 use vtdbits::{LargeTranslation, SsEntry};
 
 /// What became of a piece that was unmapped.
@@ -55,7 +53,7 @@ fn clear_run(pool: &mut Pool, table: Frame, from: u64, to: u64)
 /// Spells a leaf of 512 pages by a new table of 512 leaves.
 fn split(pool: &mut Pool, table: Frame, page: u64, leaf: LargeTranslation) -> Frame
     requires tree { IsTree pool.old 2 table }
-    requires page { page < WIDEST_PAGES_END }
+    requires page { page < PAGES_END }
     requires leaf { memory pool.old.words 2 table (index_in 1 page) ≡ SsEntry.LargeLeaf leaf }
     requires room { 0 < length pool.old.free }
     ensures moves { TakesAndGivesFrames pool.old pool.new 2 table [] }
@@ -97,7 +95,7 @@ fn clear_span(pool: &mut Pool, table: Frame, from: u64, to: u64) -> Cleared
     requires tree { IsTree pool.old 2 table }
     requires some { from < to }
     requires one_span { from / SPAN_PAGES ≡ (to - 1) / SPAN_PAGES }
-    requires within { to ≤ WIDEST_PAGES_END }
+    requires within { to ≤ PAGES_END }
     requires there { (p : ℕ) → from ≤ p → p < to → IsSome (leaf_from (memory pool.old.words) 2 table p) }
     requires room { piece_splits (memory pool.old.words) 2 table from to ≤ length pool.old.free }
     ensures moves { TakesAndGivesFrames pool.old pool.new 2 table (cut_of result) }
@@ -138,7 +136,7 @@ fn clear_piece(pool: &mut Pool, level: u64, table: Frame, from: u64, to: u64) ->
     requires tree { IsTree pool.old level table }
     requires some { from < to }
     requires one_span { from / SPAN_PAGES ≡ (to - 1) / SPAN_PAGES }
-    requires within { to ≤ WIDEST_PAGES_END }
+    requires within { to ≤ PAGES_END }
     requires there { (p : ℕ) → from ≤ p → p < to → IsSome (leaf_from (memory pool.old.words) level table p) }
     requires room { piece_splits (memory pool.old.words) level table from to ≤ length pool.old.free }
     ensures moves { TakesAndGivesFrames pool.old pool.new level table (cut_of result) }
@@ -165,7 +163,7 @@ pub(crate) fn unmap_pieces(pool: &mut Pool, level: u64, root: Frame, from: u64, 
     requires tree { IsTree pool.old level root }
     requires some { from < to }
     requires few { to - from ≤ MOST_PAGES }
-    requires within { to ≤ WIDEST_PAGES_END }
+    requires within { to ≤ PAGES_END }
     requires one_span { from / span level ≡ (to - 1) / span level }
     requires there { (p : ℕ) → from ≤ p → p < to → IsSome (leaf_from (memory pool.old.words) level root p) }
     requires room { leaves_splitting (memory pool.old.words) level root from to ≤ length pool.old.free }
@@ -191,7 +189,7 @@ fn splits_leaf(pool: &Pool, level: u64, root: Frame, from: u64, to: u64, page: u
     requires low { 1 ≤ level }
     requires high { level ≤ MOST_LEVELS }
     requires tree { IsTree pool.now level root }
-    requires page { page ≤ WIDEST_PAGES_END }
+    requires page { page ≤ PAGES_END }
     ensures { (if result then 1 else 0) ≡ splits_leaf (memory pool.now.words) level root from to page }
 {
     if from <= page && page + SPAN_PAGES <= to {
@@ -206,7 +204,7 @@ pub(crate) fn leaves_splitting(pool: &Pool, level: u64, root: Frame, from: u64, 
     requires high { level ≤ MOST_LEVELS }
     requires tree { IsTree pool.now level root }
     requires some { from < to }
-    requires within { to ≤ WIDEST_PAGES_END }
+    requires within { to ≤ PAGES_END }
     ensures { result ≡ leaves_splitting (memory pool.now.words) level root from to }
 {
     let mut count = 0;
@@ -222,7 +220,7 @@ pub(crate) fn leaves_splitting(pool: &Pool, level: u64, root: Frame, from: u64, 
 /// How many spans of 512 pages the pages meet: no fewer than the large leaves that meet them and aren't covered.
 pub(crate) fn spans_met(from: u64, to: u64) -> u64
     requires some { from < to }
-    requires within { to ≤ WIDEST_PAGES_END }
+    requires within { to ≤ PAGES_END }
     ensures { (m : Memory) (level root : ℕ) → leaves_splitting m level root from to ≤ result }
 {
     (to - 1) / SPAN_PAGES + 1 - from / SPAN_PAGES

@@ -1,21 +1,19 @@
 -- What a request may be answered, and what may be remembered of it.
-use Rattle.std.specs.Prelude.{◌≡◌, ◌≢◌, ℕ, ◌≤◌, ◌⊎◌, Bool, IsTrue, List, Option, Some, Result, Ok, Err, slice_get}
+use Rattle.std.specs.Prelude.{◌≡◌, ◌≢◌, ℕ, ◌≤◌, ◌⊎◌, ◌&&◌, Bool, IsTrue, List, Option, Some, None, Result, Ok, Err, slice_get}
 use Rattle.dmatypes.specs.Allows.{fault_of, host_of}
-use Rattle.dmatypes.specs.Page.{IsBeyond, page_of}
+use Rattle.dmatypes.specs.Page.{IsBeyond, levels, page_of}
 use Rattle.dmatypes.specs.Rights.{Permits, bits_of}
 use Rattle.dmatypes.specs.World.{IsIn, Target}
 use Rattle.dmatypes.specs.declared.call.Access.{Access}
 use Rattle.dmatypes.specs.declared.refusal.Fault.{Fault}
 use Rattle.dmatypes.specs.declared.refusal.Fault.TheVariants as faults
-use Rattle.dmatypes.specs.declared.width.Width.TheVariants.{W39}
 use Rattle.vtdbits.specs.Translation.{target}
 use Rattle.vtdbits.specs.declared.context.ContextEntry.{ContextEntry}
 use Rattle.vtdbits.specs.declared.context.ContextEntry.TheVariants.{Absent, Present}
 use Rattle.tables.specs.Tree.{Memory, leaf_from, states}
-use Rattle.unit.specs.Caches.{CachedLeaf, CachedNonLeaf, CachedContext, Caches}
+use Rattle.unit.specs.Caches.{CachedLeaf, CachedNonLeaf, CachedContext, CachedFault, Caches, fault}
 use Rattle.unit.specs.Lists.{Gains}
 use Rattle.unit.specs.Walking.{hold, met, stated_by, IsPassed}
-use Rattle.dmatypes.specs.declared.width.TheConstants.{LEVELS}
 use Rattle.unit.specs.declared.hit.Hit.{Hit}
 
 -- ---- the context
@@ -24,7 +22,7 @@ use Rattle.unit.specs.declared.hit.Hit.{Hit}
 abbrev pub IsContextOf : List ContextEntry → List CachedContext → Bool → ℕ → CachedContext → Type 0
 IsContextOf row cached look device x =
     (x.device ≡ device)
-    × ((slice_get row device ≡ Some (Present x.root W39 x.domain)) ⊎ (IsTrue look × IsIn x cached))
+    × ((slice_get row device ≡ Some (Present x.root x.width x.domain)) ⊎ (IsTrue look × IsIn x cached))
 
 -- there is neither
 abbrev pub HasNoContext : List ContextEntry → List CachedContext → Bool → ℕ → Type 0
@@ -38,7 +36,7 @@ HasNoContext row cached look device =
 -- the page
 abbrev pub IsStart : List CachedNonLeaf → Bool → CachedContext → ℕ → ℕ → ℕ → Type 0
 IsStart cached look x page level table =
-    ((level ≡ LEVELS) × (table ≡ x.root))
+    ((level ≡ levels x.width) × (table ≡ x.root))
     ⊎ (IsTrue look × ((i : CachedNonLeaf) × IsIn i cached × (i.domain ≡ x.domain) × IsTrue (hold i.first i.pages page)
     × (level ≡ i.level) × (table ≡ i.frame)))
 
@@ -58,22 +56,38 @@ abbrev pub IsRememberedIn : List CachedLeaf → ℕ → ℕ → Target → Type 
 IsRememberedIn leaves domain page t =
     (l : CachedLeaf) × IsIn l leaves × (l.domain ≡ domain) × IsTrue (hold l.first l.pages page) × (t ≡ stated_by page l)
 
--- a walk that begins there gives the translation of a page; the leaf that it met and the tables that it passed
--- may be remembered
-pub record IsWalked (m : Memory) (x : CachedContext) (look fill : Bool) (page : ℕ) (leaves leaves' : List CachedLeaf)
-    (tables tables' : List CachedNonLeaf)
-    (t : Option Target) (level table : ℕ) : Type 0 where
-  pub start : IsStart tables look x page level table
-  pub meaning : t ≡ states m level table page
-  pub leaves_gain : Gains fill (λ l. met x.domain page (leaf_from m level table page) ≡ Some l) leaves leaves'
-  pub tables_gain : Gains fill (IsPassed m level table x.domain page) tables tables'
+-- the page is remembered as absent in the domain: there is no translation
+abbrev pub IsAbsentByCached : List CachedFault → Bool → CachedContext → ℕ → Option Target → Type 0
+IsAbsentByCached cached look x page t = IsTrue look × IsIn (fault x.domain page) cached × (t ≡ None)
 
--- the translation of a page is read off a cached leaf, which adds nothing, or off a walk
-abbrev pub IsRead : Memory → CachedContext → Bool → Bool → ℕ → List CachedLeaf → List CachedLeaf → List CachedNonLeaf → List CachedNonLeaf
-    → Option Target → Type 0
-IsRead m x look fill page leaves leaves' tables tables' t =
-    (IsStatedByCached leaves look x page t × (leaves' ≡ leaves) × (tables' ≡ tables))
-    ⊎ ((level : ℕ) × (table : ℕ) × IsWalked m x look fill page leaves leaves' tables tables' t level table)
+-- of pages, translations and tables, what is remembered of them: the lists that a translation is read off and may fill
+pub record Entries : Type 0 where
+  pub leaves : List CachedLeaf
+  pub tables : List CachedNonLeaf
+  pub faults : List CachedFault
+
+abbrev pub entries : List CachedLeaf → List CachedNonLeaf → List CachedFault → Entries
+entries leaves tables faults = record { leaves = leaves; tables = tables; faults = faults }
+
+abbrev pub entries_of : Caches → Entries
+entries_of c = entries c.leaves c.non_leaves c.faults
+
+-- a walk that begins there gives the translation of a page; the leaf that it met and the tables that it passed may be
+-- remembered, and in Caching Mode that it found the page absent
+pub record IsWalked (m : Memory) (x : CachedContext) (look fill caching : Bool) (page : ℕ) (old new : Entries) (t : Option Target)
+    (level table : ℕ) : Type 0 where
+  pub start : IsStart old.tables look x page level table
+  pub meaning : t ≡ states m level table page
+  pub leaves_gain : Gains fill (λ l. met x.domain page (leaf_from m level table page) ≡ Some l) old.leaves new.leaves
+  pub tables_gain : Gains fill (IsPassed m level table x.domain page) old.tables new.tables
+  pub faults_gain : Gains (fill && caching) (λ f. (t ≡ None) × (f ≡ fault x.domain page)) old.faults new.faults
+
+-- the translation of a page is read off a cached leaf, or it is remembered that there is none, which adds nothing; or it is
+-- read off a walk
+abbrev pub IsRead : Memory → CachedContext → Bool → Bool → Bool → ℕ → Entries → Entries → Option Target → Type 0
+IsRead m x look fill caching page old new t =
+    ((IsStatedByCached old.leaves look x page t ⊎ IsAbsentByCached old.faults look x page t) × (new ≡ old))
+    ⊎ ((level : ℕ) × (table : ℕ) × IsWalked m x look fill caching page old new t level table)
 
 -- a context of the device is remembered, and a leaf of its domain that states the answer to a request at the address
 abbrev pub IsRemembered : Caches → ℕ → ℕ → Hit → Type 0
@@ -92,16 +106,16 @@ Tells t address access (Err fault) =
     (fault ≡ fault_of access) × ((y : Target) → t ≡ Some y → Permits y.rights access → ⊥)
 
 -- with a context: beyond the width there is only the one fault
-abbrev pub AnswersWith : Memory → CachedContext → Bool → Bool → ℕ → Access → Caches → Caches → Result Hit Fault → Type 0
-AnswersWith m x look fill address access old new result =
-    (IsBeyond address × (result ≡ Err faults.BeyondWidth) × (new.leaves ≡ old.leaves) × (new.non_leaves ≡ old.non_leaves))
-    ⊎ ((IsBeyond address → ⊥)
-    × ((t : Option Target) × IsRead m x look fill (page_of address) old.leaves new.leaves old.non_leaves new.non_leaves t
+abbrev pub AnswersWith : Memory → CachedContext → Bool → Bool → Bool → ℕ → Access → Caches → Caches → Result Hit Fault → Type 0
+AnswersWith m x look fill caching address access old new result =
+    (IsBeyond x.width address × (result ≡ Err faults.BeyondWidth) × (entries_of new ≡ entries_of old))
+    ⊎ ((IsBeyond x.width address → ⊥)
+    × ((t : Option Target) × IsRead m x look fill caching (page_of address) (entries_of old) (entries_of new) t
     × Tells t address access result))
 
 -- without one there is only the one fault, and nothing is remembered
-abbrev pub Answers : Memory → List ContextEntry → Bool → Bool → ℕ → ℕ → Access → Caches → Caches → Result Hit Fault → Type 0
-Answers m row look fill device address access old new result =
+abbrev pub Answers : Memory → List ContextEntry → Bool → Bool → Bool → ℕ → ℕ → Access → Caches → Caches → Result Hit Fault → Type 0
+Answers m row look fill caching device address access old new result =
     (HasNoContext row old.contexts look device × (result ≡ Err faults.NotAttached) × (new ≡ old))
     ⊎ ((x : CachedContext) × IsContextOf row old.contexts look device x × Gains fill (λ y. y ≡ x) old.contexts new.contexts
-    × AnswersWith m x look fill address access old new result)
+    × AnswersWith m x look fill caching address access old new result)

@@ -6,7 +6,7 @@ use Rattle.vtdbits.specs.declared.descriptor.Descriptor.{Descriptor}
 use Rattle.vtdbits.specs.declared.descriptor.Descriptor.TheVariants.{ContextGlobal, ContextDomain, ContextDevice, IotlbGlobal, IotlbDomain}
 use Rattle.vtdbits.specs.declared.descriptor.Descriptor.TheVariants.{IotlbPages, Wait}
 use Rattle.queue.specs.Ring.{Ring, ring_of}
-use Rattle.unit.specs.Caches.{CachedLeaf, CachedNonLeaf, CachedContext, Caches, caches}
+use Rattle.unit.specs.Caches.{CachedLeaf, CachedNonLeaf, CachedContext, CachedFault, Caches, caches}
 
 -- a number of pages from a first one on lie wholly in the block
 abbrev pub lie_in : Block → ℕ → ℕ → Bool
@@ -53,6 +53,16 @@ drops_context (IotlbDomain domain) c = false
 drops_context (IotlbPages domain block hint) c = false
 drops_context (Wait status) c = false
 
+-- absent pages where the block holds them, with either hint
+abbrev pub drops_fault : Descriptor → CachedFault → Bool
+drops_fault IotlbGlobal f = true
+drops_fault (IotlbDomain domain) f = f.domain == domain
+drops_fault (IotlbPages domain block hint) f = (f.domain == domain) && lie_in block f.page 1
+drops_fault ContextGlobal f = false
+drops_fault (ContextDomain domain) f = false
+drops_fault (ContextDevice domain device) f = false
+drops_fault (Wait status) f = false
+
 -- ---- what is left
 
 -- of the caches, by one descriptor
@@ -61,6 +71,7 @@ left_by d c = caches
     (filter (λ l. not (drops_leaf d l)) c.leaves)
     (filter (λ t. not (drops_non_leaf d t)) c.non_leaves)
     (filter (λ x. not (drops_context d x)) c.contexts)
+    (filter (λ f. not (drops_fault d f)) c.faults)
 
 -- of the caches, by the first of the descriptors that wait
 abbrev pub left_by_first : List Descriptor → Caches → Caches

@@ -4,10 +4,10 @@ ghost use Rattle.std.specs.Prelude.{◌≡◌, ◌==◌, ◌&&◌, IsTrue, ◌-�
 ghost use Rattle.unit.specs.Caches.{leaf};
 ghost use Rattle.unit.specs.Walking.{hold, met_non_leaf, stated_by};
 
-use dmatypes::{Frame, PAGES_END, Rights, SPAN_PAGES};
+use dmatypes::{Frame, PAGES_END, Rights, SPAN_PAGES, Width};
 use std::marker::Model;
 use tables::span_of;
-use vtdbits::{DeviceNumber, DomainId, LargeTranslation, Translation, WIDE_PAGES_END};
+use vtdbits::{DeviceNumber, DomainId, LargeTranslation, Translation};
 
 /// A leaf that a walk met: the pages that it stands for, and what they are mapped to, one frame after the
 /// other.
@@ -37,7 +37,7 @@ impl Model for CachedLeaf {
 impl CachedLeaf {
     /// The leaf of one page of a domain.
     pub(crate) fn small(domain: DomainId, page: u64, to: Translation) -> CachedLeaf
-        requires { page < WIDE_PAGES_END }
+        requires { page < PAGES_END }
         ensures { result ≡ leaf domain page 1 to.frame to.rights }
     {
         CachedLeaf {
@@ -51,7 +51,7 @@ impl CachedLeaf {
 
     /// The leaf of the span of a domain around a page.
     pub(crate) fn large(domain: DomainId, page: u64, to: LargeTranslation) -> CachedLeaf
-        requires { page < WIDE_PAGES_END }
+        requires { page < PAGES_END }
         ensures { result ≡ leaf domain (page - page % SPAN_PAGES) SPAN_PAGES to.frame to.rights }
     {
         CachedLeaf {
@@ -120,7 +120,7 @@ impl CachedNonLeaf {
     pub(crate) fn new(domain: DomainId, page: u64, level: u64, frame: Frame) -> CachedNonLeaf
         requires page { page < PAGES_END }
         requires low { 1 ≤ level }
-        requires high { level ≤ 2 }
+        requires high { level ≤ 3 }
         ensures { result ≡ met_non_leaf domain page level frame }
     {
         let pages = span_of(level);
@@ -160,12 +160,13 @@ impl Default for CachedNonLeaf {
     }
 }
 
-/// A device's context: its domain, and the frame of the domain's root.
+/// A device's context: its domain, the frame of the domain's root, and the width of its addresses.
 #[derive(Clone, Copy, Debug, PartialEq, Eq)]
 pub(crate) struct CachedContext {
     pub(crate) device: DeviceNumber,
     pub(crate) domain: DomainId,
     pub(crate) root: Frame,
+    pub(crate) width: Width,
 }
 
 impl Model for CachedContext {
@@ -173,9 +174,9 @@ impl Model for CachedContext {
 
     ghost Value = { CachedContext };
 
-    ghost view = { λ c. context c.device c.domain c.root };
+    ghost view = { λ c. context c.device c.domain c.root c.width };
 
-    ghost inverse = { λ v. record { device = v.device; domain = v.domain; root = v.root } };
+    ghost inverse = { λ v. record { device = v.device; domain = v.domain; root = v.root; width = v.width } };
 }
 
 impl CachedContext {
@@ -187,12 +188,50 @@ impl CachedContext {
     }
 }
 
+/// A page of a domain that a walk found absent.
+#[derive(Clone, Copy, Debug, PartialEq, Eq)]
+pub(crate) struct CachedFault {
+    pub(crate) domain: DomainId,
+    pub(crate) page: u64,
+}
+
+impl Model for CachedFault {
+    ghost use Rattle.unit.specs.Caches.{CachedFault, IsFault, fault};
+
+    ghost Value = { CachedFault };
+
+    ghost view = { λ f. fault f.domain f.page };
+
+    ghost invariant = { λ f. IsFault (fault f.domain f.page) };
+
+    ghost inverse = { λ v. record { domain = v.domain; page = v.page } };
+}
+
+impl CachedFault {
+    /// Whether it is of a domain and a page.
+    pub(crate) fn is_of(&self, domain: DomainId, page: u64) -> bool
+        ensures { result ≡ ((self.now.domain == domain) && (self.now.page == page)) }
+    {
+        self.domain == domain && self.page == page
+    }
+}
+
+impl Default for CachedFault {
+    fn default() -> CachedFault {
+        CachedFault {
+            domain: DomainId::new(1).unwrap(),
+            page: 0,
+        }
+    }
+}
+
 impl Default for CachedContext {
     fn default() -> CachedContext {
         CachedContext {
             device: DeviceNumber::new(0).unwrap(),
             domain: DomainId::new(1).unwrap(),
             root: Frame::new(0).unwrap(),
+            width: Width::W39,
         }
     }
 }

@@ -2,11 +2,12 @@
 
 ghost use Rattle.std.specs.Prelude.{◌≡◌, ◌<◌, ◌≤◌, ◌*◌, ◌^◌, filter, length, not};
 ghost use Rattle.dmatypes.specs.declared.page.TheConstants.{SPAN_PAGES};
-ghost use Rattle.unit.specs.Filters.{drops_leaf, drops_non_leaf, drops_context, lie_in, meet};
+ghost use Rattle.unit.specs.Filters.{drops_leaf, drops_non_leaf, drops_context, drops_fault, lie_in, meet};
 
-use crate::entries::{CachedContext, CachedLeaf, CachedNonLeaf};
+use crate::entries::{CachedContext, CachedFault, CachedLeaf, CachedNonLeaf};
 use arrayvec::ArrayVec;
-use vtdbits::{Descriptor, PageBlock, WIDE_PAGES_END};
+use dmatypes::PAGES_END;
+use vtdbits::{Descriptor, PageBlock};
 
 /// An entry that a descriptor can make the unit forget.
 pub(crate) trait Cached {
@@ -71,6 +72,23 @@ impl Cached for CachedContext {
     }
 }
 
+impl Cached for CachedFault {
+    ghost drops = { drops_fault };
+
+    fn goes(&self, descriptor: Descriptor) -> bool
+        ensures { result ≡ drops_fault descriptor self.now }
+    {
+        match descriptor {
+            Descriptor::IotlbGlobal => true,
+            Descriptor::IotlbDomain(domain) => self.domain == domain,
+            Descriptor::IotlbPages { domain, block, .. } => {
+                self.domain == domain && lie_in(block, self.page, 1)
+            }
+            _ => false,
+        }
+    }
+}
+
 /// Forgets the entries of a list that a descriptor drops.
 pub(crate) fn forget<T: Cached + Copy + Default, const N: usize>(
     list: &mut ArrayVec<T, N>,
@@ -87,8 +105,8 @@ pub(crate) fn forget<T: Cached + Copy + Default, const N: usize>(
 
 // Whether `pages` pages from a first one on lie wholly in the block.
 fn lie_in(block: PageBlock, first: u64, pages: u64) -> bool
-    requires first { first < WIDE_PAGES_END }
-    requires pages { pages ≤ SPAN_PAGES * SPAN_PAGES }
+    requires first { first < PAGES_END }
+    requires pages { pages ≤ SPAN_PAGES * SPAN_PAGES * SPAN_PAGES }
     ensures { result ≡ lie_in block first pages }
 {
     block.first() <= first && first + pages <= block.first() + (1 << block.order())
@@ -96,8 +114,8 @@ fn lie_in(block: PageBlock, first: u64, pages: u64) -> bool
 
 // Whether some of them lie in it.
 fn meet(block: PageBlock, first: u64, pages: u64) -> bool
-    requires first { first < WIDE_PAGES_END }
-    requires pages { pages ≤ SPAN_PAGES * SPAN_PAGES }
+    requires first { first < PAGES_END }
+    requires pages { pages ≤ SPAN_PAGES * SPAN_PAGES * SPAN_PAGES }
     ensures { result ≡ meet block first pages }
 {
     first < block.first() + (1 << block.order()) && block.first() < first + pages

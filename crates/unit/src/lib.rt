@@ -1,6 +1,6 @@
 //! The simulated unit: it translates the requests of devices, by its caches or by a walk through the tables, and forgets what the
-//! descriptors of a ring name. It has IOTLB entries, paging-structure cache entries and context-cache entries (legacy mode,
-//! second stage alone; own where the public standard leaves it open).
+//! descriptors of a ring name. It has IOTLB entries, paging-structure cache entries and context-cache entries, and in Caching
+//! Mode it also remembers absent pages (legacy mode, second stage alone; own where the public standard leaves it open).
 //!
 //! ```rust
 //! use dmatypes::Progress;

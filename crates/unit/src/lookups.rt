@@ -1,9 +1,12 @@
 //! The first entries of lists that serve a request.
 
-ghost use Rattle.std.specs.Prelude.{◌≡◌, ◌==◌, ◌&&◌, find};
+ghost use Rattle.std.specs.Prelude.{◌≡◌, ◌==◌, ◌&&◌, IfNone, IfSome, IsTrue, find};
+ghost use Rattle.std.specs.List.{list_any};
+ghost use Rattle.dmatypes.specs.World.{IsIn};
+ghost use Rattle.unit.specs.Answers.{IsLowest};
 ghost use Rattle.unit.specs.Walking.{hold};
 
-use crate::entries::{CachedContext, CachedLeaf, CachedNonLeaf};
+use crate::entries::{CachedContext, CachedFault, CachedLeaf, CachedNonLeaf};
 use vtdbits::DomainId;
 
 /// The first context of a device.
@@ -23,8 +26,35 @@ pub(crate) fn first_leaf(leaves: &[CachedLeaf], domain: DomainId, page: u64) -> 
     leaves.iter().copied().find(|leaf| leaf.holds(domain, page))
 }
 
-/// The first table of a level and a domain that covers a page.
-pub(crate) fn first_table(
+/// Whether a page of a domain is remembered as absent.
+pub(crate) fn is_absent(faults: &[CachedFault], domain: DomainId, page: u64) -> bool
+    ensures { result ≡ list_any (λ f. (f.domain == domain) && (f.page == page)) faults.now }
+{
+    faults.iter().any(|fault| fault.is_of(domain, page))
+}
+
+/// The first table of a domain that covers a page, of the lowest level below one that has such a table.
+pub(crate) fn lowest_table(
+    tables: &[CachedNonLeaf],
+    domain: DomainId,
+    page: u64,
+    levels: u64,
+) -> Option<CachedNonLeaf>
+    ensures there { IfSome result (λ t. IsIn t tables.now) }
+    ensures serves { IfSome result (λ t. (t.domain ≡ domain) × IsTrue (hold t.first t.pages page)) }
+    ensures lowest { IfSome result (λ t. IsLowest tables.now domain page t.level) }
+    ensures none { IfNone result (IsLowest tables.now domain page levels) }
+{
+    for level in 1..levels {
+        if let Some(table) = first_table(tables, domain, page, level) {
+            return Some(table);
+        }
+    }
+    None
+}
+
+// The first table of a level and a domain that covers a page.
+fn first_table(
     tables: &[CachedNonLeaf],
     domain: DomainId,
     page: u64,

@@ -3,20 +3,25 @@
 ghost use Rattle.std.specs.Prelude.{◌≡◌, ◌^◌, ◌<◌, ◌≤◌, ◌==◌, ◌&&◌, IfSome, IfNone, IsTrue, find, length};
 ghost use Rattle.tables.specs.Pool.{memory};
 ghost use Rattle.unit.specs.Walking.{hold, stated_by};
-ghost use Rattle.unit.specs.Answers.{HasNoContext, IsContextOf, IsLowest, IsRead, IsRememberedIn, IsStart};
+ghost use Rattle.unit.specs.Answers.{HasNoContext, IsContextOf, IsLowest, IsRead, IsRememberedIn, IsStart, entries};
 
 use crate::contexts::Contexts;
-use crate::entries::{CachedContext, CachedLeaf, CachedNonLeaf};
+use crate::entries::{CachedContext, CachedFault, CachedLeaf, CachedNonLeaf};
 use crate::lists::remember;
-use crate::lookups::{first_context, first_leaf, first_table};
+use crate::lookups::{first_context, first_leaf, is_absent, lowest_table};
 use crate::walking::{NON_LEAVES, Way, walk};
 use arrayvec::ArrayVec;
-use dmatypes::{DEVICES, Frame, LEVELS, MOST_CACHED_LEAVES, PAGES_END, Whim};
+use dmatypes::{
+    DEVICES, Frame, MOST_CACHED_FAULTS, MOST_CACHED_LEAVES, MOST_LEVELS, PAGES_END, Whim,
+};
 use tables::Pool;
 use vtdbits::{ContextEntry, DeviceNumber, Translation};
 
 /// The places for leaves.
 pub(crate) const LEAVES: usize = MOST_CACHED_LEAVES;
+
+/// The places for absent pages.
+pub(crate) const FAULTS: usize = MOST_CACHED_FAULTS;
 
 /// The context of a device: with a look the first cached one, else the row's.
 pub(crate) fn context_of(
@@ -38,37 +43,63 @@ pub(crate) fn context_of(
     let number = DeviceNumber::new(device).unwrap();
     match contexts.get(device) {
         ContextEntry::Absent => None,
-        ContextEntry::Present { root, domain, .. } => Some(CachedContext {
+        ContextEntry::Present {
+            root,
+            width,
+            domain,
+        } => Some(CachedContext {
             device: number,
             domain,
             root,
+            width,
         }),
     }
 }
 
-/// What a page of a context's domain is mapped to: with a look by the first cached leaf, else by a walk. The
-/// leaf that the walk met and the tables that it passed are remembered with a fill.
+/// What a translation is looked up for: a page of a context's domain, the whim of the request, and whether an absent page
+/// may be remembered (Caching Mode).
+#[derive(Clone, Copy)]
+pub(crate) struct Lookup {
+    pub(crate) context: CachedContext,
+    pub(crate) page: u64,
+    pub(crate) whim: Whim,
+    pub(crate) caching: bool,
+}
+
+/// What a page of a context's domain is mapped to: with a look by the first cached leaf, else nothing where it is
+/// remembered as absent, else by a walk. The leaf that the walk met and the tables that it passed are remembered with a
+/// fill, and in Caching Mode that it found the page absent.
 pub(crate) fn translation_of(
     pool: &Pool,
     leaves: &mut ArrayVec<CachedLeaf, LEAVES>,
     tables: &mut ArrayVec<CachedNonLeaf, NON_LEAVES>,
-    context: CachedContext,
-    page: u64,
-    whim: Whim,
+    faults: &mut ArrayVec<CachedFault, FAULTS>,
+    lookup: Lookup,
 ) -> Option<Translation>
-    requires { page < PAGES_END }
-    ensures read { IsRead (memory pool.now.words) context whim.look whim.fill page leaves.old.items leaves.new.items
-        tables.old.items tables.new.items result }
-    ensures remembered { IsTrue whim.fill → IfSome result (IsRememberedIn leaves.new.items context.domain page) }
+    requires { lookup.page < PAGES_END }
+    ensures read { IsRead (memory pool.now.words) lookup.context lookup.whim.look lookup.whim.fill lookup.caching lookup.page
+        (entries leaves.old.items tables.old.items faults.old.items) (entries leaves.new.items tables.new.items faults.new.items) result }
+    ensures remembered { IsTrue lookup.whim.fill → IfSome result (IsRememberedIn leaves.new.items lookup.context.domain lookup.page) }
     ensures few_leaves { length leaves.old.items ≤ LEAVES → length leaves.new.items ≤ LEAVES }
     ensures few_tables { length tables.old.items ≤ NON_LEAVES → length tables.new.items ≤ NON_LEAVES }
-    ensures first { IsTrue whim.look → IfSome (find (λ l. (l.domain == context.domain) && hold l.first l.pages page) leaves.old.items)
-        (λ l. result ≡ Some (stated_by page l)) }
+    ensures few_faults { length faults.old.items ≤ FAULTS → length faults.new.items ≤ FAULTS }
+    ensures first { IsTrue lookup.whim.look
+        → IfSome (find (λ l. (l.domain == lookup.context.domain) && hold l.first l.pages lookup.page) leaves.old.items)
+        (λ l. result ≡ Some (stated_by lookup.page l)) }
 {
+    let Lookup {
+        context,
+        page,
+        whim,
+        caching,
+    } = lookup;
     let domain = context.domain;
     if whim.look {
         if let Some(leaf) = first_leaf(leaves, domain, page) {
             return Some(leaf.translation(page));
+        }
+        if is_absent(faults, domain, page) {
+            return None;
         }
     }
     let (level, table) = start_of(tables, context, page, whim.look);
@@ -77,25 +108,25 @@ pub(crate) fn translation_of(
         page,
         fill: whim.fill,
     };
-    let leaf = walk(pool, tables, way, level, table)?;
+    let Some(leaf) = walk(pool, tables, way, level, table) else {
+        remember(faults, CachedFault { domain, page }, whim.fill && caching);
+        return None;
+    };
     remember(leaves, leaf, whim.fill);
     Some(leaf.translation(page))
 }
 
-// Where a walk for a page begins: with a look at the first cached table of the lowest level, else at the root.
+// Where a walk for a page begins: with a look at the first cached table of the lowest level below the root's, else at the root.
 fn start_of(cached: &[CachedNonLeaf], context: CachedContext, page: u64, look: bool) -> (u64, Frame)
     ensures start { IsStart cached.now look context page result.0 result.1 }
     ensures lowest { IsTrue look → IsLowest cached.now context.domain page result.0 }
     ensures low { 1 ≤ result.0 }
-    ensures high { result.0 ≤ LEVELS }
+    ensures high { result.0 ≤ MOST_LEVELS }
 {
     if look {
-        if let Some(table) = first_table(cached, context.domain, page, 1) {
-            return (1, table.frame);
-        }
-        if let Some(table) = first_table(cached, context.domain, page, 2) {
-            return (2, table.frame);
+        if let Some(table) = lowest_table(cached, context.domain, page, context.width.levels()) {
+            return (table.level, table.frame);
         }
     }
-    (LEVELS, context.root)
+    (context.width.levels(), context.root)
 }

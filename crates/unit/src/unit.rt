@@ -1,23 +1,21 @@
 //! The unit and its caches.
 
-ghost use Rattle.std.specs.Prelude.{◌≡◌, ◌↔◌, ◌+◌, ◌^◌, ◌<◌, [], not, filter, IfOk, IsTrue};
+ghost use Rattle.std.specs.Prelude.{◌≡◌, ◌↔◌, ◌+◌, ◌^◌, ◌<◌, [], false, not, filter, IfOk, IsTrue};
 ghost use Rattle.tables.specs.Pool.{memory};
 ghost use Rattle.unit.specs.Answers.{Answers, IsRemembered};
 ghost use Rattle.unit.specs.Caches.{unit_state, nothing, without};
 ghost use Rattle.unit.specs.Filters.{left_by, left_by_first, after_first, done_after};
 
 use crate::contexts::Contexts;
-use crate::entries::{CachedContext, CachedLeaf, CachedNonLeaf};
+use crate::entries::{CachedContext, CachedFault, CachedLeaf, CachedNonLeaf};
 use crate::filters::forget;
 use crate::hit::Hit;
 use crate::lists::remember;
-use crate::requests::{LEAVES, context_of, translation_of};
+use crate::requests::{FAULTS, LEAVES, Lookup, context_of, translation_of};
 use crate::telling::tell;
 use crate::walking::NON_LEAVES;
 use arrayvec::ArrayVec;
-use dmatypes::{
-    ADDRESSES_END, Access, Cache, DEVICES, Fault, MOST_CACHED_CONTEXTS, PAGE_BYTES, Progress, Whim,
-};
+use dmatypes::{Access, Cache, DEVICES, Fault, MOST_CACHED_CONTEXTS, PAGE_BYTES, Progress, Whim};
 use queue::Ring;
 use std::marker::Model;
 use tables::Pool;
@@ -31,45 +29,65 @@ mod tests;
 // The places for contexts.
 const CONTEXTS: usize = MOST_CACHED_CONTEXTS;
 
-/// A unit: what it remembers of contexts, tables and leaves, oldest first, how many descriptors it did, and in how many
-/// steps none waited.
+/// A unit: what it remembers of contexts, tables, leaves and absent pages, oldest first, whether it may remember that a page is
+/// absent, how many descriptors it did, and in how many steps none waited.
 #[derive(Debug, Drop)]
 pub struct Unit {
     leaves: ArrayVec<CachedLeaf, LEAVES>,
     non_leaves: ArrayVec<CachedNonLeaf, NON_LEAVES>,
     contexts: ArrayVec<CachedContext, CONTEXTS>,
+    faults: ArrayVec<CachedFault, FAULTS>,
+    caching: bool,
     done: u64,
     idle: u64,
 }
 
-// Clauses see the three lists, the number of all steps, and the number of descriptors done. A list has a place for each
+// Clauses see the four lists, the number of all steps, the number of descriptors done, and the mode. A list has a place for each
 // entry that it may remember.
 impl Model for Unit {
     ghost use Rattle.std.specs.Prelude.{◌+◌};
     ghost use Rattle.unit.specs.Caches.{AreFew, HavePlaces, UnitState, unit_state, caches};
-    ghost use Rattle.unit.specs.declared.requests.TheConstants.{LEAVES};
+    ghost use Rattle.unit.specs.declared.requests.TheConstants.{FAULTS, LEAVES};
     ghost use Rattle.unit.specs.declared.unit.TheConstants.{CONTEXTS};
     ghost use Rattle.unit.specs.declared.walking.TheConstants.{NON_LEAVES};
 
     ghost Value = { UnitState };
 
-    ghost view = { λ u. unit_state (caches u.leaves.items u.non_leaves.items u.contexts.items) (u.done + u.idle) u.done };
+    ghost view = { λ u.
+        unit_state (caches u.leaves.items u.non_leaves.items u.contexts.items u.faults.items) (u.done + u.idle) u.done u.caching };
 
-    ghost invariant = { λ u. AreFew (caches u.leaves.items u.non_leaves.items u.contexts.items) × HavePlaces LEAVES NON_LEAVES CONTEXTS };
+    ghost invariant = { λ u. AreFew (caches u.leaves.items u.non_leaves.items u.contexts.items u.faults.items)
+        × HavePlaces LEAVES NON_LEAVES CONTEXTS FAULTS };
 }
 
 impl Unit {
-    /// A unit that remembers nothing and has made no step.
+    /// A unit that remembers nothing and has made no step, without Caching Mode.
     pub fn new() -> Unit
-        ensures { result ≡ unit_state nothing 0 0 }
+        ensures { result ≡ unit_state nothing 0 0 false }
+    {
+        Unit::with_caching(false)
+    }
+
+    /// A unit that remembers nothing and has made no step. With Caching Mode on it may also remember that a page is absent.
+    pub fn with_caching(on: bool) -> Unit
+        ensures { result ≡ unit_state nothing 0 0 on }
     {
         Unit {
             leaves: ArrayVec::new(),
             non_leaves: ArrayVec::new(),
             contexts: ArrayVec::new(),
+            faults: ArrayVec::new(),
+            caching: on,
             done: 0,
             idle: 0,
         }
+    }
+
+    /// Whether it may remember that a page is absent.
+    pub fn is_caching(&self) -> bool
+        ensures { result ≡ self.now.caching }
+    {
+        self.caching
     }
 
     /// Translates a device's request at a byte address. With `look` what is remembered serves before the row
@@ -84,26 +102,33 @@ impl Unit {
         whim: Whim,
     ) -> Result<Hit, Fault>
         requires { device < DEVICES }
-        ensures answers { Answers (memory pool.now.words) contexts.now whim.look whim.fill device address access
+        ensures answers { Answers (memory pool.now.words) contexts.now whim.look whim.fill self.old.caching device address access
             self.old.caches self.new.caches result }
         ensures remembered { IsTrue whim.fill → IfOk result (IsRemembered self.new.caches device address) }
         ensures steps { self.new.steps ≡ self.old.steps }
         ensures done { self.new.done ≡ self.old.done }
+        ensures caching { self.new.caching ≡ self.old.caching }
     {
         let Some(context) = context_of(&self.contexts, contexts, device, whim.look) else {
             return Err(Fault::NotAttached);
         };
         remember(&mut self.contexts, context, whim.fill);
-        if address >= ADDRESSES_END {
+        let end = context.width.addresses_end();
+        if address >= end {
             return Err(Fault::BeyondWidth);
         }
+        let lookup = Lookup {
+            context,
+            page: address / PAGE_BYTES,
+            whim,
+            caching: self.caching,
+        };
         let to = translation_of(
             pool,
             &mut self.leaves,
             &mut self.non_leaves,
-            context,
-            address / PAGE_BYTES,
-            whim,
+            &mut self.faults,
+            lookup,
         );
         tell(to, address, access)
     }
@@ -114,7 +139,7 @@ impl Unit {
         requires { self.old.steps < 2 ^ 63 }
         ensures idle { (result ≡ Progress.Idle) ↔ (ring.old.waiting ≡ []) }
         ensures unit { self.new ≡ unit_state (left_by_first ring.old.waiting self.old.caches) (self.old.steps + 1)
-            (done_after ring.old.waiting self.old.done) }
+            (done_after ring.old.waiting self.old.done) self.old.caching }
         ensures ring { ring.new ≡ after_first ring.old.waiting ring.old.status ring.old.taken }
     {
         let Some(descriptor) = ring.fetch() else {
@@ -132,16 +157,17 @@ impl Unit {
 
     // Forgets what a descriptor names.
     fn forget(&mut self, descriptor: Descriptor)
-        ensures { self.new ≡ unit_state (left_by descriptor self.old.caches) self.old.steps self.old.done }
+        ensures { self.new ≡ unit_state (left_by descriptor self.old.caches) self.old.steps self.old.done self.old.caching }
     {
         forget(&mut self.leaves, &descriptor);
         forget(&mut self.non_leaves, &descriptor);
         forget(&mut self.contexts, &descriptor);
+        forget(&mut self.faults, &descriptor);
     }
 
     /// Forgets the entry at a place of one of the caches, counted from 0 and from the oldest, if there is one.
     pub fn evict(&mut self, kind: Cache, place: u64)
-        ensures { self.new ≡ unit_state (without kind place self.old.caches) self.old.steps self.old.done }
+        ensures { self.new ≡ unit_state (without kind place self.old.caches) self.old.steps self.old.done self.old.caching }
     {
         let place = place as usize;
         match kind {
@@ -153,6 +179,9 @@ impl Unit {
             }
             Cache::Context => {
                 self.contexts.pop_at(place);
+            }
+            Cache::Fault => {
+                self.faults.pop_at(place);
             }
         }
     }

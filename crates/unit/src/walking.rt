@@ -12,7 +12,7 @@ ghost use Rattle.unit.specs.Lists.{Gains};
 use crate::entries::{CachedLeaf, CachedNonLeaf};
 use crate::lists::remember;
 use arrayvec::ArrayVec;
-use dmatypes::{Frame, LEVELS, MOST_CACHED_NON_LEAVES, PAGES_END};
+use dmatypes::{Frame, MOST_CACHED_NON_LEAVES, MOST_LEVELS, PAGES_END};
 use tables::{Pool, index_of, read_entry};
 use vtdbits::{DomainId, SsEntry};
 
@@ -37,7 +37,7 @@ pub(crate) fn walk(
 ) -> Option<CachedLeaf>
     requires page { way.page < PAGES_END }
     requires low { 1 ≤ level }
-    requires high { level ≤ LEVELS }
+    requires high { level ≤ MOST_LEVELS }
     ensures leaf { result ≡ met way.domain way.page (leaf_from (memory pool.now.words) level table way.page) }
     ensures passed { Gains way.fill (IsPassed (memory pool.now.words) level table way.domain way.page) passed.old.items passed.new.items }
     ensures few { length passed.old.items ≤ NON_LEAVES → length passed.new.items ≤ NON_LEAVES }

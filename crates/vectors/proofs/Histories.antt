@@ -3,6 +3,7 @@ use Rattle.std.proofs.Common.{◌≡◌, ℕ, ◌+◌, ◌-◌, ◌<◌, ◌≤�
 use Rattle.std.proofs.Common.{refl, ap, arith, true}
 use Rattle.dmatypes.specs.declared.call.Call.TheVariants as calls
 use Rattle.dmatypes.specs.declared.call.Mode.TheVariants.{Strict}
+use Rattle.dmatypes.specs.declared.width.Width.TheVariants.{W39}
 use Rattle.dmatypes.specs.declared.reply.Reply.TheVariants.{Made, Done, Mapped}
 use Rattle.dmatypes.specs.World.{World, AreFreePages, empty, empty_domain, is_within}
 use Rattle.dmatypes.proofs.numbers.Ranges.{within_is}
@@ -17,7 +18,7 @@ use Rattle.vectors.specs.Histories.{mapped_history, request, whole_history}
 use Rattle.dmatypes.specs.declared.limits.TheConstants.{MOST_DOMAINS}
 
 made : World
-made = next (empty 64) (calls.Domain Strict) (Made 1)
+made = next (empty 64) (calls.Domain Strict W39) (Made 1)
 
 attached : World
 attached = next made (calls.Attach 3 1) Done
@@ -25,7 +26,7 @@ attached = next made (calls.Attach 3 1) Done
 filled : World
 filled = next attached (calls.Map 1 0x100 17 0 1) (Mapped 0x1000)
 
-domain_step : IsStep (empty 64) (calls.Domain Strict) (Made 1)
+domain_step : IsStep (empty 64) (calls.Domain Strict W39) (Made 1)
 unfolding IsStep Stands Answers
 domain_step = ((no_room, tt), (1, (omega arith, omega arith, refl), refl))
   where
@@ -36,9 +37,9 @@ attach_step : IsStep made (calls.Attach 3 1) Done
 unfolding made IsStep Stands Answers next
 attach_step = ((λ big. omega (arith, big), (λ none. absurd cc, (λ some. absurd cc, tt))), refl)
 
-free_pages : AreFreePages (empty_domain Strict) (record { first = 1; pages = 17 })
+free_pages : AreFreePages (empty_domain Strict W39) (record { first = 1; pages = 17 })
 free_pages p inside = (
-  (omega (arith, inside.0), omega (arith, inside.1), inl (omega (arith, inside.1))),
+  ((omega (arith, inside.0), omega (arith, inside.1), inl (omega (arith, inside.1))), omega (arith, inside.1)),
   record { not_live = refl; not_retired = λ r i. absurd i },
 )
 
@@ -78,19 +79,20 @@ second_step = (
 
 -- ---- each front of the history is legal
 
-pub legal_one : IsLegal 64 (event (calls.Domain Strict) (Made 1) ∷ [])
+pub legal_one : IsLegal 64 (event (calls.Domain Strict W39) (Made 1) ∷ [])
 legal_one = (domain_step, tt)
 
-pub legal_two : IsLegal 64 (event (calls.Domain Strict) (Made 1) ∷ event (calls.Attach 3 1) Done ∷ [])
+pub legal_two : IsLegal 64 (event (calls.Domain Strict W39) (Made 1) ∷ event (calls.Attach 3 1) Done ∷ [])
 unfolding made
 legal_two = (domain_step, (attach_step, tt))
 
 pub legal_three : IsLegal 64
-    (event (calls.Domain Strict) (Made 1) ∷ event (calls.Attach 3 1) Done ∷ event (calls.Map 1 0x100 17 0 1) (Mapped 0x1000) ∷ [])
+    (event (calls.Domain Strict W39) (Made 1) ∷ event (calls.Attach 3 1) Done ∷ event (calls.Map 1 0x100 17 0 1) (Mapped 0x1000) ∷ [])
 unfolding made attached
 legal_three = (domain_step, (attach_step, (map_step, tt)))
 
-pub mapped_is : event (calls.Domain Strict) (Made 1) ∷ event (calls.Attach 3 1) Done ∷ event (calls.Map 1 0x100 17 0 1) (Mapped 0x1000) ∷ []
+pub mapped_is :
+    event (calls.Domain Strict W39) (Made 1) ∷ event (calls.Attach 3 1) Done ∷ event (calls.Map 1 0x100 17 0 1) (Mapped 0x1000) ∷ []
     ≡ mapped_history
 unfolding mapped_history
 mapped_is = refl

@@ -4,13 +4,14 @@ use Rattle.std.specs.Prelude.{ℕ, List, [], ◌∷◌, ◌++◌, true}
 use Rattle.dmatypes.specs.declared.call.Access.TheVariants.{Read}
 use Rattle.dmatypes.specs.declared.call.Call.TheVariants as calls
 use Rattle.dmatypes.specs.declared.call.Mode.TheVariants.{Strict}
+use Rattle.dmatypes.specs.declared.width.Width.TheVariants.{W39}
 use Rattle.dmatypes.specs.declared.reply.Event.{Event}
 use Rattle.dmatypes.specs.declared.reply.Reply.TheVariants.{Made, Done, Mapped, Host}
 use Rattle.dmatypes.specs.History.{event}
 
 unfoldable pub mapped_history : List Event
 mapped_history =
-    event (calls.Domain Strict) (Made 1) ∷ event (calls.Attach 3 1) Done ∷ event (calls.Map 1 0x100 17 0 1) (Mapped 0x1000) ∷ []
+    event (calls.Domain Strict W39) (Made 1) ∷ event (calls.Attach 3 1) Done ∷ event (calls.Map 1 0x100 17 0 1) (Mapped 0x1000) ∷ []
 
 abbrev pub request : ℕ → ℕ → Event
 request address host = event (calls.Dma 3 address Read (record { look = true; fill = true })) (Host host)

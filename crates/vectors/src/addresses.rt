@@ -23,6 +23,16 @@ fn takes(space: &mut Space, pages: u64, order: u64, first: u64) -> bool
     }
 }
 
+// Whether a take from a floor on comes to this page.
+fn takes_from(space: &mut Space, floor: u64, pages: u64, order: u64, first: u64) -> bool
+    requires { (1 ≤ floor) × ((1 ≤ pages) × ((pages ≤ 4096) × (order ≤ 9))) }
+{
+    match space.take_from(floor, pages, order) {
+        Ok(page) => page.number() == first,
+        Err(_) => false,
+    }
+}
+
 // Whether a take of pages at any place is refused by this error.
 fn refuses(space: &mut Space, pages: u64, error: TakeError) -> bool
     requires { (1 ≤ pages) × (pages ≤ 4096) }
@@ -118,6 +128,24 @@ fn fill_small(rt: &impl Abort, space: &mut Space) {
     assert!(rt; refuses(space, 1, TakeError::NoRange));
 }
 
+// Pages are taken from the floor on, and below it where there are none.
+#[test]
+fn takes_from_a_floor(rt: HostRuntime) -> Result<(), Fail> {
+    let mut space = Space::new(rt.alloc(), 31)?;
+    take_from_a_floor(&rt, &mut space);
+    Ok(())
+}
+
+fn take_from_a_floor(rt: &impl Abort, space: &mut Space) {
+    assert!(rt; takes_from(space, 16, 8, 3, 16));
+    assert!(rt; takes_from(space, 16, 8, 3, 24));
+    assert!(rt; takes_from(space, 16, 8, 3, 8));
+    assert!(rt; space.take_from(16, 8, 0).err() == Some(TakeError::NoRange));
+    assert!(rt; takes_from(space, 5, 3, 0, 5));
+    assert!(rt; takes_from(space, u64::MAX, 1, 0, 1));
+    assert!(rt; takes_from(space, 1, 1, 0, 2));
+}
+
 // Aligned ranges of 4,096 pages do not cross the interrupt address range.
 #[test]
 fn keeps_out_of_the_window(rt: HostRuntime) -> Result<(), Fail> {
@@ -178,7 +206,7 @@ fn retire_at_the_limit(rt: &impl Abort, space: &mut Space) {
 fn tells_the_state_of_a_page(rt: HostRuntime) -> Result<(), Fail> {
     let mut space = Space::new(rt.alloc(), 15)?;
     tell_states(&rt, &mut space);
-    space.reset();
+    space.reset(15);
     let free = Piece {
         first: 1,
         last: 15,

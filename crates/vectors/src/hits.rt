@@ -7,10 +7,10 @@ ghost use Rattle.vtdbits.specs.Port.{port_word};
 ghost use Rattle.vtdbits.specs.Translation.{target};
 ghost use Rattle.vectors.specs.Histories.{mapped_history, whole_history};
 
-use dmatypes::{Access, Call, Event, Frame, Mode, Reply, Rights, Whim};
+use dmatypes::{Access, Call, Event, Frame, Mode, Page, Reply, Rights, Whim, Width};
 use ports::{Desk, Port, Rows};
 use std::process::Abort;
-use vtdbits::{PortWord, Translation, WidePage};
+use vtdbits::{PortWord, Translation};
 
 // Appends an event while all words are empty.
 fn enter(desk: &mut Desk, rows: &Rows, event: &Event)
@@ -31,7 +31,10 @@ fn map_pages(desk: &mut Desk, rows: &Rows)
     ensures history { desk.new.history ≡ mapped_history }
 {
     let domain = Event {
-        call: Call::Domain(Mode::Strict),
+        call: Call::Domain {
+            mode: Mode::Strict,
+            width: Width::W39,
+        },
         reply: Reply::Made(1),
     };
     enter(desk, rows, &domain);
@@ -94,7 +97,7 @@ fn word_of(rt: &impl Abort, place: u64) -> PortWord
     requires { place < 17 }
     ensures { result ≡ port_word (1 + place) (target (0x100 + place) 1) }
 {
-    let page = WidePage::new(1 + place).expect(rt, "a page");
+    let page = Page::new(1 + place).expect(rt, "a page");
     let frame = Frame::new(0x100 + place).expect(rt, "a frame");
     PortWord {
         page,

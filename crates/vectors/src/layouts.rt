@@ -4,7 +4,7 @@ use dmatypes::{Access, Frame, Page, Rights, Width};
 use std::process::Abort;
 use vtdbits::{
     ContextEntry, Descriptor, DeviceNumber, DomainId, LargeTranslation, PageBlock, PortWord,
-    SsEntry, Translation, WidePage, Words,
+    SsEntry, Translation, Words,
 };
 
 fn frame_of(rt: &impl Abort, number: u64) -> Frame {
@@ -110,13 +110,22 @@ fn words_of_no_entry(rt: HostRuntime) {
 
 #[test]
 fn contexts_and_their_words(rt: HostRuntime) {
-    let present = ContextEntry::Present {
+    let present = |width| ContextEntry::Present {
         root: frame_of(&rt, 5),
-        width: Width::W39,
+        width,
         domain: domain_one(&rt),
     };
     for (low, high, entry) in [
-        (0x0000_0000_0000_5001, 0x0000_0000_0000_0101, present),
+        (
+            0x0000_0000_0000_5001,
+            0x0000_0000_0000_0101,
+            present(Width::W39),
+        ),
+        (
+            0x0000_0000_0000_5001,
+            0x0000_0000_0000_0102,
+            present(Width::W48),
+        ),
         (0, 0, ContextEntry::Absent),
     ] {
         assert!(rt; is_context(words_of(low, high), entry), "{low} {high}");
@@ -124,6 +133,10 @@ fn contexts_and_their_words(rt: HostRuntime) {
     assert!(rt;
         ContextEntry::decode(words_of(0x5001, 1)).is_none(),
         "domain 0"
+    );
+    assert!(rt;
+        ContextEntry::decode(words_of(0x5001, 0x103)).is_none(),
+        "a width of 57 bits"
     );
 }
 
@@ -173,7 +186,7 @@ fn port_words(rt: HostRuntime) {
         (0x0000_0000_0400_0403, 1, 0x100, 3),
         (0x0000_0008_0000_1001, 0x200, 0x400, 1),
     ] {
-        let page = WidePage::from(Page::new(page).expect(&rt, "a page"));
+        let page = Page::new(page).expect(&rt, "a page");
         let translation = translation_of(&rt, frame, rights);
         assert!(rt;
             is_port_word(word, PortWord { page, translation }),
@@ -187,7 +200,7 @@ fn port_words(rt: HostRuntime) {
 
 // Whether the word of page 1 and frame 0x100, read only, gives a request this host address.
 fn gives_host(rt: &impl Abort, address: u64, access: Access, host: Option<u64>) -> bool {
-    let page = WidePage::new(1).expect(rt, "a page");
+    let page = Page::new(1).expect(rt, "a page");
     let translation = translation_of(rt, 0x100, 1);
     PortWord::host(PortWord { page, translation }.encode(), address, access) == host
 }

@@ -1,7 +1,8 @@
-//! Script lines that say calls. Such that say none are the worked rows `near-lines.row`, `bad-lines.row`, `longest-line.row`.
+//! Script lines that say calls. Such that say none are the worked rows `near-lines.row`, `bad-lines.row`, `longest-line.row`, and
+//! here those of a width that no domain has.
 
 use arrayvec::ArrayVec;
-use dmatypes::{Access, Cache, Call, Mode, Segment, Whim, parse_line};
+use dmatypes::{Access, Cache, Call, Mode, Segment, Whim, Width, parse_line};
 
 // The call of a map of domain 1, of one page at any place.
 fn map_of(frame: u64, rights: u64) -> Call {
@@ -24,6 +25,11 @@ fn read_of(look: bool, fill: bool) -> Call {
     }
 }
 
+// The call that makes a domain.
+fn domain_of(mode: Mode, width: Width) -> Call {
+    Call::Domain { mode, width }
+}
+
 // The call that attaches a device to a domain.
 fn attach_of(device: u64, domain: u64) -> Call {
     Call::Attach { device, domain }
@@ -32,7 +38,7 @@ fn attach_of(device: u64, domain: u64) -> Call {
 #[test]
 fn lines_that_attach_and_map(rt: HostRuntime) {
     let rows: [(&[u8], Call); 8] = [
-        (b"domain strict", Call::Domain(Mode::Strict)),
+        (b"domain strict", domain_of(Mode::Strict, Width::W39)),
         (b"attach 3 1", attach_of(3, 1)),
         (b"attach 0 18446744073709551615", attach_of(0, u64::MAX)),
         (b"attach 0x0f 0xffffffffffffffff", attach_of(15, u64::MAX)),
@@ -129,7 +135,7 @@ fn lines_that_unmap_and_evict(rt: HostRuntime) {
 #[test]
 fn lines_that_end_and_flush(rt: HostRuntime) {
     let rows: [(&[u8], Call); 9] = [
-        (b"domain lazy", Call::Domain(Mode::Lazy)),
+        (b"domain lazy", domain_of(Mode::Lazy, Width::W39)),
         (b"drop 1", Call::Drop { domain: 1 }),
         (
             b"drop 18446744073709551615",
@@ -226,6 +232,32 @@ fn lines_that_map_segments(rt: HostRuntime) {
     ];
     for (line, call) in rows {
         assert_eq!(rt; parse_line(line), Some(call));
+    }
+}
+
+#[test]
+fn lines_that_say_a_width(rt: HostRuntime) {
+    let rows: [(&[u8], Call); 4] = [
+        (b"domain strict 39", domain_of(Mode::Strict, Width::W39)),
+        (b"domain strict 48", domain_of(Mode::Strict, Width::W48)),
+        (b"domain lazy 39", domain_of(Mode::Lazy, Width::W39)),
+        (b"domain lazy 48", domain_of(Mode::Lazy, Width::W48)),
+    ];
+    for (line, call) in rows {
+        assert_eq!(rt; parse_line(line), Some(call));
+    }
+}
+
+#[test]
+fn lines_that_say_no_width(rt: HostRuntime) {
+    let lines: [&[u8]; 4] = [
+        b"domain strict 40",
+        b"domain strict 0x30",
+        b"domain strict 39 39",
+        b"domain 48",
+    ];
+    for line in lines {
+        assert!(rt; parse_line(line).is_none());
     }
 }
 

@@ -54,7 +54,10 @@ fn refusal_lines(rt: HostRuntime) {
     let mut line = ArrayString::new();
     for (refusal, wanted) in rows {
         let event = Event {
-            call: Call::Domain(Mode::Strict),
+            call: Call::Domain {
+                mode: Mode::Strict,
+                width: Width::W39,
+            },
             reply: Reply::Refused(refusal),
         };
         event_line(&event, &mut line);
@@ -79,10 +82,12 @@ fn edges_of_pages(rt: HostRuntime) {
         (0xfedff, true),
         (0xfef00, true),
         (0x7ffffff, true),
+        (0x8000000, true),
+        (0xf_ffff_ffff, true),
         (0, false),
         (0xfee00, false),
         (0xfeeff, false),
-        (0x8000000, false),
+        (0x10_0000_0000, false),
         (u64::MAX, false),
     ] {
         assert!(rt; (page_of(number) == Some(number)) == is_page);
@@ -116,8 +121,9 @@ fn edges_of_ranges(rt: HostRuntime) {
         (1, 4096),
         (0xfedff, 1),
         (0xfef00, 4096),
-        (0x7ffffff, 1),
-        (0x7fff000, 4096),
+        (0x7ffffff, 2),
+        (0xf_ffff_ffff, 1),
+        (0xf_ffff_f000, 4096),
     ] {
         assert!(rt; range_of(start, pages) == Some((start, pages)));
     }
@@ -133,12 +139,34 @@ fn edges_of_no_ranges(rt: HostRuntime) {
         (0xfee00, 1),
         (0xfeeff, 1),
         (0xfe000, 4096),
-        (0x7ffffff, 2),
-        (0x8000000, 1),
+        (0xf_ffff_ffff, 2),
+        (0xf_ffff_f001, 4096),
+        (0x10_0000_0000, 1),
         (u64::MAX, 2),
         (1, u64::MAX),
     ] {
         assert!(rt; range_of(start, pages).is_none(), "{pages} from {start}");
+    }
+}
+
+// Whether this range fits 39 bits, and whether it fits 48, where there is such a range.
+fn fits_of(start: u64, pages: u64) -> Option<(bool, bool)> {
+    let range = PageRange::new(start, pages)?;
+    Some((range.fits(Width::W39), range.fits(Width::W48)))
+}
+
+#[test]
+fn widths_that_ranges_fit(rt: HostRuntime) {
+    for (start, pages, fits) in [
+        (1, 1, (true, true)),
+        (0x7ffffff, 1, (true, true)),
+        (0x7fff000, 4096, (true, true)),
+        (0x7ffffff, 2, (false, true)),
+        (0x7fff001, 4096, (false, true)),
+        (0x8000000, 1, (false, true)),
+        (0xf_ffff_ffff, 1, (false, true)),
+    ] {
+        assert!(rt; fits_of(start, pages) == Some(fits), "{pages} from {start}");
     }
 }
 

@@ -1,8 +1,8 @@
-//! The row of the table layer.
+//! Rows of the table layer.
 
 ghost use Rattle.std.specs.Prelude.{◌≡◌, ◌+◌, ◌<◌, ◌≤◌, ◌^◌};
 
-use dmatypes::{FRAMES_END, Frame, MOST_PAGES, Page, PageRange, Rights};
+use dmatypes::{FRAMES_END, Frame, MOST_PAGES, Page, PageRange, Rights, Width};
 use std::test::Fail;
 use tables::{Pool, Tree};
 
@@ -27,7 +27,7 @@ fn frame(number: u64) -> Frame
 #[test]
 fn split_and_cut(rt: HostRuntime) -> Result<(), Fail> {
     let mut pool = Pool::new(rt.alloc(), 16)?;
-    let mut tree = Tree::new(&mut pool)?;
+    let mut tree = Tree::new(&mut pool, Width::W39)?;
     assert_eq!(rt; pool.free_count(), 15);
     let rights = Rights::from_number(3).expect(&rt, "both rights");
     tree.map(&mut pool, pages(0x200, 512), frame(0x400), rights)
@@ -59,6 +59,27 @@ fn split_and_cut(rt: HostRuntime) -> Result<(), Fail> {
     assert!(rt; !last_cut.split());
     pool.give_back(last_cut.frames());
     assert_eq!(rt; pool.free_count(), 14);
+    tree.destroy(&mut pool);
+    assert_eq!(rt; pool.free_count(), 16);
+    Ok(())
+}
+
+// Two pages of a wide domain, on either side of the end of the narrow ones, lie in no table together.
+#[test]
+fn tables_of_a_wide_tree(rt: HostRuntime) -> Result<(), Fail> {
+    let mut pool = Pool::new(rt.alloc(), 16)?;
+    let mut tree = Tree::new(&mut pool, Width::W48)?;
+    assert_eq!(rt; pool.free_count(), 15);
+    let rights = Rights::from_number(3).expect(&rt, "both rights");
+    let range = PageRange::new(0x7ffffff, 2).expect(&rt, "two pages");
+    tree.map(&mut pool, range, frame(0x400), rights)
+        .expect(&rt, "free frames");
+    assert_eq!(rt; pool.free_count(), 9);
+    for (number, host) in [(0x7ffffff, 0x400), (0x8000000, 0x401)] {
+        let page = Page::new(number).expect(&rt, "a page");
+        let (found, _) = tree.walk(&pool, page).expect(&rt, "a leaf");
+        assert_eq!(rt; found.number(), host);
+    }
     tree.destroy(&mut pool);
     assert_eq!(rt; pool.free_count(), 16);
     Ok(())

@@ -1,7 +1,7 @@
 -- What words of the row of contexts spell.
 use Rattle.std.proofs.Common.{◌≡◌, Some, None, sym, ◌∙◌, arith}
 use Rattle.std.proofs.lemmas.Bool.Decides.{nat_tests}
-use Rattle.dmatypes.specs.declared.width.Width.TheVariants.{W39}
+use Rattle.dmatypes.specs.declared.width.Width.TheVariants.{W39, W48}
 use Rattle.vtdbits.proofs.Cascades.{same_some, none_read}
 use Rattle.vtdbits.specs.Context.{Spells, context_of}
 use Rattle.vtdbits.specs.declared.words.Words.{Words}
@@ -13,12 +13,14 @@ pub context_of-spelled : (words : Words) (e : ContextEntry) → Spells words e �
 unfolding context_of
 context_of-spelled words Absent s = grind (arith, nat_tests)
 context_of-spelled words (Present root W39 domain) s = grind (arith, nat_tests)
+context_of-spelled words (Present root W48 domain) s = grind (arith, nat_tests)
 
 -- and what is read is spelled
 pub spelled_of-context : (words : Words) (e : ContextEntry) → context_of words ≡ Some e → Spells words e
 unfolding context_of
 spelled_of-context words Absent s = grind (arith, nat_tests)
 spelled_of-context words (Present root W39 domain) s = grind (arith, nat_tests)
+spelled_of-context words (Present root W48 domain) s = grind (arith, nat_tests)
 
 -- where no entry is spelled, none is read
 pub context_of-none : (words : Words) → ((e : ContextEntry) → Spells words e → ⊥) → context_of words ≡ None

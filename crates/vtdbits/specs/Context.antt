@@ -3,7 +3,7 @@ use Rattle.std.specs.Prelude.{◌≡◌, ℕ, ◌+◌, ◌*◌, ◌/◌, ◌%◌
 use Rattle.dmatypes.specs.Page.{IsFrame}
 use Rattle.dmatypes.specs.declared.page.TheConstants.{FRAMES_END}
 use Rattle.dmatypes.specs.declared.width.Width.{Width}
-use Rattle.dmatypes.specs.declared.width.Width.TheVariants.{W39}
+use Rattle.dmatypes.specs.declared.width.Width.TheVariants.{W39, W48}
 use Rattle.vtdbits.specs.Numbers.{IsDomainId, is_domain_id}
 use Rattle.vtdbits.specs.declared.words.Words.{Words}
 use Rattle.vtdbits.specs.declared.context.ContextEntry.{ContextEntry}
@@ -12,6 +12,7 @@ use Rattle.vtdbits.specs.declared.context.ContextEntry.TheVariants.{Absent, Pres
 -- the number of an address width
 abbrev pub number_of_width : Width → ℕ
 number_of_width W39 = 1
+number_of_width W48 = 2
 
 -- the words spell the entry
 abbrev pub Spells : Words → ContextEntry → Type 0
@@ -24,7 +25,7 @@ Spells words (Present root width domain) =
 
 -- the address width of a number
 abbrev pub width_of_number : ℕ → Option Width
-width_of_number n = if n == 1 then Some W39 else None
+width_of_number n = if n == 1 then Some W39 else (if n == 2 then Some W48 else None)
 
 -- a present entry, where its width is one
 abbrev pub present_with : ℕ → ℕ → Option Width → Option ContextEntry

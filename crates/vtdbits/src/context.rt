@@ -73,6 +73,7 @@ fn width_number(width: Width) -> u64
 {
     match width {
         Width::W39 => 1,
+        Width::W48 => 2,
     }
 }
 
@@ -84,6 +85,7 @@ fn width_of(number: u64) -> Option<Width>
 {
     match number {
         1 => Some(Width::W39),
+        2 => Some(Width::W48),
         _ => None,
     }
 }

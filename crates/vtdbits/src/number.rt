@@ -5,11 +5,8 @@ ghost use Rattle.dmatypes.specs.Block.{block};
 ghost use Rattle.vtdbits.specs.Numbers.{IsDevice, IsDomainId, IsPageBlock};
 
 use crate::bits::field;
-use dmatypes::{DEVICES, MOST_DOMAINS};
+use dmatypes::{DEVICES, MOST_DOMAINS, PAGES_END};
 use std::marker::Model;
-
-/// Page numbers of the widest address space that words can speak of, 48 bits, are below it.
-pub const WIDE_PAGES_END: u64 = 1 << 36;
 
 /// The greatest order (AM) of a block that a page-selective descriptor names (own).
 pub const MOST_BLOCK_ORDER: u8 = 9;
@@ -124,7 +121,7 @@ impl PageBlock {
         ensures value { IfSome result (λ b. b ≡ block first order) }
     {
         if order <= MOST_BLOCK_ORDER
-            && first < WIDE_PAGES_END
+            && first < PAGES_END
             && field(first, 0, u32::from(order)) == 0
         {
             Some(PageBlock { first, order })

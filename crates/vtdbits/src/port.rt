@@ -1,74 +1,16 @@
 //! Port words: what a device may be answered without a lock.
 
 ghost use Rattle.std.specs.Prelude.{◌≡◌, ◌↔◌, ℕ, IsSome, IfSome, IfNone};
-ghost use Rattle.vtdbits.specs.Numbers.{IsWidePage};
 
 use crate::bits::field;
-use crate::number::WIDE_PAGES_END;
 use crate::translation::Translation;
 use bitflags::Flags;
-use dmatypes::{Access, Frame, Page, Rights, WINDOW_FIRST, WINDOW_LAST};
-use std::marker::Model;
-
-/// A page of the widest address space that words can speak of, 48 bits: a number from 1 to 2^36 - 1 that
-/// is not in the interrupt address range, pages 0xFEE00 to 0xFEEFF. Each [`Page`] is one.
-#[derive(Clone, Copy, Debug, PartialEq, Eq, PartialOrd, Ord)]
-pub struct WidePage {
-    number: u64,
-}
-
-impl Model for WidePage {
-    ghost use Rattle.std.specs.Prelude.{ℕ};
-    ghost use Rattle.vtdbits.specs.Numbers.{IsWidePage};
-
-    ghost Value = { ℕ };
-
-    ghost view = { λ p. p.number };
-
-    ghost invariant = { λ p. IsWidePage p.number };
-
-    ghost inverse = { λ n. record { number = n } };
-}
-
-impl WidePage {
-    /// The page of this number, if it is one.
-    pub fn new(number: u64) -> Option<WidePage>
-        ensures some { IsSome result ↔ IsWidePage number }
-        ensures value { IfSome result (λ p. p ≡ number) }
-    {
-        if 1 <= number
-            && number < WIDE_PAGES_END
-            && (number < WINDOW_FIRST || number > WINDOW_LAST)
-        {
-            Some(WidePage { number })
-        } else {
-            None
-        }
-    }
-
-    /// Its number.
-    pub fn number(self) -> u64
-        ensures value { result ≡ self }
-        ensures page { IsWidePage self }
-    {
-        self.number
-    }
-}
-
-impl From<Page> for WidePage {
-    ghost from_gives = { λ p q. q ≡ p };
-
-    fn from(page: Page) -> WidePage {
-        WidePage {
-            number: page.number(),
-        }
-    }
-}
+use dmatypes::{Access, Frame, Page, Rights};
 
 /// A page with its host frame and rights, as one word states it (own). The empty word, 0, is none.
 #[derive(Clone, Copy, Debug, PartialEq, Eq)]
 pub struct PortWord {
-    pub page: WidePage,
+    pub page: Page,
     pub translation: Translation,
 }
 
@@ -85,7 +27,7 @@ impl PortWord {
     {
         let rights = Rights::from_number(field(word, 0, 2))?;
         let frame = Frame::new(field(word, 2, 24))?;
-        let page = WidePage::new(word >> 26)?;
+        let page = Page::new(word >> 26)?;
         Some(PortWord {
             page,
             translation: Translation::new(frame, rights),

@@ -15,8 +15,7 @@ A script is read from standard input, one call a line. 'run' answers each line
 by a line on standard output, 'report' answers none and tells at the end what is
 there; 'storm' reads no script. Lines, and what they are answered by:
 
-  domain strict         makes a domain: 'domain D'
-  domain lazy
+  domain M [W]          makes a domain, whose addresses have W bits: 'domain D'
   drop D                ends domain D, to which no device is attached and of
                         which no ticket is open, with all its pages: 'ok'
   attach V D            attaches device V to domain D: 'ok'
@@ -44,19 +43,21 @@ there; 'storm' reads no script. Lines, and what they are answered by:
 
 In these:
 
+  M  strict or lazy                W  39 or 48, and 39 where it is left out
   D  a domain, 1 to 15             V  a device, 0 to 15
   F  a host frame below 2^24: 4 KiB of host memory from address F times 4096
   N  pages of 4 KiB, 1 to 4096 in a call
   O  an order, 0 to 9              R  rights: r, w or rw
-  A  a device's byte address, of a page's start but for dma; 'map' answers the
-     lowest that is free, of the first page
-  X  r or w                        K  leaf, nonleaf or context
+  A  a device's byte address, of a page's start but for dma; 'map' answers that
+     of the first page: the lowest that is free, and in a domain of 48 bits the
+     lowest from 0x8000000000 on, where one is free there
+  X  r or w                        K  leaf, nonleaf, context or fault
   H  a host's byte address
   T  the number of a begun flush of its domain, from 1
   C  unmaps of a lazy domain that are released: all at a flush, those before the
      ticket at a reap, and where 256 wait all at the next unmap; else 0
-  E  2 not attached, 4 beyond 39 bits of address, 5 a write or 6 a read that the
-     page doesn't permit, or of a page that isn't there
+  E  2 not attached, 4 an address beyond the domain's width, 5 a write or 6 a
+     read that the page doesn't permit, or of a page that isn't there
 
 In a strict domain unmapped pages are free when 'unmap' answers; in a lazy one
 the unit may use them until they are released, and no 'map' answers them before.

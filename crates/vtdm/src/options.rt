@@ -13,6 +13,9 @@ use std::alloc::{AllocError, Global};
 // The option that asks for the map of the address spaces.
 const IOVA: &str = "iova";
 
+// The option that asks for a unit with Caching Mode.
+const CACHING_MODE: &str = "caching-mode";
+
 /// What the program is to do.
 #[derive(Clone, Copy)]
 pub(crate) enum Task {
@@ -40,6 +43,8 @@ pub(crate) struct Options {
     pub(crate) frames: u64,
     /// For how many calls the history has room.
     pub(crate) calls: u64,
+    /// Whether the unit has Caching Mode.
+    pub(crate) caching: bool,
 }
 
 /// The program's command line, without the program's name.
@@ -64,7 +69,8 @@ fn run_command<'a>(alloc: Global) -> Result<Command<'a>, AllocError> {
         .after_help(SCRIPT)
         .override_usage("vtdm run [OPTIONS] < SCRIPT")
         .arg(frames(alloc))?
-        .arg(calls(alloc))
+        .arg(calls(alloc))?
+        .arg(caching_mode(alloc))
 }
 
 fn report_command<'a>(alloc: Global) -> Result<Command<'a>, AllocError> {
@@ -74,6 +80,7 @@ fn report_command<'a>(alloc: Global) -> Result<Command<'a>, AllocError> {
         .override_usage("vtdm report [OPTIONS] < SCRIPT")
         .arg(frames(alloc))?
         .arg(calls(alloc))?
+        .arg(caching_mode(alloc))?
         .arg(iova(alloc))
 }
 
@@ -95,6 +102,13 @@ fn calls<'a>(alloc: Global) -> Arg<'a> {
         .help("Room for calls, 1 to 1048576")
         .value_parser(value_parser!(u64).range(1..=MOST_CALLS as i64))
         .default_value("65536")
+}
+
+fn caching_mode<'a>(alloc: Global) -> Arg<'a> {
+    Arg::new(alloc, CACHING_MODE)
+        .long(CACHING_MODE)
+        .action(ArgAction::SetTrue)
+        .help("The unit may remember absent pages, and maps invalidate")
 }
 
 fn iova<'a>(alloc: Global) -> Arg<'a> {
@@ -129,13 +143,16 @@ fn options_of(given: &ArgMatches) -> Option<Options> {
     Some(Options {
         frames: given.get_one::<u64>("frames")?,
         calls: given.get_one::<u64>("calls")?,
+        caching: given.get_flag(CACHING_MODE),
     })
 }
 
 /// The configuration of a manager with one share; `None` exactly where a number is outside its limits.
 pub(crate) fn config_of(options: Options) -> Option<Config>
-    ensures some { IsSome result ↔ IsWithinLimits (record { frames = options.frames; calls = options.calls; shares = 1 }) }
-    ensures numbers { IfSome result (λ c. c ≡ record { frames = options.frames; calls = options.calls; shares = 1 }) }
+    ensures some { IsSome result ↔ IsWithinLimits options.frames options.calls 1 }
+    ensures is { IfSome result
+        (λ c. c ≡ record { frames = options.frames; calls = options.calls; shares = 1; caching = options.caching }) }
 {
-    Config::new(options.frames, options.calls, 1)
+    let config = Config::new(options.frames, options.calls, 1)?;
+    Some(config.caching_mode(options.caching))
 }

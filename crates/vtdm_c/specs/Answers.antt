@@ -7,7 +7,7 @@ use Rattle.dmatypes.specs.declared.call.Access.TheVariants.{Read, Write}
 use Rattle.dmatypes.specs.declared.call.Cache.{Cache}
 use Rattle.dmatypes.specs.declared.call.Call.{Call}
 use Rattle.dmatypes.specs.declared.call.Call.TheVariants as calls
-use Rattle.dmatypes.specs.declared.call.Cache.TheVariants.{Context, Leaf, NonLeaf}
+use Rattle.dmatypes.specs.declared.call.Cache.TheVariants.{Context, Fault, Leaf, NonLeaf}
 use Rattle.dmatypes.specs.Numbers.{fault_number, refusal_number}
 use Rattle.dmatypes.specs.declared.reply.Progress.TheVariants.{Did, Idle}
 use Rattle.dmatypes.specs.declared.reply.Reply.{Reply}
@@ -62,4 +62,5 @@ request_named device address write look fill =
 
 -- the cache of a number, if there is one
 abbrev pub cache_numbered : ℕ → Option Cache
-cache_numbered n = if n == 0 then Some Leaf else (if n == 1 then Some NonLeaf else (if n == 2 then Some Context else None))
+cache_numbered n = if n == 0 then Some Leaf else (if n == 1 then Some NonLeaf else (if n == 2 then Some Context
+    else (if n == 3 then Some Fault else None)))

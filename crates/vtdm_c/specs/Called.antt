@@ -1,5 +1,5 @@
 -- What a call of C's does to the manager at a handle.
-use Rattle.std.specs.Prelude.{◌≡◌, ◌<◌, ◌≤◌, ◌⊎◌, ℕ, List, length, Option, None, Some, IsNone, IsSome}
+use Rattle.std.specs.Prelude.{◌≡◌, ◌<◌, ◌≤◌, ◌⊎◌, Bool, ℕ, List, length, Option, None, Some, IsNone, IsSome}
 use Rattle.dmatypes.specs.declared.call.Cache.{Cache}
 use Rattle.dmatypes.specs.declared.call.Call.{Call}
 use Rattle.dmatypes.specs.declared.call.Call.TheVariants as calls
@@ -46,14 +46,14 @@ abbrev pub Reads : {A : Type 0} → A → (State → A → Type 0) → Option Se
 Reads absent Finds None answer after = (answer ≡ absent) × (after ≡ None)
 Reads absent Finds (Some s) answer after = Finds s.state answer × (after ≡ Some s)
 
--- a manager is made where there is none and the number of its table frames is one, unless memory is lacking: it is new, and a
--- state of the empty world
-pub record Makes (frames status : ℕ) (after : Option Session) : Type 0 where
+-- a manager is made where there is none and the number of its table frames is one, unless memory is lacking: it is new, its unit has
+-- Caching Mode or not as was asked, and it is a state of the empty world
+pub record Makes (frames : ℕ) (caching : Bool) (status : ℕ) (after : Option Session) : Type 0 where
   pub bad : (frames < LEAST_TABLE_FRAMES) ⊎ (MOST_TABLE_FRAMES < frames) → (status ≡ BAD_FRAMES) × (after ≡ None)
   pub good : LEAST_TABLE_FRAMES ≤ frames → frames ≤ MOST_TABLE_FRAMES
       → ((status ≡ NO_MEMORY) × (after ≡ None))
-      ⊎ ((status ≡ OK) × (s : Session) × (after ≡ Some s) × IsNew frames s.state × Quarantine s.state (empty frames))
+      ⊎ ((status ≡ OK) × (s : Session) × (after ≡ Some s) × IsNew frames caching s.state × Quarantine s.state (empty frames))
 
-abbrev pub Creates : Option Session → ℕ → ℕ → Option Session → Type 0
-Creates (Some s) frames status after = (status ≡ PRESENT) × (after ≡ Some s)
-Creates None frames status after = Makes frames status after
+abbrev pub Creates : Option Session → ℕ → Bool → ℕ → Option Session → Type 0
+Creates (Some s) frames caching status after = (status ≡ PRESENT) × (after ≡ Some s)
+Creates None frames caching status after = Makes frames caching status after

@@ -4,10 +4,12 @@ use Rattle.std.specs.Int.{bit_at}
 use Rattle.dmatypes.specs.declared.call.Mode.{Mode}
 use Rattle.dmatypes.specs.declared.call.Mode.TheVariants.{Lazy, Strict}
 use Rattle.dmatypes.specs.declared.limits.TheConstants.{DEVICES}
+use Rattle.dmatypes.specs.declared.width.Width.{Width}
+use Rattle.dmatypes.specs.declared.width.Width.TheVariants.{W39, W48}
 use Rattle.engine.specs.declared.state.totals.DomainTotals as engine
 use Rattle.engine.specs.declared.state.totals.Totals as state
 use Rattle.engine.specs.Domains.{Domain, domain_at}
-use Rattle.engine.specs.Hits.{mode_of}
+use Rattle.engine.specs.Hits.{mode_of, width_of}
 use Rattle.engine.specs.Quarantine.{attached}
 use Rattle.engine.specs.State.{State}
 use Rattle.engine.specs.Totals.{domain_totals_of, totals_of}
@@ -37,6 +39,11 @@ no_domain_totals status = record { status = status; mode = 0; live = 0; retired 
 abbrev pub number_of_mode : Mode → ℕ
 number_of_mode Strict = 0
 number_of_mode Lazy = 1
+
+-- its bits
+abbrev pub bits_of_width : Width → ℕ
+bits_of_width W39 = 39
+bits_of_width W48 = 48
 
 abbrev pub domain_totals_told : Option engine.DomainTotals → DomainTotals
 domain_totals_told None = no_domain_totals NO_DOMAIN
@@ -80,6 +87,13 @@ mode_told (Some mode) = told (number_of_mode mode)
 
 abbrev pub FindsMode : ℕ → State → Answer → Type 0
 FindsMode domain m answer = answer ≡ mode_told (mode_of (domain_at m.domains domain))
+
+abbrev pub width_told : Option Width → Answer
+width_told None = lone NO_DOMAIN
+width_told (Some width) = told (bits_of_width width)
+
+abbrev pub FindsWidth : ℕ → State → Answer → Type 0
+FindsWidth domain m answer = answer ≡ width_told (width_of (domain_at m.domains domain))
 
 abbrev pub FindsRoot : ℕ → State → Answer → Type 0
 FindsRoot domain m answer = answer ≡ found (root_of (domain_at m.domains domain)) NO_DOMAIN

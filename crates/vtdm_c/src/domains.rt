@@ -2,23 +2,37 @@
 
 ghost use Rattle.std.specs.Prelude.{◌≡◌};
 ghost use Rattle.dmatypes.specs.declared.call.Call.TheVariants as calls;
+ghost use Rattle.dmatypes.specs.declared.width.Width.TheVariants.{W39, W48};
 ghost use Rattle.vtdm_c.specs.Answers.{mode_named};
 ghost use Rattle.vtdm_c.specs.Called.{Calls};
 
 use crate::answer::Answer;
 use crate::handle::Handle;
-use dmatypes::Mode;
+use dmatypes::{Mode, Width};
 use std::alloc::Global;
 
-/// Makes an empty domain, lazy or strict, and answers its id, 1 to 15.
+/// Makes an empty domain of 39-bit device addresses, lazy or strict, and answers its id, 1 to 15.
 #[unsafe(no_mangle)]
 pub extern "C" fn vtdm_domain(alloc: Global, handle: &mut Handle, lazy: bool) -> Answer
-    ensures { Calls handle.old.slot.held (calls.Domain (mode_named lazy)) result handle.new.slot.held }
+    ensures { Calls handle.old.slot.held (calls.Domain (mode_named lazy) W39) result handle.new.slot.held }
 {
     let Some(mut session) = handle.take(alloc) else {
         return Answer::lone(Answer::ABSENT);
     };
-    let answer = session.domain(mode_named(lazy));
+    let answer = session.domain(mode_named(lazy), Width::W39);
+    handle.put(session);
+    answer
+}
+
+/// Makes an empty domain of 48-bit device addresses, lazy or strict, and answers its id, 1 to 15.
+#[unsafe(no_mangle)]
+pub extern "C" fn vtdm_domain_wide(alloc: Global, handle: &mut Handle, lazy: bool) -> Answer
+    ensures { Calls handle.old.slot.held (calls.Domain (mode_named lazy) W48) result handle.new.slot.held }
+{
+    let Some(mut session) = handle.take(alloc) else {
+        return Answer::lone(Answer::ABSENT);
+    };
+    let answer = session.domain(mode_named(lazy), Width::W48);
     handle.put(session);
     answer
 }

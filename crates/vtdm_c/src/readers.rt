@@ -4,7 +4,7 @@ ghost use Rattle.std.specs.Prelude.{◌≡◌};
 ghost use Rattle.vtdm_c.specs.Answers.{lone};
 ghost use Rattle.vtdm_c.specs.Called.{Reads};
 ghost use Rattle.vtdm_c.specs.Told.{FindsContext, FindsDevices, FindsDomainOf, FindsDomainTotals, FindsMode, FindsRoot, FindsTotals};
-ghost use Rattle.vtdm_c.specs.Told.{FindsWord, no_context, no_domain_totals, no_totals};
+ghost use Rattle.vtdm_c.specs.Told.{FindsWidth, FindsWord, no_context, no_domain_totals, no_totals};
 ghost use Rattle.vtdm_c.specs.declared.answer.TheConstants.Answer.{ABSENT};
 
 use crate::answer::Answer;
@@ -78,6 +78,19 @@ pub extern "C" fn vtdm_mode_of(alloc: Global, handle: &mut Handle, domain: u64) 
         return Answer::lone(Answer::ABSENT);
     };
     let answer = session.mode_of(domain);
+    handle.put(session);
+    answer
+}
+
+/// The width of a domain's device addresses in bits: 39 or 48.
+#[unsafe(no_mangle)]
+pub extern "C" fn vtdm_width_of(alloc: Global, handle: &mut Handle, domain: u64) -> Answer
+    ensures { Reads (lone ABSENT) (FindsWidth domain) handle.old.slot.held result handle.new.slot.held }
+{
+    let Some(session) = handle.take(alloc) else {
+        return Answer::lone(Answer::ABSENT);
+    };
+    let answer = session.width_of(domain);
     handle.put(session);
     answer
 }

@@ -32,7 +32,7 @@ pub extern "C" fn vtdm_dma(
 }
 
 /// The entry at a place of one of the unit's caches is forgotten, if there is one. The caches are 0 the leaves, 1 the tables
-/// below the roots, 2 the contexts.
+/// below the roots, 2 the contexts, 3 the absent pages.
 #[unsafe(no_mangle)]
 pub extern "C" fn vtdm_evict(alloc: Global, handle: &mut Handle, cache: u64, place: u64) -> Answer
     ensures { Evicts handle.old.slot.held (cache_numbered cache) place result handle.new.slot.held }
@@ -63,6 +63,7 @@ fn cache_numbered(number: u64) -> Option<Cache>
         0 => Some(Cache::Leaf),
         1 => Some(Cache::NonLeaf),
         2 => Some(Cache::Context),
+        3 => Some(Cache::Fault),
         _ => None,
     }
 }

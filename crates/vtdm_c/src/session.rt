@@ -6,7 +6,7 @@ ghost use Rattle.dmatypes.specs.declared.limits.TheConstants.{CALLS_END};
 
 use crate::answer::Answer;
 use arrayvec::ArrayVec;
-use dmatypes::{Access, CALLS_END, Cache, MOST_SEGMENTS, Mode, Segment, Whim};
+use dmatypes::{Access, CALLS_END, Cache, MOST_SEGMENTS, Mode, Segment, Whim, Width};
 use engine::State;
 
 mod reading;
@@ -38,14 +38,14 @@ impl Session {
         self.calls >= CALLS_END
     }
 
-    pub(crate) fn domain(&mut self, mode: Mode) -> Answer
-        ensures { Answered self.old (calls.Domain mode) result self.new }
+    pub(crate) fn domain(&mut self, mode: Mode, width: Width) -> Answer
+        ensures { Answered self.old (calls.Domain mode width) result self.new }
     {
         if self.is_spent() {
             return Answer::lone(Answer::SPENT);
         }
         self.calls += 1;
-        Answer::number(self.state.domain(mode))
+        Answer::number(self.state.domain(mode, width))
     }
 
     pub(crate) fn drop_domain(&mut self, domain: u64) -> Answer

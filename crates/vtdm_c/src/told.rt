@@ -1,10 +1,11 @@
 //! What readers answer to C, where it is more than one number.
 
 ghost use Rattle.std.specs.Prelude.{◌≡◌};
-ghost use Rattle.vtdm_c.specs.Told.{context_told, domain_totals_told, no_context, no_domain_totals, no_totals, number_of_mode, totals_told};
+ghost use Rattle.vtdm_c.specs.Told.{context_told, domain_totals_told, no_context, no_domain_totals, no_totals, number_of_mode};
+ghost use Rattle.vtdm_c.specs.Told.{bits_of_width, totals_told};
 
 use crate::answer::Answer;
-use dmatypes::Mode;
+use dmatypes::{Mode, Width};
 use vtdbits::Words;
 
 /// A status, and where it is 0 how many table frames are free, used by trees, and held by retired records; how many tickets are
@@ -133,5 +134,15 @@ pub(crate) fn number_of_mode(mode: Mode) -> u64
     match mode {
         Mode::Strict => 0,
         Mode::Lazy => 1,
+    }
+}
+
+/// The number of a width: its bits.
+pub(crate) fn bits_of_width(width: Width) -> u64
+    ensures { result ≡ bits_of_width width }
+{
+    match width {
+        Width::W39 => 39,
+        Width::W48 => 48,
     }
 }

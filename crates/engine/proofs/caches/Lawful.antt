@@ -1,5 +1,6 @@
 -- Cached entries stay lawful while what they state stays.
 use Rattle.std.proofs.Common.{◌≡◌, ℕ, inl, inr, List, Some, ◌∙◌}
+use Rattle.dmatypes.specs.declared.width.Width.{Width}
 use Rattle.dmatypes.specs.World.{World, IsIn}
 use Rattle.dmatypes.specs.World as world
 use Rattle.tables.specs.Pool.{memory}
@@ -8,22 +9,23 @@ use Rattle.unit.specs.Caches.{Caches, CachedLeaf, CachedNonLeaf}
 use Rattle.engine.specs.Domains.{Domain, domain_at}
 use Rattle.engine.specs.State.{State}
 use Rattle.engine.specs.Quarantine.{AreLawful, IsHeld, IsLawfulLeaf, IsLawfulTable}
-use Rattle.dmatypes.specs.declared.width.TheConstants.{LEVELS}
+use Rattle.dmatypes.specs.Page.{levels}
 
 -- ---- one tree
 
 -- the leaf entries and the tables of a tree that has the same ones
-pub leaf_at_stays : (words words' : List ℕ) (root : ℕ)
-    → ((p : ℕ) → leaf_from (memory words') LEVELS root p ≡ leaf_from (memory words) LEVELS root p)
-    → (first pages frame rights : ℕ) → IsLeafAt (memory words) LEVELS root first pages frame rights
-    → IsLeafAt (memory words') LEVELS root first pages frame rights
-leaf_at_stays words words' root same first pages frame rights at =
+pub leaf_at_stays : (words words' : List ℕ) (width : Width) (root : ℕ)
+    → ((p : ℕ) → leaf_from (memory words') (levels width) root p ≡ leaf_from (memory words) (levels width) root p)
+    → (first pages frame rights : ℕ) → IsLeafAt (memory words) (levels width) root first pages frame rights
+    → IsLeafAt (memory words') (levels width) root first pages frame rights
+leaf_at_stays words words' width root same first pages frame rights at =
     (at.0, (at.1.0, at.1.1, at.1.2, at.1.3, λ p low high. same p ∙ at.1.4 p low high))
 
-pub table_at_stays : (words words' : List ℕ) (root : ℕ)
-    → ((p w : ℕ) → table_from (memory words') LEVELS root p w ≡ table_from (memory words) LEVELS root p w) → (first level frame : ℕ)
-    → IsTableAt (memory words) LEVELS root first level frame → IsTableAt (memory words') LEVELS root first level frame
-table_at_stays words words' root same first level frame at = (at.0, at.1, at.2, at.3, λ p low high. same p level ∙ at.4 p low high)
+pub table_at_stays : (words words' : List ℕ) (width : Width) (root : ℕ)
+    → ((p w : ℕ) → table_from (memory words') (levels width) root p w ≡ table_from (memory words) (levels width) root p w)
+    → (first level frame : ℕ)
+    → IsTableAt (memory words) (levels width) root first level frame → IsTableAt (memory words') (levels width) root first level frame
+table_at_stays words words' width root same first level frame at = (at.0, at.1, at.2, at.3, λ p low high. same p level ∙ at.4 p low high)
 
 -- ---- one domain
 
@@ -34,19 +36,19 @@ pub record KeepsLawful (words words' : List ℕ) (h h' : Domain) (v v' : world.D
 
 -- a domain that stays, while the memory of its tree and what it holds do
 pub keeps_same : (words words' : List ℕ) (h : Domain) (v : world.Domain)
-    → ((p : ℕ) → leaf_from (memory words') LEVELS h.root p ≡ leaf_from (memory words) LEVELS h.root p)
-    → ((p w : ℕ) → table_from (memory words') LEVELS h.root p w ≡ table_from (memory words) LEVELS h.root p w)
+    → ((p : ℕ) → leaf_from (memory words') (levels h.width) h.root p ≡ leaf_from (memory words) (levels h.width) h.root p)
+    → ((p w : ℕ) → table_from (memory words') (levels h.width) h.root p w ≡ table_from (memory words) (levels h.width) h.root p w)
     → ((first pages f : ℕ) → IsHeld words h.records first pages f → IsHeld words' h.records first pages f)
     → KeepsLawful words words' h h v v
 keeps_same words words' h v leaves tables held = record {
   leaf = λ l lawful. record {
     stated = lawful.stated;
-    entry = λ strict. leaf_at_stays words words' h.root leaves l.first l.pages l.frame l.rights (lawful.entry strict);
+    entry = λ strict. leaf_at_stays words words' h.width h.root leaves l.first l.pages l.frame l.rights (lawful.entry strict);
   };
   table = λ i lawful. record {
     span = lawful.span;
     named = elim lawful.named [
-      | inl at ↦ inl (table_at_stays words words' h.root tables i.first i.level i.frame at)
+      | inl at ↦ inl (table_at_stays words words' h.width h.root tables i.first i.level i.frame at)
       | inr has ↦ inr (held i.first i.pages i.frame has)
     ];
   };

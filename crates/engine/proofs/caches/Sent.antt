@@ -1,12 +1,13 @@
 -- A call that sends a descriptor and a wait, and ends once the unit did both: what the type of a state keeps.
-use Rattle.std.proofs.Common.{◌≡◌, ℕ, ◌+◌, ◌∙◌, List, Option, length, ap, arith, refl, slice_set}
+use Rattle.std.proofs.Common.{◌≡◌, ℕ, ◌+◌, ◌∙◌, Bool, true, false, List, Option, length, ap, arith, refl, slice_set}
 use Rattle.dmatypes.specs.declared.call.Call.{Call}
 use Rattle.dmatypes.specs.declared.reply.Reply.{Reply}
+use Rattle.dmatypes.specs.Page.{Range}
 use Rattle.dmatypes.specs.Step.{next}
 use Rattle.queue.specs.Ring.{Ring}
 use Rattle.vtdbits.specs.declared.context.ContextEntry.{ContextEntry}
 use Rattle.vtdbits.specs.declared.descriptor.Descriptor.{Descriptor}
-use Rattle.engine.specs.Ending.{Invalidates}
+use Rattle.engine.specs.Ending.{Invalidates, SendsForMap}
 use Rattle.tables.specs.Pool.{Pool}
 use Rattle.engine.specs.declared.iommu.Iommu.{Iommu}
 use Rattle.engine.specs.declared.iommu.Shown.{Shown}
@@ -15,7 +16,7 @@ use Rattle.engine.specs.State.{State}
 use Rattle.engine.specs.Steps.{Does}
 use Rattle.engine.specs.Whole.{IsWhole}
 use Rattle.engine.proofs.states.RecordsMade.{begun_kept, made_kept}
-use Rattle.engine.proofs.states.Refused.{tickets_of}
+use Rattle.engine.proofs.states.Refused.{tickets_of, whole_quiet}
 
 -- the state with another domain at a place, or none, other table frames and another IOMMU
 abbrev pub changed : State → ℕ → Pool → Option Domain → Iommu → State
@@ -36,3 +37,13 @@ whole_sends m t call reply d row whole does domains rows sends = record {
   made = made_kept m t call reply does.becomes (omega (arith, sends.number)) whole.made;
   begun = begun_kept m t call reply does.becomes (omega (arith, sends.number)) whole.begun;
 }
+
+-- a map sends in Caching Mode, and nothing without it
+pub whole_mapped : (m t : State) (call : Call) (reply : Reply) (domain root : ℕ) (range : Range) (caching : Bool) → IsWhole m.pool.frames m
+    → Does m call reply t → length t.domains ≡ length m.domains → SendsForMap caching m.iommu domain root range t.iommu
+    → IsWhole t.pool.frames t
+whole_mapped m t call reply domain root range false whole does domains same =
+    whole_quiet m t call reply whole does domains (ap (λ (x : Iommu). length x.contexts) same) (ap (λ (x : Iommu). x.ring) same)
+    (ap (λ (x : Iommu). x.sent) same) (ap (λ (x : Iommu). x.unit.steps) same)
+whole_mapped m t call reply domain root range true whole does domains (d, is, sends) =
+    whole_sends m t call reply d m.iommu.contexts whole does domains refl sends

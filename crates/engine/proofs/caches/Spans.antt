@@ -5,7 +5,9 @@ use Rattle.tables.specs.Tree.{span}
 use Rattle.tables.proofs.walks.Near.{div_within}
 use Rattle.tables.proofs.walks.Steps.{span-one, span-zero}
 use Rattle.dmatypes.specs.declared.page.TheConstants.{SPAN_PAGES}
-use Rattle.dmatypes.specs.declared.width.TheConstants.{PAGES_END}
+use Rattle.dmatypes.specs.Page.{pages_end}
+use Rattle.dmatypes.specs.declared.width.Width.{Width}
+use Rattle.dmatypes.specs.declared.width.Width.TheVariants.{W39, W48}
 
 -- the first page of the span is a multiple of its size
 pub base_even : (p n : ℕ) → 0 < n → (p - p % n) % n ≡ 0
@@ -32,8 +34,12 @@ one_span p q n pos low high =
     ∙ sym (div_within (p - p % n) q n pos (base_even p n pos) low high)
 
 -- the span of a page of the space is in the space
-pub below_end : (p j q : ℕ) → p < PAGES_END → j < 2 → q < p - p % span j + span j → q < PAGES_END
-below_end p zero q low small high = let one : q < p - p % 1 + 1 = subst (λ n. q < p - p % n + n) span-zero high in omega arith
-below_end p (suc zero) q low small high = let many : q < p - p % SPAN_PAGES + SPAN_PAGES = subst (λ n. q < p - p % n + n) span-one high in
-    omega arith
-below_end p (suc (suc j)) q low small high = absurd (omega arith)
+pub below_end : (width : Width) (p j q : ℕ) → p < pages_end width → j < 2 → q < p - p % span j + span j → q < pages_end width
+below_end W39 p zero q low small high = let one : q < p - p % 1 + 1 = subst (λ n. q < p - p % n + n) span-zero high in omega arith
+below_end W39 p (suc zero) q low small high =
+    let many : q < p - p % SPAN_PAGES + SPAN_PAGES = subst (λ n. q < p - p % n + n) span-one high in omega arith
+below_end W39 p (suc (suc j)) q low small high = absurd (omega arith)
+below_end W48 p zero q low small high = let one : q < p - p % 1 + 1 = subst (λ n. q < p - p % n + n) span-zero high in omega arith
+below_end W48 p (suc zero) q low small high =
+    let many : q < p - p % SPAN_PAGES + SPAN_PAGES = subst (λ n. q < p - p % n + n) span-one high in omega arith
+below_end W48 p (suc (suc j)) q low small high = absurd (omega arith)

@@ -1,5 +1,6 @@
 -- A strict unmap: what its descriptor leaves in the caches doesn't meet the range.
 use Rattle.std.proofs.Common.{◌≡◌, ℕ, zero, suc, ◌+◌, ◌-◌, ◌%◌, ◌/◌, ◌^◌, ◌<◌, ◌≤◌, ◌⊎◌, inl, inr, ⊎_elim, Bool, true, false, List, [], ◌∷◌}
+use Rattle.dmatypes.specs.declared.width.Width.{Width}
 use Rattle.std.proofs.Common.{refl, sym, ap, subst, ◌∙◌, arith}
 use Rattle.std.proofs.lemmas.Bool.Decides.{nat_tests}
 use Rattle.std.proofs.lemmas.Bool.{cases_lt}
@@ -19,7 +20,7 @@ use Rattle.vtdbits.specs.declared.descriptor.Descriptor.{Descriptor}
 use Rattle.vtdbits.specs.declared.descriptor.Descriptor.TheVariants.{IotlbDomain, IotlbPages}
 use Rattle.engine.specs.Ending.{IsBlockOf, IsSent, hint_of, leaves_split}
 use Rattle.dmatypes.specs.declared.page.TheConstants.{SPAN_ORDER, SPAN_PAGES}
-use Rattle.dmatypes.specs.declared.width.TheConstants.{LEVELS}
+use Rattle.dmatypes.specs.Page.{levels}
 use Rattle.vtdbits.specs.declared.number.TheConstants.{MOST_BLOCK_ORDER}
 
 -- ---- one descriptor
@@ -96,10 +97,11 @@ in_block range split b l (suc zero) true e c small pages even covered lt gt =
 in_block range split b l (suc (suc j)) true e c small pages even covered lt gt = absurd (omega (arith, small))
 
 -- a leaf entry is covered where none was split and they meet
-leaf_covered : (old : Pool) (root : ℕ) (range : Range) (l : CachedLeaf) → 1 ≤ range.pages → leaves_split old root range ≡ 0
-    → IsLeafAt (memory old.words) LEVELS root l.first l.pages l.frame l.rights → l.first < range.first + range.pages
+leaf_covered : (old : Pool) (width : Width) (root : ℕ) (range : Range) (l : CachedLeaf) → 1 ≤ range.pages
+    → leaves_split old width root range ≡ 0
+    → IsLeafAt (memory old.words) (levels width) root l.first l.pages l.frame l.rights → l.first < range.first + range.pages
     → range.first < l.first + l.pages → (range.first ≤ l.first) × (l.first + l.pages ≤ range.first + range.pages)
-leaf_covered old root range l some none (j, at) lt gt = by_page (cases_lt l.first range.first)
+leaf_covered old width root range l some none (j, at) lt gt = by_page (cases_lt l.first range.first)
   where
     pos : 0 < span j
     pos = span_pos j
@@ -107,7 +109,8 @@ leaf_covered old root range l some none (j, at) lt gt = by_page (cases_lt l.firs
     whole : (p : ℕ) → range.first ≤ p → p < range.first + range.pages → l.first ≤ p → p < l.first + l.pages → (q : ℕ) → l.first ≤ q
         → q < l.first + l.pages → (range.first ≤ q) × (q < range.first + range.pages)
     whole p low high above below q q_above q_below =
-        unmap_whole old LEVELS root range.first (range.first + range.pages) none p (record { size = j; frame = l.frame; rights = l.rights })
+        unmap_whole old (levels width) root range.first (range.first + range.pages) none p
+        (record { size = j; frame = l.frame; rights = l.rights })
         low
         high (at.4 p above below) q
         (same_part l.first q p (span j) pos at.2 q_above (omega (arith, q_below, at.1)) above (omega (arith, below, at.1)))
@@ -133,22 +136,23 @@ none_of (suc n) b to from e = let yes : b ≡ true = from (omega arith) in absur
     both : b ≡ false → b ≡ true → ⊥
     both low high = let clash : true ≡ false = sym high ∙ low in cc
 
-module _ (old new : Pool) (root d : ℕ) (range : Range) (cut : Cut) (x : Descriptor) (some : 1 ≤ range.pages)
-    (sent : IsSent d range cut x) (split : IsTrue cut.split ↔ (0 < leaves_split old root range)) where
+module _ (old new : Pool) (width : Width) (root d : ℕ) (range : Range) (cut : Cut) (x : Descriptor) (some : 1 ≤ range.pages)
+    (sent : IsSent d range cut x) (split : IsTrue cut.split ↔ (0 < leaves_split old width root range)) where
   meets : (l : CachedLeaf) → l.domain ≡ d → drops_leaf x l ≡ false
-      → IsLeafAt (memory old.words) LEVELS root l.first l.pages l.frame l.rights
+      → IsLeafAt (memory old.words) (levels width) root l.first l.pages l.frame l.rights
       → l.first < range.first + range.pages → range.first < l.first + l.pages → ⊥
   meets l here left at lt gt = elim (sent_covers d range cut x some sent) [
     | inl all ↦ dropped_leaf d l here (ap (λ y. drops_leaf y l) (sym all) ∙ left)
     | inr block ↦
         let inside = in_block range cut.split block.0 l at.0 cut.split refl block.2 at.1.0 at.1.1 at.1.2
-        (λ e. leaf_covered old root range l some (none_of (leaves_split old root range) cut.split split.0 split.1 e) at lt gt) lt gt in
+        (λ e. leaf_covered old width root range l some (none_of (leaves_split old width root range) cut.split split.0 split.1 e) at lt gt)
+        lt gt in
         dropped_within d block.0 (hint_of cut) l here inside.0 inside.1 (ap (λ y. drops_leaf y l) (sym block.1) ∙ left)
   ]
 
   -- a leaf entry of a cached leaf that the descriptor leaves is apart from the range
   pub strict_apart : (l : CachedLeaf) → l.domain ≡ d → drops_leaf x l ≡ false
-      → IsLeafAt (memory old.words) LEVELS root l.first l.pages l.frame l.rights
+      → IsLeafAt (memory old.words) (levels width) root l.first l.pages l.frame l.rights
       → (l.first + l.pages ≤ range.first) ⊎ (range.first + range.pages ≤ l.first)
   strict_apart l here left at =
       ⊎_elim
@@ -170,13 +174,15 @@ module _ (old new : Pool) (root d : ℕ) (range : Range) (cut : Cut) (x : Descri
       (ap (λ h. drops_non_leaf (IotlbPages d b h) i) (sym (hint_clear i.frame cut.frames cut.split held)) ∙ left)
 
   -- a cached table that the descriptor leaves wasn't cut
-  pub strict_table : range.first < span LEVELS → UnmapsPages old new LEVELS root range.first (range.first + range.pages) cut.frames
+  pub strict_table : range.first < span (levels width) → UnmapsPages old new (levels width) root range.first (range.first + range.pages)
+      cut.frames
       → (i : CachedNonLeaf)
       → i.domain ≡ d → i.pages ≡ span i.level → drops_non_leaf x i ≡ false
-      → IsTableAt (memory old.words) LEVELS root i.first i.level i.frame
-      → IsTableAt (memory new.words) LEVELS root i.first i.level i.frame
+      → IsTableAt (memory old.words) (levels width) root i.first i.level i.frame
+      → IsTableAt (memory new.words) (levels width) root i.first i.level i.frame
   strict_table within un i here pages left at =
-      elim (unmap_tables old new LEVELS root range.first (range.first + range.pages) cut.frames within un i.first i.level i.frame at) [
+      elim (unmap_tables old new (levels width) root range.first (range.first + range.pages)
+      cut.frames within un i.first i.level i.frame at) [
         | inl stays ↦ stays
         | inr gone ↦
             let one : i.pages ≡ SPAN_PAGES = pages ∙ ap span gone.0 ∙ span-one in

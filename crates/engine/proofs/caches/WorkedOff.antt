@@ -40,7 +40,7 @@ unfolding NoneWrites
 not_written status [] old none is = is
 not_written status (d ∷ ds) old none is = none.0 old (not_written status ds (status_after d old) none.1 is)
 
-left_none : (unit : UnitState) → unit ≡ unit_state (left_by_all [] unit.caches) unit.steps unit.done
+left_none : (unit : UnitState) → unit ≡ unit_state (left_by_all [] unit.caches) unit.steps unit.done unit.caching
 unfolding left_by_all
 left_none unit = refl
 
@@ -85,7 +85,7 @@ pub record IsStage (ds : List Descriptor) (status : ℕ) (taken : List Descripto
   pub rest : List Descriptor
   pub parts : ds ≡ ran ++ rest
   pub ring_is : ring ≡ ring_of rest (status_after_all ran status) (reverse ran ++ taken)
-  pub unit_is : unit ≡ unit_state (left_by_all ran old.caches) (old.steps + length ran) (old.done + length ran)
+  pub unit_is : unit ≡ unit_state (left_by_all ran old.caches) (old.steps + length ran) (old.done + length ran) old.caching
 
 -- where the status isn't there yet that the last of them writes, something waits
 something_waits : (front : List Descriptor) (n status : ℕ) (ran rest : List Descriptor) → front ++ Wait n ∷ [] ≡ ran ++ rest
@@ -96,9 +96,9 @@ something_waits front n status ran rest parts other none =
 
 did_first : (ds : List Descriptor) (status : ℕ) (taken : List Descriptor) (old : UnitState) (ring ring' : Ring) (unit unit' : UnitState)
     (ran rest : List Descriptor) → ds ≡ ran ++ rest → ring ≡ ring_of rest (status_after_all ran status) (reverse ran ++ taken)
-    → unit ≡ unit_state (left_by_all ran old.caches) (old.steps + length ran) (old.done + length ran) → (rest ≡ [] → ⊥)
+    → unit ≡ unit_state (left_by_all ran old.caches) (old.steps + length ran) (old.done + length ran) old.caching → (rest ≡ [] → ⊥)
     → ring' ≡ after_first ring.waiting ring.status ring.taken
-    → unit' ≡ unit_state (left_by_first ring.waiting unit.caches) (unit.steps + 1) (done_after ring.waiting unit.done)
+    → unit' ≡ unit_state (left_by_first ring.waiting unit.caches) (unit.steps + 1) (done_after ring.waiting unit.done) unit.caching
     → IsStage ds status taken old ring' unit' × (length ring'.waiting < length ring.waiting)
 did_first ds status taken old ring ring' unit unit' ran [] parts r u some r' u' = absurd (some refl)
 did_first ds status taken old ring ring' unit unit' ran (x ∷ xs) parts r u some r' u' =
@@ -106,8 +106,9 @@ did_first ds status taken old ring ring' unit unit' ran (x ∷ xs) parts r u som
     let counted : length (ran ++ x ∷ []) ≡ length ran + 1 = length-append ran (x ∷ []) in
     let now : ring' ≡ ring_of xs (status_after x (status_after_all ran status)) (x ∷ reverse ran ++ taken) =
     r' ∙ ap (λ (q : Ring). after_first q.waiting q.status q.taken) r in
-    let then : unit' ≡ unit_state (left_by x (left_by_all ran old.caches)) (old.steps + length ran + 1) (old.done + length ran + 1) =
-    u' ∙ ap₂ (λ ws (y : UnitState). unit_state (left_by_first ws y.caches) (y.steps + 1) (done_after ws y.done)) waiting u in
+    let then : unit' ≡ unit_state (left_by x (left_by_all ran old.caches)) (old.steps + length ran + 1) (old.done + length ran + 1)
+    old.caching =
+    u' ∙ ap₂ (λ ws (y : UnitState). unit_state (left_by_first ws y.caches) (y.steps + 1) (done_after ws y.done) y.caching) waiting u in
     let steps : old.steps + length ran + 1 ≡ old.steps + length (ran ++ x ∷ []) = omega (arith, counted) in
     let done : old.done + length ran + 1 ≡ old.done + length (ran ++ x ∷ []) = omega (arith, counted) in (
       record {
@@ -119,8 +120,8 @@ did_first ds status taken old ring ring' unit unit' ran (x ∷ xs) parts r u som
             ∙ ap₂ (ring_of xs) (sym (status_push ran x status)) (ap (λ ts. ts ++ taken) (sym (reverse-append ran (x ∷ []))));
         unit_is =
             then
-            ∙ ap (λ c. unit_state c (old.steps + length ran + 1) (old.done + length ran + 1)) (sym (left_push ran x old.caches))
-            ∙ ap₂ (unit_state (left_by_all (ran ++ x ∷ []) old.caches)) steps done;
+            ∙ ap (λ c. unit_state c (old.steps + length ran + 1) (old.done + length ran + 1) old.caching) (sym (left_push ran x old.caches))
+            ∙ ap₂ (λ n k. unit_state (left_by_all (ran ++ x ∷ []) old.caches) n k old.caching) steps done;
       },
       (let less = ap (λ (q : Ring). length q.waiting) now in
           let was = ap (λ (ws : List Descriptor). length ws) waiting in omega (arith, less, was)),
@@ -130,7 +131,7 @@ did_first ds status taken old ring ring' unit unit' ran (x ∷ xs) parts r u som
 pub next_stage : (front : List Descriptor) (n status : ℕ) (taken : List Descriptor) (old : UnitState) (ring ring' : Ring)
     (unit unit' : UnitState) → IsStage (front ++ Wait n ∷ []) status taken old ring unit → ring.status ≢ n
     → ring' ≡ after_first ring.waiting ring.status ring.taken
-    → unit' ≡ unit_state (left_by_first ring.waiting unit.caches) (unit.steps + 1) (done_after ring.waiting unit.done)
+    → unit' ≡ unit_state (left_by_first ring.waiting unit.caches) (unit.steps + 1) (done_after ring.waiting unit.done) unit.caching
     → IsStage (front ++ Wait n ∷ []) status taken old ring' unit' × (length ring'.waiting < length ring.waiting)
 next_stage front n status taken old ring ring' unit unit' stage other r u =
     did_first (front ++ Wait n ∷ []) status taken old ring ring' unit unit' stage.ran stage.rest stage.parts stage.ring_is stage.unit_is
@@ -159,16 +160,16 @@ few_steps front n status taken old ring unit stage other =
 by_rest : (waiting : List Descriptor) (d : Descriptor) (n status : ℕ) (taken : List Descriptor) (old : UnitState) (ring : Ring)
     (unit : UnitState) (ran rest : List Descriptor) → NoneWrites n waiting → ((k : ℕ) → status_after d k ≡ k) → status ≢ n
     → (waiting ++ d ∷ []) ++ Wait n ∷ [] ≡ ran ++ rest → ring ≡ ring_of rest (status_after_all ran status) (reverse ran ++ taken)
-    → unit ≡ unit_state (left_by_all ran old.caches) (old.steps + length ran) (old.done + length ran) → ring.status ≡ n
+    → unit ≡ unit_state (left_by_all ran old.caches) (old.steps + length ran) (old.done + length ran) old.caching → ring.status ≡ n
     → (ring ≡ ring_of [] n (reverse (waiting ++ d ∷ Wait n ∷ []) ++ taken))
     × (unit ≡ unit_state (left_by_all (waiting ++ d ∷ Wait n ∷ []) old.caches)
-    (old.steps + (length waiting + 2)) (old.done + (length waiting + 2)))
+    (old.steps + (length waiting + 2)) (old.done + (length waiting + 2)) old.caching)
 by_rest waiting d n status taken old ring unit ran [] none quiet fresh parts r u is =
     let all : ran ≡ waiting ++ d ∷ Wait n ∷ [] = sym (append-nil ran) ∙ sym parts ∙ append_assoc waiting (d ∷ []) (Wait n ∷ []) in
     let counted : length ran ≡ length waiting + 2 = ap length all ∙ length-append waiting (d ∷ Wait n ∷ []) in
     let at : status_after_all ran status ≡ n = sym (ap (λ (q : Ring). q.status) r) ∙ is in (
       r ∙ ap₂ (λ k ds. ring_of [] k (reverse ds ++ taken)) at all,
-      u ∙ ap₂ (λ ds m. unit_state (left_by_all ds old.caches) (old.steps + m) (old.done + m)) all counted,
+      u ∙ ap₂ (λ ds m. unit_state (left_by_all ds old.caches) (old.steps + m) (old.done + m) old.caching) all counted,
     )
 by_rest waiting d n status taken old ring unit ran (x ∷ xs) none quiet fresh parts r u is =
     let more = all_but_last ran (waiting ++ d ∷ []) x (Wait n) xs parts in
@@ -181,7 +182,7 @@ pub last_stage : (waiting : List Descriptor) (d : Descriptor) (n status : ℕ) (
     → IsStage ((waiting ++ d ∷ []) ++ Wait n ∷ []) status taken old ring unit → ring.status ≡ n
     → (ring ≡ ring_of [] n (reverse (waiting ++ d ∷ Wait n ∷ []) ++ taken))
     × (unit ≡ unit_state (left_by_all (waiting ++ d ∷ Wait n ∷ []) old.caches)
-    (old.steps + (length waiting + 2)) (old.done + (length waiting + 2)))
+    (old.steps + (length waiting + 2)) (old.done + (length waiting + 2)) old.caching)
 last_stage waiting d n status taken old ring unit none quiet fresh stage is =
     by_rest waiting d n status taken old ring unit stage.ran stage.rest none quiet fresh stage.parts stage.ring_is stage.unit_is is
 
@@ -218,7 +219,7 @@ first_stage d n old ring ring' unit room one two =
           ∙ ap (λ k. take k old.taken) same);
       unit_is =
           (let steps : unit.steps ≡ unit.steps + 0 = omega arith in let done : unit.done ≡ unit.done + 0 = omega arith in
-          left_none unit ∙ ap₂ (unit_state (left_by_all [] unit.caches)) steps done);
+          left_none unit ∙ ap₂ (λ n k. unit_state (left_by_all [] unit.caches) n k unit.caching) steps done);
     }
 
 -- ---- what is asked of whoever releases

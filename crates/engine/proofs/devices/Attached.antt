@@ -6,7 +6,7 @@ use Rattle.dmatypes.specs.declared.call.Call.TheVariants as calls
 use Rattle.dmatypes.specs.declared.reply.Reply.TheVariants.{Done, Refused}
 use Rattle.dmatypes.specs.declared.refusal.Refusal.TheVariants as refusals
 use Rattle.dmatypes.specs.World.{World, IsIn, put}
-use Rattle.dmatypes.specs.declared.width.Width.TheVariants.{W39}
+use Rattle.dmatypes.specs.declared.width.Width.{Width}
 use Rattle.vtdbits.specs.declared.context.ContextEntry.{ContextEntry}
 use Rattle.vtdbits.specs.declared.context.ContextEntry.TheVariants.{Absent, Present}
 use Rattle.dmatypes.specs.Conditions.{Stands}
@@ -77,47 +77,54 @@ put_along device domain f g same v = elim (same_or_not v device) [
 -- the row with the entry is that of the world with the attachment
 attaches_row : (m t : State) (w : World) (device domain : ℕ) (h : Domain) → Attaches m w → device < length m.iommu.contexts
     → domain_at m.domains domain ≡ Some h → slice_get m.iommu.contexts device ≡ Some Absent
-    → t.iommu.contexts ≡ slice_set m.iommu.contexts device (Present h.root W39 domain) → t.domains ≡ m.domains → t.iommu.unit ≡ m.iommu.unit
+    → t.iommu.contexts ≡ slice_set m.iommu.contexts device (Present h.root h.width domain) → t.domains ≡ m.domains
+    → t.iommu.unit ≡ m.iommu.unit
     → Attaches t (record w { devices = put device (Some domain) w.devices })
 attaches_row m t w device domain h old less there absent row domains unit = record {
   devices =
       λ v.
       put_along device domain w.devices (λ x. attached (slice_get m.iommu.contexts x)) old.devices v
-      ∙ attached_set m.iommu.contexts device domain (Present h.root W39 domain) less refl v
+      ∙ attached_set m.iommu.contexts device domain (Present h.root h.width domain) less refl v
       ∙ ap (λ r. attached (slice_get r v)) (sym row);
-  roots = λ v root d at. elim (same_or_not v device) [
+  roots = λ v root d width at. elim (same_or_not v device) [
     | inl same ↦
-        let is : Present h.root W39 domain ≡ Present root W39 d =
-        same_Some (Present h.root W39 domain) (Present root W39 d) (sym
-        (get_set m.iommu.contexts device (Present h.root W39 domain) less)
-        ∙ ap (slice_get (slice_set m.iommu.contexts device (Present h.root W39 domain))) (sym same) ∙ ap (λ r. slice_get r v) (sym row)
+        let is : Present h.root h.width domain ≡ Present root width d =
+        same_Some (Present h.root h.width domain) (Present root width d) (sym
+        (get_set m.iommu.contexts device (Present h.root h.width domain) less)
+        ∙ ap (slice_get (slice_set m.iommu.contexts device (Present h.root h.width domain))) (sym same) ∙ ap (λ r. slice_get r v) (sym row)
         ∙ at) in
-        (h, ap (λ hs. domain_at hs d) domains ∙ ap (domain_at m.domains) (sym (domain_in is)) ∙ there, root_in is)
+        (h, ap (λ hs. domain_at hs d) domains ∙ ap (domain_at m.domains) (sym (domain_in is)) ∙ there, root_in is, width_in is)
     | inr ne ↦
         let was =
-        old.roots v root d
-        (sym (get_set_other m.iommu.contexts device v (Present h.root W39 domain) ne) ∙ ap (λ r. slice_get r v) (sym row) ∙ at) in
-        (was.0, ap (λ hs. domain_at hs d) domains ∙ was.1, was.2)
+        old.roots v root d width
+        (sym (get_set_other m.iommu.contexts device v (Present h.root h.width domain) ne) ∙ ap (λ r. slice_get r v) (sym row) ∙ at) in
+        (was.0, ap (λ hs. domain_at hs d) domains ∙ was.1, was.2, was.3)
   ];
   cached = λ x inside.
       let at = old.cached x (subst (λ u. IsIn x u.caches.contexts) unit inside) in
       ap (λ r. slice_get r x.device) row
-      ∙ get_set_other m.iommu.contexts device x.device (Present h.root W39 domain)
-      (λ same. clash x.root x.domain (sym absent ∙ ap (slice_get m.iommu.contexts) (sym same) ∙ at)) ∙ at;
+      ∙ get_set_other m.iommu.contexts device x.device (Present h.root h.width domain)
+      (λ same. clash x.root x.domain x.width (sym absent ∙ ap (slice_get m.iommu.contexts) (sym same) ∙ at)) ∙ at;
 } where
-  clash : (root d : ℕ) → Some Absent ≡ Some (Present root W39 d) → ⊥
-  clash root d e = cc
+  clash : (root d : ℕ) (width : Width) → Some Absent ≡ Some (Present root width d) → ⊥
+  clash root d width e = cc
 
-  domain_in : {root root' d d' : ℕ} → Present root W39 d ≡ Present root' W39 d' → d ≡ d'
+  domain_in : {root root' d d' : ℕ} {width width' : Width} → Present root width d ≡ Present root' width' d' → d ≡ d'
   domain_in {root} {root'} {d} {d'} e = same_Some d d' (ap (λ x. attached (Some x)) e)
 
-  root_in : {root root' d d' : ℕ} → Present root W39 d ≡ Present root' W39 d' → root ≡ root'
+  root_in : {root root' d d' : ℕ} {width width' : Width} → Present root width d ≡ Present root' width' d' → root ≡ root'
   root_in e = cc
+
+  width_in : {root root' d d' : ℕ} {width width' : Width} → Present root width d ≡ Present root' width' d' → width ≡ width'
+  width_in e = cc
 
 pub attaches : (m t : State) (device domain : ℕ) (h : Domain) → device < DEVICES → length m.iommu.contexts ≡ DEVICES
     → domain_at m.domains domain ≡ Some h → slice_get m.iommu.contexts device ≡ Some Absent
     → t
-    ≡ record m { iommu = record m.iommu { contexts = slice_set m.iommu.contexts device (Present h.root W39 domain) }; calls = m.calls + 1 }
+    ≡ record m {
+      iommu = record m.iommu { contexts = slice_set m.iommu.contexts device (Present h.root h.width domain) };
+      calls = m.calls + 1;
+    }
     → Does m (calls.Attach device domain) Done t
 unfolding Exact Becomes IsStep Stands Answers next
 attaches m t device domain h small many there free is = record {
@@ -129,10 +136,11 @@ attaches m t device domain h small many there free is = record {
           table_frames = q.table_frames;
           domains = q.domains;
           caches = record { leaves = q.caches.leaves; tables = q.caches.tables };
+          faults = q.faults;
           contexts =
               attaches_row m
               (record m {
-                iommu = record m.iommu { contexts = slice_set m.iommu.contexts device (Present h.root W39 domain) };
+                iommu = record m.iommu { contexts = slice_set m.iommu.contexts device (Present h.root h.width domain) };
                 calls = m.calls + 1;
               })
               w device domain h q.contexts (omega (arith, small, many)) there free refl refl refl;

@@ -9,7 +9,6 @@ use Rattle.dmatypes.specs.Conditions.{Stands}
 use Rattle.dmatypes.specs.Step.{Answers, IsStep, next}
 use Rattle.dmatypes.specs.World.{World, put}
 use Rattle.dmatypes.specs.declared.width.Width.{Width}
-use Rattle.dmatypes.specs.declared.width.Width.TheVariants.{W39}
 use Rattle.tables.specs.Pool.{Pool}
 use Rattle.unit.specs.Caches.{CachedContext}
 use Rattle.unit.specs.Filters.{drops_context}
@@ -25,6 +24,7 @@ use Rattle.dmatypes.proofs.histories.Maps.{put_other, put_same, same_or_not}
 use Rattle.engine.proofs.lists.Places.{get_set, get_set_other, is_none, not_none}
 use Rattle.engine.proofs.caches.Purged.{Purges, purges_sent}
 use Rattle.engine.proofs.states.Refused.{counted, refuses}
+use Rattle.engine.proofs.caches.Faults.{faults_stay, same_pages}
 use Rattle.dmatypes.specs.declared.limits.TheConstants.{DEVICES}
 
 dropped_context : (domain device : ℕ) (x : CachedContext) → x.device ≡ device → drops_context (ContextDevice domain device) x ≡ false → ⊥
@@ -33,7 +33,7 @@ dropped_context domain device x same left = grind (arith, nat_tests)
 module _ (m t : State) (w : World) (device domain : ℕ) (q : Quarantine m w) (small : device < length m.iommu.contexts)
     (row : t.iommu.contexts ≡ slice_set m.iommu.contexts device Absent)
     (purges : Purges (ContextDevice domain device) m.iommu.unit.caches t.iommu.unit.caches)
-    (domains : t.domains ≡ m.domains) (pool : t.pool ≡ m.pool)
+    (mode : t.iommu.unit.caching ≡ m.iommu.unit.caching) (domains : t.domains ≡ m.domains) (pool : t.pool ≡ m.pool)
     (tickets : t.tickets ≡ m.tickets) where
   entry_then : (x : ℕ) → x ≢ device → slice_get t.iommu.contexts x ≡ slice_get m.iommu.contexts x
   entry_then x ne = ap (λ r. slice_get r x) row ∙ get_set_other m.iommu.contexts device x Absent ne
@@ -49,15 +49,15 @@ module _ (m t : State) (w : World) (device domain : ℕ) (q : Quarantine m w) (s
     | inr ne ↦ rw (put_other device None w.devices x ne, entry_then x ne) (q.contexts.devices x)
   ]
 
-  was_there : (x root e : ℕ) → slice_get t.iommu.contexts x ≡ Some (Present root W39 e)
-      → slice_get m.iommu.contexts x ≡ Some (Present root W39 e)
-  was_there x root e at = elim (same_or_not x device) [
-    | inl same ↦ absurd (clash root e (sym (gone x same) ∙ at))
+  was_there : (x root e : ℕ) (width : Width) → slice_get t.iommu.contexts x ≡ Some (Present root width e)
+      → slice_get m.iommu.contexts x ≡ Some (Present root width e)
+  was_there x root e width at = elim (same_or_not x device) [
+    | inl same ↦ absurd (clash root e width (sym (gone x same) ∙ at))
     | inr ne ↦ sym (entry_then x ne) ∙ at
   ]
     where
-      clash : (root e : ℕ) → Some Absent ≡ Some (Present root W39 e) → ⊥
-      clash root e same = cc
+      clash : (root e : ℕ) (width : Width) → Some Absent ≡ Some (Present root width e) → ⊥
+      clash root e width same = cc
 
   pub device_gone : Quarantine t (record w { devices = put device None w.devices })
   device_gone = record {
@@ -67,9 +67,11 @@ module _ (m t : State) (w : World) (device domain : ℕ) (q : Quarantine m w) (s
       leaves = λ l inside. rw (domains, pool) (q.caches.leaves l (purges.leaves l inside).0);
       tables = λ i inside. rw (domains, pool) (q.caches.tables i (purges.tables i inside).0);
     };
+    faults = faults_stay m.iommu.unit t.iommu.unit w (record w { devices = put device None w.devices })
+        (record { mode = mode; left = λ f inside. (purges.faults f inside).0 }) (same_pages w.domains) q.faults;
     contexts = record {
       devices = devices;
-      roots = λ x root e at. rw domains (q.contexts.roots x root e (was_there x root e at));
+      roots = λ x root e width at. rw domains (q.contexts.roots x root e width (was_there x root e width at));
       cached =
           λ x inside.
           let left =
@@ -81,10 +83,6 @@ module _ (m t : State) (w : World) (device domain : ℕ) (q : Quarantine m w) (s
   }
 
 -- ---- the call
-
--- there is one width
-pub only_width : (w : Width) → w ≡ W39
-only_width W39 = refl
 
 pub detach_no_device : (m t : State) (device : ℕ) → t ≡ counted m → DEVICES ≤ device
     → Does m (calls.Detach device) (Refused refusals.NoDevice) t
@@ -106,12 +104,12 @@ detach_not_attached m t device entry is small at free = refuses m t (calls.Detac
 abbrev pub detached : State → Iommu → State
 detached m x = record m { iommu = x; calls = m.calls + 1 }
 
-pub detach_does : (m : State) (device root domain : ℕ) (x : Iommu) → device < DEVICES → length m.iommu.contexts ≡ DEVICES
-    → slice_get m.iommu.contexts device ≡ Some (Present root W39 domain)
+pub detach_does : (m : State) (device root domain : ℕ) (width : Width) (x : Iommu) → device < DEVICES → length m.iommu.contexts ≡ DEVICES
+    → slice_get m.iommu.contexts device ≡ Some (Present root width domain)
     → Invalidates (record m.iommu { contexts = slice_set m.iommu.contexts device Absent }) (ContextDevice domain device) None x
     → Does m (calls.Detach device) Done (detached m x)
 unfolding Exact Becomes IsStep Stands Answers next
-detach_does m device root domain x small many at invalidates = record {
+detach_does m device root domain width x small many at invalidates = record {
   steps = λ w q. (
     (
       (λ big. absurd (omega (arith, big, small)), (not_none (w.devices device) domain (q.contexts.devices device ∙ ap attached at), tt)),
@@ -119,10 +117,10 @@ detach_does m device root domain x small many at invalidates = record {
     ),
     device_gone m (detached m x) w device domain q (omega (arith, small, many)) invalidates.contexts (
         purges_sent m.iommu.ring.waiting (ContextDevice domain device) (status_of x.sent) m.iommu.unit.caches x.unit.caches
-        invalidates.caches) refl
+        invalidates.caches) invalidates.caching refl
         refl refl,
   );
   exact = tt;
-  becomes = (domain, root, at, invalidates, refl);
+  becomes = (domain, root, width, at, invalidates, refl);
   calls = refl;
 }

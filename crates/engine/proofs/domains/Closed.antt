@@ -1,7 +1,7 @@
 -- A domain ends, to which no device is attached.
 use Rattle.std.proofs.Common.{map, ◌≡◌, ◌≢◌, ℕ, ◌+◌, ◌<◌, inl, inr, [], length, Option, Some, None, refl, sym, ap, ◌∙◌, arith, slice_get}
 use Rattle.std.proofs.lemmas.Option.{none-some}
-use Rattle.dmatypes.specs.declared.width.Width.TheVariants.{W39}
+use Rattle.dmatypes.specs.declared.width.Width.{Width}
 use Rattle.dmatypes.specs.World.{World, IsIn, put}
 use Rattle.dmatypes.specs.World as world
 use Rattle.tables.specs.Changes.{TreeStays}
@@ -17,8 +17,9 @@ use Rattle.engine.proofs.frames.Held.{held-nil, held_stays}
 use Rattle.engine.proofs.caches.Lawful.{KeepsLawful, keeps_same}
 use Rattle.dmatypes.proofs.histories.Maps.{put_other, put_same, same_or_not}
 use Rattle.engine.proofs.domains.OneChanged.{domain_out, domain_low}
+use Rattle.engine.proofs.caches.Faults.{all_left, faults_stay, gone_pages}
 use Rattle.dmatypes.specs.declared.limits.TheConstants.{MOST_DOMAINS}
-use Rattle.dmatypes.specs.declared.width.TheConstants.{LEVELS}
+use Rattle.dmatypes.specs.Page.{levels}
 
 -- its records went, and nothing is remembered of it; then its tree goes
 module _ (m t : State) (w : World) (d : ℕ) (h : Domain) (q : Quarantine m w) (many : length m.domains ≡ MOST_DOMAINS)
@@ -26,17 +27,17 @@ module _ (m t : State) (w : World) (d : ℕ) (h : Domain) (q : Quarantine m w) (
     (nobody : (x : ℕ) → w.devices x ≡ Some d → ⊥) (no_leaf : (l : CachedLeaf) → IsIn l m.iommu.unit.caches.leaves → l.domain ≡ d → ⊥)
     (no_table : (i : CachedNonLeaf) → IsIn i m.iommu.unit.caches.non_leaves → i.domain ≡ d → ⊥)
     (domains : (e : ℕ) → domain_at t.domains e ≡ put d None (domain_at m.domains) e) (row : t.iommu.contexts ≡ m.iommu.contexts)
-    (unit : t.iommu.unit ≡ m.iommu.unit) (tickets : t.tickets ≡ m.tickets) (destroys : Destroys m.pool h.root t.pool) where
+    (unit : t.iommu.unit ≡ m.iommu.unit) (tickets : t.tickets ≡ m.tickets) (destroys : Destroys m.pool h.width h.root t.pool) where
   low : d < MOST_DOMAINS + 1
   low = domain_low m.domains d h many there
 
   at_other : (e : ℕ) → e ≢ d → domain_at t.domains e ≡ domain_at m.domains e
   at_other e ne = domains e ∙ put_other d None (domain_at m.domains) e ne
 
-  stays : (e : ℕ) (k : Domain) → e ≢ d → domain_at m.domains e ≡ Some k → TreeStays m.pool t.pool LEVELS k.root
+  stays : (e : ℕ) (k : Domain) → e ≢ d → domain_at m.domains e ≡ Some k → TreeStays m.pool t.pool (levels k.width) k.root
   stays e k ne at =
       let less : e < MOST_DOMAINS + 1 = domain_low m.domains e k many at in
-      destroys.others LEVELS k.root (tree_of m.pool (domain_at m.domains) e k q.frames less at)
+      destroys.others (levels k.width) k.root (tree_of m.pool (domain_at m.domains) e k q.frames less at)
       (apart_of m.pool (domain_at m.domains) d e h k q.frames low less ne there at)
 
   zeroed : (e : ℕ) (k : Domain) → domain_at m.domains e ≡ Some k → (f : ℕ) → 0 < held_in k.records f → IsZeroed t.pool.words f
@@ -63,15 +64,16 @@ module _ (m t : State) (w : World) (d : ℕ) (h : Domain) (q : Quarantine m w) (
       (k, u, at_other i.domain ne ∙ at, put_other d None w.domains i.domain ne ∙ in_world, (keeps i.domain k u ne at).table i was)
 
   -- a device is attached to another domain
-  still : (x root e : ℕ) → slice_get m.iommu.contexts x ≡ Some (Present root W39 e) → e ≢ d
-  still x root e at same = nobody x (q.contexts.devices x ∙ ap attached at ∙ ap Some same)
+  still : (x root e : ℕ) (width : Width) → slice_get m.iommu.contexts x ≡ Some (Present root width e) → e ≢ d
+  still x root e width at same = nobody x (q.contexts.devices x ∙ ap attached at ∙ ap Some same)
 
   still_attached : Attaches t after
   still_attached = record {
     devices = λ x. rw row (q.contexts.devices x);
     roots =
-        λ x root e at.
-        let here = rw row at at in let was = q.contexts.roots x root e here in (was.0, at_other e (still x root e here) ∙ was.1, was.2);
+        λ x root e width at.
+        let here = rw row at at in
+        let was = q.contexts.roots x root e width here in (was.0, at_other e (still x root e width here) ∙ was.1, was.2, was.3);
     cached = λ x inside. rw row (q.contexts.cached x (rw unit at inside));
   }
 
@@ -105,6 +107,7 @@ module _ (m t : State) (w : World) (d : ℕ) (h : Domain) (q : Quarantine m w) (
       leaves = λ l inside. let here = rw unit at inside in leaf_lawful l (no_leaf l here) (q.caches.leaves l here);
       tables = λ i inside. let here = rw unit at inside in table_lawful i (no_table i here) (q.caches.tables i here);
     };
+    faults = faults_stay m.iommu.unit t.iommu.unit w after (all_left m.iommu.unit t.iommu.unit unit) (gone_pages w.domains d) q.faults;
     contexts = still_attached;
     frames =
         frames_move m.pool t.pool (domain_at m.domains) (domain_at t.domains) d None q.frames low domains destroys.frames moves stay

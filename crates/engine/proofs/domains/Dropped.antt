@@ -45,11 +45,12 @@ module _ (m t : State) (w : World) (i : ℕ) (h : Domain) (v : world.Domain) (q 
   quarantined : Quarantine between flushed_world
   quarantined =
       domain_flushed m between w i (status_of t.iommu.sent) h v closes.flushed.domain.space q many less there here invalidates.caches
+      invalidates.caching
       closes.flushes.releases refl invalidates.contexts refl
 
-  destroys : Destroys closes.flushed.pool h.root t.pool
+  destroys : Destroys closes.flushed.pool h.width h.root t.pool
   destroys =
-      subst (λ (root : ℕ). Destroys closes.flushed.pool root t.pool) (ap (λ (x : Domain). x.root) closes.flushes.same) closes.destroys
+      subst (λ (x : Domain). Destroys closes.flushed.pool x.width x.root t.pool) closes.flushes.same closes.destroys
 
   domains_between : (e : ℕ) → domain_at between.domains e ≡ put (i + 1) (Some emptied) (domain_at m.domains) e
   domains_between e = domain_set m.domains i (Some emptied) less e

@@ -19,7 +19,7 @@ use Rattle.engine.proofs.frames.Owners.{tree_of}
 use Rattle.dmatypes.proofs.histories.Maps.{put_same, put_other, same_or_not}
 use Rattle.engine.proofs.lists.Places.{get_set, get_set_other}
 use Rattle.dmatypes.specs.declared.limits.TheConstants.{MOST_DOMAINS}
-use Rattle.dmatypes.specs.declared.width.TheConstants.{LEVELS}
+use Rattle.dmatypes.specs.Page.{levels, pages_end}
 
 -- ---- the list of domains
 
@@ -91,7 +91,8 @@ both_absent words (Some h) p both e = absurd cc
 
 -- it stays where all leaves of its tree do
 both_stays : (words words' : List ℕ) (o : Option Domain) (p : Option world.Domain) → MirrorsIfAny words o p
-    → ((h : Domain) → o ≡ Some h → (page : ℕ) → leaf_from (memory words') LEVELS h.root page ≡ leaf_from (memory words) LEVELS h.root page)
+    → ((h : Domain) → o ≡ Some h → (page : ℕ) → leaf_from (memory words') (levels h.width) h.root page ≡ leaf_from (memory words)
+    (levels h.width) h.root page)
     → MirrorsIfAny words' o p
 both_stays words words' None None both same = tt
 both_stays words words' None (Some v) both same = both
@@ -106,7 +107,7 @@ both_stays words words' (Some h) (Some v) both same = record {
 pub domains_put : (m t : State) (w : World) (d : ℕ) (h : Domain) (v : world.Domain) → Quarantine m w
     → ((e : ℕ) → domain_at t.domains e ≡ put d (Some h) (domain_at m.domains) e) → Mirrors t.pool.words h v
     → ((e : ℕ) (k : Domain) → e ≢ d → domain_at m.domains e ≡ Some k → (page : ℕ)
-    → leaf_from (memory t.pool.words) LEVELS k.root page ≡ leaf_from (memory m.pool.words) LEVELS k.root page) → (e : ℕ)
+    → leaf_from (memory t.pool.words) (levels k.width) k.root page ≡ leaf_from (memory m.pool.words) (levels k.width) k.root page) → (e : ℕ)
     → MirrorsIfAny t.pool.words (domain_at t.domains e) (put d (Some v) w.domains e)
 domains_put m t w d h v q is mirrors stay e = elim (same_or_not e d) [
   | inl same ↦ rw (is e, same, put_same d (Some h) (domain_at m.domains), put_same d (Some v) w.domains) mirrors
@@ -117,7 +118,7 @@ domains_put m t w d h v q is mirrors stay e = elim (same_or_not e d) [
 -- one domain of the state and of the world goes
 pub domain_out : (m t : State) (w : World) (d : ℕ) → Quarantine m w → ((e : ℕ) → domain_at t.domains e ≡ put d None (domain_at m.domains) e)
     → ((e : ℕ) (k : Domain) → e ≢ d → domain_at m.domains e ≡ Some k → (page : ℕ)
-    → leaf_from (memory t.pool.words) LEVELS k.root page ≡ leaf_from (memory m.pool.words) LEVELS k.root page) → (e : ℕ)
+    → leaf_from (memory t.pool.words) (levels k.width) k.root page ≡ leaf_from (memory m.pool.words) (levels k.width) k.root page) → (e : ℕ)
     → MirrorsIfAny t.pool.words (domain_at t.domains e) (put d None w.domains e)
 domain_out m t w d q is stay e = elim (same_or_not e d) [
   | inl same ↦ rw (is e, same, put_same d None (domain_at m.domains), put_same d None w.domains) tt
@@ -133,7 +134,7 @@ can_place m d h (w, q) many there = record {
   absent = λ p free.
       let v = both_there m.pool.words (domain_at m.domains d) (w.domains d) h (q.domains d) there in
       let page = (v.2.pieces.free p).0 free in
-      v.2.tree p page.0.1 ∙ page.1.not_live;
+      v.2.tree p (subst (λ n. p < pages_end n) (sym v.2.ids.width) page.0.1) ∙ page.1.not_live;
 }
 
 -- ---- how many there are

@@ -16,7 +16,9 @@ use Rattle.iova.specs.Pieces.{piece_of, state_at}
 use Rattle.iova.specs.Space.{Space, AllFree, IsFit, IsSpace}
 use Rattle.engine.specs.Quarantine.{AllApart, PartsPages}
 use Rattle.engine.proofs.maps.Segments.{placed_inside, placed_outside}
-use Rattle.dmatypes.specs.declared.width.TheConstants.{PAGES_END}
+use Rattle.dmatypes.specs.Page.{pages_end}
+use Rattle.dmatypes.specs.declared.width.Width.{Width}
+use Rattle.dmatypes.specs.declared.width.Width.TheVariants.{W39, W48}
 
 -- ---- free pages
 
@@ -40,15 +42,21 @@ none_apart : AllApart []
 unfolding AllApart
 none_apart = tt
 
-pub pieces_new : (space : Space) (mode : Mode) → IsSpace space → AllFree space → space.last ≡ PAGES_END - 1
-    → PartsPages space (empty_domain mode)
-pieces_new space mode is all whole = record {
+some_pages : (width : Width) → 0 < pages_end width
+some_pages W39 = omega arith
+some_pages W48 = omega arith
+
+pub pieces_new : (space : Space) (mode : Mode) (width : Width) → IsSpace space → AllFree space → space.last ≡ pages_end width - 1
+    → PartsPages space (empty_domain mode width)
+pieces_new space mode width is all whole = record {
   is_space = is;
   whole = whole;
   free =
       λ p. (
-        λ e. ((is.others p (rw e refl)).0, record { not_live = refl; not_retired = λ r i inside. i }),
-        λ both. all p (both.0, omega (arith, whole, both.0.1)),
+        λ e.
+            let page = is.others p (rw e refl) in
+            ((page.0, omega (arith, whole, page.1, some_pages width)), record { not_live = refl; not_retired = λ r i inside. i }),
+        λ both. all p (both.0.0, omega (arith, whole, both.0.1)),
       );
   live = λ p. (λ e. let no : Some Live ≡ Some Free = only p Live e in absurd cc, λ none. absurd cc);
   retired = λ p. (λ e. let no : Some Retired ≡ Some Free = only p Retired e in absurd cc, λ some. absurd some.1);

@@ -1,5 +1,6 @@
 -- What an unmap and a flush need before they release: records of a quarantined state can go one after the other.
 use Rattle.std.proofs.Common.{◌≡◌, ◌≢◌, ℕ, ◌+◌, ◌-◌, ◌<◌, ◌≤◌, inl, inr, ⊎_elim, List, [], ◌∷◌, ◌++◌, length, map, Option, Some, refl, sym}
+use Rattle.dmatypes.specs.declared.width.Width.{Width}
 use Rattle.std.proofs.Common.{ap, subst, ◌∙◌, arith}
 use Rattle.std.proofs.lemmas.Bool.{cases_lt}
 use Rattle.std.proofs.lemmas.List.Sums.{sum_by-cons}
@@ -28,7 +29,7 @@ use Rattle.engine.proofs.lists.Membership.{in_last, in_left}
 use Rattle.engine.proofs.unmaps.DomainAfter.{domain_after, held-last}
 use Rattle.engine.proofs.unmaps.Pages.{is_page}
 use Rattle.dmatypes.specs.declared.limits.TheConstants.{MOST_DOMAINS}
-use Rattle.dmatypes.specs.declared.width.TheConstants.{LEVELS}
+use Rattle.dmatypes.specs.Page.{levels, pages_end}
 
 -- ---- pieces
 
@@ -82,21 +83,23 @@ module _ (space : Space) (is : IsSpace space) where
 
 module _ (pool : Pool) (domains : ℕ → Option Domain) (d : ℕ) (h : Domain) (parts : PartsFrames pool domains) (low : d < MOST_DOMAINS + 1)
     (there : domains d ≡ Some h) where
-  part : (f : ℕ) → uses (memory pool.words) LEVELS h.root f + held_in h.records f ≤ sum_below (λ e. owned (memory pool.words) (domains e) f)
+  part : (f : ℕ) → uses (memory pool.words) (levels h.width) h.root f + held_in h.records f ≤ sum_below
+      (λ e. owned (memory pool.words) (domains e) f)
       (MOST_DOMAINS + 1)
   part f =
       let one = sum_below_part (λ e. owned (memory pool.words) (domains e) f) (MOST_DOMAINS + 1) d low in
-      let is : owned (memory pool.words) (domains d) f ≡ uses (memory pool.words) LEVELS h.root f + held_in h.records f =
+      let is : owned (memory pool.words) (domains d) f ≡ uses (memory pool.words) (levels h.width) h.root f + held_in h.records f =
       ap (λ (o : Option Domain). owned (memory pool.words) o f) there in
       omega (arith, one, is)
 
   -- a frame is in the domain's tree, in its records or free once at most
-  pub own_once : (f : ℕ) → uses (memory pool.words) LEVELS h.root f + held_in h.records f + occurs f pool.free ≤ 1
+  pub own_once : (f : ℕ) → uses (memory pool.words) (levels h.width) h.root f + held_in h.records f + occurs f pool.free ≤ 1
   own_once f =
       ⊎_elim (λ (less : f < pool.frames). omega (arith, parts.once f less, part f))
       (λ (past : pool.frames ≤ f). omega (arith, parts.past f past, part f)) (cases_lt f pool.frames)
 
-  pub own_within : (f : ℕ) → pool.frames ≤ f → uses (memory pool.words) LEVELS h.root f + held_in h.records f + occurs f pool.free ≡ 0
+  pub own_within : (f : ℕ) → pool.frames ≤ f → uses (memory pool.words) (levels h.width)
+      h.root f + held_in h.records f + occurs f pool.free ≡ 0
   own_within f past = omega (arith, parts.past f past, part f)
 
 -- ---- records that can go
@@ -213,7 +216,7 @@ last_released pool pool1 space space1 rest r are went =
 
 -- ---- what was cut just now
 
-pub cut_freeable : (pool pool1 : Pool) (h : Domain) (r : Record) → IsTree pool LEVELS h.root → UnmapsAlone pool h r pool1
+pub cut_freeable : (pool pool1 : Pool) (h : Domain) (r : Record) → IsTree pool (levels h.width) h.root → UnmapsAlone pool h r pool1
     → MayRetire h.space.pieces r.range → IsFreeable pool1 h.space r
 cut_freeable pool pool1 h r tree cuts may = record {
   live = may;
@@ -226,7 +229,7 @@ cut_freeable pool pool1 h r tree cuts may = record {
 }
 
 -- and the tree states none of its pages
-pub cut_cleared : (pool pool1 : Pool) (h : Domain) (r : Record) → UnmapsAlone pool h r pool1 → IsCleared pool1 h.root r.range
+pub cut_cleared : (pool pool1 : Pool) (h : Domain) (r : Record) → UnmapsAlone pool h r pool1 → IsCleared pool1 h.width h.root r.range
 cut_cleared pool pool1 h r cuts p inside = ap (stated p) (cuts.unmaps.gone p inside.0 inside.1)
 
 -- what a strict unmap does is what retiring and releasing does
@@ -261,12 +264,13 @@ ended_at_once pool pool1 pool2 h space r range same may cuts freed = (
 
 -- ---- pages that can be unmapped
 
-can_cut_by : (pool : Pool) (h : Domain) (v : world.Domain) → IsTree pool LEVELS h.root → Mirrors pool.words h v → CanCut pool h
+can_cut_by : (pool : Pool) (h : Domain) (v : world.Domain) → IsTree pool (levels h.width) h.root → Mirrors pool.words h v → CanCut pool h
 can_cut_by pool h v tree mirrors = record {
   tree = tree;
   there =
       λ p live.
-      let page = is_page h.space p Live mirrors.pieces.is_space live in rw (mirrors.tree p page.1) ((mirrors.pieces.live p).0 live);
+      let page = is_page h.space v p Live mirrors.pieces live in
+      rw (mirrors.tree p (subst (λ n. p < pages_end n) (sym mirrors.ids.width) page.1)) ((mirrors.pieces.live p).0 live);
 }
 
 -- of each domain of a state of some world
@@ -283,8 +287,8 @@ pub can_cut_emptied : (m : State) (d : ℕ) (h : Domain) (pool1 : Pool) (space1 
 can_cut_emptied m d h pool1 space1 (w, q) many there all =
     let v = both_there m.pool.words (domain_at m.domains d) (w.domains d) h (q.domains d) there in
     let low : d < MOST_DOMAINS + 1 = domain_low m.domains d h many there in
-    let used : (f : ℕ) → uses (memory pool1.words) LEVELS h.root f ≡ uses (memory m.pool.words) LEVELS h.root f =
-    (λ f. ap (λ ws. uses (memory ws) LEVELS h.root f) all.words) in
+    let used : (f : ℕ) → uses (memory pool1.words) (levels h.width) h.root f ≡ uses (memory m.pool.words) (levels h.width) h.root f =
+    (λ f. ap (λ ws. uses (memory ws) (levels h.width) h.root f) all.words) in
     can_cut_by pool1 (domain_after h space1 []) (flushed v.0) (record {
       once = λ f. omega (arith, used f, all.free f, own_once m.pool (domain_at m.domains) d h q.frames low there f);
       within =
@@ -307,12 +311,12 @@ can_unmap m d h of_world many there = record {
 }
 
 -- where the frames that a split takes were free before that, they are still
-pub split_room : (pool pool1 : Pool) (space space1 : Space) (records : List Record) (root : ℕ) (range : Range)
-    → ReleasesAll pool space records pool1 space1 → leaves_split pool root range ≤ length pool.free
-    → leaves_split pool1 root range ≤ length pool1.free
-split_room pool pool1 space space1 records root range all room =
-    let same : leaves_split pool1 root range ≡ leaves_split pool root range =
-    ap (λ ws. leaves_splitting (memory ws) LEVELS root range.first (range.first + range.pages)) all.words in
+pub split_room : (pool pool1 : Pool) (space space1 : Space) (records : List Record) (width : Width) (root : ℕ) (range : Range)
+    → ReleasesAll pool space records pool1 space1 → leaves_split pool width root range ≤ length pool.free
+    → leaves_split pool1 width root range ≤ length pool1.free
+split_room pool pool1 space space1 records width root range all room =
+    let same : leaves_split pool1 width root range ≡ leaves_split pool width root range =
+    ap (λ ws. leaves_splitting (memory ws) (levels width) root range.first (range.first + range.pages)) all.words in
     omega (arith, same, room, all.more)
 
 -- ---- the records one after the other, from the last one on

@@ -31,7 +31,7 @@ use Rattle.engine.proofs.lists.Membership.{in_either, in_last, in_left, in_mappe
 use Rattle.engine.proofs.unmaps.DomainAfter.{domain_after, held-last, mirrors_of}
 use Rattle.engine.proofs.unmaps.Pages.{not_within, pieces_flushed}
 use Rattle.dmatypes.specs.declared.limits.TheConstants.{MOST_DOMAINS}
-use Rattle.dmatypes.specs.declared.width.TheConstants.{LEVELS}
+use Rattle.dmatypes.specs.Page.{levels}
 
 -- ---- one record more
 
@@ -137,8 +137,8 @@ matching ks rs same k inside =
 pub mirrors_flushed : (pool pool' : Pool) (space' : Space) (h : Domain) (v : world.Domain) → Mirrors pool.words h v
     → ReleasesAll pool h.space h.records pool' space' → Mirrors pool'.words (domain_after h space' []) (flushed v)
 mirrors_flushed pool pool' space' h v mirrors all = record {
-  ids = record { mode = mirrors.ids.mode; begun = mirrors.ids.begun; records = refl };
-  tree = λ p low. ap (λ ws. states (memory ws) LEVELS h.root p) all.words ∙ mirrors.tree p low;
+  ids = record { mode = mirrors.ids.mode; begun = mirrors.ids.begun; width = mirrors.ids.width; records = refl };
+  tree = λ p low. ap (λ ws. states (memory ws) (levels h.width) h.root p) all.words ∙ mirrors.tree p low;
   pieces = pieces_flushed h.space space' v mirrors.pieces all.is_space all.last
       (λ p some.
       let k = matched h.records v.retired mirrors.ids.records some.0 some.1 in
@@ -158,21 +158,23 @@ dropped_table d i same left = grind (arith, nat_tests)
 flush_changes : (m t : State) (w : World) (i : ℕ) (h : Domain) (v : world.Domain) (space : Space) → Quarantine m w
     → length m.domains ≡ MOST_DOMAINS
     → i < length m.domains → domain_at m.domains (i + 1) ≡ Some h → Mirrors m.pool.words h v
-    → Purges (IotlbDomain (i + 1)) m.iommu.unit.caches t.iommu.unit.caches → ReleasesAll m.pool h.space h.records t.pool space
+    → Purges (IotlbDomain (i + 1)) m.iommu.unit.caches t.iommu.unit.caches → t.iommu.unit.caching ≡ m.iommu.unit.caching
+    → ReleasesAll m.pool h.space h.records t.pool space
     → t.domains ≡ slice_set m.domains i (Some (domain_after h space [])) → t.iommu.contexts ≡ m.iommu.contexts → t.tickets ≡ m.tickets
     → ChangesDomain m t (i + 1) h (domain_after h space []) v (flushed v)
-flush_changes m t w i h v space q many less there mirrors purges all domains row tickets = record {
+flush_changes m t w i h v space q many less there mirrors purges mode all domains row tickets = record {
   domains = λ e. ap (λ hs. domain_at hs e) domains ∙ domain_set m.domains i (Some (domain_after h space [])) less e;
   row = row;
   tickets = tickets;
   root = refl;
+  width = refl;
   frames = all.frames;
   mirrors = mirrors_flushed m.pool t.pool space h v mirrors all;
-  others = λ e k ne at. same_tree m.pool.words t.pool.words k.root all.words;
+  others = λ e k ne at. same_tree m.pool.words t.pool.words k.width k.root all.words;
   account =
       λ f.
-      let used : uses (memory t.pool.words) LEVELS h.root f ≡ uses (memory m.pool.words) LEVELS h.root f =
-      ap (λ ws. uses (memory ws) LEVELS h.root f) all.words in
+      let used : uses (memory t.pool.words) (levels h.width) h.root f ≡ uses (memory m.pool.words) (levels h.width) h.root f =
+      ap (λ ws. uses (memory ws) (levels h.width) h.root f) all.words in
       omega (arith, used, all.free f, held-nil f);
   zeroed = all.zeroed;
   held = λ e k at f more. subst (λ ws. IsZeroed ws f) (sym all.words) (q.frames.held e f k at more);
@@ -180,16 +182,19 @@ flush_changes m t w i h v space q many less there mirrors purges all domains row
   leaves = λ l inside. let left = purges.leaves l inside in (left.0, λ same. absurd (dropped_leaf (i + 1) l same left.1));
   tables = λ k inside. let left = purges.tables k inside in (left.0, λ same. absurd (dropped_table (i + 1) k same left.1));
   contexts = λ k inside. (purges.contexts k inside).0;
+  faults = record { mode = mode; left = λ f inside. (purges.faults f inside).0 };
+  live = λ p none. none;
 }
 
 -- a flush: the descriptor was sent and done before the records came free
 pub domain_flushed : (m t : State) (w : World) (i n : ℕ) (h : Domain) (v : world.Domain) (space : Space) → Quarantine m w
     → length m.domains ≡ MOST_DOMAINS → i < length m.domains → domain_at m.domains (i + 1) ≡ Some h → w.domains (i + 1) ≡ Some v
     → t.iommu.unit.caches ≡ left_by_all (m.iommu.ring.waiting ++ IotlbDomain (i + 1) ∷ Wait n ∷ []) m.iommu.unit.caches
-    → ReleasesAll m.pool h.space h.records t.pool space → t.domains ≡ slice_set m.domains i (Some (domain_after h space []))
+    → t.iommu.unit.caching ≡ m.iommu.unit.caching → ReleasesAll m.pool h.space h.records t.pool space
+    → t.domains ≡ slice_set m.domains i (Some (domain_after h space []))
     → t.iommu.contexts ≡ m.iommu.contexts → t.tickets ≡ m.tickets
     → Quarantine t (record w { domains = put (i + 1) (Some (flushed v)) w.domains })
-domain_flushed m t w i n h v space q many less there here caches all domains row tickets =
+domain_flushed m t w i n h v space q many less there here caches mode all domains row tickets =
     changes_domain m t w (i + 1) h (domain_after h space []) v (flushed v) q many there here
     (flush_changes m t w i h v space q many less there (mirrors_of m w (i + 1) h v q there here)
-    (purges_sent m.iommu.ring.waiting (IotlbDomain (i + 1)) n m.iommu.unit.caches t.iommu.unit.caches caches) all domains row tickets)
+    (purges_sent m.iommu.ring.waiting (IotlbDomain (i + 1)) n m.iommu.unit.caches t.iommu.unit.caches caches) mode all domains row tickets)

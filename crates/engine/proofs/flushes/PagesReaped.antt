@@ -50,7 +50,7 @@ module _ (space space' : Space) (v : world.Domain) (test : Retired → Bool) (pa
     free = λ p. elim (has_or_not gone p) [
       | inl some ↦ (
         λ e. (
-          is_page space p pages.Retired parts.is_space (was_retired p some),
+          is_page space v p pages.Retired parts (was_retired p some),
           record {
             not_live = not_some (v.live p) (not_live p some);
             not_retired = λ r i in_record. not_left p some (r, i, in_record);

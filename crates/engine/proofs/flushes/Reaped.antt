@@ -30,8 +30,9 @@ use Rattle.engine.proofs.lists.Membership.{in_left}
 use Rattle.engine.proofs.tickets.Closed.{last_done_is}
 use Rattle.engine.proofs.tickets.Stay.{follow_within, in_parts}
 use Rattle.engine.proofs.unmaps.DomainAfter.{domain_after, mirrors_of}
+use Rattle.engine.proofs.caches.Faults.{all_left}
 use Rattle.dmatypes.specs.declared.limits.TheConstants.{MOST_DOMAINS}
-use Rattle.dmatypes.specs.declared.width.TheConstants.{LEVELS}
+use Rattle.dmatypes.specs.Page.{levels}
 
 -- ---- what a done ticket's flush has forgotten
 
@@ -90,9 +91,10 @@ module _ (pool pool' : Pool) (space' : Space) (h : Domain) (v : world.Domain) (n
     ids = record {
       mode = mirrors.ids.mode;
       begun = mirrors.ids.begun;
+      width = mirrors.ids.width;
       records = marks_left number h.records v.retired mirrors.ids.records;
     };
-    tree = λ p low. ap (λ ws. states (memory ws) LEVELS h.root p) all.words ∙ mirrors.tree p low;
+    tree = λ p low. ap (λ ws. states (memory ws) (levels h.width) h.root p) all.words ∙ mirrors.tree p low;
     pieces = pieces_reaped h.space space' v (is_before number) mirrors.pieces all.is_space all.last
         (λ p some. let k = gone_here some.0 some.1 in all.inside k.0 k.1 p (subst (λ (x : Range). IsWithin x p) k.2 some.2))
         (λ p none. all.outside p (λ k goes within.
@@ -124,7 +126,7 @@ module _ (words words' : List ℕ) (space' : Space) (h : Domain) (v : world.Doma
       ]
     ];
     entry = λ strict.
-        subst (λ ws. IsLeafAt (memory ws) LEVELS h.root l.first l.pages l.frame l.rights) (sym same) (lawful.entry strict);
+        subst (λ ws. IsLeafAt (memory ws) (levels h.width) h.root l.first l.pages l.frame l.rights) (sym same) (lawful.entry strict);
   }
 
   table_reaped : (i : CachedNonLeaf) → IsIn i c.non_leaves → i.domain ≡ d → IsLawfulTable words i h v
@@ -132,7 +134,7 @@ module _ (words words' : List ℕ) (space' : Space) (h : Domain) (v : world.Doma
   table_reaped i inside own lawful = record {
     span = lawful.span;
     named = elim lawful.named [
-      | inl at ↦ inl (subst (λ ws. IsTableAt (memory ws) LEVELS h.root i.first i.level i.frame) (sym same) at)
+      | inl at ↦ inl (subst (λ ws. IsTableAt (memory ws) (levels h.width) h.root i.first i.level i.frame) (sym same) at)
       | inr held ↦ elim (in_part (was_before number) held.0 h.records held.1) [
         | inl goes ↦ absurd (omega (arith, held.2, (forgotten held.0 goes).tables i inside own))
         | inr stays ↦ inr (held.0, stays, held.2, subst (λ ws. IsZeroed ws i.frame) (sym same) held.3, held.4, held.5)
@@ -171,13 +173,14 @@ module _ (m : State) (w : World) (q : Quarantine m w) (many : length m.domains �
     row = refl;
     tickets = refl;
     root = refl;
+    width = refl;
     frames = all.frames;
     mirrors = mirrors_reaped m.pool pool space h v number mirrors all;
-    others = λ e k ne at. same_tree m.pool.words pool.words k.root all.words;
+    others = λ e k ne at. same_tree m.pool.words pool.words k.width k.root all.words;
     account =
         λ f.
-        let used : uses (memory pool.words) LEVELS h.root f ≡ uses (memory m.pool.words) LEVELS h.root f =
-        ap (λ ws. uses (memory ws) LEVELS h.root f) all.words in
+        let used : uses (memory pool.words) (levels h.width) h.root f ≡ uses (memory m.pool.words) (levels h.width) h.root f =
+        ap (λ ws. uses (memory ws) (levels h.width) h.root f) all.words in
         let parts = held_parts (was_before number) h.records f in
         omega (arith, used, all.free f, parts);
     zeroed = all.zeroed;
@@ -194,6 +197,8 @@ module _ (m : State) (w : World) (q : Quarantine m w) (many : length m.domains �
       table_reaped m.pool.words pool.words space h v number (i + 1) mirrors all.words m.iommu.unit.caches clear k inside,
     );
     contexts = λ k inside. inside;
+    faults = all_left m.iommu.unit m.iommu.unit refl;
+    live = λ p none. none;
   }
 
   pub quarantine_unclosed : Quarantine unclosed (record w { domains = put (i + 1) (Some (reaped number v)) w.domains })
@@ -227,6 +232,7 @@ quarantine_closed m w domain number q = record {
   table_frames = q.table_frames;
   domains = q.domains;
   caches = record { leaves = q.caches.leaves; tables = q.caches.tables };
+  faults = q.faults;
   contexts = record { devices = q.contexts.devices; roots = q.contexts.roots; cached = q.contexts.cached };
   frames = q.frames;
   tickets = ap (others_there domain number) q.tickets ∙ same_others domain number m.tickets;

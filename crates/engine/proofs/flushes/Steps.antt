@@ -3,7 +3,6 @@ use Rattle.std.proofs.Common.{◌≡◌, ℕ, ◌+◌, ◌-◌, ◌<◌, inl, in
 use Rattle.std.proofs.Common.{refl, sym, ap, subst, ◌∙◌, arith, slice_get, slice_set, IsNone}
 use Rattle.std.proofs.lemmas.List.{length-set}
 use Rattle.std.proofs.lemmas.Option.{same_Some}
-use Rattle.dmatypes.specs.declared.width.Width.TheVariants.{W39}
 use Rattle.vtdbits.specs.declared.context.ContextEntry.{ContextEntry}
 use Rattle.vtdbits.specs.declared.context.ContextEntry.TheVariants.{Absent, Present}
 use Rattle.dmatypes.specs.declared.call.Call.{Call}
@@ -68,9 +67,9 @@ drop_attached m t domain (w, q) is (v, to) = by_entry (slice_get m.iommu.context
     by_entry : (o : Option ContextEntry) → slice_get m.iommu.contexts v ≡ o → Does m (calls.Drop domain) (Refused refusals.Busy) t
     by_entry None at = absurd (let no : None ≡ Some domain = sym (ap attached at) ∙ to in cc)
     by_entry (Some Absent) at = absurd (let no : None ≡ Some domain = sym (ap attached at) ∙ to in cc)
-    by_entry (Some (Present root W39 named)) at =
+    by_entry (Some (Present root width named)) at =
         let same : named ≡ domain = same_Some named domain (sym (ap attached at) ∙ to) in
-        let h = q.contexts.roots v root named at in
+        let h = q.contexts.roots v root named width at in
         drop_busy m t domain h.0 is (ap (domain_at m.domains) (sym same) ∙ h.1) (v, to)
 
 -- a ticket of the domain is open
@@ -142,7 +141,8 @@ module _ (m : State) (domain i : ℕ) (h : Domain) (pool : Pool) (x : Iommu) (wh
             rw v.1
                 (at_id after_flush w (Some (flushed v.0))
                 (domain_flushed m after_flush w i (status_of x.sent) h v.0 new.space q whole.places less at_next
-                there' caches flushes.releases (ap (λ (d : Domain). slice_set m.domains i (Some d)) flushes.same)
+                there' caches flushes.invalidates.caching flushes.releases
+                (ap (λ (d : Domain). slice_set m.domains i (Some d)) flushes.same)
                 flushes.invalidates.contexts refl)),
           );
       exact = tt;

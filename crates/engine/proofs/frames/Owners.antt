@@ -11,7 +11,7 @@ use Rattle.engine.specs.Domains.{Domain, held_in}
 use Rattle.engine.specs.Quarantine.{PartsFrames, owned}
 use Rattle.dmatypes.proofs.histories.Maps.{put_same, put_other, same_or_not}
 use Rattle.dmatypes.specs.declared.limits.TheConstants.{MOST_DOMAINS}
-use Rattle.dmatypes.specs.declared.width.TheConstants.{LEVELS}
+use Rattle.dmatypes.specs.Page.{levels}
 
 at_most_one : (pool : Pool) (domains : ℕ → Option Domain) → PartsFrames pool domains → (f : ℕ)
     → sum_below (λ d. owned (memory pool.words) (domains d) f) (MOST_DOMAINS + 1) + occurs f pool.free ≤ 1
@@ -20,13 +20,13 @@ at_most_one pool domains parts f =
     (cases_lt f pool.frames)
 
 owned_by : (pool : Pool) (domains : ℕ → Option Domain) (d : ℕ) (h : Domain) (f : ℕ) → domains d ≡ Some h
-    → owned (memory pool.words) (domains d) f ≡ uses (memory pool.words) LEVELS h.root f + held_in h.records f
+    → owned (memory pool.words) (domains d) f ≡ uses (memory pool.words) (levels h.width) h.root f + held_in h.records f
 owned_by pool domains d h f there = ap (λ (o : Option Domain). owned (memory pool.words) o f) there
 
 -- a domain's root is one of a tree of the pool
 pub tree_of : (pool : Pool) (domains : ℕ → Option Domain) (d : ℕ) (h : Domain) → PartsFrames pool domains → d < MOST_DOMAINS + 1
     → domains d ≡ Some h
-    → IsTree pool LEVELS h.root
+    → IsTree pool (levels h.width) h.root
 tree_of pool domains d h parts low there = record {
   once = λ f. omega (arith, at_most_one pool domains parts f, part f, owned_by pool domains d h f there);
   within = λ f past. omega (arith, parts.past f past, part f, owned_by pool domains d h f there);
@@ -37,7 +37,7 @@ tree_of pool domains d h parts low there = record {
 -- the trees of two domains are apart
 pub apart_of : (pool : Pool) (domains : ℕ → Option Domain) (d e : ℕ) (h k : Domain) → PartsFrames pool domains → d < MOST_DOMAINS + 1
     → e < MOST_DOMAINS + 1 → e ≢ d
-    → domains d ≡ Some h → domains e ≡ Some k → IsApart pool LEVELS h.root LEVELS k.root
+    → domains d ≡ Some h → domains e ≡ Some k → IsApart pool (levels h.width) h.root (levels k.width) k.root
 apart_of pool domains d e h k parts low less ne there here f some =
     let two = sum_below_two (λ x. owned (memory pool.words) (domains x) f) (MOST_DOMAINS + 1) d e low less ne in
     omega (arith, two, at_most_one pool domains parts f, owned_by pool domains d h f there, owned_by pool domains e k f here)
@@ -46,11 +46,11 @@ apart_of pool domains d e h k parts low less ne there here f some =
 pub held_out : (pool : Pool) (domains : ℕ → Option Domain) (d e : ℕ) (h k : Domain) → PartsFrames pool domains → d < MOST_DOMAINS + 1
     → e < MOST_DOMAINS + 1
     → domains d ≡ Some h → domains e ≡ Some k → (f : ℕ) → 0 < held_in k.records f
-    → uses (memory pool.words) LEVELS h.root f + occurs f pool.free ≡ 0
+    → uses (memory pool.words) (levels h.width) h.root f + occurs f pool.free ≡ 0
 held_out pool domains d e h k parts low less there here f some = elim (same_or_not e d) [
   | inl same ↦
-      let one : uses (memory pool.words) LEVELS k.root f ≡ uses (memory pool.words) LEVELS h.root f =
-      ap (λ (x : Domain). uses (memory pool.words) LEVELS x.root f) (same_Some k h (sym here ∙ ap domains same ∙ there)) in
+      let one : uses (memory pool.words) (levels k.width) k.root f ≡ uses (memory pool.words) (levels h.width) h.root f =
+      ap (λ (x : Domain). uses (memory pool.words) (levels x.width) x.root f) (same_Some k h (sym here ∙ ap domains same ∙ there)) in
       let part = sum_below_part (λ x. owned (memory pool.words) (domains x) f) (MOST_DOMAINS + 1) e less in
       omega (arith, one, part, at_most_one pool domains parts f, owned_by pool domains e k f here)
   | inr ne ↦
@@ -61,7 +61,7 @@ held_out pool domains d e h k parts low less there here f some = elim (same_or_n
 -- held frames stay zeroed where only frames of one tree and free ones change
 pub held_zeroed : (old new : Pool) (domains : ℕ → Option Domain) (d e : ℕ) (h k : Domain) (cut : List ℕ) → PartsFrames old domains
     → d < MOST_DOMAINS + 1
-    → e < MOST_DOMAINS + 1 → domains d ≡ Some h → domains e ≡ Some k → TakesAndGivesFrames old new LEVELS h.root cut → (f : ℕ)
+    → e < MOST_DOMAINS + 1 → domains d ≡ Some h → domains e ≡ Some k → TakesAndGivesFrames old new (levels h.width) h.root cut → (f : ℕ)
     → 0 < held_in k.records f
     → IsZeroed new.words f
 held_zeroed old new domains d e h k cut parts low less there here moves f some i small =

@@ -1,6 +1,6 @@
 -- A map: how it is refused, and what it changes.
 use Rattle.std.proofs.Common.{map, ◌≡◌, ◌≢◌, ℕ, ◌+◌, ◌-◌, ◌*◌, ◌/◌, ◌%◌, ◌^◌, ◌<◌, ◌≤◌, ◌⊎◌, inl, inr, List, [], length, Option, Some, None}
-use Rattle.std.proofs.Common.{Result, Ok, Err, refl, sym, ap, subst, ◌∙◌, arith, slice_get, slice_set}
+use Rattle.std.proofs.Common.{Result, Ok, Err, refl, sym, ap, ap₂, subst, ◌∙◌, arith, slice_get, slice_set}
 use Rattle.std.proofs.lemmas.Option.{none-some, same_Some}
 use Rattle.dmatypes.specs.declared.call.Call.TheVariants as calls
 use Rattle.dmatypes.specs.declared.reply.Reply.TheVariants.{Mapped, Refused}
@@ -22,16 +22,21 @@ use Rattle.dmatypes.specs.Rights.{bits_of}
 use Rattle.tables.specs.Pool.{Pool, memory, occurs, IsZeroed}
 use Rattle.tables.specs.Segments.{one_segment}
 use Rattle.tables.specs.Tree.{stated, states}
-use Rattle.tables.proofs.pools.Kept.{apart_stays, map_leaves, map_tables, same_root, span-levels}
+use Rattle.tables.proofs.pools.Kept.{apart_stays, map_leaves, map_tables, same_root, span-levels, some_levels}
 use Rattle.engine.specs.Domains.{Domain, domain_at, held_in}
 use Rattle.engine.specs.Judged.{AreMappable, AreOwned, IsJudged, Wants}
 use Rattle.engine.specs.State.{State, Exact, Becomes, mapped_reply}
 use Rattle.engine.specs.Placing.{IsCrowded, IsShort, IsUnplaced, Placement, Places}
-use Rattle.engine.specs.Quarantine.{AreLawful, Mirrors, PartsPages, Quarantine, owned, ticket_there}
+use Rattle.engine.specs.Quarantine.{Mirrors, PartsPages, Quarantine, owned, ticket_there}
 use Rattle.engine.specs.Steps.{Does}
 use Rattle.engine.proofs.frames.Owners.{apart_of, frames_move, held_zeroed, tree_of}
 use Rattle.engine.proofs.frames.Held.{held_stays}
-use Rattle.engine.proofs.caches.Lawful.{KeepsLawful, keeps_same, stay_lawful}
+use Rattle.engine.specs.declared.iommu.Iommu.{Iommu}
+use Rattle.engine.specs.Ending.{SendsForMap}
+use Rattle.engine.proofs.caches.Faults.{faults_mapped}
+use Rattle.engine.proofs.caches.Lawful.{KeepsLawful, fewer_lawful, keeps_same, stay_lawful}
+use Rattle.engine.proofs.caches.MapSent.{map_fewer, map_row}
+use Rattle.engine.proofs.caches.Purged.{IsFewer}
 use Rattle.dmatypes.proofs.histories.Maps.{put_same, put_other, same_or_not}
 use Rattle.engine.proofs.lists.Places.{is_none, not_none, set_again}
 use Rattle.engine.proofs.domains.Pieces.{fit_of, free_pages, mapped_inside, mapped_outside, pieces_mapped}
@@ -40,7 +45,7 @@ use Rattle.engine.proofs.states.Refused.{counted, refuses}
 use Rattle.engine.proofs.maps.Segments.{some_page}
 use Rattle.dmatypes.specs.declared.limits.TheConstants.{MOST_DOMAINS}
 use Rattle.dmatypes.specs.declared.page.TheConstants.{PAGE_BYTES}
-use Rattle.dmatypes.specs.declared.width.TheConstants.{LEVELS, PAGES_END}
+use Rattle.dmatypes.specs.Page.{levels, pages_end}
 
 pub map_no_domain : (m t : State) (domain order rights : ℕ) (segments : ArrayVec Segment) → t ≡ counted m
     → domain_at m.domains domain ≡ None → Does m (calls.MapList domain order rights segments) (Refused refusals.NoDomain) t
@@ -114,7 +119,7 @@ map_no_range m t domain order rights segments h is there good high none =
 
 pub map_too_many : (m t : State) (domain order rights : ℕ) (segments : ArrayVec Segment) (h : Domain) → t ≡ counted m
     → domain_at m.domains domain ≡ Some h → (IsBadMap segments.items order rights → ⊥) → (AreOwned m.pool.frames segments.items → ⊥)
-    → IsCrowded h.space.pieces (total_pages segments.items) order
+    → IsCrowded h (total_pages segments.items) order
     → Does m (calls.MapList domain order rights segments) (Refused refusals.TooManyPieces) t
 unfolding Exact IsStep Stands
 map_too_many m t domain order rights segments h is there good high many =
@@ -165,7 +170,7 @@ placement segments order rights first = record { segments = segments; order = or
 
 -- the first page of a map is a page
 first_low : (space space' : Space) (v : world.Domain) (first pages : ℕ) → PartsPages space v
-    → Takes space space' (record { first = first; pages = pages }) → 1 ≤ pages → first < PAGES_END
+    → Takes space space' (record { first = first; pages = pages }) → 1 ≤ pages → first < pages_end v.width
 first_low space space' v first pages parts takes some = ((parts.free first).0 (takes.free first (omega arith, omega (arith, some)))).0.1
 
 -- the domain after the map is the one of the world after it
@@ -173,18 +178,20 @@ maps_mirror : (pool pool' : Pool) (h h1 : Domain) (v : world.Domain) (segments :
     → Mirrors pool.words h v → Places pool h (placement segments order rights first) pool' h1 → 1 ≤ total_pages segments
     → Mirrors pool'.words (domain_mapped h h1.space) (mapped segments first rights v)
 maps_mirror pool pool' h h1 v segments first order rights mirrors places some = record {
-  ids = record { mode = mirrors.ids.mode; begun = mirrors.ids.begun; records = mirrors.ids.records };
+  ids = record { mode = mirrors.ids.mode; begun = mirrors.ids.begun; width = mirrors.ids.width; records = mirrors.ids.records };
   tree = λ p low. elim (within_or_not (record { first = first; pages = total_pages segments }) p) [
     | inl inside ↦ places.maps.mapped p inside.0 inside.1 ∙ sym (mapped_inside v segments first rights p inside)
     | inr past ↦
         ap (stated p)
-        (places.maps.elsewhere p (same_root LEVELS p first (omega (arith, low, span-levels)) (omega (arith, start, span-levels))) past)
+        (places.maps.elsewhere p (same_root (levels h.width) p first (omega (arith, low, span-levels h.width))
+        (omega (arith, start, span-levels h.width))) past)
         ∙ mirrors.tree p low ∙ sym (mapped_outside v segments first rights p past)
   ];
   pieces = pieces_mapped h.space h1.space v segments first rights mirrors.pieces places.takes places.is_space;
 } where
-  start : first < PAGES_END
-  start = first_low h.space h1.space v first (total_pages segments) mirrors.pieces places.takes some
+  start : first < pages_end h.width
+  start = subst (λ n. first < pages_end n) (sym mirrors.ids.width)
+      (first_low h.space h1.space v first (total_pages segments) mirrors.pieces places.takes some)
 
 -- what is cached of the domain stays lawful
 maps_lawful : (pool pool' : Pool) (h h1 : Domain) (v : world.Domain) (segments : List Segment) (first order rights : ℕ)
@@ -196,25 +203,29 @@ maps_lawful pool pool' h h1 v segments first order rights mirrors places some ze
     stated = λ p low high. elim (lawful.stated p low high) [ inl live ↦ inl (still p (stated_by p l) live) | inr retired ↦ inr retired ];
     entry =
         λ strict.
-        map_leaves pool pool' LEVELS h.root first (first + total_pages segments) (placed segments first rights) (omega arith)
-        (omega (arith, start, span-levels)) absent places.maps l.first l.pages l.frame l.rights (lawful.entry strict);
+        map_leaves pool pool' (levels h.width) h.root first (first + total_pages segments) (placed segments first rights)
+        (omega (arith, some_levels h.width)) (omega (arith, start, span-levels h.width))
+        absent places.maps l.first l.pages l.frame l.rights (lawful.entry strict);
   };
   table = λ i lawful. record {
     span = lawful.span;
     named = elim lawful.named [
       | inl at ↦
-          inl (map_tables pool pool' LEVELS h.root first (first + total_pages segments) (placed segments first rights) places.maps i.first
+          inl (map_tables pool pool' (levels h.width) h.root first (first + total_pages segments) (placed segments first rights)
+          places.maps i.first
           i.level i.frame at)
       | inr has ↦ inr (held_stays pool.words pool'.words h.records zeroed i.first i.pages i.frame has)
     ];
   };
 } where
-  start : first < PAGES_END
-  start = first_low h.space h1.space v first (total_pages segments) mirrors.pieces places.takes some
+  start : first < pages_end h.width
+  start = subst (λ n. first < pages_end n) (sym mirrors.ids.width)
+      (first_low h.space h1.space v first (total_pages segments) mirrors.pieces places.takes some)
 
   -- a page of the range was free, and so absent
-  absent : (p : ℕ) → first ≤ p → p < first + total_pages segments → states (memory pool.words) LEVELS h.root p ≡ None
-  absent p low high = let free = (mirrors.pieces.free p).0 (places.takes.free p (low, high)) in mirrors.tree p free.0.1 ∙ free.1.not_live
+  absent : (p : ℕ) → first ≤ p → p < first + total_pages segments → states (memory pool.words) (levels h.width) h.root p ≡ None
+  absent p low high = let free = (mirrors.pieces.free p).0 (places.takes.free p (low, high)) in mirrors.tree p
+      (subst (λ n. p < pages_end n) (sym mirrors.ids.width) free.0.1) ∙ free.1.not_live
 
   still : (p : ℕ) (t : Target) → v.live p ≡ Some t → (mapped segments first rights v).live p ≡ Some t
   still p t live = elim (within_or_not (record { first = first; pages = total_pages segments }) p) [
@@ -225,11 +236,12 @@ maps_lawful pool pool' h h1 v segments first order rights mirrors places some ze
 -- the other trees are as they were
 others_stay : (m t : State) (w : World) (d : ℕ) (h h1 : Domain) (segments : List Segment) (first order rights : ℕ) → Quarantine m w
     → length m.domains ≡ MOST_DOMAINS → domain_at m.domains d ≡ Some h → Places m.pool h (placement segments order rights first) t.pool h1
-    → (e : ℕ) (k : Domain) → e ≢ d → domain_at m.domains e ≡ Some k → TreeStays m.pool t.pool LEVELS k.root
+    → (e : ℕ) (k : Domain) → e ≢ d → domain_at m.domains e ≡ Some k → TreeStays m.pool t.pool (levels k.width) k.root
 others_stay m t w d h h1 segments first order rights q many there places e k ne here =
     let low : d < MOST_DOMAINS + 1 = domain_low m.domains d h many there in
     let less : e < MOST_DOMAINS + 1 = domain_low m.domains e k many here in
-    apart_stays m.pool t.pool LEVELS h.root LEVELS k.root [] (tree_of m.pool (domain_at m.domains) d h q.frames low there) places.moves
+    apart_stays m.pool t.pool (levels h.width) h.root (levels k.width) k.root []
+    (tree_of m.pool (domain_at m.domains) d h q.frames low there) places.moves
     (tree_of m.pool (domain_at m.domains) e k q.frames less here)
     (apart_of m.pool (domain_at m.domains) d e h k q.frames low less ne there here)
 
@@ -237,36 +249,45 @@ with_map : (m t : State) (w : World) (i : ℕ) (h h1 : Domain) (v : world.Domain
     → Quarantine m w → length m.domains ≡ MOST_DOMAINS → i < length m.domains → domain_at m.domains (i + 1) ≡ Some h
     → w.domains (i + 1) ≡ Some v
     → Mirrors m.pool.words h v → Places m.pool h (placement segments order rights first) t.pool h1 → 1 ≤ total_pages segments
-    → t.domains ≡ slice_set m.domains i (Some (domain_mapped h h1.space)) → t.iommu.contexts ≡ m.iommu.contexts
-    → t.iommu.unit ≡ m.iommu.unit → t.tickets ≡ m.tickets
+    → t.domains ≡ slice_set m.domains i (Some (domain_mapped h h1.space))
+    → SendsForMap m.iommu.unit.caching m.iommu (i + 1) h.root (record { first = first; pages = total_pages segments }) t.iommu
+    → t.tickets ≡ m.tickets
     → Quarantine t (record w { domains = put (i + 1) (Some (mapped segments first rights v)) w.domains })
-with_map m t w i h h1 v segments first order rights q many less there here mirrors places some domains row unit tickets = record {
+with_map m t w i h h1 v segments first order rights q many less there here mirrors places some domains sends tickets = record {
   table_frames = q.table_frames ∙ sym places.moves.frames;
   domains =
       domains_put m t w (i + 1) (domain_mapped h h1.space) (mapped segments first rights v) q domains_are
       (maps_mirror m.pool t.pool h h1 v segments first order rights mirrors places some) (λ e k ne at p. (stays e k ne at).same_leaves p);
   caches =
-      subst (λ u. AreLawful t (record w { domains = put (i + 1) (Some (mapped segments first rights v)) w.domains }) u.caches) (sym unit)
+      fewer_lawful t (record w { domains = put (i + 1) (Some (mapped segments first rights v)) w.domains }) m.iommu.unit.caches
+      t.iommu.unit.caches
       (stay_lawful m t w (record w { domains = put (i + 1) (Some (mapped segments first rights v)) w.domains }) m.iommu.unit.caches
-      q.caches (λ d k u at in_world. by_domain d k u at in_world (same_or_not d (i + 1))));
+      q.caches (λ d k u at in_world. by_domain d k u at in_world (same_or_not d (i + 1)))) fewer.leaves fewer.tables;
+  faults = faults_mapped m.iommu t.iommu w (i + 1) h.root first rights v segments here sends q.faults;
   contexts = record {
     devices = λ x. rw row (q.contexts.devices x);
     roots =
-        λ x root domain at.
+        λ x root domain width at.
         let was =
-        q.contexts.roots x root domain (rw row at at) in
-        let now = kept_root domain was.0 was.1 in (now.0, now.1, now.2 ∙ was.2);
-    cached = λ x inside. rw row (q.contexts.cached x (rw unit at inside));
+        q.contexts.roots x root domain width (rw row at at) in
+        let now = kept_root domain was.0 was.1 in (now.0, now.1, now.2 ∙ was.2, now.3 ∙ was.3);
+    cached = λ x inside. rw row (q.contexts.cached x (fewer.contexts x inside));
   };
   frames =
       frames_move m.pool t.pool (domain_at m.domains) (domain_at t.domains) (i + 1) (Some (domain_mapped h h1.space)) q.frames low
       domains_are places.moves.frames moves stay places.is_pool.zeroed held;
   tickets = q.tickets ∙ ap (map ticket_there) (sym tickets);
 } where
+  row : t.iommu.contexts ≡ m.iommu.contexts
+  row = map_row m.iommu t.iommu (i + 1) h.root (record { first = first; pages = total_pages segments }) m.iommu.unit.caching sends
+
+  fewer : IsFewer m.iommu.unit.caches t.iommu.unit.caches
+  fewer = map_fewer m.iommu t.iommu (i + 1) h.root (record { first = first; pages = total_pages segments }) m.iommu.unit.caching sends
+
   low : i + 1 < MOST_DOMAINS + 1
   low = domain_low m.domains (i + 1) h many there
 
-  stays : (e : ℕ) (k : Domain) → e ≢ i + 1 → domain_at m.domains e ≡ Some k → TreeStays m.pool t.pool LEVELS k.root
+  stays : (e : ℕ) (k : Domain) → e ≢ i + 1 → domain_at m.domains e ≡ Some k → TreeStays m.pool t.pool (levels k.width) k.root
   stays e k ne at = others_stay m t w (i + 1) h h1 segments first order rights q many there places e k ne at
 
   zeroed : (e : ℕ) (k : Domain) → domain_at m.domains e ≡ Some k → (f : ℕ) → 0 < held_in k.records f → IsZeroed t.pool.words f
@@ -286,13 +307,15 @@ with_map m t w i h h1 v segments first order rights q many less there here mirro
   at_other d k ne at = domains_are d ∙ put_other (i + 1) (Some (domain_mapped h h1.space)) (domain_at m.domains) d ne ∙ at
 
   kept_root : (d : ℕ) (k : Domain) → domain_at m.domains d ≡ Some k → (k' : Domain) × (domain_at t.domains d ≡ Some k') × (k'.root ≡ k.root)
+      × (k'.width ≡ k.width)
   kept_root d k at = elim (same_or_not d (i + 1)) [
     | inl same ↦ (
       (domain_mapped h h1.space),
       at_new d same,
       ap (λ (x : Domain). x.root) (same_Some h k (sym there ∙ ap (domain_at m.domains) (sym same) ∙ at)),
+      ap (λ (x : Domain). x.width) (same_Some h k (sym there ∙ ap (domain_at m.domains) (sym same) ∙ at)),
     )
-    | inr ne ↦ (k, at_other d k ne at, refl)
+    | inr ne ↦ (k, at_other d k ne at, refl, refl)
   ]
 
   by_domain : (d : ℕ) (k : Domain) (u : world.Domain) → domain_at m.domains d ≡ Some k → w.domains d ≡ Some u → (d ≡ i + 1) ⊎ (d ≢ i + 1)
@@ -350,10 +373,11 @@ pub maps : (m t : State) (order rights i first : ℕ) (segments : ArrayVec Segme
     → i < length m.domains → domain_at m.domains (i + 1) ≡ Some h → (IsBadMap segments.items order rights → ⊥)
     → (AreOwned m.pool.frames segments.items → ⊥) → AreMappable segments.items
     → Places m.pool h (placement segments.items order rights first) t.pool h1
-    → t ≡ record m { pool = t.pool; domains = slice_set m.domains i (Some h1); calls = m.calls + 1 }
+    → SendsForMap m.iommu.unit.caching m.iommu (i + 1) h.root (record { first = first; pages = total_pages segments.items }) t.iommu
+    → t ≡ record m { pool = t.pool; domains = slice_set m.domains i (Some h1); iommu = t.iommu; calls = m.calls + 1 }
     → Does m (calls.MapList (i + 1) order rights segments) (Mapped (PAGE_BYTES * first)) t
 unfolding Exact Becomes IsStep Stands Answers next
-maps m t order rights i first segments h h1 many less there good high are places is =
+maps m t order rights i first segments h h1 many less there good high are places sends is =
     let fit : IsFit h.space.pieces (total_pages segments.items) (2 ^ order) first = places.taken.lowest.fit in
     let page : PAGE_BYTES * first / PAGE_BYTES ≡ first = omega arith in
     let at_start : PAGE_BYTES * first ≡ PAGE_BYTES * first + 0 = omega arith in
@@ -372,10 +396,10 @@ maps m t order rights i first segments h h1 many less there good high are places
             rw (v.1, page)
                 (with_map m t w i h h1 v.0 segments.items first order rights q many less there v.1 v.2 places (some_page segments.items are)
                 (ap (λ (x : State). x.domains) is ∙ ap (λ (d : Domain). slice_set m.domains i (Some d)) places.same)
-                (ap (λ (x : State). x.iommu.contexts) is) (ap (λ (x : State). x.iommu.unit) is) (ap (λ (x : State). x.tickets) is)),
+                sends (ap (λ (x : State). x.tickets) is)),
           );
       exact = rw (there, page) (places.taken, omega (arith, places.count));
-      becomes = let place : i + 1 - 1 ≡ i = omega arith in (h, h1, there, rw page places, rw place is);
+      becomes = let place : i + 1 - 1 ≡ i = omega arith in (h, h1, there, rw page places, rw page sends, rw place is);
       calls = ap (λ (x : State). x.calls) is;
     }
 
@@ -400,34 +424,42 @@ map_unplaced m t domain order rights segments h refusals.NoFrames is there good 
     map_short m t domain order rights segments h is there good high short
 map_unplaced m t domain order rights segments h _ is there good high other = absurd other
 
-pub map_refused : (m t : State) (domain order rights i : ℕ) (segments : ArrayVec Segment) (h h1 : Domain) (pool : Pool) (wanted : Wanted)
-    (refusal : Refusal) → slice_get m.domains i ≡ Some (Some h) → domain_at m.domains domain ≡ Some h
+pub map_refused : (m t : State) (domain order rights i : ℕ) (segments : ArrayVec Segment) (h h1 : Domain) (pool : Pool) (y : Iommu)
+    (wanted : Wanted) (refusal : Refusal) → slice_get m.domains i ≡ Some (Some h) → domain_at m.domains domain ≡ Some h
     → (IsBadMap segments.items order rights → ⊥) → (AreOwned m.pool.frames segments.items → ⊥) → Wants wanted segments.items order rights
-    → IsUnplaced m.pool h segments.items wanted.order refusal → pool ≡ m.pool → h1 ≡ h
-    → t ≡ record m { pool = pool; domains = slice_set m.domains i (Some h1); calls = m.calls + 1 }
+    → IsUnplaced m.pool h segments.items wanted.order refusal → pool ≡ m.pool → h1 ≡ h → y ≡ m.iommu
+    → t ≡ record m { pool = pool; domains = slice_set m.domains i (Some h1); iommu = y; calls = m.calls + 1 }
     → Does m (calls.MapList domain order rights segments) (Refused refusal) t
-map_refused m t domain order rights i segments h h1 pool wanted refusal at there good high wants unplaced same_pool same is =
+map_refused m t domain order rights i segments h h1 pool y wanted refusal at there good high wants unplaced same_pool same quiet is =
     map_unplaced m t domain order rights segments h refusal
-    (is ∙ ap (λ (x : Pool). record m { pool = x; domains = slice_set m.domains i (Some h1); calls = m.calls + 1 }) same_pool
+    (is ∙ ap (λ (x : Pool). record m { pool = x; domains = slice_set m.domains i (Some h1); iommu = y; calls = m.calls + 1 }) same_pool
+    ∙ ap (λ (x : Iommu). record m { domains = slice_set m.domains i (Some h1); iommu = x; calls = m.calls + 1 }) quiet
     ∙ ap (λ (d : Domain). record m { domains = slice_set m.domains i (Some d); calls = m.calls + 1 }) same
     ∙ ap (λ (ds : List (Option Domain)). record m { domains = ds; calls = m.calls + 1 }) (set_again m.domains i (Some h) at))
     there good high (subst (λ o. IsUnplaced m.pool h segments.items o refusal) wants.order_is unplaced)
 
-pub map_done : (m t : State) (domain order rights i first : ℕ) (segments : ArrayVec Segment) (h h1 : Domain) (pool : Pool) (wanted : Wanted)
-    → length m.domains ≡ MOST_DOMAINS → i < length m.domains → domain ≡ i + 1 → domain_at m.domains domain ≡ Some h
+pub map_done : (m t : State) (domain order rights i first : ℕ) (segments : ArrayVec Segment) (h h1 : Domain) (pool : Pool) (y : Iommu)
+    (wanted : Wanted) → length m.domains ≡ MOST_DOMAINS → i < length m.domains → domain ≡ i + 1 → domain_at m.domains domain ≡ Some h
     → (IsBadMap segments.items order rights → ⊥) → (AreOwned m.pool.frames segments.items → ⊥) → Wants wanted segments.items order rights
     → Places m.pool h (placement segments.items wanted.order (bits_of wanted.rights) first) pool h1
-    → t ≡ record m { pool = pool; domains = slice_set m.domains i (Some h1); calls = m.calls + 1 }
+    → SendsForMap m.iommu.unit.caching m.iommu domain h.root (record { first = first; pages = total_pages segments.items }) y
+    → t ≡ record m { pool = pool; domains = slice_set m.domains i (Some h1); iommu = y; calls = m.calls + 1 }
     → Does m (calls.MapList domain order rights segments) (Mapped (PAGE_BYTES * first)) t
-map_done m t domain order rights i first segments h h1 pool wanted many less id there good high wants places is =
+map_done m t domain order rights i first segments h h1 pool y wanted many less id there good high wants places sends is =
     rw id (maps m t order rights i first segments h h1 many less (rw id at there) good high wants.mappable
     (subst (λ (p : Pool). Places m.pool h (placement segments.items order rights first) p h1) pool_is
     (subst (λ (n : ℕ). Places m.pool h (placement segments.items order n first) pool h1) wants.rights_are
     (subst (λ (n : ℕ). Places m.pool h (placement segments.items n (bits_of wanted.rights) first) pool h1) wants.order_is places)))
-    (is ∙ ap (λ (x : Pool). record m { pool = x; domains = slice_set m.domains i (Some h1); calls = m.calls + 1 }) pool_is))
+    (subst (λ (x : Iommu). SendsForMap m.iommu.unit.caching m.iommu (i + 1) h.root
+    (record { first = first; pages = total_pages segments.items }) x) iommu_is (rw id at sends))
+    (is ∙ ap₂ (λ (x : Pool) (z : Iommu). record m { pool = x; domains = slice_set m.domains i (Some h1); iommu = z; calls = m.calls + 1 })
+    pool_is iommu_is))
   where
     pool_is : pool ≡ t.pool
     pool_is = sym (ap (λ (x : State). x.pool) is)
+
+    iommu_is : y ≡ t.iommu
+    iommu_is = sym (ap (λ (x : State). x.iommu) is)
 
 -- ---- a map of one segment
 

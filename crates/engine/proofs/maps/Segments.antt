@@ -1,6 +1,6 @@
 -- Where segments map pages: their pages one after the other, and no other page.
 use Rattle.std.proofs.Common.{◌≡◌, ◌≢◌, ℕ, zero, suc, ◌+◌, ◌-◌, ◌<◌, ◌≤◌, ◌⊎◌, inl, inr, ⊎_elim, List, [], ◌∷◌, drop, get_or, length}
-use Rattle.std.proofs.Common.{Some, None, refl, sym, ap, subst, ◌∙◌, arith}
+use Rattle.std.proofs.Common.{IsSome, Some, None, refl, sym, ap, subst, ◌∙◌, arith}
 use Rattle.std.proofs.lemmas.Bool.{cases_lt}
 use Rattle.dmatypes.specs.Conditions.{IsBadMap, SomeHas, total_pages}
 use Rattle.dmatypes.specs.Page.{IsWithin}
@@ -8,9 +8,13 @@ use Rattle.dmatypes.specs.Rights.{AreRights}
 use Rattle.dmatypes.specs.World.{Target, placed}
 use Rattle.dmatypes.specs.declared.call.Segment.{Segment}
 use Rattle.dmatypes.proofs.numbers.Ranges.{within_is, within_not, within_or_not}
+use Rattle.tables.specs.Changes.{MapsPages}
+use Rattle.tables.specs.Pool.{Pool, memory}
 use Rattle.tables.specs.Segments.{AreSegments}
+use Rattle.tables.specs.Tree.{states}
 use Rattle.tables.proofs.maps.Placed.{drop_at, drop_ended, total-cons}
 use Rattle.engine.specs.Judged.{AreMappable, AreOwned}
+use Rattle.engine.proofs.lists.Places.{is_some}
 use Rattle.dmatypes.specs.declared.limits.TheConstants.{MOST_ORDER}
 use Rattle.dmatypes.specs.declared.page.TheConstants.{FRAMES_END, MOST_PAGES}
 
@@ -43,6 +47,14 @@ placed_outside (s ∷ ss) first rights p past =
     later : ((p < first) ⊎ (first + total_pages (s ∷ ss) ≤ p)) → (p < first + s.pages) ⊎ (first + s.pages + total_pages ss ≤ p)
     later (inl low) = inl (omega (arith, low))
     later (inr high) = inr (omega (arith, high, total-cons s ss))
+
+-- a tree that maps them states each of their pages
+pub mapped_stated : (pool pool' : Pool) (level root first rights : ℕ) (ss : List Segment) (p : ℕ)
+    → MapsPages pool pool' level root first (first + total_pages ss) (placed ss first rights)
+    → IsWithin (record { first = first; pages = total_pages ss }) p → IsSome (states (memory pool'.words) level root p)
+mapped_stated pool pool' level root first rights ss p maps inside =
+    let at = placed_inside ss first rights p inside in
+    is_some (states (memory pool'.words) level root p) at.0 (maps.mapped p inside.0 inside.1 ∙ at.1)
 
 -- ---- which can be asked for
 

@@ -1,5 +1,6 @@
 -- What the unit reads of a page of one domain, and what it may remember of that.
 use Rattle.std.proofs.Common.{◌≡◌, ℕ, ◌+◌, ◌-◌, ◌%◌, ◌<◌, ◌≤◌, ◌⊎◌, inl, inr, Bool, List, [], ◌∷◌, map, Option, Some, None, IsTrue}
+use Rattle.dmatypes.specs.declared.width.Width.{Width}
 use Rattle.std.proofs.Common.{refl, sym, ap, subst, ◌∙◌, arith}
 use Rattle.std.proofs.lemmas.Bool.Decides.{nat_tests}
 use Rattle.std.proofs.lemmas.Option.{none-some}
@@ -28,7 +29,7 @@ use Rattle.engine.specs.Quarantine.{IsInRecord, IsLawfulLeaf, IsLawfulTable, IsO
 use Rattle.engine.specs.Quarantine.{marked_there}
 use Rattle.engine.proofs.lists.Places.{is_some}
 use Rattle.engine.proofs.caches.Spans.{base_even, base_low, below_end, one_span, rest_is}
-use Rattle.dmatypes.specs.declared.width.TheConstants.{LEVELS, PAGES_END}
+use Rattle.dmatypes.specs.Page.{levels, pages_end}
 
 -- ---- records
 
@@ -73,10 +74,10 @@ IsReadOf v p t = (t ≡ v.live p) ⊎ ((v.live p ≡ None) × ((t ≡ None) ⊎ 
 -- ---- where a walk begins
 
 -- the walk from a table is the walk from the root, begun lower
-abbrev pub IsOnWay : List ℕ → ℕ → ℕ → ℕ → ℕ → Type 0
-IsOnWay words root p level table =
-    (leaf_from (memory words) level table p ≡ leaf_from (memory words) LEVELS root p) × (level ≤ LEVELS)
-    × ((l : ℕ) → l < level → table_from (memory words) level table p l ≡ table_from (memory words) LEVELS root p l)
+abbrev pub IsOnWay : List ℕ → Width → ℕ → ℕ → ℕ → ℕ → Type 0
+IsOnWay words width root p level table =
+    (leaf_from (memory words) level table p ≡ leaf_from (memory words) (levels width) root p) × (level ≤ levels width)
+    × ((l : ℕ) → l < level → table_from (memory words) level table p l ≡ table_from (memory words) (levels width) root p l)
 
 -- it meets nothing, at a page in a record
 abbrev pub MeetsNothing : List ℕ → world.Domain → ℕ → ℕ → ℕ → Type 0
@@ -84,16 +85,17 @@ MeetsNothing words v p level table =
     (leaf_from (memory words) level table p ≡ None) × IsInRecord v p
     × ((l : ℕ) → l < level → table_from (memory words) level table p l ≡ None)
 
-on_way : (words : List ℕ) (root p level table : ℕ) → table_from (memory words) LEVELS root p level ≡ Some table
-    → IsOnWay words root p level table
-on_way words root p level table there = (
-  leaf_on (memory words) LEVELS root p level table there,
-  deeper (memory words) LEVELS root p level table there,
-  λ l lt. table_on (memory words) LEVELS root p level l table lt there,
+on_way : (words : List ℕ) (width : Width) (root p level table : ℕ) → table_from (memory words) (levels width) root p level ≡ Some table
+    → IsOnWay words width root p level table
+on_way words width root p level table there = (
+  leaf_on (memory words) (levels width) root p level table there,
+  deeper (memory words) (levels width) root p level table there,
+  λ l lt. table_on (memory words) (levels width) root p level l table lt there,
 )
 
-at_root : (words : List ℕ) (root p level table : ℕ) → level ≡ LEVELS → table ≡ root → IsOnWay words root p level table
-at_root words root p level table high same = (cc, omega arith, λ l lt. cc)
+at_root : (words : List ℕ) (width : Width) (root p level table : ℕ) → level ≡ levels width → table ≡ root
+    → IsOnWay words width root p level table
+at_root words width root p level table high same = (cc, omega arith, λ l lt. cc)
 
 pub hold_low : (first pages p : ℕ) → IsTrue (hold first pages p) → first ≤ p
 hold_low first pages p h = grind (arith, nat_tests)
@@ -103,12 +105,13 @@ hold_high first pages p h = grind (arith, nat_tests)
 
 module _ (words : List ℕ) (h : Domain) (v : world.Domain) (mirrors : Mirrors words h v) where
   at_cached : (i : CachedNonLeaf) (p level table : ℕ) → IsLawfulTable words i h v → IsTrue (hold i.first i.pages p) → level ≡ i.level
-      → table ≡ i.frame → IsOnWay words h.root p level table ⊎ MeetsNothing words v p level table
+      → table ≡ i.frame → IsOnWay words h.width h.root p level table ⊎ MeetsNothing words v p level table
   at_cached i p level table lawful holds high same = elim lawful.named [
     | inl at ↦
-        let there : table_from (memory words) LEVELS h.root p i.level ≡ Some i.frame =
+        let there : table_from (memory words) (levels h.width) h.root p i.level ≡ Some i.frame =
         at.4 p (hold_low i.first i.pages p holds) (omega (arith, hold_high i.first i.pages p holds, lawful.span)) in
-        inl (on_way words h.root p level table (let there' : table_from (memory words) LEVELS h.root p level ≡ Some table = cc in there'))
+        inl (on_way words h.width h.root p level table (let there' : table_from (memory words) (levels h.width)
+        h.root p level ≡ Some table = cc in there'))
     | inr held ↦
         let bare = zeroed_bare words table (subst (IsZeroed words) (sym same) held.3) in
         inr (
@@ -119,44 +122,46 @@ module _ (words : List ℕ) (h : Domain) (v : world.Domain) (mirrors : Mirrors w
         )
   ]
 
-  pub from_start : (tables : List CachedNonLeaf) (look : Bool) (x : CachedContext) (p level table : ℕ) → h.root ≡ x.root
+  pub from_start : (tables : List CachedNonLeaf) (look : Bool) (x : CachedContext) (p level table : ℕ) → h.root ≡ x.root → h.width ≡ x.width
       → ((i : CachedNonLeaf) → IsIn i tables → i.domain ≡ x.domain → IsLawfulTable words i h v) → IsStart tables look x p level table
-      → IsOnWay words h.root p level table ⊎ MeetsNothing words v p level table
-  from_start tables look x p level table root lawful start = elim start [
-    | inl top ↦ inl (at_root words h.root p level table top.0 (top.1 ∙ sym root))
+      → IsOnWay words h.width h.root p level table ⊎ MeetsNothing words v p level table
+  from_start tables look x p level table root wide lawful start = elim start [
+    | inl top ↦ inl (at_root words h.width h.root p level table (top.0 ∙ ap levels (sym wide)) (top.1 ∙ sym root))
     | inr low ↦ at_cached low.1.0 p level table (lawful low.1.0 low.1.1 low.1.2) low.1.3 low.1.4 low.1.5
   ]
 
   -- ---- what a walk met
 
   -- the leaf on a page's way is an entry of the tree
-  met_entry : (p : ℕ) (y : Found) → p < PAGES_END → leaf_from (memory words) LEVELS h.root p ≡ Some y
-      → IsLeafAt (memory words) LEVELS h.root (p - p % span y.size) (span y.size) y.frame y.rights
+  met_entry : (p : ℕ) (y : Found) → p < pages_end h.width → leaf_from (memory words) (levels h.width) h.root p ≡ Some y
+      → IsLeafAt (memory words) (levels h.width) h.root (p - p % span y.size) (span y.size) y.frame y.rights
   met_entry p y low there = (
     y.size,
     (
-      leaf_size words LEVELS h.root p y there,
+      leaf_size words (levels h.width) h.root p y there,
       refl,
       base_even p (span y.size) (span_pos y.size),
-      omega (arith, base_low p (span y.size), span-levels),
-      λ q above below. near_leaf (memory words) LEVELS h.root p q y (one_span p q (span y.size) (span_pos y.size) above below) there,
+      omega (arith, base_low p (span y.size), span-levels h.width),
+      λ q above below. near_leaf (memory words) (levels h.width) h.root p q y (one_span p q (span y.size) (span_pos y.size) above below)
+          there,
     ),
   )
 
   -- and each of its pages is live, as the leaf states it
-  pub met_stated : (p q : ℕ) (y : Found) → p < PAGES_END → leaf_from (memory words) LEVELS h.root p ≡ Some y → p - p % span y.size ≤ q
+  pub met_stated : (p q : ℕ) (y : Found) → p < pages_end h.width → leaf_from (memory words) (levels h.width) h.root p ≡ Some y
+      → p - p % span y.size ≤ q
       → q < p - p % span y.size + span y.size → v.live q ≡ Some (target (y.frame + (q - (p - p % span y.size))) y.rights)
   met_stated p q y low there above below =
       let pos : 0 < span y.size = span_pos y.size in
-      let met : leaf_from (memory words) LEVELS h.root q ≡ Some y =
-      near_leaf (memory words) LEVELS h.root p q y (one_span p q (span y.size) pos above below) there in
+      let met : leaf_from (memory words) (levels h.width) h.root q ≡ Some y =
+      near_leaf (memory words) (levels h.width) h.root p q y (one_span p q (span y.size) pos above below) there in
       let rest : q % span y.size ≡ q - (p - p % span y.size) =
       rest_is (p - p % span y.size) q (span y.size) pos (base_even p (span y.size) pos) above below in
-      sym (mirrors.tree q (below_end p y.size q low (leaf_size words LEVELS h.root p y there) below))
+      sym (mirrors.tree q (below_end h.width p y.size q low (leaf_size words (levels h.width) h.root p y there) below))
       ∙ ap (stated q) met
       ∙ ap (λ n. Some (target (y.frame + n) y.rights)) rest
 
-  met_lawful : (domain p : ℕ) (y : Found) → p < PAGES_END → leaf_from (memory words) LEVELS h.root p ≡ Some y
+  met_lawful : (domain p : ℕ) (y : Found) → p < pages_end h.width → leaf_from (memory words) (levels h.width) h.root p ≡ Some y
       → IsLawfulLeaf words (met_leaf domain p y) h v
   met_lawful domain p y low there = record {
     stated = λ q above below. inl (met_stated p q y low there above below);
@@ -164,7 +169,8 @@ module _ (words : List ℕ) (h : Domain) (v : world.Domain) (mirrors : Mirrors w
   }
 
   -- a table on its way is in use for its span
-  passed_lawful : (domain p l f : ℕ) → p < PAGES_END → 0 < l → l < LEVELS → table_from (memory words) LEVELS h.root p l ≡ Some f
+  passed_lawful : (domain p l f : ℕ) → p < pages_end h.width → 0 < l → l < levels h.width
+      → table_from (memory words) (levels h.width) h.root p l ≡ Some f
       → IsLawfulTable words (met_non_leaf domain p l f) h v
   passed_lawful domain p l f low some below there = record {
     span = refl;
@@ -172,8 +178,8 @@ module _ (words : List ℕ) (h : Domain) (v : world.Domain) (mirrors : Mirrors w
       some,
       below,
       base_even p (span l) (span_pos l),
-      omega (arith, base_low p (span l), span-levels),
-      λ q above high. near_table (memory words) LEVELS h.root p q l f (one_span p q (span l) (span_pos l) above high) there,
+      omega (arith, base_low p (span l), span-levels h.width),
+      λ q above high. near_table (memory words) (levels h.width) h.root p q l f (one_span p q (span l) (span_pos l) above high) there,
     );
   }
 
@@ -186,14 +192,14 @@ module _ (words : List ℕ) (h : Domain) (v : world.Domain) (mirrors : Mirrors w
     | inr old ↦ inr (retired_none h.space v p mirrors.pieces (old.0, old.1, old.2), inr (stated_by p l, is, old))
   ]
 
-  pub off_walk : (p level table : ℕ) (t : Option Target) → p < PAGES_END → t ≡ states (memory words) level table p
-      → IsOnWay words h.root p level table ⊎ MeetsNothing words v p level table → IsReadOf v p t
+  pub off_walk : (p level table : ℕ) (t : Option Target) → p < pages_end h.width → t ≡ states (memory words) level table p
+      → IsOnWay words h.width h.root p level table ⊎ MeetsNothing words v p level table → IsReadOf v p t
   off_walk p level table t low is (inl way) = inl (is ∙ ap (stated p) way.0 ∙ mirrors.tree p low)
   off_walk p level table t low is (inr none) = inr (retired_none h.space v p mirrors.pieces none.1, inl (is ∙ ap (stated p) none.0))
 
-  pub leaf_of_way : (domain p level table : ℕ) (l : CachedLeaf) → p < PAGES_END
+  pub leaf_of_way : (domain p level table : ℕ) (l : CachedLeaf) → p < pages_end h.width
       → met domain p (leaf_from (memory words) level table p) ≡ Some l
-      → IsOnWay words h.root p level table ⊎ MeetsNothing words v p level table → IsLawfulLeaf words l h v
+      → IsOnWay words h.width h.root p level table ⊎ MeetsNothing words v p level table → IsLawfulLeaf words l h v
   leaf_of_way domain p level table l low is (inl way) =
       let found = met_is domain p (leaf_from (memory words) level table p) l is in
       subst (λ k. IsLawfulLeaf words k h v) (sym found.2) (met_lawful domain p found.0 low (sym way.0 ∙ found.1))
@@ -201,8 +207,8 @@ module _ (words : List ℕ) (h : Domain) (v : world.Domain) (mirrors : Mirrors w
       let found = met_is domain p (leaf_from (memory words) level table p) l is in
       absurd (none-some found.0 (sym none.0 ∙ found.1))
 
-  pub table_of_way : (domain p level table : ℕ) (i : CachedNonLeaf) → p < PAGES_END → IsPassed (memory words) level table domain p i
-      → IsOnWay words h.root p level table ⊎ MeetsNothing words v p level table → IsLawfulTable words i h v
+  pub table_of_way : (domain p level table : ℕ) (i : CachedNonLeaf) → p < pages_end h.width → IsPassed (memory words) level table domain p i
+      → IsOnWay words h.width h.root p level table ⊎ MeetsNothing words v p level table → IsLawfulTable words i h v
   table_of_way domain p level table i low passed (inl way) =
       subst (λ k. IsLawfulTable words k h v) (sym passed.5)
       (passed_lawful domain p passed.0 passed.1 low passed.2 (omega (arith, passed.3, way.1)) (sym (way.2 passed.0 passed.3) ∙ passed.4))

@@ -14,38 +14,40 @@ use Rattle.dmatypes.specs.declared.call.Whim.{Whim}
 use Rattle.dmatypes.specs.declared.refusal.Fault.{Fault}
 use Rattle.dmatypes.specs.declared.refusal.Refusal.{Refusal}
 use Rattle.dmatypes.specs.declared.reply.Reply.{Reply}
-use Rattle.dmatypes.specs.declared.width.Width.TheVariants.{W39}
 use Rattle.tables.specs.Pool.{memory}
 use Rattle.unit.specs.Answers.{Answers, IsRemembered}
-use Rattle.unit.specs.Caches.{Caches, CachedContext, unit_state}
+use Rattle.unit.specs.Caches.{Caches, CachedContext, CachedFault, unit_state}
 use Rattle.unit.specs.declared.hit.Hit.{Hit}
 use Rattle.vtdbits.specs.declared.context.ContextEntry.TheVariants.{Present}
 use Rattle.engine.specs.Hits.{IsHitIn, IsHitOf, IsNoRequest, hit_in}
 use Rattle.engine.specs.State.{State, Becomes, Exact, host_in, reached_reply, request_reply}
-use Rattle.engine.specs.Quarantine.{AreLawful, Quarantine}
+use Rattle.engine.specs.Quarantine.{AreLawful, IsLawfulFault, Quarantine}
 use Rattle.engine.specs.Steps.{Does}
 use Rattle.dmatypes.specs.declared.call.Cache.{Cache}
 use Rattle.dmatypes.specs.declared.reply.Reply.TheVariants.{Done, Refused}
 use Rattle.dmatypes.specs.declared.refusal.Refusal.TheVariants as refusals
 use Rattle.unit.specs.Caches.{without}
-use Rattle.unit.proofs.caches.Members.{without_leaf, without_non_leaf, without_context}
+use Rattle.unit.proofs.caches.Members.{without_leaf, without_non_leaf, without_context, without_fault}
 use Rattle.engine.proofs.caches.Lawful.{fewer_lawful}
 use Rattle.engine.proofs.states.Refused.{counted, refuses}
-use Rattle.engine.proofs.requests.Allowed.{request_allowed, request_contexts, request_hit, request_keeps}
+use Rattle.engine.proofs.requests.Allowed.{request_allowed, request_contexts, request_faults, request_hit, request_keeps}
 use Rattle.dmatypes.specs.declared.limits.TheConstants.{DEVICES}
 
 -- the state with these caches and so many calls, so many steps of the unit, and so many descriptors that it did
 abbrev pub remembering : State → Caches → ℕ → ℕ → ℕ → State
-remembering m c steps done calls = record m { iommu = record m.iommu { unit = unit_state c steps done }; calls = calls }
+remembering m c steps done calls =
+    record m { iommu = record m.iommu { unit = unit_state c steps done m.iommu.unit.caching }; calls = calls }
 
 -- it keeps the quarantine where the caches are lawful
 pub quarantine_remembering : (m : State) (w : World) (c : Caches) (steps done calls : ℕ) → Quarantine m w → AreLawful m w c
-    → ((y : CachedContext) → IsIn y c.contexts → slice_get m.iommu.contexts y.device ≡ Some (Present y.root W39 y.domain))
+    → ((f : CachedFault) → IsIn f c.faults → IsLawfulFault m.iommu.unit w f)
+    → ((y : CachedContext) → IsIn y c.contexts → slice_get m.iommu.contexts y.device ≡ Some (Present y.root y.width y.domain))
     → Quarantine (remembering m c steps done calls) w
-quarantine_remembering m w c steps done calls q lawful contexts = record {
+quarantine_remembering m w c steps done calls q lawful faults contexts = record {
   table_frames = q.table_frames;
   domains = q.domains;
   caches = record { leaves = lawful.leaves; tables = lawful.tables };
+  faults = faults;
   contexts = record { devices = q.contexts.devices; roots = q.contexts.roots; cached = contexts };
   frames = q.frames;
   tickets = q.tickets;
@@ -71,7 +73,8 @@ exact_request m device address access whim (Ok hit) = tt
 exact_request m device address access whim (Err fault) = tt
 
 becomes_request : (m t : State) (device address : ℕ) (access : Access) (whim : Whim) (answer : Result Hit Fault)
-    → Answers (memory m.pool.words) m.iommu.contexts whim.look whim.fill device address access m.iommu.unit.caches t.iommu.unit.caches
+    → Answers (memory m.pool.words) m.iommu.contexts whim.look whim.fill m.iommu.unit.caching device address access m.iommu.unit.caches
+    t.iommu.unit.caches
     answer → (IsTrue whim.fill → IfOk answer (IsRemembered t.iommu.unit.caches device address))
     → t ≡ remembering m t.iommu.unit.caches m.iommu.unit.steps m.iommu.unit.done (m.calls + 1)
     → Becomes m (calls.Dma device address access whim) (reached_reply (host_in answer)) t
@@ -82,7 +85,8 @@ becomes_request m t device address access whim (Err fault) answers filled is = (
 -- a request to the unit does what a request does
 pub request_does : (m t : State) (device address : ℕ) (access : Access) (whim : Whim) (answer : Result Hit Fault) → device < DEVICES
     → (IsInWindow address → ⊥)
-    → Answers (memory m.pool.words) m.iommu.contexts whim.look whim.fill device address access m.iommu.unit.caches t.iommu.unit.caches
+    → Answers (memory m.pool.words) m.iommu.contexts whim.look whim.fill m.iommu.unit.caching device address access m.iommu.unit.caches
+    t.iommu.unit.caches
     answer → (IsTrue whim.fill → IfOk answer (IsRemembered t.iommu.unit.caches device address))
     → t ≡ remembering m t.iommu.unit.caches m.iommu.unit.steps m.iommu.unit.done (m.calls + 1)
     → Does m (calls.Dma device address access whim) (reached_reply (host_in answer)) t
@@ -94,6 +98,7 @@ request_does m t device address access whim answer small outside answers filled 
         (sym (next_same w device address access whim answer))
         (subst (λ s. Quarantine s w) (sym is) (quarantine_remembering m w t.iommu.unit.caches m.iommu.unit.steps m.iommu.unit.done
         (m.calls + 1) q (request_keeps m w q whim.look whim.fill device address access t.iommu.unit.caches answer answers)
+        (request_faults m w q whim.look whim.fill device address access t.iommu.unit.caches answer answers)
         (request_contexts m w q whim.look whim.fill device address access t.iommu.unit.caches answer answers))),
   );
   exact = exact_request m device address access whim answer;
@@ -104,7 +109,8 @@ request_does m t device address access whim answer small outside answers filled 
 -- where it is answered a host address, the device's domain has the page so
 pub request_hits : (m : State) (device address : ℕ) (access : Access) (whim : Whim) (new : Caches) (answer : Result Hit Fault)
     → device < DEVICES
-    → Answers (memory m.pool.words) m.iommu.contexts whim.look whim.fill device address access m.iommu.unit.caches new answer
+    → Answers (memory m.pool.words) m.iommu.contexts whim.look whim.fill m.iommu.unit.caching device address access m.iommu.unit.caches
+    new answer
     → IfOk answer (IsHitOf m device address access)
 request_hits m device address access whim new (Ok hit) small answers =
     record { low = small; had = λ w q. request_hit m w q whim.look whim.fill device address access new (Ok hit) hit refl answers }
@@ -130,7 +136,7 @@ hit_of_request m call device address access whim answer same is w q =
 -- no other call has one
 pub no_hit : (w : World) (call : Call) (reply : Reply) → IsNoRequest call → IsHitIn w call reply None
 unfolding IsHitIn
-no_hit w (calls.Domain mode) reply other = refl
+no_hit w (calls.Domain mode width) reply other = refl
 no_hit w (calls.Drop domain) reply other = refl
 no_hit w (calls.Attach device domain) reply other = refl
 no_hit w (calls.Detach device) reply other = refl
@@ -181,6 +187,7 @@ evict_does m t kind place is = record {
         (quarantine_remembering m w (without kind place m.iommu.unit.caches) m.iommu.unit.steps m.iommu.unit.done (m.calls + 1) q
         (fewer_lawful m w m.iommu.unit.caches (without kind place m.iommu.unit.caches) q.caches
         (without_leaf kind place m.iommu.unit.caches) (without_non_leaf kind place m.iommu.unit.caches))
+        (λ f inside. q.faults f (without_fault kind place m.iommu.unit.caches f inside))
         (λ x inside. q.contexts.cached x (without_context kind place m.iommu.unit.caches x inside)))),
   );
   exact = tt;

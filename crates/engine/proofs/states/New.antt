@@ -1,9 +1,9 @@
 -- A new state is one of the empty world.
 use Rattle.std.proofs.Common.{map, ◌≡◌, ℕ, zero, suc, ◌+◌, ◌*◌, ◌<◌, ◌≤◌, ⊎_elim, inl, inr, List, [], ◌∷◌, ◌++◌, length, length-append}
-use Rattle.std.proofs.Common.{Option, Some, None, refl, sym, ap, subst, ◌∙◌, arith, replicate, slice_get}
+use Rattle.std.proofs.Common.{Bool, Option, Some, None, refl, sym, ap, subst, ◌∙◌, arith, replicate, slice_get}
 use Rattle.std.proofs.lemmas.Bool.{cases_lt}
 use Rattle.dmatypes.specs.World.{World, IsIn, empty}
-use Rattle.dmatypes.specs.declared.width.Width.TheVariants.{W39}
+use Rattle.dmatypes.specs.declared.width.Width.{Width}
 use Rattle.queue.specs.Ring.{Ring, ring_of}
 use Rattle.unit.specs.Caches.{Caches, UnitState, nothing, unit_state}
 use Rattle.vtdbits.specs.declared.context.ContextEntry.TheVariants.{Absent, Present}
@@ -45,23 +45,25 @@ no_device_in zero v = refl
 no_device_in (suc n) zero = refl
 no_device_in (suc n) (suc v) = no_device_in n v
 
-no_entry_in : (n v root domain : ℕ) → slice_get (replicate n Absent) v ≡ Some (Present root W39 domain) → ⊥
-no_entry_in zero v root domain at = absurd cc
-no_entry_in (suc n) zero root domain at = cc
-no_entry_in (suc n) (suc v) root domain at = no_entry_in n v root domain at
+no_entry_in : (n v root domain : ℕ) (width : Width) → slice_get (replicate n Absent) v ≡ Some (Present root width domain) → ⊥
+no_entry_in zero v root domain width at = absurd cc
+no_entry_in (suc n) zero root domain width at = cc
+no_entry_in (suc n) (suc v) root domain width at = no_entry_in n v root domain width at
 
 -- nothing is remembered
 nothing_cached : (m : State) (w : World) (c : Caches) → c ≡ nothing → AreLawful m w c
 nothing_cached m w c is = rw is (record { leaves = λ l inside. absurd inside; tables = λ i inside. absurd inside })
 
-pub of_empty_world : (m : State) (frames : ℕ) → IsNew frames m → Quarantine m (empty frames)
-of_empty_world m frames new = record {
+pub of_empty_world : (m : State) (frames : ℕ) (caching : Bool) → IsNew frames caching m → Quarantine m (empty frames)
+of_empty_world m frames caching new = record {
   table_frames = sym new.frames_are;
   domains = λ d. rw (no_domain m.domains d new.domains_are) tt;
   caches = nothing_cached m (empty frames) m.iommu.unit.caches (ap (λ (u : UnitState). u.caches) new.unit_is);
+  faults = λ f inside. let none = subst (λ (u : UnitState). IsIn f u.caches.faults) new.unit_is inside in absurd none;
   contexts = record {
     devices = λ v. sym (ap (λ row. attached (slice_get row v)) new.contexts_are ∙ no_device_in DEVICES v);
-    roots = λ v root domain at. absurd (no_entry_in DEVICES v root domain (ap (λ row. slice_get row v) (sym new.contexts_are) ∙ at));
+    roots = λ v root domain width at. absurd (no_entry_in DEVICES v root domain width
+        (ap (λ row. slice_get row v) (sym new.contexts_are) ∙ at));
     cached = λ x inside. let none = subst (λ (u : UnitState). IsIn x u.caches.contexts) new.unit_is inside in absurd none;
   };
   frames = record {
@@ -81,9 +83,9 @@ of_empty_world m frames new = record {
       (λ d less. ap (λ (o : Option Domain). owned (memory m.pool.words) o f) (no_domain m.domains d new.domains_are))
 
 -- no ticket is open
-no_tickets : (m : State) (frames : ℕ) → IsNew frames m → KeepsTickets m
+no_tickets : (m : State) (frames : ℕ) (caching : Bool) → IsNew frames caching m → KeepsTickets m
 unfolding pairs_of Follow AreDifferent
-no_tickets m frames new = record {
+no_tickets m frames caching new = record {
   done = [];
   half = [];
   ahead = [];
@@ -100,13 +102,13 @@ no_tickets m frames new = record {
   few = let none = ap length new.tickets_are in omega (arith, none);
 }
 
-pub whole_new : (m : State) (frames : ℕ) → IsNew frames m → IsWhole frames m
-whole_new m frames new = record {
-  of_world = (empty frames, of_empty_world m frames new);
+pub whole_new : (m : State) (frames : ℕ) (caching : Bool) → IsNew frames caching m → IsWhole frames m
+whole_new m frames caching new = record {
+  of_world = (empty frames, of_empty_world m frames caching new);
   places = ap length new.domains_are;
   devices = ap length new.contexts_are;
   frames_are = sym new.frames_are;
-  tickets = no_tickets m frames new;
+  tickets = no_tickets m frames caching new;
   sent = omega (arith, new.sent_is);
   steps = (
       let zero_steps : m.iommu.unit.steps ≡ 0 = ap (λ (u : UnitState). u.steps) new.unit_is in
@@ -117,7 +119,7 @@ whole_new m frames new = record {
   made = λ h inside. absurd (not_there MOST_DOMAINS h (subst (λ ds. IsIn (Some h) ds) new.domains_are inside));
 }
 
--- ---- there is a new state of each size
+-- ---- there is a new state of each size and either mode
 
 -- the frames below a number, from the first on
 frames_up : ℕ → List ℕ
@@ -139,18 +141,24 @@ unfolding frames_up
 many zero = refl
 many (suc n) = omega (arith, length-append (frames_up n) (n ∷ []), many n)
 
-pub new_state : ℕ → State
-new_state frames = record {
+pub new_state : ℕ → Bool → State
+new_state frames caching = record {
   pool = record { words = replicate (frames * TABLE_ENTRIES) 0; free = frames_up frames; frames = frames };
   domains = replicate MOST_DOMAINS None;
-  iommu = record { contexts = replicate DEVICES Absent; ring = ring_of [] 0 []; unit = unit_state nothing 0 0; sent = 0; shown = None };
+  iommu = record {
+    contexts = replicate DEVICES Absent;
+    ring = ring_of [] 0 [];
+    unit = unit_state nothing 0 0 caching;
+    sent = 0;
+    shown = None;
+  };
   tickets = [];
   calls = 0;
 }
 
-pub new_is_new : (frames : ℕ) → IsNew frames (new_state frames)
+pub new_is_new : (frames : ℕ) (caching : Bool) → IsNew frames caching (new_state frames caching)
 unfolding new_state
-new_is_new frames = record {
+new_is_new frames caching = record {
   frames_are = refl;
   free = below frames;
   past = past frames;

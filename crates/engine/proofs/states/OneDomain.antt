@@ -1,5 +1,6 @@
 -- A call that changes one domain, with free frames, and leaves no entry in the caches that isn't lawful then.
 use Rattle.std.proofs.Common.{◌≡◌, ◌≢◌, ℕ, ◌+◌, ◌<◌, ◌⊎◌, inl, inr, List, length, map, Option, Some, None, refl, sym, ap, subst, ◌∙◌, arith}
+use Rattle.dmatypes.specs.declared.width.Width.{Width}
 use Rattle.std.proofs.lemmas.Option.{same_Some}
 use Rattle.dmatypes.specs.World.{World, IsIn, put}
 use Rattle.dmatypes.specs.World as world
@@ -15,23 +16,24 @@ use Rattle.engine.proofs.frames.Held.{held_stays}
 use Rattle.engine.proofs.caches.Lawful.{KeepsLawful, keeps_same}
 use Rattle.dmatypes.proofs.histories.Maps.{put_same, put_other, same_or_not}
 use Rattle.engine.proofs.domains.OneChanged.{domains_put, domain_low}
+use Rattle.engine.proofs.caches.Faults.{LeavesFaults, faults_stay, fewer_pages}
 use Rattle.dmatypes.specs.declared.limits.TheConstants.{MOST_DOMAINS}
-use Rattle.dmatypes.specs.declared.width.TheConstants.{LEVELS}
+use Rattle.dmatypes.specs.Page.{levels}
 
 -- a tree that has the same leaves, tables and frames in both
-pub record SameTree (words words' : List ℕ) (root : ℕ) : Type 0 where
-  pub leaves : (p : ℕ) → leaf_from (memory words') LEVELS root p ≡ leaf_from (memory words) LEVELS root p
-  pub tables : (p w : ℕ) → table_from (memory words') LEVELS root p w ≡ table_from (memory words) LEVELS root p w
-  pub frames : (f : ℕ) → uses (memory words') LEVELS root f ≡ uses (memory words) LEVELS root f
+pub record SameTree (words words' : List ℕ) (width : Width) (root : ℕ) : Type 0 where
+  pub leaves : (p : ℕ) → leaf_from (memory words') (levels width) root p ≡ leaf_from (memory words) (levels width) root p
+  pub tables : (p w : ℕ) → table_from (memory words') (levels width) root p w ≡ table_from (memory words) (levels width) root p w
+  pub frames : (f : ℕ) → uses (memory words') (levels width) root f ≡ uses (memory words) (levels width) root f
 
-pub same_tree : (words words' : List ℕ) (root : ℕ) → words' ≡ words → SameTree words words' root
-same_tree words words' root same =
-    subst (λ ws. SameTree words ws root) (sym same) (record { leaves = λ p. refl; tables = λ p w. refl; frames = λ f. refl })
+pub same_tree : (words words' : List ℕ) (width : Width) (root : ℕ) → words' ≡ words → SameTree words words' width root
+same_tree words words' width root same =
+    subst (λ ws. SameTree words ws width root) (sym same) (record { leaves = λ p. refl; tables = λ p w. refl; frames = λ f. refl })
 
-pub tree_stays : (old new : Pool) (words : List ℕ) (root : ℕ) → TreeStays old new LEVELS root → words ≡ new.words
-    → SameTree old.words words root
-tree_stays old new words root stays same =
-    subst (λ ws. SameTree old.words ws root) (sym same)
+pub tree_stays : (old new : Pool) (words : List ℕ) (width : Width) (root : ℕ) → TreeStays old new (levels width) root → words ≡ new.words
+    → SameTree old.words words width root
+tree_stays old new words width root stays same =
+    subst (λ ws. SameTree old.words ws width root) (sym same)
     (record { leaves = stays.same_leaves; tables = stays.same_tables; frames = stays.same_frames })
 
 -- the domain is another one, and no other domain changes; each entry that is left is lawful of what it became
@@ -40,11 +42,12 @@ pub record ChangesDomain (m t : State) (d : ℕ) (h h' : Domain) (v v' : world.D
   pub row : t.iommu.contexts ≡ m.iommu.contexts
   pub tickets : t.tickets ≡ m.tickets
   pub root : h'.root ≡ h.root
+  pub width : h'.width ≡ h.width
   pub frames : t.pool.frames ≡ m.pool.frames
   pub mirrors : Mirrors t.pool.words h' v'
-  pub others : (e : ℕ) (k : Domain) → e ≢ d → domain_at m.domains e ≡ Some k → SameTree m.pool.words t.pool.words k.root
-  pub account : (f : ℕ) → uses (memory t.pool.words) LEVELS h'.root f + held_in h'.records f + occurs f t.pool.free
-      ≡ uses (memory m.pool.words) LEVELS h.root f + held_in h.records f + occurs f m.pool.free
+  pub others : (e : ℕ) (k : Domain) → e ≢ d → domain_at m.domains e ≡ Some k → SameTree m.pool.words t.pool.words k.width k.root
+  pub account : (f : ℕ) → uses (memory t.pool.words) (levels h'.width) h'.root f + held_in h'.records f + occurs f t.pool.free
+      ≡ uses (memory m.pool.words) (levels h.width) h.root f + held_in h.records f + occurs f m.pool.free
   pub zeroed : (f : ℕ) → 0 < occurs f t.pool.free → IsZeroed t.pool.words f
   pub held : (e : ℕ) (k : Domain) → domain_at m.domains e ≡ Some k → (f : ℕ) → 0 < held_in k.records f → IsZeroed t.pool.words f
   pub held_here : (f : ℕ) → 0 < held_in h'.records f → IsZeroed t.pool.words f
@@ -53,6 +56,8 @@ pub record ChangesDomain (m t : State) (d : ℕ) (h h' : Domain) (v v' : world.D
   pub tables : (i : CachedNonLeaf) → IsIn i t.iommu.unit.caches.non_leaves
       → IsIn i m.iommu.unit.caches.non_leaves × (i.domain ≡ d → IsLawfulTable m.pool.words i h v → IsLawfulTable t.pool.words i h' v')
   pub contexts : (x : CachedContext) → IsIn x t.iommu.unit.caches.contexts → IsIn x m.iommu.unit.caches.contexts
+  pub faults : LeavesFaults m.iommu.unit t.iommu.unit
+  pub live : (p : ℕ) → v.live p ≡ None → v'.live p ≡ None
 
 module _ (m t : State) (w : World) (d : ℕ) (h h' : Domain) (v v' : world.Domain) (q : Quarantine m w)
     (many : length m.domains ≡ MOST_DOMAINS)
@@ -120,19 +125,25 @@ module _ (m t : State) (w : World) (d : ℕ) (h h' : Domain) (v v' : world.Domai
   )
 
   kept_root : (e : ℕ) (k : Domain) → domain_at m.domains e ≡ Some k → (k' : Domain) × (domain_at t.domains e ≡ Some k') × (k'.root ≡ k.root)
+      × (k'.width ≡ k.width)
   kept_root e k at = elim (same_or_not e d) [
-    | inl same ↦ (h', at_new e same, c.root ∙ ap (λ (x : Domain). x.root) (sym (same_old e k same at)))
-    | inr ne ↦ (k, at_other e ne ∙ at, refl)
+    | inl same ↦ (
+      h',
+      at_new e same,
+      c.root ∙ ap (λ (x : Domain). x.root) (sym (same_old e k same at)),
+      c.width ∙ ap (λ (x : Domain). x.width) (sym (same_old e k same at)),
+    )
+    | inr ne ↦ (k, at_other e ne ∙ at, refl, refl)
   ]
 
   still_attached : Attaches t after
   still_attached = record {
     devices = λ x. rw c.row (q.contexts.devices x);
     roots =
-        λ x root domain at.
+        λ x root domain width at.
         let was =
-        q.contexts.roots x root domain (rw c.row at at) in
-        let now = kept_root domain was.0 was.1 in (now.0, now.1, now.2 ∙ was.2);
+        q.contexts.roots x root domain width (rw c.row at at) in
+        let now = kept_root domain was.0 was.1 in (now.0, now.1, now.2 ∙ was.2, now.3 ∙ was.3);
     cached = λ x inside. rw c.row (q.contexts.cached x (c.contexts x inside));
   }
 
@@ -166,6 +177,7 @@ module _ (m t : State) (w : World) (d : ℕ) (h h' : Domain) (v v' : world.Domai
       leaves = λ l inside. let k = c.leaves l inside in leaf_lawful l k.1 (q.caches.leaves l k.0) (same_or_not l.domain d);
       tables = λ i inside. let k = c.tables i inside in table_lawful i k.1 (q.caches.tables i k.0) (same_or_not i.domain d);
     };
+    faults = faults_stay m.iommu.unit t.iommu.unit w after c.faults (fewer_pages w.domains d v v' here c.live) q.faults;
     contexts = still_attached;
     frames =
         frames_move m.pool t.pool (domain_at m.domains) (domain_at t.domains) d (Some h') q.frames low c.domains c.frames moves stay

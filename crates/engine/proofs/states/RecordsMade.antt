@@ -100,22 +100,22 @@ module _ (m t : State) (later : m.iommu.sent ≤ t.iommu.sent) (made : AllAreMad
 pub made_kept : (m t : State) (call : Call) (reply : Reply) → Becomes m call reply t → m.iommu.sent ≤ t.iommu.sent → AllAreMade m
     → AllAreMade t
 unfolding Becomes
-made_kept m t (calls.Domain mode) (Made d) (root, takes, is) later made =
+made_kept m t (calls.Domain mode width) (Made d) (root, takes, is) later made =
     one_made m t later made (d - 1) _ (ap (λ (x : State). x.domains) is) (λ r none. absurd none)
-made_kept m t (calls.Domain mode) _ is later made = same_made m t later made (ap (λ (x : State). x.domains) is)
+made_kept m t (calls.Domain mode width) _ is later made = same_made m t later made (ap (λ (x : State). x.domains) is)
 made_kept m t (calls.Attach device domain) Done (h, there, is) later made = same_made m t later made (ap (λ (x : State). x.domains) is)
 made_kept m t (calls.Attach device domain) _ is later made = same_made m t later made (ap (λ (x : State). x.domains) is)
 made_kept m t (calls.Drop domain) Done (h, there, closes, is) later made =
     one_made m t later made (domain - 1) None (ap (λ (x : State). x.domains) is) (λ r none. absurd none)
 made_kept m t (calls.Drop domain) _ is later made = same_made m t later made (ap (λ (x : State). x.domains) is)
-made_kept m t (calls.Detach device) Done (domain, root, at, sends, is) later made =
+made_kept m t (calls.Detach device) Done (domain, root, width, at, sends, is) later made =
     same_made m t later made (ap (λ (x : State). x.domains) is)
 made_kept m t (calls.Detach device) _ is later made = same_made m t later made (ap (λ (x : State). x.domains) is)
-made_kept m t (calls.Map domain frame pages order rights) (Mapped address) (h, new, there, places, is) later made =
+made_kept m t (calls.Map domain frame pages order rights) (Mapped address) (h, new, there, places, sends, is) later made =
     space_made m t later made (domain - 1) domain h new (ap (λ (x : State). x.domains) is) there
     (ap (λ (x : Domain). x.records) places.same)
 made_kept m t (calls.Map domain frame pages order rights) _ is later made = same_made m t later made (ap (λ (x : State). x.domains) is)
-made_kept m t (calls.MapList domain order rights segments) (Mapped address) (h, new, there, places, is) later made =
+made_kept m t (calls.MapList domain order rights segments) (Mapped address) (h, new, there, places, sends, is) later made =
     space_made m t later made (domain - 1) domain h new (ap (λ (x : State). x.domains) is) there
     (ap (λ (x : Domain). x.records) places.same)
 made_kept m t (calls.MapList domain order rights segments) _ is later made =
@@ -189,17 +189,17 @@ module _ (m t : State) (later : m.iommu.sent ≤ t.iommu.sent) (begun : AllAreBe
 pub begun_kept : (m t : State) (call : Call) (reply : Reply) → Becomes m call reply t → m.iommu.sent ≤ t.iommu.sent → AllAreBegun m
     → AllAreBegun t
 unfolding Becomes
-begun_kept m t (calls.Domain mode) (Made d) (root, takes, is) later begun =
+begun_kept m t (calls.Domain mode width) (Made d) (root, takes, is) later begun =
     one_begun m t later begun (d - 1) _ (ap (λ (x : State). x.domains) is) (omega arith)
-begun_kept m t (calls.Domain mode) _ is later begun = same_begun m t later begun (ap (λ (x : State). x.domains) is)
+begun_kept m t (calls.Domain mode width) _ is later begun = same_begun m t later begun (ap (λ (x : State). x.domains) is)
 begun_kept m t (calls.Drop domain) Done (h, there, closes, is) later begun =
     none_begun m t later begun (domain - 1) (ap (λ (x : State). x.domains) is)
 begun_kept m t (calls.Drop domain) _ is later begun = same_begun m t later begun (ap (λ (x : State). x.domains) is)
-begun_kept m t (calls.Map domain frame pages order rights) (Mapped address) (h, new, there, places, is) later begun =
+begun_kept m t (calls.Map domain frame pages order rights) (Mapped address) (h, new, there, places, sends, is) later begun =
     there_begun m t later begun (domain - 1) domain h new (ap (λ (x : State). x.domains) is) there
     (let same = ap (λ (x : Domain). x.begun) places.same in omega (arith, same))
 begun_kept m t (calls.Map domain frame pages order rights) _ is later begun = same_begun m t later begun (ap (λ (x : State). x.domains) is)
-begun_kept m t (calls.MapList domain order rights segments) (Mapped address) (h, new, there, places, is) later begun =
+begun_kept m t (calls.MapList domain order rights segments) (Mapped address) (h, new, there, places, sends, is) later begun =
     there_begun m t later begun (domain - 1) domain h new (ap (λ (x : State). x.domains) is) there
     (let same = ap (λ (x : Domain). x.begun) places.same in omega (arith, same))
 begun_kept m t (calls.MapList domain order rights segments) _ is later begun = same_begun m t later begun (ap (λ (x : State). x.domains) is)
@@ -222,7 +222,7 @@ begun_kept m t (calls.Reap domain number) (Reaped released) (h, new, there, reap
 begun_kept m t (calls.Reap domain number) _ is later begun = same_begun m t later begun (ap (λ (x : State). x.domains) is)
 begun_kept m t (calls.Attach device domain) Done (h, there, is) later begun = same_begun m t later begun (ap (λ (x : State). x.domains) is)
 begun_kept m t (calls.Attach device domain) _ is later begun = same_begun m t later begun (ap (λ (x : State). x.domains) is)
-begun_kept m t (calls.Detach device) Done (domain, root, at, sends, is) later begun =
+begun_kept m t (calls.Detach device) Done (domain, root, width, at, sends, is) later begun =
     same_begun m t later begun (ap (λ (x : State). x.domains) is)
 begun_kept m t (calls.Detach device) _ is later begun = same_begun m t later begun (ap (λ (x : State). x.domains) is)
 begun_kept m t calls.Unit (Stepped progress) is later begun = same_begun m t later begun (ap (λ (x : State). x.domains) is)

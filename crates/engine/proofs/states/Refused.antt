@@ -25,6 +25,7 @@ quarantine_counted m w q = record {
   table_frames = q.table_frames;
   domains = q.domains;
   caches = record { leaves = q.caches.leaves; tables = q.caches.tables };
+  faults = q.faults;
   contexts = record { devices = q.contexts.devices; roots = q.contexts.roots; cached = q.contexts.cached };
   frames = q.frames;
   tickets = q.tickets;
@@ -32,7 +33,7 @@ quarantine_counted m w q = record {
 
 pub next_refused : (w : World) (call : Call) (refusal : Refusal) → next w call (Refused refusal) ≡ w
 unfolding next
-next_refused w (calls.Domain mode) refusal = refl
+next_refused w (calls.Domain mode width) refusal = refl
 next_refused w (calls.Drop domain) refusal = refl
 next_refused w (calls.Attach device domain) refusal = refl
 next_refused w (calls.Detach device) refusal = refl
@@ -48,7 +49,7 @@ next_refused w (calls.Evict kind place) refusal = refl
 
 becomes_counted : (m t : State) (call : Call) (refusal : Refusal) → t ≡ counted m → Becomes m call (Refused refusal) t
 unfolding Becomes
-becomes_counted m t (calls.Domain mode) refusal is = is
+becomes_counted m t (calls.Domain mode width) refusal is = is
 becomes_counted m t (calls.Drop domain) refusal is = is
 becomes_counted m t (calls.Attach device domain) refusal is = is
 becomes_counted m t (calls.Detach device) refusal is = is
@@ -73,8 +74,8 @@ refuses m t call refusal is exact step = record {
 
 next_frames : (w : World) (call : Call) (reply : Reply) → (next w call reply).table_frames ≡ w.table_frames
 unfolding next
-next_frames w (calls.Domain mode) (Made d) = refl
-next_frames w (calls.Domain mode) _ = refl
+next_frames w (calls.Domain mode width) (Made d) = refl
+next_frames w (calls.Domain mode width) _ = refl
 next_frames w (calls.Drop domain) Done = refl
 next_frames w (calls.Drop domain) _ = refl
 next_frames w (calls.Detach device) Done = refl

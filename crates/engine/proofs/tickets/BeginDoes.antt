@@ -27,6 +27,7 @@ use Rattle.engine.proofs.states.OneDomain.{ChangesDomain, changes_domain, same_t
 use Rattle.engine.proofs.states.RecordsMade.{begun_kept, made_kept}
 use Rattle.engine.proofs.states.Refused.{counted, refuses, tickets_of}
 use Rattle.engine.proofs.unmaps.DomainAfter.{mirrors_of}
+use Rattle.engine.proofs.caches.Faults.{all_left}
 
 -- ---- refused
 
@@ -79,7 +80,12 @@ module _ (m : State) (domain i : ℕ) (h : Domain) (x : Iommu) (whole : IsWhole 
 
   begun_mirrors : (v : world.Domain) → Mirrors m.pool.words h v → Mirrors m.pool.words (begins h) (begun_once_more v)
   begun_mirrors v mirrors = record {
-    ids = record { mode = mirrors.ids.mode; begun = omega (arith, mirrors.ids.begun); records = mirrors.ids.records };
+    ids = record {
+      mode = mirrors.ids.mode;
+      begun = omega (arith, mirrors.ids.begun);
+      width = mirrors.ids.width;
+      records = mirrors.ids.records;
+    };
     tree = mirrors.tree;
     pieces = record {
       is_space = mirrors.pieces.is_space;
@@ -105,9 +111,10 @@ module _ (m : State) (domain i : ℕ) (h : Domain) (x : Iommu) (whole : IsWhole 
     row = ap (λ (y : Iommu). y.contexts) sends;
     tickets = refl;
     root = refl;
+    width = refl;
     frames = refl;
     mirrors = begun_mirrors v (mirrors_of m w domain h v q there here);
-    others = λ e k ne at. same_tree m.pool.words m.pool.words k.root refl;
+    others = λ e k ne at. same_tree m.pool.words m.pool.words k.width k.root refl;
     account = λ f. refl;
     zeroed = q.frames.zeroed;
     held = λ e k at f more. q.frames.held e f k at more;
@@ -121,6 +128,8 @@ module _ (m : State) (domain i : ℕ) (h : Domain) (x : Iommu) (whole : IsWhole 
       λ same lawful. record { span = lawful.span; named = lawful.named },
     );
     contexts = λ k inside. subst (λ c. world.IsIn k c.contexts) caches_stay inside;
+    faults = all_left m.iommu.unit x.unit (ap (λ (y : Iommu). y.unit) sends);
+    live = λ p none. none;
   }
 
   -- one ticket more is open, in the state and in the world
@@ -130,6 +139,7 @@ module _ (m : State) (domain i : ℕ) (h : Domain) (x : Iommu) (whole : IsWhole 
     table_frames = q.table_frames;
     domains = q.domains;
     caches = record { leaves = q.caches.leaves; tables = q.caches.tables };
+    faults = q.faults;
     contexts = record { devices = q.contexts.devices; roots = q.contexts.roots; cached = q.contexts.cached };
     frames = q.frames;
     tickets =

@@ -1,6 +1,7 @@
 -- What the tickets of a state keep, call by call.
 use Rattle.std.proofs.Common.{◌≡◌, ℕ, ◌+◌, ◌-◌, ◌≤◌, ◌<◌, inl, inr, List, [], ◌∷◌, ◌++◌, Some, None, length}
-use Rattle.std.proofs.Common.{sym, ap, subst, ◌∙◌, append_assoc, arith, not, slice_set, ⊎_elim}
+use Rattle.dmatypes.specs.declared.width.Width.{Width}
+use Rattle.std.proofs.Common.{Bool, true, false, sym, ap, subst, ◌∙◌, append_assoc, arith, not, slice_set, ⊎_elim}
 use Rattle.std.proofs.lemmas.Bool.{cases_lt}
 use Rattle.std.proofs.lemmas.List.{length-map}
 use Rattle.std.proofs.lemmas.Option.{same_Some}
@@ -18,12 +19,12 @@ use Rattle.dmatypes.specs.declared.call.Mode.TheVariants.{Strict, Lazy}
 use Rattle.dmatypes.specs.declared.limits.TheConstants.{MOST_DOMAINS, MOST_TICKETS}
 use Rattle.dmatypes.specs.declared.reply.Reply.{Reply}
 use Rattle.dmatypes.specs.declared.reply.Reply.TheVariants.{Made, Done, Mapped, Unmapped, Flushed, Stepped, Reaped, Refused}
-use Rattle.unit.proofs.caches.Members.{without_leaf, without_non_leaf, without_context}
+use Rattle.unit.proofs.caches.Members.{without_leaf, without_non_leaf, without_context, without_fault}
 use Rattle.vtdbits.specs.declared.descriptor.Descriptor.TheVariants.{ContextDevice, IotlbDomain, Wait}
 use Rattle.engine.specs.declared.iommu.Iommu.{Iommu}
 use Rattle.engine.specs.declared.record.Record.{Record}
 use Rattle.engine.specs.Domains.{Domain, Parts, domain_at}
-use Rattle.engine.specs.Ending.{ByMode, Invalidates, MakesRoom, PutsOff, UnmapsStrictly, domain_shown, status_of, was_before}
+use Rattle.engine.specs.Ending.{ByMode, Invalidates, MakesRoom, PutsOff, SendsForMap, UnmapsStrictly, domain_shown, status_of, was_before}
 use Rattle.engine.specs.State.{Becomes, Exact, State, begins, parts_in}
 use Rattle.engine.specs.Quarantine.{Quarantine, ticket_there}
 use Rattle.engine.specs.Tickets.{KeepsTickets}
@@ -93,10 +94,10 @@ module _ (m t : State) (w : World) (q : Quarantine m w) (many : length m.domains
       calm (ap (λ (x : State). x.iommu) is) (ap (λ (x : State). x.tickets) is) (none_ages m t (ap (λ (x : State). x.domains) is))
 
   -- a domain that is made is none of a ticket
-  made_ages : (mode : Mode) (d : ℕ) (new : Domain) → Answers w (calls.Domain mode) (Made d)
+  made_ages : (mode : Mode) (width : Width) (d : ℕ) (new : Domain) → Answers w (calls.Domain mode width) (Made d)
       → t.domains ≡ slice_set m.domains (d - 1) (Some new) → AgeAll m t
   unfolding Answers
-  made_ages mode d new (e, unused, same) is x inside h there =
+  made_ages mode width d new (e, unused, same) is x inside h there =
       let v = both_there m.pool.words (domain_at m.domains x.domain) (w.domains x.domain) h (q.domains x.domain) there in
       let id : d ≡ e = made_id d e same in
       others_age m t d (Some new) many (omega (arith, id, unused.0)) (omega (arith, id, unused.1)) is x
@@ -124,13 +125,18 @@ module _ (m t : State) (w : World) (q : Quarantine m w) (many : length m.domains
         empties.flushes.invalidates) ages tickets
   ]
 
+  map_tickets : (domain root : ℕ) (range : Range) (caching : Bool) → SendsForMap caching m.iommu domain root range t.iommu
+      → t.tickets ≡ m.tickets → AgeAll m t → KeepsTickets t
+  map_tickets domain root range false sends tickets ages = calm sends tickets ages
+  map_tickets domain root range true (d, is, sends) tickets ages = tickets_done m t k m.iommu.contexts d sends ages tickets
+
   -- no call that is refused, and none but these, changes more than the count of calls
   pub tickets_kept : (call : Call) (reply : Reply) → IsStep w call reply × Exact m call reply → Becomes m call reply t → KeepsTickets t
   unfolding Becomes Exact IsStep Stands
-  tickets_kept (calls.Domain mode) (Made d) step (root, takes, is) =
+  tickets_kept (calls.Domain mode width) (Made d) step (root, takes, is) =
       calm (ap (λ (x : State). x.iommu) is) (ap (λ (x : State). x.tickets) is)
-      (made_ages mode d _ step.0.1 (ap (λ (x : State). x.domains) is))
-  tickets_kept (calls.Domain mode) _ step is = only_counted is
+      (made_ages mode width d _ step.0.1 (ap (λ (x : State). x.domains) is))
+  tickets_kept (calls.Domain mode width) _ step is = only_counted is
   tickets_kept (calls.Attach device domain) Done step (h, there, is) =
       tickets_stay m t k (ap (λ (x : State). x.tickets) is) (ap (λ (x : State). x.iommu.ring) is) (ap (λ (x : State). x.iommu.sent) is)
       (none_ages m t (ap (λ (x : State). x.domains) is)) (forgets_same m t (ap (λ (x : State). x.iommu.unit.caches) is))
@@ -141,18 +147,18 @@ module _ (m t : State) (w : World) (q : Quarantine m w) (many : length m.domains
       closes.flushes.invalidates)
       (dropped_ages domain h there (λ some. step.0.0.1.0 (inr some)) (ap (λ (x : State). x.domains) is)) (ap (λ (x : State). x.tickets) is)
   tickets_kept (calls.Drop domain) _ step is = only_counted is
-  tickets_kept (calls.Detach device) Done step (domain, root, at, sends, is) =
+  tickets_kept (calls.Detach device) Done step (domain, root, width, at, sends, is) =
       tickets_done m t k _ (ContextDevice domain device) sends (none_ages m t (ap (λ (x : State). x.domains) is))
       (ap (λ (x : State). x.tickets) is)
   tickets_kept (calls.Detach device) _ step is = only_counted is
-  tickets_kept (calls.Map domain frame pages order rights) (Mapped address) step (h, new, there, places, is) =
-      calm (ap (λ (x : State). x.iommu) is) (ap (λ (x : State). x.tickets) is)
+  tickets_kept (calls.Map domain frame pages order rights) (Mapped address) step (h, new, there, places, sends, is) =
+      map_tickets domain h.root _ m.iommu.unit.caching sends (ap (λ (x : State). x.tickets) is)
       (one_ages m t domain h new many there (ap (λ (x : State). x.domains) is)
       (ages_fewer h new (ap (λ (x : Domain). x.begun) places.same)
       (λ r inside. subst (IsIn r) (ap (λ (x : Domain). x.records) places.same) inside)))
   tickets_kept (calls.Map domain frame pages order rights) _ step is = only_counted is
-  tickets_kept (calls.MapList domain order rights segments) (Mapped address) step (h, new, there, places, is) =
-      calm (ap (λ (x : State). x.iommu) is) (ap (λ (x : State). x.tickets) is)
+  tickets_kept (calls.MapList domain order rights segments) (Mapped address) step (h, new, there, places, sends, is) =
+      map_tickets domain h.root _ m.iommu.unit.caching sends (ap (λ (x : State). x.tickets) is)
       (one_ages m t domain h new many there (ap (λ (x : State). x.domains) is)
       (ages_fewer h new (ap (λ (x : Domain). x.begun) places.same)
       (λ r inside. subst (IsIn r) (ap (λ (x : Domain). x.records) places.same) inside)))
@@ -215,5 +221,6 @@ module _ (m t : State) (w : World) (q : Quarantine m w) (many : length m.domains
         leaves = without_leaf kind place m.iommu.unit.caches;
         tables = without_non_leaf kind place m.iommu.unit.caches;
         contexts = without_context kind place m.iommu.unit.caches;
+        faults = without_fault kind place m.iommu.unit.caches;
       })))
   tickets_kept (calls.Evict kind place) _ step is = only_counted is

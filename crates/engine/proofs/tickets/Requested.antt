@@ -10,12 +10,12 @@ use Rattle.dmatypes.specs.World as world
 use Rattle.dmatypes.specs.declared.call.Access.{Access}
 use Rattle.dmatypes.specs.declared.limits.TheConstants.{MOST_DOMAINS}
 use Rattle.dmatypes.specs.declared.refusal.Fault.{Fault}
-use Rattle.dmatypes.specs.declared.width.TheConstants.{LEVELS, PAGES_END}
+use Rattle.dmatypes.specs.Page.{levels, pages_end}
 use Rattle.tables.specs.Pool.{memory, occurs}
 use Rattle.tables.specs.Tree.{leaf_from, uses}
 use Rattle.unit.proofs.caches.Members.{met_is}
 use Rattle.unit.proofs.walks.Used.{table_used}
-use Rattle.unit.specs.Answers.{Answers, AnswersWith, IsContextOf, IsRead, IsStart}
+use Rattle.unit.specs.Answers.{Answers, AnswersWith, Entries, IsContextOf, IsRead, IsStart, entries_of}
 use Rattle.unit.specs.Caches.{CachedContext, CachedLeaf, CachedNonLeaf}
 use Rattle.unit.specs.Walking.{met, IsPassed}
 use Rattle.unit.specs.declared.hit.Hit.{Hit}
@@ -35,9 +35,9 @@ use Rattle.engine.proofs.tickets.Stay.{Forgets}
 
 module _ (words : List ℕ) (h : Domain) (v : world.Domain) (mirrors : Mirrors words h v) where
   -- each page of a leaf is live
-  live_of_way : (domain p level table s : ℕ) (l : CachedLeaf) → p < PAGES_END
+  live_of_way : (domain p level table s : ℕ) (l : CachedLeaf) → p < pages_end h.width
       → met domain p (leaf_from (memory words) level table p) ≡ Some l
-      → IsOnWay words h.root p level table ⊎ MeetsNothing words v p level table → l.first ≤ s → s < l.first + l.pages
+      → IsOnWay words h.width h.root p level table ⊎ MeetsNothing words v p level table → l.first ≤ s → s < l.first + l.pages
       → (y : Target) × (v.live s ≡ Some y)
   live_of_way domain p level table s l low is (inl way) above below =
       let found = met_is domain p (leaf_from (memory words) level table p) l is in (
@@ -51,21 +51,22 @@ module _ (words : List ℕ) (h : Domain) (v : world.Domain) (mirrors : Mirrors w
 
   -- a table is one of the tree
   used_of_way : (domain p level table : ℕ) (i : CachedNonLeaf) → IsPassed (memory words) level table domain p i
-      → IsOnWay words h.root p level table ⊎ MeetsNothing words v p level table → 0 < uses (memory words) LEVELS h.root i.frame
+      → IsOnWay words h.width h.root p level table ⊎ MeetsNothing words v p level table
+      → 0 < uses (memory words) (levels h.width) h.root i.frame
   used_of_way domain p level table i passed (inl way) =
-      subst (λ f. 0 < uses (memory words) LEVELS h.root f) (sym (ap (λ (k : CachedNonLeaf). k.frame) passed.5))
-      (table_used (memory words) LEVELS h.root p passed.0 passed.1 (sym (way.2 passed.0 passed.3) ∙ passed.4))
+      subst (λ f. 0 < uses (memory words) (levels h.width) h.root f) (sym (ap (λ (k : CachedNonLeaf). k.frame) passed.5))
+      (table_used (memory words) (levels h.width) h.root p passed.0 passed.1 (sym (way.2 passed.0 passed.3) ∙ passed.4))
   used_of_way domain p level table i passed (inr none) = absurd (none-some passed.1 (sym (none.2 passed.0 passed.3) ∙ passed.4))
 
 -- ---- what a request adds
 
 module _ (m t : State) (w : World) (q : Quarantine m w) (many : length m.domains ≡ MOST_DOMAINS) (look fill : Bool) where
   module _ (x : CachedContext) (h : Domain) (v : world.Domain) (here : domain_at m.domains x.domain ≡ Some h)
-      (there : w.domains x.domain ≡ Some v) (root : h.root ≡ x.root) (mirrors : Mirrors m.pool.words h v)
-      (p : ℕ) (low : p < PAGES_END) (y : Option Target) where
+      (there : w.domains x.domain ≡ Some v) (root : h.root ≡ x.root) (wide : h.width ≡ x.width) (mirrors : Mirrors m.pool.words h v)
+      (p : ℕ) (low : p < pages_end h.width) (y : Option Target) where
     way : (level table : ℕ) → IsStart m.iommu.unit.caches.non_leaves look x p level table
-        → IsOnWay m.pool.words h.root p level table ⊎ MeetsNothing m.pool.words v p level table
-    way = begun m w q.caches x h v here there root mirrors look fill p low t.iommu.unit.caches.leaves t.iommu.unit.caches.non_leaves y
+        → IsOnWay m.pool.words h.width h.root p level table ⊎ MeetsNothing m.pool.words v p level table
+    way = begun m w q.caches q.faults x h v here there root wide mirrors look fill p low (entries_of t.iommu.unit.caches) y
 
     -- no page of a new leaf is in a record
     leaf_out : (level table : ℕ) → IsStart m.iommu.unit.caches.non_leaves look x p level table → (l : CachedLeaf)
@@ -95,11 +96,11 @@ module _ (m t : State) (w : World) (q : Quarantine m w) (many : length m.domains
           | inr none ↦ omega (arith, none)
         ]
 
-    read_forgets : IsRead (memory m.pool.words) x look fill p m.iommu.unit.caches.leaves t.iommu.unit.caches.leaves
-        m.iommu.unit.caches.non_leaves t.iommu.unit.caches.non_leaves y → Forgets m t
-    read_forgets (inl (cached, leaves, tables)) d g at r inside old = record {
-      leaves = λ l l_in. old.leaves l (subst (IsIn l) leaves l_in);
-      tables = λ i i_in. old.tables i (subst (IsIn i) tables i_in);
+    read_forgets : IsRead (memory m.pool.words) x look fill m.iommu.unit.caching p (entries_of m.iommu.unit.caches)
+        (entries_of t.iommu.unit.caches) y → Forgets m t
+    read_forgets (inl (cached, same)) d g at r inside old = record {
+      leaves = λ l l_in. old.leaves l (subst (λ (e : Entries). IsIn l e.leaves) same l_in);
+      tables = λ i i_in. old.tables i (subst (λ (e : Entries). IsIn i e.tables) same i_in);
     }
     read_forgets (inr (level, table, walked)) d g at r inside old = record {
       leaves = λ l l_in. elim (walked.leaves_gain l l_in) [
@@ -114,18 +115,21 @@ module _ (m t : State) (w : World) (q : Quarantine m w) (many : length m.domains
 
   module _ (device address : ℕ) (access : Access) (answer : Result Hit Fault) where
     context_forgets : (x : CachedContext) → IsContextOf m.iommu.contexts m.iommu.unit.caches.contexts look device x
-        → AnswersWith (memory m.pool.words) x look fill address access m.iommu.unit.caches t.iommu.unit.caches answer → Forgets m t
+        → AnswersWith (memory m.pool.words) x look fill m.iommu.unit.caching address access m.iommu.unit.caches t.iommu.unit.caches answer
+        → Forgets m t
     context_forgets x is (inl beyond) d g at r inside old = record {
-      leaves = λ l l_in. old.leaves l (subst (IsIn l) beyond.2 l_in);
-      tables = λ i i_in. old.tables i (subst (IsIn i) beyond.3 i_in);
+      leaves = λ l l_in. old.leaves l (subst (λ (e : Entries). IsIn l e.leaves) beyond.2 l_in);
+      tables = λ i i_in. old.tables i (subst (λ (e : Entries). IsIn i e.tables) beyond.2 i_in);
     }
     context_forgets x is (inr near) d g at r inside old =
         let of = of_context m w q x (of_row m w q look device x is) in
-        read_forgets x of.0 of.1 of.2 of.3 of.4 of.5 (page_of address) (within address near.0) near.1.0 near.1.1 d g at r
+        read_forgets x of.0 of.1 of.2 of.3 of.4 of.7 of.5 (page_of address)
+        (subst (λ n. page_of address < pages_end n) (sym of.7) (within x.width address near.0)) near.1.0 near.1.1 d g at r
         inside old
 
     -- what is forgotten stays so
-    pub request_forgets : Answers (memory m.pool.words) m.iommu.contexts look fill device address access m.iommu.unit.caches
+    pub request_forgets : Answers (memory m.pool.words) m.iommu.contexts look fill m.iommu.unit.caching device address access
+        m.iommu.unit.caches
         t.iommu.unit.caches answer → Forgets m t
     request_forgets (inl (none, is, same)) d g at r inside old = subst (λ c. IsForgotten c d r) (sym same) old
     request_forgets (inr (x, is, gains, answers)) d g at r inside old = context_forgets x is answers d g at r inside old

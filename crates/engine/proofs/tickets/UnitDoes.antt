@@ -25,7 +25,7 @@ stepped m = record m {
   iommu = record m.iommu {
     ring = after_first m.iommu.ring.waiting m.iommu.ring.status m.iommu.ring.taken;
     unit = unit_state (left_by_first m.iommu.ring.waiting m.iommu.unit.caches) (m.iommu.unit.steps + 1)
-        (done_after m.iommu.ring.waiting m.iommu.unit.done);
+        (done_after m.iommu.ring.waiting m.iommu.unit.done) m.iommu.unit.caching;
   };
   calls = m.calls + 1;
 }
@@ -39,6 +39,7 @@ quarantine_stepped m w q =
       table_frames = q.table_frames;
       domains = q.domains;
       caches = record { leaves = lawful.leaves; tables = lawful.tables };
+      faults = λ f inside. q.faults f (fewer.faults f inside);
       contexts = record {
         devices = q.contexts.devices;
         roots = q.contexts.roots;

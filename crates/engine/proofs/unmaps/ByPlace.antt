@@ -9,7 +9,7 @@ use Rattle.dmatypes.specs.declared.refusal.Refusal.{Refusal}
 use Rattle.dmatypes.specs.declared.refusal.Refusal.TheVariants as refusals
 use Rattle.dmatypes.specs.declared.reply.Reply.TheVariants.{Refused, Unmapped}
 use Rattle.dmatypes.specs.Conditions.{IsBadUnmap}
-use Rattle.dmatypes.specs.Page.{IsPageRange, range_at}
+use Rattle.dmatypes.specs.Page.{Fits, IsPageRange, range_at}
 use Rattle.tables.specs.Pool.{Pool}
 use Rattle.engine.specs.declared.iommu.Iommu.{Iommu}
 use Rattle.engine.specs.declared.iommu.Shown.{Shown}
@@ -39,14 +39,15 @@ unmap_no_domain m t domain address pages is none =
     refuses m t (calls.Unmap domain address pages) refusals.NoDomain is tt (λ w q. no_domain_step m w domain address pages q none)
 
 pub unmap_bad_range : (m t : State) (domain address pages : ℕ) (h : Domain) → t ≡ counted m → domain_at m.domains domain ≡ Some h
-    → IsBadUnmap address pages → Does m (calls.Unmap domain address pages) (Refused refusals.BadRange) t
+    → IsBadUnmap h.width address pages → Does m (calls.Unmap domain address pages) (Refused refusals.BadRange) t
 unfolding Exact
 unmap_bad_range m t domain address pages h is there bad =
     refuses m t (calls.Unmap domain address pages) refusals.BadRange is tt (λ w q. bad_range_step m w domain address pages h q there bad)
 
 judged : (m : State) (domain address pages : ℕ) (h : Domain) (refusal : Refusal) → domain_at m.domains domain ≡ Some h
     → address % PAGE_BYTES ≡ 0
-    → IsPageRange (range_at address pages) → IsJudgedEnd m.pool h (range_at address pages) (Err refusal)
+    → IsPageRange (range_at address pages) × Fits (range_at address pages) h.width
+    → IsJudgedEnd m.pool h (range_at address pages) (Err refusal)
     → Does m (calls.Unmap domain address pages) (Refused refusal) (counted m)
 unfolding Exact
 judged m domain address pages h refusals.NotLive there whole fits dead =
@@ -62,7 +63,8 @@ judged m domain address pages h _ there whole fits other = absurd other
 
 unmap_refused : (m : State) (domain address pages i : ℕ) (h new : Domain) (pool : Pool) (x : Iommu) (refusal : Refusal)
     → slice_get m.domains i ≡ Some (Some h) → domain_at m.domains domain ≡ Some h → address % PAGE_BYTES ≡ 0
-    → IsPageRange (range_at address pages) → IsUnmapped (parts_in m h) domain (range_at address pages) (Err refusal) (parts_of pool new x)
+    → IsPageRange (range_at address pages) × Fits (range_at address pages) h.width
+    → IsUnmapped (parts_in m h) domain (range_at address pages) (Err refusal) (parts_of pool new x)
     → Does m (calls.Unmap domain address pages) (Refused refusal) (changed m i pool (Some new) x)
 unmap_refused m domain address pages i h new pool x refusal at there whole fits ended =
     rw same (judged m domain address pages h refusal there whole fits ended.1)
@@ -75,7 +77,8 @@ unmap_refused m domain address pages i h new pool x refusal at there whole fits 
 
 module _ (m : State) (address pages i released : ℕ) (h new : Domain) (pool : Pool) (x : Iommu) (many : length m.domains ≡ MOST_DOMAINS)
     (less : i < length m.domains)
-    (there : domain_at m.domains (i + 1) ≡ Some h) (whole : address % PAGE_BYTES ≡ 0) (fits : IsPageRange (range_at address pages)) where
+    (there : domain_at m.domains (i + 1) ≡ Some h) (whole : address % PAGE_BYTES ≡ 0)
+    (fits : IsPageRange (range_at address pages) × Fits (range_at address pages) h.width) where
   abbrev after : State
   after = changed m i pool (Some new) x
 
@@ -90,7 +93,7 @@ module _ (m : State) (address pages i released : ℕ) (h new : Domain) (pool : P
   strictly strict none does =
       rw none (strict_steps m after i address pages h does.between does.retired many less there whole fits does.of_range
       does.invalidates.contexts refl (status_of x.sent) does.descriptor does.pool_between new.space strict does.retires does.sent
-      does.invalidates.caches
+      does.invalidates.caches does.invalidates.caching
       does.releases (ap (λ (d : Domain). slice_set m.domains i (Some d))
       (does.same ∙ ap (λ (d : Domain). record d { space = new.space }) does.retires.same)))
 
@@ -114,7 +117,7 @@ module _ (m : State) (address pages i released : ℕ) (h new : Domain) (pool : P
       flushes.invalidates in
       rw empties.all (full_steps m after i address pages h does.between does.retired many less there whole fits does.of_range
       invalidates.contexts refl (status_of x.sent) does.roomy.pool does.roomy.domain.space lazy empties.full may.0.live invalidates.caches
-      flushes.releases
+      invalidates.caching flushes.releases
       retires
       (ap (λ (d : Domain). slice_set m.domains i (Some d))
       (does.last ∙ ap (λ (d : Domain). record d { records = d.records ++ does.retired ∷ [] }) retires.same)))
@@ -174,6 +177,7 @@ pub record AnswersUnmap (m : State) (domain address pages : ℕ) (answer : Resul
 pub unmap_answered : (m : State) (domain address pages i : ℕ) (h new : Domain) (pool : Pool) (x : Iommu)
     (answer : Result ℕ Refusal) → IsWhole m.pool.frames m → i < length m.domains → domain ≡ i + 1 → slice_get m.domains i ≡ Some (Some h)
     → domain_at m.domains domain ≡ Some h → address % PAGE_BYTES ≡ 0 → IsPageRange (range_at address pages)
+    × Fits (range_at address pages) h.width
     → IsUnmapped (parts_in m h) domain (range_at address pages) answer (parts_of pool new x)
     → AnswersUnmap m domain address pages answer (changed m i pool (Some new) x)
 unmap_answered m domain address pages i h new pool x (Ok released) is less id at there whole fits ended =

@@ -8,13 +8,13 @@ use Rattle.dmatypes.specs.declared.call.Mode.TheVariants.{Strict, Lazy}
 use Rattle.dmatypes.specs.Page.{IsPageRange}
 use Rattle.dmatypes.specs.World.{Target, World, IsIn, IsLive, IsRetired, put, put_off, record_of, unmapped}
 use Rattle.dmatypes.specs.World as world
-use Rattle.dmatypes.proofs.numbers.Ranges.{to_ends, within_or_not}
+use Rattle.dmatypes.proofs.numbers.Ranges.{end_of_fit, within_or_not}
 use Rattle.iova.specs.Space.{Space}
 use Rattle.tables.specs.Changes.{TreeStays}
 use Rattle.tables.specs.Pool.{Pool, memory, occurs, IsZeroed}
 use Rattle.tables.specs.Tree.{span, stated, states, uses}
 use Rattle.tables.proofs.unmaps.Ended.{unmap_leaves, unmap_tables}
-use Rattle.tables.proofs.pools.Kept.{apart_stays, same_root, span-levels}
+use Rattle.tables.proofs.pools.Kept.{some_levels, apart_stays, same_root, span-levels}
 use Rattle.tables.proofs.walks.Steps.{span-one}
 use Rattle.unit.specs.Caches.{CachedLeaf, CachedNonLeaf}
 use Rattle.unit.specs.Filters.{drops_leaf, drops_non_leaf}
@@ -34,9 +34,10 @@ use Rattle.engine.proofs.caches.Purged.{Purges, purges_sent}
 use Rattle.engine.proofs.lists.Membership.{in_last, in_left, map_last}
 use Rattle.engine.proofs.caches.StrictRange.{strict_apart, strict_table}
 use Rattle.engine.proofs.unmaps.Pages.{pieces_put_off, pieces_unmapped, restricted_inside, without_inside, without_outside}
+use Rattle.engine.proofs.caches.Faults.{all_left, without_none}
 use Rattle.dmatypes.specs.declared.limits.TheConstants.{MOST_DOMAINS}
 use Rattle.dmatypes.specs.declared.page.TheConstants.{SPAN_PAGES}
-use Rattle.dmatypes.specs.declared.width.TheConstants.{LEVELS, PAGES_END}
+use Rattle.dmatypes.specs.Page.{Fits, levels, pages_end}
 
 -- the domain with another space and other records
 abbrev pub domain_after : Domain → Space → List Record → Domain
@@ -48,27 +49,28 @@ held-last rs r f = sum_by_push (λ (y : Record). occurs f y.cut.frames) rs r
 
 -- ---- one domain
 
-module _ (pool pool1 : Pool) (h h1 : Domain) (v : world.Domain) (r : Record) (fits : IsPageRange r.range)
+module _ (pool pool1 : Pool) (h h1 : Domain) (v : world.Domain) (r : Record) (fits : IsPageRange r.range × Fits r.range h.width)
     (mirrors : Mirrors pool.words h v) (cuts : RetiresAndUnmaps pool h r pool1 h1) where
-  start : r.range.first < span LEVELS
-  start = let ends = to_ends r.range fits in omega (arith, ends.some, ends.last, span-levels)
+  start : r.range.first < span (levels h.width)
+  start = omega (arith, fits.0.some, end_of_fit r.range h.width fits.0 fits.1, span-levels h.width)
 
   -- what the tree says is live without the range
-  tree_without : (p : ℕ) → p < PAGES_END → states (memory pool1.words) LEVELS h.root p ≡ (unmapped r.range v).live p
+  tree_without : (p : ℕ) → p < pages_end h.width → states (memory pool1.words) (levels h.width) h.root p ≡ (unmapped r.range v).live p
   tree_without p low = elim (within_or_not r.range p) [
     | inl inside ↦ ap (stated p) (cuts.unmaps.gone p inside.0 inside.1) ∙ sym (without_inside r.range v.live p inside)
     | inr past ↦
-        cuts.unmaps.elsewhere p (same_root LEVELS p r.range.first (omega (arith, low, span-levels)) start) past ∙ mirrors.tree p low
+        cuts.unmaps.elsewhere p (same_root (levels h.width) p r.range.first (omega (arith, low, span-levels h.width)) start)
+        past ∙ mirrors.tree p low
         ∙ sym (without_outside r.range v.live p past)
   ]
 
   pub mirrors_unmapped : (pool2 : Pool) (space2 : Space) → Releases pool1 h1.space r pool2 space2
       → Mirrors pool1.words (domain_after h space2 h.records) (unmapped r.range v)
   mirrors_unmapped pool2 space2 releases = record {
-    ids = record { mode = mirrors.ids.mode; begun = mirrors.ids.begun; records = mirrors.ids.records };
+    ids = record { mode = mirrors.ids.mode; begun = mirrors.ids.begun; width = mirrors.ids.width; records = mirrors.ids.records };
     tree = tree_without;
     pieces =
-        pieces_unmapped h.space v r.range mirrors.pieces cuts.may.live h1.space space2 fits cuts.retires releases.frees releases.is_space;
+        pieces_unmapped h.space v r.range mirrors.pieces cuts.may.live h1.space space2 fits.0 cuts.retires releases.frees releases.is_space;
   }
 
   pub mirrors_put_off : Mirrors pool1.words (domain_after h h1.space (h.records ++ r ∷ [])) (put_off r.range v)
@@ -76,6 +78,7 @@ module _ (pool pool1 : Pool) (h h1 : Domain) (v : world.Domain) (r : Record) (fi
     ids = record {
       mode = mirrors.ids.mode;
       begun = mirrors.ids.begun;
+      width = mirrors.ids.width;
       records = map_last marked_here h.records r ∙ ap (λ xs. xs ++ record { range = r.range; mark = r.mark } ∷ []) mirrors.ids.records
           ∙ ap (λ (n : ℕ). map marked_there v.retired ++ record { range = r.range; mark = n } ∷ []) (cuts.mark ∙ mirrors.ids.begun)
           ∙ sym (map_last marked_there v.retired (record_of r.range v));
@@ -97,7 +100,7 @@ module _ (pool pool1 : Pool) (h h1 : Domain) (v : world.Domain) (r : Record) (fi
           → IsLawfulLeaf pool1.words l (domain_after h space2 h.records) (unmapped r.range v)
       strict_leaf strict l here left lawful =
           let at = lawful.entry strict in
-          let away = strict_apart pool pool1 h.root d r.range r.cut x fits.some sent cuts.split l here left at in
+          let away = strict_apart pool pool1 h.width h.root d r.range r.cut x fits.0.some sent cuts.split l here left at in
           record {
             stated = λ p low high. elim (lawful.stated p low high) [
               | inl live ↦ inl (without_outside r.range v.live p (outside_of l p away low high) ∙ live)
@@ -105,7 +108,8 @@ module _ (pool pool1 : Pool) (h h1 : Domain) (v : world.Domain) (r : Record) (fi
             ];
             entry =
                 λ e.
-                unmap_leaves pool pool1 LEVELS h.root r.range.first (r.range.first + r.range.pages) r.cut.frames (omega arith) start
+                unmap_leaves pool pool1 (levels h.width) h.root r.range.first (r.range.first + r.range.pages) r.cut.frames
+                (omega (arith, some_levels h.width)) start
                 cuts.unmaps l.first l.pages l.frame l.rights at away;
           }
 
@@ -115,7 +119,8 @@ module _ (pool pool1 : Pool) (h h1 : Domain) (v : world.Domain) (r : Record) (fi
         span = lawful.span;
         named = elim lawful.named [
           | inl at ↦
-              inl (strict_table pool pool1 h.root d r.range r.cut x fits.some sent cuts.split start cuts.unmaps i here lawful.span left at)
+              inl (strict_table pool pool1 h.width h.root d r.range r.cut x fits.0.some sent cuts.split start cuts.unmaps i here
+              lawful.span left at)
           | inr has ↦ inr (held_stays pool.words pool1.words h.records zeroed i.first i.pages i.frame has)
         ];
       }
@@ -144,7 +149,8 @@ module _ (pool pool1 : Pool) (h h1 : Domain) (v : world.Domain) (r : Record) (fi
       span = lawful.span;
       named = elim lawful.named [
         | inl at ↦
-            elim (unmap_tables pool pool1 LEVELS h.root r.range.first (r.range.first + r.range.pages) r.cut.frames start cuts.unmaps i.first
+            elim (unmap_tables pool pool1 (levels h.width) h.root r.range.first (r.range.first + r.range.pages)
+            r.cut.frames start cuts.unmaps i.first
             i.level i.frame at) [
               | inl stays ↦ inl stays
               | inr gone ↦
@@ -170,20 +176,22 @@ module _ (m t : State) (w : World) (i : ℕ) (h h1 : Domain) (v : world.Domain) 
     (q : Quarantine m w) (many : length m.domains ≡ MOST_DOMAINS) (less : i < length m.domains)
     (there : domain_at m.domains (i + 1) ≡ Some h)
     (here : w.domains (i + 1) ≡ Some v)
-    (mirrors : Mirrors m.pool.words h v) (fits : IsPageRange r.range) (cuts : RetiresAndUnmaps m.pool h r pool1 h1)
+    (mirrors : Mirrors m.pool.words h v) (fits : IsPageRange r.range × Fits r.range h.width) (cuts : RetiresAndUnmaps m.pool h r pool1 h1)
     (row : t.iommu.contexts ≡ m.iommu.contexts)
     (tickets : t.tickets ≡ m.tickets) (words : t.pool.words ≡ pool1.words) where
   low : i + 1 < MOST_DOMAINS + 1
   low = domain_low m.domains (i + 1) h many there
 
-  others : (e : ℕ) (k : Domain) → e ≢ i + 1 → domain_at m.domains e ≡ Some k → SameTree m.pool.words t.pool.words k.root
+  others : (e : ℕ) (k : Domain) → e ≢ i + 1 → domain_at m.domains e ≡ Some k → SameTree m.pool.words t.pool.words k.width k.root
   others e k ne at =
       let below : e < MOST_DOMAINS + 1 = domain_low m.domains e k many at in
-      let stays : TreeStays m.pool pool1 LEVELS k.root =
-      apart_stays m.pool pool1 LEVELS h.root LEVELS k.root r.cut.frames (tree_of m.pool (domain_at m.domains) (i + 1) h q.frames low there)
+      let stays : TreeStays m.pool pool1 (levels k.width) k.root =
+      apart_stays m.pool pool1 (levels h.width) h.root (levels k.width) k.root r.cut.frames
+      (tree_of m.pool (domain_at m.domains) (i + 1) h q.frames low there)
       cuts.moves
       (tree_of m.pool (domain_at m.domains) e k q.frames below at)
-      (apart_of m.pool (domain_at m.domains) (i + 1) e h k q.frames low below ne there at) in tree_stays m.pool pool1 t.pool.words k.root
+      (apart_of m.pool (domain_at m.domains) (i + 1) e h k q.frames low below ne there at) in tree_stays m.pool pool1 t.pool.words k.width
+      k.root
       stays words
 
   zeroed_then : (e : ℕ) (k : Domain) → domain_at m.domains e ≡ Some k → (f : ℕ) → 0 < held_in k.records f → IsZeroed pool1.words f
@@ -198,13 +206,14 @@ module _ (m t : State) (w : World) (i : ℕ) (h h1 : Domain) (v : world.Domain) 
       → (e : ℕ) → domain_at t.domains e ≡ put (i + 1) (Some new) (domain_at m.domains) e
   domains_then new domains e = ap (λ ds. domain_at ds e) domains ∙ domain_set m.domains i (Some new) less e
 
-  used : (f : ℕ) → uses (memory t.pool.words) LEVELS h.root f ≡ uses (memory pool1.words) LEVELS h.root f
-  used f = ap (λ ws. uses (memory ws) LEVELS h.root f) words
+  used : (f : ℕ) → uses (memory t.pool.words) (levels h.width) h.root f ≡ uses (memory pool1.words) (levels h.width) h.root f
+  used f = ap (λ ws. uses (memory ws) (levels h.width) h.root f) words
 
   -- ---- a strict unmap
 
   module _ (n : ℕ) (x : Descriptor) (space2 : Space) (strict : v.mode ≡ Strict) (sent : IsSent (i + 1) r.range r.cut x)
       (caches : t.iommu.unit.caches ≡ left_by_all (m.iommu.ring.waiting ++ x ∷ Wait n ∷ []) m.iommu.unit.caches)
+      (mode : t.iommu.unit.caching ≡ m.iommu.unit.caching)
       (releases : Releases pool1 h1.space r t.pool space2)
       (domains : t.domains ≡ slice_set m.domains i (Some (domain_after h space2 h.records))) where
     purges : Purges x m.iommu.unit.caches t.iommu.unit.caches
@@ -216,6 +225,7 @@ module _ (m t : State) (w : World) (i : ℕ) (h h1 : Domain) (v : world.Domain) 
       row = row;
       tickets = tickets;
       root = refl;
+      width = refl;
       frames = releases.frames ∙ cuts.moves.frames;
       mirrors =
           subst (λ ws. Mirrors ws (domain_after h space2 h.records) (unmapped r.range v)) (sym words)
@@ -238,6 +248,8 @@ module _ (m t : State) (w : World) (i : ℕ) (h h1 : Domain) (v : world.Domain) 
             lawful),
       );
       contexts = λ k inside. (purges.contexts k inside).0;
+      faults = record { mode = mode; left = λ f inside. (purges.faults f inside).0 };
+      live = λ p none. without_none r.range v.live p none;
     }
 
     strict_keeps : Quarantine t (record w { domains = put (i + 1) (Some (unmapped r.range v)) w.domains })
@@ -262,6 +274,7 @@ module _ (m t : State) (w : World) (i : ℕ) (h h1 : Domain) (v : world.Domain) 
       row = row;
       tickets = tickets;
       root = refl;
+      width = refl;
       frames = ap (λ (p : Pool). p.frames) same_pool ∙ cuts.moves.frames;
       mirrors =
           subst (λ ws. Mirrors ws (domain_after h h1.space records1) (put_off r.range v)) (sym words)
@@ -289,6 +302,8 @@ module _ (m t : State) (w : World) (i : ℕ) (h h1 : Domain) (v : world.Domain) 
             (lazy_non_leaf m.pool pool1 h h1 v r fits mirrors cuts (zeroed_then (i + 1) h there) k lawful),
       );
       contexts = λ k inside. subst (λ u. IsIn k u.caches.contexts) unit inside;
+      faults = all_left m.iommu.unit t.iommu.unit unit;
+      live = λ p none. without_none r.range v.live p none;
     }
 
     lazy_keeps : Quarantine t (record w { domains = put (i + 1) (Some (put_off r.range v)) w.domains })
@@ -299,20 +314,21 @@ module _ (m t : State) (w : World) (i : ℕ) (h h1 : Domain) (v : world.Domain) 
 -- an unmap of a strict domain: the descriptor was sent and done before its pages and the cut tables came free
 pub strict_unmapped : (m t : State) (w : World) (i n : ℕ) (h h1 : Domain) (v : world.Domain) (r : Record) (x : Descriptor) (pool1 : Pool)
     (space2 : Space) → Quarantine m w → length m.domains ≡ MOST_DOMAINS → i < length m.domains → domain_at m.domains (i + 1) ≡ Some h
-    → w.domains (i + 1) ≡ Some v → v.mode ≡ Strict → IsPageRange r.range → RetiresAndUnmaps m.pool h r pool1 h1
+    → w.domains (i + 1) ≡ Some v → v.mode ≡ Strict → IsPageRange r.range × Fits r.range h.width → RetiresAndUnmaps m.pool h r pool1 h1
     → IsSent (i + 1) r.range r.cut x → t.iommu.unit.caches ≡ left_by_all (m.iommu.ring.waiting ++ x ∷ Wait n ∷ []) m.iommu.unit.caches
-    → Releases pool1 h1.space r t.pool space2 → t.domains ≡ slice_set m.domains i (Some (domain_after h space2 h.records))
+    → t.iommu.unit.caching ≡ m.iommu.unit.caching → Releases pool1 h1.space r t.pool space2
+    → t.domains ≡ slice_set m.domains i (Some (domain_after h space2 h.records))
     → t.iommu.contexts ≡ m.iommu.contexts → t.tickets ≡ m.tickets
     → Quarantine t (record w { domains = put (i + 1) (Some (unmapped r.range v)) w.domains })
-strict_unmapped m t w i n h h1 v r x pool1 space2 q many less there here strict fits cuts sent caches releases domains row tickets =
+strict_unmapped m t w i n h h1 v r x pool1 space2 q many less there here strict fits cuts sent caches mode releases domains row tickets =
     strict_keeps m t w i h h1 v r pool1 q many less there here (mirrors_of m w (i + 1) h v q there here) fits cuts row tickets
-    releases.words n x space2 strict sent caches releases domains
+    releases.words n x space2 strict sent caches mode releases domains
 
 -- an unmap of a lazy domain that has room for one more record
 pub lazy_put_off : (m t : State) (w : World) (i : ℕ) (h h1 : Domain) (v : world.Domain) (r : Record)
     → Quarantine m w → length m.domains ≡ MOST_DOMAINS → i < length m.domains → domain_at m.domains (i + 1) ≡ Some h
     → w.domains (i + 1) ≡ Some v
-    → v.mode ≡ Lazy → IsPageRange r.range → RetiresAndUnmaps m.pool h r t.pool h1 → t.iommu.unit ≡ m.iommu.unit
+    → v.mode ≡ Lazy → IsPageRange r.range × Fits r.range h.width → RetiresAndUnmaps m.pool h r t.pool h1 → t.iommu.unit ≡ m.iommu.unit
     → t.domains ≡ slice_set m.domains i (Some (domain_after h h1.space (h.records ++ r ∷ []))) → t.iommu.contexts ≡ m.iommu.contexts
     → t.tickets ≡ m.tickets → Quarantine t (record w { domains = put (i + 1) (Some (put_off r.range v)) w.domains })
 lazy_put_off m t w i h h1 v r q many less there here lazy fits cuts unit domains row tickets =

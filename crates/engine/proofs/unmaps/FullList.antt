@@ -2,7 +2,7 @@
 use Rattle.std.proofs.Common.{◌≡◌, ℕ, zero, suc, ◌+◌, ◌<◌, inl, inr, List, [], ◌∷◌, ◌++◌, length, Option, Some, refl, sym, ap, subst, ◌∙◌}
 use Rattle.std.proofs.Common.{slice_set}
 use Rattle.dmatypes.specs.declared.call.Mode.TheVariants.{Lazy}
-use Rattle.dmatypes.specs.Page.{IsPageRange}
+use Rattle.dmatypes.specs.Page.{Fits, IsPageRange}
 use Rattle.dmatypes.specs.World.{World, flushed, put, put_off}
 use Rattle.dmatypes.specs.World as world
 use Rattle.iova.specs.Space.{Space}
@@ -47,6 +47,7 @@ same_domains m w domains same q = record {
     leaves = λ l inside. let k = q.caches.leaves l inside in (k.0, k.1, k.2, same l.domain ∙ k.3, k.4);
     tables = λ i inside. let k = q.caches.tables i inside in (k.0, k.1, k.2, same i.domain ∙ k.3, k.4);
   };
+  faults = λ f inside. let was = q.faults f inside in (was.0, λ v there. was.1 v (sym (same f.domain) ∙ there));
   contexts = record { devices = q.contexts.devices; roots = q.contexts.roots; cached = q.contexts.cached };
   frames = q.frames;
   tickets = q.tickets;
@@ -58,7 +59,7 @@ module _ (m t : State) (w : World) (i n : ℕ) (h : Domain) (v : world.Domain) (
     (many : length m.domains ≡ MOST_DOMAINS) (less : i < length m.domains)
     (there : domain_at m.domains (i + 1) ≡ Some h) (here : w.domains (i + 1) ≡ Some v)
     (caches : t.iommu.unit.caches ≡ left_by_all (m.iommu.ring.waiting ++ IotlbDomain (i + 1) ∷ Wait n ∷ []) m.iommu.unit.caches)
-    (all : ReleasesAll m.pool h.space h.records pool1 space1) where
+    (mode : t.iommu.unit.caching ≡ m.iommu.unit.caching) (all : ReleasesAll m.pool h.space h.records pool1 space1) where
   -- the domain, the state and the world once all records went
   abbrev emptied : Domain
   emptied = domain_after h space1 []
@@ -70,12 +71,13 @@ module _ (m t : State) (w : World) (i n : ℕ) (h : Domain) (v : world.Domain) (
   flushed_world = record w { domains = put (i + 1) (Some (flushed v)) w.domains }
 
   flushed_first : Quarantine between flushed_world
-  flushed_first = domain_flushed m between w i n h v space1 q many less there here caches all refl refl refl
+  flushed_first = domain_flushed m between w i n h v space1 q many less there here caches mode all refl refl refl
 
   there_between : domain_at between.domains (i + 1) ≡ Some emptied
   there_between = domain_set m.domains i (Some emptied) less (i + 1) ∙ put_same (i + 1) (Some emptied) (domain_at m.domains)
 
-  emptied_then : (h2 : Domain) (r : Record) → v.mode ≡ Lazy → IsPageRange r.range → RetiresAndUnmaps pool1 emptied r t.pool h2
+  emptied_then : (h2 : Domain) (r : Record) → v.mode ≡ Lazy → IsPageRange r.range × Fits r.range h.width
+      → RetiresAndUnmaps pool1 emptied r t.pool h2
       → t.domains ≡ slice_set m.domains i (Some (domain_after h h2.space (r ∷ []))) → t.iommu.contexts ≡ m.iommu.contexts
       → t.tickets ≡ m.tickets
       → Quarantine t (record w { domains = put (i + 1) (Some (put_off r.range (flushed v))) (put (i + 1) (Some (flushed v)) w.domains) })
@@ -88,13 +90,14 @@ module _ (m t : State) (w : World) (i n : ℕ) (h : Domain) (v : world.Domain) (
 pub full_put_off : (m t : State) (w : World) (i n : ℕ) (h h2 : Domain) (v : world.Domain) (r : Record) (pool1 : Pool) (space1 : Space)
     → Quarantine m w → length m.domains ≡ MOST_DOMAINS → i < length m.domains → domain_at m.domains (i + 1) ≡ Some h
     → w.domains (i + 1) ≡ Some v
-    → v.mode ≡ Lazy → IsPageRange r.range
+    → v.mode ≡ Lazy → IsPageRange r.range × Fits r.range h.width
     → t.iommu.unit.caches ≡ left_by_all (m.iommu.ring.waiting ++ IotlbDomain (i + 1) ∷ Wait n ∷ []) m.iommu.unit.caches
-    → ReleasesAll m.pool h.space h.records pool1 space1 → RetiresAndUnmaps pool1 (domain_after h space1 []) r t.pool h2
+    → t.iommu.unit.caching ≡ m.iommu.unit.caching → ReleasesAll m.pool h.space h.records pool1 space1
+    → RetiresAndUnmaps pool1 (domain_after h space1 []) r t.pool h2
     → t.domains ≡ slice_set m.domains i (Some (domain_after h h2.space (r ∷ []))) → t.iommu.contexts ≡ m.iommu.contexts
     → t.tickets ≡ m.tickets → Quarantine t (record w { domains = put (i + 1) (Some (put_off r.range (flushed v))) w.domains })
-full_put_off m t w i n h h2 v r pool1 space1 q many less there here lazy fits caches all cuts domains row tickets =
+full_put_off m t w i n h h2 v r pool1 space1 q many less there here lazy fits caches mode all cuts domains row tickets =
     same_domains t (record w { domains = put (i + 1) (Some (put_off r.range (flushed v))) (put (i + 1) (Some (flushed v)) w.domains) })
     (put (i + 1) (Some (put_off r.range (flushed v))) w.domains)
     (λ d. put_twice (i + 1) (Some (flushed v)) (Some (put_off r.range (flushed v))) w.domains d)
-    (emptied_then m t w i n h v pool1 space1 q many less there here caches all h2 r lazy fits cuts domains row tickets)
+    (emptied_then m t w i n h v pool1 space1 q many less there here caches mode all h2 r lazy fits cuts domains row tickets)

@@ -14,7 +14,7 @@ still_ends old new id released range can may (inl has) = rw has.same (can.cut, m
 still_ends old new id released range can may (inr empties) =
     let all = empties.flushes.releases in
     let emptied : Domain = record old.domain { space = new.domain.space; records = [] } in
-    let room : leaves_split new.pool old.domain.root range ≤ length new.pool.free =
-    split_room old.pool new.pool old.domain.space new.domain.space old.domain.records old.domain.root range all may.1 in
+    let room : leaves_split new.pool old.domain.width old.domain.root range ≤ length new.pool.free =
+    split_room old.pool new.pool old.domain.space new.domain.space old.domain.records old.domain.width old.domain.root range all may.1 in
     subst (λ (d : Domain). CanCut new.pool d × IsJudgedEnd new.pool d range (Ok tt)) (sym empties.flushes.same)
     (can.emptied new.pool new.domain.space all, (all.retirable range may.0, room))

@@ -1,7 +1,7 @@
 -- Pages of a domain that are unmapped, for good or put off, and retired ones that come free.
 use Rattle.std.proofs.Common.{◌≡◌, ℕ, ◌+◌, ◌-◌, ◌<◌, ◌≤◌, ◌⊎◌, inl, inr, List, [], ◌∷◌, ◌++◌, Option, Some, None, IsSome, refl, sym, ap}
 use Rattle.std.proofs.Common.{subst, ◌∙◌, arith}
-use Rattle.dmatypes.specs.Page.{Range, IsPage, IsPageRange, IsWithin}
+use Rattle.dmatypes.specs.Page.{Range, IsPageOf, IsPageRange, IsWithin}
 use Rattle.dmatypes.specs.World.{Target, Retired, IsIn, flushed, put_off, record_of, restricted, unmapped, without}
 use Rattle.dmatypes.specs.World as world
 use Rattle.dmatypes.proofs.numbers.Ranges.{HasEnds, to_ends, within_is, within_not, within_or_not}
@@ -42,8 +42,12 @@ pub live_not_retired : (o : Option PageState) → o ≡ Some Live → o ≡ Some
 live_not_retired o live retired = let no : Some Live ≡ Some pages.Retired = sym live ∙ retired in cc
 
 -- a page with a state is a page
-pub is_page : (space : Space) (p : ℕ) (s : PageState) → IsSpace space → state_at space.pieces p ≡ Some s → IsPage p
-is_page space p s is at = (is.others p (rw at refl)).0
+pub is_page : (space : Space) (v : world.Domain) (p : ℕ) (s : PageState) → PartsPages space v → state_at space.pieces p ≡ Some s
+    → IsPageOf v.width p
+is_page space v p s parts at =
+    let page = parts.is_space.others p (rw at refl) in
+    let some = parts.is_space.some in
+    (page.0, omega (arith, page.1, parts.whole, some))
 
 -- ---- records that are apart
 
@@ -90,7 +94,7 @@ module _ (space : Space) (v : world.Domain) (range : Range) (parts : PartsPages 
     free = λ p. elim (within_or_not range p) [
       | inl inside ↦ (
         λ e. (
-          is_page space p Live parts.is_space (live p inside),
+          is_page space v p Live parts (live p inside),
           record { not_live = without_inside range v.live p inside; not_retired = λ r i in_record. record_apart r i p in_record inside },
         ),
         λ both. frees.states.inside p inside,
@@ -239,7 +243,7 @@ pieces_flushed space space' v parts is last inside outside = record {
   free = λ p. elim (by_state (state_at space.pieces p)) [
     | inl gone ↦ (
       λ e. (
-        is_page space p pages.Retired parts.is_space gone,
+        is_page space v p pages.Retired parts gone,
         record {
           not_live = not_some (v.live p) (λ some. live_not_retired (state_at space.pieces p) ((parts.live p).1 some) gone);
           not_retired = λ r none in_record. none;

@@ -4,11 +4,11 @@ ghost use Rattle.std.specs.Prelude.{◌≡◌, ◌<◌, ◌↔◌, ℕ, IsTrue, 
 ghost use Rattle.std.specs.Int.{bit_at};
 ghost use Rattle.dmatypes.specs.declared.limits.TheConstants.{DEVICES};
 ghost use Rattle.engine.specs.Domains.{domain_at};
-ghost use Rattle.engine.specs.Hits.{mode_of};
+ghost use Rattle.engine.specs.Hits.{mode_of, width_of};
 ghost use Rattle.engine.specs.Quarantine.{attached};
 
 use super::{State, place_of};
-use dmatypes::{DEVICES, Mode};
+use dmatypes::{DEVICES, Mode, Width};
 use vtdbits::DomainId;
 
 impl State {
@@ -42,5 +42,16 @@ impl State {
         let id = DomainId::new(id)?;
         let domain = domains[place_of(id)].as_ref()?;
         Some(domain.mode())
+    }
+
+    /// The width of a domain's addresses; `None` exactly where there is no such domain. It changes nothing, and isn't counted as a
+    /// call.
+    pub fn width_of(&self, id: u64) -> Option<Width>
+        ensures { result ≡ width_of (domain_at self.now.domains id) }
+    {
+        let domains = &self.domains;
+        let id = DomainId::new(id)?;
+        let domain = domains[place_of(id)].as_ref()?;
+        Some(domain.width())
     }
 }

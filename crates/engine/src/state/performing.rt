@@ -42,7 +42,7 @@ impl State {
         ensures { Does self.old call.now result self.new }
     {
         match call {
-            Call::Domain(mode) => made(self.domain(*mode)),
+            Call::Domain { mode, width } => made(self.domain(*mode, *width)),
             Call::Drop { domain } => done(self.drop_domain(*domain)),
             Call::Attach { device, domain } => done(self.attach(*device, *domain)),
             Call::Detach { device } => done(self.detach(*device)),

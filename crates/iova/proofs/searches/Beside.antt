@@ -107,14 +107,14 @@ known_above from last a b (p ∷ ps) o some h =
     above-here p ps last a (omega (arith, o.0)) ∙ sym (above-here p ps last b (omega (arith, o.0)))
 
 -- a piece without room for a page isn't free
-not_free : (p : Piece) → p.first ≤ p.last → HasNoRoom 1 1 p → is_free p.state ≡ false
+not_free : (p : Piece) → p.first ≤ p.last → HasNoRoom 0 1 1 p → is_free p.state ≡ false
 not_free p some n = elim (free_cases p.state) [
   | inl f ↦ absurd (n f p.first (omega arith) (own_round_up p.first).0 (omega arith))
   | inr f ↦ f
 ]
 
 -- and where none is free, no free piece touches the page
-pub none_below : (from first : ℕ) (ps : List Piece) → IsOrdered from ps → AllByRecursion (HasNoRoom 1 1) ps
+pub none_below : (from first : ℕ) (ps : List Piece) → IsOrdered from ps → AllByRecursion (HasNoRoom 0 1 1) ps
     → start_below ps first first ≡ first
 none_below from first [] o n = below-nil first first
 none_below from first (p ∷ ps) o n =
@@ -125,7 +125,7 @@ none_below from first (p ∷ ps) o n =
           ∙ none_below (p.last + 1) first ps o.3 n.1
     ]
 
-pub none_above : (from last : ℕ) (ps : List Piece) → IsOrdered from ps → AllByRecursion (HasNoRoom 1 1) ps → end_above ps last last ≡ last
+pub none_above : (from last : ℕ) (ps : List Piece) → IsOrdered from ps → AllByRecursion (HasNoRoom 0 1 1) ps → end_above ps last last ≡ last
 none_above from last [] o n = above-nil last last
 none_above from last (p ∷ ps) o n =
     elim (order p.first last) [

@@ -95,11 +95,11 @@ cut_by_last ps range last q r o pos l i j h = (
   ]),
 )
 
-pub no_fit : (from pages unit : ℕ) (ps : List Piece) → IsOrdered from ps → 1 ≤ pages → AllByRecursion (HasNoRoom pages unit) ps → (t : ℕ)
-    → IsFit ps pages unit t → ⊥
-no_fit from pages unit [] o pos n t f = none_some [] t Free (state-nil t) (f.free t (omega arith, omega arith))
-no_fit from pages unit (p ∷ ps) o pos n t f = no_fit (p.last + 1) pages unit ps o.3 pos n.1 t
-    (fits_tail from p ps pages unit t o n.0 pos f)
+pub no_fit : (floor from pages unit : ℕ) (ps : List Piece) → IsOrdered from ps → 1 ≤ pages
+    → AllByRecursion (HasNoRoom floor pages unit) ps → (t : ℕ) → IsFit ps pages unit t → floor ≤ t → ⊥
+no_fit floor from pages unit [] o pos n t f high = none_some [] t Free (state-nil t) (f.free t (omega arith, omega arith))
+no_fit floor from pages unit (p ∷ ps) o pos n t f high = no_fit floor (p.last + 1) pages unit ps o.3 pos n.1 t
+    (fits_tail floor from p ps pages unit t o n.0 pos f high) high
 
 pub in_split : (xs ys : List Piece) (q : Piece) → IsIn q (xs ++ ys) → IsIn q xs ⊎ IsIn q ys
 in_split [] ys q i = inr i

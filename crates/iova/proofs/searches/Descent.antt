@@ -83,8 +83,9 @@ pub with_at : (up : Above) (t : Shape) (from : ℕ) (p q : Piece) → IsPiece p 
 with_at up t from p q i o f m lo hi = with_within up t from p q q i o f m m lo hi
 
 -- the pages that were found are pages
-pub found_narrow : (t : Shape) (pages unit start : ℕ) → ArePieces t → IsFound pages unit (items t) start → start + pages ≤ NUMBERS_END
-found_narrow t pages unit start a f =
+pub found_narrow : (t : Shape) (floor pages unit start : ℕ) → ArePieces t → IsFound floor pages unit (items t) start
+    → start + pages ≤ NUMBERS_END
+found_narrow t floor pages unit start a f =
     let i = items_fine t f.piece a (subst (λ ps. IsIn f.piece ps) (sym f.parts) (in_here f.piece f.before f.behind)) in
     omega (arith, i.1, f.room)
 

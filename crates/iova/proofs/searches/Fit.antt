@@ -1,13 +1,13 @@
 -- The lowest aligned start.
-use Rattle.std.proofs.Common.{◌≡◌, ℕ, suc, ◌+◌, ◌*◌, ◌/◌, ◌%◌, ◌<◌, ◌≤◌, List, [], ◌∷◌, length, drop, get_or, Some, ap, sym, ◌∙◌, inl}
+use Rattle.std.proofs.Common.{◌≡◌, ℕ, ◌+◌, ◌*◌, ◌/◌, ◌%◌, ◌<◌, ◌≤◌, max, List, [], ◌∷◌, Some, ap, sym, ◌∙◌, inl}
 use Rattle.std.proofs.Common.{inr}
-use Rattle.std.proofs.Common.{subst, refl, arith, IsTrue, false, drop-cons, add-one}
+use Rattle.std.proofs.Common.{refl, arith, IsTrue, false}
 use Rattle.std.proofs.Math.Nat.{div-add-mod, mul-le-mul_left, lt_of_mul-lt-mul_left}
 use Rattle.iova.specs.declared.piece.PageState.{PageState}
 use Rattle.iova.specs.declared.piece.PageState.TheVariants.{Free, Live, Retired}
 use Rattle.iova.specs.declared.piece.Piece.{Piece}
 use Rattle.iova.specs.Pieces.{is_free, state_at, Touches, IsOrdered}
-use Rattle.iova.specs.Space.{IsFit, IsLowestFit}
+use Rattle.iova.specs.Space.{IsFit}
 use Rattle.iova.specs.Search.{IsRoundUp, HasNoRoom}
 use Rattle.iova.proofs.Pieces.{order, state-here, state-past, state-nil, state_none}
 use Rattle.iova.proofs.Puts.{none_some}
@@ -46,25 +46,32 @@ touching p (q ∷ ps) o f e =
       | inr h ↦ absurd (none_some (q ∷ ps) (p.last + 1) Free (state_none q.first (q ∷ ps) (p.last + 1) (omega arith, o.1, o.2, o.3) h) e)
     ]
 
-pub fits_here : (from : ℕ) (p : Piece) (ps : List Piece) (pages unit up : ℕ) → IsOrdered from (p ∷ ps) → p.state ≡ Free
-    → IsRoundUp p.first unit up → up + pages ≤ p.last + 1 → 1 ≤ pages → IsLowestFit (p ∷ ps) pages unit up
-fits_here from p ps pages unit up o f r h pos = record {
+-- the lowest of the starts from the floor on
+pub record IsLowestAbove (floor : ℕ) (pieces : List Piece) (pages unit start : ℕ) : Type 0 where
+  pub fit : IsFit pieces pages unit start
+  pub above : floor ≤ start
+  pub lowest : (other : ℕ) → IsFit pieces pages unit other → floor ≤ other → start ≤ other
+
+pub fits_here : (floor from : ℕ) (p : Piece) (ps : List Piece) (pages unit up : ℕ) → IsOrdered from (p ∷ ps) → p.state ≡ Free
+    → IsRoundUp (max p.first floor) unit up → up + pages ≤ p.last + 1 → 1 ≤ pages → IsLowestAbove floor (p ∷ ps) pages unit up
+fits_here floor from p ps pages unit up o f r h pos = record {
   fit = record {
     aligned = r.0;
     free = λ page w. state-here p ps page (omega (arith, r.1, w.0)) (omega (arith, w.1))
         ∙ ap (λ u. Some u) f;
   };
-  lowest = λ other fits. elim (order p.first other) [
-    | inl k ↦ r.2 other fits.aligned k
+  above = omega (arith, r.1);
+  lowest = λ other fits high. elim (order p.first other) [
+    | inl k ↦ r.2 other fits.aligned (omega arith)
     | inr k ↦
         absurd (none_some (p ∷ ps) other Free (state_none p.first (p ∷ ps) other (omega arith, o.1, o.2, o.3) k)
         (fits.free other (omega arith, omega arith)))
   ];
 }
 
-pub fits_tail : (from : ℕ) (p : Piece) (ps : List Piece) (pages unit t : ℕ) → IsOrdered from (p ∷ ps) → HasNoRoom pages unit p → 1 ≤ pages
-    → IsFit (p ∷ ps) pages unit t → IsFit ps pages unit t
-fits_tail from p ps pages unit t o n pos f =
+pub fits_tail : (floor from : ℕ) (p : Piece) (ps : List Piece) (pages unit t : ℕ) → IsOrdered from (p ∷ ps)
+    → HasNoRoom floor pages unit p → 1 ≤ pages → IsFit (p ∷ ps) pages unit t → floor ≤ t → IsFit ps pages unit t
+fits_tail floor from p ps pages unit t o n pos f high =
     elim (order p.first t) [
       | inr k ↦
           absurd (none_some (p ∷ ps) t Free (state_none p.first (p ∷ ps) t (omega arith, o.1, o.2, o.3) k)
@@ -75,7 +82,7 @@ fits_tail from p ps pages unit t o n pos f =
             let free : IsTrue (is_free p.state) = is_free_at p.state (sym (state-here p ps t k l) ∙ f.free t (omega arith, omega arith))
             in
             elim (order (t + pages) (p.last + 1)) [
-              | inl m ↦ absurd (n free t k f.aligned m)
+              | inl m ↦ absurd (n free t (omega arith) f.aligned m)
               | inr m ↦
                   absurd (o.2 (touching p ps o.3 free
                   (sym (state-past p ps (p.last + 1) (omega arith)) ∙ f.free (p.last + 1) (omega arith, m))))
@@ -91,37 +98,15 @@ fits_cons from p ps pages unit t o pos f =
       | inr k ↦ record { aligned = f.aligned; free = λ page w. state-past p ps page (omega (arith, w.0)) ∙ f.free page w }
     ]
 
--- the pieces from an index on have the fits of all
-pub record Ahead (all rest : List Piece) (pages unit : ℕ) : Type 0 where
-  pub from : ℕ
-  pub ordered : IsOrdered from rest
-  pub into : (t : ℕ) → IsFit all pages unit t → IsFit rest pages unit t
-  pub back : (t : ℕ) → IsFit rest pages unit t → IsFit all pages unit t
-
-pub ahead_more : (all : List Piece) (p : Piece) (ps : List Piece) (pages unit : ℕ) → 1 ≤ pages → HasNoRoom pages unit p
-    → Ahead all (p ∷ ps) pages unit → Ahead all ps pages unit
-ahead_more all p ps pages unit pos n a = record {
-  from = p.last + 1;
-  ordered = a.ordered.3;
-  into = λ t f. fits_tail a.from p ps pages unit t a.ordered n pos (a.into t f);
-  back = λ t f. a.back t (fits_cons a.from p ps pages unit t a.ordered pos f);
-}
-
 -- where the first aligned page doesn't leave enough pages, none does
-pub no_room : (p : Piece) (pages unit up : ℕ) → IsRoundUp p.first unit up → p.last + 1 < up + pages → HasNoRoom pages unit p
-no_room p pages unit up r h free t a b l = let k : up ≤ t = r.2 t b a in absurd (omega arith)
+pub no_room : (p : Piece) (floor pages unit up : ℕ) → IsRoundUp (max p.first floor) unit up → p.last + 1 < up + pages
+    → HasNoRoom floor pages unit p
+no_room p floor pages unit up r h free t a b l = let k : up ≤ t = r.2 t b a in absurd (omega arith)
 
 pub free_state : (u : PageState) → IsTrue (is_free u) → u ≡ Free
 free_state Free h = refl
 free_state Live h = absurd (cc)
 free_state Retired h = absurd (cc)
 
-pub not_free : (p : Piece) (pages unit : ℕ) → is_free p.state ≡ false → HasNoRoom pages unit p
-not_free p pages unit e free t a b l = absurd (cc)
-
--- the same at an index of the list
-pub step_at : (all : List Piece) (i : ℕ) (d : Piece) (pages unit : ℕ) → i < length all → 1 ≤ pages → HasNoRoom pages unit (get_or all i d)
-    → Ahead all (drop i all) pages unit → Ahead all (drop (i + 1) all) pages unit
-step_at all i d pages unit h pos n a =
-    subst (λ k. Ahead all (drop k all) pages unit) (sym (add-one i))
-    (ahead_more all (get_or all i d) (drop (suc i) all) pages unit pos n (subst (λ l. Ahead all l pages unit) (drop-cons all i d h) a))
+pub not_free : (p : Piece) (floor pages unit : ℕ) → is_free p.state ≡ false → HasNoRoom floor pages unit p
+not_free p floor pages unit e free t a b l = absurd (cc)

@@ -1,6 +1,6 @@
 -- Searches down a tree.
-use Rattle.std.proofs.Common.{◌≡◌, ℕ, ◌+◌, ◌-◌, ◌%◌, ◌<◌, ◌≤◌, List, [], ◌∷◌, ◌++◌, Option, Some, None, IsSome, IsTrue, IfSome}
-use Rattle.std.proofs.Common.{IfNone, refl, ap, sym, ◌∙◌, inl, inr, subst, arith, append_assoc}
+use Rattle.std.proofs.Common.{◌≡◌, ℕ, ◌+◌, ◌-◌, ◌%◌, ◌<◌, ◌≤◌, max, List, [], ◌∷◌, ◌++◌, Option, Some, None, IsSome, IsTrue}
+use Rattle.std.proofs.Common.{IfSome, IfNone, refl, ap, sym, ◌∙◌, inl, inr, subst, arith, append_assoc}
 use Rattle.std.specs.List.{AllByRecursion}
 use Rattle.std.proofs.lemmas.Bool.Decides.{nat_tests}
 use Rattle.slab.specs.Slab.{Slab, get}
@@ -13,7 +13,7 @@ use Rattle.iova.specs.Tree.{Look, Shape, Empty, Fork, items, height_of, longest_
 use Rattle.iova.specs.Tree.{CanSearch, node_of, root_of, at_root}
 use Rattle.iova.proofs.Pieces.{order}
 use Rattle.iova.proofs.parts.Parts.{front_ends, some_page, ordered_front, ordered_behind}
-use Rattle.iova.proofs.searches.Fit.{fits_here, fits_tail, fits_cons, free_state}
+use Rattle.iova.proofs.searches.Fit.{IsLowestAbove, fits_here, fits_tail, fits_cons, free_state}
 use Rattle.iova.proofs.shapes.Trees.{is_there}
 
 pub at-nil : (page : ℕ) → piece_at [] page ≡ None
@@ -217,26 +217,33 @@ one_divides n = omega arith
 pub free_of : (q : Piece) (pages : ℕ) → 1 ≤ pages → pages ≤ free_pages q → IsTrue (is_free q.state)
 free_of q pages pos h = grind arith
 
-pub no_room_append : (pages unit : ℕ) (xs : List Piece) (q : Piece) (ys : List Piece) → AllByRecursion (HasNoRoom pages unit) xs
-    → HasNoRoom pages unit q → AllByRecursion (HasNoRoom pages unit) ys → AllByRecursion (HasNoRoom pages unit) (xs ++ q ∷ ys)
-no_room_append pages unit [] q ys a b c = (b, c)
-no_room_append pages unit (x ∷ xs) q ys a b c = (a.0, no_room_append pages unit xs q ys a.1 b c)
+pub no_room_append : (floor pages unit : ℕ) (xs : List Piece) (q : Piece) (ys : List Piece)
+    → AllByRecursion (HasNoRoom floor pages unit) xs → HasNoRoom floor pages unit q → AllByRecursion (HasNoRoom floor pages unit) ys
+    → AllByRecursion (HasNoRoom floor pages unit) (xs ++ q ∷ ys)
+no_room_append floor pages unit [] q ys a b c = (b, c)
+no_room_append floor pages unit (x ∷ xs) q ys a b c = (a.0, no_room_append floor pages unit xs q ys a.1 b c)
+
+-- pieces that end below the floor
+ended_none : (floor pages unit : ℕ) (xs : List Piece) → 1 ≤ pages → AllByRecursion (λ p. p.last < floor) xs
+    → AllByRecursion (HasNoRoom floor pages unit) xs
+ended_none floor pages unit [] pos h = tt
+ended_none floor pages unit (x ∷ xs) pos h = (λ free t a b c. omega (arith, h.0), ended_none floor pages unit xs pos h.1)
 
 pub free_length : (p : Piece) → IsTrue (is_free p.state) → free_pages p ≡ p.last + 1 - p.first
 free_length p h = grind arith
 
-pub short_none : (pages unit : ℕ) (t : Shape) → longest_of t < pages → AllByRecursion (HasNoRoom pages unit) (items t)
-short_none pages unit Empty h = tt
-short_none pages unit (Fork k p l r) h =
-    no_room_append pages unit (items l) p (items r) (short_none pages unit l (omega arith))
-    (λ free t a b c. let e = free_length p free in omega arith) (short_none pages unit r (omega arith))
+pub short_none : (floor pages unit : ℕ) (t : Shape) → longest_of t < pages → AllByRecursion (HasNoRoom floor pages unit) (items t)
+short_none floor pages unit Empty h = tt
+short_none floor pages unit (Fork k p l r) h =
+    no_room_append floor pages unit (items l) p (items r) (short_none floor pages unit l (omega arith))
+    (λ free t a b c. let e = free_length p free in omega arith) (short_none floor pages unit r (omega arith))
 
-pub own_round_up : (page : ℕ) → IsRoundUp page 1 page
-own_round_up page = (one_divides page, omega arith, λ other e h. h)
+pub own_round_up : (page : ℕ) → IsRoundUp (max page 0) 1 page
+own_round_up page = (one_divides page, omega arith, λ other e h. omega arith)
 
-pub found_before : (pages unit : ℕ) (xs : List Piece) (q : Piece) (ys : List Piece) (start : ℕ) → IsFound pages unit xs start
-    → IsFound pages unit (xs ++ q ∷ ys) start
-found_before pages unit xs q ys start f = record {
+pub found_before : (floor pages unit : ℕ) (xs : List Piece) (q : Piece) (ys : List Piece) (start : ℕ) → IsFound floor pages unit xs start
+    → IsFound floor pages unit (xs ++ q ∷ ys) start
+found_before floor pages unit xs q ys start f = record {
   before = f.before;
   piece = f.piece;
   behind = f.behind ++ q ∷ ys;
@@ -247,39 +254,49 @@ found_before pages unit xs q ys start f = record {
   room = f.room;
 }
 
-pub found_behind : (pages unit : ℕ) (xs : List Piece) (q : Piece) (ys : List Piece) (start : ℕ)
-    → AllByRecursion (HasNoRoom pages unit) xs → HasNoRoom pages unit q → IsFound pages unit ys start
-    → IsFound pages unit (xs ++ q ∷ ys) start
-found_behind pages unit xs q ys start a b f = record {
+pub found_behind : (floor pages unit : ℕ) (xs : List Piece) (q : Piece) (ys : List Piece) (start : ℕ)
+    → AllByRecursion (HasNoRoom floor pages unit) xs → HasNoRoom floor pages unit q → IsFound floor pages unit ys start
+    → IsFound floor pages unit (xs ++ q ∷ ys) start
+found_behind floor pages unit xs q ys start a b f = record {
   before = xs ++ q ∷ f.before;
   piece = f.piece;
   behind = f.behind;
   parts = ap (λ l. xs ++ q ∷ l) f.parts ∙ sym (append_assoc xs (q ∷ f.before) (f.piece ∷ f.behind));
-  none = no_room_append pages unit xs q f.before a b f.none;
+  none = no_room_append floor pages unit xs q f.before a b f.none;
   free = f.free;
   up = f.up;
   room = f.room;
 }
 
 -- the first piece with room has the lowest start
-lowest_at : (from pages unit : ℕ) (xs : List Piece) (q : Piece) (ys : List Piece) (start : ℕ) → IsOrdered from (xs ++ q ∷ ys) → 1 ≤ pages
-    → AllByRecursion (HasNoRoom pages unit) xs → IsTrue (is_free q.state) → IsRoundUp q.first unit start → start + pages ≤ q.last + 1
-    → IsLowestFit (xs ++ q ∷ ys) pages unit start
-lowest_at from pages unit [] q ys start o pos n f u r = fits_here from q ys pages unit start o (free_state q.state f) u r pos
-lowest_at from pages unit (x ∷ xs) q ys start o pos n f u r =
-    let i : IsLowestFit (xs ++ q ∷ ys) pages unit start = lowest_at (x.last + 1) pages unit xs q ys start o.3 pos n.1 f u r in
+lowest_at : (floor from pages unit : ℕ) (xs : List Piece) (q : Piece) (ys : List Piece) (start : ℕ) → IsOrdered from (xs ++ q ∷ ys)
+    → 1 ≤ pages → AllByRecursion (HasNoRoom floor pages unit) xs → IsTrue (is_free q.state) → IsRoundUp (max q.first floor) unit start
+    → start + pages ≤ q.last + 1 → IsLowestAbove floor (xs ++ q ∷ ys) pages unit start
+lowest_at floor from pages unit [] q ys start o pos n f u r =
+    fits_here floor from q ys pages unit start o (free_state q.state f) u r pos
+lowest_at floor from pages unit (x ∷ xs) q ys start o pos n f u r =
+    let i : IsLowestAbove floor (xs ++ q ∷ ys) pages unit start =
+    lowest_at floor (x.last + 1) pages unit xs q ys start o.3 pos n.1 f u r in
     record {
       fit = fits_cons from x (xs ++ q ∷ ys) pages unit start o pos i.fit;
-      lowest = λ other g. i.lowest other (fits_tail from x (xs ++ q ∷ ys) pages unit other o n.0 pos g);
+      above = i.above;
+      lowest = λ other g high. i.lowest other (fits_tail floor from x (xs ++ q ∷ ys) pages unit other o n.0 pos g high) high;
     }
 
-pub found_lowest : (from pages unit : ℕ) (ps : List Piece) (start : ℕ) → IsOrdered from ps → 1 ≤ pages → IsFound pages unit ps start
+pub found_above : (floor from pages unit : ℕ) (ps : List Piece) (start : ℕ) → IsOrdered from ps → 1 ≤ pages
+    → IsFound floor pages unit ps start → IsLowestAbove floor ps pages unit start
+found_above floor from pages unit ps start o pos f =
+    subst (λ l. IsLowestAbove floor l pages unit start) (sym f.parts)
+    (lowest_at floor from pages unit f.before f.piece f.behind start (subst (λ l. IsOrdered from l) f.parts o) pos f.none f.free f.up
+    f.room)
+
+pub found_lowest : (from pages unit : ℕ) (ps : List Piece) (start : ℕ) → IsOrdered from ps → 1 ≤ pages → IsFound 0 pages unit ps start
     → IsLowestFit ps pages unit start
 found_lowest from pages unit ps start o pos f =
-    subst (λ l. IsLowestFit l pages unit start) (sym f.parts)
-    (lowest_at from pages unit f.before f.piece f.behind start (subst (λ l. IsOrdered from l) f.parts o) pos f.none f.free f.up f.room)
+    let i = found_above 0 from pages unit ps start o pos f in
+    record { fit = i.fit; lowest = λ other g. i.lowest other g (omega arith) }
 
-module _ (nodes : Slab Node) (root : Option ℕ) (key : ℕ) (node : Node) (pages unit : ℕ) (t : Shape) (from : ℕ)
+module _ (nodes : Slab Node) (root : Option ℕ) (key : ℕ) (node : Node) (floor pages unit : ℕ) (t : Shape) (from : ℕ)
     (w : IsBelow (get nodes) root t from) (e : root ≡ Some key) (f : get nodes key ≡ Some node) where
   pub open_at : Passes (get nodes) key node t from
   open_at = passes (get nodes) root key node t from w e f
@@ -304,59 +321,57 @@ module _ (nodes : Slab Node) (root : Option ℕ) (key : ℕ) (node : Node) (page
       let d : height_of t ≡ height_of (Fork key node.piece open_at.l open_at.r) = ap height_of open_at.is in
       (omega arith, omega arith)
 
-  pub fit-short : node.longest < pages → AllByRecursion (HasNoRoom pages unit) (items t)
-  fit-short h = short_none pages unit t (omega (arith, open_at.longest))
+  pub fit-short : node.longest < pages → AllByRecursion (HasNoRoom floor pages unit) (items t)
+  fit-short h = short_none floor pages unit t (omega (arith, open_at.longest))
 
   pub fit-left : (start : ℕ) (result : Option ℕ) → result ≡ Some start
-      → ((x : Shape) (begin : ℕ) → IsBelow (get nodes) node.left x begin → IfSome result (IsFound pages unit (items x)))
-      → IsFound pages unit (items t) start
+      → ((x : Shape) (begin : ℕ) → IsBelow (get nodes) node.left x begin → IfSome result (IsFound floor pages unit (items x)))
+      → IsFound floor pages unit (items t) start
   fit-left start result g h =
-      subst (λ x. IsFound pages unit (items x) start) (sym open_at.is)
-      (found_before pages unit (items open_at.l) node.piece (items open_at.r) start
-      (subst (λ o. IfSome o (IsFound pages unit (items open_at.l))) g (h open_at.l from before)))
+      subst (λ x. IsFound floor pages unit (items x) start) (sym open_at.is)
+      (found_before floor pages unit (items open_at.l) node.piece (items open_at.r) start
+      (subst (λ o. IfSome o (IsFound floor pages unit (items open_at.l))) g (h open_at.l from before)))
 
-  none-left : (result : Option ℕ) → result ≡ None → ((x : Shape) (begin : ℕ) → IsBelow (get nodes) node.left x begin
-      → IfNone result (AllByRecursion (HasNoRoom pages unit) (items x))) → AllByRecursion (HasNoRoom pages unit) (items open_at.l)
-  none-left result g h = subst (λ o. IfNone o (AllByRecursion (HasNoRoom pages unit) (items open_at.l))) g (h open_at.l from before)
+  -- nothing before the node, where it was looked for, and where all ends below the floor
+  pub none-left : (result : Option ℕ) → result ≡ None → ((x : Shape) (begin : ℕ) → IsBelow (get nodes) node.left x begin
+      → IfNone result (AllByRecursion (HasNoRoom floor pages unit) (items x)))
+      → AllByRecursion (HasNoRoom floor pages unit) (items open_at.l)
+  none-left result g h = subst (λ o. IfNone o (AllByRecursion (HasNoRoom floor pages unit) (items open_at.l))) g (h open_at.l from before)
 
-  pub fit-here : (start : ℕ) (result : Option ℕ) → result ≡ None
-      → ((x : Shape) (begin : ℕ) → IsBelow (get nodes) node.left x begin
-      → IfNone result (AllByRecursion (HasNoRoom pages unit) (items x)))
-      → IsTrue (is_free node.piece.state) → IsRoundUp node.piece.first unit start → start + pages ≤ node.piece.last + 1
-      → IsFound pages unit (items t) start
-  fit-here start result g h free up room =
-      subst (λ x. IsFound pages unit (items x) start) (sym open_at.is)
+  pub none-under : 1 ≤ pages → node.piece.first ≤ floor → AllByRecursion (HasNoRoom floor pages unit) (items open_at.l)
+  none-under pos h = ended_none floor pages unit (items open_at.l) pos
+      (front_ends from (items open_at.l) node.piece (items open_at.r) floor open_at.ordered h)
+
+  pub fit-here : (start : ℕ) → AllByRecursion (HasNoRoom floor pages unit) (items open_at.l) → IsTrue (is_free node.piece.state)
+      → IsRoundUp (max node.piece.first floor) unit start → start + pages ≤ node.piece.last + 1 → IsFound floor pages unit (items t) start
+  fit-here start none free up room =
+      subst (λ x. IsFound floor pages unit (items x) start) (sym open_at.is)
       (record {
         before = items open_at.l;
         piece = node.piece;
         behind = items open_at.r;
         parts = refl;
-        none = none-left result g h;
-        free =
-            free;
+        none = none;
+        free = free;
         up = up;
         room = room;
       })
 
-  pub fit-right : (left right : Option ℕ) → left ≡ None → ((x : Shape) (begin : ℕ) → IsBelow (get nodes) node.left x begin
-      → IfNone left (AllByRecursion (HasNoRoom pages unit) (items x)))
-      → HasNoRoom pages unit node.piece
-      → ((x : Shape) (begin : ℕ) → IsBelow (get nodes) node.right x begin → IfSome right (IsFound pages unit (items x)))
-      → IfSome right (IsFound pages unit (items t))
-  fit-right left None g h none k = tt
-  fit-right left (Some start) g h none k =
-      subst (λ x. IsFound pages unit (items x) start) (sym open_at.is)
-      (found_behind pages unit (items open_at.l) node.piece (items open_at.r) start (none-left left g h) none
+  pub fit-right : (right : Option ℕ) → AllByRecursion (HasNoRoom floor pages unit) (items open_at.l) → HasNoRoom floor pages unit node.piece
+      → ((x : Shape) (begin : ℕ) → IsBelow (get nodes) node.right x begin → IfSome right (IsFound floor pages unit (items x)))
+      → IfSome right (IsFound floor pages unit (items t))
+  fit-right None none here k = tt
+  fit-right (Some start) none here k =
+      subst (λ x. IsFound floor pages unit (items x) start) (sym open_at.is)
+      (found_behind floor pages unit (items open_at.l) node.piece (items open_at.r) start none here
       (k open_at.r (node.piece.last + 1) behind))
 
-  pub fit-none : (left right : Option ℕ) → left ≡ None → ((x : Shape) (begin : ℕ) → IsBelow (get nodes) node.left x begin
-      → IfNone left (AllByRecursion (HasNoRoom pages unit) (items x)))
-      → HasNoRoom pages unit node.piece
+  pub fit-none : (right : Option ℕ) → AllByRecursion (HasNoRoom floor pages unit) (items open_at.l) → HasNoRoom floor pages unit node.piece
       → ((x : Shape) (begin : ℕ) → IsBelow (get nodes) node.right x begin
-      → IfNone right (AllByRecursion (HasNoRoom pages unit) (items x)))
-      → IfNone right (AllByRecursion (HasNoRoom pages unit) (items t))
-  fit-none left (Some start) g h none k = tt
-  fit-none left None g h none k =
-      subst (λ x. AllByRecursion (HasNoRoom pages unit) (items x)) (sym open_at.is)
-      (no_room_append pages unit (items open_at.l) node.piece (items open_at.r) (none-left left g h) none
+      → IfNone right (AllByRecursion (HasNoRoom floor pages unit) (items x)))
+      → IfNone right (AllByRecursion (HasNoRoom floor pages unit) (items t))
+  fit-none (Some start) none here k = tt
+  fit-none None none here k =
+      subst (λ x. AllByRecursion (HasNoRoom floor pages unit) (items x)) (sym open_at.is)
+      (no_room_append floor pages unit (items open_at.l) node.piece (items open_at.r) none here
       (k open_at.r (node.piece.last + 1) behind))

@@ -15,7 +15,7 @@ pub record Narrows (pages : ℕ) (all : List Piece) (t : Shape) : Type 0 where
   pub before : List Piece
   pub behind : List Piece
   pub parts : all ≡ before ++ (items t ++ behind)
-  pub none : AllByRecursion (HasNoRoom pages 1) before
+  pub none : AllByRecursion (HasNoRoom 0 pages 1) before
   pub long : (all ≡ items t) ⊎ (pages ≤ longest_of t)
 
 pub record IsNarrowed (look : Look) (root now : Option ℕ) (pages : ℕ) : Type 0 where
@@ -35,9 +35,10 @@ narrowed_start look root pages t from w = record {
       record { before = []; behind = []; parts = e ∙ sym (append-nil (items t)); none = tt; long = inl e };
 }
 
-none_all : (pages : ℕ) (all : List Piece) (t : Shape) → Narrows pages all t → longest_of t < pages → AllByRecursion (HasNoRoom pages 1) all
+none_all : (pages : ℕ) (all : List Piece) (t : Shape) → Narrows pages all t → longest_of t < pages
+    → AllByRecursion (HasNoRoom 0 pages 1) all
 none_all pages all t n h = elim n.long [
-  | inl e ↦ subst (λ ps. AllByRecursion (HasNoRoom pages 1) ps) (sym e) (short_none pages 1 t h)
+  | inl e ↦ subst (λ ps. AllByRecursion (HasNoRoom 0 pages 1) ps) (sym e) (short_none 0 pages 1 t h)
   | inr l ↦ absurd (omega arith)
 ]
 
@@ -46,7 +47,7 @@ empty_long look now Empty from w e = refl
 empty_long look now (Fork k p l r) from w e = absurd (let x = w.here in cc)
 
 pub narrowed-end : (look : Look) (root now : Option ℕ) (pages : ℕ) → IsNarrowed look root now pages → now ≡ None → 1 ≤ pages
-    → (x : Shape) (start : ℕ) → IsBelow look root x start → AllByRecursion (HasNoRoom pages 1) (items x)
+    → (x : Shape) (start : ℕ) → IsBelow look root x start → AllByRecursion (HasNoRoom 0 pages 1) (items x)
 narrowed-end look root now pages i e some x start v =
     none_all pages (items x) i.t (i.narrows x start v) (let z = empty_long look now i.t i.from i.below e in omega arith)
 
@@ -75,7 +76,7 @@ module _ (look : Look) (root now : Option ℕ) (pages key : ℕ) (node : Node) (
 
   -- nothing is long enough
   pub narrowed-short : node.longest < pages → (x : Shape) (start : ℕ) → IsBelow look root x start
-      → AllByRecursion (HasNoRoom pages 1) (items x)
+      → AllByRecursion (HasNoRoom 0 pages 1) (items x)
   narrowed-short h x start v = none_all pages (items x) i.t (i.narrows x start v) (omega (arith, s.longest))
 
   -- before the node
@@ -98,18 +99,18 @@ module _ (look : Look) (root now : Option ℕ) (pages key : ℕ) (node : Node) (
   }
 
   none_front : (x : Shape) (start : ℕ) (v : IsBelow look root x start) → longest_of s.l < pages
-      → AllByRecursion (HasNoRoom pages 1) ((i.narrows x start v).before ++ items s.l)
-  none_front x start v h = both (i.narrows x start v).before (items s.l) (i.narrows x start v).none (short_none pages 1 s.l h)
+      → AllByRecursion (HasNoRoom 0 pages 1) ((i.narrows x start v).before ++ items s.l)
+  none_front x start v h = both (i.narrows x start v).before (items s.l) (i.narrows x start v).none (short_none 0 pages 1 s.l h)
     where
-      both : (xs ys : List Piece) → AllByRecursion (HasNoRoom pages 1) xs → AllByRecursion (HasNoRoom pages 1) ys
-          → AllByRecursion (HasNoRoom pages 1) (xs ++ ys)
+      both : (xs ys : List Piece) → AllByRecursion (HasNoRoom 0 pages 1) xs → AllByRecursion (HasNoRoom 0 pages 1) ys
+          → AllByRecursion (HasNoRoom 0 pages 1) (xs ++ ys)
       both [] ys a b = b
       both (x ∷ xs) ys a b = (a.0, both xs ys a.1 b)
 
   -- at it
   pub narrowed-here : (longest : ℕ) → ((x : Shape) → node.left ≡ root_of x → AreNodes look x → longest ≡ longest_of x) → longest < pages
       → 1 ≤ pages → pages ≤ free_pages node.piece → (x : Shape) (start : ℕ) → IsBelow look root x start
-      → IsFound pages 1 (items x) node.piece.first
+      → IsFound 0 pages 1 (items x) node.piece.first
   narrowed-here longest rd h some fits x start v =
       let n = i.narrows x start v in
       let free = free_of node.piece pages some fits in
@@ -143,7 +144,7 @@ module _ (look : Look) (root now : Option ℕ) (pages key : ℕ) (node : Node) (
               ∙ ap (λ ps. n.before ++ ps) (append_assoc (items s.l) (node.piece ∷ items s.r) n.behind)
               ∙ sym (append_assoc n.before (items s.l) (node.piece ∷ (items s.r ++ n.behind)))
               ∙ sym (append_assoc (n.before ++ items s.l) (node.piece ∷ []) (items s.r ++ n.behind));
-          none = no_room_append pages 1 (n.before ++ items s.l) node.piece [] (none_front x start v (omega arith))
+          none = no_room_append 0 pages 1 (n.before ++ items s.l) node.piece [] (none_front x start v (omega arith))
               (λ free t a b c. let y = free_length node.piece free in omega arith) tt;
           long = inr (omega (arith, s.longest, long_is));
         };

@@ -285,10 +285,10 @@ pub start_used : (look : Look) (root : Option ℕ) (key : ℕ) (node : Node) (t 
     → root ≡ Some key → look key ≡ Some node → node.longest ≡ 0 → start_below (items t) first first ≡ first
 start_used look root key node t from first w e f none =
     let s = passes look root key node t from w e f in
-    none_below from first (items t) w.whole.ordered (short_none 1 1 t (omega (arith, s.longest)))
+    none_below from first (items t) w.whole.ordered (short_none 0 1 1 t (omega (arith, s.longest)))
 
 pub end_used : (look : Look) (root : Option ℕ) (key : ℕ) (node : Node) (t : Shape) (from last : ℕ) → IsBelow look root t from
     → root ≡ Some key → look key ≡ Some node → node.longest ≡ 0 → end_above (items t) last last ≡ last
 end_used look root key node t from last w e f none =
     let s = passes look root key node t from w e f in
-    none_above from last (items t) w.whole.ordered (short_none 1 1 t (omega (arith, s.longest)))
+    none_above from last (items t) w.whole.ordered (short_none 0 1 1 t (omega (arith, s.longest)))

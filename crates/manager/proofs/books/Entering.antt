@@ -1,5 +1,5 @@
 -- An event more at the end of a history.
-use Rattle.std.proofs.Common.{◌≡◌, ℕ, ◌+◌, ◌<◌, List, [], ◌∷◌, ◌++◌, length, refl, ap, sym, ◌∙◌, subst, arith, length-append}
+use Rattle.std.proofs.Common.{◌≡◌, Bool, ℕ, ◌+◌, ◌<◌, List, [], ◌∷◌, ◌++◌, length, refl, ap, sym, ◌∙◌, subst, arith, length-append}
 use Rattle.dmatypes.specs.declared.reply.Event.{Event}
 use Rattle.dmatypes.specs.World.{empty}
 use Rattle.dmatypes.specs.History.{IsLegal, after}
@@ -19,20 +19,21 @@ Goes-push m [] s e t same does = (t, (subst (λ (x : State). Does x e.call e.rep
 Goes-push m (x ∷ es) s e t goes does = (goes.0, (goes.1.0, Goes-push goes.0 es s e t goes.1.1 does))
 
 -- one call more is legal, and the state is then one of the world after it
-pub push_legal : (frames room : ℕ) (a : Book) (e : Event) (t : State) → IsKept frames room a → Does a.state e.call e.reply t
+pub push_legal : (frames room : ℕ) (mode : Bool) (a : Book) (e : Event) (t : State) → IsKept frames room mode a
+    → Does a.state e.call e.reply t
     → IsLegal frames (a.history ++ e ∷ []) × Quarantine t (after frames (a.history ++ e ∷ []))
-push_legal frames room a e t kept does =
+push_legal frames room mode a e t kept does =
     let both = does.steps (after frames a.history) kept.quarantine in (
       IsLegalFrom-push (empty frames) a.history e kept.legal both.0,
       rw (after_from-push (empty frames) a.history e) both.1,
     )
 
 -- one call more keeps what a book keeps
-pub IsKept-push : (frames room : ℕ) (a : Book) (e : Event) (t : State) (now : List Event) (last : List ℕ)
-    → now ≡ a.history ++ e ∷ [] → IsKept frames room a → length a.history < room → Does a.state e.call e.reply t
+pub IsKept-push : (frames room : ℕ) (mode : Bool) (a : Book) (e : Event) (t : State) (now : List Event) (last : List ℕ)
+    → now ≡ a.history ++ e ∷ [] → IsKept frames room mode a → length a.history < room → Does a.state e.call e.reply t
     → IsWhole t.pool.frames t → AreLawful (IsLawfulAfter frames) now last
-    → IsKept frames room (record { history = now; state = t; last = last })
-IsKept-push frames room a e t now last is kept less does whole lawful =
+    → IsKept frames room mode (record { history = now; state = t; last = last })
+IsKept-push frames room mode a e t now last is kept less does whole lawful =
     let both = does.steps (after frames a.history) kept.quarantine in
     let more : length now ≡ length a.history + 1 = ap length is ∙ length-append a.history (e ∷ []) in
     record {

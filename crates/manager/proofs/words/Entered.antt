@@ -72,7 +72,7 @@ lawful_cleared frames history e bits last last' legal lawful tells emptied devic
 hit_next : (w : World) (call : Call) (reply : Reply) (hit : Option Hit) → IsHitIn w call reply hit
     → IsHitIn (next w call reply) call reply hit
 unfolding IsHitIn next
-hit_next w (calls.Domain mode) reply hit is = is
+hit_next w (calls.Domain mode width) reply hit is = is
 hit_next w (calls.Drop domain) reply hit is = is
 hit_next w (calls.Attach device domain) reply hit is = is
 hit_next w (calls.Detach device) reply hit is = is

@@ -51,8 +51,8 @@ reached w call reply found device address access whim hit same is there =
 
 page_had : (v : Domain) (address : ℕ) (access : Access) (hit : Hit) → IsSoundDomain v → Has v address access hit → IsPage (page_of address)
 page_had v address access hit sound has = elim has.page [
-  | inl live ↦ sound.live (page_of address) (target hit.frame (bits_of hit.rights)) live
-  | inr retired ↦ sound.retired retired.0 (page_of address) (target hit.frame (bits_of hit.rights)) retired.1 retired.3
+  | inl live ↦ (sound.live (page_of address) (target hit.frame (bits_of hit.rights)) live).0
+  | inr retired ↦ (sound.retired retired.0 (page_of address) (target hit.frame (bits_of hit.rights)) retired.1 retired.3).0
 ]
 
 -- it is a page

@@ -3,7 +3,9 @@ use Rattle.std.proofs.Common.{◌≡◌, ℕ, inl, inr, List, Option, Some, None
 use Rattle.dmatypes.specs.declared.call.Access.{Access}
 use Rattle.dmatypes.specs.declared.reply.Event.{Event}
 use Rattle.dmatypes.specs.declared.reply.Reply.TheVariants.{Host}
-use Rattle.dmatypes.specs.Page.{IsBeyond, IsPage, byte_address, offset_of, page_of}
+use Rattle.dmatypes.specs.Page.{IsBeyond, IsPageOf, byte_address, offset_of, page_of}
+use Rattle.dmatypes.specs.declared.width.Width.{Width}
+use Rattle.dmatypes.specs.declared.width.Width.TheVariants.{W39, W48}
 use Rattle.dmatypes.specs.Rights.{Permits}
 use Rattle.dmatypes.specs.World.{Target, Domain, World, IsLive, IsRetired}
 use Rattle.dmatypes.specs.Allows.{Allows, AllowsIn, AllowsTo, domain_of_device, host_of}
@@ -22,8 +24,9 @@ spelled_word frames history device word (inl empty) = inl empty
 spelled_word frames history device word (inr x) = inr (x.0, x.1)
 
 -- a page within the width
-not_beyond : (address : ℕ) → IsPage (page_of address) → IsBeyond address → ⊥
-not_beyond address is beyond = omega (arith, is.1, beyond)
+not_beyond : (width : Width) (address : ℕ) → IsPageOf width (page_of address) → IsBeyond width address → ⊥
+not_beyond W39 address is beyond = omega (arith, is.1, beyond)
+not_beyond W48 address is beyond = omega (arith, is.1, beyond)
 
 -- what a domain backs, it allows
 in_domain : (v : Domain) (p : PortWord) (address : ℕ) (access : Access) → IsSoundDomain v → Backs v p → p.page ≡ page_of address
@@ -37,11 +40,11 @@ in_domain v p address access s backs page permits =
     elim backs.1 [
       | inl live ↦
           let here : IsLive v (page_of address) t = ap v.live (sym page) ∙ live in
-          inr (not_beyond address (s.live (page_of address) t here), inl (t, (here, may), host))
+          inr (not_beyond v.width address (s.live (page_of address) t here), inl (t, (here, may), host))
       | inr retired ↦
           let here : IsRetired v (page_of address) t = subst (λ (q : ℕ). IsRetired v q t) page retired in
           inr (
-            not_beyond address (s.retired here.0 (page_of address) t here.1 here.3),
+            not_beyond v.width address (s.retired here.0 (page_of address) t here.1 here.3),
             inr (
               λ u live. none_is_no (v.live (page_of address)) u (s.apart here.0 (page_of address) here.1 here.2) live.0,
               inl (t, (here, may), host),

@@ -131,9 +131,9 @@ keeps_map w domain ss order rights address device p d v answer b =
 keeps_backed : (w : World) (call : Call) (reply : Reply) (device : ℕ) (p : PortWord) (d : ℕ) (v : Domain) → IsStep w call reply
     → (IsCleared w call reply device → ⊥) → IsBackedBy w device p d v → IsBacked (next w call reply) device p
 unfolding next IsStep Answers IsCleared Stands id_in
-keeps_backed w (calls.Domain mode) (Made made) device p d v step keeps b =
+keeps_backed w (calls.Domain mode width) (Made made) device p d v step keeps b =
     let is : made ≡ step.1.0 = ap id_in step.1.2 in
-    with_put w device p d v made (Some (empty_domain mode)) b
+    with_put w device p d v made (Some (empty_domain mode width)) b
     (λ same. is_no_none (w.domains step.1.0) v step.1.1.2 (ap w.domains (sym (same ∙ is)) ∙ b.there))
 keeps_backed w (calls.Drop domain) Done device p d v step keeps b =
     with_put w device p d v domain None b (λ same. step.0.1.0 (inl (device, b.attached ∙ ap Some same)))

@@ -12,7 +12,7 @@ use Rattle.dmatypes.specs.declared.call.Segment.{Segment}
 use Rattle.dmatypes.specs.declared.reply.Event.{Event}
 use Rattle.dmatypes.specs.declared.reply.Reply.{Reply}
 use Rattle.dmatypes.specs.declared.reply.Reply.TheVariants.{Made, Done, Mapped, Unmapped, Flushed, Ticket, Reaped}
-use Rattle.dmatypes.specs.Page.{Range, IsPage, IsWithin, byte_address, range_at}
+use Rattle.dmatypes.specs.Page.{Range, IsPageOf, IsWithin, byte_address, range_at}
 use Rattle.dmatypes.specs.World.{Target, Retired, Domain, World, AreFreePages, IsIn, change_of, empty, empty_domain, flushed, is_full}
 use Rattle.dmatypes.specs.World.{begun_once_more, is_before, reaped}
 use Rattle.dmatypes.specs.World.{mapped, placed, put, put_off, record_of, restricted, unmapped, unmapped_by, with_domain, with_room}
@@ -22,13 +22,14 @@ use Rattle.dmatypes.specs.Step.{Answers, IsMapAnswer, IsStep, next}
 use Rattle.dmatypes.specs.History.{after_from, IsLegal, IsLegalFrom, after}
 use Rattle.dmatypes.proofs.numbers.Ranges.{within_is, within_not, within_or_not}
 use Rattle.dmatypes.specs.declared.page.TheConstants.{PAGE_BYTES}
+use Rattle.dmatypes.specs.declared.width.Width.{Width}
 use Rattle.dmatypes.proofs.lists.Filtered.{in_filter}
 use Rattle.dmatypes.proofs.histories.Maps.{put_same, put_other, same_or_not}
 use Rattle.ports.proofs.lists.Members.{in_either, none_is_no, some_and, from_either, second_of}
 
 pub record IsSoundDomain (v : Domain) : Type 0 where
-  pub live : (p : ℕ) (t : Target) → v.live p ≡ Some t → IsPage p
-  pub retired : (r : Retired) (p : ℕ) (t : Target) → IsIn r v.retired → r.targets p ≡ Some t → IsPage p
+  pub live : (p : ℕ) (t : Target) → v.live p ≡ Some t → IsPageOf v.width p
+  pub retired : (r : Retired) (p : ℕ) (t : Target) → IsIn r v.retired → r.targets p ≡ Some t → IsPageOf v.width p
   pub apart : (r : Retired) (p : ℕ) → IsIn r v.retired → IsWithin r.range p → v.live p ≡ None
 
 abbrev pub IsSoundWorld : World → Type 0
@@ -81,8 +82,8 @@ placed_within (s ∷ ss) first rights p t e = elim (within_or_not (record { firs
 
 -- ---- domains that change
 
-sound_empty : (mode : Mode) → IsSoundDomain (empty_domain mode)
-sound_empty mode = record { live = λ p t e. absurd cc; retired = λ r p t i e. absurd i; apart = λ r p i h. refl }
+sound_empty : (mode : Mode) (width : Width) → IsSoundDomain (empty_domain mode width)
+sound_empty mode width = record { live = λ p t e. absurd cc; retired = λ r p t i e. absurd i; apart = λ r p i h. refl }
 
 sound_mapped : (v : Domain) (ss : List Segment) (first rights : ℕ) → AreFreePages v (record { first = first; pages = total_pages ss })
     → IsSoundDomain v → IsSoundDomain (mapped ss first rights v)
@@ -177,8 +178,9 @@ sound_map w domain ss order rights address s answer = sound_with w domain (mappe
 
 sound_next : (w : World) (call : Call) (reply : Reply) → IsSoundWorld w → IsStep w call reply → IsSoundWorld (next w call reply)
 unfolding next IsStep Answers
-sound_next w (calls.Domain mode) (Made d) s step =
-    sound_put w d (Some (empty_domain mode)) s (λ v e. subst IsSoundDomain (same_Some (empty_domain mode) v e) (sound_empty mode))
+sound_next w (calls.Domain mode width) (Made d) s step =
+    sound_put w d (Some (empty_domain mode width)) s
+    (λ v e. subst IsSoundDomain (same_Some (empty_domain mode width) v e) (sound_empty mode width))
 sound_next w (calls.Drop domain) Done s step = sound_put w domain None s (λ v e. absurd cc)
 sound_next w (calls.Attach device domain) Done s step = s
 sound_next w (calls.Detach device) Done s step = s

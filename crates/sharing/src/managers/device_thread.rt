@@ -4,7 +4,7 @@
 ghost use Rattle.manager.specs.Kept.{IsNamedBy};
 
 use super::{map_of, request_of, seed_of};
-use dmatypes::{Access, Call, Fault, Mode, PAGE_BYTES, Reply};
+use dmatypes::{Access, Call, Fault, Mode, PAGE_BYTES, Reply, Width};
 use manager::*;
 use std::alloc::Global;
 use std::marker::Brand;
@@ -65,8 +65,14 @@ fn map_buffer<B: Owner, R: Wait>(
         domain: 1,
     };
     for call in [
-        Call::Domain(Mode::Strict),
-        Call::Domain(Mode::Strict),
+        Call::Domain {
+            mode: Mode::Strict,
+            width: Width::W39,
+        },
+        Call::Domain {
+            mode: Mode::Strict,
+            width: Width::W39,
+        },
         attach,
         map_of(1, FRAME, PAGES, 1),
     ] {
@@ -127,7 +133,7 @@ fn device_beside_driver<B: Owner + Send + Sync, R: Threads + Wait + Abort + Sync
     alloc: Global,
     seed: Seed,
 ) -> Result<(), Fail>
-    requires { IsNamedBy seed B.name B.parts B.shares B.room B.frames B.rows }
+    requires { IsNamedBy seed B.name B.parts B.shares B.room B.frames B.mode B.rows }
 {
     let Made {
         manager,

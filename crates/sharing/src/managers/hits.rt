@@ -3,7 +3,7 @@
 ghost use Rattle.manager.specs.Kept.{IsNamedBy};
 
 use super::{made, map_of, request_of, seed_of};
-use dmatypes::{Access, Call, Mode, Reply};
+use dmatypes::{Access, Call, Mode, Reply, Width};
 use manager::*;
 use std::alloc::Global;
 use std::marker::Brand;
@@ -30,7 +30,15 @@ fn request_pages<B: Owner>(
         device: 3,
         domain: 1,
     };
-    let _ = manager.call(rt, rows, mine, Call::Domain(Mode::Strict));
+    let _ = manager.call(
+        rt,
+        rows,
+        mine,
+        Call::Domain {
+            mode: Mode::Strict,
+            width: Width::W39,
+        },
+    );
     let _ = manager.call(rt, rows, mine, attach);
     let _ = manager.call(rt, rows, mine, map_of(1, 0x100, pages, 1));
     for address in addresses {
@@ -60,7 +68,7 @@ fn words_of_a_row(rt: HostRuntime) -> Result<(), Fail> {
 
 // Two pages share a slot of the row: the last that was filled is there. An unmap empties the row without a check-in.
 fn hit_by_words<B: Owner, R: Wait + Abort>(rt: &R, alloc: Global, seed: Seed) -> Result<(), Fail>
-    requires { IsNamedBy seed B.name B.parts B.shares B.room B.frames B.rows }
+    requires { IsNamedBy seed B.name B.parts B.shares B.room B.frames B.mode B.rows }
 {
     let (manager, rows, mut ports, mut mine) = made::<B>(alloc, seed)?;
     let mut port = ports.remove(3);
@@ -111,7 +119,7 @@ fn hit_beside_the_holder<B: Owner + Send + Sync, R: Threads + Wait + Abort + Syn
     alloc: Global,
     seed: Seed,
 ) -> Result<(), Fail>
-    requires { IsNamedBy seed B.name B.parts B.shares B.room B.frames B.rows }
+    requires { IsNamedBy seed B.name B.parts B.shares B.room B.frames B.mode B.rows }
 {
     let (manager, rows, mut ports, mut mine) = made::<B>(alloc, seed)?;
     let port = ports.remove(3);

@@ -3,7 +3,7 @@
 ghost use Rattle.manager.specs.Kept.{IsNamedBy};
 
 use super::{finished, seed_of};
-use dmatypes::{Call, Mode, Reply};
+use dmatypes::{Call, Mode, Reply, Width};
 use manager::*;
 use std::alloc::Global;
 use std::marker::Brand;
@@ -74,7 +74,7 @@ fn stepped_by_a_thread<B: Owner + Send + Sync, R: Threads + Wait + Abort + Sync>
     alloc: Global,
     seed: Seed,
 ) -> Result<(), Fail>
-    requires { IsNamedBy seed B.name B.parts B.shares B.room B.frames B.rows }
+    requires { IsNamedBy seed B.name B.parts B.shares B.room B.frames B.mode B.rows }
 {
     let Made {
         manager,
@@ -86,7 +86,15 @@ fn stepped_by_a_thread<B: Owner + Send + Sync, R: Threads + Wait + Abort + Sync>
     let two = shares.pop().ok_or("a share")?;
     let three = shares.pop().ok_or("a share")?;
     for _ in 0..FIRST_CALLS {
-        let _ = manager.call(rt, &rows, &mut one, Call::Domain(Mode::Lazy));
+        let _ = manager.call(
+            rt,
+            &rows,
+            &mut one,
+            Call::Domain {
+                mode: Mode::Lazy,
+                width: Width::W39,
+            },
+        );
     }
     let shared = &manager;
     let (first, (second, unit)) = join(

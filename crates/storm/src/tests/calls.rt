@@ -6,7 +6,7 @@ ghost use Rattle.manager.specs.Kept.{IsNamedBy};
 use crate::OpenGate;
 use crate::storming::{Outcome, Plan, outcome_of};
 use crate::workers::driver_call;
-use dmatypes::{Access, Call, Event, Mode, PAGE_BYTES, Reply, Whim};
+use dmatypes::{Access, Call, Event, Mode, PAGE_BYTES, Reply, Whim, Width};
 use manager::{Config, Owner, Seed};
 use std::alloc::Global;
 use std::marker::Brand;
@@ -47,7 +47,7 @@ fn made_by_each<B: Owner + Send + Sync, R: Threads + Wait + Abort + Sync>(
     seed: Seed,
     plan: Plan,
 ) -> Result<(), Fail>
-    requires named { IsNamedBy seed B.name B.parts B.shares B.room B.frames B.rows }
+    requires named { IsNamedBy seed B.name B.parts B.shares B.room B.frames B.mode B.rows }
     requires room { seed.room ≡ 2 + plan.devices + plan.calls * (plan.drivers + plan.devices + 1) }
     requires shares { seed.shares ≡ plan.drivers + plan.devices + 2 }
     requires frames { seed.frames ≡ FRAMES }
@@ -88,12 +88,16 @@ fn times(events: &[Event], call: &Call) -> u64 {
 // A strict domain, a lazy one, and the devices attached to them by turns.
 fn are_set_up(events: &[Event], devices: u64) -> bool {
     let mut first = events.iter();
-    let begun = first
-        .next()
-        .is_some_and(|event| event.call == Call::Domain(Mode::Strict))
-        && first
-            .next()
-            .is_some_and(|event| event.call == Call::Domain(Mode::Lazy));
+    let begun = first.next().is_some_and(|event| event.call
+        == Call::Domain {
+            mode: Mode::Strict,
+            width: Width::W39,
+        })
+        && first.next().is_some_and(|event| event.call
+            == Call::Domain {
+                mode: Mode::Lazy,
+                width: Width::W39,
+            });
     begun
         && first.zip(0..devices).all(|(event, device)| {
             let domain = 1 + device % 2;

@@ -5,7 +5,9 @@ use Rattle.std.proofs.Math.Nat.{div-eq_of_lt}
 use Rattle.std.proofs.lemmas.Bool.{cases_lt}
 use Rattle.std.proofs.lemmas.Option.{none-some}
 use Rattle.std.specs.Prelude.{OnOk, OnErr, Result, Ok, Err}
-use Rattle.dmatypes.specs.declared.width.TheConstants.{LEVELS, PAGES_END}
+use Rattle.dmatypes.specs.Page.{levels, pages_end}
+use Rattle.dmatypes.specs.declared.width.Width.{Width}
+use Rattle.dmatypes.specs.declared.width.Width.TheVariants.{W39, W48}
 use Rattle.tables.specs.declared.entries.TheConstants.{TABLE_ENTRIES}
 use Rattle.dmatypes.specs.World.{Target}
 use Rattle.tables.specs.Tree.{Memory, Found, span, leaf_from, stated, states, uses, IsLeafAt, IsTableAt}
@@ -15,9 +17,15 @@ use Rattle.tables.proofs.walks.Agreeing.{AgreeAt, to_agree, leaf_agrees, table_a
 use Rattle.tables.proofs.walks.Words.{same_entry}
 use Rattle.tables.proofs.walks.Near.{div_within, near_at, span_pos}
 
-pub span-levels : span LEVELS ≡ PAGES_END
+pub span-levels : (width : Width) → span (levels width) ≡ pages_end width
 unfolding span
-span-levels = refl
+span-levels W39 = refl
+span-levels W48 = refl
+
+-- each width has two levels at least
+pub some_levels : (width : Width) → 2 ≤ levels width
+some_levels W39 = omega arith
+some_levels W48 = omega arith
 
 -- the pages of a tree are in its root's one span
 pub same_root : (level p q : ℕ) → p < span level → q < span level → p / span level ≡ q / span level

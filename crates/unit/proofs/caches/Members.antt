@@ -1,6 +1,6 @@
 -- What is in the caches after a step, an eviction and a request, entry by entry.
-use Rattle.std.proofs.Common.{◌≡◌, ℕ, zero, suc, inl, inr, Bool, true, false, cond, not, List, [], ◌∷◌, filter, remove, Option, Some, None}
-use Rattle.std.proofs.Common.{refl, sym, ap, ◌∙◌, cond}
+use Rattle.std.proofs.Common.{◌≡◌, ℕ, zero, suc, inl, inr, Bool, true, false, not, List, [], ◌∷◌, remove, Option, Some, None}
+use Rattle.std.proofs.Common.{refl, sym}
 use Rattle.std.proofs.lemmas.Option.{same_Some}
 use Rattle.dmatypes.specs.World.{IsIn}
 use Rattle.dmatypes.proofs.lists.Filtered.{in_filter}
@@ -8,8 +8,8 @@ use Rattle.dmatypes.specs.declared.call.Cache.{Cache}
 use Rattle.dmatypes.specs.declared.call.Cache.TheVariants as kinds
 use Rattle.vtdbits.specs.declared.descriptor.Descriptor.{Descriptor}
 use Rattle.tables.specs.Tree.{Found}
-use Rattle.unit.specs.Caches.{CachedLeaf, CachedNonLeaf, CachedContext, Caches, without}
-use Rattle.unit.specs.Filters.{drops_leaf, drops_non_leaf, drops_context, left_by}
+use Rattle.unit.specs.Caches.{CachedLeaf, CachedNonLeaf, CachedContext, CachedFault, Caches, without}
+use Rattle.unit.specs.Filters.{drops_leaf, drops_non_leaf, drops_context, drops_fault, left_by}
 use Rattle.unit.specs.Walking.{met, met_leaf}
 
 -- ---- lists
@@ -40,6 +40,9 @@ pub left_context : (d : Descriptor) (c : Caches) (x : CachedContext) → IsIn x 
     → IsIn x c.contexts × (drops_context d x ≡ false)
 left_context d c x h = let k = in_filter (λ x. not (drops_context d x)) x c.contexts h in (k.0, of_not (drops_context d x) k.1)
 
+pub left_fault : (d : Descriptor) (c : Caches) (f : CachedFault) → IsIn f (left_by d c).faults → IsIn f c.faults × (drops_fault d f ≡ false)
+left_fault d c f h = let k = in_filter (λ f. not (drops_fault d f)) f c.faults h in (k.0, of_not (drops_fault d f) k.1)
+
 -- ---- evictions
 
 -- what an eviction leaves was there
@@ -47,18 +50,27 @@ pub without_leaf : (kind : Cache) (place : ℕ) (c : Caches) (l : CachedLeaf) �
 without_leaf kinds.Leaf place c l h = in_remove l c.leaves place h
 without_leaf kinds.NonLeaf place c l h = h
 without_leaf kinds.Context place c l h = h
+without_leaf kinds.Fault place c l h = h
 
 pub without_non_leaf : (kind : Cache) (place : ℕ) (c : Caches) (t : CachedNonLeaf) → IsIn t (without kind place c).non_leaves
     → IsIn t c.non_leaves
 without_non_leaf kinds.Leaf place c t h = h
 without_non_leaf kinds.NonLeaf place c t h = in_remove t c.non_leaves place h
 without_non_leaf kinds.Context place c t h = h
+without_non_leaf kinds.Fault place c t h = h
 
 pub without_context : (kind : Cache) (place : ℕ) (c : Caches) (x : CachedContext) → IsIn x (without kind place c).contexts
     → IsIn x c.contexts
 without_context kinds.Leaf place c x h = h
 without_context kinds.NonLeaf place c x h = h
 without_context kinds.Context place c x h = in_remove x c.contexts place h
+without_context kinds.Fault place c x h = h
+
+pub without_fault : (kind : Cache) (place : ℕ) (c : Caches) (f : CachedFault) → IsIn f (without kind place c).faults → IsIn f c.faults
+without_fault kinds.Leaf place c f h = h
+without_fault kinds.NonLeaf place c f h = h
+without_fault kinds.Context place c f h = h
+without_fault kinds.Fault place c f h = in_remove f c.faults place h
 
 -- ---- requests
 

@@ -77,7 +77,8 @@ any_by_first : {A : Type 0} (same : A → A → Bool) (x y : A) (ys : List A) (b
 any_by_first same x y ys true law later is any = inl (sym (law y is))
 any_by_first same x y ys false law later is any = inr (later any)
 
-any_in : {A : Type 0} (same : A → A → Bool) (x : A) (xs : List A) → ((y : A) → same y x ≡ true → y ≡ x) → list_any (λ y. same y x) xs ≡ true
+pub any_in : {A : Type 0} (same : A → A → Bool) (x : A) (xs : List A) → ((y : A) → same y x ≡ true → y ≡ x)
+    → list_any (λ y. same y x) xs ≡ true
     → IsIn x xs
 any_in same x [] law any = absurd (cc)
 any_in same x (y ∷ ys) law any = any_by_first same x y ys (same y x) law (λ rest. any_in same x ys law rest) refl any

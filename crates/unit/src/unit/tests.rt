@@ -1,7 +1,7 @@
 // Descriptors against entries that they drop, that they keep, and that they only overlap.
 
 use super::*;
-use dmatypes::{Frame, Rights};
+use dmatypes::{Frame, Rights, Width};
 use std::process::Abort;
 use vtdbits::{DeviceNumber, DomainId, LargeTranslation, PageBlock, Translation};
 
@@ -48,14 +48,10 @@ pub(super) fn large(rt: &impl Abort, domain: u64, page: u64) -> CachedLeaf {
 }
 
 pub(super) fn table(rt: &impl Abort, domain: u64, first: u64, level: u64) -> CachedNonLeaf {
-    assert!(rt; first < 1 << 27 && (level == 1 || level == 2));
-    CachedNonLeaf {
-        domain: domain_of(rt, domain),
-        first,
-        pages: if level == 1 { 512 } else { 1 << 18 },
-        level,
-        frame: frame_of(rt, 5),
-    }
+    assert!(rt; first < 1 << 36);
+    assert!(rt; 1 <= level);
+    assert!(rt; level <= 3);
+    CachedNonLeaf::new(domain_of(rt, domain), first, level, frame_of(rt, 5))
 }
 
 pub(super) fn context(rt: &impl Abort, device: u64, domain: u64) -> CachedContext {
@@ -63,29 +59,42 @@ pub(super) fn context(rt: &impl Abort, device: u64, domain: u64) -> CachedContex
         device: device_of(rt, device),
         domain: domain_of(rt, domain),
         root: frame_of(rt, 1),
+        width: Width::W39,
     }
 }
 
-// A unit that remembers these lists.
+pub(super) fn absent(rt: &impl Abort, domain: u64, page: u64) -> CachedFault {
+    assert!(rt; page < 1 << 36);
+    CachedFault {
+        domain: domain_of(rt, domain),
+        page,
+    }
+}
+
+// A unit in Caching Mode that remembers these lists.
 pub(super) fn unit_of(
     leaves: ArrayVec<CachedLeaf, LEAVES>,
     non_leaves: ArrayVec<CachedNonLeaf, NON_LEAVES>,
     contexts: ArrayVec<CachedContext, CONTEXTS>,
+    faults: ArrayVec<CachedFault, FAULTS>,
 ) -> Unit {
     // Each length says that it is within the list's capacity.
-    let _ = (leaves.len(), non_leaves.len(), contexts.len());
+    let _ = (leaves.len(), non_leaves.len(), contexts.len(), faults.len());
     Unit {
         leaves,
         non_leaves,
         contexts,
+        faults,
+        caching: true,
         done: 0,
         idle: 0,
     }
 }
 
 // A unit that remembers, of domain 1: pages 0x200, 0x3ff and 0x400 by small leaves, pages 0x600 to 0x7ff by a
-// large one, tables of level 1 and 2 over page 0x200 and one of level 1 from page 0x400 on; of domain 2: page
-// 0x200 and a table over it; and the contexts of device 3 in domain 1 and of devices 4 and 5 in domain 2.
+// large one, tables of level 1 and 2 over page 0x200, one of level 1 from page 0x400 on and one of level 3 from page 2^27
+// on, and pages 0x300, 0x400 and 2^27 as absent; of domain 2: page 0x200 and a table over it, and page 0x300 as absent; and
+// the contexts of device 3 in domain 1 and of devices 4 and 5 in domain 2.
 fn filled_unit(rt: &impl Abort) -> Unit {
     let mut leaves = ArrayVec::new();
     for leaf in [
@@ -102,6 +111,7 @@ fn filled_unit(rt: &impl Abort) -> Unit {
         table(rt, 1, 0x200, 1),
         table(rt, 1, 0, 2),
         table(rt, 1, 0x400, 1),
+        table(rt, 1, HIGH, 3),
         table(rt, 2, 0x200, 1),
     ] {
         assert!(rt; non_leaves.try_push(non_leaf).is_ok());
@@ -110,7 +120,16 @@ fn filled_unit(rt: &impl Abort) -> Unit {
     for entry in [context(rt, 3, 1), context(rt, 4, 2), context(rt, 5, 2)] {
         assert!(rt; contexts.try_push(entry).is_ok());
     }
-    unit_of(leaves, non_leaves, contexts)
+    let mut faults = ArrayVec::new();
+    for fault in [
+        absent(rt, 1, 0x300),
+        absent(rt, 1, 0x400),
+        absent(rt, 1, HIGH),
+        absent(rt, 2, 0x300),
+    ] {
+        assert!(rt; faults.try_push(fault).is_ok());
+    }
+    unit_of(leaves, non_leaves, contexts, faults)
 }
 
 // Makes the unit do one descriptor.
@@ -153,7 +172,21 @@ pub(super) fn assert_remembered(
     );
 }
 
-// What it remembers: first pages and lengths of leaves, first pages and levels of tables, and devices.
+// The unit remembers these pages as absent, each of a domain.
+pub(super) fn assert_absent(rt: &impl Abort, unit: &Unit, faults: &[(u64, u64)]) {
+    assert!(rt;
+        unit.faults
+            .iter()
+            .map(|fault| (fault.domain.number(), fault.page))
+            .eq(faults.iter().copied())
+    );
+}
+
+// A page of 48-bit domains alone, the first one.
+const HIGH: u64 = 1 << 27;
+
+// What it remembers: first pages and lengths of leaves, first pages and levels of tables, devices, and domains with absent
+// pages.
 const LEAVES_THERE: [(u64, u64); 5] = [
     (0x200, 1),
     (0x3ff, 1),
@@ -162,43 +195,55 @@ const LEAVES_THERE: [(u64, u64); 5] = [
     (0x200, 1),
 ];
 
-const TABLES_THERE: [(u64, u64); 4] = [(0x200, 1), (0, 2), (0x400, 1), (0x200, 1)];
+const TABLES_THERE: [(u64, u64); 5] = [(0x200, 1), (0, 2), (0x400, 1), (HIGH, 3), (0x200, 1)];
 
 const DEVICES_THERE: [u64; 3] = [3, 4, 5];
 
-// A descriptor leaves these leaves and tables of the filled unit, and every context.
+const FAULTS_THERE: [(u64, u64); 4] = [(1, 0x300), (1, 0x400), (1, HIGH), (2, 0x300)];
+
+// A descriptor leaves these leaves, tables and absent pages of the filled unit, and every context.
 fn assert_left(
     rt: &impl Abort,
     descriptor: Descriptor,
     leaves: &[(u64, u64)],
     tables: &[(u64, u64)],
+    faults: &[(u64, u64)],
 ) {
     let mut unit = filled_unit(rt);
     let status = done(rt, &mut unit, descriptor);
     assert_eq!(rt; status, 0);
     assert_remembered(rt, &unit, leaves, tables, &DEVICES_THERE);
+    assert_absent(rt, &unit, faults);
 }
 
 #[test]
 fn what_iotlb_descriptors_leave(rt: HostRuntime) {
     let domain = Descriptor::IotlbDomain(domain_of(&rt, 1));
-    assert_left(&rt, Descriptor::IotlbGlobal, &[], &[]);
-    assert_left(&rt, domain, &[(0x200, 1)], &[(0x200, 1)]);
+    assert_left(&rt, Descriptor::IotlbGlobal, &[], &[], &[]);
+    assert_left(&rt, domain, &[(0x200, 1)], &[(0x200, 1)], &[(2, 0x300)]);
 
-    // A block with two of the small leaves, between the others.
+    // A block with two of the small leaves and an absent page, between the others.
     let kept = [(0x400, 1), (0x600, 512), (0x200, 1)];
+    let absent = [(1, 0x400), (1, HIGH), (2, 0x300)];
     let block = pages_of(&rt, 1, 0x200, 9, false);
-    assert_left(&rt, block, &kept, &[(0x400, 1), (0x200, 1)]);
+    let tables = [(0x400, 1), (HIGH, 3), (0x200, 1)];
+    assert_left(&rt, block, &kept, &tables, &absent);
     let hinted = pages_of(&rt, 1, 0x200, 9, true);
-    assert_left(&rt, hinted, &kept, &TABLES_THERE);
+    assert_left(&rt, hinted, &kept, &TABLES_THERE, &absent);
 
     // The half of the large leaf, and all of it.
     let half = pages_of(&rt, 1, 0x700, 8, false);
-    let met = [(0x200, 1), (0x400, 1), (0x200, 1)];
-    assert_left(&rt, half, &LEAVES_THERE, &met);
+    let met = [(0x200, 1), (0x400, 1), (HIGH, 3), (0x200, 1)];
+    assert_left(&rt, half, &LEAVES_THERE, &met, &FAULTS_THERE);
     let whole = pages_of(&rt, 1, 0x600, 9, true);
     let smaller = [(0x200, 1), (0x3ff, 1), (0x400, 1), (0x200, 1)];
-    assert_left(&rt, whole, &smaller, &TABLES_THERE);
+    assert_left(&rt, whole, &smaller, &TABLES_THERE, &FAULTS_THERE);
+
+    // A page of 48-bit domains alone: the table of level 3 covers it.
+    let high = pages_of(&rt, 1, HIGH, 0, false);
+    let low = [(0x200, 1), (0, 2), (0x400, 1), (0x200, 1)];
+    let others = [(1, 0x300), (1, 0x400), (2, 0x300)];
+    assert_left(&rt, high, &LEAVES_THERE, &low, &others);
 }
 
 #[test]
@@ -218,6 +263,7 @@ fn what_other_descriptors_leave(rt: HostRuntime) {
         let mut unit = filled_unit(&rt);
         assert_eq!(rt; done(&rt, &mut unit, descriptor), status);
         assert_remembered(&rt, &unit, &LEAVES_THERE, &TABLES_THERE, devices);
+        assert_absent(&rt, &unit, &FAULTS_THERE);
     }
 }
 
@@ -229,9 +275,12 @@ fn what_evictions_leave(rt: HostRuntime) {
     unit.evict(Cache::NonLeaf, 0);
     unit.evict(Cache::Context, 2);
     unit.evict(Cache::Context, 1 << 63);
+    unit.evict(Cache::Fault, 1);
+    unit.evict(Cache::Fault, 3);
     let leaves = [(0x200, 1), (0x400, 1), (0x600, 512), (0x200, 1)];
-    let tables = [(0, 2), (0x400, 1), (0x200, 1)];
+    let tables = [(0, 2), (0x400, 1), (HIGH, 3), (0x200, 1)];
     assert_remembered(&rt, &unit, &leaves, &tables, &[3, 4]);
+    assert_absent(&rt, &unit, &[(1, 0x300), (1, HIGH), (2, 0x300)]);
 }
 
 #[test]
@@ -239,7 +288,7 @@ fn the_row(rt: HostRuntime) {
     let mut row = crate::Contexts::new();
     let entry = vtdbits::ContextEntry::Present {
         root: frame_of(&rt, 5),
-        width: dmatypes::Width::W39,
+        width: Width::W48,
         domain: domain_of(&rt, 1),
     };
     row.set(3, entry);

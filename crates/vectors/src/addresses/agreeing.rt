@@ -29,6 +29,18 @@ impl Sequence {
         self.seed ^= self.seed << 17;
         (self.seed >> 20) % bound
     }
+
+    /// A floor: mostly among the pages that are taken first, else near the last page, past it, or near the last number.
+    fn floor(&mut self) -> u64
+        ensures { 1 ≤ result }
+    {
+        match self.below(8) {
+            0 => 0x100F00,
+            1 => 0x101000,
+            2 => u64::MAX - 1,
+            _ => 1 + self.below(4000),
+        }
+    }
 }
 
 /// The range of the retired piece that begins at a page.
@@ -56,22 +68,30 @@ struct Pair {
 }
 
 impl Pair {
+    /// Takes pages, from a floor on if there is one.
     fn take(
         &mut self,
         alloc: Global,
+        floor: Option<u64>,
         pages: u64,
         order: u64,
-    ) -> Result<Result<u64, TakeError>, Fail>
+    ) -> Result<(), Fail>
+        requires floor { IfSome floor (λ floor. 1 ≤ floor) }
         requires some { 1 ≤ pages }
         requires few { pages ≤ 4096 }
         requires order { order ≤ 9 }
     {
-        let taken = self.space.take(pages, order).map(|page| page.number());
-        let listed = self.list.take(alloc, pages, 1 << order)?;
-        if taken != listed {
+        let taken = match floor {
+            Some(floor) => self.space.take_from(floor, pages, order),
+            None => self.space.take(pages, order),
+        };
+        let listed = self
+            .list
+            .take_from(alloc, floor.unwrap_or(1), pages, 1 << order)?;
+        if taken.map(|page| page.number()) != listed {
             return Err("a take differs".into());
         }
-        Ok(taken)
+        Ok(())
     }
 
     /// Takes pages and gives them back: the list, which is asked for nothing, stays as it is.
@@ -150,16 +170,21 @@ impl Pair {
         Ok(())
     }
 
-    fn step(&mut self, alloc: Global, numbers: &mut Sequence) -> Result<(), Fail> {
+    fn step(
+        &mut self,
+        alloc: Global,
+        numbers: &mut Sequence,
+        floor: Option<u64>,
+    ) -> Result<(), Fail>
+        requires { IfSome floor (λ floor. 1 ≤ floor) }
+    {
         match numbers.below(16) {
             0..=7 => {
                 let order = numbers.below(4);
                 let pages = 1 + numbers.below(1 << order);
-                let _taken = self.take(alloc, pages, order)?;
+                self.take(alloc, floor, pages, order)?;
             }
-            8 => {
-                let _taken = self.take(alloc, 1 + numbers.below(4096), numbers.below(10))?;
-            }
+            8 => self.take(alloc, floor, 1 + numbers.below(4096), numbers.below(10))?,
             9 => self.try_take(1 + numbers.below(8))?,
             10 | 11 => {
                 let first = 1 + numbers.below(3000);
@@ -189,9 +214,7 @@ impl Pair {
 }
 
 // 20,000 calls, and the space made new now and then.
-#[test]
-fn agrees_with_a_list(rt: HostRuntime) -> Result<(), Fail> {
-    let alloc = rt.alloc();
+fn agree(alloc: Global, with_floors: bool) -> Result<(), Fail> {
     let mut pair = Pair {
         space: Space::new(alloc, 0x100FFF)?,
         list: List::new(alloc, FREE.as_slice())?,
@@ -201,11 +224,26 @@ fn agrees_with_a_list(rt: HostRuntime) -> Result<(), Fail> {
     };
     for call in 0..20000u64 {
         if call % 7000 == 6999 {
-            pair.space.reset();
+            pair.space.reset(0x100FFF);
             pair.list = List::new(alloc, FREE.as_slice())?;
         }
-        pair.step(alloc, &mut numbers)?;
+        let floor = if with_floors {
+            Some(numbers.floor())
+        } else {
+            None
+        };
+        pair.step(alloc, &mut numbers, floor)?;
         pair.compare()?;
     }
     Ok(())
+}
+
+#[test]
+fn agrees_with_a_list(rt: HostRuntime) -> Result<(), Fail> {
+    agree(rt.alloc(), false)
+}
+
+#[test]
+fn agrees_with_a_list_from_floors(rt: HostRuntime) -> Result<(), Fail> {
+    agree(rt.alloc(), true)
 }

@@ -60,11 +60,11 @@ impl List {
         cut
     }
 
-    /// The lowest start of so many free pages that is a multiple of the unit.
-    fn lowest_fit(&self, pages: u64, unit: u64) -> Option<u64> {
+    /// The lowest start of so many free pages at or above the floor that is a multiple of the unit.
+    fn lowest_fit(&self, floor: u64, pages: u64, unit: u64) -> Option<u64> {
         for held in self.pieces.iter() {
-            if held.is_free() {
-                let above = held.first.wrapping_add(unit.wrapping_sub(1));
+            if held.is_free() && floor <= held.last {
+                let above = held.first.max(floor).wrapping_add(unit.wrapping_sub(1));
                 let start = above.wrapping_sub(above % unit.max(1));
                 if start.wrapping_add(pages) <= held.last.wrapping_add(1) {
                     return Some(start);
@@ -74,13 +74,19 @@ impl List {
         None
     }
 
-    pub(super) fn take(
+    /// Takes the lowest such pages, and where there are none those that are the lowest of all.
+    pub(super) fn take_from(
         &mut self,
         alloc: Global,
+        floor: u64,
         pages: u64,
         unit: u64,
     ) -> Result<Result<u64, TakeError>, AllocError> {
-        let Some(first) = self.lowest_fit(pages, unit) else {
+        let found = match self.lowest_fit(floor, pages, unit) {
+            Some(first) => Some(first),
+            None => self.lowest_fit(1, pages, unit),
+        };
+        let Some(first) = found else {
             return Ok(Err(TakeError::NoRange));
         };
         let last = first.wrapping_add(pages).wrapping_sub(1);

@@ -1,11 +1,11 @@
 //! What is read of a session.
 
 ghost use Rattle.vtdm_c.specs.Told.{FindsContext, FindsDevices, FindsDomainOf, FindsDomainTotals, FindsMode, FindsRoot, FindsTotals};
-ghost use Rattle.vtdm_c.specs.Told.{FindsWord};
+ghost use Rattle.vtdm_c.specs.Told.{FindsWidth, FindsWord};
 
 use super::Session;
 use crate::answer::Answer;
-use crate::told::{Context, DomainTotals, Totals, number_of_mode};
+use crate::told::{Context, DomainTotals, Totals, bits_of_width, number_of_mode};
 use dmatypes::DEVICES;
 
 impl Session {
@@ -44,6 +44,15 @@ impl Session {
     {
         match self.state.mode_of(domain) {
             Some(mode) => Answer::told(number_of_mode(mode)),
+            None => Answer::lone(Answer::NO_DOMAIN),
+        }
+    }
+
+    pub(crate) fn width_of(&self, domain: u64) -> Answer
+        ensures { FindsWidth domain self.now.state result }
+    {
+        match self.state.width_of(domain) {
+            Some(width) => Answer::told(bits_of_width(width)),
             None => Answer::lone(Answer::NO_DOMAIN),
         }
     }

@@ -5,4 +5,10 @@ abbrev pub ghosts-audited-B-Ledger : goal.ghosts-audited-B-Ledger
 ghosts-audited-B-Ledger g a = record { name = a.seed.name; parts = a.seed.shares }
 
 abbrev pub ghosts-audited-B-Owner : goal.ghosts-audited-B-Owner
-ghosts-audited-B-Owner g a = record { shares = a.seed.shares; room = a.seed.room; frames = a.seed.frames; rows = a.seed.rows }
+ghosts-audited-B-Owner g a = record {
+  shares = a.seed.shares;
+  room = a.seed.room;
+  frames = a.seed.frames;
+  mode = a.seed.caching;
+  rows = a.seed.rows;
+}

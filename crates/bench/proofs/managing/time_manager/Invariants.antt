@@ -5,4 +5,10 @@ abbrev pub ghosts-time_owned-B-Ledger : goal.ghosts-time_owned-B-Ledger
 ghosts-time_owned-B-Ledger g a = record { name = a.seed.name; parts = a.seed.shares }
 
 abbrev pub ghosts-time_owned-B-Owner : goal.ghosts-time_owned-B-Owner
-ghosts-time_owned-B-Owner g a = record { shares = a.seed.shares; room = a.seed.room; frames = a.seed.frames; rows = a.seed.rows }
+ghosts-time_owned-B-Owner g a = record {
+  shares = a.seed.shares;
+  room = a.seed.room;
+  frames = a.seed.frames;
+  mode = a.seed.caching;
+  rows = a.seed.rows;
+}

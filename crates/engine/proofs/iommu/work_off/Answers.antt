@@ -74,3 +74,10 @@ returns-clause-each c =
     (taken_before c.args.ring.now.waiting c.args.descriptor c.args.status c.args.ring.now.taken) c.args.unit.now c.loop-unit.ring
     c.loop-unit.unit
     c.requires.others c.requires.no_wait c.requires.fresh c.loop-unit.invariant (sym c.status.ensures ∙ c.loop-unit-test.false)).1
+
+pub returns-clause-caching : goal.returns-clause-caching
+returns-clause-caching c =
+    ap (λ (u : UnitState). u.caching) (last_stage c.args.ring.now.waiting c.args.descriptor c.args.status c.args.ring.now.status
+    (taken_before c.args.ring.now.waiting c.args.descriptor c.args.status c.args.ring.now.taken) c.args.unit.now c.loop-unit.ring
+    c.loop-unit.unit
+    c.requires.others c.requires.no_wait c.requires.fresh c.loop-unit.invariant (sym c.status.ensures ∙ c.loop-unit-test.false)).1

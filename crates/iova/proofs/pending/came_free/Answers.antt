@@ -14,7 +14,8 @@ returns-then-known-page-clause-free c within =
     let known = c.in-Freed.known in
     let k = freed_of c.args.nodes.now c.args.root c.requires.in_mind.0 c.args.in_mind known c.in-Freed.is c.requires.in_mind.1 in
     subst (λ m. state_at (shown m a.pieces) c.args.page ≡ Some Free) (sym c.in-Freed.is)
-    (freed_inside a known.pages c.requires.space.1 k.there c.args.page (omega (arith, c.if-known-page.true)) (grind (arith, nat_tests, within)))
+    (freed_inside a known.pages c.requires.space.1 k.there c.args.page (omega (arith, c.if-known-page.true))
+    (grind (arith, nat_tests, within)))
 
 pub returns-then-known-page-clause-other : goal.returns-then-known-page-clause-other
 returns-then-known-page-clause-other c behind =

@@ -27,7 +27,7 @@ returns-in_default-clause-written g c = nothing_written _ c.args.output _ _ _ _
 
 pub returns-in-Answers-clause-written : goal.returns-in-Answers-clause-written
 returns-in-Answers-clause-written g c =
-    rw (c.requires.named.frames_are, c.requires.named.room_is)
+    rw (c.requires.named.frames_are, c.requires.named.room_is, c.requires.named.mode_is)
     (answers_known _ c.args.output c.replies_for.result _ _ _ _ _ _ c.answer_lines-end.new.book
     c.answer_lines-end.result c.in-Answers.is c.replies_for.ensures c.answer_lines-end.ensures.written)
 
@@ -36,7 +36,7 @@ returns-clause-written g c = rw c.in-Map.is tt
 
 pub returns-in-Report-clause-written : goal.returns-in-Report-clause-written
 returns-in-Report-clause-written g c =
-    rw (c.requires.named.frames_are, c.requires.named.room_is) (report_is_known _ c.args.output c.replies_for.result _ _ _ _ _ _ _ _
+    rw (c.requires.named.frames_are, c.requires.named.room_is, c.requires.named.mode_is) (report_is_known _ c.args.output c.replies_for.result _ _ _ _ _ _ _ _
     c.answer_lines-end.new.writer.block c.send_report.new.writer.block c.answer_lines-end.new.book
     c.answer_lines-end.result c.send_report.result c.in-Report.is c.replies_for.ensures c.answer_lines-end.ensures.written
     c.answer_lines-end.ensures.all_sent (λ e. c.answer_lines-end.ensures.memory (rw e refl))

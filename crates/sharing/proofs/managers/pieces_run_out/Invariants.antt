@@ -5,4 +5,10 @@ abbrev pub ghosts-crowded-B-Ledger : goal.ghosts-crowded-B-Ledger
 ghosts-crowded-B-Ledger g a = record { name = a.seed.name; parts = a.seed.shares }
 
 abbrev pub ghosts-crowded-B-Owner : goal.ghosts-crowded-B-Owner
-ghosts-crowded-B-Owner g a = record { shares = a.seed.shares; room = a.seed.room; frames = a.seed.frames; rows = a.seed.rows }
+ghosts-crowded-B-Owner g a = record {
+  shares = a.seed.shares;
+  room = a.seed.room;
+  frames = a.seed.frames;
+  mode = a.seed.caching;
+  rows = a.seed.rows;
+}

@@ -1,3 +1,4 @@
+use Rattle.dmatypes.specs.declared.width.Width.{Width}
 use Rattle.std.proofs.Common.{◌≡◌, ℕ, List, filter, not, rules, ap, subst}
 use Rattle.std.proofs.lemmas.Fn.{filter_same}
 use Rattle.dmatypes.specs.declared.call.Mode.{Mode}
@@ -16,9 +17,10 @@ returns-clause-reaps c =
           subst (λ rs. ReleasesAll c.args.pool.now c.self.inside.space (filter (was_before c.args.ticket.number) rs)
           c.release_before-released.new.pool c.release_before-released.new.space) c.as_slice.ensures.value
           c.release_before-released.ensures.released;
-      same = ap (after c.self.inside.mode c.self.inside.begun c.self.inside.tree.root c.release_before-released.new.space) left;
+      same = ap (after c.self.inside.mode c.self.inside.begun c.self.inside.tree.width c.self.inside.tree.root
+          c.release_before-released.new.space) left;
     })
   where
-    after : Mode → ℕ → ℕ → Space → List Record → Domain
-    after mode begun root space records =
-        record { mode = mode; begun = begun; root = root; space = space; records = records }
+    after : Mode → ℕ → Width → ℕ → Space → List Record → Domain
+    after mode begun width root space records =
+        record { mode = mode; begun = begun; width = width; root = root; space = space; records = records }

@@ -1,6 +1,20 @@
-use Rattle.engine.specs.Domains.{parts_of}
+use Rattle.std.proofs.Common.{ℕ, ◌≡◌, inl, inr, ap, subst, sym}
+use Rattle.dmatypes.specs.Page.{Fits}
+use Rattle.engine.specs.Domains.{Domain, Parts, parts_of}
+use Rattle.engine.specs.Ending.{MakesRoom}
 use Rattle.engine.proofs.unmaps.LazyRange.{still_ends}
 use Rattle.engine.proofs.domain.Domain.unmap_lazily.Goals as goal
+
+-- where room is made for a record, the domain keeps its width
+same_width : (old : Parts) (id released : ℕ) (new : Parts) → MakesRoom old id released new → new.domain.width ≡ old.domain.width
+same_width old id released new room = elim room [
+  | inl has ↦ ap (λ (p : Parts). p.domain.width) has.same
+  | inr empties ↦ ap (λ (d : Domain). d.width) empties.flushes.same
+]
+
+pub end-last-requires-clause-fits : goal.end-last-requires-clause-fits
+end-last-requires-clause-fits c =
+    subst (Fits c.args.range) (sym (same_width _ _ _ _ c.make_room-released.ensures.room)) c.requires.fits
 
 pub end-last-requires-clause-can : goal.end-last-requires-clause-can
 end-last-requires-clause-can c =

@@ -1,6 +1,6 @@
 use Rattle.std.proofs.Common.{◌≡◌, length, ap, arith, sym, subst, ◌∙◌}
 use Rattle.dmatypes.specs.Page.{Range}
-use Rattle.dmatypes.specs.declared.width.TheConstants.{LEVELS}
+use Rattle.dmatypes.specs.Page.{levels}
 use Rattle.iova.specs.Space.{Space, MayRetire}
 use Rattle.tables.specs.Pool.{Pool, IsTree}
 use Rattle.engine.specs.declared.record.Record.{Record}
@@ -12,7 +12,7 @@ use Rattle.engine.proofs.flushes.MayRelease.{cut_freeable, ended_at_once}
 use Rattle.engine.proofs.domain.Domain.unmap_strictly.Goals as goal
 
 -- what was cut can be freed in the same space under another name
-kept : (pool pool' : Pool) (h : Domain) (space : Space) (r : Record) (range : Range) → IsTree pool LEVELS h.root
+kept : (pool pool' : Pool) (h : Domain) (space : Space) (r : Record) (range : Range) → IsTree pool (levels h.width) h.root
     → UnmapsAlone pool h r pool' → r.range ≡ range → MayRetire h.space.pieces range → h.space ≡ space → IsFreeable pool' space r
 kept pool pool' h space r range tree cuts same may is =
     subst (λ (s : Space). IsFreeable pool' s r) is

@@ -1,4 +1,4 @@
-use Rattle.std.proofs.Common.{ℕ, [], None, arith, refl, replicate, subst, sym}
+use Rattle.std.proofs.Common.{ℕ, [], None, arith, false, refl, replicate, subst, sym}
 use Rattle.dmatypes.specs.World.{empty}
 use Rattle.dmatypes.specs.declared.limits.TheConstants.{DEVICES}
 use Rattle.queue.specs.Ring.{ring_of}
@@ -18,19 +18,19 @@ abbrev quiet : ℕ → Iommu
 quiet waits = record {
   contexts = replicate DEVICES Absent;
   ring = ring_of [] (status_of waits) [];
-  unit = unit_state nothing 0 0;
+  unit = unit_state nothing 0 0 false;
   sent = waits;
   shown = None;
 }
 
-module _ (m : State) (frames waits : ℕ) (new : IsNew frames m) where
+module _ (m : State) (frames waits : ℕ) (new : IsNew frames false m) where
   abbrev late : State
   late = record m { iommu = quiet waits; calls = waits }
 
   abbrev early : State
   early = record m { iommu = record (quiet 0) { ring = ring_of [] 0 [] }; calls = 0 }
 
-  is_new : IsNew frames early
+  is_new : IsNew frames false early
   is_new = record {
     frames_are = new.frames_are;
     free = new.free;
@@ -49,11 +49,12 @@ module _ (m : State) (frames waits : ℕ) (new : IsNew frames m) where
 
   of_empty : Quarantine late (empty frames)
   of_empty =
-      let q = of_empty_world early frames is_new in
+      let q = of_empty_world early frames false is_new in
       record {
         table_frames = q.table_frames;
         domains = q.domains;
         caches = record { leaves = q.caches.leaves; tables = q.caches.tables };
+        faults = λ f inside. absurd inside;
         contexts = record { devices = q.contexts.devices; roots = q.contexts.roots; cached = q.contexts.cached };
         frames = q.frames;
         tickets = q.tickets;
@@ -62,7 +63,7 @@ module _ (m : State) (frames waits : ℕ) (new : IsNew frames m) where
   late_whole : IsWhole frames late
   unfolding Follow pairs_of
   late_whole =
-      let whole = whole_new early frames is_new in
+      let whole = whole_new early frames false is_new in
       let k = whole.tickets in
       record {
         of_world = (empty frames, of_empty);
@@ -94,7 +95,7 @@ module _ (m : State) (frames waits : ℕ) (new : IsNew frames m) where
 pub invariant_of-state : goal.invariant_of-state
 invariant_of-state c =
     let frames = c.args.frames in
-    let new : IsNew frames (the_view c.state.inside) = subst (IsNew frames) (sym c.state.view_is) c.in_ok-state.ensures.new in (
+    let new : IsNew frames false (the_view c.state.inside) = subst (IsNew frames false) (sym c.state.view_is) c.in_ok-state.ensures.new in (
       subst (λ (x : Iommu). IsWhole c.state.inside.pool.frames (record (the_view c.state.inside) { iommu = x; calls = c.args.calls }))
           (sym c.after-state-inside.ensures)
           (subst (λ n. IsWhole n (late (the_view c.state.inside) frames c.args.calls new)) (sym new.frames_are)

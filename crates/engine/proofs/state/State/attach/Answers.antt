@@ -1,7 +1,6 @@
 use Rattle.std.proofs.Common.{◌≡◌, ◌+◌, ◌∙◌, Some, ap, length, refl, slice_set}
 use Rattle.dmatypes.specs.declared.call.Call.TheVariants as calls
 use Rattle.dmatypes.specs.declared.reply.Reply.TheVariants.{Done}
-use Rattle.dmatypes.specs.declared.width.Width.TheVariants.{W39}
 use Rattle.std.proofs.lemmas.List.{length-set}
 use Rattle.vtdbits.specs.declared.context.ContextEntry.TheVariants.{Present}
 use Rattle.engine.specs.contracts.state.State.{the_view}
@@ -51,8 +50,9 @@ does c =
     finds c.self.invariant.0 c.in-Some.ensures.value c.place_of.ensures.place c.place_of.ensures.low c.index.ensures
     c.in-Some-index.is in
     let row : c.set.new.self
-    ≡ slice_set c.self.inside.iommu.contexts c.args.device (Present c.in-Some-index.domain.root W39 c.args.domain) =
-    rw (← c.root.ensures, ← c.in-Some.ensures.value) c.set.ensures in
+    ≡ slice_set c.self.inside.iommu.contexts c.args.device (Present c.in-Some-index.domain.root c.in-Some-index.domain.width
+    c.args.domain) =
+    rw (← c.root.ensures, ← c.width.ensures, ← c.in-Some.ensures.value) c.set.ensures in
     attaches (the_view c.self.inside) (after c) c.args.device c.args.domain c.in-Some-index.domain c.if-device-ge-DEVICES.false
     c.self.invariant.0.devices
     found.there
@@ -66,7 +66,8 @@ pub invariant_of-self-2 : goal.invariant_of-self-2
 invariant_of-self-2 c = (
   whole_quiet (the_view c.self.inside) (after c) (calls.Attach c.args.device c.args.domain) Done c.self.invariant.0
       (does c) refl
-      (ap length c.set.ensures ∙ length-set c.self.inside.iommu.contexts c.args.device (Present c.root.result W39 c.in-Some.id)) refl refl
+      (ap length c.set.ensures ∙ length-set c.self.inside.iommu.contexts c.args.device
+      (Present c.root.result c.width.result c.in-Some.id)) refl refl
       refl,
   c.self.invariant.1,
 )

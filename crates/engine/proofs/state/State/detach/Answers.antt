@@ -1,9 +1,8 @@
-use Rattle.std.proofs.Common.{arith, ◌≡◌, ◌≤◌, ◌<◌, ◌∙◌, ⊎_elim, List, None, Some, ap, refl, slice_get, slice_set, subst}
+use Rattle.std.proofs.Common.{arith, ◌≡◌, ◌≤◌, ◌<◌, ⊎_elim, List, None, Some, refl, slice_get, slice_set, subst}
 use Rattle.std.proofs.lemmas.Bool.{cases_lt}
 use Rattle.std.proofs.lemmas.List.{length-set}
 use Rattle.dmatypes.specs.declared.call.Call.TheVariants as calls
 use Rattle.dmatypes.specs.declared.reply.Reply.TheVariants.{Done}
-use Rattle.dmatypes.specs.declared.width.Width.TheVariants.{W39}
 use Rattle.vtdbits.specs.declared.context.ContextEntry.TheVariants.{Absent, Present}
 use Rattle.vtdbits.specs.declared.descriptor.Descriptor.TheVariants.{ContextDevice}
 use Rattle.vtdbits.specs.declared.context.ContextEntry.{ContextEntry}
@@ -11,7 +10,7 @@ use Rattle.engine.specs.contracts.state.State.{the_view}
 use Rattle.engine.specs.declared.iommu.Iommu.{Iommu}
 use Rattle.engine.specs.Ending.{Invalidates}
 use Rattle.engine.specs.Steps.{Does}
-use Rattle.engine.proofs.devices.Detached.{detach_does, detach_no_device, detach_not_attached, detached, only_width}
+use Rattle.engine.proofs.devices.Detached.{detach_does, detach_no_device, detach_not_attached, detached}
 use Rattle.engine.proofs.caches.Sent.{whole_sends}
 use Rattle.engine.proofs.caches.ReadyToSend.{ready_to_send}
 use Rattle.engine.proofs.state.State.detach.Goals as goal
@@ -45,9 +44,10 @@ sent c =
 does : (c : goal.After-forget_context)
     → Does (the_view c.self.inside) (calls.Detach c.args.device) Done (detached (the_view c.self.inside) c.forget_context.new.self)
 does c =
-    let at : slice_get c.self.inside.iommu.contexts c.args.device ≡ Some (Present c.in-Present.root W39 c.in-Present.domain) =
-    c.in-Present.ensures ∙ ap (λ w. Some (Present c.in-Present.root w c.in-Present.domain)) (only_width c.in-Present.width) in
-    detach_does (the_view c.self.inside) c.args.device c.in-Present.root c.in-Present.domain c.forget_context.new.self
+    let at : slice_get c.self.inside.iommu.contexts c.args.device ≡ Some
+    (Present c.in-Present.root c.in-Present.width c.in-Present.domain) =
+    c.in-Present.ensures in
+    detach_does (the_view c.self.inside) c.args.device c.in-Present.root c.in-Present.domain c.in-Present.width c.forget_context.new.self
     (let low = c.in-Some.ensures.some.0 refl in omega (arith, low))
     c.self.invariant.0.devices at (sent c)
 

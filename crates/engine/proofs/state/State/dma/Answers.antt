@@ -1,4 +1,4 @@
-use Rattle.std.proofs.Common.{◌≡◌, ◌+◌, ◌∙◌, ap₂, true, false, sym, refl}
+use Rattle.std.proofs.Common.{◌≡◌, ◌+◌, ◌∙◌, true, false, sym, refl}
 use Rattle.dmatypes.specs.Page.{IsInWindow}
 use Rattle.dmatypes.specs.declared.call.Call.TheVariants as calls
 use Rattle.unit.specs.Caches.{unit_state}
@@ -39,12 +39,14 @@ does c =
     λ inside. let both : true ≡ false = sym (c.is_in_window.ensures.1 inside) ∙ c.if-is_in_window.false in cc in
     request_does (the_view c.self.inside) (after c) c.args.device c.args.address c.args.access c.args.whim c.dma-answer.result
     c.if-device-ge-DEVICES.false
-    outside c.dma-answer.ensures.answers c.dma-answer.ensures.remembered (ap₂ (λ steps done.
+    outside c.dma-answer.ensures.answers c.dma-answer.ensures.remembered (λ i.
     record (the_view c.self.inside) {
-      iommu = record c.self.inside.iommu { unit = unit_state c.dma-answer.new.self.caches steps done };
+      iommu = record c.self.inside.iommu {
+        unit = unit_state c.dma-answer.new.self.caches (c.dma-answer.ensures.steps i) (c.dma-answer.ensures.done i)
+            (c.dma-answer.ensures.caching i);
+      };
       calls = c.self.inside.calls + 1;
     })
-    c.dma-answer.ensures.steps c.dma-answer.ensures.done)
 
 pub returns : goal.returns
 returns c = rw (← c.self.view_is) (record {

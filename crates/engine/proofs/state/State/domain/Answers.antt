@@ -1,9 +1,9 @@
-use Rattle.std.proofs.Common.{◌+◌, None, Some, ap, arith, refl, slice_set}
+use Rattle.std.proofs.Common.{◌≡◌, ◌∙◌, ◌+◌, None, Some, ap, arith, refl, slice_set}
 use Rattle.dmatypes.specs.declared.call.Call.TheVariants as calls
 use Rattle.dmatypes.specs.declared.refusal.Refusal.TheVariants as refusals
 use Rattle.dmatypes.specs.declared.reply.Reply.TheVariants.{Made, Refused}
 use Rattle.engine.specs.contracts.state.State.{the_view}
-use Rattle.engine.specs.Domains.{Domain}
+use Rattle.engine.specs.Domains.{Domain, new_domain}
 use Rattle.engine.specs.State.{State}
 use Rattle.engine.specs.Steps.{Does}
 use Rattle.std.proofs.lemmas.List.{length-set}
@@ -14,7 +14,8 @@ use Rattle.engine.proofs.state.State.domain.Goals as goal
 
 pub returns-in_default : goal.returns-in_default
 returns-in_default c =
-    rw (← c.self.view_is) (no_id _ _ c.args.mode refl c.self.invariant.0.places (rw c.as_slice.ensures.value at c.in_default.ensures.none))
+    rw (← c.self.view_is) (no_id _ _ c.args.mode c.args.width refl c.self.invariant.0.places
+    (rw c.as_slice.ensures.value at c.in_default.ensures.none))
 
 -- ---- no frame is free
 
@@ -24,10 +25,10 @@ refused c = record (the_view c.self.inside) {
   calls = c.self.inside.calls + 1;
 }
 
-refuses : (c : goal.In-Err) → Does (the_view c.self.inside) (calls.Domain c.args.mode) (Refused refusals.NoFrames) (refused c)
+refuses : (c : goal.In-Err) → Does (the_view c.self.inside) (calls.Domain c.args.mode c.args.width) (Refused refusals.NoFrames) (refused c)
 refuses c =
     let vacant = rw c.as_slice.ensures.value at c.in-Some.ensures.vacant in
-    no_root (the_view c.self.inside) (refused c) c.args.mode c.in-Some.index
+    no_root (the_view c.self.inside) (refused c) c.args.mode c.args.width c.in-Some.index
     (ap (λ pool. record (the_view c.self.inside) { pool = pool; calls = c.self.inside.calls + 1 }) c.in-Err.ensures.unchanged)
     c.self.invariant.0.places vacant.0 (at_place c.self.inside.domains.items (c.in-Some.index + 1) c.in-Some.index None refl vacant.1)
     (c.in-Err.ensures.refused.0 refl)
@@ -37,7 +38,7 @@ returns-in-Err c = rw (← c.self.view_is) (refuses c)
 
 pub invariant_of-self-in-Err : goal.invariant_of-self-in-Err
 invariant_of-self-in-Err c = (
-  whole_quiet (the_view c.self.inside) (refused c) (calls.Domain c.args.mode) (Refused refusals.NoFrames)
+  whole_quiet (the_view c.self.inside) (refused c) (calls.Domain c.args.mode c.args.width) (Refused refusals.NoFrames)
       c.self.invariant.0
       (refuses c) refl refl refl refl refl,
   c.self.invariant.1,
@@ -58,10 +59,11 @@ after c = record (the_view c.self.inside) {
   calls = c.self.inside.calls + 1;
 }
 
-does : (c : goal.Joined-index_mut) → Does (the_view c.self.inside) (calls.Domain c.args.mode) (Made (c.in-Some.index + 1)) (after c)
+does : (c : goal.Joined-index_mut) → Does (the_view c.self.inside) (calls.Domain c.args.mode c.args.width) (Made (c.in-Some.index + 1))
+    (after c)
 does c =
     let vacant = rw c.as_slice.ensures.value at c.in-Some.ensures.vacant in
-    let grown : IsEmptyTree c.self.inside.pool c.new.new.pool c.in-Ok.tree.root =
+    let grown : IsEmptyTree c.self.inside.pool c.new.new.pool c.args.width c.in-Ok.tree.root =
     record {
       roots =
           record {
@@ -74,16 +76,18 @@ does c =
       frames = c.in-Ok.ensures.frames;
       pool = c.in-Ok.ensures.pool;
     } in
-    makes (the_view c.self.inside) (after c) c.args.mode c.in-Some.index c.in-Ok.tree.root c.self.invariant.0.places vacant.0
+    let new : c.new-2.result ≡ new_domain c.args.mode c.args.width c.in-Ok.tree.root =
+    c.new-2.ensures.new ∙ ap (λ n. new_domain c.args.mode n c.in-Ok.tree.root) c.in-Ok.ensures.width in
+    makes (the_view c.self.inside) (after c) c.args.mode c.args.width c.in-Some.index c.in-Ok.tree.root c.self.invariant.0.places vacant.0
     (at_place c.self.inside.domains.items (c.in-Some.index + 1) c.in-Some.index None refl vacant.1) grown
-    (rw c.new-2.ensures.new at c.new-2.ensures.space) (rw c.new-2.ensures.new at c.new-2.ensures.free)
+    (rw new at c.new-2.ensures.space) (rw new at c.new-2.ensures.free)
     (ap (λ (d : Domain).
     record (the_view c.self.inside) {
       pool = c.new.new.pool;
       domains = slice_set c.self.inside.domains.items c.in-Some.index (Some d);
       calls = c.self.inside.calls + 1;
     })
-    c.new-2.ensures.new)
+    new)
 
 pub returns : goal.returns
 returns c = rw (← c.self.view_is) (does c)
@@ -93,7 +97,7 @@ invariant_of-self-2 c =
     let vacant = rw c.as_slice.ensures.value at c.in-Some.ensures.vacant in
     let fewer = rw c.unwrap-room.ensures at c.pop.ensures.cases in
     let more = count_set c.self.inside.domains.items c.in-Some.index None (Some c.new-2.result) vacant.1 in (
-      whole_quiet (the_view c.self.inside) (after c) (calls.Domain c.args.mode) (Made (c.in-Some.index + 1))
+      whole_quiet (the_view c.self.inside) (after c) (calls.Domain c.args.mode c.args.width) (Made (c.in-Some.index + 1))
           c.self.invariant.0
           (does c) (length-set c.self.inside.domains.items c.in-Some.index (Some c.new-2.result)) refl refl refl refl,
       record {

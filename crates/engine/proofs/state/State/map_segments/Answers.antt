@@ -1,15 +1,20 @@
-use Rattle.std.proofs.Common.{Err, ◌*◌, ◌+◌, Some, refl, slice_set, subst}
+use Rattle.std.proofs.Common.{Err, ◌*◌, ◌+◌, Some, ap, length, refl, slice_set, subst}
+use Rattle.dmatypes.specs.Conditions.{total_pages}
 use Rattle.dmatypes.specs.declared.call.Call.TheVariants as calls
 use Rattle.dmatypes.specs.declared.page.TheConstants.{PAGE_BYTES}
 use Rattle.dmatypes.specs.declared.reply.Reply.TheVariants.{Mapped, Refused}
 use Rattle.std.proofs.lemmas.List.{length-set}
 use Rattle.engine.specs.contracts.state.State.{the_view}
+use Rattle.engine.specs.declared.iommu.Iommu.{Iommu}
+use Rattle.engine.specs.Ending.{SendsForMap}
 use Rattle.engine.specs.Judged.{AreOwned, IsJudged}
 use Rattle.engine.specs.State.{State}
 use Rattle.engine.specs.Steps.{Does}
 use Rattle.engine.proofs.domains.OneChanged.{can_place, no_id_no_domain}
 use Rattle.engine.proofs.domains.Found.{Finds, finds, keeps_found, keeps_rooms, put_back}
 use Rattle.engine.proofs.maps.Mapped.{map_no_domain, map_judged, map_refused, map_done}
+use Rattle.engine.proofs.caches.ReadyToSend.{ready_to_send}
+use Rattle.engine.proofs.caches.Sent.{whole_mapped}
 use Rattle.engine.proofs.states.Refused.{whole_quiet}
 use Rattle.engine.proofs.state.State.map_segments.Goals as goal
 
@@ -63,6 +68,10 @@ map-requires-clause-can c =
     c.in-Some-index_mut.is in
     can_place _ c.args.domain c.in-Some-index_mut.domain c.self.invariant.0.of_world c.self.invariant.0.places found.there
 
+pub map-requires-clause-ready : goal.map-requires-clause-ready
+map-requires-clause-ready c =
+    ready_to_send (the_view c.self.inside) c.self.inside.iommu.contexts c.self.invariant.0 (rw (← c.self.view_is) at c.requires.counts)
+
 -- ---- a map that is refused for its place
 
 found_full : (c : goal.In-Err-map) → Finds (the_view c.self.inside) c.args.domain c.place_of.result (Some c.in-Some-index_mut.domain)
@@ -74,6 +83,7 @@ abbrev refused : goal.In-Err-map → State
 refused c = record (the_view c.self.inside) {
   pool = c.map.new.pool;
   domains = slice_set c.self.inside.domains.items c.place_of.result (Some c.map.new.self);
+  iommu = c.map.new.iommu;
   calls = c.self.inside.calls + 1;
 }
 
@@ -83,9 +93,9 @@ refuses : (c : goal.In-Err-map)
 refuses c =
     map_refused (the_view c.self.inside) (refused c) c.args.domain c.args.order c.args.rights c.place_of.result
     (record { items = c.args.segments.now }) c.in-Some-index_mut.domain c.map.new.self c.map.new.pool
-    c.in-Ok.wanted c.in-Err-map.refusal (found_full c).at (found_full c).there c.in-Ok.ensures.0
+    c.map.new.iommu c.in-Ok.wanted c.in-Err-map.refusal (found_full c).at (found_full c).there c.in-Ok.ensures.0
     (subst (λ n. AreOwned n c.args.segments.now → ⊥) c.frames.ensures c.in-Ok.ensures.1) c.in-Ok.ensures.2
-    c.in-Err-map.ensures.refused c.in-Err-map.ensures.pool c.in-Err-map.ensures.domain refl
+    c.in-Err-map.ensures.refused c.in-Err-map.ensures.pool c.in-Err-map.ensures.domain c.in-Err-map.ensures.quiet refl
 
 pub returns-in-Err-map : goal.returns-in-Err-map
 returns-in-Err-map c = rw (← c.self.view_is) (refuses c)
@@ -95,7 +105,9 @@ invariant_of-self-in-Err-map c = (
   whole_quiet (the_view c.self.inside) (refused c)
       (calls.MapList c.args.domain c.args.order c.args.rights (record { items = c.args.segments.now })) (Refused c.in-Err-map.refusal)
       c.self.invariant.0 (refuses c)
-      (length-set c.self.inside.domains.items c.place_of.result (Some c.map.new.self)) refl refl refl refl,
+      (length-set c.self.inside.domains.items c.place_of.result (Some c.map.new.self))
+      (ap (λ (x : Iommu). length x.contexts) c.in-Err-map.ensures.quiet) (ap (λ (x : Iommu). x.ring) c.in-Err-map.ensures.quiet)
+      (ap (λ (x : Iommu). x.sent) c.in-Err-map.ensures.quiet) (ap (λ (x : Iommu). x.unit.steps) c.in-Err-map.ensures.quiet),
   keeps_rooms (found_full c) c.map.new.self c.self.invariant.1,
 )
 
@@ -110,8 +122,14 @@ abbrev after : goal.In-Ok-map → State
 after c = record (the_view c.self.inside) {
   pool = c.map.new.pool;
   domains = slice_set c.self.inside.domains.items c.place_of.result (Some c.map.new.self);
+  iommu = c.map.new.iommu;
   calls = c.self.inside.calls + 1;
 }
+
+sends : (c : goal.In-Ok-map)
+    → SendsForMap c.self.inside.iommu.unit.caching c.self.inside.iommu c.args.domain c.in-Some-index_mut.domain.root
+    (record { first = c.in-Ok-map.first; pages = total_pages c.args.segments.now }) c.map.new.iommu
+sends c = rw (← c.in-Some.ensures.value) c.in-Ok-map.ensures.sends
 
 does : (c : goal.In-Ok-map)
     → Does (the_view c.self.inside) (calls.MapList c.args.domain c.args.order c.args.rights (record { items = c.args.segments.now }))
@@ -120,18 +138,19 @@ does c =
     let found = found_by c in
     map_done (the_view c.self.inside) (after c) c.args.domain c.args.order c.args.rights c.place_of.result c.in-Ok-map.first
     (record { items = c.args.segments.now }) c.in-Some-index_mut.domain c.map.new.self
-    c.map.new.pool c.in-Ok.wanted c.self.invariant.0.places found.less found.id found.there c.in-Ok.ensures.0
+    c.map.new.pool c.map.new.iommu c.in-Ok.wanted c.self.invariant.0.places found.less found.id found.there c.in-Ok.ensures.0
     (subst (λ n. AreOwned n c.args.segments.now → ⊥) c.frames.ensures c.in-Ok.ensures.1) c.in-Ok.ensures.2
-    c.in-Ok-map.ensures.placed refl
+    c.in-Ok-map.ensures.placed (sends c) refl
 
 pub returns : goal.returns
 returns c = rw (← c.self.view_is) (does c)
 
 pub invariant_of-self-2 : goal.invariant_of-self-2
 invariant_of-self-2 c = (
-  whole_quiet (the_view c.self.inside) (after c)
+  whole_mapped (the_view c.self.inside) (after c)
       (calls.MapList c.args.domain c.args.order c.args.rights (record { items = c.args.segments.now }))
-      (Mapped (PAGE_BYTES * c.in-Ok-map.first)) c.self.invariant.0 (does c)
-      (length-set c.self.inside.domains.items c.place_of.result (Some c.map.new.self)) refl refl refl refl,
+      (Mapped (PAGE_BYTES * c.in-Ok-map.first)) c.args.domain c.in-Some-index_mut.domain.root
+      (record { first = c.in-Ok-map.first; pages = total_pages c.args.segments.now }) c.self.inside.iommu.unit.caching
+      c.self.invariant.0 (does c) (length-set c.self.inside.domains.items c.place_of.result (Some c.map.new.self)) (sends c),
   keeps_rooms (found_by c) c.map.new.self c.self.invariant.1,
 )

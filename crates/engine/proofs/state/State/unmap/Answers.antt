@@ -1,5 +1,6 @@
-use Rattle.std.proofs.Common.{Some, refl}
-use Rattle.dmatypes.specs.Page.{range_at}
+use Rattle.std.proofs.Common.{subst, Some, refl, sym}
+use Rattle.dmatypes.specs.Conditions.{IsBadUnmap}
+use Rattle.dmatypes.specs.Page.{Fits, Range, range_at}
 use Rattle.engine.specs.contracts.state.State.{the_view}
 use Rattle.engine.specs.Domains.{parts_of}
 use Rattle.engine.specs.Ending.{IsUnmapped}
@@ -41,7 +42,7 @@ returns-in_default-range_at c =
     finds c.self.invariant.0 c.in-Some.ensures.value c.place_of.ensures.place c.place_of.ensures.low c.index_mut.ensures.value
     c.in-Some-index_mut.is in
     rw (← c.self.view_is) (unmap_bad_range _ _ c.args.domain c.args.address c.args.pages c.in-Some-index_mut.domain (put_back found)
-    found.there c.in_default-range_at.ensures.none)
+    found.there (subst (λ n. IsBadUnmap n c.args.address c.args.pages) c.width.ensures c.in_default-range_at.ensures.none))
 
 pub invariant_of-self-in_default-range_at : goal.invariant_of-self-in_default-range_at
 invariant_of-self-in_default-range_at c =
@@ -49,7 +50,7 @@ invariant_of-self-in_default-range_at c =
     finds c.self.invariant.0 c.in-Some.ensures.value c.place_of.ensures.place c.place_of.ensures.low c.index_mut.ensures.value
     c.in-Some-index_mut.is in
     keeps_found c.self.invariant found (unmap_bad_range _ _ c.args.domain c.args.address c.args.pages c.in-Some-index_mut.domain
-    (put_back found) found.there c.in_default-range_at.ensures.none)
+    (put_back found) found.there (subst (λ n. IsBadUnmap n c.args.address c.args.pages) c.width.ensures c.in_default-range_at.ensures.none))
 
 pub unmap-requires-clause-can : goal.unmap-requires-clause-can
 unmap-requires-clause-can c =
@@ -85,7 +86,7 @@ answered c =
     rw (← c.in-Some.ensures.value, ← range.1) c.unmap.ensures in
     unmap_answered (the_view c.self.inside) c.args.domain c.args.address c.args.pages c.place_of.result
     c.in-Some-index_mut.domain c.unmap.new.self c.unmap.new.pool c.unmap.new.iommu c.unmap.result c.self.invariant.0 found.less found.id
-    found.at found.there range.0 range.2 ended
+    found.at found.there range.0 (range.2, subst (Fits (range_at c.args.address c.args.pages)) c.width.ensures range.3) ended
 
 pub invariant_of-self-2 : goal.invariant_of-self-2
 invariant_of-self-2 c = ((answered c).whole, keeps_rooms (found_by c) c.unmap.new.self c.self.invariant.1)
@@ -96,3 +97,9 @@ returns c = rw (← c.self.view_is) (answered c).does
 pub unmap-requires-clause-ready : goal.unmap-requires-clause-ready
 unmap-requires-clause-ready c =
     ready_to_send (the_view c.self.inside) c.self.inside.iommu.contexts c.self.invariant.0 (rw (← c.self.view_is) at c.requires)
+
+pub unmap-requires-clause-fits : goal.unmap-requires-clause-fits
+unmap-requires-clause-fits c =
+    let range = c.in-Some-range_at.ensures.some in
+    subst (λ (r : Range). Fits r c.in-Some-index_mut.domain.width) (sym range.1)
+    (subst (Fits (range_at c.args.address c.args.pages)) c.width.ensures range.3)

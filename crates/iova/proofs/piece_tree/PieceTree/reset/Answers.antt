@@ -1,4 +1,4 @@
-use Rattle.std.proofs.Common.{◌∙◌, arith, ap, subst, sym}
+use Rattle.std.proofs.Common.{arith, ap, subst, sym}
 use Rattle.iova.specs.Pieces.{NoneFreeBelow}
 use Rattle.iova.specs.Space.{AllFree, IsSpace, new_space}
 use Rattle.iova.proofs.NewSpace.{new_space_is}
@@ -9,36 +9,29 @@ use Rattle.iova.proofs.piece_tree.PieceTree.reset.Goals as goal
 pub fill-self-inside-requires-clause-room : goal.fill-self-inside-requires-clause-room
 fill-self-inside-requires-clause-room c = omega (arith, c.clear.ensures.capacity, c.self.invariant.0.room)
 
-pub fill-self-inside-requires-clause-some : goal.fill-self-inside-requires-clause-some
-fill-self-inside-requires-clause-some c = c.self.invariant.1.some
-
-pub fill-self-inside-requires-clause-narrow : goal.fill-self-inside-requires-clause-narrow
-fill-self-inside-requires-clause-narrow c = c.self.invariant.1.narrow
-
 pub invariant_of-self : goal.invariant_of-self
 invariant_of-self c = (
-  kept_self c.fill-self-inside.result c.fill-self-inside.new.nodes (new_space c.self.inside.last).pieces c.fill-self-inside.ensures,
-  subst (λ ps. IsSpace (record { last = c.self.inside.last; pieces = ps }))
-      (sym (kept_view c.fill-self-inside.result c.fill-self-inside.new.nodes (new_space c.self.inside.last).pieces
-      c.fill-self-inside.ensures)) (new_space_is c.self.inside.last c.self.invariant.1.some c.self.invariant.1.narrow).space,
+  kept_self c.fill-self-inside.result c.fill-self-inside.new.nodes (new_space c.args.last).pieces c.fill-self-inside.ensures,
+  subst (λ ps. IsSpace (record { last = c.args.last; pieces = ps }))
+      (sym (kept_view c.fill-self-inside.result c.fill-self-inside.new.nodes (new_space c.args.last).pieces
+      c.fill-self-inside.ensures)) (new_space_is c.args.last c.requires.some c.requires.narrow).space,
   subst (λ ps. NoneFreeBelow 1 ps)
-      (sym (kept_view c.fill-self-inside.result c.fill-self-inside.new.nodes (new_space c.self.inside.last).pieces
-      c.fill-self-inside.ensures)) (none_below_start 1 (new_space c.self.inside.last).pieces
-      (new_space_is c.self.inside.last c.self.invariant.1.some c.self.invariant.1.narrow).space.ordered),
+      (sym (kept_view c.fill-self-inside.result c.fill-self-inside.new.nodes (new_space c.args.last).pieces
+      c.fill-self-inside.ensures)) (none_below_start 1 (new_space c.args.last).pieces
+      (new_space_is c.args.last c.requires.some c.requires.narrow).space.ordered),
   tt,
 )
 
 pub returns-clause-new : goal.returns-clause-new
-returns-clause-new c = ap (λ ps. record { last = c.self.inside.last; pieces = ps })
-    (kept_view c.fill-self-inside.result c.fill-self-inside.new.nodes (new_space c.self.inside.last).pieces c.fill-self-inside.ensures)
-    ∙ ap (λ v. new_space v.last) c.self.view_is
+returns-clause-new c = ap (λ ps. record { last = c.args.last; pieces = ps })
+    (kept_view c.fill-self-inside.result c.fill-self-inside.new.nodes (new_space c.args.last).pieces c.fill-self-inside.ensures)
 
 pub returns-clause-free : goal.returns-clause-free
-returns-clause-free c = subst (λ ps. AllFree (record { last = c.self.inside.last; pieces = ps }))
-    (sym (kept_view c.fill-self-inside.result c.fill-self-inside.new.nodes (new_space c.self.inside.last).pieces
-    c.fill-self-inside.ensures)) (new_space_is c.self.inside.last c.self.invariant.1.some c.self.invariant.1.narrow).free
+returns-clause-free c = subst (λ ps. AllFree (record { last = c.args.last; pieces = ps }))
+    (sym (kept_view c.fill-self-inside.result c.fill-self-inside.new.nodes (new_space c.args.last).pieces
+    c.fill-self-inside.ensures)) (new_space_is c.args.last c.requires.some c.requires.narrow).free
 
 pub returns-clause-space : goal.returns-clause-space
-returns-clause-space c = subst (λ ps. IsSpace (record { last = c.self.inside.last; pieces = ps }))
-    (sym (kept_view c.fill-self-inside.result c.fill-self-inside.new.nodes (new_space c.self.inside.last).pieces
-    c.fill-self-inside.ensures)) (new_space_is c.self.inside.last c.self.invariant.1.some c.self.invariant.1.narrow).space
+returns-clause-space c = subst (λ ps. IsSpace (record { last = c.args.last; pieces = ps }))
+    (sym (kept_view c.fill-self-inside.result c.fill-self-inside.new.nodes (new_space c.args.last).pieces
+    c.fill-self-inside.ensures)) (new_space_is c.args.last c.requires.some c.requires.narrow).space

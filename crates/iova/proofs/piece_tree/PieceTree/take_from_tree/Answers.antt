@@ -1,19 +1,15 @@
-use Rattle.std.proofs.Common.{arith, ◌≡◌, ◌∙◌, ℕ, ◌^◌, Bool, true, false, IsTrue, ap, subst, sym}
+use Rattle.std.proofs.Common.{arith, ◌≡◌, ◌∙◌, ℕ, ◌^◌, ap, subst, sym}
 use Rattle.dmatypes.specs.Page.{IsPageRange, Range}
 use Rattle.iova.specs.declared.piece.PageState.TheVariants.{Free, Live}
 use Rattle.iova.specs.Pieces.{AllIn, NoneFreeBelow, piece_of, with_piece}
 use Rattle.iova.specs.Space.{Space, CutsPiece, IsFit, IsLowestFit, IsSpace, IsTooMany}
 use Rattle.iova.specs.Changes.{Takes}
 use Rattle.iova.specs.Stored.{stored}
-use Rattle.iova.proofs.Taken.{one_lowest, page_range, space_taken, start_is, takes, unit_is}
+use Rattle.iova.proofs.Taken.{no_cut, one_lowest, page_range, range_narrow, space_taken, start_is, takes, unit_is}
 use Rattle.iova.proofs.shapes.Tall.{kept_self, kept_view}
 use Rattle.iova.proofs.piece_tree.PieceTree.take_from_tree.Goals as goal
 use Rattle.iova.proofs.piece_tree.PieceTree.take_from_tree.Goals.{else-len-gt-MOST_PIECES_TO_CUT-via-then-len-gt-MOST_PIECES_TO_CUT+else-cuts_piece}
 use Rattle.iova.proofs.piece_tree.PieceTree.take_from_tree.Goals.{else-len-gt-MOST_PIECES_TO_CUT-via-else-len-gt-MOST_PIECES_TO_CUT}
-
-no_cut : (b : Bool) (P : Type 0) → (P → IsTrue b) → b ≡ false → P → ⊥
-no_cut true P h e p = absurd (cc)
-no_cut false P h e p = absurd (let k : IsTrue false = h p in cc)
 
 pub overflow_add-piece : goal.overflow_add-piece
 overflow_add-piece c =
@@ -22,9 +18,8 @@ overflow_add-piece c =
     let view : a ≡ c.args.self.now = ap (λ ps. record a { pieces = ps }) c.put_freed.ensures.pieces ∙ c.self.view_is in
     let range : Range = record { first = c.in-Some.spot.start; pages = c.args.pages } in
     let free : AllIn Free range a.pieces = c.in-Some.ensures.lowest.fit.free in
-    let narrow = ((page_range a range Free sp c.requires.some_pages c.requires.few_pages free).members c.in-Some.spot.start
-    (omega arith, omega (arith, c.requires.some_pages))).1 in
-    omega (arith, narrow, c.requires.few_pages)
+    let narrow = range_narrow a c.in-Some.spot.start c.args.pages Free sp c.requires.some_pages c.requires.few_pages free in
+    omega (arith, narrow)
 
 pub store_by-self-inside-requires-clause-few : goal.store_by-self-inside-requires-clause-few
 store_by-self-inside-requires-clause-few c =
@@ -50,9 +45,8 @@ store_by-self-inside-requires-clause-piece c =
     let view : a ≡ c.args.self.now = ap (λ ps. record a { pieces = ps }) c.put_freed.ensures.pieces ∙ c.self.view_is in
     let range : Range = record { first = c.in-Some.spot.start; pages = c.args.pages } in
     let free : AllIn Free range a.pieces = c.in-Some.ensures.lowest.fit.free in
-    let narrow = ((page_range a range Free sp c.requires.some_pages c.requires.few_pages free).members c.in-Some.spot.start
-    (omega arith, omega (arith, c.requires.some_pages))).1 in
-    (omega (arith, c.requires.some_pages), omega (arith, narrow, c.requires.few_pages))
+    let narrow = range_narrow a c.in-Some.spot.start c.args.pages Free sp c.requires.some_pages c.requires.few_pages free in
+    (omega (arith, c.requires.some_pages), omega (arith, narrow))
 
 pub low_behind-self-inside-requires : goal.low_behind-self-inside-requires
 low_behind-self-inside-requires c =
@@ -61,8 +55,7 @@ low_behind-self-inside-requires c =
     let view : a ≡ c.args.self.now = ap (λ ps. record a { pieces = ps }) c.put_freed.ensures.pieces ∙ c.self.view_is in
     let range : Range = record { first = c.in-Some.spot.start; pages = c.args.pages } in
     let free : AllIn Free range a.pieces = c.in-Some.ensures.lowest.fit.free in
-    let narrow = ((page_range a range Free sp c.requires.some_pages c.requires.few_pages free).members c.in-Some.spot.start
-    (omega arith, omega (arith, c.requires.some_pages))).1 in
+    let narrow = range_narrow a c.in-Some.spot.start c.args.pages Free sp c.requires.some_pages c.requires.few_pages free in
     record { some_pages = c.requires.some_pages; start = omega (arith, narrow) }
 
 pub unwrap-requires : goal.unwrap-requires
@@ -221,9 +214,8 @@ cuts_piece-requires-clause-range c =
     let view : a ≡ c.args.self.now = ap (λ ps. record a { pieces = ps }) c.put_freed.ensures.pieces ∙ c.self.view_is in
     let range : Range = record { first = c.in-Some.spot.start; pages = c.args.pages } in
     let free : AllIn Free range a.pieces = c.in-Some.ensures.lowest.fit.free in
-    let narrow = ((page_range a range Free sp c.requires.some_pages c.requires.few_pages free).members c.in-Some.spot.start
-    (omega arith, omega (arith, c.requires.some_pages))).1 in
-    omega (arith, narrow, c.requires.few_pages)
+    let narrow = range_narrow a c.in-Some.spot.start c.args.pages Free sp c.requires.some_pages c.requires.few_pages free in
+    omega (arith, narrow)
 
 pub returns-clause-lowest : goal.returns-clause-lowest
 returns-clause-lowest c =

@@ -14,7 +14,8 @@ enter-requires-clause-legal g c =
     let frames : s.desk.rows.frames ≡ g.B.Owner.frames = ap (λ (r : Rows). r.frames) i.7 ∙ i.8 in
     let a : Book = record { history = s.history.items; state = s.state; last = s.desk.last } in
     rw (frames, i.9)
-    (push_legal g.B.Owner.frames g.B.Owner.room a (event c.args.call c.perform-reply.result.reply) c.perform-reply.new.self i.0
+    (push_legal g.B.Owner.frames g.B.Owner.room g.B.Owner.mode a (event c.args.call c.perform-reply.result.reply)
+    c.perform-reply.new.self i.0
     c.perform-reply.ensures.does).0
 
 pub enter-requires-clause-state : goal.enter-requires-clause-state
@@ -24,7 +25,8 @@ enter-requires-clause-state g c =
     let frames : s.desk.rows.frames ≡ g.B.Owner.frames = ap (λ (r : Rows). r.frames) i.7 ∙ i.8 in
     let a : Book = record { history = s.history.items; state = s.state; last = s.desk.last } in
     rw (frames, i.9)
-    (push_legal g.B.Owner.frames g.B.Owner.room a (event c.args.call c.perform-reply.result.reply) c.perform-reply.new.self i.0
+    (push_legal g.B.Owner.frames g.B.Owner.room g.B.Owner.mode a (event c.args.call c.perform-reply.result.reply)
+    c.perform-reply.new.self i.0
     c.perform-reply.ensures.does).1
 
 pub invariant_of-self-2 : goal.invariant_of-self-2
@@ -38,7 +40,7 @@ invariant_of-self-2 g c =
     rw (c.push_reserved.ensures.items, ← i.9) c.enter.ensures.history in
     let lawful : AreLawful (IsLawfulAfter g.B.Owner.frames) c.push_reserved.new.self.items c.tell-2.new.self.last =
     rw (same, ← history, ← frames) c.enter.ensures.lawful in (
-      IsKept-push g.B.Owner.frames g.B.Owner.room (record { history = s.history.items; state = s.state; last = s.desk.last })
+      IsKept-push g.B.Owner.frames g.B.Owner.room g.B.Owner.mode (record { history = s.history.items; state = s.state; last = s.desk.last })
           (event c.args.call c.perform-reply.result.reply) c.perform-reply.new.self c.push_reserved.new.self.items c.tell-2.new.self.last
           c.push_reserved.ensures.items i.0 less c.perform-reply.ensures.does c.keeps.ensures lawful,
       i.1,
@@ -63,6 +65,6 @@ returns-clause-kept g c =
     rw (c.push_reserved.ensures.items, ← i.9) c.enter.ensures.history in
     let lawful : AreLawful (IsLawfulAfter g.B.Owner.frames) c.push_reserved.new.self.items c.tell-2.new.self.last =
     rw (same, ← history, ← frames) c.enter.ensures.lawful in
-    IsKept-push g.B.Owner.frames g.B.Owner.room (record { history = s.history.items; state = s.state; last = s.desk.last })
+    IsKept-push g.B.Owner.frames g.B.Owner.room g.B.Owner.mode (record { history = s.history.items; state = s.state; last = s.desk.last })
     (event c.args.call c.perform-reply.result.reply) c.perform-reply.new.self c.push_reserved.new.self.items c.tell-2.new.self.last
     c.push_reserved.ensures.items i.0 less c.perform-reply.ensures.does c.keeps.ensures lawful

@@ -7,8 +7,10 @@ use Rattle.manager.proofs.book.Book.new.Goals as goal
 pub invariant_of-result : goal.invariant_of-result
 invariant_of-result g c =
     let config = c.requires.config in
-    let new : IsNew g.B.Owner.frames c.in_ok-state.state = rw (c.frames.ensures.value ∙ config.3) at c.in_ok-state.ensures.new in (
-      rw (c.in_ok-history.ensures.items, c.requires.desk.0) (kept_new g.B.Owner.frames g.B.Owner.room c.in_ok-state.state new),
+    let new : IsNew g.B.Owner.frames g.B.Owner.mode c.in_ok-state.state =
+    rw (c.frames.ensures.value ∙ config.3, c.is_caching.ensures.value ∙ config.4) at c.in_ok-state.ensures.new in (
+      rw (c.in_ok-history.ensures.items, c.requires.desk.0) (kept_new g.B.Owner.frames g.B.Owner.room g.B.Owner.mode c.in_ok-state.state
+          new),
       c.calls-2.ensures.value ∙ config.2,
       omega (arith, c.in_ok-history.ensures.capacity, c.calls.ensures.value, config.2),
       omega (arith, config.2, config.0.most_calls),

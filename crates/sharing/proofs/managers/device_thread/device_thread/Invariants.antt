@@ -5,4 +5,10 @@ abbrev pub ghosts-device_beside_driver-B-Ledger : goal.ghosts-device_beside_driv
 ghosts-device_beside_driver-B-Ledger g a = record { name = a.seed.name; parts = a.seed.shares }
 
 abbrev pub ghosts-device_beside_driver-B-Owner : goal.ghosts-device_beside_driver-B-Owner
-ghosts-device_beside_driver-B-Owner g a = record { shares = a.seed.shares; room = a.seed.room; frames = a.seed.frames; rows = a.seed.rows }
+ghosts-device_beside_driver-B-Owner g a = record {
+  shares = a.seed.shares;
+  room = a.seed.room;
+  frames = a.seed.frames;
+  mode = a.seed.caching;
+  rows = a.seed.rows;
+}

@@ -5,4 +5,10 @@ abbrev pub ghosts-hit_beside_the_holder-B-Ledger : goal.ghosts-hit_beside_the_ho
 ghosts-hit_beside_the_holder-B-Ledger g a = record { name = a.seed.name; parts = a.seed.shares }
 
 abbrev pub ghosts-hit_beside_the_holder-B-Owner : goal.ghosts-hit_beside_the_holder-B-Owner
-ghosts-hit_beside_the_holder-B-Owner g a = record { shares = a.seed.shares; room = a.seed.room; frames = a.seed.frames; rows = a.seed.rows }
+ghosts-hit_beside_the_holder-B-Owner g a = record {
+  shares = a.seed.shares;
+  room = a.seed.room;
+  frames = a.seed.frames;
+  mode = a.seed.caching;
+  rows = a.seed.rows;
+}

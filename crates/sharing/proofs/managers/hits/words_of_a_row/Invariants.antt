@@ -5,4 +5,10 @@ abbrev pub ghosts-hit_by_words-B-Ledger : goal.ghosts-hit_by_words-B-Ledger
 ghosts-hit_by_words-B-Ledger g a = record { name = a.seed.name; parts = a.seed.shares }
 
 abbrev pub ghosts-hit_by_words-B-Owner : goal.ghosts-hit_by_words-B-Owner
-ghosts-hit_by_words-B-Owner g a = record { shares = a.seed.shares; room = a.seed.room; frames = a.seed.frames; rows = a.seed.rows }
+ghosts-hit_by_words-B-Owner g a = record {
+  shares = a.seed.shares;
+  room = a.seed.room;
+  frames = a.seed.frames;
+  mode = a.seed.caching;
+  rows = a.seed.rows;
+}

@@ -5,4 +5,10 @@ abbrev pub ghosts-made_by_each-B-Ledger : goal.ghosts-made_by_each-B-Ledger
 ghosts-made_by_each-B-Ledger g a = record { name = a.seed.name; parts = a.seed.shares }
 
 abbrev pub ghosts-made_by_each-B-Owner : goal.ghosts-made_by_each-B-Owner
-ghosts-made_by_each-B-Owner g a = record { shares = a.seed.shares; room = a.seed.room; frames = a.seed.frames; rows = a.seed.rows }
+ghosts-made_by_each-B-Owner g a = record {
+  shares = a.seed.shares;
+  room = a.seed.room;
+  frames = a.seed.frames;
+  mode = a.seed.caching;
+  rows = a.seed.rows;
+}

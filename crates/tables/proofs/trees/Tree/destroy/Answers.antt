@@ -1,8 +1,14 @@
-use Rattle.dmatypes.specs.declared.width.TheConstants.{LEVELS}
+use Rattle.std.proofs.Common.{◌+◌, ap, ◌∙◌}
+use Rattle.dmatypes.specs.Page.{levels}
+use Rattle.tables.specs.Pool.{memory, occurs}
+use Rattle.tables.specs.Tree.{uses}
 use Rattle.tables.proofs.pools.Kept.{given_stays}
 use Rattle.tables.proofs.trees.Tree.destroy.Goals as goal
 
 pub returns-clause-others : goal.returns-clause-others
 returns-clause-others c level table tree apart =
-    given_stays c.args.pool.now c.release.new.pool LEVELS c.args.self.root level table c.requires c.release.ensures.free
-    c.release.ensures.others c.release.ensures.frames tree apart
+    let m = memory c.args.pool.now.words in
+    given_stays c.args.pool.now c.release.new.pool (levels c.args.self.width) c.args.self.root level table c.requires
+    (λ f. c.release.ensures.free f ∙ ap (λ l. occurs f c.args.pool.now.free + uses m l c.args.self.root f) c.levels.ensures.exact)
+    (λ f k less none. c.release.ensures.others f k less (ap (λ l. uses m l c.args.self.root f) c.levels.ensures.exact ∙ none))
+    c.release.ensures.frames tree apart

@@ -1,5 +1,5 @@
 use Rattle.std.proofs.Common.{◌≡◌, ℕ, ◌+◌, ◌-◌, ◌∷◌, [], Some, IfSome, subst, ap, ◌∙◌, arith}
-use Rattle.dmatypes.specs.declared.width.TheConstants.{LEVELS}
+use Rattle.dmatypes.specs.Page.{levels}
 use Rattle.dmatypes.specs.declared.call.Segment.{Segment}
 use Rattle.dmatypes.specs.Rights.{bits_of}
 use Rattle.dmatypes.specs.World.{placed}
@@ -23,6 +23,15 @@ map_list-requires-clause-range c =
       );
     }
 
+pub map_list-requires-clause-fits : goal.map_list-requires-clause-fits
+map_list-requires-clause-fits c =
+    let start : c.unwrap-start.result ≡ c.first.result =
+    subst (λ o. IfSome o (λ p. p ≡ c.first.result)) c.unwrap-start.ensures c.new.ensures.value in
+    λ p within. c.requires.fits p (
+      omega (arith, within.0, start, c.first.ensures.value),
+      omega (arith, within.1, start, c.first.ensures.value, c.pages.ensures.value),
+    )
+
 pub returns-clause-maps : goal.returns-clause-maps
 returns-clause-maps c =
     let segment : Segment = record { frame = c.number.result; pages = c.pages.result } in
@@ -33,10 +42,12 @@ returns-clause-maps c =
     omega (arith, start, c.pages.ensures.value) in
     let says = λ (p : ℕ). Some (target (c.args.frame + (p - c.args.range.first)) (bits_of c.args.rights)) in
     on_done c.map_list.result c.map_list.ensures.maps (λ maps.
-    subst (λ a. MapsPages c.args.pool.now c.map_list.new.pool LEVELS c.args.self.now.root a (c.args.range.first + c.args.range.pages) says)
+    subst (λ a. MapsPages c.args.pool.now c.map_list.new.pool (levels c.args.self.now.width) c.args.self.now.root a
+    (c.args.range.first + c.args.range.pages) says)
     start
-    (subst (λ b. MapsPages c.args.pool.now c.map_list.new.pool LEVELS c.args.self.now.root c.unwrap-start.result b says) end
-    (maps_said c.args.pool.now c.map_list.new.pool LEVELS c.args.self.now.root c.unwrap-start.result
+    (subst (λ b. MapsPages c.args.pool.now c.map_list.new.pool (levels c.args.self.now.width)
+    c.args.self.now.root c.unwrap-start.result b says) end
+    (maps_said c.args.pool.now c.map_list.new.pool (levels c.args.self.now.width) c.args.self.now.root c.unwrap-start.result
     (c.unwrap-start.result + (0 + c.pages.result)) (placed (segment ∷ []) c.unwrap-start.result (bits_of c.args.rights)) says
     (λ p low high.
     let same : c.number.result + (p - c.unwrap-start.result) ≡ c.args.frame + (p - c.args.range.first) =

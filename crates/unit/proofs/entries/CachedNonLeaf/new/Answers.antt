@@ -7,7 +7,7 @@ pub invariant_of-result : goal.invariant_of-result
 unfolding span
 invariant_of-result c = record {
   first = omega (arith, c.requires.page);
-  pages = omega (arith, c.span_of-pages.ensures.exact, span_grows c.args.level 2 c.requires.high);
+  pages = omega (arith, c.span_of-pages.ensures.exact, span_grows c.args.level 3 c.requires.high);
   low = c.requires.low;
   high = c.requires.high;
 }

@@ -1,9 +1,9 @@
 use Rattle.std.proofs.Common.{rules, sym, inl, inr, ap, subst, refl, arith, List, Err}
-use Rattle.dmatypes.specs.Page.{IsBeyond}
+use Rattle.dmatypes.specs.Page.{IsBeyond, addresses_end}
 use Rattle.dmatypes.specs.declared.refusal.Fault.TheVariants as faults
 use Rattle.tables.specs.Pool.{memory}
 use Rattle.unit.specs.Answers.{Answers, IsContextOf, HasNoContext}
-use Rattle.unit.specs.Caches.{Caches, CachedContext, UnitState, caches}
+use Rattle.unit.specs.Caches.{CachedContext, UnitState, caches}
 use Rattle.dmatypes.specs.World.{IsIn}
 use Rattle.unit.proofs.caches.Remembered.{gains_entry, remembered_in, told_remembered}
 use Rattle.unit.proofs.unit.Unit.dma.Goals as goal
@@ -13,24 +13,26 @@ returns-in_default-clause-answers c =
     let without : HasNoContext c.args.contexts.now c.self.inside.contexts.items c.args.whim.look c.args.device =
     subst (λ (cs : List CachedContext). HasNoContext c.args.contexts.now cs c.args.whim.look c.args.device) c.deref.ensures.0
     c.in_default.ensures.none in
-    subst (λ (old : Caches).
-    Answers (memory c.args.pool.now.words) c.args.contexts.now c.args.whim.look c.args.whim.fill c.args.device c.args.address
-    c.args.access old old (Err faults.NotAttached))
-    (ap (λ (u : UnitState). u.caches) c.self.view_is) (inl (without, refl, refl))
+    subst (λ (u : UnitState).
+    Answers (memory c.args.pool.now.words) c.args.contexts.now c.args.whim.look c.args.whim.fill u.caching c.args.device c.args.address
+    c.args.access u.caches u.caches (Err faults.NotAttached))
+    c.self.view_is (inl (without, refl, refl))
 
-pub returns-then-address-ge-ADDRESSES_END-clause-answers : goal.returns-then-address-ge-ADDRESSES_END-clause-answers
-returns-then-address-ge-ADDRESSES_END-clause-answers c =
+pub returns-then-address-end-clause-answers : goal.returns-then-address-end-clause-answers
+returns-then-address-end-clause-answers c =
     let serves : IsContextOf c.args.contexts.now c.self.inside.contexts.items c.args.whim.look c.args.device c.in-Some.context =
     subst (λ (cs : List CachedContext). IsContextOf c.args.contexts.now cs c.args.whim.look c.args.device c.in-Some.context)
     c.deref.ensures.0
     c.in-Some.ensures.some in
-    let beyond : IsBeyond c.args.address = omega arith in
-    subst (λ (old : Caches).
-    Answers (memory c.args.pool.now.words) c.args.contexts.now c.args.whim.look c.args.whim.fill c.args.device c.args.address
-    c.args.access old (caches c.self.inside.leaves.items c.self.inside.non_leaves.items c.remember.new.list.items)
+    let wide = ap (λ (x : CachedContext). addresses_end x.width) c.context.view_is in
+    let beyond : IsBeyond c.in-Some.context.width c.args.address = omega (arith, wide, c.addresses_end-end.ensures) in
+    subst (λ (u : UnitState).
+    Answers (memory c.args.pool.now.words) c.args.contexts.now c.args.whim.look c.args.whim.fill u.caching c.args.device c.args.address
+    c.args.access u.caches (caches c.self.inside.leaves.items c.self.inside.non_leaves.items c.remember.new.list.items
+    c.self.inside.faults.items)
     (Err faults.BeyondWidth))
-    (ap (λ (u : UnitState). u.caches) c.self.view_is)
-    (inr (c.in-Some.context, serves, gains_entry _ _ _ _ _ _ c.remember.ensures.items, inl (beyond, refl, refl, refl)))
+    c.self.view_is
+    (inr (c.in-Some.context, serves, gains_entry _ _ _ _ _ _ c.remember.ensures.items, inl (beyond, refl, refl)))
 
 pub returns-clause-answers : goal.returns-clause-answers
 returns-clause-answers c =
@@ -38,12 +40,14 @@ returns-clause-answers c =
     subst (λ (cs : List CachedContext). IsContextOf c.args.contexts.now cs c.args.whim.look c.args.device c.in-Some.context)
     c.deref.ensures.0
     c.in-Some.ensures.some in
-    let within : IsBeyond c.args.address → ⊥ = λ b. absurd (omega arith) in
-    subst (λ (old : Caches).
-    Answers (memory c.args.pool.now.words) c.args.contexts.now c.args.whim.look c.args.whim.fill c.args.device c.args.address
-    c.args.access old
-    (caches c.translation_of-to.new.leaves.items c.translation_of-to.new.tables.items c.remember.new.list.items) c.tell.result)
-    (ap (λ (u : UnitState). u.caches) c.self.view_is)
+    let wide = ap (λ (x : CachedContext). addresses_end x.width) c.context.view_is in
+    let within : IsBeyond c.in-Some.context.width c.args.address → ⊥ = λ b. absurd (omega (arith, b, wide, c.addresses_end-end.ensures)) in
+    subst (λ (u : UnitState).
+    Answers (memory c.args.pool.now.words) c.args.contexts.now c.args.whim.look c.args.whim.fill u.caching c.args.device c.args.address
+    c.args.access u.caches
+    (caches c.translation_of-to.new.leaves.items c.translation_of-to.new.tables.items c.remember.new.list.items
+    c.translation_of-to.new.faults.items) c.tell.result)
+    c.self.view_is
     (inr (
       c.in-Some.context,
       serves,
@@ -61,6 +65,7 @@ returns-clause-remembered c = λ fill.
     subst (IsIn c.in-Some.context) (sym c.remember.ensures.items)
     (rw fill (remembered_in _ _ c.in-Some.context c.self.inside.contexts.items (λ y same. search rules))) in
     told_remembered c.translation_of-to.result c.args.address c.args.access c.tell.result
-    (caches c.translation_of-to.new.leaves.items c.translation_of-to.new.tables.items c.remember.new.list.items) c.in-Some.context
+    (caches c.translation_of-to.new.leaves.items c.translation_of-to.new.tables.items c.remember.new.list.items
+    c.translation_of-to.new.faults.items) c.in-Some.context
     c.args.device
     c.tell.ensures there serves.0 (c.translation_of-to.ensures.remembered fill)

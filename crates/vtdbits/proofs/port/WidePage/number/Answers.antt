@@ -1,4 +1,0 @@
-use Rattle.vtdbits.proofs.port.WidePage.number.Goals as goal
-
-pub returns-clause-value : goal.returns-clause-value
-returns-clause-value c = c.self.view_is
