@@ -7,3 +7,4 @@ pub mod Spelled
 pub mod Said
 pub mod Digits
 pub mod Hexadecimal
+pub mod Replied
