@@ -1,0 +1,4 @@
+pub mod lists
+pub mod worlds
+pub mod calls
+pub mod histories

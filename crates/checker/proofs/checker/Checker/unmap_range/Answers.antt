@@ -1,0 +1,10 @@
+use Rattle.std.proofs.Common.{ap, sym, ◌∙◌}
+use Rattle.std.specs.Option.{option_copied, option_map}
+use Rattle.checker.specs.World.{domain_of, world_of}
+use Rattle.checker.proofs.calls.Asked.{unmap_range_of}
+use Rattle.checker.proofs.checker.Checker.unmap_range.Goals as goal
+
+pub returns : goal.returns
+returns c =
+    unmap_range_of ((world_of c.args.self.now).domains c.args.domain) (domain_of c.in_ok-domain.domain.now) c.unmap_range.result c.args.address
+    c.args.pages (ap (option_map domain_of) (sym c.domain.ensures ∙ ap option_copied c.in_ok-domain.was)) (rw (← c.width.ensures) c.unmap_range.ensures)

@@ -1,0 +1,30 @@
+-- Where a request may come to, as tests.
+use Rattle.std.specs.Prelude.{ℕ, ◌/◌, ◌%◌, Bool, false, ◌&&◌, ◌==◌, Option, Some, None}
+use Rattle.dmatypes.specs.declared.call.Access.{Access}
+use Rattle.dmatypes.specs.declared.call.Access.TheVariants.{Read, Write}
+use Rattle.dmatypes.specs.declared.reply.Reply.{Reply}
+use Rattle.dmatypes.specs.declared.reply.Reply.TheVariants.{Host}
+use Rattle.dmatypes.specs.Page.{byte_address, offset_of, page_of}
+use Rattle.dmatypes.specs.World.{Target, is_within}
+use Rattle.checker.specs.declared.record.Record.{Record}
+use Rattle.checker.specs.Pages.{target_at}
+
+-- the access is permitted
+abbrev pub permits : ℕ → Access → Bool
+permits rights Read = rights % 2 == 1
+permits rights Write = (rights / 2) % 2 == 1
+
+-- the reply is the host address of the target, at the offset of the address
+abbrev pub is_host : Target → ℕ → Reply → Bool
+is_host t address (Host host) = host == byte_address t.frame (offset_of address)
+is_host t address reply = false
+
+-- the reply is that of a target with the right
+abbrev pub reaches_by : ℕ → Access → Reply → Option Target → Bool
+reaches_by address access reply None = false
+reaches_by address access reply (Some t) = permits t.rights access && is_host t address reply
+
+-- the page of the address is in the record, and the reply is that of what was mapped there, with the right
+abbrev pub reaches : ℕ → Access → Reply → Record → Bool
+reaches address access reply r =
+    is_within r.range (page_of address) && reaches_by address access reply (target_at r.targets (page_of address))

@@ -1,0 +1,196 @@
+//! A domain as its callers see it.
+
+ghost use Rattle.std.specs.Prelude.{◌≡◌, filter, count_by, not};
+ghost use Rattle.dmatypes.specs.World as world;
+ghost use Rattle.checker.specs.World.{retired_of};
+
+use crate::pages::Pages;
+use crate::record::Record;
+use dmatypes::{MOST_RECORDS, Mode, PageRange, Reply, Segment, Width};
+use std::alloc::{AllocError, Global};
+
+/// A domain: its mode, the width of its addresses, its live pages, its retired records in order, and how many flushes were begun.
+#[derive(Drop)]
+pub struct Domain {
+    pub(crate) mode: Mode,
+    pub(crate) width: Width,
+    pub(crate) live: Pages,
+    pub(crate) retired: Vec<Record>,
+    pub(crate) begun: u64,
+}
+
+impl Domain {
+    ghost use Rattle.std.specs.Prelude.{◌≡◌, ◌↔◌, ◌+◌, ◌<◌, ◌^◌, IsTrue, OnOk, MatchOption, length, filter, suc};
+    ghost use Rattle.std.specs.List.{AllByRecursion, list_any};
+    ghost use Rattle.dmatypes.specs.Conditions.{total_pages};
+    ghost use Rattle.dmatypes.specs.Step.{IsUnmapAnswer};
+    ghost use Rattle.dmatypes.specs.World as world;
+    ghost use Rattle.dmatypes.specs.World.{AreFreePages};
+    ghost use Rattle.checker.specs.Pages.{AllAreMappedIn, IsUnmappedIn};
+    ghost use Rattle.checker.specs.World.{do_meet, domain_of, retired_of};
+
+    /// A domain with no page.
+    pub fn new(alloc: Global, mode: Mode, width: Width) -> Domain
+        ensures { domain_of result ≡ world.empty_domain mode width }
+    {
+        Domain {
+            mode,
+            width,
+            live: Pages::new(alloc),
+            retired: Vec::new(alloc),
+            begun: 0,
+        }
+    }
+
+    /// The width of its addresses.
+    pub fn width(&self) -> Width
+        ensures { result ≡ (domain_of self.now).width }
+    {
+        self.width
+    }
+
+    /// How many records it has.
+    pub fn records(&self) -> u64
+        ensures { result ≡ length (domain_of self.now).retired }
+    {
+        self.retired.len() as u64
+    }
+
+    /// How many flushes were begun.
+    pub fn begun(&self) -> u64
+        ensures { result ≡ self.now.begun }
+    {
+        self.begun
+    }
+
+    // Whether a page of the range is in a record.
+    fn is_held(&self, range: PageRange) -> bool
+        ensures { result ≡ list_any (λ r. do_meet r.range range) self.now.retired.items }
+    {
+        self.retired.iter().any(|record| record.meets(range))
+    }
+
+    /// Whether each page of the range is free.
+    pub fn are_free(&self, range: PageRange) -> bool
+        ensures { IsTrue result ↔ AreFreePages (domain_of self.now) range }
+    {
+        if !range.fits(self.width) {
+            return false;
+        }
+        match self.live.mapped_in(range.first(), range.pages()) {
+            Some(_) => false,
+            None => !self.is_held(range),
+        }
+    }
+
+    /// The first page of the range that isn't live.
+    pub fn not_live_in(&self, range: PageRange) -> Option<u64>
+        ensures { MatchOption result (AllAreMappedIn self.now.live range) (IsUnmappedIn self.now.live range) }
+    {
+        self.live.unmapped_in(range.first(), range.pages())
+    }
+
+    /// The pages of the segments become live.
+    pub fn map(&mut self, first: u64, segments: &[Segment], rights: u64) -> Result<(), AllocError>
+        requires pages { first + total_pages segments.now < 2 ^ 64 }
+        requires frames { AllByRecursion (λ s. s.frame + s.pages < 2 ^ 64) segments.now }
+        ensures { OnOk result (domain_of self.new ≡ world.mapped segments.now first rights (domain_of self.old)) }
+    {
+        self.live.put_all(first, segments, rights)
+    }
+
+    /// The pages of the range are unmapped: for good in a strict domain, put off in a lazy one.
+    pub fn unmap(&mut self, alloc: Global, range: PageRange) -> Result<(), AllocError>
+        ensures { OnOk result (domain_of self.new ≡ world.unmapped_by self.old.mode range (domain_of self.old)) }
+    {
+        match self.mode {
+            Mode::Strict => self.live.remove(range.first(), range.pages()),
+            Mode::Lazy => self.put_off(alloc, range)?,
+        }
+        Ok(())
+    }
+
+    // The pages of the range leave and become the last record, where there is no room behind the others went.
+    fn put_off(&mut self, alloc: Global, range: PageRange) -> Result<(), AllocError>
+        ensures { OnOk result (domain_of self.new ≡ world.put_off range (world.with_room (domain_of self.old))) }
+    {
+        if self.is_full() {
+            self.retired.clear();
+        }
+        let targets = self.live.take(alloc, range.first(), range.pages())?;
+        self.retired.push(Record::new(range, self.begun, targets))?;
+        Ok(())
+    }
+
+    /// Whether it has as many records as a domain keeps.
+    pub fn is_full(&self) -> bool
+        ensures { result ≡ world.is_full (domain_of self.now) }
+    {
+        self.records() == MOST_RECORDS
+    }
+
+    /// Whether an unmap may be answered so.
+    pub fn is_unmapped(&self, reply: Reply) -> bool
+        ensures { IsTrue result ↔ IsUnmapAnswer self.now.mode (domain_of self.now).retired reply }
+    {
+        let Reply::Unmapped(released) = reply else {
+            return false;
+        };
+        match self.mode {
+            Mode::Strict => released == 0,
+            Mode::Lazy => {
+                if self.is_full() {
+                    released == MOST_RECORDS
+                } else {
+                    released == 0
+                }
+            }
+        }
+    }
+
+    /// All records go.
+    pub fn flush(&mut self)
+        ensures { domain_of self.new ≡ world.flushed (domain_of self.old) }
+    {
+        self.retired.clear();
+    }
+
+    /// A flush more is begun, and has this number.
+    pub fn begin(&mut self, number: u64)
+        requires { number ≡ suc self.old.begun }
+        ensures { domain_of self.new ≡ world.begun_once_more (domain_of self.old) }
+    {
+        self.begun = number;
+    }
+
+    /// How many records were there before the flush of this number was begun.
+    pub fn before(&self, number: u64) -> u64
+        ensures { result ≡ length (filter (world.is_before number) (domain_of self.now).retired) }
+    {
+        count_before(self.retired.as_slice(), number) as u64
+    }
+
+    /// The records go that were there before the flush of this number was begun.
+    pub fn reap(&mut self, number: u64)
+        ensures { domain_of self.new ≡ world.reaped number (domain_of self.old) }
+    {
+        keep_later(&mut self.retired, number);
+    }
+}
+
+// How many of the records were there before the flush of this number was begun.
+fn count_before(records: &[Record], number: u64) -> usize
+    ensures { result ≡ count_by (λ r. world.is_before number (retired_of r)) records.now }
+{
+    records
+        .iter()
+        .filter(|record| record.is_before(number))
+        .count()
+}
+
+// The others go.
+fn keep_later(records: &mut Vec<Record>, number: u64)
+    ensures { records.new.items ≡ filter (λ r. not (world.is_before number (retired_of r))) records.old.items }
+{
+    records.retain(|record| !record.is_before(number));
+}

@@ -1,0 +1,27 @@
+//! Judges histories: what any manager of DMA addresses was asked, and what it answered, event by event, by the model alone.
+#![tactic(auto)]
+
+mod accepting;
+mod allowing;
+mod asking;
+mod checker;
+mod domain;
+mod judging;
+mod mapping;
+mod pages;
+mod record;
+mod refusing;
+mod searching;
+mod target;
+mod ticket;
+mod trace;
+mod verdict;
+
+pub use checker::Checker;
+pub use domain::Domain;
+pub use pages::Pages;
+pub use record::Record;
+pub use target::Target;
+pub use ticket::Ticket;
+pub use trace::parse_event;
+pub use verdict::{Verdict, audit, one_verdict};

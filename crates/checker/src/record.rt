@@ -1,0 +1,90 @@
+//! Retired records.
+
+ghost use Rattle.std.specs.Prelude.{◌≡◌};
+ghost use Rattle.checker.specs.Reaching.{reaches_by};
+
+use crate::pages::Pages;
+use crate::target::Target;
+use dmatypes::{Access, PAGE_BYTES, PageRange, Reply};
+
+/// Pages that were unmapped and may still be used: what was mapped there, and how many flushes were begun when they were unmapped.
+#[derive(Drop)]
+pub struct Record {
+    range: PageRange,
+    mark: u64,
+    targets: Pages,
+}
+
+impl Record {
+    ghost use Rattle.std.specs.Prelude.{◌≡◌, IsTrue};
+    ghost use Rattle.dmatypes.specs.Page.{IsWithin};
+    ghost use Rattle.dmatypes.specs.World as world;
+    ghost use Rattle.checker.specs.Reaching.{reaches};
+    ghost use Rattle.checker.specs.World.{do_meet, retired_of};
+
+    /// The record of a range that was unmapped.
+    pub fn new(range: PageRange, mark: u64, targets: Pages) -> Record
+        ensures { result ≡ record { range = range; mark = mark; targets = targets } }
+    {
+        Record {
+            range,
+            mark,
+            targets,
+        }
+    }
+
+    /// Whether it has a page in common with a range.
+    pub fn meets(&self, range: PageRange) -> bool
+        ensures { result ≡ do_meet self.now.range range }
+    {
+        self.range.first() < range.first() + range.pages()
+            && range.first() < self.range.first() + self.range.pages()
+    }
+
+    /// Whether it was there before the flush of this number was begun.
+    pub fn is_before(&self, number: u64) -> bool
+        ensures { result ≡ world.is_before number (retired_of self.now) }
+    {
+        self.mark < number
+    }
+
+    /// Whether a reply is the host address that a request comes to by what was mapped at its page, where that is permitted.
+    pub fn reaches(&self, address: u64, access: Access, reply: Reply) -> bool
+        ensures { result ≡ reaches address access reply self.now }
+    {
+        self.holds(address / PAGE_BYTES)
+            && reaches_by(
+                self.targets.get(address / PAGE_BYTES),
+                address,
+                access,
+                reply,
+            )
+    }
+
+    /// The last page that it has in common with a range.
+    pub fn last_shared(&self, range: PageRange) -> u64
+        requires { IsTrue (do_meet self.now.range range) }
+        ensures here { IsWithin self.now.range result }
+        ensures there { IsWithin range result }
+    {
+        let here = self.range.first() + (self.range.pages() - 1);
+        let there = range.first() + (range.pages() - 1);
+        here.min(there)
+    }
+
+    // Whether a page is in its range.
+    fn holds(&self, page: u64) -> bool
+        ensures { result ≡ world.is_within self.now.range page }
+    {
+        self.range.first() <= page && page < self.range.first() + self.range.pages()
+    }
+}
+
+fn reaches_by(target: Option<Target>, address: u64, access: Access, reply: Reply) -> bool
+    ensures { result ≡ reaches_by address access reply target }
+{
+    match target {
+        None => false,
+        Some(target) => target.permits(access) && target.is_host(address, reply),
+    }
+}

@@ -1,0 +1,53 @@
+//! Lines of traces.
+
+ghost use Rattle.std.specs.Prelude.{◌≡◌, ◌==◌, ◌<◌, length, nat_eq, codes, IfSome};
+ghost use Rattle.std.specs.Cmp.Lexicographic.{pointwise};
+ghost use Rattle.std.specs.List.{position_from};
+ghost use Rattle.checker.specs.Traces.{both, event_at, event_said};
+
+use dmatypes::{Event, parse_line, parse_reply};
+
+/// The event that a line of a trace says, its newline left out: a call, ` => ` and a reply.
+#[tactic(auto, unfolding(crate::specs::Traces::event_said))]
+pub fn parse_event(line: &[u8]) -> Option<Event>
+    ensures { result ≡ event_said line.now }
+{
+    let place = first_equals(line)?;
+    event_at(line, place)
+}
+
+fn first_equals(line: &[u8]) -> Option<usize>
+    ensures value { result ≡ position_from (λ b. b == 61) 0 line.now }
+    ensures within { IfSome result (λ i. i < length line.now) }
+{
+    line.iter().position(|b| *b == b'=')
+}
+
+fn event_at(line: &[u8], place: usize) -> Option<Event>
+    requires { place < length line.now }
+    ensures { result ≡ event_at line.now place }
+{
+    if place == 0 || line.len() - (place - 1) < 4 {
+        return None;
+    }
+    let (front, rest) = line.split_at(place - 1);
+    let (arrow, back) = rest.split_at(4);
+    if !is_arrow(arrow) {
+        return None;
+    }
+    both(front, back)
+}
+
+fn is_arrow(text: &[u8]) -> bool
+    ensures { result ≡ pointwise nat_eq text.now (codes " => ") }
+{
+    text == b" => ".as_slice()
+}
+
+fn both(front: &[u8], back: &[u8]) -> Option<Event>
+    ensures { result ≡ both front.now back.now }
+{
+    let call = parse_line(front)?;
+    let reply = parse_reply(back)?;
+    Some(Event { call, reply })
+}
