@@ -1,4 +1,5 @@
 pub mod lists
+pub mod texts
 pub mod worlds
 pub mod calls
 pub mod histories

@@ -1,18 +1,32 @@
--- What a line of a trace says: `CALL => REPLY`.
-use Rattle.std.specs.Prelude.{ℕ, zero, suc, List, length, nat_le, ◌&&◌, Option, Some, None, nat_eq, ◌==◌, if◌then◌else◌, codes, take, drop}
+-- What a line of a trace says: an event, as `CALL => REPLY`.
+use Rattle.std.specs.Prelude.{◌≡◌, ℕ, zero, suc, List, length, nat_le, ◌&&◌, ◌++◌, Bool, true, false, IsTrue, Option, Some, None, nat_eq}
+use Rattle.std.specs.Prelude.{◌==◌, if◌then◌else◌, codes, take, drop}
 use Rattle.std.specs.Cmp.Lexicographic.{pointwise}
 use Rattle.std.specs.List.{position_from}
+use Rattle.dmatypes.specs.declared.call.Call.{Call}
+use Rattle.dmatypes.specs.declared.refusal.Refusal.TheVariants as refusals
 use Rattle.dmatypes.specs.declared.reply.Event.{Event}
+use Rattle.dmatypes.specs.declared.reply.Reply.{Reply}
+use Rattle.dmatypes.specs.declared.reply.Reply.TheVariants.{Refused}
 use Rattle.dmatypes.specs.Grammar.{◌>>=◌, says}
 use Rattle.dmatypes.specs.History.{event}
-use Rattle.dmatypes.specs.Replying.{says_reply}
+use Rattle.dmatypes.specs.Replying.{HasSmallNumbers, says_reply}
+use Rattle.dmatypes.specs.Text.{words_of}
 
--- the call and the reply that two texts say
+-- the reply is entered in histories, as each is but that the history is full
+abbrev pub is_entered : Reply → Bool
+is_entered (Refused refusals.HistoryFull) = false
+is_entered reply = true
+
+abbrev pub entered : Call → Reply → Option Event
+entered call reply = if is_entered reply then Some (event call reply) else None
+
+-- the event of the call and the reply that two texts say
 abbrev pub both : List ℕ → List ℕ → Option Event
 both front back = do
   call ← says front
   reply ← says_reply back
-  Some (event call reply)
+  entered call reply
 
 -- by the place of the first `=`, which has a space before it, and a `>` and a space behind it
 abbrev pub event_at : List ℕ → ℕ → Option Event
@@ -21,5 +35,24 @@ event_at line (suc i) = if nat_le 4 (length (drop i line)) && pointwise nat_eq (
     then both (take i line) (drop 4 (drop i line))
     else None
 
+-- the event that a line says, its newline left out
 unfoldable pub event_said : List ℕ → Option Event
 event_said line = position_from (λ b. b == 61) 0 line >>= event_at line
+
+-- ---- that is the writing, read back
+
+-- the line of an event whose call is spelled so
+abbrev pub event_text : List ℕ → Reply → List ℕ
+event_text front reply = front ++ (codes " => " ++ words_of reply)
+
+-- a text that says a call, ` => ` and what is written for a reply say the event of both
+abbrev pub EventTextIsSaid : Type 0
+EventTextIsSaid =
+    (front : List ℕ) (e : Event) → says front ≡ Some e.call → IsTrue (is_entered e.reply) → HasSmallNumbers e.reply
+    → event_said (event_text front e.reply) ≡ Some e
+
+-- a line says no other event
+abbrev pub SaidIsEventText : Type 0
+SaidIsEventText =
+    (line : List ℕ) (e : Event) → event_said line ≡ Some e
+    → IsTrue (is_entered e.reply) × (front : List ℕ) × (says front ≡ Some e.call) × (line ≡ event_text front e.reply)

@@ -3,11 +3,12 @@
 ghost use Rattle.std.specs.Prelude.{◌≡◌, ◌==◌, ◌<◌, length, nat_eq, codes, IfSome};
 ghost use Rattle.std.specs.Cmp.Lexicographic.{pointwise};
 ghost use Rattle.std.specs.List.{position_from};
-ghost use Rattle.checker.specs.Traces.{both, event_at, event_said};
+ghost use Rattle.checker.specs.Traces.{both, event_at, event_said, is_entered};
 
-use dmatypes::{Event, parse_line, parse_reply};
+use dmatypes::{Event, Refusal, Reply, parse_line, parse_reply};
 
-/// The event that a line of a trace says, its newline left out: a call, ` => ` and a reply.
+/// The event that a line of a trace says, its newline left out: a line of a script, the four bytes ` => `, and the line that
+/// is written for a reply; `None` exactly where it says none. A reply that the history is full makes no event.
 #[tactic(auto, unfolding(crate::specs::Traces::event_said))]
 pub fn parse_event(line: &[u8]) -> Option<Event>
     ensures { result ≡ event_said line.now }
@@ -49,5 +50,15 @@ fn both(front: &[u8], back: &[u8]) -> Option<Event>
 {
     let call = parse_line(front)?;
     let reply = parse_reply(back)?;
-    Some(Event { call, reply })
+    if is_entered(reply) {
+        Some(Event { call, reply })
+    } else {
+        None
+    }
+}
+
+fn is_entered(reply: Reply) -> bool
+    ensures { result ≡ is_entered reply }
+{
+    !matches!(reply, Reply::Refused(Refusal::HistoryFull))
 }

@@ -1,7 +1,7 @@
 //! Judges whole histories.
 
 ghost use Rattle.std.specs.Prelude.{IfOk};
-ghost use Rattle.checker.specs.Verdicts.{IsVerdict, OneVerdict};
+ghost use Rattle.checker.specs.Verdicts.{IsVerdict};
 
 use crate::checker::Checker;
 use dmatypes::Event;
@@ -31,8 +31,3 @@ pub fn audit(alloc: Global, table_frames: u64, history: &[Event]) -> Result<Verd
     }
     Ok(Verdict::Legal(events))
 }
-
-/// A history has no two verdicts.
-pub fn one_verdict()
-    ensures { OneVerdict }
-{}

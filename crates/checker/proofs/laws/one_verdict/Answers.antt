@@ -5,7 +5,7 @@ use Rattle.checker.specs.declared.verdict.Verdict.{Verdict}
 use Rattle.checker.specs.declared.verdict.Verdict.TheVariants.{Legal, Illegal}
 use Rattle.checker.specs.Verdicts.{IsVerdict, IsFirstIllegal}
 use Rattle.checker.proofs.histories.Fronts.{step_at, step_in}
-use Rattle.checker.proofs.verdict.one_verdict.Goals as goal
+use Rattle.checker.proofs.laws.one_verdict.Goals as goal
 
 same_first : (frames : ℕ) (history : List Event) (m n : ℕ) → IsFirstIllegal frames history m → IsFirstIllegal frames history n → m ≡ n
 same_first frames history m n h k =
