@@ -1,9 +1,11 @@
 -- Where a request may come to, as tests.
-use Rattle.std.specs.Prelude.{ℕ, ◌/◌, ◌%◌, Bool, false, ◌&&◌, ◌==◌, Option, Some, None}
+use Rattle.std.specs.Prelude.{ℕ, ◌/◌, ◌%◌, Bool, false, ◌&&◌, ◌==◌, List, [], ◌∷◌, Option, Some, None, if◌then◌else◌}
+use Rattle.std.specs.List.{flat_map}
 use Rattle.dmatypes.specs.declared.call.Access.{Access}
 use Rattle.dmatypes.specs.declared.call.Access.TheVariants.{Read, Write}
 use Rattle.dmatypes.specs.declared.reply.Reply.{Reply}
 use Rattle.dmatypes.specs.declared.reply.Reply.TheVariants.{Host}
+use Rattle.dmatypes.specs.Allows.{host_of}
 use Rattle.dmatypes.specs.Page.{byte_address, offset_of, page_of}
 use Rattle.dmatypes.specs.World.{Target, is_within}
 use Rattle.checker.specs.declared.record.Record.{Record}
@@ -28,3 +30,17 @@ reaches_by address access reply (Some t) = permits t.rights access && is_host t 
 abbrev pub reaches : ℕ → Access → Reply → Record → Bool
 reaches address access reply r =
     is_within r.range (page_of address) && reaches_by address access reply (target_at r.targets (page_of address))
+
+-- the host address of a target with the right
+abbrev pub hosts_by : ℕ → Access → Option Target → List Reply
+hosts_by address access None = []
+hosts_by address access (Some t) = if permits t.rights access then Host (host_of t address) ∷ [] else []
+
+-- that of what was mapped at the page of the address, where this is in the record
+abbrev pub hosts_in : ℕ → Access → Record → List Reply
+hosts_in address access r =
+    if is_within r.range (page_of address) then hosts_by address access (target_at r.targets (page_of address)) else []
+
+-- those by all of the records
+abbrev pub hosts : ℕ → Access → List Record → List Reply
+hosts address access records = flat_map (hosts_in address access) records

@@ -25,9 +25,12 @@ domain_of d =
 abbrev pub do_meet : Range → Range → Bool
 do_meet a b = nat_lt 0 a.pages && nat_lt 0 b.pages && nat_lt a.first (b.first + b.pages) && nat_lt b.first (a.first + a.pages)
 
--- some range of this many pages, at a multiple of 2 ^ order, has free pages only
+-- this many pages from a multiple of 2 ^ order on are free
+abbrev pub IsFreeRangeAt : world.Domain → ℕ → ℕ → ℕ → Type 0
+IsFreeRangeAt v pages order s = (s % 2 ^ order ≡ 0) × AreFreePages v (record { first = s; pages = pages })
+
 abbrev pub HasFreeRange : world.Domain → ℕ → ℕ → Type 0
-HasFreeRange v pages order = (s : ℕ) × (s % 2 ^ order ≡ 0) × AreFreePages v (record { first = s; pages = pages })
+HasFreeRange v pages order = (s : ℕ) × IsFreeRangeAt v pages order s
 
 -- a record of the domain has a page number in common with the range
 abbrev pub meets_some : Domain → Range → Bool

@@ -228,14 +228,14 @@ impl Checker {
     fn allows(&self, device: u64, address: u64, access: Access, reply: Reply) -> bool
         ensures { IsTrue result ↔ Allows (world_of self.now) device address access reply }
     {
-        match self.domain_of(device) {
+        match self.domain_at(device) {
             None => is_not_attached(reply),
             Some(domain) => domain.allows(address, access, reply),
         }
     }
 
-    // The domain that a device is attached to.
-    fn domain_of(&self, device: u64) -> Option<&Domain>
+    /// The domain that a device is attached to.
+    pub(crate) fn domain_at(&self, device: u64) -> Option<&Domain>
         ensures { option_map domain_of (option_copied result) ≡ domain_of_device (world_of self.now) device }
     {
         let id = self.domain_of_device(device)?;

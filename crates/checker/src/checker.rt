@@ -29,6 +29,7 @@ impl Checker {
     ghost use Rattle.std.specs.BTreeMap as tree;
     ghost use Rattle.std.specs.Option.{option_copied};
     ghost use Rattle.dmatypes.specs.declared.limits.TheConstants.{MOST_DOMAINS};
+    ghost use Rattle.dmatypes.specs.declared.page.TheConstants.{FRAMES_END};
     ghost use Rattle.dmatypes.specs.Conditions.{total_pages, SomeIsAttached, SomeTicketIsOpen, IsOpen};
     ghost use Rattle.dmatypes.specs.Step.{IsUnusedId};
     ghost use Rattle.dmatypes.specs.World as world;
@@ -150,7 +151,7 @@ impl Checker {
         rights: u64,
     ) -> Result<(), AllocError>
         requires pages { first + total_pages segments.now < 2 ^ 64 }
-        requires frames { AllByRecursion (λ s. s.frame + s.pages < 2 ^ 64) segments.now }
+        requires frames { AllByRecursion (λ s. s.frame + s.pages ≤ FRAMES_END) segments.now }
         ensures { OnOk result (world_of self.new ≡ world.with_domain id (world.mapped segments.now first rights) (world_of self.old)) }
     {
         if let Some(domain) = self.domains.get_mut(&id) {

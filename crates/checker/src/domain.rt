@@ -11,7 +11,7 @@ use std::alloc::{AllocError, Global};
 
 /// A domain: its mode, the width of its addresses, its live pages, its retired records in order, and how many flushes were begun.
 #[derive(Drop)]
-pub struct Domain {
+pub(crate) struct Domain {
     pub(crate) mode: Mode,
     pub(crate) width: Width,
     pub(crate) live: Pages,
@@ -20,9 +20,11 @@ pub struct Domain {
 }
 
 impl Domain {
-    ghost use Rattle.std.specs.Prelude.{◌≡◌, ◌↔◌, ◌+◌, ◌<◌, ◌^◌, IsTrue, OnOk, MatchOption, length, filter, suc};
+    ghost use Rattle.std.specs.Prelude.{◌≡◌, ◌↔◌, ◌+◌, ◌<◌, ◌≤◌, ◌^◌, ℕ, [], ◌∷◌, IsTrue, IfOk, OnOk, MatchOption, length, filter, suc};
     ghost use Rattle.std.specs.List.{AllByRecursion, list_any};
+    ghost use Rattle.dmatypes.specs.declared.page.TheConstants.{FRAMES_END};
     ghost use Rattle.dmatypes.specs.Conditions.{total_pages};
+    ghost use Rattle.dmatypes.specs.declared.reply.Reply.TheVariants.{Unmapped};
     ghost use Rattle.dmatypes.specs.Step.{IsUnmapAnswer};
     ghost use Rattle.dmatypes.specs.World as world;
     ghost use Rattle.dmatypes.specs.World.{AreFreePages};
@@ -30,7 +32,7 @@ impl Domain {
     ghost use Rattle.checker.specs.World.{do_meet, domain_of, retired_of};
 
     /// A domain with no page.
-    pub fn new(alloc: Global, mode: Mode, width: Width) -> Domain
+    pub(crate) fn new(alloc: Global, mode: Mode, width: Width) -> Domain
         ensures { domain_of result ≡ world.empty_domain mode width }
     {
         Domain {
@@ -43,21 +45,21 @@ impl Domain {
     }
 
     /// The width of its addresses.
-    pub fn width(&self) -> Width
+    pub(crate) fn width(&self) -> Width
         ensures { result ≡ (domain_of self.now).width }
     {
         self.width
     }
 
     /// How many records it has.
-    pub fn records(&self) -> u64
+    pub(crate) fn records(&self) -> u64
         ensures { result ≡ length (domain_of self.now).retired }
     {
         self.retired.len() as u64
     }
 
     /// How many flushes were begun.
-    pub fn begun(&self) -> u64
+    pub(crate) fn begun(&self) -> u64
         ensures { result ≡ self.now.begun }
     {
         self.begun
@@ -71,7 +73,7 @@ impl Domain {
     }
 
     /// Whether each page of the range is free.
-    pub fn are_free(&self, range: PageRange) -> bool
+    pub(crate) fn are_free(&self, range: PageRange) -> bool
         ensures { IsTrue result ↔ AreFreePages (domain_of self.now) range }
     {
         if !range.fits(self.width) {
@@ -84,23 +86,28 @@ impl Domain {
     }
 
     /// The first page of the range that isn't live.
-    pub fn not_live_in(&self, range: PageRange) -> Option<u64>
+    pub(crate) fn not_live_in(&self, range: PageRange) -> Option<u64>
         ensures { MatchOption result (AllAreMappedIn self.now.live range) (IsUnmappedIn self.now.live range) }
     {
         self.live.unmapped_in(range.first(), range.pages())
     }
 
     /// The pages of the segments become live.
-    pub fn map(&mut self, first: u64, segments: &[Segment], rights: u64) -> Result<(), AllocError>
+    pub(crate) fn map(
+        &mut self,
+        first: u64,
+        segments: &[Segment],
+        rights: u64,
+    ) -> Result<(), AllocError>
         requires pages { first + total_pages segments.now < 2 ^ 64 }
-        requires frames { AllByRecursion (λ s. s.frame + s.pages < 2 ^ 64) segments.now }
+        requires frames { AllByRecursion (λ s. s.frame + s.pages ≤ FRAMES_END) segments.now }
         ensures { OnOk result (domain_of self.new ≡ world.mapped segments.now first rights (domain_of self.old)) }
     {
         self.live.put_all(first, segments, rights)
     }
 
     /// The pages of the range are unmapped: for good in a strict domain, put off in a lazy one.
-    pub fn unmap(&mut self, alloc: Global, range: PageRange) -> Result<(), AllocError>
+    pub(crate) fn unmap(&mut self, alloc: Global, range: PageRange) -> Result<(), AllocError>
         ensures { OnOk result (domain_of self.new ≡ world.unmapped_by self.old.mode range (domain_of self.old)) }
     {
         match self.mode {
@@ -123,40 +130,41 @@ impl Domain {
     }
 
     /// Whether it has as many records as a domain keeps.
-    pub fn is_full(&self) -> bool
+    pub(crate) fn is_full(&self) -> bool
         ensures { result ≡ world.is_full (domain_of self.now) }
     {
         self.records() == MOST_RECORDS
     }
 
+    /// How many records an unmap releases first.
+    pub(crate) fn released(&self) -> u64
+        ensures { IsUnmapAnswer self.now.mode (domain_of self.now).retired (Unmapped result) }
+    {
+        match self.mode {
+            Mode::Strict => 0,
+            Mode::Lazy => { if self.is_full() { MOST_RECORDS } else { 0 } }
+        }
+    }
+
     /// Whether an unmap may be answered so.
-    pub fn is_unmapped(&self, reply: Reply) -> bool
+    pub(crate) fn is_unmapped(&self, reply: Reply) -> bool
         ensures { IsTrue result ↔ IsUnmapAnswer self.now.mode (domain_of self.now).retired reply }
     {
-        let Reply::Unmapped(released) = reply else {
-            return false;
-        };
-        match self.mode {
-            Mode::Strict => released == 0,
-            Mode::Lazy => {
-                if self.is_full() {
-                    released == MOST_RECORDS
-                } else {
-                    released == 0
-                }
-            }
+        match reply {
+            Reply::Unmapped(released) => released == self.released(),
+            _ => false,
         }
     }
 
     /// All records go.
-    pub fn flush(&mut self)
+    pub(crate) fn flush(&mut self)
         ensures { domain_of self.new ≡ world.flushed (domain_of self.old) }
     {
         self.retired.clear();
     }
 
     /// A flush more is begun, and has this number.
-    pub fn begin(&mut self, number: u64)
+    pub(crate) fn begin(&mut self, number: u64)
         requires { number ≡ suc self.old.begun }
         ensures { domain_of self.new ≡ world.begun_once_more (domain_of self.old) }
     {
@@ -164,14 +172,14 @@ impl Domain {
     }
 
     /// How many records were there before the flush of this number was begun.
-    pub fn before(&self, number: u64) -> u64
+    pub(crate) fn before(&self, number: u64) -> u64
         ensures { result ≡ length (filter (world.is_before number) (domain_of self.now).retired) }
     {
         count_before(self.retired.as_slice(), number) as u64
     }
 
     /// The records go that were there before the flush of this number was begun.
-    pub fn reap(&mut self, number: u64)
+    pub(crate) fn reap(&mut self, number: u64)
         ensures { domain_of self.new ≡ world.reaped number (domain_of self.old) }
     {
         keep_later(&mut self.retired, number);

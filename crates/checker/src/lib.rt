@@ -6,6 +6,7 @@ mod allowing;
 mod asking;
 mod checker;
 mod domain;
+mod expecting;
 mod judging;
 pub mod laws;
 mod mapping;
@@ -19,10 +20,5 @@ mod trace;
 mod verdict;
 
 pub use checker::Checker;
-pub use domain::Domain;
-pub use pages::Pages;
-pub use record::Record;
-pub use target::Target;
-pub use ticket::Ticket;
 pub use trace::parse_event;
 pub use verdict::{Verdict, audit};

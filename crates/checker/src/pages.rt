@@ -1,7 +1,8 @@
 //! What pages are mapped to.
 
-ghost use Rattle.std.specs.Prelude.{◌≡◌, ◌+◌, ◌<◌, ◌^◌, ℕ, [], ◌∷◌, Some, None, IfOk, OnOk, IsTrue, ◌↔◌, MatchOption};
+ghost use Rattle.std.specs.Prelude.{◌≡◌, ◌+◌, ◌<◌, ◌≤◌, ◌^◌, ℕ, [], ◌∷◌, Some, None, IfOk, OnOk, IsTrue, ◌↔◌, MatchOption};
 ghost use Rattle.std.specs.List.{AllByRecursion};
+ghost use Rattle.dmatypes.specs.declared.page.TheConstants.{FRAMES_END};
 ghost use Rattle.dmatypes.specs.Conditions.{total_pages};
 ghost use Rattle.std.specs.Option.{option_or};
 ghost use Rattle.dmatypes.specs.World.{placed, restricted, without};
@@ -14,13 +15,13 @@ use std::collections::BTreeMap;
 
 /// Pages by their numbers, each with what it is mapped to.
 #[derive(Drop)]
-pub struct Pages {
+pub(crate) struct Pages {
     map: BTreeMap<u64, Target>,
 }
 
 impl Pages {
     /// No page is mapped.
-    pub fn new(alloc: Global) -> Pages
+    pub(crate) fn new(alloc: Global) -> Pages
         ensures { (p : ℕ) → target_at result p ≡ None }
     {
         Pages {
@@ -29,14 +30,14 @@ impl Pages {
     }
 
     /// What a page is mapped to.
-    pub fn get(&self, page: u64) -> Option<Target>
+    pub(crate) fn get(&self, page: u64) -> Option<Target>
         ensures { result ≡ target_at self.now page }
     {
         self.map.get(&page).copied()
     }
 
     /// The first page of a range that is mapped.
-    pub fn mapped_in(&self, first: u64, pages: u64) -> Option<u64>
+    pub(crate) fn mapped_in(&self, first: u64, pages: u64) -> Option<u64>
         requires { first + pages < 2 ^ 64 }
         ensures { MatchOption result (NoneIsMappedIn self.now (range first pages)) (IsMappedIn self.now (range first pages)) }
     {
@@ -45,7 +46,7 @@ impl Pages {
     }
 
     /// The first page of a range that isn't mapped.
-    pub fn unmapped_in(&self, first: u64, pages: u64) -> Option<u64>
+    pub(crate) fn unmapped_in(&self, first: u64, pages: u64) -> Option<u64>
         requires { first + pages < 2 ^ 64 }
         ensures { MatchOption result (AllAreMappedIn self.now (range first pages)) (IsUnmappedIn self.now (range first pages)) }
     {
@@ -58,9 +59,14 @@ impl Pages {
     }
 
     /// Maps the pages of a range, one after the other, in the place of what they were mapped to.
-    pub fn put(&mut self, first: u64, segment: Segment, rights: u64) -> Result<(), AllocError>
+    pub(crate) fn put(
+        &mut self,
+        first: u64,
+        segment: Segment,
+        rights: u64,
+    ) -> Result<(), AllocError>
         requires pages { first + segment.pages < 2 ^ 64 }
-        requires frames { segment.frame + segment.pages < 2 ^ 64 }
+        requires frames { segment.frame + segment.pages ≤ FRAMES_END }
         ensures { OnOk result ((p : ℕ) → target_at self.new p ≡ option_or (placed (segment ∷ []) first rights p) (target_at self.old p)) }
     {
         for place in 0..segment.pages {
@@ -71,7 +77,7 @@ impl Pages {
     }
 
     /// The pages of a range are mapped no more.
-    pub fn remove(&mut self, first: u64, pages: u64)
+    pub(crate) fn remove(&mut self, first: u64, pages: u64)
         requires { first + pages < 2 ^ 64 }
         ensures { (p : ℕ) → target_at self.new p ≡ without (range first pages) (target_at self.old) p }
     {
@@ -81,7 +87,12 @@ impl Pages {
     }
 
     /// The pages of a range are mapped no more, and are handed out.
-    pub fn take(&mut self, alloc: Global, first: u64, pages: u64) -> Result<Pages, AllocError>
+    pub(crate) fn take(
+        &mut self,
+        alloc: Global,
+        first: u64,
+        pages: u64,
+    ) -> Result<Pages, AllocError>
         requires { first + pages < 2 ^ 64 }
         ensures left { OnOk result ((p : ℕ) → target_at self.new p ≡ without (range first pages) (target_at self.old) p) }
         ensures taken { IfOk result (λ t. (p : ℕ) → target_at t p ≡ restricted (range first pages) (target_at self.old) p) }
@@ -96,14 +107,14 @@ impl Pages {
     }
 
     /// Maps the pages of the segments, one segment after the other, in the place of what they were mapped to.
-    pub fn put_all(
+    pub(crate) fn put_all(
         &mut self,
         first: u64,
         segments: &[Segment],
         rights: u64,
     ) -> Result<(), AllocError>
         requires pages { first + total_pages segments.now < 2 ^ 64 }
-        requires frames { AllByRecursion (λ s. s.frame + s.pages < 2 ^ 64) segments.now }
+        requires frames { AllByRecursion (λ s. s.frame + s.pages ≤ FRAMES_END) segments.now }
         ensures { OnOk result ((p : ℕ) → target_at self.new p ≡ option_or (placed segments.now first rights p) (target_at self.old p)) }
     {
         let Some((segment, rest)) = segments.split_first() else {
@@ -114,7 +125,7 @@ impl Pages {
     }
 
     /// The last page of a range that is mapped.
-    pub fn last_mapped_in(&self, first: u64, pages: u64) -> Option<u64>
+    pub(crate) fn last_mapped_in(&self, first: u64, pages: u64) -> Option<u64>
         requires { first + pages < 2 ^ 64 }
         ensures { MatchOption result (NoneIsMappedIn self.now (range first pages)) (IsMappedIn self.now (range first pages)) }
     {

@@ -1,7 +1,8 @@
 //! Retired records.
 
-ghost use Rattle.std.specs.Prelude.{◌≡◌};
-ghost use Rattle.checker.specs.Reaching.{reaches_by};
+ghost use Rattle.std.specs.Prelude.{◌≡◌, MatchOption, [], ◌∷◌};
+ghost use Rattle.dmatypes.specs.declared.reply.Reply.TheVariants.{Host};
+ghost use Rattle.checker.specs.Reaching.{hosts_by, reaches_by};
 
 use crate::pages::Pages;
 use crate::target::Target;
@@ -9,21 +10,22 @@ use dmatypes::{Access, PAGE_BYTES, PageRange, Reply};
 
 /// Pages that were unmapped and may still be used: what was mapped there, and how many flushes were begun when they were unmapped.
 #[derive(Drop)]
-pub struct Record {
+pub(crate) struct Record {
     range: PageRange,
     mark: u64,
     targets: Pages,
 }
 
 impl Record {
-    ghost use Rattle.std.specs.Prelude.{◌≡◌, IsTrue};
+    ghost use Rattle.std.specs.Prelude.{◌≡◌, MatchOption, IsTrue, [], ◌∷◌};
+    ghost use Rattle.dmatypes.specs.declared.reply.Reply.TheVariants.{Host};
     ghost use Rattle.dmatypes.specs.Page.{IsWithin};
     ghost use Rattle.dmatypes.specs.World as world;
-    ghost use Rattle.checker.specs.Reaching.{reaches};
+    ghost use Rattle.checker.specs.Reaching.{hosts_in, reaches};
     ghost use Rattle.checker.specs.World.{do_meet, retired_of};
 
     /// The record of a range that was unmapped.
-    pub fn new(range: PageRange, mark: u64, targets: Pages) -> Record
+    pub(crate) fn new(range: PageRange, mark: u64, targets: Pages) -> Record
         ensures { result ≡ record { range = range; mark = mark; targets = targets } }
     {
         Record {
@@ -34,7 +36,7 @@ impl Record {
     }
 
     /// Whether it has a page in common with a range.
-    pub fn meets(&self, range: PageRange) -> bool
+    pub(crate) fn meets(&self, range: PageRange) -> bool
         ensures { result ≡ do_meet self.now.range range }
     {
         self.range.first() < range.first() + range.pages()
@@ -42,14 +44,14 @@ impl Record {
     }
 
     /// Whether it was there before the flush of this number was begun.
-    pub fn is_before(&self, number: u64) -> bool
+    pub(crate) fn is_before(&self, number: u64) -> bool
         ensures { result ≡ world.is_before number (retired_of self.now) }
     {
         self.mark < number
     }
 
     /// Whether a reply is the host address that a request comes to by what was mapped at its page, where that is permitted.
-    pub fn reaches(&self, address: u64, access: Access, reply: Reply) -> bool
+    pub(crate) fn reaches(&self, address: u64, access: Access, reply: Reply) -> bool
         ensures { result ≡ reaches address access reply self.now }
     {
         self.holds(address / PAGE_BYTES)
@@ -61,8 +63,18 @@ impl Record {
             )
     }
 
+    /// The host address that a request comes to by what was mapped at its page, where that is permitted.
+    pub(crate) fn host(&self, address: u64, access: Access) -> Option<u64>
+        ensures { MatchOption result (hosts_in address access self.now ≡ []) (λ host. hosts_in address access self.now ≡ Host host ∷ []) }
+    {
+        if !self.holds(address / PAGE_BYTES) {
+            return None;
+        }
+        host_by(self.targets.get(address / PAGE_BYTES), address, access)
+    }
+
     /// The last page that it has in common with a range.
-    pub fn last_shared(&self, range: PageRange) -> u64
+    pub(crate) fn last_shared(&self, range: PageRange) -> u64
         requires { IsTrue (do_meet self.now.range range) }
         ensures here { IsWithin self.now.range result }
         ensures there { IsWithin range result }
@@ -77,6 +89,17 @@ impl Record {
         ensures { result ≡ world.is_within self.now.range page }
     {
         self.range.first() <= page && page < self.range.first() + self.range.pages()
+    }
+}
+
+fn host_by(target: Option<Target>, address: u64, access: Access) -> Option<u64>
+    ensures { MatchOption result (hosts_by address access target ≡ []) (λ host. hosts_by address access target ≡ Host host ∷ []) }
+{
+    let target = target?;
+    if target.permits(access) {
+        Some(target.host(address))
+    } else {
+        None
     }
 }
 

@@ -196,7 +196,7 @@ impl Checker {
         }
     }
 
-    /// The first condition of a map that stands, where one does.
+    // The first condition of a map that stands, where one does.
     fn map_refusal(
         &self,
         domain: u64,
@@ -246,10 +246,9 @@ impl Checker {
     {
         let pages = pages_of(segments)?;
         let domain = self.domain(domain)?;
-        if domain.has_range(pages, order) {
-            None
-        } else {
-            Some(Refusal::NoRange)
+        match domain.free_range(pages, order) {
+            Some(_) => None,
+            None => Some(Refusal::NoRange),
         }
     }
 }

@@ -12,7 +12,7 @@ use crate::record::Record;
 use dmatypes::{PageRange, WINDOW_LAST, Width};
 
 impl Domain {
-    ghost use Rattle.std.specs.Prelude.{◌≡◌, ◌+◌, ◌^◌, ◌%◌, ◌<◌, ◌≤◌, ℕ, IsTrue, MatchOption, MatchBool, not};
+    ghost use Rattle.std.specs.Prelude.{◌≡◌, ◌+◌, ◌^◌, ◌%◌, ◌<◌, ◌≤◌, ℕ, IsTrue, MatchOption, not};
     ghost use Rattle.dmatypes.specs.World.{IsIn};
     ghost use Rattle.checker.specs.declared.record.Record.{Record};
     ghost use Rattle.std.specs.List.{find};
@@ -22,30 +22,30 @@ impl Domain {
     ghost use Rattle.dmatypes.specs.Page.{IsPageOf, IsWithin, pages_end};
     ghost use Rattle.dmatypes.specs.World.{AreFreePages, IsFree};
     ghost use Rattle.checker.specs.Pages.{range};
-    ghost use Rattle.checker.specs.World.{do_meet, domain_of, meets_some, HasFreeRange};
+    ghost use Rattle.checker.specs.World.{do_meet, domain_of, meets_some, HasFreeRange, IsFreeRangeAt};
 
-    /// Whether some range of this many pages, at a multiple of 2^`order`, is free.
-    pub fn has_range(&self, pages: u64, order: u64) -> bool
+    /// The first page of some range of this many pages, at a multiple of 2^`order`, that is free.
+    pub(crate) fn free_range(&self, pages: u64, order: u64) -> Option<u64>
         requires pages { (1 ≤ pages) × (pages ≤ MOST_PAGES) }
         requires order { order ≤ MOST_ORDER }
-        ensures { MatchBool result (HasFreeRange (domain_of self.now) pages order) (HasFreeRange (domain_of self.now) pages order → ⊥) }
+        ensures { MatchOption result (HasFreeRange (domain_of self.now) pages order → ⊥) (IsFreeRangeAt (domain_of self.now) pages order) }
     {
         let step = power(order);
         let mut start = 0;
         let end = self.width.pages_end();
         while start < end {
             match self.obstacle(start, pages) {
-                None => return true,
+                None => return Some(start),
                 Some(page) => start = multiple_past(page, step),
             }
         }
-        false
+        None
     }
 
-    // The page number of a range that is no free page.
-    fn obstacle(&self, first: u64, pages: u64) -> Option<u64>
+    /// A page number of a range that is no free page.
+    pub(crate) fn obstacle(&self, first: u64, pages: u64) -> Option<u64>
         requires pages { (1 ≤ pages) × (pages ≤ MOST_PAGES) }
-        requires first { first < pages_end self.now.width }
+        requires first { first < 2 ^ 63 }
         ensures { MatchOption result (AreFreePages (domain_of self.now) (range first pages)) (λ p. IsWithin (range first pages) p × (IsPageOf self.now.width p × IsFree (domain_of self.now) p → ⊥)) }
     {
         let Some(range) = range_in(first, pages, self.width) else {
@@ -78,7 +78,7 @@ impl Domain {
 // A member of a range that is no page of a width, where there is one.
 fn no_page_in(first: u64, pages: u64, width: Width) -> u64
     requires pages { (1 ≤ pages) × (pages ≤ MOST_PAGES) }
-    requires first { first < pages_end width }
+    requires first { first < 2 ^ 63 }
     requires none { Fits (range first pages) width → ⊥ }
     ensures within { IsWithin (range first pages) result }
     ensures none { IsPageOf width result → ⊥ }

@@ -5,48 +5,47 @@ use std::marker::Model;
 
 /// A host frame, and what may be done there.
 #[derive(Clone, Copy, Debug, PartialEq, Eq)]
-pub struct Target {
+pub(crate) struct Target {
     frame: u64,
     rights: u64,
 }
 
 impl Model for Target {
+    ghost use Rattle.dmatypes.specs.Page.{IsFrame};
     ghost use Rattle.dmatypes.specs.World as world;
 
     ghost Value = { world.Target };
 
     ghost view = { λ t. record { frame = t.frame; rights = t.rights } };
 
+    ghost invariant = { λ t. IsFrame t.frame };
+
     ghost inverse = { λ v. record { frame = v.frame; rights = v.rights } };
 }
 
 impl Target {
     ghost use Rattle.std.specs.Prelude.{◌≡◌};
+    ghost use Rattle.dmatypes.specs.Allows.{host_of};
+    ghost use Rattle.dmatypes.specs.Page.{IsFrame};
     ghost use Rattle.checker.specs.Reaching.{is_host, permits};
 
     /// This frame with these rights.
-    pub fn new(frame: u64, rights: u64) -> Target
+    pub(crate) fn new(frame: u64, rights: u64) -> Target
+        requires { IsFrame frame }
         ensures { result ≡ record { frame = frame; rights = rights } }
     {
         Target { frame, rights }
     }
 
-    /// The host frame.
-    pub fn frame(self) -> u64
-        ensures { result ≡ self.frame }
+    /// The host address at the offset of an address.
+    pub(crate) fn host(self, address: u64) -> u64
+        ensures { result ≡ host_of self address }
     {
-        self.frame
-    }
-
-    /// The rights.
-    pub fn rights(self) -> u64
-        ensures { result ≡ self.rights }
-    {
-        self.rights
+        self.frame * PAGE_BYTES + address % PAGE_BYTES
     }
 
     /// Whether an access is permitted there.
-    pub fn permits(self, access: Access) -> bool
+    pub(crate) fn permits(self, access: Access) -> bool
         ensures { result ≡ permits self.rights access }
     {
         match access {
@@ -56,13 +55,11 @@ impl Target {
     }
 
     /// Whether a reply is the host address at the offset of an address.
-    pub fn is_host(self, address: u64, reply: Reply) -> bool
+    pub(crate) fn is_host(self, address: u64, reply: Reply) -> bool
         ensures { result ≡ is_host self address reply }
     {
         match reply {
-            Reply::Host(host) => {
-                host / PAGE_BYTES == self.frame && host % PAGE_BYTES == address % PAGE_BYTES
-            }
+            Reply::Host(host) => host == self.host(address),
             _ => false,
         }
     }

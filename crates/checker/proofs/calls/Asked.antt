@@ -22,16 +22,16 @@ some_pages (s ∷ ss) order rights good =
     ]
 
 near : (segments : List Segment) → (SomeHas (λ s. FRAMES_END < s.frame + s.pages) segments → ⊥)
-    → AllByRecursion (λ s. s.frame + s.pages < 2 ^ 64) segments
+    → AllByRecursion (λ s. s.frame + s.pages ≤ FRAMES_END) segments
 near [] h = tt
 near (s ∷ ss) h =
     elim (cases_lt FRAMES_END (s.frame + s.pages)) [
       | inl far ↦ absurd (h (inl far))
-      | inr at ↦ (omega (arith, at), near ss (λ k. h (inr k)))
+      | inr at ↦ (at, near ss (λ k. h (inr k)))
     ]
 
 pub near_frames : (segments : List Segment) (order rights : ℕ) → (IsBadMap segments order rights → ⊥)
-    → AllByRecursion (λ s. s.frame + s.pages < 2 ^ 64) segments
+    → AllByRecursion (λ s. s.frame + s.pages ≤ FRAMES_END) segments
 near_frames segments order rights good = near segments (λ far. good (inr (inr (inr (inl far)))))
 
 pub free_range_stands : (o : Option world.Domain) (v : world.Domain) (n order : ℕ) → o ≡ Some v → HasFreeRange v n order
@@ -39,13 +39,13 @@ pub free_range_stands : (o : Option world.Domain) (v : world.Domain) (n order : 
 free_range_stands o v n order is free none =
     let at : (s : ℕ) → s % 2 ^ order ≡ 0 → AreFreePages v (record { first = s; pages = n }) → ⊥ =
     subst (λ (x : Option world.Domain). IsSomeAnd x (λ u. (s : ℕ) → s % 2 ^ order ≡ 0 → AreFreePages u (record { first = s; pages = n }) → ⊥)) is none in
-    at free.0 free.1 free.2
+    at free.0 free.1.0 free.1.1
 
 pub no_free_range : (o : Option world.Domain) (v : world.Domain) (n order : ℕ) → o ≡ Some v → (HasFreeRange v n order → ⊥)
     → IsSomeAnd o (λ u. (s : ℕ) → s % 2 ^ order ≡ 0 → AreFreePages u (record { first = s; pages = n }) → ⊥)
 no_free_range o v n order is none =
     subst (λ (x : Option world.Domain). IsSomeAnd x (λ u. (s : ℕ) → s % 2 ^ order ≡ 0 → AreFreePages u (record { first = s; pages = n }) → ⊥))
-    (sym is) (λ s aligned free. none (s, aligned, free))
+    (sym is) (λ s aligned free. none (s, (aligned, free)))
 
 pub some_and_from : (P : world.Domain → Type 0) (o : Option world.Domain) (v : world.Domain) → o ≡ Some v → P v → IsSomeAnd o P
 some_and_from P o v is h = subst (λ (x : Option world.Domain). IsSomeAnd x P) (sym is) h

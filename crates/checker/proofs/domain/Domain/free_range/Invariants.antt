@@ -2,7 +2,7 @@ use Rattle.std.proofs.Common.{◌≡◌, ℕ, ◌-◌, ◌%◌, ◌^◌, ◌<◌
 use Rattle.dmatypes.specs.World.{AreFreePages}
 use Rattle.checker.specs.Pages.{range}
 use Rattle.checker.specs.World.{domain_of}
-use Rattle.checker.proofs.domain.Domain.has_range.Given as goal
+use Rattle.checker.proofs.domain.Domain.free_range.Given as goal
 
 abbrev pub invariant-loop-start : goal.invariant-loop-start
 invariant-loop-start l = record {

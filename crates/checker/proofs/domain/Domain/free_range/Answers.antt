@@ -1,7 +1,7 @@
 use Rattle.std.proofs.Common.{◌≡◌, ◌≤◌, ◌%◌, ◌^◌, sym, subst, inl, inr, arith}
 use Rattle.std.proofs.lemmas.Bool.{cases_lt}
 use Rattle.checker.specs.World.{domain_of}
-use Rattle.checker.proofs.domain.Domain.has_range.Goals as goal
+use Rattle.checker.proofs.domain.Domain.free_range.Goals as goal
 
 pub loop-start-preserved : goal.loop-start-preserved
 loop-start-preserved c =
