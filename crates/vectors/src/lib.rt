@@ -1,6 +1,7 @@
 //! Tests alone, by public calls: vectors of numbers, texts and bit layouts (`dmatypes`, `vtdbits`), takes of device addresses
-//! (`iova`), a tree (`tables`), a full ring (`queue`), and hits without the lock (`ports`) (own). They stand apart from the crates they
-//! test, for the check of a crate's tests proves the whole crate once more. `rt try --test` runs them unproved.
+//! (`iova`), a tree (`tables`), a full ring (`queue`), hits without the lock (`ports`), and judged traces (`checker`) (own). They
+//! stand apart from the crates they test, for the check of a crate's tests proves the whole crate once more. `rt try --test` runs
+//! them unproved.
 #![tactic(auto)]
 
 #[cfg(test)]
@@ -15,5 +16,7 @@ mod lines;
 mod ring;
 #[cfg(test)]
 mod texts;
+#[cfg(test)]
+mod traces;
 #[cfg(test)]
 mod trees;

@@ -29,6 +29,7 @@ fn reply_lines(rt: HostRuntime) {
     for (reply, wanted) in rows {
         reply_line(reply, &mut line);
         assert_eq!(rt; line.as_str(), wanted);
+        assert_eq!(rt; parse_reply(wanted.trim_end().as_bytes()), Some(reply));
     }
 }
 
@@ -62,6 +63,10 @@ fn refusal_lines(rt: HostRuntime) {
         };
         event_line(&event, &mut line);
         assert_eq!(rt; line.as_str(), wanted);
+        assert_eq!(rt;
+            parse_reply(wanted.trim_end().as_bytes()),
+            Some(event.reply)
+        );
     }
 }
 
