@@ -1,3 +1,7 @@
 pub mod Free
+pub mod Keys
+pub mod Runs
+pub mod Cuts
+pub mod Entries
 pub mod Reached
 pub mod Attached

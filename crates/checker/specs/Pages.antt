@@ -5,10 +5,16 @@ use Rattle.std.specs.BTreeMap as tree
 use Rattle.dmatypes.specs.Page.{Range, IsWithin}
 use Rattle.dmatypes.specs.World.{Target}
 use Rattle.checker.specs.declared.pages.Pages.{Pages}
+use Rattle.checker.specs.declared.run.Run.{Run}
+use Rattle.checker.specs.Runs.{by_runs}
+
+-- the runs by their first pages
+abbrev pub runs_of : Pages → ℕ → Option Run
+runs_of m = tree.get nat_cmp m.runs
 
 -- what a page is mapped to
 abbrev pub target_at : Pages → ℕ → Option Target
-target_at m p = tree.get nat_cmp m.map p
+target_at m p = by_runs (runs_of m) p p
 
 abbrev pub range : ℕ → ℕ → Range
 range first pages = record { first = first; pages = pages }

@@ -33,6 +33,7 @@ impl Checker {
     ghost use Rattle.dmatypes.specs.Conditions.{total_pages, SomeIsAttached, SomeTicketIsOpen, IsOpen};
     ghost use Rattle.dmatypes.specs.Step.{IsUnusedId};
     ghost use Rattle.dmatypes.specs.World as world;
+    ghost use Rattle.checker.specs.Pages.{range};
     ghost use Rattle.checker.specs.World.{world_of};
 
     /// The empty world.
@@ -150,8 +151,10 @@ impl Checker {
         segments: &[Segment],
         rights: u64,
     ) -> Result<(), AllocError>
+        requires some { AllByRecursion (λ s. 1 ≤ s.pages) segments.now }
         requires pages { first + total_pages segments.now < 2 ^ 64 }
         requires frames { AllByRecursion (λ s. s.frame + s.pages ≤ FRAMES_END) segments.now }
+        requires free { (v : world.Domain) → (world_of self.old).domains id ≡ Some v → world.AreFreePages v (range first (total_pages segments.now)) }
         ensures { OnOk result (world_of self.new ≡ world.with_domain id (world.mapped segments.now first rights) (world_of self.old)) }
     {
         if let Some(domain) = self.domains.get_mut(&id) {

@@ -28,7 +28,7 @@ impl Domain {
     ghost use Rattle.dmatypes.specs.Step.{IsUnmapAnswer};
     ghost use Rattle.dmatypes.specs.World as world;
     ghost use Rattle.dmatypes.specs.World.{AreFreePages};
-    ghost use Rattle.checker.specs.Pages.{AllAreMappedIn, IsUnmappedIn};
+    ghost use Rattle.checker.specs.Pages.{AllAreMappedIn, IsUnmappedIn, range};
     ghost use Rattle.checker.specs.World.{do_meet, domain_of, retired_of};
 
     /// A domain with no page.
@@ -79,7 +79,7 @@ impl Domain {
         if !range.fits(self.width) {
             return false;
         }
-        match self.live.mapped_in(range.first(), range.pages()) {
+        match self.live.last_mapped_in(range.first(), range.pages()) {
             Some(_) => false,
             None => !self.is_held(range),
         }
@@ -99,8 +99,10 @@ impl Domain {
         segments: &[Segment],
         rights: u64,
     ) -> Result<(), AllocError>
+        requires some { AllByRecursion (λ s. 1 ≤ s.pages) segments.now }
         requires pages { first + total_pages segments.now < 2 ^ 64 }
         requires frames { AllByRecursion (λ s. s.frame + s.pages ≤ FRAMES_END) segments.now }
+        requires free { AreFreePages (domain_of self.old) (range first (total_pages segments.now)) }
         ensures { OnOk result (domain_of self.new ≡ world.mapped segments.now first rights (domain_of self.old)) }
     {
         self.live.put_all(first, segments, rights)
@@ -111,9 +113,17 @@ impl Domain {
         ensures { OnOk result (domain_of self.new ≡ world.unmapped_by self.old.mode range (domain_of self.old)) }
     {
         match self.mode {
-            Mode::Strict => self.live.remove(range.first(), range.pages()),
+            Mode::Strict => self.unmap_now(alloc, range)?,
             Mode::Lazy => self.put_off(alloc, range)?,
         }
+        Ok(())
+    }
+
+    // The pages of the range leave.
+    fn unmap_now(&mut self, alloc: Global, range: PageRange) -> Result<(), AllocError>
+        ensures { OnOk result (domain_of self.new ≡ world.unmapped range (domain_of self.old)) }
+    {
+        let _ = self.live.take(alloc, range.first(), range.pages())?;
         Ok(())
     }
 

@@ -13,6 +13,7 @@ mod mapping;
 mod pages;
 mod record;
 mod refusing;
+mod run;
 mod searching;
 mod target;
 mod ticket;

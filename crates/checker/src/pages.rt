@@ -1,31 +1,39 @@
 //! What pages are mapped to.
 
-ghost use Rattle.std.specs.Prelude.{◌≡◌, ◌+◌, ◌<◌, ◌≤◌, ◌^◌, ℕ, [], ◌∷◌, Some, None, IfOk, OnOk, IsTrue, ◌↔◌, MatchOption};
-ghost use Rattle.std.specs.List.{AllByRecursion};
-ghost use Rattle.dmatypes.specs.declared.page.TheConstants.{FRAMES_END};
-ghost use Rattle.dmatypes.specs.Conditions.{total_pages};
-ghost use Rattle.std.specs.Option.{option_or};
-ghost use Rattle.dmatypes.specs.World.{placed, restricted, without};
-ghost use Rattle.checker.specs.Pages.{AllAreMappedIn, IsMappedIn, IsUnmappedIn, NoneIsMappedIn, range, target_at};
+ghost use Rattle.std.specs.BTreeMap as tree;
+ghost use Rattle.std.specs.Ordering.{nat_cmp};
+ghost use Rattle.checker.specs.Runs.{AreApart};
 
+use crate::run::Run;
 use crate::target::Target;
 use dmatypes::Segment;
 use std::alloc::{AllocError, Global};
 use std::collections::BTreeMap;
 
-/// Pages by their numbers, each with what it is mapped to.
+/// Pages in runs by their first pages, each run with what it is mapped to. No page is in two.
 #[derive(Drop)]
 pub(crate) struct Pages {
-    map: BTreeMap<u64, Target>,
+    runs: BTreeMap<u64, Run>,
+    ghost apart: { AreApart (tree.get nat_cmp runs) },
 }
 
 impl Pages {
+    ghost use Rattle.std.specs.Prelude.{◌≡◌, ◌+◌, ◌-◌, ◌<◌, ◌≤◌, ◌^◌, ℕ, [], ◌∷◌, Some, None, IfOk, OnOk, MatchOption};
+    ghost use Rattle.std.specs.List.{AllByRecursion};
+    ghost use Rattle.std.specs.Option.{option_or};
+    ghost use Rattle.dmatypes.specs.declared.page.TheConstants.{FRAMES_END};
+    ghost use Rattle.dmatypes.specs.Conditions.{total_pages};
+    ghost use Rattle.dmatypes.specs.World.{placed, restricted, without};
+    ghost use Rattle.checker.specs.Pages.{AllAreMappedIn, IsMappedIn, IsUnmappedIn, NoneIsMappedIn, range, runs_of, target_at};
+    ghost use Rattle.checker.specs.Runs.{Holds, IsCutAt};
+
     /// No page is mapped.
     pub(crate) fn new(alloc: Global) -> Pages
-        ensures { (p : ℕ) → target_at result p ≡ None }
+        ensures runs { (k : ℕ) → runs_of result k ≡ None }
+        ensures pages { (p : ℕ) → target_at result p ≡ None }
     {
         Pages {
-            map: BTreeMap::new(alloc),
+            runs: BTreeMap::new(alloc),
         }
     }
 
@@ -33,16 +41,42 @@ impl Pages {
     pub(crate) fn get(&self, page: u64) -> Option<Target>
         ensures { result ≡ target_at self.now page }
     {
-        self.map.get(&page).copied()
+        match self.run_of(page) {
+            Some((first, run)) => Some(Target::new(run.frame + (page - first), run.rights)),
+            None => None,
+        }
     }
 
-    /// The first page of a range that is mapped.
-    pub(crate) fn mapped_in(&self, first: u64, pages: u64) -> Option<u64>
-        requires { first + pages < 2 ^ 64 }
+    // The run that holds a page, and its first page.
+    fn run_of(&self, page: u64) -> Option<(u64, Run)>
+        ensures { MatchOption result (target_at self.now page ≡ None) (λ e. (runs_of self.now e.0 ≡ Some e.1) × Holds e.0 e.1 page) }
+    {
+        let (first, run) = self.last_run(page)?;
+        if page - first < run.pages {
+            Some((first, run))
+        } else {
+            None
+        }
+    }
+
+    // The last run that begins at a page or before, and its first page.
+    fn last_run(&self, page: u64) -> Option<(u64, Run)>
+        ensures { MatchOption result ((k : ℕ) → k ≤ page → runs_of self.now k ≡ None)
+            (λ e. (runs_of self.now e.0 ≡ Some e.1) × (e.0 ≤ page) × ((k : ℕ) → e.0 < k → k ≤ page → runs_of self.now k ≡ None)) }
+    {
+        let (first, run) = self.runs.range(..=page).next_back()?;
+        Some((*first, *run))
+    }
+
+    /// The last page of a range that is mapped.
+    pub(crate) fn last_mapped_in(&self, first: u64, pages: u64) -> Option<u64>
+        requires some { 1 ≤ pages }
+        requires ends { first + pages < 2 ^ 64 }
         ensures { MatchOption result (NoneIsMappedIn self.now (range first pages)) (IsMappedIn self.now (range first pages)) }
     {
-        let (page, _) = self.map.range(first..first + pages).next()?;
-        Some(*page)
+        let (start, run) = self.last_run(first + (pages - 1))?;
+        let end = (start + run.pages).min(first + pages);
+        if first < end { Some(end - 1) } else { None }
     }
 
     /// The first page of a range that isn't mapped.
@@ -50,40 +84,56 @@ impl Pages {
         requires { first + pages < 2 ^ 64 }
         ensures { MatchOption result (AllAreMappedIn self.now (range first pages)) (IsUnmappedIn self.now (range first pages)) }
     {
-        for page in first..first + pages {
-            if !self.map.contains_key(&page) {
-                return Some(page);
+        let mut page = first;
+        while page < first + pages {
+            match self.run_of(page) {
+                Some((start, run)) => page = start + run.pages,
+                None => return Some(page),
             }
         }
         None
     }
 
-    /// Maps the pages of a range, one after the other, in the place of what they were mapped to.
+    /// Maps the pages of a segment, one after the other from a first one on.
     pub(crate) fn put(
         &mut self,
         first: u64,
         segment: Segment,
         rights: u64,
     ) -> Result<(), AllocError>
+        requires some { 1 ≤ segment.pages }
         requires pages { first + segment.pages < 2 ^ 64 }
         requires frames { segment.frame + segment.pages ≤ FRAMES_END }
+        requires free { NoneIsMappedIn self.old (range first segment.pages) }
         ensures { OnOk result ((p : ℕ) → target_at self.new p ≡ option_or (placed (segment ∷ []) first rights p) (target_at self.old p)) }
     {
-        for place in 0..segment.pages {
-            let target = Target::new(segment.frame + place, rights);
-            self.map.insert(first + place, target)?;
-        }
+        let run = Run {
+            pages: segment.pages,
+            frame: segment.frame,
+            rights,
+        };
+        self.runs.insert(first, run)?;
         Ok(())
     }
 
-    /// The pages of a range are mapped no more.
-    pub(crate) fn remove(&mut self, first: u64, pages: u64)
-        requires { first + pages < 2 ^ 64 }
-        ensures { (p : ℕ) → target_at self.new p ≡ without (range first pages) (target_at self.old) p }
+    /// Maps the pages of the segments, one segment after the other from a first page on.
+    pub(crate) fn put_all(
+        &mut self,
+        first: u64,
+        segments: &[Segment],
+        rights: u64,
+    ) -> Result<(), AllocError>
+        requires some { AllByRecursion (λ s. 1 ≤ s.pages) segments.now }
+        requires pages { first + total_pages segments.now < 2 ^ 64 }
+        requires frames { AllByRecursion (λ s. s.frame + s.pages ≤ FRAMES_END) segments.now }
+        requires free { NoneIsMappedIn self.old (range first (total_pages segments.now)) }
+        ensures { OnOk result ((p : ℕ) → target_at self.new p ≡ option_or (placed segments.now first rights p) (target_at self.old p)) }
     {
-        for page in first..first + pages {
-            let _ = self.map.remove(&page);
-        }
+        let Some((segment, rest)) = segments.split_first() else {
+            return Ok(());
+        };
+        self.put_all(first + segment.pages, rest, rights)?;
+        self.put(first, *segment, rights)
     }
 
     /// The pages of a range are mapped no more, and are handed out.
@@ -97,39 +147,73 @@ impl Pages {
         ensures left { OnOk result ((p : ℕ) → target_at self.new p ≡ without (range first pages) (target_at self.old) p) }
         ensures taken { IfOk result (λ t. (p : ℕ) → target_at t p ≡ restricted (range first pages) (target_at self.old) p) }
     {
-        let mut taken = Pages::new(alloc);
-        for page in first..first + pages {
-            if let Some(target) = self.map.remove(&page) {
-                taken.map.insert(page, target)?;
-            }
+        self.cut(first)?;
+        self.cut(first + pages)?;
+        self.take_runs(alloc, first, first + pages)
+    }
+
+    // The run that has pages on both sides becomes two.
+    fn cut(&mut self, page: u64) -> Result<(), AllocError>
+        ensures same { OnOk result ((p : ℕ) → target_at self.new p ≡ target_at self.old p) }
+        ensures here { OnOk result (IsCutAt (runs_of self.new) page) }
+        ensures before { OnOk result ((p : ℕ) → IsCutAt (runs_of self.old) p → IsCutAt (runs_of self.new) p) }
+    {
+        match self.run_of(page) {
+            Some((first, run)) => self.cut_run(first, run, page),
+            None => Ok(()),
         }
-        Ok(taken)
     }
 
-    /// Maps the pages of the segments, one segment after the other, in the place of what they were mapped to.
-    pub(crate) fn put_all(
-        &mut self,
-        first: u64,
-        segments: &[Segment],
-        rights: u64,
-    ) -> Result<(), AllocError>
-        requires pages { first + total_pages segments.now < 2 ^ 64 }
-        requires frames { AllByRecursion (λ s. s.frame + s.pages ≤ FRAMES_END) segments.now }
-        ensures { OnOk result ((p : ℕ) → target_at self.new p ≡ option_or (placed segments.now first rights p) (target_at self.old p)) }
+    // The run becomes two, where the page isn't its first.
+    fn cut_run(&mut self, first: u64, run: Run, page: u64) -> Result<(), AllocError>
+        requires there { runs_of self.old first ≡ Some run }
+        requires holds { Holds first run page }
+        ensures same { OnOk result ((p : ℕ) → target_at self.new p ≡ target_at self.old p) }
+        ensures here { OnOk result (IsCutAt (runs_of self.new) page) }
+        ensures before { OnOk result ((p : ℕ) → IsCutAt (runs_of self.old) p → IsCutAt (runs_of self.new) p) }
     {
-        let Some((segment, rest)) = segments.split_first() else {
+        if first == page {
             return Ok(());
+        }
+        let pages = page - first;
+        let rest = Run {
+            pages: run.pages - pages,
+            frame: run.frame + pages,
+            rights: run.rights,
         };
-        self.put_all(first + segment.pages, rest, rights)?;
-        self.put(first, *segment, rights)
+        let front = Run {
+            pages,
+            frame: run.frame,
+            rights: run.rights,
+        };
+        self.runs.insert(first, front)?;
+        self.runs.insert(page, rest)?;
+        Ok(())
     }
 
-    /// The last page of a range that is mapped.
-    pub(crate) fn last_mapped_in(&self, first: u64, pages: u64) -> Option<u64>
-        requires { first + pages < 2 ^ 64 }
-        ensures { MatchOption result (NoneIsMappedIn self.now (range first pages)) (IsMappedIn self.now (range first pages)) }
+    // The runs between two cuts are handed out.
+    fn take_runs(&mut self, alloc: Global, first: u64, end: u64) -> Result<Pages, AllocError>
+        requires order { first ≤ end }
+        requires first { IsCutAt (runs_of self.old) first }
+        requires end { IsCutAt (runs_of self.old) end }
+        ensures left { OnOk result ((p : ℕ) → target_at self.new p ≡ without (range first (end - first)) (target_at self.old) p) }
+        ensures taken { IfOk result (λ t. (p : ℕ) → target_at t p ≡ restricted (range first (end - first)) (target_at self.old) p) }
     {
-        let (page, _) = self.map.range(first..first + pages).next_back()?;
-        Some(*page)
+        let mut taken = BTreeMap::new(alloc);
+        while let Some((start, run)) = self.first_run_in(first, end) {
+            let _ = self.runs.remove(&start);
+            taken.insert(start, run)?;
+        }
+        Ok(Pages { runs: taken })
+    }
+
+    // The first run that begins between two pages, and its first page.
+    fn first_run_in(&self, first: u64, end: u64) -> Option<(u64, Run)>
+        requires { first ≤ end }
+        ensures { MatchOption result ((k : ℕ) → first ≤ k → k < end → runs_of self.now k ≡ None)
+            (λ e. (first ≤ e.0) × (e.0 < end) × (runs_of self.now e.0 ≡ Some e.1)) }
+    {
+        let (start, run) = self.runs.range(first..end).next()?;
+        Some((*start, *run))
     }
 }

@@ -34,6 +34,18 @@ pub near_frames : (segments : List Segment) (order rights : ℕ) → (IsBadMap s
     → AllByRecursion (λ s. s.frame + s.pages ≤ FRAMES_END) segments
 near_frames segments order rights good = near segments (λ far. good (inr (inr (inr (inl far)))))
 
+filled : (segments : List Segment) → (SomeHas (λ s. s.pages ≡ 0) segments → ⊥) → AllByRecursion (λ s. 1 ≤ s.pages) segments
+filled [] h = tt
+filled (s ∷ ss) h =
+    elim (cases_lt 0 s.pages) [
+      | inl some ↦ (omega (arith, some), filled ss (λ k. h (inr k)))
+      | inr none ↦ absurd (h (inl (omega (arith, none))))
+    ]
+
+pub filled_segments : (segments : List Segment) (order rights : ℕ) → (IsBadMap segments order rights → ⊥)
+    → AllByRecursion (λ s. 1 ≤ s.pages) segments
+filled_segments segments order rights good = filled segments (λ empty. good (inr (inl empty)))
+
 pub free_range_stands : (o : Option world.Domain) (v : world.Domain) (n order : ℕ) → o ≡ Some v → HasFreeRange v n order
     → IsSomeAnd o (λ u. (s : ℕ) → s % 2 ^ order ≡ 0 → AreFreePages u (record { first = s; pages = n }) → ⊥) → ⊥
 free_range_stands o v n order is free none =

@@ -1,6 +1,6 @@
 -- Judgments, from what is known of their parts.
 use Rattle.std.specs.Prelude.{IsSomeAnd}
-use Rattle.std.proofs.Common.{◌≡◌, inl, inr, ℕ, Bool, true, false, List, [], ◌∷◌, refl, sym, subst, ◌∙◌}
+use Rattle.std.proofs.Common.{◌≡◌, inl, inr, ℕ, Bool, true, false, List, [], ◌∷◌, refl, sym, subst, ◌∙◌, arith}
 use Rattle.dmatypes.specs.declared.call.Call.{Call}
 use Rattle.dmatypes.specs.declared.call.Call.TheVariants as calls
 use Rattle.dmatypes.specs.declared.call.Access.{Access}
@@ -10,10 +10,14 @@ use Rattle.dmatypes.specs.declared.refusal.Refusal.{Refusal}
 use Rattle.dmatypes.specs.declared.reply.Reply.{Reply}
 use Rattle.dmatypes.specs.declared.reply.Reply.TheVariants.{Made, Done, Mapped, Unmapped, Flushed, Ticket, Stepped, Reaped, Pending, Host, Faulted, Refused}
 use Rattle.arrayvec.specs.ArrayVec.{ArrayVec}
-use Rattle.dmatypes.specs.Conditions.{IsBadUnmap, IsFirst, NoConditionStands, NoneStands, Stands}
+use Rattle.dmatypes.specs.Conditions.{IsBadUnmap, IsFirst, NoConditionStands, NoneStands, Stands, total_pages}
+use Rattle.dmatypes.specs.Page.{byte_address}
 use Rattle.dmatypes.specs.Step.{Answers, IsStep, next}
-use Rattle.dmatypes.specs.World.{World}
-use Rattle.checker.specs.Judging.{Accepts, IsAnswer, Judges, JudgesMap}
+use Rattle.dmatypes.specs.World.{AreFreePages, World}
+use Rattle.checker.specs.Judging.{Accepts, IsAnswer, Judges, JudgesMap, MayMapAt}
+
+pub same_address : (a b : ℕ) → Mapped a ≡ Mapped b → a ≡ b
+same_address a b e = cc
 
 -- ---- the first condition that stands
 
@@ -62,6 +66,18 @@ step_from w call Pending answer h k = (h, k)
 step_from w call (Host x) answer h k = (h, k)
 step_from w call (Faulted x) answer h k = (h, k)
 step_from w call (Refused x) answer h k = absurd answer
+
+-- ---- maps
+
+-- the pages from the answer's first one on were free
+pub free_there : (w : World) (domain : ℕ) (segments : List Segment) (order rights : ℕ) (reply : Reply) (first : ℕ)
+    → MayMapAt w domain segments order rights reply first
+    → IsSomeAnd (w.domains domain) (λ v. AreFreePages v (record { first = first; pages = total_pages segments }))
+free_there w domain segments order rights reply first h =
+    let answer = h.0.1 in
+    let one : byte_address answer.0 0 ≡ byte_address first 0 = same_address (byte_address answer.0 0) (byte_address first 0) (sym answer.3 ∙ h.1) in
+    let same : answer.0 ≡ first = omega (arith, one) in
+    subst (λ (s : ℕ). IsSomeAnd (w.domains domain) (λ v. AreFreePages v (record { first = s; pages = total_pages segments }))) same answer.2
 
 -- ---- steps that change nothing
 

@@ -6,11 +6,9 @@ use Rattle.dmatypes.specs.Page.{IsPage, byte_address}
 use Rattle.dmatypes.specs.World.{AreFreePages}
 use Rattle.checker.specs.Pages.{range}
 use Rattle.checker.specs.World.{world_of}
+use Rattle.checker.proofs.calls.Judged.{same_address}
 use Rattle.checker.proofs.calls.Asked.{free_members, page_range_of, has_a_range, some_pages}
 use Rattle.checker.proofs.checker.Checker.free_at.Goals as goal
-
-same_address : (a b : ℕ) → Mapped a ≡ Mapped b → a ≡ b
-same_address a b e = cc
 
 pub returns-in-None : goal.returns-in-None
 returns-in-None c = λ may.

@@ -1,0 +1,319 @@
+-- Runs that are cut in two, and runs that are taken out between two cuts.
+use Rattle.std.proofs.Common.{◌≡◌, ◌≢◌, ◌⊎◌, inl, inr, ℕ, ◌+◌, ◌-◌, ◌^◌, ◌<◌, ◌≤◌, Option, Some, None, refl, sym, ap, subst, ◌∙◌, arith}
+use Rattle.std.proofs.lemmas.Bool.{cases_lt}
+use Rattle.std.proofs.lemmas.Option.{same_Some}
+use Rattle.dmatypes.specs.declared.page.TheConstants.{FRAMES_END}
+use Rattle.dmatypes.specs.Page.{Range}
+use Rattle.dmatypes.specs.World.{Target, restricted, without}
+use Rattle.dmatypes.proofs.numbers.Ranges.{within_is, within_not, within_or_not}
+use Rattle.dmatypes.proofs.histories.Maps.{same_or_not}
+use Rattle.checker.specs.declared.run.Run.{Run}
+use Rattle.checker.specs.Pages.{range}
+use Rattle.checker.specs.Runs.{AreApart, Holds, IsCutAt, by_runs, target_of}
+use Rattle.checker.proofs.worlds.Runs.{Runs, held, held_by, none_held, not_held, of_one, same_runs}
+
+-- ---- a run in two
+
+abbrev pub front_of : ℕ → ℕ → Run → Run
+front_of first page r = record { pages = page - first; frame = r.frame; rights = r.rights }
+
+abbrev pub rest_of : ℕ → ℕ → Run → Run
+rest_of first page r = record { pages = r.pages - (page - first); frame = r.frame + (page - first); rights = r.rights }
+
+-- g is f with the run in two at a page
+pub record AreCut (f g : Runs) (first page : ℕ) (r : Run) : Type 0 where
+  pub there : f first ≡ Some r
+  pub less : first < page
+  pub below : page < first + r.pages
+  pub front : g first ≡ Some (front_of first page r)
+  pub rest : g page ≡ Some (rest_of first page r)
+  pub others : (k : ℕ) → k ≢ first → k ≢ page → g k ≡ f k
+
+-- a run of g is the front, the rest, or another
+data Piece (f : Runs) (first page : ℕ) (r : Run) (k : ℕ) (s : Run) : Type 0 where
+  IsFront : k ≡ first → s ≡ front_of first page r → Piece f first page r k s
+  IsRest : k ≡ page → s ≡ rest_of first page r → Piece f first page r k s
+  IsOther : k ≢ first → f k ≡ Some s → Piece f first page r k s
+
+piece : (f g : Runs) (first page k : ℕ) (r s : Run) → AreCut f g first page r → g k ≡ Some s → Piece f first page r k s
+piece f g first page k r s cut is =
+    elim (same_or_not k first) [
+      | inl same ↦ IsFront same (same_Some s (front_of first page r) (sym is ∙ ap g same ∙ cut.front))
+      | inr other ↦ elim (same_or_not k page) [
+        | inl same ↦ IsRest same (same_Some s (rest_of first page r) (sym is ∙ ap g same ∙ cut.rest))
+        | inr also ↦ IsOther other (sym (cut.others k other also) ∙ is)
+      ]
+    ]
+
+-- where a piece ends
+front_end : (f g : Runs) (first page k : ℕ) (r s : Run) → AreCut f g first page r → k ≡ first → s ≡ front_of first page r → k + s.pages ≡ page
+front_end f g first page k r s cut same is =
+    of_one (λ (x : Run). k + x.pages ≡ page) s (front_of first page r) is (omega (arith, same, cut.less))
+
+rest_end : (f g : Runs) (first page k : ℕ) (r s : Run) → AreCut f g first page r → k ≡ page → s ≡ rest_of first page r
+    → k + s.pages ≡ first + r.pages
+rest_end f g first page k r s cut same is =
+    of_one (λ (x : Run). k + x.pages ≡ first + r.pages) s (rest_of first page r) is (omega (arith, same, cut.less, cut.below))
+
+-- another run lies before the run or behind it
+beside : (f : Runs) (first k : ℕ) (r s : Run) → AreApart f → f first ≡ Some r → k ≢ first → f k ≡ Some s
+    → (k + s.pages ≤ first) ⊎ (first + r.pages ≤ k)
+beside f first k r s a there other is =
+    elim (cases_lt k first) [
+      | inl before ↦ inl (a.apart k first s r is there before)
+      | inr from ↦ elim (cases_lt first k) [
+        | inl behind ↦ inr (a.apart first k r s there is behind)
+        | inr at ↦ absurd (other (omega (arith, from, at)))
+      ]
+    ]
+
+ends_before : (f g : Runs) (first page k j : ℕ) (r s t : Run) → AreApart f → AreCut f g first page r → Piece f first page r k s
+    → Piece f first page r j t → k < j → k + s.pages ≤ j
+ends_before f g first page k j r s t a cut (IsFront e same) (IsFront d also) less = absurd (omega (arith, e, d, less))
+ends_before f g first page k j r s t a cut (IsFront e same) (IsRest d also) less =
+    omega (arith, d, front_end f g first page k r s cut e same)
+ends_before f g first page k j r s t a cut (IsFront e same) (IsOther other is) less =
+    elim (beside f first j r t a cut.there other is) [
+      | inl before ↦ absurd (omega (arith, e, less, before))
+      | inr behind ↦ omega (arith, behind, cut.below, front_end f g first page k r s cut e same)
+    ]
+ends_before f g first page k j r s t a cut (IsRest e same) (IsFront d also) less = absurd (omega (arith, e, d, less, cut.less))
+ends_before f g first page k j r s t a cut (IsRest e same) (IsRest d also) less = absurd (omega (arith, e, d, less))
+ends_before f g first page k j r s t a cut (IsRest e same) (IsOther other is) less =
+    elim (beside f first j r t a cut.there other is) [
+      | inl before ↦ absurd (omega (arith, e, less, before, cut.less))
+      | inr behind ↦ omega (arith, behind, rest_end f g first page k r s cut e same)
+    ]
+ends_before f g first page k j r s t a cut (IsOther other is) (IsFront d also) less =
+    elim (beside f first k r s a cut.there other is) [
+      | inl before ↦ omega (arith, before, d)
+      | inr behind ↦ absurd (omega (arith, behind, d, less))
+    ]
+ends_before f g first page k j r s t a cut (IsOther other is) (IsRest d also) less =
+    elim (beside f first k r s a cut.there other is) [
+      | inl before ↦ omega (arith, before, d, cut.less)
+      | inr behind ↦ absurd (omega (arith, behind, d, less, cut.below))
+    ]
+ends_before f g first page k j r s t a cut (IsOther other is) (IsOther another there) less = a.apart k j s t is there less
+
+some_of : (f g : Runs) (first page k : ℕ) (r s : Run) → AreApart f → AreCut f g first page r → Piece f first page r k s → 1 ≤ s.pages
+some_of f g first page k r s a cut (IsFront e same) = omega (arith, e, cut.less, front_end f g first page k r s cut e same)
+some_of f g first page k r s a cut (IsRest e same) = omega (arith, e, cut.below, rest_end f g first page k r s cut e same)
+some_of f g first page k r s a cut (IsOther other is) = a.some k s is
+
+end_of : (f g : Runs) (first page k : ℕ) (r s : Run) → AreApart f → AreCut f g first page r → Piece f first page r k s → k + s.pages < 2 ^ 64
+end_of f g first page k r s a cut (IsFront e same) =
+    omega (arith, cut.below, a.ends first r cut.there, front_end f g first page k r s cut e same)
+end_of f g first page k r s a cut (IsRest e same) = omega (arith, a.ends first r cut.there, rest_end f g first page k r s cut e same)
+end_of f g first page k r s a cut (IsOther other is) = a.ends k s is
+
+frames_of : (f g : Runs) (first page k : ℕ) (r s : Run) → AreApart f → AreCut f g first page r → Piece f first page r k s
+    → s.frame + s.pages ≤ FRAMES_END
+frames_of f g first page k r s a cut (IsFront e same) =
+    of_one (λ (x : Run). x.frame + x.pages ≤ FRAMES_END) s (front_of first page r) same
+    (omega (arith, a.frames first r cut.there, cut.less, cut.below))
+frames_of f g first page k r s a cut (IsRest e same) =
+    of_one (λ (x : Run). x.frame + x.pages ≤ FRAMES_END) s (rest_of first page r) same
+    (omega (arith, a.frames first r cut.there, cut.less, cut.below))
+frames_of f g first page k r s a cut (IsOther other is) = a.frames k s is
+
+pub cut_apart : (f g : Runs) (first page : ℕ) (r : Run) → AreApart f → AreCut f g first page r → AreApart g
+cut_apart f g first page r a cut = record {
+  some = λ k s is. some_of f g first page k r s a cut (piece f g first page k r s cut is);
+  ends = λ k s is. end_of f g first page k r s a cut (piece f g first page k r s cut is);
+  frames = λ k s is. frames_of f g first page k r s a cut (piece f g first page k r s cut is);
+  apart = λ k j s t is there less.
+      ends_before f g first page k j r s t a cut (piece f g first page k r s cut is) (piece f g first page j r t cut there) less;
+}
+
+-- the front alone, while the rest isn't there yet
+pub shorter_apart : (f g : Runs) (first page : ℕ) (r : Run) → AreApart f → f first ≡ Some r → first < page → page < first + r.pages
+    → g first ≡ Some (front_of first page r) → ((k : ℕ) → k ≢ first → g k ≡ f k) → AreApart g
+shorter_apart f g first page r a there less below front others =
+    let old : (k : ℕ) (s : Run) → g k ≡ Some s → (t : Run) × (f k ≡ Some t) × (1 ≤ s.pages) × (s.pages ≤ t.pages) × (s.frame ≡ t.frame) =
+    λ k s is. elim (same_or_not k first) [
+      | inl same ↦
+          let one : s ≡ front_of first page r = same_Some s (front_of first page r) (sym is ∙ ap g same ∙ front) in (
+            r,
+            ap f same ∙ there,
+            of_one (λ (x : Run). 1 ≤ x.pages) s (front_of first page r) one (omega (arith, less)),
+            of_one (λ (x : Run). x.pages ≤ r.pages) s (front_of first page r) one (omega (arith, less, below)),
+            ap (λ (x : Run). x.frame) one,
+          )
+      | inr other ↦
+          let was : f k ≡ Some s = sym (others k other) ∙ is in (s, was, a.some k s was, omega arith, refl)
+    ] in
+    record {
+      some = λ k s is. (old k s is).2;
+      ends = λ k s is. let o = old k s is in omega (arith, a.ends k o.0 o.1, o.3);
+      frames = λ k s is. let o = old k s is in omega (arith, a.frames k o.0 o.1, o.3, o.4);
+      apart = λ k j s t is also less_than.
+          let o = old k s is in let p = old j t also in omega (arith, a.apart k j o.0 p.0 o.1 p.1 less_than, o.3);
+    }
+
+-- what holds a page in f holds it in g
+holds_piece : (f g : Runs) (first page p k : ℕ) (r s : Run) → AreApart f → AreApart g → AreCut f g first page r → f k ≡ Some s → Holds k s p
+    → by_runs g p p ≡ Some (target_of k s p)
+holds_piece f g first page p k r s a b cut is h =
+    elim (same_or_not k first) [
+      | inl same ↦
+          let one : s ≡ r = same_Some s r (sym is ∙ ap f same ∙ cut.there) in
+          let to : Some (target_of first r p) ≡ Some (target_of k s p) =
+          ap (λ (x : Run). Some (target_of first x p)) (sym one) ∙ ap (λ (m : ℕ). Some (target_of m s p)) (sym same) in
+          let below : p < first + r.pages =
+          of_one (λ (x : Run). p < first + x.pages) r s (sym one) (omega (arith, same, h.1)) in
+          elim (cases_lt p page) [
+            | inl front ↦
+                held g b first p (front_of first page r) cut.front (omega (arith, same, h.0), omega (arith, front, cut.less)) ∙ to
+            | inr rest ↦
+                let frame : r.frame + (page - first) + (p - page) ≡ r.frame + (p - first) = omega (arith, rest, cut.less) in
+                held g b page p (rest_of first page r) cut.rest (rest, omega (arith, below, cut.less, cut.below))
+                ∙ ap (λ (n : ℕ). Some (record { frame = n; rights = r.rights })) frame ∙ to
+          ]
+      | inr other ↦
+          let not_page : k ≢ page = λ (e : k ≡ page). elim (beside f first k r s a cut.there other is) [
+            | inl before ↦ omega (arith, e, before, cut.less)
+            | inr behind ↦ omega (arith, e, behind, cut.below)
+          ] in
+          held g b k p s (cut.others k other not_page ∙ is) h
+    ]
+
+-- what holds a page in g had one that held it in f
+held_before : (f g : Runs) (first page p k : ℕ) (r s : Run) → AreApart f → AreCut f g first page r → by_runs f p p ≡ None
+    → Piece f first page r k s → Holds k s p → ⊥
+held_before f g first page p k r s a cut none (IsFront e same) h =
+    none_held f a first p r none cut.there
+    (omega (arith, e, h.0), omega (arith, h.1, cut.below, front_end f g first page k r s cut e same))
+held_before f g first page p k r s a cut none (IsRest e same) h =
+    none_held f a first p r none cut.there
+    (omega (arith, e, h.0, cut.less), omega (arith, h.1, rest_end f g first page k r s cut e same))
+held_before f g first page p k r s a cut none (IsOther other is) h = none_held f a k p s none is h
+
+pub cut_same : (f g : Runs) (first page p : ℕ) (r : Run) → AreApart f → AreCut f g first page r → by_runs g p p ≡ by_runs f p p
+cut_same f g first page p r a cut =
+    let b = cut_apart f g first page r a cut in
+    elim (by_runs f p p) as (λ o. by_runs f p p ≡ o → by_runs g p p ≡ o) [
+      | Some t ↦ λ is.
+          let h = held_by f p t is in
+          holds_piece f g first page p h.first r h.run a b cut h.there (h.before, h.below) ∙ ap Some (sym h.target)
+      | None ↦ λ is. not_held g p (λ k s there h.
+          held_before f g first page p k r s a cut is (piece f g first page k r s cut there) h)
+    ] refl
+
+here_by : (f g : Runs) (first page k : ℕ) (r s : Run) → AreApart f → AreCut f g first page r → Piece f first page r k s → k < page
+    → k + s.pages ≤ page
+here_by f g first page k r s a cut (IsFront e same) less = omega (arith, front_end f g first page k r s cut e same)
+here_by f g first page k r s a cut (IsRest e same) less = absurd (omega (arith, e, less))
+here_by f g first page k r s a cut (IsOther other is) less =
+    elim (beside f first k r s a cut.there other is) [
+      | inl before ↦ omega (arith, before, cut.less)
+      | inr behind ↦ absurd (omega (arith, behind, less, cut.below))
+    ]
+
+pub cut_here : (f g : Runs) (first page : ℕ) (r : Run) → AreApart f → AreCut f g first page r → IsCutAt g page
+cut_here f g first page r a cut = λ k s is less. here_by f g first page k r s a cut (piece f g first page k r s cut is) less
+
+before_by : (f g : Runs) (first page q k : ℕ) (r s : Run) → AreCut f g first page r → IsCutAt f q → Piece f first page r k s → k < q
+    → k + s.pages ≤ q
+before_by f g first page q k r s cut was (IsFront e same) less =
+    omega (arith, was first r cut.there (omega (arith, e, less)), cut.below, front_end f g first page k r s cut e same)
+before_by f g first page q k r s cut was (IsRest e same) less =
+    omega (arith, was first r cut.there (omega (arith, e, less, cut.less)), rest_end f g first page k r s cut e same)
+before_by f g first page q k r s cut was (IsOther other is) less = was k s is less
+
+pub cut_before : (f g : Runs) (first page q : ℕ) (r : Run) → AreCut f g first page r → IsCutAt f q → IsCutAt g q
+cut_before f g first page q r cut was = λ k s is less.
+    before_by f g first page q k r s cut was (piece f g first page k r s cut is) less
+
+-- ---- runs taken out between two cuts
+
+-- each run of f is still there, or was taken from between the two pages
+abbrev pub AreParted : Runs → Runs → Runs → ℕ → ℕ → Type 0
+AreParted f left taken first end =
+    (k : ℕ) → ((left k ≡ f k) × (taken k ≡ None)) ⊎ ((left k ≡ None) × (taken k ≡ f k) × (first ≤ k) × (k < end))
+
+pub left_of : (f left taken : Runs) (first end k : ℕ) (r : Run) → AreParted f left taken first end → left k ≡ Some r → f k ≡ Some r
+left_of f left taken first end k r parted is =
+    elim (parted k) [
+      | inl still ↦ sym still.0 ∙ is
+      | inr gone ↦ absurd (let none : left k ≡ None = gone.0 in cc)
+    ]
+
+pub taken_of : (f left taken : Runs) (first end k : ℕ) (r : Run) → AreParted f left taken first end → taken k ≡ Some r
+    → (f k ≡ Some r) × (first ≤ k) × (k < end)
+taken_of f left taken first end k r parted is =
+    elim (parted k) [
+      | inl still ↦ absurd (let none : taken k ≡ None = still.1 in cc)
+      | inr gone ↦ (sym gone.1 ∙ is, gone.2, gone.3)
+    ]
+
+-- no run is left between the pages, and none has pages on both sides of either
+pub record AllTaken (f left taken : Runs) (first end : ℕ) : Type 0 where
+  pub order : first ≤ end
+  pub whole : AreApart f
+  pub less : AreApart left
+  pub others : AreApart taken
+  pub at_first : IsCutAt f first
+  pub at_end : IsCutAt f end
+  pub parted : AreParted f left taken first end
+  pub none : (k : ℕ) → first ≤ k → k < end → left k ≡ None
+
+-- a run that holds a page between them begins there, and was taken
+inside_taken : (f left taken : Runs) (first end p k : ℕ) (r : Run) → AllTaken f left taken first end → f k ≡ Some r → Holds k r p → first ≤ p
+    → p < end → (left k ≡ None) × (taken k ≡ Some r)
+inside_taken f left taken first end p k r all is h from below =
+    elim (cases_lt k first) [
+      | inl before ↦ absurd (omega (arith, all.at_first k r is before, h.1, from))
+      | inr after ↦
+          let none : left k ≡ None = all.none k after (omega (arith, h.0, below)) in
+          elim (all.parted k) [
+            | inl still ↦ absurd (let clash : None ≡ Some r = sym none ∙ still.0 ∙ is in cc)
+            | inr gone ↦ (none, gone.1 ∙ is)
+          ]
+    ]
+
+-- one that holds another page was left
+outside_left : (f left taken : Runs) (first end p k : ℕ) (r : Run) → AllTaken f left taken first end → f k ≡ Some r → Holds k r p
+    → ((p < first) ⊎ (end ≤ p)) → left k ≡ Some r
+outside_left f left taken first end p k r all is h out =
+    elim (all.parted k) [
+      | inl still ↦ still.0 ∙ is
+      | inr gone ↦ elim out [
+        | inl before ↦ absurd (omega (arith, gone.2, h.0, before))
+        | inr past ↦ absurd (omega (arith, all.at_end k r is gone.3, h.1, past))
+      ]
+    ]
+
+pub left_pages : (f left taken : Runs) (first end p : ℕ) → AllTaken f left taken first end
+    → by_runs left p p ≡ without (range first (end - first)) (λ q. by_runs f q q) p
+left_pages f left taken first end p all =
+    let r = range first (end - first) in
+    elim (within_or_not r p) [
+      | inl inside ↦ rw (within_is r p inside) (not_held left p (λ k s is h.
+          let was = left_of f left taken first end k s all.parted is in
+          let gone = inside_taken f left taken first end p k s all was h inside.0 (omega (arith, inside.1, all.order)) in
+          let clash : None ≡ Some s = sym gone.0 ∙ is in absurd cc))
+      | inr out ↦
+          let other : (p < first) ⊎ (end ≤ p) = elim out [ inl before ↦ inl before | inr past ↦ inr (omega (arith, past, all.order)) ] in
+          rw (within_not r p out) (same_runs f left p all.whole all.less
+          (λ k s h is. outside_left f left taken first end p k s all is h other)
+          (λ k s h is. left_of f left taken first end k s all.parted is))
+    ]
+
+pub taken_pages : (f left taken : Runs) (first end p : ℕ) → AllTaken f left taken first end
+    → by_runs taken p p ≡ restricted (range first (end - first)) (λ q. by_runs f q q) p
+taken_pages f left taken first end p all =
+    let r = range first (end - first) in
+    elim (within_or_not r p) [
+      | inl inside ↦ rw (within_is r p inside) (same_runs f taken p all.whole all.others
+          (λ k s h is. (inside_taken f left taken first end p k s all is h inside.0 (omega (arith, inside.1, all.order))).1)
+          (λ k s h is. (taken_of f left taken first end k s all.parted is).0))
+      | inr out ↦
+          let other : (p < first) ⊎ (end ≤ p) = elim out [ inl before ↦ inl before | inr past ↦ inr (omega (arith, past, all.order)) ] in
+          rw (within_not r p out) (not_held taken p (λ k s is h.
+          let was = taken_of f left taken first end k s all.parted is in
+          elim other [
+            | inl before ↦ omega (arith, was.1, h.0, before)
+            | inr past ↦ omega (arith, all.at_end k s was.0 was.2, h.1, past)
+          ]))
+    ]
