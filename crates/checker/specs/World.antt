@@ -41,5 +41,9 @@ abbrev pub domains_of : BTreeMap ℕ Domain → ℕ → Option world.Domain
 domains_of m id = option_map domain_of (tree.get nat_cmp m id)
 
 abbrev pub world_of : Checker → World
-world_of r =
-    record { table_frames = r.table_frames; domains = domains_of r.domains; devices = tree.get nat_cmp r.devices; tickets = r.tickets.items }
+world_of r = record {
+  table_frames = r.table_frames;
+  domains = domains_of r.domains;
+  devices = tree.get nat_cmp r.devices;
+  tickets = r.tickets.items;
+}

@@ -210,7 +210,8 @@ impl Checker {
     }
 
     fn is_reaped(&self, domain: u64, number: u64, reply: Reply) -> bool
-        ensures { IsTrue result ↔ IsSomeAnd ((world_of self.now).domains domain) (λ v. reply ≡ Reaped (length (filter (world.is_before number) v.retired))) }
+        ensures { IsTrue result
+            ↔ IsSomeAnd ((world_of self.now).domains domain) (λ v. reply ≡ Reaped (length (filter (world.is_before number) v.retired))) }
     {
         match (self.domain(domain), reply) {
             (Some(domain), Reply::Reaped(released)) => domain.before(number) == released,

@@ -92,7 +92,9 @@ impl Domain {
 
     // What the page of an address is mapped to, where it is live with the right.
     fn live_for(&self, address: u64, access: Access) -> Option<Target>
-        ensures { MatchOption result ((t : world.Target) → IsLiveFor (domain_of self.now) address access t → ⊥) (IsLiveFor (domain_of self.now) address access) }
+        ensures { MatchOption result
+            ((t : world.Target) → IsLiveFor (domain_of self.now) address access t → ⊥)
+            (IsLiveFor (domain_of self.now) address access) }
     {
         let target = self.live.get(address / PAGE_BYTES)?;
         if target.permits(access) {

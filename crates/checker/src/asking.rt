@@ -89,7 +89,9 @@ fn are_rights(rights: u64) -> bool
 
 /// The range that an unmap of a domain of this width names, where it names one.
 pub(crate) fn unmap_range(address: u64, pages: u64, width: Width) -> Option<PageRange>
-    ensures { MatchOption result (IsBadUnmap width address pages) (λ r. (r ≡ range_at address pages) × (IsBadUnmap width address pages → ⊥)) }
+    ensures { MatchOption result
+        (IsBadUnmap width address pages)
+        (λ r. (r ≡ range_at address pages) × (IsBadUnmap width address pages → ⊥)) }
 {
     if address % PAGE_BYTES != 0 {
         return None;
@@ -99,7 +101,9 @@ pub(crate) fn unmap_range(address: u64, pages: u64, width: Width) -> Option<Page
 
 /// The range of pages from a first one on, where each of them is a page of this width.
 pub(crate) fn range_in(first: u64, pages: u64, width: Width) -> Option<PageRange>
-    ensures { MatchOption result (IsPageRange (range first pages) × Fits (range first pages) width → ⊥) (λ r. (r ≡ range first pages) × IsPageRange (range first pages) × Fits (range first pages) width) }
+    ensures { MatchOption result
+        (IsPageRange (range first pages) × Fits (range first pages) width → ⊥)
+        (λ r. (r ≡ range first pages) × IsPageRange (range first pages) × Fits (range first pages) width) }
 {
     match PageRange::new(first, pages) {
         Some(range) => where_fits(range, width),

@@ -74,7 +74,9 @@ impl Checker {
 
     /// The least id that is of no domain.
     pub(crate) fn unused(&self) -> Option<u64>
-        ensures { MatchOption result ((d : ℕ) → 1 ≤ d → d ≤ MOST_DOMAINS → IsSome ((world_of self.now).domains d)) (IsUnusedId (world_of self.now)) }
+        ensures { MatchOption result
+            ((d : ℕ) → 1 ≤ d → d ≤ MOST_DOMAINS → IsSome ((world_of self.now).domains d))
+            (IsUnusedId (world_of self.now)) }
     {
         for id in 1..MOST_DOMAINS + 1 {
             if !self.has_domain(id) {
@@ -114,7 +116,10 @@ impl Checker {
         mode: Mode,
         width: Width,
     ) -> Result<(), AllocError>
-        ensures { OnOk result (world_of self.new ≡ record (world_of self.old) { domains = world.put id (Some (world.empty_domain mode width)) (world_of self.old).domains }) }
+        ensures { OnOk result
+            (world_of self.new ≡ record (world_of self.old) {
+              domains = world.put id (Some (world.empty_domain mode width)) (world_of self.old).domains;
+            }) }
     {
         self.domains
             .insert(id, Domain::new(self.alloc, mode, width))?;
@@ -130,7 +135,8 @@ impl Checker {
 
     /// A device is attached.
     pub(crate) fn attach(&mut self, device: u64, domain: u64) -> Result<(), AllocError>
-        ensures { OnOk result (world_of self.new ≡ record (world_of self.old) { devices = world.put device (Some domain) (world_of self.old).devices }) }
+        ensures { OnOk result
+            (world_of self.new ≡ record (world_of self.old) { devices = world.put device (Some domain) (world_of self.old).devices }) }
     {
         self.devices.insert(device, domain)?;
         Ok(())
@@ -154,7 +160,8 @@ impl Checker {
         requires some { AllByRecursion (λ s. 1 ≤ s.pages) segments.now }
         requires pages { first + total_pages segments.now < 2 ^ 64 }
         requires frames { AllByRecursion (λ s. s.frame + s.pages ≤ FRAMES_END) segments.now }
-        requires free { (v : world.Domain) → (world_of self.old).domains id ≡ Some v → world.AreFreePages v (range first (total_pages segments.now)) }
+        requires free { (v : world.Domain) → (world_of self.old).domains id ≡ Some v
+            → world.AreFreePages v (range first (total_pages segments.now)) }
         ensures { OnOk result (world_of self.new ≡ world.with_domain id (world.mapped segments.now first rights) (world_of self.old)) }
     {
         if let Some(domain) = self.domains.get_mut(&id) {
@@ -185,7 +192,9 @@ impl Checker {
     /// A flush of a domain is begun, of this number, and its ticket is opened.
     pub(crate) fn begin(&mut self, id: u64, number: u64) -> Result<(), AllocError>
         requires { (v : world.Domain) → (world_of self.old).domains id ≡ Some v → number ≡ suc v.begun }
-        ensures { OnOk result (world_of self.new ≡ world.with_ticket (record { domain = id; number = number }) (world.with_domain id world.begun_once_more (world_of self.old))) }
+        ensures { OnOk result
+            (world_of self.new ≡ world.with_ticket (record { domain = id; number = number })
+            (world.with_domain id world.begun_once_more (world_of self.old))) }
     {
         if let Some(domain) = self.domains.get_mut(&id) {
             domain.begin(number);
@@ -196,7 +205,8 @@ impl Checker {
 
     /// A ticket is closed, and the records go that were there before its flush was begun.
     pub(crate) fn reap(&mut self, id: u64, number: u64)
-        ensures { world_of self.new ≡ world.without_ticket (record { domain = id; number = number }) (world.with_domain id (world.reaped number) (world_of self.old)) }
+        ensures { world_of self.new ≡ world.without_ticket (record { domain = id; number = number })
+            (world.with_domain id (world.reaped number) (world_of self.old)) }
     {
         if let Some(domain) = self.domains.get_mut(&id) {
             domain.reap(number);

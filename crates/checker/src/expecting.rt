@@ -112,7 +112,8 @@ impl Checker {
         rights: u64,
     ) -> Option<Reply>
         requires { NoneStands (StandsAtMap (world_of self.now) domain segments.now order rights) map_conditions }
-        ensures { MatchOption result ((reply : Reply) → IsMapAnswer (world_of self.now) domain segments.now order reply → ⊥)
+        ensures { MatchOption result
+            ((reply : Reply) → IsMapAnswer (world_of self.now) domain segments.now order reply → ⊥)
             (λ reply. IsAnswer reply × IsMapAnswer (world_of self.now) domain segments.now order reply) }
     {
         let pages = pages_of(segments)?;

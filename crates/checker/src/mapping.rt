@@ -48,7 +48,9 @@ impl Checker {
         rights: u64,
         reply: Reply,
     ) -> Option<u64>
-        ensures { MatchOption result (MayMap (world_of self.now) domain segments.now order rights reply → ⊥) (MayMapAt (world_of self.now) domain segments.now order rights reply) }
+        ensures { MatchOption result
+            (MayMap (world_of self.now) domain segments.now order rights reply → ⊥)
+            (MayMapAt (world_of self.now) domain segments.now order rights reply) }
     {
         if self
             .plain_map_refusal(domain, segments, order, rights)
@@ -72,7 +74,9 @@ impl Checker {
         address: u64,
     ) -> Option<u64>
         requires { NoneStands (StandsAtMap (world_of self.now) domain segments.now order rights) plain_conditions }
-        ensures { MatchOption result (MayMap (world_of self.now) domain segments.now order rights (Mapped address) → ⊥) (MayMapAt (world_of self.now) domain segments.now order rights (Mapped address)) }
+        ensures { MatchOption result
+            (MayMap (world_of self.now) domain segments.now order rights (Mapped address) → ⊥)
+            (MayMapAt (world_of self.now) domain segments.now order rights (Mapped address)) }
     {
         match range_of(address, segments) {
             None => None,
@@ -89,7 +93,8 @@ impl Checker {
     // Whether a range of a domain begins at a multiple of 2^`order` and is free.
     fn is_free_at(&self, domain: u64, range: PageRange, order: u64) -> bool
         requires { order ≤ MOST_ORDER }
-        ensures { IsTrue result ↔ (range.first % 2 ^ order ≡ 0) × IsSomeAnd ((world_of self.now).domains domain) (λ v. AreFreePages v range) }
+        ensures { IsTrue result ↔ (range.first % 2 ^ order ≡ 0)
+            × IsSomeAnd ((world_of self.now).domains domain) (λ v. AreFreePages v range) }
     {
         if range.first() % power(order) != 0 {
             return false;
@@ -103,7 +108,9 @@ impl Checker {
 
 // The range of the segments from an address on, where it is one.
 fn range_of(address: u64, segments: &[Segment]) -> Option<PageRange>
-    ensures { MatchOption result ((s : ℕ) → address ≡ byte_address s 0 → IsPageRange (range s (total_pages segments.now)) → ⊥) (λ r. (address ≡ byte_address r.first 0) × (r ≡ range r.first (total_pages segments.now)) × IsPageRange r) }
+    ensures { MatchOption result
+        ((s : ℕ) → address ≡ byte_address s 0 → IsPageRange (range s (total_pages segments.now)) → ⊥)
+        (λ r. (address ≡ byte_address r.first 0) × (r ≡ range r.first (total_pages segments.now)) × IsPageRange r) }
 {
     let pages = pages_of(segments)?;
     if address % PAGE_BYTES != 0 {

@@ -61,7 +61,8 @@ impl Pages {
 
     // The last run that begins at a page or before, and its first page.
     fn last_run(&self, page: u64) -> Option<(u64, Run)>
-        ensures { MatchOption result ((k : ℕ) → k ≤ page → runs_of self.now k ≡ None)
+        ensures { MatchOption result
+            ((k : ℕ) → k ≤ page → runs_of self.now k ≡ None)
             (λ e. (runs_of self.now e.0 ≡ Some e.1) × (e.0 ≤ page) × ((k : ℕ) → e.0 < k → k ≤ page → runs_of self.now k ≡ None)) }
     {
         let (first, run) = self.runs.range(..=page).next_back()?;
@@ -210,7 +211,8 @@ impl Pages {
     // The first run that begins between two pages, and its first page.
     fn first_run_in(&self, first: u64, end: u64) -> Option<(u64, Run)>
         requires { first ≤ end }
-        ensures { MatchOption result ((k : ℕ) → first ≤ k → k < end → runs_of self.now k ≡ None)
+        ensures { MatchOption result
+            ((k : ℕ) → first ≤ k → k < end → runs_of self.now k ≡ None)
             (λ e. (first ≤ e.0) × (e.0 < end) × (runs_of self.now e.0 ≡ Some e.1)) }
     {
         let (start, run) = self.runs.range(first..end).next()?;

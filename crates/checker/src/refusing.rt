@@ -20,7 +20,7 @@ impl Checker {
     ghost use Rattle.dmatypes.specs.declared.refusal.Refusal.TheVariants as refusals;
     ghost use Rattle.dmatypes.specs.Conditions.{IsBadUnmap, NoneStands, SomeIsNotLive, StandsAtMap};
     ghost use Rattle.dmatypes.specs.Page.{range_at};
-    ghost use Rattle.checker.specs.Refusing.{IsFirstOf, IsRefusalOf, map_conditions, plain_conditions};
+    ghost use Rattle.checker.specs.Refusing.{IsFirstOf, IsRefusalOf, IsUnmapRange, map_conditions, plain_conditions};
     ghost use Rattle.checker.specs.World.{world_of};
 
     /// The first condition of refusals that stands at a call, where one does.
@@ -136,7 +136,7 @@ impl Checker {
 
     /// The range that an unmap of a domain names, where it names one.
     pub(crate) fn unmap_range(&self, domain: u64, address: u64, pages: u64) -> Option<PageRange>
-        ensures { MatchOption result (IsSome ((world_of self.now).domains domain) → IsSomeAnd ((world_of self.now).domains domain) (λ v. IsBadUnmap v.width address pages)) (λ r. (r ≡ range_at address pages) × (IsSomeAnd ((world_of self.now).domains domain) (λ v. IsBadUnmap v.width address pages) → ⊥)) }
+        ensures { IsUnmapRange ((world_of self.now).domains domain) address pages result }
     {
         let domain = self.domain(domain)?;
         unmap_range(address, pages, domain.width())

@@ -46,7 +46,9 @@ impl Domain {
     pub(crate) fn obstacle(&self, first: u64, pages: u64) -> Option<u64>
         requires pages { (1 ≤ pages) × (pages ≤ MOST_PAGES) }
         requires first { first < 2 ^ 63 }
-        ensures { MatchOption result (AreFreePages (domain_of self.now) (range first pages)) (λ p. IsWithin (range first pages) p × (IsPageOf self.now.width p × IsFree (domain_of self.now) p → ⊥)) }
+        ensures { MatchOption result
+            (AreFreePages (domain_of self.now) (range first pages))
+            (λ p. IsWithin (range first pages) p × (IsPageOf self.now.width p × IsFree (domain_of self.now) p → ⊥)) }
     {
         let Some(range) = range_in(first, pages, self.width) else {
             return Some(no_page_in(first, pages, self.width));
@@ -59,7 +61,9 @@ impl Domain {
 
     // A page of a range that is in a record.
     fn last_held(&self, range: PageRange) -> Option<u64>
-        ensures { MatchOption result (IsTrue (not (meets_some self.now range))) (λ p. IsWithin range p × (r : Record) × IsIn r self.now.retired.items × IsWithin r.range p) }
+        ensures { MatchOption result
+            (IsTrue (not (meets_some self.now range)))
+            (λ p. IsWithin range p × (r : Record) × IsIn r self.now.retired.items × IsWithin r.range p) }
     {
         match self.held_by(range) {
             None => None,

@@ -10,6 +10,7 @@ use Rattle.dmatypes.specs.Conditions.{IsBadMap, IsBadUnmap, SomeHas, total_pages
 use Rattle.dmatypes.specs.Page.{IsPage, IsPageRange, IsWithin, Range, range_at}
 use Rattle.dmatypes.specs.World as world
 use Rattle.dmatypes.specs.World.{AreFreePages}
+use Rattle.checker.specs.Refusing.{IsUnmapRange}
 use Rattle.checker.specs.World.{HasFreeRange}
 
 pub some_pages : (segments : List Segment) (order rights : ℕ) → (IsBadMap segments order rights → ⊥) → 1 ≤ total_pages segments
@@ -50,13 +51,15 @@ pub free_range_stands : (o : Option world.Domain) (v : world.Domain) (n order : 
     → IsSomeAnd o (λ u. (s : ℕ) → s % 2 ^ order ≡ 0 → AreFreePages u (record { first = s; pages = n }) → ⊥) → ⊥
 free_range_stands o v n order is free none =
     let at : (s : ℕ) → s % 2 ^ order ≡ 0 → AreFreePages v (record { first = s; pages = n }) → ⊥ =
-    subst (λ (x : Option world.Domain). IsSomeAnd x (λ u. (s : ℕ) → s % 2 ^ order ≡ 0 → AreFreePages u (record { first = s; pages = n }) → ⊥)) is none in
+    subst (λ (x : Option world.Domain). IsSomeAnd x (λ u. (s : ℕ) → s % 2 ^ order ≡ 0
+    → AreFreePages u (record { first = s; pages = n }) → ⊥)) is none in
     at free.0 free.1.0 free.1.1
 
 pub no_free_range : (o : Option world.Domain) (v : world.Domain) (n order : ℕ) → o ≡ Some v → (HasFreeRange v n order → ⊥)
     → IsSomeAnd o (λ u. (s : ℕ) → s % 2 ^ order ≡ 0 → AreFreePages u (record { first = s; pages = n }) → ⊥)
 no_free_range o v n order is none =
-    subst (λ (x : Option world.Domain). IsSomeAnd x (λ u. (s : ℕ) → s % 2 ^ order ≡ 0 → AreFreePages u (record { first = s; pages = n }) → ⊥))
+    subst (λ (x : Option world.Domain). IsSomeAnd x (λ u. (s : ℕ) → s % 2 ^ order ≡ 0
+    → AreFreePages u (record { first = s; pages = n }) → ⊥))
     (sym is) (λ s aligned free. none (s, (aligned, free)))
 
 pub some_and_from : (P : world.Domain → Type 0) (o : Option world.Domain) (v : world.Domain) → o ≡ Some v → P v → IsSomeAnd o P
@@ -76,8 +79,7 @@ some_not_none (Some v) is none = absurd cc
 -- the range of an unmap, by the domain that it is an unmap of
 pub unmap_range_of : (o : Option world.Domain) (v : world.Domain) (r : Option Range) (a n : ℕ) → o ≡ Some v
     → MatchOption r (IsBadUnmap v.width a n) (λ x. (x ≡ range_at a n) × (IsBadUnmap v.width a n → ⊥))
-    → MatchOption r (IsSome o → IsSomeAnd o (λ u. IsBadUnmap u.width a n))
-    (λ x. (x ≡ range_at a n) × (IsSomeAnd o (λ u. IsBadUnmap u.width a n) → ⊥))
+    → IsUnmapRange o a n r
 unmap_range_of o v None a n is bad = λ there. some_and_from (λ u. IsBadUnmap u.width a n) o v is bad
 unmap_range_of o v (Some x) a n is h = (h.0, λ bad. h.1 (some_and_at (λ u. IsBadUnmap u.width a n) o v is bad))
 

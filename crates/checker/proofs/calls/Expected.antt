@@ -18,7 +18,8 @@ use Rattle.checker.specs.Refusing.{map_conditions}
 use Rattle.checker.proofs.calls.Asked.{some_and_from}
 use Rattle.checker.proofs.calls.Judged.{step_from, step_parts}
 
-pub expected_from : (o : Option Reply) (w : World) (call : Call) → NoConditionStands w call → IsExpectedAnswer w call o → IsExpected w call o
+pub expected_from : (o : Option Reply) (w : World) (call : Call) → NoConditionStands w call → IsExpectedAnswer w call o
+    → IsExpected w call o
 expected_from None w call none h = λ reply answer small step. h reply small (step_parts w call reply answer step).1
 expected_from (Some reply) w call none h = step_from w call reply h.0 none h.1
 

@@ -8,7 +8,8 @@ use Rattle.dmatypes.specs.declared.call.Segment.{Segment}
 use Rattle.dmatypes.specs.declared.call.Whim.{Whim}
 use Rattle.dmatypes.specs.declared.refusal.Refusal.{Refusal}
 use Rattle.dmatypes.specs.declared.reply.Reply.{Reply}
-use Rattle.dmatypes.specs.declared.reply.Reply.TheVariants.{Made, Done, Mapped, Unmapped, Flushed, Ticket, Stepped, Reaped, Pending, Host, Faulted, Refused}
+use Rattle.dmatypes.specs.declared.reply.Reply.TheVariants.{Made, Done, Mapped, Unmapped, Flushed, Ticket, Stepped, Reaped, Pending, Host}
+use Rattle.dmatypes.specs.declared.reply.Reply.TheVariants.{Faulted, Refused}
 use Rattle.arrayvec.specs.ArrayVec.{ArrayVec}
 use Rattle.dmatypes.specs.Conditions.{IsBadUnmap, IsFirst, NoConditionStands, NoneStands, Stands, total_pages}
 use Rattle.dmatypes.specs.Page.{byte_address}
@@ -75,7 +76,8 @@ pub free_there : (w : World) (domain : ℕ) (segments : List Segment) (order rig
     → IsSomeAnd (w.domains domain) (λ v. AreFreePages v (record { first = first; pages = total_pages segments }))
 free_there w domain segments order rights reply first h =
     let answer = h.0.1 in
-    let one : byte_address answer.0 0 ≡ byte_address first 0 = same_address (byte_address answer.0 0) (byte_address first 0) (sym answer.3 ∙ h.1) in
+    let one : byte_address answer.0 0 ≡ byte_address first 0 = same_address (byte_address answer.0 0) (byte_address first 0)
+    (sym answer.3 ∙ h.1) in
     let same : answer.0 ≡ first = omega (arith, one) in
     subst (λ (s : ℕ). IsSomeAnd (w.domains domain) (λ v. AreFreePages v (record { first = s; pages = total_pages segments }))) same answer.2
 

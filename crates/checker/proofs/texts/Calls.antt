@@ -14,7 +14,8 @@ use Rattle.dmatypes.specs.declared.call.Segment.{Segment}
 use Rattle.dmatypes.specs.declared.width.Width.{Width}
 use Rattle.dmatypes.specs.declared.width.Width.TheVariants as widths
 use Rattle.dmatypes.specs.Grammar.{says}
-use Rattle.dmatypes.specs.Spelled.{AreWidthFields, IsNumber, IsRightsText, IsSegmentText, Spells, access_text, cache_text, mode_text, spaced}
+use Rattle.dmatypes.specs.Spelled.{AreWidthFields, IsNumber, IsRightsText, IsSegmentText, Spells, access_text, cache_text, mode_text}
+use Rattle.dmatypes.specs.Spelled.{spaced}
 use Rattle.dmatypes.specs.Spelled.{whim_fields}
 use Rattle.dmatypes.proofs.texts.Joining.{HasNo, has_no-append}
 use Rattle.dmatypes.proofs.texts.Numerals.{number_has_no}
@@ -76,11 +77,15 @@ of_line line word fs is h hs = subst HasNoEquals (sym is) (has_no-append 61 word
 
 of_call : (line : List ℕ) (call : Call) → Spells line call → HasNoEquals line
 of_call line (calls.Domain m w) is =
-    of_line line (codes "domain") (mode_text m ∷ is.0) is.2 (refl, (refl, (refl, (refl, (refl, (refl, tt)))))) (of_mode m, of_width is.0 w is.1)
-of_call line (calls.Drop domain) is = of_line line (codes "drop") (is.0 ∷ []) is.2 (refl, (refl, (refl, (refl, tt)))) (of_number is.0 domain is.1, tt)
+    of_line line (codes "domain") (mode_text m ∷ is.0) is.2 (refl, (refl, (refl, (refl, (refl, (refl, tt))))))
+    (of_mode m, of_width is.0 w is.1)
+of_call line (calls.Drop domain) is =
+    of_line line (codes "drop") (is.0 ∷ []) is.2 (refl, (refl, (refl, (refl, tt)))) (of_number is.0 domain is.1, tt)
 of_call line (calls.Attach device domain) is =
-    of_line line (codes "attach") (is.0 ∷ is.1 ∷ []) is.4 (refl, (refl, (refl, (refl, (refl, (refl, tt)))))) (of_number is.0 device is.2, (of_number is.1 domain is.3, tt))
-of_call line (calls.Detach device) is = of_line line (codes "detach") (is.0 ∷ []) is.2 (refl, (refl, (refl, (refl, (refl, (refl, tt)))))) (of_number is.0 device is.1, tt)
+    of_line line (codes "attach") (is.0 ∷ is.1 ∷ []) is.4 (refl, (refl, (refl, (refl, (refl, (refl, tt))))))
+    (of_number is.0 device is.2, (of_number is.1 domain is.3, tt))
+of_call line (calls.Detach device) is =
+    of_line line (codes "detach") (is.0 ∷ []) is.2 (refl, (refl, (refl, (refl, (refl, (refl, tt)))))) (of_number is.0 device is.1, tt)
 of_call line (calls.Map domain frame pages order right) is =
     of_line line (codes "map") (is.0 ∷ is.1 ∷ is.2 ∷ is.3 ∷ is.4 ∷ []) is.10 (refl, (refl, (refl, tt))) (
       of_number is.0 domain is.5,
@@ -94,16 +99,24 @@ of_call line (calls.MapList domain order right ss) is =
 of_call line (calls.Unmap domain address pages) is =
     of_line line (codes "unmap") (is.0 ∷ is.1 ∷ is.2 ∷ []) is.6 (refl, (refl, (refl, (refl, (refl, tt)))))
     (of_number is.0 domain is.3, (of_number is.1 address is.4, (of_number is.2 pages is.5, tt)))
-of_call line (calls.Flush domain) is = of_line line (codes "flush") (is.0 ∷ []) is.2 (refl, (refl, (refl, (refl, (refl, tt))))) (of_number is.0 domain is.1, tt)
-of_call line (calls.Begin domain) is = of_line line (codes "begin") (is.0 ∷ []) is.2 (refl, (refl, (refl, (refl, (refl, tt))))) (of_number is.0 domain is.1, tt)
+of_call line (calls.Flush domain) is =
+    of_line line (codes "flush") (is.0 ∷ []) is.2 (refl, (refl, (refl, (refl, (refl, tt))))) (of_number is.0 domain is.1, tt)
+of_call line (calls.Begin domain) is =
+    of_line line (codes "begin") (is.0 ∷ []) is.2 (refl, (refl, (refl, (refl, (refl, tt))))) (of_number is.0 domain is.1, tt)
 of_call line calls.Unit is = of_line line (codes "unit") [] is (refl, (refl, (refl, (refl, tt)))) tt
 of_call line (calls.Reap domain ticket) is =
-    of_line line (codes "reap") (is.0 ∷ is.1 ∷ []) is.4 (refl, (refl, (refl, (refl, tt)))) (of_number is.0 domain is.2, (of_number is.1 ticket is.3, tt))
+    of_line line (codes "reap") (is.0 ∷ is.1 ∷ []) is.4 (refl, (refl, (refl, (refl, tt)))) (
+      of_number is.0 domain is.2,
+      (of_number is.1 ticket is.3, tt),
+    )
 of_call line (calls.Dma device address acc w) is =
     of_line line (codes "dma") (is.0 ∷ is.1 ∷ access_text acc ∷ whim_fields w.look w.fill) is.4 (refl, (refl, (refl, tt)))
     (of_number is.0 device is.2, (of_number is.1 address is.3, (of_access acc, of_whim w.look w.fill)))
 of_call line (calls.Evict kind place) is =
-    of_line line (codes "evict") (cache_text kind ∷ is.0 ∷ []) is.2 (refl, (refl, (refl, (refl, (refl, tt))))) (of_cache kind, (of_number is.0 place is.1, tt))
+    of_line line (codes "evict") (cache_text kind ∷ is.0 ∷ []) is.2 (refl, (refl, (refl, (refl, (refl, tt))))) (
+      of_cache kind,
+      (of_number is.0 place is.1, tt),
+    )
 
 pub call_no_equals : (line : List ℕ) (call : Call) → says line ≡ Some call → HasNoEquals line
 call_no_equals line call e = of_call line call (said_is_spelled line call e).1

@@ -1,18 +1,18 @@
 -- The line of an event says this event, and a line says no other.
-use Rattle.std.proofs.Common.{◌≡◌, ℕ, zero, suc, ◌+◌, ◌≤◌, true, false, cond, List, [], ◌∷◌, ◌++◌, length, take, drop, Option, Some, None}
-use Rattle.std.proofs.Common.{refl, sym, ap, ◌∙◌, subst, append_assoc, arith}
+use Rattle.std.proofs.Common.{◌≡◌, ℕ, zero, suc, ◌+◌, true, false, cond, List, [], ◌∷◌, ◌++◌, length, take, drop, Some, None}
+use Rattle.std.proofs.Common.{refl, sym, ap, ◌∙◌, subst, arith}
 use Rattle.std.specs.Prelude.{◌==◌, ◌&&◌, IsTrue, codes, nat_eq, nat_le}
 use Rattle.std.specs.List.{position_from}
 use Rattle.std.specs.Cmp.Lexicographic.{pointwise, same_text}
 use Rattle.std.proofs.Math.Seq.{drop-append_seam, take-append_seam}
-use Rattle.std.proofs.lemmas.Bool.{and_parts, le-leb, leb-true}
+use Rattle.std.proofs.lemmas.Bool.{and_parts, le-leb}
 use Rattle.std.proofs.lemmas.List.{take-append-drop}
 use Rattle.dmatypes.specs.declared.call.Call.{Call}
 use Rattle.dmatypes.specs.declared.reply.Event.{Event}
 use Rattle.dmatypes.specs.declared.reply.Reply.{Reply}
 use Rattle.dmatypes.specs.Grammar.{says}
 use Rattle.dmatypes.specs.History.{event}
-use Rattle.dmatypes.specs.Replying.{HasSmallNumbers, says_reply}
+use Rattle.dmatypes.specs.Replying.{says_reply}
 use Rattle.dmatypes.specs.Text.{words_of}
 use Rattle.dmatypes.proofs.texts.Binding.{same_value, then_some}
 use Rattle.dmatypes.proofs.texts.Replied.{said_is_written, written_is_said}
@@ -44,7 +44,8 @@ event_text_is_said front e says_call enters small =
     let place : position_from (λ b. b == 61) 0 line ≡ Some (suc (length front)) =
     first_equals front (62 ∷ 32 ∷ back) 0 (call_no_equals front e.call says_call) ∙ ap (λ (n : ℕ). Some (suc n)) (omega arith) in
     let at : event_at line (suc (length front)) ≡ both front back =
-    at_arrow line front back (length front) (take-append_seam front (codes " => " ++ back)) (drop-append_seam front (codes " => " ++ back)) in
+    at_arrow line front back (length front) (take-append_seam front (codes " => " ++ back))
+    (drop-append_seam front (codes " => " ++ back)) in
     let read : both front back ≡ Some e = rw (says_call, written_is_said e.reply small, enters) refl in
     rw place (at ∙ read)
 

@@ -35,7 +35,8 @@ attached_by m d ordered e =
     let value : entry.0.1 ≡ d = sym entry.2 ∙ eqb-true found.0 d found.2 in
     (entry.0.0, btree_map_get_place nat_cmp_total m place.0 entry.0.0 entry.0.1 ordered place.1 ∙ ap Some value)
 
-by_entry : (test : ℕ → Bool) (k v d : ℕ) (es : List (ℕ × ℕ)) (b : Bool) → (lookup test es ≡ Some d → list_any (λ x. x == d) (values_of es) ≡ true)
+by_entry : (test : ℕ → Bool) (k v d : ℕ) (es : List (ℕ × ℕ)) (b : Bool) → (lookup test es ≡ Some d
+    → list_any (λ x. x == d) (values_of es) ≡ true)
     → cond b (Some v) (lookup test es) ≡ Some d → list_any (λ x. x == d) (values_of ((k, v) ∷ es)) ≡ true
 by_entry test k v d es true later e = or_left (v == d) (list_any (λ x. x == d) (values_of es)) (eq-eqb v d (same_Some v d e))
 by_entry test k v d es false later e = or_right (v == d) (list_any (λ x. x == d) (values_of es)) (later e)

@@ -1,10 +1,9 @@
 -- Runs that are cut in two, and runs that are taken out between two cuts.
-use Rattle.std.proofs.Common.{◌≡◌, ◌≢◌, ◌⊎◌, inl, inr, ℕ, ◌+◌, ◌-◌, ◌^◌, ◌<◌, ◌≤◌, Option, Some, None, refl, sym, ap, subst, ◌∙◌, arith}
+use Rattle.std.proofs.Common.{◌≡◌, ◌≢◌, ◌⊎◌, inl, inr, ℕ, ◌+◌, ◌-◌, ◌^◌, ◌<◌, ◌≤◌, Some, None, refl, sym, ap, subst, ◌∙◌, arith}
 use Rattle.std.proofs.lemmas.Bool.{cases_lt}
 use Rattle.std.proofs.lemmas.Option.{same_Some}
 use Rattle.dmatypes.specs.declared.page.TheConstants.{FRAMES_END}
-use Rattle.dmatypes.specs.Page.{Range}
-use Rattle.dmatypes.specs.World.{Target, restricted, without}
+use Rattle.dmatypes.specs.World.{restricted, without}
 use Rattle.dmatypes.proofs.numbers.Ranges.{within_is, within_not, within_or_not}
 use Rattle.dmatypes.proofs.histories.Maps.{same_or_not}
 use Rattle.checker.specs.declared.run.Run.{Run}
@@ -46,7 +45,8 @@ piece f g first page k r s cut is =
     ]
 
 -- where a piece ends
-front_end : (f g : Runs) (first page k : ℕ) (r s : Run) → AreCut f g first page r → k ≡ first → s ≡ front_of first page r → k + s.pages ≡ page
+front_end : (f g : Runs) (first page k : ℕ) (r s : Run) → AreCut f g first page r → k ≡ first → s ≡ front_of first page r
+    → k + s.pages ≡ page
 front_end f g first page k r s cut same is =
     of_one (λ (x : Run). k + x.pages ≡ page) s (front_of first page r) is (omega (arith, same, cut.less))
 
@@ -101,7 +101,8 @@ some_of f g first page k r s a cut (IsFront e same) = omega (arith, e, cut.less,
 some_of f g first page k r s a cut (IsRest e same) = omega (arith, e, cut.below, rest_end f g first page k r s cut e same)
 some_of f g first page k r s a cut (IsOther other is) = a.some k s is
 
-end_of : (f g : Runs) (first page k : ℕ) (r s : Run) → AreApart f → AreCut f g first page r → Piece f first page r k s → k + s.pages < 2 ^ 64
+end_of : (f g : Runs) (first page k : ℕ) (r s : Run) → AreApart f → AreCut f g first page r → Piece f first page r k s
+    → k + s.pages < 2 ^ 64
 end_of f g first page k r s a cut (IsFront e same) =
     omega (arith, cut.below, a.ends first r cut.there, front_end f g first page k r s cut e same)
 end_of f g first page k r s a cut (IsRest e same) = omega (arith, a.ends first r cut.there, rest_end f g first page k r s cut e same)
@@ -151,6 +152,18 @@ shorter_apart f g first page r a there less below front others =
           let o = old k s is in let p = old j t also in omega (arith, a.apart k j o.0 p.0 o.1 p.1 less_than, o.3);
     }
 
+-- a page of the run is held by the front or the rest
+in_two : (f g : Runs) (first page p : ℕ) (r : Run) → AreApart g → AreCut f g first page r → Holds first r p
+    → by_runs g p p ≡ Some (target_of first r p)
+in_two f g first page p r b cut h =
+    elim (cases_lt p page) [
+      | inl front ↦ held g b first p (front_of first page r) cut.front (h.0, omega (arith, front, cut.less))
+      | inr rest ↦
+          let frame : r.frame + (page - first) + (p - page) ≡ r.frame + (p - first) = omega (arith, rest, cut.less) in
+          held g b page p (rest_of first page r) cut.rest (rest, omega (arith, h.1, cut.less, cut.below))
+          ∙ ap (λ (n : ℕ). Some (record { frame = n; rights = r.rights })) frame
+    ]
+
 -- what holds a page in f holds it in g
 holds_piece : (f g : Runs) (first page p k : ℕ) (r s : Run) → AreApart f → AreApart g → AreCut f g first page r → f k ≡ Some s → Holds k s p
     → by_runs g p p ≡ Some (target_of k s p)
@@ -158,18 +171,11 @@ holds_piece f g first page p k r s a b cut is h =
     elim (same_or_not k first) [
       | inl same ↦
           let one : s ≡ r = same_Some s r (sym is ∙ ap f same ∙ cut.there) in
-          let to : Some (target_of first r p) ≡ Some (target_of k s p) =
-          ap (λ (x : Run). Some (target_of first x p)) (sym one) ∙ ap (λ (m : ℕ). Some (target_of m s p)) (sym same) in
           let below : p < first + r.pages =
           of_one (λ (x : Run). p < first + x.pages) r s (sym one) (omega (arith, same, h.1)) in
-          elim (cases_lt p page) [
-            | inl front ↦
-                held g b first p (front_of first page r) cut.front (omega (arith, same, h.0), omega (arith, front, cut.less)) ∙ to
-            | inr rest ↦
-                let frame : r.frame + (page - first) + (p - page) ≡ r.frame + (p - first) = omega (arith, rest, cut.less) in
-                held g b page p (rest_of first page r) cut.rest (rest, omega (arith, below, cut.less, cut.below))
-                ∙ ap (λ (n : ℕ). Some (record { frame = n; rights = r.rights })) frame ∙ to
-          ]
+          subst (λ (m : ℕ). by_runs g p p ≡ Some (target_of m s p)) (sym same)
+          (subst (λ (x : Run). by_runs g p p ≡ Some (target_of first x p)) (sym one)
+          (in_two f g first page p r b cut (omega (arith, same, h.0), below)))
       | inr other ↦
           let not_page : k ≢ page = λ (e : k ≡ page). elim (beside f first k r s a cut.there other is) [
             | inl before ↦ omega (arith, e, before, cut.less)
@@ -259,7 +265,8 @@ pub record AllTaken (f left taken : Runs) (first end : ℕ) : Type 0 where
   pub none : (k : ℕ) → first ≤ k → k < end → left k ≡ None
 
 -- a run that holds a page between them begins there, and was taken
-inside_taken : (f left taken : Runs) (first end p k : ℕ) (r : Run) → AllTaken f left taken first end → f k ≡ Some r → Holds k r p → first ≤ p
+inside_taken : (f left taken : Runs) (first end p k : ℕ) (r : Run) → AllTaken f left taken first end → f k ≡ Some r → Holds k r p
+    → first ≤ p
     → p < end → (left k ≡ None) × (taken k ≡ Some r)
 inside_taken f left taken first end p k r all is h from below =
     elim (cases_lt k first) [

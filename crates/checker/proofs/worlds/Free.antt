@@ -22,7 +22,8 @@ met_there a b p h k =
 
 pub meet_at : (a b : Range) → do_meet a b ≡ true → (p : ℕ) × IsWithin a p × IsWithin b p
 meet_at a b e =
-    let one = and_parts (nat_lt 0 a.pages && nat_lt 0 b.pages && nat_lt a.first (b.first + b.pages)) (nat_lt b.first (a.first + a.pages)) e in
+    let one = and_parts (nat_lt 0 a.pages && nat_lt 0 b.pages && nat_lt a.first (b.first + b.pages)) (nat_lt b.first
+    (a.first + a.pages)) e in
     let two = and_parts (nat_lt 0 a.pages && nat_lt 0 b.pages) (nat_lt a.first (b.first + b.pages)) one.0 in
     let three = and_parts (nat_lt 0 a.pages) (nat_lt 0 b.pages) two.0 in
     let u : 0 < a.pages = ltb-true 0 a.pages three.0 in

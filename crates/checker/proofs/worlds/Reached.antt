@@ -1,12 +1,14 @@
 -- Which host addresses a request may come to by a record.
-use Rattle.std.proofs.Common.{◌≡◌, inl, inr, ℕ, ◌/◌, ◌%◌, ◌+◌, Bool, true, false, cond, List, [], ◌∷◌, Option, None, Some, refl, sym, ap, subst, ◌∙◌}
+use Rattle.std.proofs.Common.{◌≡◌, inl, inr, ℕ, ◌/◌, ◌%◌, ◌+◌, Bool, true, false, cond, List, [], ◌∷◌, Option, None, Some, refl, sym, ap}
+use Rattle.std.proofs.Common.{subst, ◌∙◌}
 use Rattle.std.specs.Prelude.{nat_lt, nat_le}
 use Rattle.std.specs.List.{list_any}
 use Rattle.std.proofs.lemmas.Bool.{and_parts, and_from, ltb-true, leb-true, eq-eqb, eqb-true}
 use Rattle.dmatypes.specs.declared.call.Access.{Access}
 use Rattle.dmatypes.specs.declared.call.Access.TheVariants.{Read, Write}
 use Rattle.dmatypes.specs.declared.reply.Reply.{Reply}
-use Rattle.dmatypes.specs.declared.reply.Reply.TheVariants.{Made, Done, Mapped, Unmapped, Flushed, Ticket, Stepped, Reaped, Pending, Host, Faulted, Refused}
+use Rattle.dmatypes.specs.declared.reply.Reply.TheVariants.{Made, Done, Mapped, Unmapped, Flushed, Ticket, Stepped, Reaped, Pending, Host}
+use Rattle.dmatypes.specs.declared.reply.Reply.TheVariants.{Faulted, Refused}
 use Rattle.dmatypes.specs.Page.{IsBeyond, IsWithin, Range, byte_address, offset_of, page_of}
 use Rattle.dmatypes.specs.Rights.{Permits}
 use Rattle.dmatypes.specs.Allows.{IsLiveFor, IsRetiredFor, fault_of, host_of}

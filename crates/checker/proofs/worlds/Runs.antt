@@ -1,17 +1,17 @@
 -- Runs that are apart: which of them holds a page, and what becomes of them.
-use Rattle.std.proofs.Common.{◌≡◌, ◌≢◌, ◌⊎◌, inl, inr, ℕ, zero, suc, ◌+◌, ◌-◌, ◌^◌, ◌<◌, ◌≤◌, true, false, cond, Option, Some, None, refl}
+use Rattle.std.proofs.Common.{◌≡◌, ◌≢◌, ◌⊎◌, inl, inr, ℕ, zero, suc, ◌+◌, ◌^◌, ◌<◌, ◌≤◌, true, false, cond, Option, Some, None, refl}
 use Rattle.std.proofs.Common.{sym, ap, subst, ◌∙◌, arith}
 use Rattle.std.specs.Prelude.{nat_lt}
 use Rattle.std.specs.Option.{option_or}
 use Rattle.std.proofs.lemmas.Bool.{cases_lt, le-ltb, lt-ltb, ltb-true}
 use Rattle.std.proofs.lemmas.Option.{same_Some}
 use Rattle.dmatypes.specs.declared.page.TheConstants.{FRAMES_END}
-use Rattle.dmatypes.specs.Page.{IsWithin, Range}
-use Rattle.dmatypes.specs.World.{Target, is_within, restricted, without}
+use Rattle.dmatypes.specs.Page.{Range}
+use Rattle.dmatypes.specs.World.{Target, is_within}
 use Rattle.dmatypes.proofs.numbers.Ranges.{within_is, within_not, within_or_not}
 use Rattle.dmatypes.proofs.histories.Maps.{same_or_not}
 use Rattle.checker.specs.declared.run.Run.{Run}
-use Rattle.checker.specs.Runs.{AreApart, Holds, IsCutAt, by_run, by_runs, target_of}
+use Rattle.checker.specs.Runs.{AreApart, Holds, by_run, by_runs, target_of}
 
 abbrev pub Runs : Type 0
 Runs = ℕ → Option Run
@@ -67,13 +67,15 @@ last_holds runs (suc n) p k r le is below last =
     elim (cases_lt k (suc n)) [
       | inl before ↦
           rw (by_run_none (suc n) (runs (suc n)) p (λ s there low. last (suc n) s before (omega arith) there low))
-          (last_holds runs n p k r (omega (arith, before)) is below (λ j s more less there low. last j s more (omega (arith, less)) there low))
+          (last_holds runs n p k r (omega (arith, before)) is below
+          (λ j s more less there low. last j s more (omega (arith, less)) there low))
       | inr from ↦
           let same : k ≡ suc n = omega (arith, le, from) in
           let here : runs (suc n) ≡ Some r = ap runs (sym same) ∙ is in
           let low : p < suc n + r.pages = omega (arith, same, below) in
           let found : by_run (suc n) (runs (suc n)) p ≡ Some (target_of k r p) =
-          ap (λ (o : Option Run). by_run (suc n) o p) here ∙ by_run_some (suc n) r p low ∙ ap (λ (m : ℕ). Some (target_of m r p)) (sym same) in
+          ap (λ (o : Option Run). by_run (suc n) o p) here ∙ by_run_some (suc n) r p low
+          ∙ ap (λ (m : ℕ). Some (target_of m r p)) (sym same) in
           rw found refl
     ]
 
@@ -207,7 +209,8 @@ more_apart f g first r a more = record {
     | inr old ↦ elim (of_more f g first j r t more there) [
       | inl two ↦ elim (cases_lt first (k + s.pages)) [
         | inl crosses ↦
-            absurd (none_held f a k first s (more.free first (omega arith, omega (arith, more.some))) old.1 (omega (arith, two.0, less), crosses))
+            let none : by_runs f first first ≡ None = more.free first (omega arith, omega (arith, more.some)) in
+            absurd (none_held f a k first s none old.1 (omega (arith, two.0, less), crosses))
         | inr stops ↦ omega (arith, two.0, stops)
       ]
       | inr also ↦ a.apart k j s t old.1 also.1 less

@@ -10,4 +10,5 @@ use Rattle.checker.proofs.asking.has_far.Goals as goal
 pub returns : goal.returns
 returns c =
     Decides-at c.any_far.result (list_any (λ (s : Segment). nat_lt FRAMES_END (s.frame + s.pages)) c.args.segments.now) c.any_far.ensures
-    (some_has (λ (s : Segment). nat_lt FRAMES_END (s.frame + s.pages)) (λ s. FRAMES_END < s.frame + s.pages) (λ s. Decides-ltb FRAMES_END (s.frame + s.pages)) c.args.segments.now)
+    (some_has (λ (s : Segment). nat_lt FRAMES_END (s.frame + s.pages)) (λ s. FRAMES_END < s.frame + s.pages)
+    (λ s. Decides-ltb FRAMES_END (s.frame + s.pages)) c.args.segments.now)

@@ -9,4 +9,5 @@ use Rattle.checker.proofs.asking.has_frame_below.Goals as goal
 pub returns : goal.returns
 returns c =
     Decides-at c.any_below.result (list_any (λ (s : Segment). nat_lt s.frame c.args.frames) c.args.segments.now) c.any_below.ensures
-    (some_has (λ (s : Segment). nat_lt s.frame c.args.frames) (λ s. s.frame < c.args.frames) (λ s. Decides-ltb s.frame c.args.frames) c.args.segments.now)
+    (some_has (λ (s : Segment). nat_lt s.frame c.args.frames) (λ s. s.frame < c.args.frames)
+    (λ s. Decides-ltb s.frame c.args.frames) c.args.segments.now)

@@ -14,7 +14,8 @@ loop-event-preserved c =
     let history = c.args.history.now in
     let i = c.loop-event.event-index in
     let e = c.event-item.result in
-    let at : slice_get history i ≡ Some e = slice_get_read history (length history) i e refl (omega (arith, c.loop-event-test.true)) c.event-item.is in
+    let at : slice_get history i ≡ Some e = slice_get_read history (length history) i e refl (omega
+    (arith, c.loop-event-test.true)) c.event-item.is in
     let w : World = world_of c.loop-event.checker in
     let t : World = world_of c.judge.new.self in
     let had = c.loop-event.invariant.world in

@@ -35,7 +35,8 @@ returns-then-is_free_at c =
     let s = c.in-Some.range.first in
     let n = total_pages c.args.segments.now in
     let both = c.is_free_at.ensures.0 c.if-is_free_at.true in
-    let free : IsSomeAnd o (λ v. AreFreePages v (range s n)) = subst (λ r. IsSomeAnd o (λ v. AreFreePages v r)) c.in-Some.ensures.1 both.1 in
+    let free : IsSomeAnd o (λ v. AreFreePages v (range s n)) = subst (λ r. IsSomeAnd o
+    (λ v. AreFreePages v r)) c.in-Some.ensures.1 both.1 in
     let at : Mapped c.args.address ≡ Mapped (byte_address s 0) = ap Mapped c.in-Some.ensures.0 in
     let none = c.requires in
     let some : 1 ≤ n = some_pages c.args.segments.now c.args.order c.args.rights none.1.0 in

@@ -13,6 +13,10 @@ returns-then-is_not_live c =
       some_not_none (w.domains c.args.domain) (c.has_domain.ensures.0 c.if-not-has_domain.false),
       inr (
         c.in-Some.ensures.1,
-        inl (subst (λ (r : Range). SomeIsNotLive w c.args.domain r) c.in-Some.ensures.0 (c.is_not_live.ensures.0 c.if-is_not_live.true), refl),
+        inl (
+          subst (λ (r : Range). SomeIsNotLive w c.args.domain r) c.in-Some.ensures.0
+              (c.is_not_live.ensures.0 c.if-is_not_live.true),
+          refl,
+        ),
       ),
     )

@@ -12,7 +12,8 @@ returns-else-is_fault c =
     let a = c.args.address in
     let not_live : (t : Target) → IsLiveFor (domain_of d) a c.args.access t → ⊥ = c.in-None.ensures in
     let no_fault : c.args.reply ≡ Faulted (fault_of c.args.access) → ⊥ = λ e.
-    let yes : c.is_fault.result ≡ true = c.is_fault.ensures.1 e in absurd (let clash : true ≡ false = sym yes ∙ c.if-is_fault.false in cc) in (
+    let yes : c.is_fault.result ≡ true = c.is_fault.ensures.1 e in absurd (let clash : true ≡ false = sym yes
+    ∙ c.if-is_fault.false in cc) in (
       λ yes. inr (not_live, inl (reached d a c.args.access c.args.reply (sym c.reaches_retired.ensures ∙ yes))),
       λ allowed. elim allowed [
         | inl live ↦ absurd (not_live live.0 live.1)

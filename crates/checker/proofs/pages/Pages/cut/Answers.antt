@@ -8,6 +8,7 @@ pub returns-in-None-clause-here : goal.returns-in-None-clause-here
 returns-in-None-clause-here c = λ k r is less.
     elim (cases_lt c.args.page (k + r.pages)) [
       | inl crosses ↦
-          absurd (none_held (runs_of c.args.self.now) c.args.self.now.apart k c.args.page r c.in-None.ensures is (omega (arith, less), crosses))
+          let a = c.args.self.now.apart in
+          absurd (none_held (runs_of c.args.self.now) a k c.args.page r c.in-None.ensures is (omega (arith, less), crosses))
       | inr stops ↦ stops
     ]

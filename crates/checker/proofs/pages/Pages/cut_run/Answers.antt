@@ -8,7 +8,8 @@ use Rattle.checker.proofs.worlds.Entries.{other_run, put_apart}
 use Rattle.checker.proofs.pages.Pages.cut_run.Goals as goal
 
 -- two entries, one after the other
-cut_of : (old mid new : BTreeMap ℕ Run) (first page : ℕ) (r : Run) → tree.get nat_cmp old first ≡ Some r → first < page → page < first + r.pages
+cut_of : (old mid new : BTreeMap ℕ Run) (first page : ℕ) (r : Run) → tree.get nat_cmp old first ≡ Some r → first < page
+    → page < first + r.pages
     → Updates nat_cmp old mid first (Some (front_of first page r)) → Updates nat_cmp mid new page (Some (rest_of first page r))
     → AreCut (tree.get nat_cmp old) (tree.get nat_cmp new) first page r
 cut_of old mid new first page r there less below front rest = record {
@@ -33,7 +34,8 @@ invariant_of-self-2 c =
     let put : Updates nat_cmp old mid c.args.first (Some front) = c.in_ok-insert.ensures.updates in
     record {
       apart = put_apart c.insert-2.result mid new c.args.page rest c.insert-2.ensures.updates c.insert-2.ensures.err
-          (shorter_apart (tree.get nat_cmp old) (tree.get nat_cmp mid) c.args.first c.args.page r c.args.self.now.apart c.requires.there less
+          (shorter_apart (tree.get nat_cmp old) (tree.get nat_cmp mid) c.args.first c.args.page r c.args.self.now.apart c.requires.there
+          less
           c.requires.holds.1 put.1 (other_run old mid c.args.first (Some front) put))
           (λ then_put. cut_apart (tree.get nat_cmp old) (tree.get nat_cmp new) c.args.first c.args.page r c.args.self.now.apart
           (cut_of old mid new c.args.first c.args.page r c.requires.there less c.requires.holds.1 put then_put));
