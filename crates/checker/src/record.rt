@@ -11,8 +11,8 @@ use dmatypes::{Access, PAGE_BYTES, PageRange, Reply};
 /// Pages that were unmapped and may still be used: what was mapped there, and how many flushes were begun when they were unmapped.
 #[derive(Drop)]
 pub(crate) struct Record {
-    range: PageRange,
-    mark: u64,
+    pub(crate) range: PageRange,
+    pub(crate) mark: u64,
     targets: Pages,
 }
 
@@ -84,8 +84,8 @@ impl Record {
         here.min(there)
     }
 
-    // Whether a page is in its range.
-    fn holds(&self, page: u64) -> bool
+    /// Whether a page is in its range.
+    pub(crate) fn holds(&self, page: u64) -> bool
         ensures { result ≡ world.is_within self.now.range page }
     {
         self.range.first() <= page && page < self.range.first() + self.range.pages()

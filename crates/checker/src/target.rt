@@ -37,6 +37,20 @@ impl Target {
         Target { frame, rights }
     }
 
+    /// The host frame.
+    pub(crate) fn frame(self) -> u64
+        ensures { result ≡ self.frame }
+    {
+        self.frame
+    }
+
+    /// The rights.
+    pub(crate) fn rights(self) -> u64
+        ensures { result ≡ self.rights }
+    {
+        self.rights
+    }
+
     /// The host address at the offset of an address.
     pub(crate) fn host(self, address: u64) -> u64
         ensures { result ≡ host_of self address }

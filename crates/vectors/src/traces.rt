@@ -1,6 +1,6 @@
 //! Traces judged event by event, and what would have been allowed.
 
-use checker::{Checker, Verdict, audit, parse_event};
+use checker::{Checker, PageState, Verdict, audit, parse_event};
 use dmatypes::{Access, PageRange, Refusal, Reply, parse_line};
 use std::test::Fail;
 
@@ -126,6 +126,18 @@ fn what_would_have_been_allowed(rt: HostRuntime) -> Result<(), Fail> {
     assert!(rt; stale && allowed.len() == 2);
     let range = PageRange::new(2, 2).expect(&rt, "a range");
     assert_eq!(rt; checker.obstacle(1, range), Some(3));
+    let live = PageState::Live {
+        frame: 0x30,
+        rights: 3,
+    };
+    let retired = PageState::Retired {
+        first: 1,
+        pages: 1,
+        mark: 0,
+    };
+    for (page, state) in [(1, retired), (2, PageState::Free), (3, live)] {
+        assert_eq!(rt; checker.page_state(1, page), Some(state));
+    }
     Ok(())
 }
 

@@ -63,7 +63,7 @@ to_come address access reply o t is may host =
     ap (reaches_by address access reply) is
     ∙ and_from (permits t.rights access) (is_host t address reply) (to_permit t.rights access may) (to_host t address reply host)
 
-is_inside : (r : Range) (p : ℕ) → is_within r p ≡ true → IsWithin r p
+pub is_inside : (r : Range) (p : ℕ) → is_within r p ≡ true → IsWithin r p
 is_inside r p e =
     let both = and_parts (nat_le r.first p) (nat_lt p (r.first + r.pages)) e in
     (leb-true r.first p both.0, ltb-true p (r.first + r.pages) both.1)
