@@ -16,7 +16,7 @@ impl Checker {
     ghost use Rattle.checker.specs.World.{world_of};
 
     /// Judges the next event: whether the reply is allowed to the call. Where it is, the world becomes the next one; where
-    /// it isn't, the world stays.
+    /// it isn't, the world stays. At an error, which is want of memory alone, a map may be half entered: judge no more then.
     pub fn judge(&mut self, call: &Call, reply: Reply) -> Result<bool, AllocError>
         ensures { IfOk result (λ legal. Judges (world_of self.old) call.now reply legal (world_of self.new)) }
     {
