@@ -1,7 +1,7 @@
 // Preloaded into a program, moves at most PART bytes at a time through its input, output and standard error, and makes one call of
-// each go wrong: of stream N, from 0, the call whose number, from 1, stands in BAD_N. It fails, or takes nothing where HITCH is
-// `nothing`. At the program's end it writes a word for each call into the file that STREAMS_LOG names: the stream's letter and how
-// many newlines it moved, or the letter and `!`.
+// each go wrong: of stream N, from 0, the call whose number, from 1, stands in BAD_N. It fails, where HITCH is `interruption` as a
+// call does that a signal interrupts, or where it is `nothing` takes nothing. At the program's end it writes a word for each call
+// into the file that STREAMS_LOG names: the stream's letter and how many newlines it moved, or the letter and `!`.
 #define _GNU_SOURCE
 #include <errno.h>
 #include <fcntl.h>
@@ -40,7 +40,7 @@ static ssize_t move(long call, int file, void *bytes, size_t count) {
     const char *number = getenv(BAD[file]), *hitch = getenv("HITCH"), *part = getenv("PART");
     if (++calls[file] == (number ? atol(number) : 0)) {
         note(file, bytes, -1);
-        errno = EIO;
+        errno = hitch && !strcmp(hitch, "interruption") ? EINTR : EIO;
         return hitch && !strcmp(hitch, "nothing") ? 0 : -1;
     }
     size_t most = part ? (size_t)atol(part) : count;

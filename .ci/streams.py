@@ -1,10 +1,11 @@
 #!/usr/bin/env python3
 """The program `vtdm`, as LLVM built it, over input, output and standard error that go wrong at each place.
 
-Its streams move few bytes at a time. One read fails, or one write fails or takes nothing, each in turn, and then standard error
-too. Beside it: that answers come before the next read, what a command line reads, options at their limits, and words that are no
-text. The last line is `N passed, M failed`."""
+Its streams move few bytes at a time, or, of a long script, more. One read fails or is interrupted, or one write fails, is interrupted
+or takes nothing, each in turn, and then standard error too. Beside it: that answers come before the next read, what a command line
+reads, options at their limits, and words that are no text. The last line is `N passed, M failed`."""
 
+import itertools
 import os
 import subprocess
 import sys
@@ -14,14 +15,25 @@ TOP = os.path.dirname(os.path.dirname(os.path.abspath(__file__)))
 VTDM = f"{TOP}/crates/vtdm/out/vtdm"
 SCRIPT = b"domain strict\nattach 3 1\nmap 1 0x100 1 0 rw\ndma 3 0x1234 r look fill\n"
 BAD_LINE = b"domain strict\nno line\nattach 3 1\n"
+# A script of several blocks, and of answers that are twice as long.
+LONG_SCRIPT = b"unit\n" * 2_000
 TASKS = (["run"], ["report"], ["report", "--iova"])
 STORM = ["storm", "--drivers=1", "--devices=1", "--calls=1"]
+# What ends by words on standard error.
+FAULTS = ((["run"], BAD_LINE), (["report"], BAD_LINE), (["run", "--frames", "15"], SCRIPT), (["reports"], SCRIPT),
+          (["run", "\x1b"], SCRIPT))
 USUAL_FRAMES, USUAL_CALLS = 64, 65_536
-# The most bytes that a call moves, and that one moves of a long text.
+# The most bytes that a call moves, that one moves of a long text, and those of a long script: a part of a block, and a block.
 PART = 3
 LARGE_PART = 64
-# How a write goes wrong.
-HITCHES = ("failure", "nothing")
+LATE_PARTS = (1_500, 4_096)
+# How a read goes wrong, and how a write does. A text that is written at once, as help, goes on where a write was interrupted.
+ERRORS = ("failure", "interruption")
+HITCHES = (*ERRORS, "nothing")
+TEXT_HITCHES = ("failure", "nothing")
+# Scripts, and what is written at once, with the most bytes that a call moves.
+SCRIPTS = ((SCRIPT, PART), *((LONG_SCRIPT, part) for part in LATE_PARTS))
+TEXTS = ((["run", "--help"], LARGE_PART), (["--version"], PART), (STORM, PART))
 
 
 class Run:
@@ -101,47 +113,58 @@ def answers_before_the_next_read(room):
 
 
 def reads_fail(room):
-    """Where a read fails, the whole lines before it are answered, or reported, nothing is read after it, and standard error says so;
-    the status stays where that fails too."""
-    for words in TASKS:
-        reads = len(Run(room, words, SCRIPT).of("r"))
-        yield words, reads > len(SCRIPT) // PART
-        for bad in range(1, reads + 1):
-            output = plain(words, whole_lines(SCRIPT[: PART * (bad - 1)]))[1]
-            run = Run(room, words, SCRIPT, read=bad)
-            yield (words, bad), (run.status, run.output, run.said) == (1, output, b"input failed\n")
-            yield (words, bad, "stops"), run.stops_at("r", "w" if words == ["run"] else "")
-            untold = Run(room, words, SCRIPT, read=bad, error=1)
-            yield (words, bad, 1), (untold.status, untold.of("e"), untold.output) == (1, ["e!"], output)
+    """Where a read fails or is interrupted, the whole lines before it are answered, or reported, nothing is read after it, and standard
+    error says so; the status stays where that fails too."""
+    for words, (given, part) in itertools.product(TASKS, SCRIPTS):
+        reads = len(Run(room, words, given, part=part).of("r"))
+        yield (words, part), reads > len(given) // part
+        for bad, hitch in itertools.product(range(1, reads + 1), ERRORS):
+            output = plain(words, whole_lines(given[: part * (bad - 1)]))[1]
+            run = Run(room, words, given, hitch, read=bad, part=part)
+            yield (words, part, bad, hitch), (run.status, run.output, run.said) == (1, output, b"input failed\n")
+            yield (words, part, bad, hitch, "stops"), run.stops_at("r", "w" if words == ["run"] else "")
+            if hitch == "failure":
+                untold = Run(room, words, given, read=bad, error=1, part=part)
+                yield (words, part, bad, 1), (untold.status, untold.of("e"), untold.output) == (1, ["e!"], output)
 
 
 def writes_go_wrong(room):
     """Where a write to the output goes wrong, what was taken before it is written, nothing is read or written after, and standard
     error says so; the status stays where that goes wrong too. So it is with a report behind a read that failed, or a bad line."""
-    cases = [(words, given, 0, PART) for words in TASKS for given in (SCRIPT, BAD_LINE)]
-    cases += [(["report"], SCRIPT, bad_read, PART) for bad_read in (5, 6)]
-    cases += [(["run", "--help"], b"", 0, LARGE_PART), (["--version"], b"", 0, PART), (STORM, b"", 0, PART)]
-    for words, given, bad_read, part in cases:
+    cases = [(words, given, 0, part, HITCHES) for words in TASKS for given, part in (*SCRIPTS, (BAD_LINE, PART))]
+    cases += [(["report"], SCRIPT, bad_read, PART, HITCHES) for bad_read in (5, 6)]
+    cases += [(words, b"", 0, part, TEXT_HITCHES) for words, part in TEXTS]
+    for words, given, bad_read, part, hitches in cases:
         whole = Run(room, words, given, read=bad_read, part=part)
         yield words, len(whole.of("w")) > 0
-        for hitch in HITCHES:
-            for bad in range(1, len(whole.of("w")) + 1):
-                run = Run(room, words, given, hitch, read=bad_read, write=bad, part=part)
-                is_beginning = run.output != whole.output and whole.output.startswith(run.output)
-                yield (words, hitch, bad), (run.status, run.said, is_beginning) == (1, b"output failed\n", True)
-                yield (words, hitch, bad, "stops"), run.stops_at("w", "r")
+        for bad, hitch in itertools.product(range(1, len(whole.of("w")) + 1), hitches):
+            run = Run(room, words, given, hitch, read=bad_read, write=bad, part=part)
+            is_beginning = run.output != whole.output and whole.output.startswith(run.output)
+            yield (words, hitch, bad), (run.status, run.said, is_beginning) == (1, b"output failed\n", True)
+            yield (words, hitch, bad, "stops"), run.stops_at("w", "r")
+            if hitch in TEXT_HITCHES:
                 untold = Run(room, words, given, hitch, read=bad_read, write=bad, error=1, part=part)
                 yield (words, hitch, bad, 1), (untold.status, untold.of("e"), untold.output) == (1, ["e!"], run.output)
 
 
+def texts_go_on(room):
+    """Where a write of help, of a storm's line or of an error is interrupted, it is made again, and all is as ever."""
+    for words, given, stream, part in [(words, b"", "w", part) for words, part in TEXTS] + [(*it, "e", PART) for it in FAULTS]:
+        whole = Run(room, words, given, part=part)
+        yield words, len(whole.of(stream)) > 0
+        for bad in range(1, len(whole.of(stream)) + 1):
+            place = {"write": bad} if stream == "w" else {"error": bad}
+            run = Run(room, words, given, "interruption", part=part, **place)
+            yield (words, bad), (run.status, run.output, run.said) == (whole.status, whole.output, whole.said)
+            yield (words, bad, "again"), len(run.of(stream)) == len(whole.of(stream)) + 1
+
+
 def errors_go_wrong(room):
     """Where a write to standard error goes wrong, a beginning of it is written and nothing after, and the status and output stay."""
-    cases = [(["run"], BAD_LINE), (["report"], BAD_LINE), (["run", "--frames", "15"], SCRIPT), (["reports"], SCRIPT),
-             (["run", "\x1b"], SCRIPT)]
-    for words, given in cases:
+    for words, given in FAULTS:
         whole = Run(room, words, given)
         yield words, len(whole.of("e")) > 0
-        for hitch in HITCHES:
+        for hitch in TEXT_HITCHES:
             for bad in range(1, len(whole.of("e")) + 1):
                 run = Run(room, words, given, hitch, error=bad)
                 is_beginning = whole.said.startswith(run.said) and run.said != whole.said
@@ -150,7 +173,7 @@ def errors_go_wrong(room):
 
 def words_that_are_no_text(room):
     """Where a word isn't UTF-8, nothing is read, and standard error says so; the status stays where that goes wrong too."""
-    for hitch in HITCHES:
+    for hitch in TEXT_HITCHES:
         run = Run(room, ["run", b"\xff"], SCRIPT)
         yield hitch, (run.status, run.output, run.of("r")) == (2, b"", [])
         yield hitch, run.said == b"error: a word of the command line isn't UTF-8\n"
@@ -159,7 +182,7 @@ def words_that_are_no_text(room):
 
 
 STEPS = (command_lines, options_at_their_limits, parts_of_streams, answers_before_the_next_read, reads_fail, writes_go_wrong,
-         errors_go_wrong, words_that_are_no_text)
+         texts_go_on, errors_go_wrong, words_that_are_no_text)
 
 
 def main():

@@ -21,6 +21,10 @@
  * VTDM_PAGE_BYTES bytes of device addresses, a frame is as many bytes of host memory. Host frames are numbered from 0, so frame F
  * begins at host address F * VTDM_PAGE_BYTES. Lengths of ranges are in pages.
  *
+ * WHAT IS NO PAGE. The first VTDM_PAGE_BYTES bytes of device addresses, those of the interrupt address range (VTDM_WINDOW_FIRST to
+ * VTDM_WINDOW_LAST), and those from the end of the domain's addresses on. No map answers an address of these, so 0 is never one. An
+ * unmap of a range that touches one of them is VTDM_BAD_RANGE, whatever else is in the range.
+ *
  * WIDTHS. A domain has device addresses of 39 bits and tables of three levels (vtdm_domain), or addresses of 48 bits and tables of
  * four levels (vtdm_domain_wide), as long as it lives. A manager may have domains of both widths. They differ in where addresses
  * end (VTDM_ADDRESSES_END, VTDM_WIDE_ADDRESSES_END), where maps begin (vtdm_map), and how many table frames they need (vtdm_create).
@@ -34,7 +38,8 @@
  *  - One call at a time on one manager, readers too: take a lock of your own around each call, since each call takes the manager
  *    out of the struct and puts it back at its end. Any thread may call. Two managers share nothing, and need no common lock.
  *  - A pointer to a `struct vtdm` is not null and is aligned, since a call reads it at once. `segments` is not null and is aligned
- *    even where `count` is 0, and `count` segments can be read there. A call writes no segment, and keeps no pointer.
+ *    even where `count` is 0, and `count` segments can be read there, also where they are more than VTDM_MOST_SEGMENTS and are
+ *    refused. A call writes no segment, and keeps no pointer.
  *  - malloc, realloc and free are one allocator, since each takes blocks of the others, and align blocks as C asks.
  *  - No call from a signal handler, since it may have come while another call had the manager. For the same reason no call in the
  *    child of a fork of a process with several threads.
@@ -74,8 +79,8 @@ extern "C" {
 #define VTDM_DEVICES UINT64_C(16)                    /* numbers of devices are below it */
 #define VTDM_MOST_PAGES UINT64_C(4096)               /* the most pages of one map or unmap */
 #define VTDM_MOST_ORDER UINT64_C(9)                  /* the highest alignment of a map: 2^9 pages, 2 MiB */
-#define VTDM_MOST_SEGMENTS 16                        /* the most segments of one map */
-#define VTDM_MOST_PIECES 1024                        /* the most pieces of a domain's address space: free, mapped or retired */
+#define VTDM_MOST_SEGMENTS UINT64_C(16)              /* the most segments of one map */
+#define VTDM_MOST_PIECES UINT64_C(1024)              /* the most pieces of a domain's address space: free, mapped or retired */
 #define VTDM_MOST_RECORDS UINT64_C(256)              /* the most retired ranges of a lazy domain */
 #define VTDM_MOST_TICKETS UINT64_C(64)               /* the most open tickets, over all domains */
 #define VTDM_CALLS_END (UINT64_C(1) << 56)           /* a manager answers as many calls */
@@ -111,7 +116,7 @@ enum vtdm_status {
     VTDM_NO_DEVICE = 2,         /* the device number is above 15 */
     VTDM_BUSY = 3,              /* the device is attached; or a device is attached to the domain, or one of its tickets is open */
     VTDM_NOT_ATTACHED = 4,      /* the device is attached to no domain */
-    VTDM_BAD_RANGE = 5,         /* pages, frames, order, rights or address are outside their limits */
+    VTDM_BAD_RANGE = 5,         /* pages, frames, order, rights or address are outside their limits, or a page to unmap is none */
     VTDM_FRAME_OWNED = 6,       /* a segment begins at a table frame */
     VTDM_NO_RANGE = 7,          /* no free range is long enough, which does not happen with the limits above at either width */
     VTDM_NO_FRAMES = 8,         /* too few table frames are free */
@@ -157,7 +162,7 @@ enum vtdm_cache { VTDM_CACHE_LEAF = 0, VTDM_CACHE_NON_LEAF = 1, VTDM_CACHE_CONTE
  * its root, a 48-bit domain one more for each 512 GiB of addresses in use, and each domain one for each 1 GiB of them and one for
  * each 2 MiB of them that is not mapped by a leaf of 2 MiB. An unmap takes the last kind away where it covers all its 2 MiB; the
  * others stay until vtdm_drop.
- * Answers a status: VTDM_OK, VTDM_PRESENT, VTDM_BAD_FRAMES, VTDM_NO_MEMORY. */
+ * Answers VTDM_OK, or the first of these that holds: VTDM_PRESENT, VTDM_BAD_FRAMES, VTDM_NO_MEMORY. */
 uint64_t vtdm_create(struct vtdm *manager, uint64_t frames);
 
 /* Makes a manager whose unit has Caching Mode (capability bit 7), as the emulated unit of a hypervisor may: it may remember that a
@@ -168,8 +173,9 @@ uint64_t vtdm_create_caching(struct vtdm *manager, uint64_t frames);
 /* Ends the manager, if there is one, and frees its memory. Then the struct is as at VTDM_INIT and can be used again. */
 void vtdm_destroy(struct vtdm *manager);
 
-/* ---- Calls. Each can also answer VTDM_ABSENT and VTDM_SPENT. Its other statuses are named in the order in which they are judged:
- * the first whose condition holds is answered. */
+/* ---- Calls. Each can also answer VTDM_ABSENT, which is judged before all others, and VTDM_SPENT, which is judged next, but behind
+ * VTDM_MANY_SEGMENTS and VTDM_BAD_CACHE. Its other statuses are named in the order in which they are judged: the first whose
+ * condition holds is answered. */
 
 /* Makes an empty 39-bit domain, and answers its id. VTDM_TOO_MANY_DOMAINS, VTDM_NO_FRAMES. */
 struct vtdm_answer vtdm_domain(struct vtdm *manager, bool lazy);
@@ -196,7 +202,8 @@ struct vtdm_answer vtdm_map(struct vtdm *manager, uint64_t domain, uint64_t fram
                             uint64_t rights);
 
 /* Maps 1 to VTDM_MOST_SEGMENTS segments, VTDM_MOST_PAGES pages together at most, one after the other at one range of device
- * addresses: all of them, or none. Otherwise as vtdm_map. No segment is VTDM_BAD_RANGE. VTDM_MANY_SEGMENTS is judged first. */
+ * addresses: all of them, or none. A `count` of 0 is answered by VTDM_BAD_RANGE. Otherwise as vtdm_map.
+ * VTDM_MANY_SEGMENTS, and then those of vtdm_map. */
 struct vtdm_answer vtdm_map_list(struct vtdm *manager, uint64_t domain, uint64_t order, uint64_t rights,
                                  const struct vtdm_segment *segments, size_t count);
 
@@ -205,7 +212,8 @@ struct vtdm_answer vtdm_map_list(struct vtdm *manager, uint64_t domain, uint64_t
  * In a strict domain no device reaches them when it returns, their addresses are free, and it answers 0.
  * In a lazy domain they become one retired range: devices may reach them until a flush, and their addresses are not used
  * again before. Where VTDM_MOST_RECORDS ranges are retired already it flushes first and answers how many were released, else 0.
- * VTDM_NO_DOMAIN, VTDM_BAD_RANGE, VTDM_NOT_LIVE, VTDM_TOO_MANY_PIECES, VTDM_NO_FRAMES (to split a leaf of 2 MiB). */
+ * VTDM_NO_DOMAIN, VTDM_BAD_RANGE (also where a member of the range is no page: see above), VTDM_NOT_LIVE, VTDM_TOO_MANY_PIECES,
+ * VTDM_NO_FRAMES (to split a leaf of 2 MiB). */
 struct vtdm_answer vtdm_unmap(struct vtdm *manager, uint64_t domain, uint64_t address, uint64_t pages);
 
 /* Has the unit invalidate all cached translations of a domain, releases its retired ranges, and answers how many there were (0 in a
@@ -226,11 +234,12 @@ struct vtdm_answer vtdm_reap(struct vtdm *manager, uint64_t domain, uint64_t num
 
 /* A request of a device at a device address, to write or to read, as the unit translates it: the host address, or a fault. With
  * `look` cached entries are used, otherwise the tables are walked. With `fill` the entries that were used are cached.
- * VTDM_NO_DEVICE, VTDM_WINDOW, VTDM_FAULT_NOT_ATTACHED, VTDM_FAULT_BEYOND_WIDTH, VTDM_FAULT_WRITE, VTDM_FAULT_READ. */
+ * VTDM_NO_DEVICE, VTDM_WINDOW (also where the device is not attached), VTDM_FAULT_NOT_ATTACHED, VTDM_FAULT_BEYOND_WIDTH,
+ * VTDM_FAULT_WRITE, VTDM_FAULT_READ. */
 struct vtdm_answer vtdm_dma(struct vtdm *manager, uint64_t device, uint64_t address, bool write, bool look, bool fill);
 
 /* Has the unit drop the entry at a place, from 0 on, of a cache of enum vtdm_cache, as a unit may at any time. Where there is no
- * entry nothing happens. VTDM_BAD_CACHE, which is judged first. */
+ * entry nothing happens. VTDM_BAD_CACHE. */
 struct vtdm_answer vtdm_evict(struct vtdm *manager, uint64_t cache, uint64_t place);
 
 /* ---- Readers. They change nothing and are not counted as calls. Each can also answer VTDM_ABSENT; its members are 0 at any status

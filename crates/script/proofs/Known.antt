@@ -3,7 +3,7 @@ use Rattle.std.proofs.Common.{◌≡◌, ℕ, ◌≤◌, List, [], ◌∷◌, �
 use Rattle.std.proofs.Common.{append_assoc, length-drop}
 use Rattle.std.proofs.lemmas.List.{append-nil, drop_all, take-append-drop}
 use Rattle.std.specs.Io.KnownBytes.{Appends, Consumes, IsAtEnd, prepend_known}
-use Rattle.script.specs.Bytes.{IsUnbroken, Sent, SentFront}
+use Rattle.script.specs.Bytes.{IsUnbroken, PutsSome, Sent, SentFront}
 
 -- nothing is left past the end, and nowhere else
 pub all_gone : (n : ℕ) (bytes : List ℕ) → n ≡ length bytes → drop n bytes ≡ []
@@ -39,6 +39,13 @@ sent_more x y z a b c s t p q = (
 -- nothing more is written
 pub sent_on : (x y z : Option (List ℕ)) (a b c s : List ℕ) → Sent x y a b s → Sent y z b c [] → Sent x z a c s
 sent_on x y z a b c s p q = rw (append-nil s) at (sent_more x y z a b c s [] p q)
+
+-- some text behind the other
+pub puts_nothing : (before : Option (List ℕ)) (block : List ℕ) → PutsSome before before block block
+puts_nothing before block = ([], sent_nothing before block)
+
+pub puts_more : (x y z : Option (List ℕ)) (a b c : List ℕ) → PutsSome x y a b → PutsSome y z b c → PutsSome x z a c
+puts_more x y z a b c p q = (p.0 ++ q.0, sent_more x y z a b c p.0 q.0 p.1 q.1)
 
 -- a front of what was still to be written is one of this and a text behind it
 pub front_without : (x y : Option (List ℕ)) (a b s : List ℕ) → Sent x y a b [] → SentFront x y a s

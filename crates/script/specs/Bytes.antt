@@ -39,6 +39,10 @@ Sent before after block rest text = (front : List ℕ) × Appends before after f
 abbrev pub SentFront : Option (List ℕ) → Option (List ℕ) → List ℕ → List ℕ → Type 0
 SentFront before after block text = (front : List ℕ) × (rest : List ℕ) × Appends before after front × (front ++ rest ≡ block ++ text)
 
+-- some text was put behind the bytes that were still to be written
+abbrev pub PutsSome : Option (List ℕ) → Option (List ℕ) → List ℕ → List ℕ → Type 0
+PutsSome before after block rest = (text : List ℕ) × Sent before after block rest text
+
 -- how the next line was read: these bytes of it, and how it ended
 abbrev pub ReadLine : {E : Type 0} → Option (List ℕ) → Option (List ℕ) → List ℕ → Result LineEnd E → Type 0
 ReadLine old new line (Ok Newline) = Consumes old new (line ++ 10 ∷ []) × IsUnbroken line

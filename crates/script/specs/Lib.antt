@@ -1,4 +1,4 @@
-pub mod Judged
+pub mod Streams
 pub mod Bytes
 pub mod Run
 pub mod Reported

@@ -1,5 +1,5 @@
 -- What a report reads and writes.
-use Rattle.std.specs.Prelude.{◌≡◌, ◌↔◌, ◌⊎◌, ℕ, Bool, true, IsErrOf, List, [], length, Option, Some, None, Result, Ok, Err}
+use Rattle.std.specs.Prelude.{◌≡◌, ◌↔◌, ◌⊎◌, ℕ, Bool, true, IsErrOf, List, [], ◌++◌, length, Option, Some, None, Result, Ok, Err}
 use Rattle.dmatypes.specs.declared.call.Call.{Call}
 use Rattle.manager.specs.Kept.{Book}
 use Rattle.manager.specs.Report.{report_text}
@@ -58,30 +58,41 @@ GoneThroughKnown replies size (Some input) (Some left) (Some before) pending (So
 abbrev pub report_of : (size : Size) (calls : List Call) (written : List ℕ) → Answers size calls written → List ℕ
 report_of size calls written answers = report_text (length answers.history) answers.state
 
--- a script was gone through as by a run, which would answer so; instead of the answers the report of where they lead is
--- written, or a beginning of it where a write fails. With no memory nothing was read and nothing is written
-abbrev pub Reported : {U : Type 0} → Size → (input left before pending after written : List ℕ) → Result U RunError → Type 0
-Reported size input left before pending after written (Ok u) =
-    (ran : RanToEnd size input left written) × WroteAll before pending after (report_of size ran.calls written ran.answers)
-Reported size input left before pending after written (Err (errors.BadLine k)) =
-    (ran : RanToBadLine size input left written k) × WroteAll before pending after (report_of size ran.calls written ran.answers)
-Reported size input left before pending after written (Err errors.Read) =
-    (ran : RanToFailedRead size input left written) × WroteAll before pending after (report_of size ran.calls written ran.answers)
-Reported size input left before pending after written (Err errors.Write) =
-    (ran : RanPartly size input written) × WroteFront before pending after (report_of size ran.calls written ran.answers)
-Reported size input left before pending after written (Err errors.NoMemory) = (left ≡ input) × (after ≡ before)
+-- a script was gone through as by a run, which would answer so; instead of the answers is written what is told of the report of
+-- where they lead, or a beginning of that where a write fails. With no memory nothing was read and nothing is written
+abbrev pub ReportedAs : {U : Type 0} → (List ℕ → List ℕ) → Size → (input left before pending after written : List ℕ) → Result U RunError → Type 0
+ReportedAs told size input left before pending after written (Ok u) =
+    (ran : RanToEnd size input left written) × WroteAll before pending after (told (report_of size ran.calls written ran.answers))
+ReportedAs told size input left before pending after written (Err (errors.BadLine k)) =
+    (ran : RanToBadLine size input left written k) × WroteAll before pending after (told (report_of size ran.calls written ran.answers))
+ReportedAs told size input left before pending after written (Err errors.Read) =
+    (ran : RanToFailedRead size input left written) × WroteAll before pending after (told (report_of size ran.calls written ran.answers))
+ReportedAs told size input left before pending after written (Err errors.Write) =
+    (ran : RanPartly size input written) × WroteFront before pending after (told (report_of size ran.calls written ran.answers))
+ReportedAs told size input left before pending after written (Err errors.NoMemory) = (left ≡ input) × (after ≡ before)
 
 -- the same where the reader and the writer tell their bytes
+abbrev pub ReportedAsKnown : {U : Type 0} → (List ℕ → List ℕ) → Size → (input left before : Option (List ℕ)) → List ℕ → Option (List ℕ)
+    → Result U RunError → Type 0
+ReportedAsKnown told size None left before pending after result = Unit {0}
+ReportedAsKnown told size (Some input) None before pending after result = ⊥
+ReportedAsKnown told size (Some input) (Some left) None pending after result = Unit {0}
+ReportedAsKnown told size (Some input) (Some left) (Some before) pending None result = ⊥
+ReportedAsKnown told size (Some input) (Some left) (Some before) pending (Some after) result =
+    (written : List ℕ) × ReportedAs told size input left before pending after written result
+
+-- the report alone is told
 abbrev pub ReportedKnown : {U : Type 0} → Size → (input left before : Option (List ℕ)) → List ℕ → Option (List ℕ) → Result U RunError
     → Type 0
-ReportedKnown size None left before pending after result = Unit {0}
-ReportedKnown size (Some input) None before pending after result = ⊥
-ReportedKnown size (Some input) (Some left) None pending after result = Unit {0}
-ReportedKnown size (Some input) (Some left) (Some before) pending None result = ⊥
-ReportedKnown size (Some input) (Some left) (Some before) pending (Some after) result =
-    (written : List ℕ) × Reported size input left before pending after written result
+ReportedKnown size input left before pending after result = ReportedAsKnown (λ report. report) size input left before pending after result
 
--- the report was written behind what was still to be written, and the end stands; or a front of these, and the write
+-- the report is told, and behind it a map, of which no more is said
+abbrev pub MappedKnown : {U : Type 0} → Size → (input left before : Option (List ℕ)) → List ℕ → Option (List ℕ) → Result U RunError
+    → Type 0
+MappedKnown size input left before pending after result =
+    (map : List ℕ) × ReportedAsKnown (λ report. report ++ map) size input left before pending after result
+
+-- this text was written behind what was still to be written, and the end stands; or a front of these, and the write
 -- failed. Nothing follows a write that failed before
 abbrev pub Concludes : {U : Type 0} → (before after : Option (List ℕ)) → (block rest text : List ℕ) → (end result : Result U RunError)
     → Type 0
@@ -97,12 +108,12 @@ replies_of outputs.Answers = Written
 replies_of (outputs.Report text) = Silent
 replies_of (outputs.Map text) = Silent
 
--- a script was answered, or its report was written; what stands in a map isn't said
+-- a script was answered, or its report was written, alone or before a map
 abbrev pub OutputKnown : {U : Type 0} → Output → Size → (input left before : Option (List ℕ)) → List ℕ → Option (List ℕ)
     → Result U RunError → Type 0
 OutputKnown outputs.Answers size input left before pending after result = RanKnown size input left before pending after result
 OutputKnown (outputs.Report text) size input left before pending after result = ReportedKnown size input left before pending after result
-OutputKnown (outputs.Map text) size input left before pending after result = Unit {0}
+OutputKnown (outputs.Map text) size input left before pending after result = MappedKnown size input left before pending after result
 
 -- a reader of which no report could be written failed too, and the write's failure is the end
 abbrev pub ReportReaderEnds : {U : Type 0} → Bool → Result U RunError → Type 0

@@ -7,14 +7,13 @@ ghost use Rattle.script.specs.Bytes.{Sent};
 ghost use Rattle.script.specs.Reported.{GoneThroughKnown, shown};
 ghost use Rattle.script.specs.Run.{AnswersOne, IsAllSent};
 
-use crate::counted::Counted;
+use crate::counted::Stream;
 use crate::error::RunError;
 use crate::lines::{LineEnd, next_line};
-use crate::wrapped::Failed;
+use crate::streams::{Failed, Sink, Source};
 use arrayvec::{ArrayString, ArrayVec};
 use dmatypes::{Call, Refusal, Reply, parse_line, reply_line};
 use manager::{Book, HistoryFull, Owner, Rows, Share};
-use std::io::{Read, Write};
 use std::sync::Wait;
 
 /// Whether the answers to a script are written.
@@ -26,24 +25,24 @@ pub(crate) enum Replies {
 
 /// Makes the call of each line, to the end or the first bad one, and writes one line for each unless it is to be silent.
 /// The lock is held from the first to the last.
-pub(crate) fn answer_lines<B: Owner, T: Wait, R: Read, W: Write>(
+pub(crate) fn answer_lines<B: Owner, T: Wait, R: Source, W: Sink>(
     rt: &T,
     book: &mut Book<B>,
     rows: &Rows<B>,
     mine: &mut Share<B>,
-    reader: &mut Counted<R>,
-    writer: &mut Counted<W>,
+    reader: &mut Stream<R>,
+    writer: &mut Stream<W>,
     replies: Replies,
 ) -> Result<(), RunError>
     requires none { book.old.history ≡ [] }
-    requires reader { reader.old.wrapped.failed ≡ false }
-    requires writer { writer.old.wrapped.failed ≡ false }
+    requires reader { R.has_failed reader.old.wrapped ≡ false }
+    requires writer { W.has_failed writer.old.wrapped ≡ false }
     ensures written { GoneThroughKnown replies (record { frames = B.frames; room = B.room; caching = B.mode })
-        (prepend_known reader.old.block (R.remaining reader.old.wrapped.inner))
-        (prepend_known reader.new.block (R.remaining reader.new.wrapped.inner))
-        (W.contents writer.old.wrapped.inner) writer.old.block (W.contents writer.new.wrapped.inner) book.new result }
-    ensures reader { (reader.new.wrapped.failed ≡ true) ↔ IsErrOf result RunError.Read }
-    ensures writer { (writer.new.wrapped.failed ≡ true) ↔ IsErrOf result RunError.Write }
+        (prepend_known reader.old.block (R.remaining reader.old.wrapped))
+        (prepend_known reader.new.block (R.remaining reader.new.wrapped))
+        (W.contents writer.old.wrapped) writer.old.block (W.contents writer.new.wrapped) book.new result }
+    ensures reader { (R.has_failed reader.new.wrapped ≡ true) ↔ IsErrOf result RunError.Read }
+    ensures writer { (W.has_failed writer.new.wrapped ≡ true) ↔ IsErrOf result RunError.Write }
     ensures used_up { IsErrOf result RunError.Read → reader.new.block ≡ [] }
     ensures all_sent { IsAllSent writer.new.block result }
     ensures memory { IsErrOf result RunError.NoMemory → ⊥ }
@@ -75,11 +74,11 @@ pub(crate) fn answer_lines<B: Owner, T: Wait, R: Read, W: Write>(
 }
 
 // A bad line: what is still to be written is written first.
-fn stop_at<W: Write>(writer: &mut Counted<W>, number: u64) -> Result<(), RunError>
-    requires { writer.old.wrapped.failed ≡ false }
-    ensures sent { Sent (W.contents writer.old.wrapped.inner) (W.contents writer.new.wrapped.inner) writer.old.block writer.new.block [] }
-    ensures stopped { ((result ≡ Err (RunError.BadLine number)) × (writer.new.block ≡ []) × (writer.new.wrapped.failed ≡ false))
-        ⊎ ((result ≡ Err RunError.Write) × (writer.new.wrapped.failed ≡ true)) }
+fn stop_at<W: Sink>(writer: &mut Stream<W>, number: u64) -> Result<(), RunError>
+    requires { W.has_failed writer.old.wrapped ≡ false }
+    ensures sent { Sent (W.contents writer.old.wrapped) (W.contents writer.new.wrapped) writer.old.block writer.new.block [] }
+    ensures stopped { ((result ≡ Err (RunError.BadLine number)) × (writer.new.block ≡ []) × (W.has_failed writer.new.wrapped ≡ false))
+        ⊎ ((result ≡ Err RunError.Write) × (W.has_failed writer.new.wrapped ≡ true)) }
 {
     match writer.flush() {
         Ok(()) => Err(RunError::BadLine(number)),

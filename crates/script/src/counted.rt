@@ -5,18 +5,20 @@ ghost use Rattle.std.specs.Io.KnownBytes.{Appends, Consumes, IsAtEnd};
 ghost use Rattle.script.specs.Bytes.{Filled, Sent, SentFront, TakesLine};
 
 use crate::block::{BLOCK_BYTES, Block, Full};
-use crate::wrapped::{Failed, Wrapped};
+use crate::streams::{Failed, Sink, Source};
+use crate::wrapped::Wrapped;
 use arrayvec::ArrayVec;
 use dmatypes::LONGEST_LINE;
-use std::io::{Read, Write};
 
-/// Wraps a reader or a writer, with a block of the bytes that were read and not yet used, or that are
-/// still to be written, and answers whether a call of the wrapped one has failed.
+/// A source or a sink, with a block of the bytes that were read and not yet used, or that are still to be written.
 #[derive(Drop)]
-pub struct Counted<T> {
-    wrapped: Wrapped<T>,
+pub struct Stream<S> {
+    wrapped: S,
     block: Block,
 }
+
+/// A reader or a writer of the standard library as a stream, which answers whether a call of it has failed.
+pub type Counted<T> = Stream<Wrapped<T>>;
 
 /// How far a line was found in a block.
 #[derive(Clone, Copy, Debug, PartialEq, Eq)]
@@ -29,17 +31,14 @@ pub(crate) enum Taken {
     Long,
 }
 
-impl<T> Counted<T> {
+impl<T> Stream<Wrapped<T>> {
     /// Wraps a reader or a writer.
     pub fn new(inner: T) -> Counted<T>
         ensures inner { result.wrapped.inner ≡ inner }
         ensures block { result.block ≡ [] }
         ensures failed { result.wrapped.failed ≡ false }
     {
-        Counted {
-            wrapped: Wrapped::new(inner),
-            block: Block::new(),
-        }
+        Stream::over(Wrapped::new(inner))
     }
 
     /// Whether a call of the wrapped one has failed: true from the first failing call on.
@@ -50,13 +49,33 @@ impl<T> Counted<T> {
     }
 }
 
-impl<R: Read> Counted<R> {
+impl<S> Stream<S> {
+    /// A source or a sink with an empty block.
+    pub(crate) fn over(wrapped: S) -> Stream<S>
+        ensures wrapped { result.wrapped ≡ wrapped }
+        ensures block { result.block ≡ [] }
+    {
+        Stream {
+            wrapped,
+            block: Block::new(),
+        }
+    }
+
+    /// The source or the sink. What is in the block is let go.
+    pub(crate) fn into_wrapped(self) -> S
+        ensures { result ≡ self.wrapped }
+    {
+        self.wrapped
+    }
+}
+
+impl<R: Source> Stream<R> {
     /// Reads the next block, where the last one is used up; `false` at the end.
     pub(crate) fn fill(&mut self) -> Result<bool, Failed>
         requires empty { self.old.block ≡ [] }
-        requires unfailed { self.old.wrapped.failed ≡ false }
-        ensures bytes { Filled (R.remaining self.old.wrapped.inner) (R.remaining self.new.wrapped.inner) self.new.block result }
-        ensures failed { self.new.wrapped.failed ≡ is_err result }
+        requires unfailed { R.has_failed self.old.wrapped ≡ false }
+        ensures bytes { Filled (R.remaining self.old.wrapped) (R.remaining self.new.wrapped) self.new.block result }
+        ensures failed { R.has_failed self.new.wrapped ≡ is_err result }
     {
         let mut bytes = [0u8; BLOCK_BYTES];
         match self.wrapped.read(&mut bytes) {
@@ -65,7 +84,7 @@ impl<R: Read> Counted<R> {
                 self.block.refill(&bytes[..count]);
                 Ok(true)
             }
-            Err(failed) => Err(failed),
+            Err(_) => Err(Failed),
         }
     }
 
@@ -89,18 +108,19 @@ impl<R: Read> Counted<R> {
     }
 }
 
-impl<W: Write> Counted<W> {
+impl<W: Sink> Stream<W> {
     /// Writes what is still to be written. Where a write fails, or takes nothing, a front of it is written.
     pub(crate) fn flush(&mut self) -> Result<(), Failed>
-        requires { self.old.wrapped.failed ≡ false }
-        ensures sent { Sent (W.contents self.old.wrapped.inner) (W.contents self.new.wrapped.inner) self.old.block self.new.block [] }
+        requires { W.has_failed self.old.wrapped ≡ false }
+        ensures sent { Sent (W.contents self.old.wrapped) (W.contents self.new.wrapped) self.old.block self.new.block [] }
         ensures empty { OnOk result (self.new.block ≡ []) }
-        ensures failed { self.new.wrapped.failed ≡ is_err result }
+        ensures failed { W.has_failed self.new.wrapped ≡ is_err result }
     {
         while !self.block.is_empty() {
             match self.wrapped.write(self.block.as_slice()) {
+                Ok(0) => return Err(Failed),
                 Ok(count) => self.block.advance(count),
-                Err(failed) => return Err(failed),
+                Err(_) => return Err(Failed),
             }
         }
         Ok(())
@@ -109,10 +129,10 @@ impl<W: Write> Counted<W> {
     /// Puts a text behind what is still to be written, which is written first where there is no room.
     pub(crate) fn put(&mut self, text: &[u8]) -> Result<(), Failed>
         requires short { length text.now ≤ BLOCK_BYTES }
-        requires unfailed { self.old.wrapped.failed ≡ false }
-        ensures sent { Sent (W.contents self.old.wrapped.inner) (W.contents self.new.wrapped.inner) self.old.block self.new.block
+        requires unfailed { W.has_failed self.old.wrapped ≡ false }
+        ensures sent { Sent (W.contents self.old.wrapped) (W.contents self.new.wrapped) self.old.block self.new.block
             (if is_ok result then text.now else []) }
-        ensures failed { self.new.wrapped.failed ≡ is_err result }
+        ensures failed { W.has_failed self.new.wrapped ≡ is_err result }
     {
         let Err(Full) = self.block.append(text) else {
             return Ok(());
@@ -129,13 +149,13 @@ impl<W: Write> Counted<W> {
     /// is written.
     pub(crate) fn send(&mut self, text: &[u8]) -> Result<(), Failed>
         requires short { length text.now ≤ BLOCK_BYTES }
-        requires unfailed { self.old.wrapped.failed ≡ false }
-        ensures sent { OnOk result (Sent (W.contents self.old.wrapped.inner) (W.contents self.new.wrapped.inner)
+        requires unfailed { W.has_failed self.old.wrapped ≡ false }
+        ensures sent { OnOk result (Sent (W.contents self.old.wrapped) (W.contents self.new.wrapped)
             self.old.block [] text.now) }
         ensures empty { OnOk result (self.new.block ≡ []) }
-        ensures front { OnErr result (SentFront (W.contents self.old.wrapped.inner) (W.contents self.new.wrapped.inner)
+        ensures front { OnErr result (SentFront (W.contents self.old.wrapped) (W.contents self.new.wrapped)
             self.old.block text.now) }
-        ensures failed { self.new.wrapped.failed ≡ is_err result }
+        ensures failed { W.has_failed self.new.wrapped ≡ is_err result }
     {
         match self.put(text) {
             Ok(()) => self.flush(),

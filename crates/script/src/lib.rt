@@ -18,9 +18,12 @@ mod counted;
 mod error;
 mod lines;
 mod map;
+mod memory;
 mod running;
+mod streams;
 mod wrapped;
 
 pub use counted::Counted;
 pub use error::RunError;
+pub use memory::run_in_memory;
 pub use running::{report, report_with_map, run};

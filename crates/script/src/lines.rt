@@ -4,12 +4,11 @@ ghost use Rattle.std.specs.Prelude.{◌≡◌, ◌≢◌, ◌≤◌, ◌⊎◌, 
 ghost use Rattle.std.specs.Io.KnownBytes.{prepend_known};
 ghost use Rattle.script.specs.Bytes.{IsAnswered, ReadLine, Sent};
 
-use crate::counted::{Counted, Taken};
+use crate::counted::{Stream, Taken};
 use crate::error::RunError;
-use crate::wrapped::Failed;
+use crate::streams::{Failed, Sink, Source};
 use arrayvec::ArrayVec;
 use dmatypes::LONGEST_LINE;
-use std::io::{Read, Write};
 
 /// How a line ended.
 #[derive(Clone, Copy, Debug, PartialEq, Eq)]
@@ -28,22 +27,22 @@ pub(crate) enum LineEnd {
 /// longest line has.
 /// What is still to be written is written before each read, so that whoever feeds the reader has all
 /// answers to the lines that it was given.
-pub(crate) fn next_line<R: Read, W: Write>(
-    reader: &mut Counted<R>,
-    writer: &mut Counted<W>,
+pub(crate) fn next_line<R: Source, W: Sink>(
+    reader: &mut Stream<R>,
+    writer: &mut Stream<W>,
     line: &mut ArrayVec<u8, LONGEST_LINE>,
 ) -> Result<LineEnd, RunError>
-    requires reader { reader.old.wrapped.failed ≡ false }
-    requires writer { writer.old.wrapped.failed ≡ false }
+    requires reader { R.has_failed reader.old.wrapped ≡ false }
+    requires writer { W.has_failed writer.old.wrapped ≡ false }
     ensures few { length line.new.items ≤ LONGEST_LINE }
-    ensures bytes { ReadLine (prepend_known reader.old.block (R.remaining reader.old.wrapped.inner))
-        (prepend_known reader.new.block (R.remaining reader.new.wrapped.inner)) line.new.items result }
-    ensures sent { Sent (W.contents writer.old.wrapped.inner) (W.contents writer.new.wrapped.inner) writer.old.block writer.new.block [] }
+    ensures bytes { ReadLine (prepend_known reader.old.block (R.remaining reader.old.wrapped))
+        (prepend_known reader.new.block (R.remaining reader.new.wrapped)) line.new.items result }
+    ensures sent { Sent (W.contents writer.old.wrapped) (W.contents writer.new.wrapped) writer.old.block writer.new.block [] }
     ensures answered { IsAnswered writer.new.block result }
-    ensures ok { OnOk result ((reader.new.wrapped.failed ≡ false) × (writer.new.wrapped.failed ≡ false)) }
-    ensures read { result ≡ Err RunError.Read → (reader.new.wrapped.failed ≡ true) × (writer.new.wrapped.failed ≡ false) }
+    ensures ok { OnOk result ((R.has_failed reader.new.wrapped ≡ false) × (W.has_failed writer.new.wrapped ≡ false)) }
+    ensures read { result ≡ Err RunError.Read → (R.has_failed reader.new.wrapped ≡ true) × (W.has_failed writer.new.wrapped ≡ false) }
     ensures used_up { result ≡ Err RunError.Read → reader.new.block ≡ [] }
-    ensures write { result ≡ Err RunError.Write → (reader.new.wrapped.failed ≡ false) × (writer.new.wrapped.failed ≡ true) }
+    ensures write { result ≡ Err RunError.Write → (R.has_failed reader.new.wrapped ≡ false) × (W.has_failed writer.new.wrapped ≡ true) }
     ensures no_other { OnErr result ((result ≡ Err RunError.Read) ⊎ (result ≡ Err RunError.Write)) }
 {
     line.clear();

@@ -1,17 +1,18 @@
 //! The map of a manager's address spaces: which runs of their pages are live, retired and free, and the retired records.
 
-ghost use Rattle.std.specs.Prelude.{◌≡◌, ◌↔◌, ◌⊎◌, [], Err, true, false, is_err, IsErrOf};
+ghost use Rattle.std.specs.Prelude.{◌≡◌, ◌↔◌, ◌⊎◌, ℕ, List, [], Err, true, false, is_err, IsErrOf, OnOk};
+ghost use Rattle.script.specs.Bytes.{PutsSome};
+ghost use Rattle.script.specs.Reported.{Concludes};
 
-use crate::counted::Counted;
+use crate::counted::Stream;
 use crate::error::RunError;
-use crate::wrapped::Failed;
+use crate::streams::{Failed, Sink};
 use arrayvec::ArrayString;
 use dmatypes::{MOST_DOMAINS, MOST_RECORDS, Mode, PAGE_BYTES};
 use engine::{RetiredRecord, State};
 use iova::{Iter, PageState, Piece};
 use std::fmt;
 use std::fmt::Write as _;
-use std::io::Write;
 
 // The most bytes of a line: 100 columns, and the newline.
 const LINE_BYTES: usize = 101;
@@ -19,31 +20,43 @@ const LINE_BYTES: usize = 101;
 type Line = ArrayString<LINE_BYTES>;
 
 /// Writes the map at the end of a report. Nothing follows a write that failed.
-pub(crate) fn send_map<W: Write>(
-    writer: &mut Counted<W>,
+pub(crate) fn send_map<W: Sink>(
+    writer: &mut Stream<W>,
     state: &State,
     end: Result<(), RunError>,
 ) -> Result<(), RunError>
-    requires { (writer.old.wrapped.failed ≡ true) ↔ IsErrOf end RunError.Write }
-    ensures writer { (writer.new.wrapped.failed ≡ true) ↔ IsErrOf result RunError.Write }
+    requires { (W.has_failed writer.old.wrapped ≡ true) ↔ IsErrOf end RunError.Write }
+    ensures writer { (W.has_failed writer.new.wrapped ≡ true) ↔ IsErrOf result RunError.Write }
     ensures same { (result ≡ Err RunError.Write) ⊎ ((result ≡ end) × (writer.new.block ≡ [])) }
+    ensures sent { (map : List ℕ) × Concludes (W.contents writer.old.wrapped) (W.contents writer.new.wrapped)
+        writer.old.block writer.new.block map end result }
 {
     if let Err(RunError::Write) = end {
         return end;
     }
-    match put_domains(writer, state) {
-        Ok(()) => {}
-        Err(Failed) => return Err(RunError::Write),
-    }
-    match writer.flush() {
+    match draw(writer, state) {
         Ok(()) => end,
         Err(Failed) => Err(RunError::Write),
     }
 }
 
-fn put_domains<W: Write>(writer: &mut Counted<W>, state: &State) -> Result<(), Failed>
-    requires { writer.old.wrapped.failed ≡ false }
-    ensures { writer.new.wrapped.failed ≡ is_err result }
+// The map is written, to its last byte.
+#[tactic(auto, using(crate::proofs::Known::puts_nothing, crate::proofs::Known::puts_more))]
+fn draw<W: Sink>(writer: &mut Stream<W>, state: &State) -> Result<(), Failed>
+    requires { W.has_failed writer.old.wrapped ≡ false }
+    ensures put { PutsSome (W.contents writer.old.wrapped) (W.contents writer.new.wrapped) writer.old.block writer.new.block }
+    ensures empty { OnOk result (writer.new.block ≡ []) }
+    ensures failed { W.has_failed writer.new.wrapped ≡ is_err result }
+{
+    put_domains(writer, state)?;
+    writer.flush()
+}
+
+#[tactic(auto, using(crate::proofs::Known::puts_nothing, crate::proofs::Known::puts_more))]
+fn put_domains<W: Sink>(writer: &mut Stream<W>, state: &State) -> Result<(), Failed>
+    requires { W.has_failed writer.old.wrapped ≡ false }
+    ensures put { PutsSome (W.contents writer.old.wrapped) (W.contents writer.new.wrapped) writer.old.block writer.new.block }
+    ensures failed { W.has_failed writer.new.wrapped ≡ is_err result }
 {
     for index in 0..MOST_DOMAINS {
         put_domain(writer, state, index + 1)?;
@@ -52,9 +65,11 @@ fn put_domains<W: Write>(writer: &mut Counted<W>, state: &State) -> Result<(), F
 }
 
 // The runs of a domain, and its retired records. None, where there is no such domain.
-fn put_domain<W: Write>(writer: &mut Counted<W>, state: &State, id: u64) -> Result<(), Failed>
-    requires { writer.old.wrapped.failed ≡ false }
-    ensures { writer.new.wrapped.failed ≡ is_err result }
+#[tactic(auto, using(crate::proofs::Known::puts_nothing, crate::proofs::Known::puts_more))]
+fn put_domain<W: Sink>(writer: &mut Stream<W>, state: &State, id: u64) -> Result<(), Failed>
+    requires { W.has_failed writer.old.wrapped ≡ false }
+    ensures put { PutsSome (W.contents writer.old.wrapped) (W.contents writer.new.wrapped) writer.old.block writer.new.block }
+    ensures failed { W.has_failed writer.new.wrapped ≡ is_err result }
 {
     let Some(totals) = state.domain_totals(id) else {
         return Ok(());
@@ -67,9 +82,11 @@ fn put_domain<W: Write>(writer: &mut Counted<W>, state: &State, id: u64) -> Resu
     put_records(writer, state, id)
 }
 
-fn put_runs<W: Write>(writer: &mut Counted<W>, pieces: Iter<'_>) -> Result<(), Failed>
-    requires { writer.old.wrapped.failed ≡ false }
-    ensures { writer.new.wrapped.failed ≡ is_err result }
+#[tactic(auto, using(crate::proofs::Known::puts_nothing, crate::proofs::Known::puts_more))]
+fn put_runs<W: Sink>(writer: &mut Stream<W>, pieces: Iter<'_>) -> Result<(), Failed>
+    requires { W.has_failed writer.old.wrapped ≡ false }
+    ensures put { PutsSome (W.contents writer.old.wrapped) (W.contents writer.new.wrapped) writer.old.block writer.new.block }
+    ensures failed { W.has_failed writer.new.wrapped ≡ is_err result }
 {
     for piece in pieces {
         put_line(writer, &run_line(piece))?;
@@ -77,9 +94,11 @@ fn put_runs<W: Write>(writer: &mut Counted<W>, pieces: Iter<'_>) -> Result<(), F
     Ok(())
 }
 
-fn put_records<W: Write>(writer: &mut Counted<W>, state: &State, id: u64) -> Result<(), Failed>
-    requires { writer.old.wrapped.failed ≡ false }
-    ensures { writer.new.wrapped.failed ≡ is_err result }
+#[tactic(auto, using(crate::proofs::Known::puts_nothing, crate::proofs::Known::puts_more))]
+fn put_records<W: Sink>(writer: &mut Stream<W>, state: &State, id: u64) -> Result<(), Failed>
+    requires { W.has_failed writer.old.wrapped ≡ false }
+    ensures put { PutsSome (W.contents writer.old.wrapped) (W.contents writer.new.wrapped) writer.old.block writer.new.block }
+    ensures failed { W.has_failed writer.new.wrapped ≡ is_err result }
 {
     for index in 0..MOST_RECORDS {
         let Some(record) = state.retired_record(id, index as usize) else {
@@ -90,9 +109,10 @@ fn put_records<W: Write>(writer: &mut Counted<W>, state: &State, id: u64) -> Res
     Ok(())
 }
 
-fn put_line<W: Write>(writer: &mut Counted<W>, line: &Line) -> Result<(), Failed>
-    requires { writer.old.wrapped.failed ≡ false }
-    ensures { writer.new.wrapped.failed ≡ is_err result }
+fn put_line<W: Sink>(writer: &mut Stream<W>, line: &Line) -> Result<(), Failed>
+    requires { W.has_failed writer.old.wrapped ≡ false }
+    ensures put { PutsSome (W.contents writer.old.wrapped) (W.contents writer.new.wrapped) writer.old.block writer.new.block }
+    ensures failed { W.has_failed writer.new.wrapped ≡ is_err result }
 {
     writer.put(line.as_str().as_bytes())
 }

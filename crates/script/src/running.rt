@@ -3,14 +3,14 @@
 ghost use Rattle.std.specs.Prelude.{◌≡◌, ◌↔◌, ◌≤◌, ◌⊎◌, [], Err, true, false, length, IsErrOf};
 ghost use Rattle.std.specs.Io.KnownBytes.{prepend_known};
 ghost use Rattle.manager.specs.Kept.{IsNamedBy};
-ghost use Rattle.script.specs.Reported.{Concludes, OutputKnown, ReaderEnds, ReportedKnown, replies_of};
+ghost use Rattle.script.specs.Reported.{Concludes, MappedKnown, OutputKnown, ReaderEnds, ReportedKnown, replies_of};
 ghost use Rattle.script.specs.Run.{IsAllSent, RanKnown};
 
 use crate::answering::{Replies, answer_lines};
-use crate::counted::Counted;
+use crate::counted::{Counted, Stream};
 use crate::error::RunError;
 use crate::map::send_map;
-use crate::wrapped::Failed;
+use crate::streams::{Failed, Sink, Source};
 use manager::{Config, Made, Manager, Owner, Report, Seed};
 use std::alloc::Global;
 use std::io::{Read, Write};
@@ -54,10 +54,7 @@ pub fn run<T: Wait, R: Read, W: Write>(
     ensures all_sent { IsAllSent writer.new.block result }
     ensures no_memory { IsErrOf result RunError.NoMemory → (reader.new ≡ reader.old) × (writer.new ≡ writer.old) }
 {
-    let Ok(seed) = Seed::new(alloc, config) else {
-        return Err(RunError::NoMemory);
-    };
-    work_through::<Brand, T, R, W>(rt, alloc, reader, writer, seed, Output::Answers)
+    work(rt, alloc, reader, writer, config, Output::Answers)
 }
 
 /// Reads a script to its first bad line as `run` does, on a manager of its own, and writes no answers, but at the end the
@@ -90,17 +87,14 @@ pub fn report<T: Wait, R: Read, W: Write>(
     let Ok(text) = Report::new(alloc) else {
         return Err(RunError::NoMemory);
     };
-    let Ok(seed) = Seed::new(alloc, config) else {
-        return Err(RunError::NoMemory);
-    };
-    work_through::<Brand, T, R, W>(rt, alloc, reader, writer, seed, Output::Report(text))
+    work(rt, alloc, reader, writer, config, Output::Report(text))
 }
 
 /// Reads a script as `report` does, and writes behind the report a map: for each domain the runs of its pages, live, retired or
 /// free, with their first and last byte addresses, how many pages they have and a bar of a mark for each binary digit of that
 /// number, and then its retired records, the oldest first, with their marks.
 ///
-/// It ends as `report` does. What the map says is not part of the contract.
+/// It ends as `report` does, and what it writes begins with what `report` writes. What the map says is not part of the contract.
 pub fn report_with_map<T: Wait, R: Read, W: Write>(
     rt: &T,
     alloc: Global,
@@ -111,6 +105,10 @@ pub fn report_with_map<T: Wait, R: Read, W: Write>(
     requires one { config.shares ≡ 1 }
     requires reader { reader.old.wrapped.failed ≡ false }
     requires writer { writer.old.wrapped.failed ≡ false }
+    ensures written { MappedKnown (record { frames = config.frames; room = config.calls; caching = config.caching })
+        (prepend_known reader.old.block (R.remaining reader.old.wrapped.inner))
+        (prepend_known reader.new.block (R.remaining reader.new.wrapped.inner))
+        (W.contents writer.old.wrapped.inner) writer.old.block (W.contents writer.new.wrapped.inner) result }
     ensures read { IsErrOf result RunError.Read → reader.new.wrapped.failed ≡ true }
     ensures reader { reader.new.wrapped.failed ≡ true → IsErrOf result RunError.Read ⊎ IsErrOf result RunError.Write }
     ensures writer { (writer.new.wrapped.failed ≡ true) ↔ IsErrOf result RunError.Write }
@@ -121,31 +119,56 @@ pub fn report_with_map<T: Wait, R: Read, W: Write>(
     let Ok(text) = Report::new(alloc) else {
         return Err(RunError::NoMemory);
     };
+    work(rt, alloc, reader, writer, config, Output::Map(text))
+}
+
+// Makes a manager, and works through the script on it.
+pub(crate) fn work<T: Wait, R: Source, W: Sink>(
+    rt: &T,
+    alloc: Global,
+    reader: &mut Stream<R>,
+    writer: &mut Stream<W>,
+    config: Config,
+    output: Output,
+) -> Result<(), RunError>
+    requires one { config.shares ≡ 1 }
+    requires reader { R.has_failed reader.old.wrapped ≡ false }
+    requires writer { W.has_failed writer.old.wrapped ≡ false }
+    ensures written { OutputKnown output (record { frames = config.frames; room = config.calls; caching = config.caching })
+        (prepend_known reader.old.block (R.remaining reader.old.wrapped))
+        (prepend_known reader.new.block (R.remaining reader.new.wrapped))
+        (W.contents writer.old.wrapped) writer.old.block (W.contents writer.new.wrapped) result }
+    ensures reader { ReaderEnds output (R.has_failed reader.new.wrapped) result }
+    ensures writer { (W.has_failed writer.new.wrapped ≡ true) ↔ IsErrOf result RunError.Write }
+    ensures used_up { IsErrOf result RunError.Read → reader.new.block ≡ [] }
+    ensures all_sent { IsAllSent writer.new.block result }
+    ensures no_memory { IsErrOf result RunError.NoMemory → (reader.new ≡ reader.old) × (writer.new ≡ writer.old) }
+{
     let Ok(seed) = Seed::new(alloc, config) else {
         return Err(RunError::NoMemory);
     };
-    work_through::<Brand, T, R, W>(rt, alloc, reader, writer, seed, Output::Map(text))
+    work_through::<Brand, T, R, W>(rt, alloc, reader, writer, seed, output)
 }
 
 // Makes the manager of a seed, over an owner that names it, works through the script, and writes what is to be written.
-fn work_through<B: Owner, T: Wait, R: Read, W: Write>(
+fn work_through<B: Owner, T: Wait, R: Source, W: Sink>(
     rt: &T,
     alloc: Global,
-    reader: &mut Counted<R>,
-    writer: &mut Counted<W>,
+    reader: &mut Stream<R>,
+    writer: &mut Stream<W>,
     seed: Seed,
     output: Output,
 ) -> Result<(), RunError>
     requires named { IsNamedBy seed B.name B.parts B.shares B.room B.frames B.mode B.rows }
     requires one { seed.shares ≡ 1 }
-    requires reader { reader.old.wrapped.failed ≡ false }
-    requires writer { writer.old.wrapped.failed ≡ false }
+    requires reader { R.has_failed reader.old.wrapped ≡ false }
+    requires writer { W.has_failed writer.old.wrapped ≡ false }
     ensures written { OutputKnown output (record { frames = seed.frames; room = seed.room; caching = seed.caching })
-        (prepend_known reader.old.block (R.remaining reader.old.wrapped.inner))
-        (prepend_known reader.new.block (R.remaining reader.new.wrapped.inner))
-        (W.contents writer.old.wrapped.inner) writer.old.block (W.contents writer.new.wrapped.inner) result }
-    ensures reader { ReaderEnds output reader.new.wrapped.failed result }
-    ensures writer { (writer.new.wrapped.failed ≡ true) ↔ IsErrOf result RunError.Write }
+        (prepend_known reader.old.block (R.remaining reader.old.wrapped))
+        (prepend_known reader.new.block (R.remaining reader.new.wrapped))
+        (W.contents writer.old.wrapped) writer.old.block (W.contents writer.new.wrapped) result }
+    ensures reader { ReaderEnds output (R.has_failed reader.new.wrapped) result }
+    ensures writer { (W.has_failed writer.new.wrapped ≡ true) ↔ IsErrOf result RunError.Write }
     ensures used_up { IsErrOf result RunError.Read → reader.new.block ≡ [] }
     ensures all_sent { IsAllSent writer.new.block result }
     ensures no_memory { IsErrOf result RunError.NoMemory → (reader.new ≡ reader.old) × (writer.new ≡ writer.old) }
@@ -201,15 +224,15 @@ fn replies_for(output: &Output) -> Replies
 }
 
 // Writes a report at the end of a script. Nothing follows a write that failed.
-fn send_report<W: Write>(
-    writer: &mut Counted<W>,
+fn send_report<W: Sink>(
+    writer: &mut Stream<W>,
     text: &Report,
     end: Result<(), RunError>,
 ) -> Result<(), RunError>
-    requires { (writer.old.wrapped.failed ≡ true) ↔ IsErrOf end RunError.Write }
-    ensures sent { Concludes (W.contents writer.old.wrapped.inner) (W.contents writer.new.wrapped.inner)
+    requires { (W.has_failed writer.old.wrapped ≡ true) ↔ IsErrOf end RunError.Write }
+    ensures sent { Concludes (W.contents writer.old.wrapped) (W.contents writer.new.wrapped)
         writer.old.block writer.new.block text.now end result }
-    ensures writer { (writer.new.wrapped.failed ≡ true) ↔ IsErrOf result RunError.Write }
+    ensures writer { (W.has_failed writer.new.wrapped ≡ true) ↔ IsErrOf result RunError.Write }
     ensures same { (result ≡ end) ⊎ (result ≡ Err RunError.Write) }
 {
     if let Err(RunError::Write) = end {

@@ -61,7 +61,9 @@ In these:
 
 In a strict domain unmapped pages are free when 'unmap' answers; in a lazy one
 the unit may use them until they are released, and no 'map' answers them before.
-Addresses 0xfee00000 to 0xfeefffff are the interrupt window, and no pages.
+Page 0, addresses 0 to 0xfff, is never mapped, and addresses 0xfee00000 to
+0xfeefffff are the interrupt window: these are no pages, and an 'unmap' that
+touches them is a bad range.
 
 A call that can't be done is 'refused', with one of these numbers:
 
@@ -73,15 +75,17 @@ A call that can't be done is 'refused', with one of these numbers:
 
 Numbers are decimal with no leading zero, or 0x and 1 to 16 hexadecimal digits,
 0 to 9 and a to f and no capitals. One space stands between two fields, and none
-at an end of a line. A line has at most 512 bytes and ends with a newline, the
-last one too, with no carriage return before it. No line is empty, and none is a
-comment. At the first line that isn't so the work stops: standard error says
-'line L', the line's number from 1, and the lines before it are done.
+at an end of a line. A line has at most 512 bytes and ends with a newline, with
+no carriage return before it. A last line that lacks its newline is a bad line
+too. No line is empty, and none is a comment. At the first line that isn't so
+the work stops: standard error says 'line L', the line's number from 1, and the
+lines before it are done.
 
 Exit status: 0 done; 1 input or output failed; 2 a bad line or a bad command
-line; 3 no memory, or, for a storm, no thread. The history takes about 300 bytes
-of memory for each call that it has room for, at the start. The table frames are
-host frames 0 and on, and can't be mapped.
+line; 3 no memory, or, for a storm, no thread. At the start the history asks for
+about 300 bytes for each call that it has room for; where the system gives
+memory only as it is used, it takes them call by call. The table frames are host
+frames 0 and on, and can't be mapped.
 
 Examples:
 

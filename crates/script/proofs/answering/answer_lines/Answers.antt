@@ -18,8 +18,8 @@ returns-in-Ok-Nothing-clause-written g c =
     let h = rw c.in-Ok-Nothing.field-0-is at c.in-Ok-Nothing.ensures.bytes in
     let empty = rw c.in-Ok-Nothing.field-0-is at c.in-Ok-Nothing.ensures.answered in
     ends _ _ _ _ _ _ _ _ _ _ c.loop.book c.loop.number tt c.loop.invariant.going h.0 h.1
-    (subst (λ (b : List ℕ). Sent (g.W.Write.contents c.loop.writer.wrapped.inner)
-    (g.W.Write.contents c.next_line.new.writer.wrapped.inner) c.loop.writer.block b []) empty c.in-Ok-Nothing.ensures.sent)
+    (subst (λ (b : List ℕ). Sent (g.W.Sink.contents c.loop.writer.wrapped)
+    (g.W.Sink.contents c.next_line.new.writer.wrapped) c.loop.writer.block b []) empty c.in-Ok-Nothing.ensures.sent)
 
 pub returns-in-Ok-Cut-clause-written : goal.returns-in-Ok-Cut-clause-written
 returns-in-Ok-Cut-clause-written g c =
@@ -27,8 +27,8 @@ returns-in-Ok-Cut-clause-written g c =
     let empty = rw c.in-Ok-Cut.field-0-is at c.in-Ok-Cut.ensures.answered in
     stops_cut _ _ _ _ _ _ _ _ _ _ _ c.loop.book c.loop.number c.next_line.new.line.items c.loop.invariant.going h.0 h.1
     c.in-Ok-Cut.ensures.few h.2 h.3
-    (subst (λ (b : List ℕ). Sent (g.W.Write.contents c.loop.writer.wrapped.inner)
-    (g.W.Write.contents c.next_line.new.writer.wrapped.inner) c.loop.writer.block b []) empty c.in-Ok-Cut.ensures.sent)
+    (subst (λ (b : List ℕ). Sent (g.W.Sink.contents c.loop.writer.wrapped)
+    (g.W.Sink.contents c.next_line.new.writer.wrapped) c.loop.writer.block b []) empty c.in-Ok-Cut.ensures.sent)
 
 pub returns-in-Ok-Long-clause-written : goal.returns-in-Ok-Long-clause-written
 returns-in-Ok-Long-clause-written g c =

@@ -6,14 +6,14 @@ use Rattle.script.proofs.lines.next_line.Given as goal
 
 abbrev pub invariant-reading : goal.invariant-reading
 invariant-reading g l = record {
-  read : Consumes (prepend_known l.fn.reader.block (g.R.Read.remaining l.fn.reader.wrapped.inner))
-      (prepend_known l.reader.block (g.R.Read.remaining l.reader.wrapped.inner)) l.line.items;
+  read : Consumes (prepend_known l.fn.reader.block (g.R.Source.remaining l.fn.reader.wrapped))
+      (prepend_known l.reader.block (g.R.Source.remaining l.reader.wrapped)) l.line.items;
   whole : IsUnbroken l.line.items;
   few : length l.line.items ≤ LONGEST_LINE;
-  sent : Sent (g.W.Write.contents l.fn.writer.wrapped.inner) (g.W.Write.contents l.writer.wrapped.inner) l.fn.writer.block l.writer.block
+  sent : Sent (g.W.Sink.contents l.fn.writer.wrapped) (g.W.Sink.contents l.writer.wrapped) l.fn.writer.block l.writer.block
       [];
-  reader : l.reader.wrapped.failed ≡ false;
-  writer : l.writer.wrapped.failed ≡ false;
+  reader : g.R.Source.has_failed l.reader.wrapped ≡ false;
+  writer : g.W.Sink.has_failed l.writer.wrapped ≡ false;
 }
 
 -- a block that isn't empty makes the line longer

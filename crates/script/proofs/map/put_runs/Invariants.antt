@@ -1,6 +1,10 @@
 use Rattle.std.proofs.Common.{◌≡◌, false}
+use Rattle.script.specs.Bytes.{PutsSome}
 use Rattle.script.proofs.map.put_runs.Given as goal
 
--- no write has failed so far
+-- some text was put so far, and no write has failed
 abbrev pub invariant-loop-piece : goal.invariant-loop-piece
-invariant-loop-piece g l = l.writer.wrapped.failed ≡ false
+invariant-loop-piece g l = record {
+  put : PutsSome (g.W.Sink.contents l.fn.writer.wrapped) (g.W.Sink.contents l.writer.wrapped) l.fn.writer.block l.writer.block;
+  unfailed : g.W.Sink.has_failed l.writer.wrapped ≡ false;
+}

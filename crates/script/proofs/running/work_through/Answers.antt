@@ -1,7 +1,7 @@
 use Rattle.std.proofs.Common.{◌≡◌, ℕ, ◌<◌, List, [], ◌∷◌, ◌++◌, get_or, length, arith, length-append, refl, sym, ap, subst, ◌∙◌}
 use Rattle.std.proofs.Math.Seq.{get_or-append_seam}
 use Rattle.manager.specs.Kept.{Share, new_share}
-use Rattle.script.proofs.Concluding.{answers_known, nothing_written, report_is_known}
+use Rattle.script.proofs.Concluding.{answers_known, map_known, nothing_written, report_known}
 use Rattle.script.proofs.running.work_through.Goals as goal
 
 -- what all have, the last one has
@@ -32,11 +32,16 @@ returns-in-Answers-clause-written g c =
     c.answer_lines-end.result c.in-Answers.is c.replies_for.ensures c.answer_lines-end.ensures.written)
 
 pub returns-clause-written : goal.returns-clause-written
-returns-clause-written g c = rw c.in-Map.is tt
+returns-clause-written g c =
+    rw (c.requires.named.frames_are, c.requires.named.room_is, c.requires.named.mode_is) (map_known _ c.args.output c.replies_for.result _ _ _ _ _ _
+    _ _ _ c.answer_lines-end.new.writer.block c.send_report-end.new.writer.block c.send_map.new.writer.block
+    c.answer_lines-end.new.book c.answer_lines-end.result c.send_report-end.result c.send_map.result c.in-Map.is c.replies_for.ensures
+    c.answer_lines-end.ensures.written c.answer_lines-end.ensures.all_sent (λ e. c.answer_lines-end.ensures.memory (rw e refl))
+    (rw c.write_report-in-Map.ensures at c.send_report-end.ensures.sent) c.send_map.ensures.sent)
 
 pub returns-in-Report-clause-written : goal.returns-in-Report-clause-written
 returns-in-Report-clause-written g c =
-    rw (c.requires.named.frames_are, c.requires.named.room_is, c.requires.named.mode_is) (report_is_known _ c.args.output c.replies_for.result _ _ _ _ _ _ _ _
+    rw (c.requires.named.frames_are, c.requires.named.room_is, c.requires.named.mode_is) (report_known _ c.args.output c.replies_for.result _ _ _ _ _ _ _ _
     c.answer_lines-end.new.writer.block c.send_report.new.writer.block c.answer_lines-end.new.book
     c.answer_lines-end.result c.send_report.result c.in-Report.is c.replies_for.ensures c.answer_lines-end.ensures.written
     c.answer_lines-end.ensures.all_sent (λ e. c.answer_lines-end.ensures.memory (rw e refl))

@@ -1,12 +1,12 @@
 use Rattle.std.proofs.Common.{◌≡◌, [], false, length}
 use Rattle.script.specs.Bytes.{Sent}
-use Rattle.script.proofs.counted.Counted.flush.Given as goal
+use Rattle.script.proofs.counted.Stream.flush.Given as goal
 
 -- what is no more in the block was written
 abbrev pub invariant-loop-self : goal.invariant-loop-self
 invariant-loop-self g l = record {
-  sent : Sent (g.W.Write.contents l.fn.self.wrapped.inner) (g.W.Write.contents l.self.wrapped.inner) l.fn.self.block l.self.block [];
-  unfailed : l.self.wrapped.failed ≡ false;
+  sent : Sent (g.W.Sink.contents l.fn.self.wrapped) (g.W.Sink.contents l.self.wrapped) l.fn.self.block l.self.block [];
+  unfailed : g.W.Sink.has_failed l.self.wrapped ≡ false;
 }
 
 abbrev pub decreases-loop-self : goal.decreases-loop-self

@@ -1,6 +1,6 @@
 use Rattle.std.proofs.Common.{Result, Ok, Err, OnErr}
 use Rattle.script.proofs.Known.{front_with, front_without, sent_on}
-use Rattle.script.proofs.counted.Counted.send.Goals as goal
+use Rattle.script.proofs.counted.Stream.send.Goals as goal
 
 always : {A E : Type 0} (r : Result A E) (P : Type 0) → P → OnErr r P
 always (Ok a) P p = tt

@@ -1,7 +1,7 @@
 use Rattle.std.proofs.Common.{◌≡◌, ◌≤◌, ◌++◌, List, ℕ, length}
 use Rattle.script.specs.Bytes.{IsUnbroken}
 use Rattle.dmatypes.specs.declared.limits.TheConstants.{LONGEST_LINE}
-use Rattle.script.proofs.counted.Counted.take_line.Given as goal
+use Rattle.script.proofs.counted.Stream.take_line.Given as goal
 
 -- what is no more in the block is in the line
 abbrev pub invariant-loop-byte : goal.invariant-loop-byte

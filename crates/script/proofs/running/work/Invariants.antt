@@ -1,4 +1,4 @@
-use Rattle.script.proofs.running.report_with_map.Given as goal
+use Rattle.script.proofs.running.work.Given as goal
 
 -- what the seed has
 abbrev pub ghosts-work_through-B-Ledger : goal.ghosts-work_through-B-Ledger

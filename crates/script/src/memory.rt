@@ -1,0 +1,75 @@
+//! A run over memory, which never fails to read or to write.
+
+ghost use Rattle.std.specs.Prelude.{◌≡◌, List, ℕ, [], Some, true, false, IsErrOf};
+ghost use Rattle.script.specs.Run.{Ran};
+
+use crate::counted::Stream;
+use crate::error::RunError;
+use crate::running::{Output, work};
+use crate::streams::{Sink, Source};
+use manager::Config;
+use std::alloc::Global;
+use std::io::Read;
+use std::sync::Wait;
+use std::{io, mem};
+
+/// No read of bytes in memory fails.
+impl Source for &[u8] {
+    ghost remaining = { λ bytes. Some bytes.now };
+
+    ghost has_failed = { λ _. false };
+
+    fn read(&mut self, bytes: &mut [u8]) -> io::Result<usize> {
+        Read::read(self, bytes)
+    }
+}
+
+/// Bytes in memory, to which more are put, and whether there was no memory for some.
+#[derive(Drop)]
+struct Growing {
+    bytes: Vec<u8>,
+    refused: bool,
+}
+
+impl Sink for Growing {
+    ghost contents = { λ g. Some g.bytes.items };
+
+    ghost has_failed = { λ g. g.refused };
+
+    fn write(&mut self, bytes: &[u8]) -> io::Result<usize> {
+        if let Err(error) = self.bytes.extend_from_slice(bytes) {
+            self.refused = true;
+            return Err(io::Error::from(error));
+        }
+        Ok(bytes.len())
+    }
+}
+
+/// Runs a script that lies in memory as `run` does, and puts the answers behind the bytes that are there.
+///
+/// It never answers that a read or a write failed. Where there is no memory for answers, a beginning of them is put there.
+pub fn run_in_memory<T: Wait>(
+    rt: &T,
+    alloc: Global,
+    script: &[u8],
+    answers: &mut Vec<u8>,
+    config: Config,
+) -> Result<(), RunError>
+    requires one { config.shares ≡ 1 }
+    ensures written { (left written : List ℕ) × Ran (record { frames = config.frames; room = config.calls; caching = config.caching })
+        script.now left answers.old.items [] answers.new.items written result }
+    ensures read { IsErrOf result RunError.Read → ⊥ }
+    ensures write { IsErrOf result RunError.Write → ⊥ }
+{
+    let mut reader = Stream::over(script);
+    let mut writer = Stream::over(Growing {
+        bytes: mem::replace(answers, Vec::new(alloc)),
+        refused: false,
+    });
+    let end = work(rt, alloc, &mut reader, &mut writer, config, Output::Answers);
+    *answers = writer.into_wrapped().bytes;
+    match end {
+        Err(RunError::Write) => Err(RunError::NoMemory),
+        end => end,
+    }
+}
