@@ -7,6 +7,9 @@ nothing), or all is as with ample memory. Of `memory` one thing lacks memory, an
 the answer is `no thread` where a thread is refused. Where a request is refused that the toolchain or the C library makes for a
 thread, either may be answered; there are no others once the first thread was asked for. No run holds a block at its end.
 
+An address space that is too small has no room for what the program asks for, or for its stack to grow: within it `vtdm` answers
+that there is no memory, or all, from where the system can load it on.
+
 That each way to ask for memory is seen is tried first, by a program of its own; and the programs import no other way. The last
 line is `N passed, M failed`."""
 
@@ -32,6 +35,12 @@ OTHER_WAYS = {
     *("getline", "getdelim", "fopen", "fdopen", "open_memstream", "opendir", "getaddrinfo"),
 }
 SCRIPT = b"domain strict\nattach 3 1\nmap 1 0x400 512 9 rw\nunmap 1 0x201000 1\ndma 3 0x202000 r look fill\n"
+# An address space of as many KiB is given to a command; and how far they lie apart, from the least one tried on: a page. Past the one
+# in which a program first has room so many more are tried.
+WITHIN = 'ulimit -v "$0" && exec "$@"'
+SPACE_STEP, LEAST_SPACE, MORE_SPACES = 4, 1_000, 20
+# What the system says of a program for whose libraries there is no room, and with which status.
+NOT_LOADED = (127, b"error while loading shared libraries")
 NO_MEMORY = (3, b"no memory\n")
 NO_THREAD = (3, b"no thread\n")
 
@@ -136,6 +145,34 @@ def fault_of_threads(room):
     return fault_of_requests(ample)
 
 
+def within(space, words):
+    """What a program does in an address space of as many KiB: its status, its output and what it said."""
+    ran = subprocess.run(["bash", "-c", WITHIN, str(space), *words], input=SCRIPT, capture_output=True, env={}, timeout=60)
+    return ran.returncode, ran.stdout, ran.stderr
+
+
+def fault_of_spaces():
+    """Why the program does otherwise than to say that there is no memory, or to do all, in an address space in which it is loaded."""
+    for words in ([VTDM, "run", *SMALL], [VTDM, "report", *SMALL], [VTDM, "report", "--iova", *SMALL]):
+        ample = within("unlimited", words)
+        space, is_loaded, done, lacked = LEAST_SPACE, False, 0, 0
+        while done < MORE_SPACES:
+            space += SPACE_STEP
+            status, output, said = within(space, words)
+            if not is_loaded and (status < 0 or status >= 127):
+                continue
+            is_loaded = True
+            if (status, output, said) == ample:
+                done += 1
+            elif (status, said) == NO_MEMORY and ample[1].startswith(output):
+                lacked, done = lacked + 1, 0
+            else:
+                return f"{words[1:]} in {space} KiB: status {status}, {said!r}, {output!r}"
+        if ample[0] or not lacked:
+            return f"{words[1:]}: status {ample[0]}, and {lacked} times there was no memory"
+    return None
+
+
 def fault_of_ways(room):
     """Why a way to ask for memory isn't seen, if one isn't: each is refused in turn, and else given."""
     for number in range(len(WAYS) + 1):
@@ -171,6 +208,7 @@ def main():
         for name, *case in CASES:
             steps[f"refused memory, {name}"] = lambda case=case: fault_of(room, *case)
         steps["refused threads"] = lambda: fault_of_threads(room)
+        steps["address spaces that are too small"] = fault_of_spaces
         for name, step in steps.items():
             faults[name] = step()
             print(f"{name}: {faults[name] or 'ok'}", flush=True)

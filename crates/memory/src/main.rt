@@ -8,6 +8,7 @@ use dmatypes::{Call, LEAST_TABLE_FRAMES, Mode, Width};
 use engine::State;
 use iova::Space;
 use manager::*;
+use script::run_in_memory;
 use std::alloc::{AllocError, Global};
 use std::io;
 use std::io::Write;
@@ -23,6 +24,9 @@ const LAST_PAGE: u64 = 15;
 const CALLS: u64 = 100;
 
 const SHARES: u64 = 2;
+
+// A script, which takes memory for its manager and for its answers.
+const SCRIPT: &[u8] = b"domain strict\nmap 1 0x100 1 0 rw\n";
 
 fn main(rt: HostRuntime) -> ExitCode {
     match tell_all(&rt, rt.alloc(), &mut rt.stdout()) {
@@ -49,12 +53,25 @@ fn tell_all<R: Wait, W: Write>(rt: &R, alloc: Global, output: &mut W) -> io::Res
     )?;
     let state = State::new(alloc, LEAST_TABLE_FRAMES);
     tell(output, "state", state.map(|state| state.totals().free))?;
+    tell(output, "script", answered(rt, alloc))?;
     let Some(config) = Config::new(LEAST_TABLE_FRAMES, CALLS, SHARES) else {
         return Err(io::Error::from(io::ErrorKind::Other));
     };
     match Seed::new(alloc, config) {
         Ok(seed) => tell_manager::<Brand, R, W>(rt, alloc, output, seed),
         Err(AllocError) => tell(output, "seed", Err(AllocError)),
+    }
+}
+
+// How many bytes the script is answered, in memory.
+fn answered<R: Wait>(rt: &R, alloc: Global) -> Result<u64, AllocError> {
+    let Some(config) = Config::new(LEAST_TABLE_FRAMES, CALLS, 1) else {
+        return Ok(0);
+    };
+    let mut answers = Vec::new(alloc);
+    match run_in_memory(rt, alloc, SCRIPT, &mut answers, config) {
+        Ok(()) => Ok(answers.len() as u64),
+        Err(_) => Err(AllocError),
     }
 }
 

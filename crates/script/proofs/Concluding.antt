@@ -1,6 +1,6 @@
 -- The report at the end of a script.
-use Rattle.std.proofs.Common.{◌≡◌, ◌≢◌, ℕ, List, [], ◌∷◌, ◌++◌, length, Option, Some, None, Result, Ok, Err, refl, sym, ap, subst, ◌∙◌, ◌⊎◌, inl}
-use Rattle.std.proofs.Common.{inr, append_assoc}
+use Rattle.std.proofs.Common.{◌≡◌, ◌≢◌, ℕ, List, [], ◌∷◌, ◌++◌, length, Option, Some, None, Result, Ok, Err, refl, sym, ap, subst}
+use Rattle.std.proofs.Common.{◌∙◌, ◌⊎◌, inl, inr, append_assoc}
 use Rattle.std.proofs.lemmas.List.{append-nil}
 use Rattle.dmatypes.specs.declared.call.Call.{Call}
 use Rattle.manager.specs.Kept.{Book}
@@ -271,5 +271,6 @@ map_known U (outputs.Map text') Silent text size old left before pending after m
     result is so w empty made c m = (
       m.0,
       told_known U (λ report. report ++ m.0) size old left before pending after after' block rest book end result w empty made
-          (concludes_both U after middle after' block between rest (report_text (length book.history) book.state) m.0 end reported result c m.1),
+          (concludes_both U after middle after' block between rest (report_text (length book.history) book.state) m.0 end reported
+          result c m.1),
     )

@@ -60,7 +60,8 @@ report_of size calls written answers = report_text (length answers.history) answ
 
 -- a script was gone through as by a run, which would answer so; instead of the answers is written what is told of the report of
 -- where they lead, or a beginning of that where a write fails. With no memory nothing was read and nothing is written
-abbrev pub ReportedAs : {U : Type 0} → (List ℕ → List ℕ) → Size → (input left before pending after written : List ℕ) → Result U RunError → Type 0
+abbrev pub ReportedAs : {U : Type 0} → (List ℕ → List ℕ) → Size → (input left before pending after written : List ℕ) → Result U RunError
+    → Type 0
 ReportedAs told size input left before pending after written (Ok u) =
     (ran : RanToEnd size input left written) × WroteAll before pending after (told (report_of size ran.calls written ran.answers))
 ReportedAs told size input left before pending after written (Err (errors.BadLine k)) =

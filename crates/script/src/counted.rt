@@ -31,7 +31,7 @@ pub(crate) enum Taken {
     Long,
 }
 
-impl<T> Stream<Wrapped<T>> {
+impl<T> Counted<T> {
     /// Wraps a reader or a writer.
     pub fn new(inner: T) -> Counted<T>
         ensures inner { result.wrapped.inner ≡ inner }

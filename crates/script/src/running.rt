@@ -11,7 +11,7 @@ use crate::counted::{Counted, Stream};
 use crate::error::RunError;
 use crate::map::send_map;
 use crate::streams::{Failed, Sink, Source};
-use manager::{Config, Made, Manager, Owner, Report, Seed};
+use manager::{Config, Manager, Owner, Report, Seed};
 use std::alloc::Global;
 use std::io::{Read, Write};
 use std::marker::Brand;
@@ -173,27 +173,21 @@ fn work_through<B: Owner, T: Wait, R: Source, W: Sink>(
     ensures all_sent { IsAllSent writer.new.block result }
     ensures no_memory { IsErrOf result RunError.NoMemory → (reader.new ≡ reader.old) × (writer.new ≡ writer.old) }
 {
-    let Ok(
-        Made {
-            manager,
-            rows,
-            mut shares,
-            ..
-        },
-    ) = Manager::<B>::new(alloc, seed)
-    else {
+    // A manager is large, and is used where it was made.
+    let mut made = Manager::<B>::new(alloc, seed);
+    let Ok(made) = &mut made else {
         return Err(RunError::NoMemory);
     };
-    let Some(mut mine) = shares.pop() else {
+    let Some(mut mine) = made.shares.pop() else {
         unreachable!()
     };
-    let mut guard = manager.lock(rt);
+    let mut guard = made.manager.lock(rt);
     let book = &mut *guard;
     book.audit(&mut mine);
     let end = answer_lines(
         rt,
         book,
-        &rows,
+        &made.rows,
         &mut mine,
         reader,
         writer,

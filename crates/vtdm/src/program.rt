@@ -129,6 +129,8 @@ fn run_task<T: Wait + Threads + Sync, R: Read + Drop, W: Write + Drop>(
     }
 }
 
+// Its room on the stack is not taken while the command line is judged.
+#[inline(never)]
 fn run_script<T: Wait, R: Read + Drop, W: Write + Drop>(
     rt: &T,
     alloc: Global,

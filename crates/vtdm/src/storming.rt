@@ -69,6 +69,8 @@ pub(crate) fn storm_of(given: &ArgMatches) -> Option<StormSize> {
 }
 
 /// Makes a storm, and writes its line.
+// Its room on the stack is not taken where no storm is asked for.
+#[inline(never)]
 pub(crate) fn make_storm<T: Wait + Threads + Sync, W: Write>(
     rt: &T,
     alloc: Global,

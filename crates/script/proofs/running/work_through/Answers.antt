@@ -17,8 +17,9 @@ none_in (x ∷ xs) e = absurd (omega (arith, e))
 
 pub answer_lines-end-requires-clause-none : goal.answer_lines-end-requires-clause-none
 answer_lines-end-requires-clause-none g c =
-    let zero : c.in-Some.mine.calls ≡ 0 = ap (λ (s : Share). s.calls) (last_has (λ s. s ≡ new_share) c.in-Ok.field-0.shares.items
-    c.pop.new.self.items c.in-Some.mine c.in-Some.ensures.items c.in-Ok.ensures.fresh) in
+    let fresh = rw c.in-Ok.is at c.new-made.ensures.fresh in
+    let zero : c.in-Some.mine.calls ≡ 0 = ap (λ (s : Share). s.calls) (last_has (λ s. s ≡ new_share) c.in-Ok.made.shares.items
+    c.pop.new.self.items c.in-Some.mine c.in-Some.ensures.items fresh) in
     let one : g.B.Owner.shares ≡ 1 = sym c.requires.named.shares_are ∙ c.requires.one in
     rw c.audit.ensures.same (none_in _ (c.audit.ensures.alone one ∙ zero))
 
@@ -33,16 +34,17 @@ returns-in-Answers-clause-written g c =
 
 pub returns-clause-written : goal.returns-clause-written
 returns-clause-written g c =
-    rw (c.requires.named.frames_are, c.requires.named.room_is, c.requires.named.mode_is) (map_known _ c.args.output c.replies_for.result _ _ _ _ _ _
-    _ _ _ c.answer_lines-end.new.writer.block c.send_report-end.new.writer.block c.send_map.new.writer.block
-    c.answer_lines-end.new.book c.answer_lines-end.result c.send_report-end.result c.send_map.result c.in-Map.is c.replies_for.ensures
-    c.answer_lines-end.ensures.written c.answer_lines-end.ensures.all_sent (λ e. c.answer_lines-end.ensures.memory (rw e refl))
+    rw (c.requires.named.frames_are, c.requires.named.room_is, c.requires.named.mode_is)
+    (map_known _ c.args.output c.replies_for.result _ _ _ _ _ _ _ _ _ c.answer_lines-end.new.writer.block
+    c.send_report-end.new.writer.block c.send_map.new.writer.block c.answer_lines-end.new.book c.answer_lines-end.result
+    c.send_report-end.result c.send_map.result c.in-Map.is c.replies_for.ensures c.answer_lines-end.ensures.written
+    c.answer_lines-end.ensures.all_sent (λ e. c.answer_lines-end.ensures.memory (rw e refl))
     (rw c.write_report-in-Map.ensures at c.send_report-end.ensures.sent) c.send_map.ensures.sent)
 
 pub returns-in-Report-clause-written : goal.returns-in-Report-clause-written
 returns-in-Report-clause-written g c =
-    rw (c.requires.named.frames_are, c.requires.named.room_is, c.requires.named.mode_is) (report_known _ c.args.output c.replies_for.result _ _ _ _ _ _ _ _
-    c.answer_lines-end.new.writer.block c.send_report.new.writer.block c.answer_lines-end.new.book
-    c.answer_lines-end.result c.send_report.result c.in-Report.is c.replies_for.ensures c.answer_lines-end.ensures.written
-    c.answer_lines-end.ensures.all_sent (λ e. c.answer_lines-end.ensures.memory (rw e refl))
-    (rw c.write_report.ensures at c.send_report.ensures.sent))
+    rw (c.requires.named.frames_are, c.requires.named.room_is, c.requires.named.mode_is)
+    (report_known _ c.args.output c.replies_for.result _ _ _ _ _ _ _ _ c.answer_lines-end.new.writer.block
+    c.send_report.new.writer.block c.answer_lines-end.new.book c.answer_lines-end.result c.send_report.result c.in-Report.is
+    c.replies_for.ensures c.answer_lines-end.ensures.written c.answer_lines-end.ensures.all_sent
+    (λ e. c.answer_lines-end.ensures.memory (rw e refl)) (rw c.write_report.ensures at c.send_report.ensures.sent))
