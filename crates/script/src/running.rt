@@ -1,8 +1,8 @@
 //! A script on a manager of its own: a run, or a report.
 
-ghost use Rattle.std.specs.Prelude.{◌≡◌, ◌↔◌, ◌≤◌, ◌⊎◌, [], Err, true, false, length, IsErrOf};
+ghost use Rattle.std.specs.Prelude.{◌≡◌, ◌↔◌, ◌≤◌, ◌⊎◌, [], Err, true, false, length, vec_len, All, IfOk, IsErrOf};
 ghost use Rattle.std.specs.Io.KnownBytes.{prepend_known};
-ghost use Rattle.manager.specs.Kept.{IsNamedBy};
+ghost use Rattle.manager.specs.Kept.{IsNamedBy, new_share};
 ghost use Rattle.script.specs.Reported.{Concludes, MappedKnown, OutputKnown, ReaderEnds, ReportedKnown, replies_of};
 ghost use Rattle.script.specs.Run.{IsAllSent, RanKnown};
 
@@ -11,8 +11,8 @@ use crate::counted::{Counted, Stream};
 use crate::error::RunError;
 use crate::map::send_map;
 use crate::streams::{Failed, Sink, Source};
-use manager::{Config, Manager, Owner, Report, Seed};
-use std::alloc::Global;
+use manager::{Config, Made, Manager, Owner, Report, Seed};
+use std::alloc::{AllocError, Global};
 use std::io::{Read, Write};
 use std::marker::Brand;
 use std::sync::Wait;
@@ -150,7 +150,7 @@ pub(crate) fn work<T: Wait, R: Source, W: Sink>(
     work_through::<Brand, T, R, W>(rt, alloc, reader, writer, seed, output)
 }
 
-// Makes the manager of a seed, over an owner that names it, works through the script, and writes what is to be written.
+// Makes the manager of a seed, over an owner that names it, and works through the script on it.
 fn work_through<B: Owner, T: Wait, R: Source, W: Sink>(
     rt: &T,
     alloc: Global,
@@ -173,8 +173,34 @@ fn work_through<B: Owner, T: Wait, R: Source, W: Sink>(
     ensures all_sent { IsAllSent writer.new.block result }
     ensures no_memory { IsErrOf result RunError.NoMemory → (reader.new ≡ reader.old) × (writer.new ≡ writer.old) }
 {
-    // A manager is large, and is used where it was made.
-    let mut made = Manager::<B>::new(alloc, seed);
+    work_on(rt, Manager::<B>::new(alloc, seed), reader, writer, output)
+}
+
+// Works through the script on a manager, where there was memory for one, and writes what is to be written. A manager is large: what
+// this takes of the stack is not taken yet while the manager is made.
+#[inline(never)]
+fn work_on<B: Owner, T: Wait, R: Source, W: Sink>(
+    rt: &T,
+    mut made: Result<Made<B>, AllocError>,
+    reader: &mut Stream<R>,
+    writer: &mut Stream<W>,
+    output: Output,
+) -> Result<(), RunError>
+    requires one { B.shares ≡ 1 }
+    requires shares { IfOk made (λ m. vec_len m.shares ≡ 1) }
+    requires fresh { IfOk made (λ m. All (λ s. s ≡ new_share) m.shares.items) }
+    requires reader { R.has_failed reader.old.wrapped ≡ false }
+    requires writer { W.has_failed writer.old.wrapped ≡ false }
+    ensures written { OutputKnown output (record { frames = B.frames; room = B.room; caching = B.mode })
+        (prepend_known reader.old.block (R.remaining reader.old.wrapped))
+        (prepend_known reader.new.block (R.remaining reader.new.wrapped))
+        (W.contents writer.old.wrapped) writer.old.block (W.contents writer.new.wrapped) result }
+    ensures reader { ReaderEnds output (R.has_failed reader.new.wrapped) result }
+    ensures writer { (W.has_failed writer.new.wrapped ≡ true) ↔ IsErrOf result RunError.Write }
+    ensures used_up { IsErrOf result RunError.Read → reader.new.block ≡ [] }
+    ensures all_sent { IsAllSent writer.new.block result }
+    ensures no_memory { IsErrOf result RunError.NoMemory → (reader.new ≡ reader.old) × (writer.new ≡ writer.old) }
+{
     let Ok(made) = &mut made else {
         return Err(RunError::NoMemory);
     };

@@ -1,50 +1,5 @@
-use Rattle.std.proofs.Common.{◌≡◌, ℕ, ◌<◌, List, [], ◌∷◌, ◌++◌, get_or, length, arith, length-append, refl, sym, ap, subst, ◌∙◌}
-use Rattle.std.proofs.Math.Seq.{get_or-append_seam}
-use Rattle.manager.specs.Kept.{Share, new_share}
-use Rattle.script.proofs.Concluding.{answers_known, map_known, nothing_written, report_known}
 use Rattle.script.proofs.running.work_through.Goals as goal
-
--- what all have, the last one has
-last_has : {A : Type 0} (P : A → Type 0) (xs ys : List A) (y : A) → xs ≡ ys ++ y ∷ []
-    → ((k : ℕ) (d : A) → k < length xs → P (get_or xs k d)) → P y
-last_has P xs ys y e all =
-    let inside : length ys < length xs = omega (arith, ap length e, length-append ys (y ∷ [])) in
-    subst P (ap (λ l. get_or l (length ys) y) e ∙ get_or-append_seam ys y [] y) (all (length ys) y inside)
-
-none_in : {A : Type 0} (xs : List A) → length xs ≡ 0 → xs ≡ []
-none_in [] e = refl
-none_in (x ∷ xs) e = absurd (omega (arith, e))
-
-pub answer_lines-end-requires-clause-none : goal.answer_lines-end-requires-clause-none
-answer_lines-end-requires-clause-none g c =
-    let fresh = rw c.in-Ok.is at c.new-made.ensures.fresh in
-    let zero : c.in-Some.mine.calls ≡ 0 = ap (λ (s : Share). s.calls) (last_has (λ s. s ≡ new_share) c.in-Ok.made.shares.items
-    c.pop.new.self.items c.in-Some.mine c.in-Some.ensures.items fresh) in
-    let one : g.B.Owner.shares ≡ 1 = sym c.requires.named.shares_are ∙ c.requires.one in
-    rw c.audit.ensures.same (none_in _ (c.audit.ensures.alone one ∙ zero))
-
-pub returns-in_default-clause-written : goal.returns-in_default-clause-written
-returns-in_default-clause-written g c = nothing_written _ c.args.output _ _ _ _
-
-pub returns-in-Answers-clause-written : goal.returns-in-Answers-clause-written
-returns-in-Answers-clause-written g c =
-    rw (c.requires.named.frames_are, c.requires.named.room_is, c.requires.named.mode_is)
-    (answers_known _ c.args.output c.replies_for.result _ _ _ _ _ _ c.answer_lines-end.new.book
-    c.answer_lines-end.result c.in-Answers.is c.replies_for.ensures c.answer_lines-end.ensures.written)
 
 pub returns-clause-written : goal.returns-clause-written
 returns-clause-written g c =
-    rw (c.requires.named.frames_are, c.requires.named.room_is, c.requires.named.mode_is)
-    (map_known _ c.args.output c.replies_for.result _ _ _ _ _ _ _ _ _ c.answer_lines-end.new.writer.block
-    c.send_report-end.new.writer.block c.send_map.new.writer.block c.answer_lines-end.new.book c.answer_lines-end.result
-    c.send_report-end.result c.send_map.result c.in-Map.is c.replies_for.ensures c.answer_lines-end.ensures.written
-    c.answer_lines-end.ensures.all_sent (λ e. c.answer_lines-end.ensures.memory (rw e refl))
-    (rw c.write_report-in-Map.ensures at c.send_report-end.ensures.sent) c.send_map.ensures.sent)
-
-pub returns-in-Report-clause-written : goal.returns-in-Report-clause-written
-returns-in-Report-clause-written g c =
-    rw (c.requires.named.frames_are, c.requires.named.room_is, c.requires.named.mode_is)
-    (report_known _ c.args.output c.replies_for.result _ _ _ _ _ _ _ _ c.answer_lines-end.new.writer.block
-    c.send_report.new.writer.block c.answer_lines-end.new.book c.answer_lines-end.result c.send_report.result c.in-Report.is
-    c.replies_for.ensures c.answer_lines-end.ensures.written c.answer_lines-end.ensures.all_sent
-    (λ e. c.answer_lines-end.ensures.memory (rw e refl)) (rw c.write_report.ensures at c.send_report.ensures.sent))
+    rw (c.requires.named.frames_are, c.requires.named.room_is, c.requires.named.mode_is) c.work_on.ensures.written
