@@ -38,9 +38,9 @@ SCRIPT = b"domain strict\nattach 3 1\nmap 1 0x400 512 9 rw\nunmap 1 0x201000 1\n
 # An address space of as many KiB is given to a command; and how far they lie apart, from the least one tried on: a page. Past the one
 # in which a program first has room so many more are tried.
 WITHIN = 'ulimit -v "$0" && exec "$@"'
-SPACE_STEP, LEAST_SPACE, MORE_SPACES = 4, 1_000, 20
-# What the system says of a program for whose libraries there is no room, and with which status.
-NOT_LOADED = (127, b"error while loading shared libraries")
+SPACE_STEP, LEAST_SPACE, MORE_SPACES = 4, 2_000, 20
+# The status where there is no room to load the program.
+NOT_LOADED = 127
 NO_MEMORY = (3, b"no memory\n")
 NO_THREAD = (3, b"no thread\n")
 
@@ -159,7 +159,7 @@ def fault_of_spaces():
         while done < MORE_SPACES:
             space += SPACE_STEP
             status, output, said = within(space, words)
-            if not is_loaded and (status < 0 or status >= 127):
+            if not is_loaded and status == NOT_LOADED:
                 continue
             is_loaded = True
             if (status, output, said) == ample:

@@ -45,8 +45,8 @@
  *    child of a fork of a process with several threads.
  * Every number that is passed may be any number: one outside its limits is refused by a status.
  *
- * MEMORY. vtdm_create and vtdm_create_caching take all that a manager ever needs, vtdm_destroy gives it back, and no other
- * function asks for any.
+ * MEMORY. vtdm_create and vtdm_create_caching take all that a manager ever needs, about 1.6 MiB and VTDM_PAGE_BYTES more for each
+ * table frame; vtdm_destroy gives it back, and no other function asks for any.
  *
  * IT DOES NOT WEAR OUT. A manager answers VTDM_CALLS_END calls, 2^56, and VTDM_SPENT to each further one, since its counts have 64
  * bits. Nobody gets there: at a billion calls a second it takes more than two years. Readers are not counted.

@@ -17,18 +17,23 @@ void __wrap_free(void *block);
 /* How many requests were made, the number of the one that is refused, how many blocks are held, and how many were given back. */
 static long asked, refused, held, freed;
 
+/* How many bytes were asked for. */
+static uint64_t bytes;
+
 static bool is_refused(void) {
     return ++asked == refused;
 }
 
 void *__wrap_malloc(size_t size) {
     void *block = is_refused() ? NULL : __real_malloc(size);
+    bytes += size;
     held += block != NULL;
     return block;
 }
 
 void *__wrap_realloc(void *block, size_t size) {
     void *moved = is_refused() ? NULL : __real_realloc(block, size);
+    bytes += size;
     held += moved && !block;
     return moved;
 }
@@ -59,6 +64,16 @@ static bool refuse(uint64_t frames, bool caching, long number) {
     vtdm_destroy(&manager);
     CHECK(held == 0);
     return true;
+}
+
+/* A creation asks for about 1.6 MiB, and for a page more for each table frame. */
+static void count_bytes(uint64_t frames) {
+    struct vtdm manager = VTDM_INIT;
+    const uint64_t pages = frames * VTDM_PAGE_BYTES, beside = UINT64_C(1600) << 10, margin = UINT64_C(100) << 10;
+    bytes = 0;
+    CHECK(vtdm_create(&manager, frames) == VTDM_OK);
+    CHECK(bytes > pages + beside - margin && bytes < pages + beside + margin);
+    vtdm_destroy(&manager);
 }
 
 /* An end asks for nothing and gives back all that the creation took. */
@@ -214,6 +229,8 @@ int main(void) {
             number++;
         CHECK(number > LEAST_REQUESTS);
     }
+    count_bytes(VTDM_LEAST_TABLE_FRAMES);
+    count_bytes(VTDM_MOST_TABLE_FRAMES);
     create_and_destroy();
     calls_ask_for_none();
     return check_end();

@@ -22,7 +22,7 @@ static void check_absent(struct vtdm *manager) {
     ANSWERS(vtdm_reap(manager, 1, 1), VTDM_ABSENT, 0);
     ANSWERS(vtdm_dma(manager, 0, 0x1000, false, true, true), VTDM_ABSENT, 0);
     ANSWERS(vtdm_evict(manager, VTDM_CACHE_LEAF, 0), VTDM_ABSENT, 0);
-    ANSWERS(vtdm_evict(manager, 3, 0), VTDM_ABSENT, 0);
+    ANSWERS(vtdm_evict(manager, VTDM_CACHE_FAULT + 1, 0), VTDM_ABSENT, 0);
     ANSWERS(vtdm_domain_of(manager, 0), VTDM_ABSENT, 0);
     ANSWERS(vtdm_devices_of(manager, 1), VTDM_ABSENT, 0);
     ANSWERS(vtdm_mode_of(manager, 1), VTDM_ABSENT, 0);
@@ -84,11 +84,14 @@ static void check_edges(void) {
     ANSWERS(vtdm_unmap(&manager, 1, 0, 1), bad.status, bad.value);
     ANSWERS(vtdm_unmap(&manager, 1, 0x200000, VTDM_MOST_PAGES + 1), bad.status, bad.value);
     ANSWERS(vtdm_unmap(&manager, 1, VTDM_WINDOW_LAST * VTDM_PAGE_BYTES, 1), bad.status, bad.value);
+    ANSWERS(vtdm_unmap(&manager, 1, (VTDM_WINDOW_FIRST - 1) * VTDM_PAGE_BYTES, 1), VTDM_NOT_LIVE, 0);
+    ANSWERS(vtdm_unmap(&manager, 1, (VTDM_WINDOW_FIRST - 1) * VTDM_PAGE_BYTES, 2), bad.status, bad.value);
     ANSWERS(vtdm_unmap(&manager, 1, (VTDM_WINDOW_LAST + 1) * VTDM_PAGE_BYTES, 1), VTDM_NOT_LIVE, 0);
     ANSWERS(vtdm_unmap(&manager, 1, VTDM_ADDRESSES_END, 1), bad.status, bad.value);
     ANSWERS(vtdm_unmap(&manager, 1, VTDM_ADDRESSES_END - VTDM_PAGE_BYTES, 1), VTDM_NOT_LIVE, 0);
     ANSWERS(vtdm_dma(&manager, 15, VTDM_WINDOW_FIRST * VTDM_PAGE_BYTES - 1, false, false, false), VTDM_FAULT_READ, 0);
     ANSWERS(vtdm_dma(&manager, 15, VTDM_WINDOW_FIRST * VTDM_PAGE_BYTES, false, false, false), VTDM_WINDOW, 0);
+    ANSWERS(vtdm_dma(&manager, 0, VTDM_WINDOW_FIRST * VTDM_PAGE_BYTES, false, false, false), VTDM_WINDOW, 0);
     ANSWERS(vtdm_dma(&manager, 15, VTDM_ADDRESSES_END - 1, false, false, false), VTDM_FAULT_READ, 0);
     ANSWERS(vtdm_unmap(&manager, 1, 0x200000, VTDM_MOST_PAGES), VTDM_OK, 0);
     vtdm_destroy(&manager);
