@@ -1,7 +1,7 @@
 //! What each worker of a storm does: drivers, devices, and the unit.
 
 ghost use Rattle.std.specs.Prelude.{◌≡◌, ◌+◌, ℕ, [], IfSome};
-ghost use Rattle.storm.specs.Storms.{HasCheckedIn, HasMade, IsFresh};
+ghost use Rattle.storm.specs.Storms.{AreHits, HasCheckedIn, HasMade, IsFresh, address_read};
 
 use crate::gate::Gate;
 use dmatypes::{Access, Call, PAGE_BYTES, Reply, Whim};
@@ -109,6 +109,21 @@ impl<B: Owner> Caller<B> {
         let (_, reply) = answer.ok()?;
         Some(reply)
     }
+
+    // Makes the device's read of this number. Its port has been asked for this read too.
+    fn read<G: Gate, R: Wait>(
+        &mut self,
+        rt: &R,
+        site: &Site<'_, B, G>,
+        number: u64,
+        device: u64,
+        port: &Port<B>,
+    ) -> Option<Reply>
+        requires asked { AreHits device number port.now.did }
+        ensures { (n : ℕ) → HasMade B.room n self.old.share → HasMade B.room (n + 1) self.new.share }
+    {
+        self.make(rt, site, number, read_call(device, address_of(number)))
+    }
 }
 
 // A driver's calls.
@@ -155,6 +170,7 @@ pub(crate) fn driver_call(domain: u64, frame: u64, number: u64, mapped: Option<u
 }
 
 // A device's reads: of each page by the port first, and then under the lock. At the end its port checks in.
+#[tactic(auto, using(crate::proofs::Hits::one_hit_more))]
 fn request<B: Owner, G: Gate, R: Wait>(
     rt: &R,
     site: &Site<'_, B, G>,
@@ -169,12 +185,19 @@ fn request<B: Owner, G: Gate, R: Wait>(
 {
     for made in 0..site.calls {
         let number = made + 1;
-        let address = PAGE_BYTES * (1 + number % PAGES_READ);
+        let address = address_of(number);
         let _ = port.hit(site.rows, address, Access::Read);
-        let _ = caller.make(rt, site, number, read_call(device, address));
+        let _ = caller.read(rt, site, number, device, port);
     }
     site.manager
         .check_in(rt, site.rows, &mut caller.share, port);
+}
+
+// The address of a device's read of this number.
+fn address_of(number: u64) -> u64
+    ensures { result ≡ address_read number }
+{
+    PAGE_BYTES * (1 + number % PAGES_READ)
 }
 
 // A device's read, which the unit's caches may answer, and which is remembered.

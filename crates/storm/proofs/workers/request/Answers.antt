@@ -1,8 +1,5 @@
-use Rattle.std.proofs.Common.{◌≡◌, ◌+◌, ◌∷◌, ◌++◌, [], ap, arith, length, subst, sym, ◌∙◌}
-use Rattle.dmatypes.specs.Page.{page_of}
-use Rattle.ports.specs.Steps.{counter, place_of, slot_of}
-use Rattle.ports.specs.declared.known.OwnStep.TheVariants.{Loaded}
-use Rattle.storm.specs.Storms.{AreHits, address_read}
+use Rattle.std.proofs.Common.{◌≡◌, arith, length, subst, sym, ◌∙◌}
+use Rattle.storm.specs.Storms.{AreHits}
 use Rattle.storm.proofs.Hits.{one_hit_more}
 use Rattle.storm.proofs.workers.request.Goals as goal
 
@@ -10,13 +7,10 @@ pub loop-made-preserved : goal.loop-made-preserved
 loop-made-preserved g c =
     let i = c.loop-made.invariant in
     let hit = c.hit.ensures.hit in (
-      c.make.ensures c.loop-made.made i.0,
+      c.read.ensures c.loop-made.made i.0,
       c.hit.ensures.same ∙ i.1,
-      one_hit_more c.args.device c.loop-made.made c.hit.result.1 hit.word c.loop-made.port.did c.hit.new.self.did i.2
-          (hit.did ∙ ap (λ device. c.loop-made.port.did
-          ++ Loaded counter c.hit.result.1 ∷ Loaded (place_of device (slot_of (page_of (address_read (c.loop-made.made + 1)))))
-          hit.word ∷ [])
-          i.1),
+      one_hit_more c.args.device c.loop-made.port.device c.loop-made.made c.hit.result.1 c.address_of-address.result hit.word
+          c.loop-made.port.did c.hit.new.self.did i.2 i.1 c.address_of-address.ensures hit.did,
     )
 
 pub returns-clause-port : goal.returns-clause-port
