@@ -13,6 +13,7 @@ use std::test::Fail;
 use std::thread::{Threads, join};
 
 mod device_thread;
+mod emptied;
 mod full;
 mod hits;
 mod unit_thread;

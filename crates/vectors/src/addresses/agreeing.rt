@@ -2,11 +2,11 @@
 
 ghost use Rattle.std.specs.Prelude.{◌≤◌, ◌<◌, IfSome};
 ghost use Rattle.dmatypes.specs.World.{IsIn};
-ghost use Rattle.iova.specs.Pieces.{piece_of};
+ghost use Rattle.iova.specs.Pieces.{IsRun, piece_of};
 
 use super::list::List;
-use dmatypes::{PAGES_END, PageRange};
-use iova::{PageState, Space, TakeError};
+use dmatypes::{PAGES_END, Page, PageRange};
+use iova::{PageState, Piece, Space, TakeError};
 use std::alloc::{AllocError, Global};
 use std::test::Fail;
 
@@ -60,6 +60,24 @@ fn retired_at(space: &Space, first: u64) -> Option<PageRange>
     None
 }
 
+/// The range of the retired pieces that lie side by side from a page on, up to the one by which there are `enough` pages.
+fn retired_run(space: &Space, first: u64, enough: u64) -> Option<PageRange>
+    ensures { IfSome result (λ range. IsRun (piece_of range PageState.Retired) space.now.pieces) }
+{
+    let mut end = first;
+    let mut pieces = space.pieces();
+    while let Some(piece) = pieces.next() {
+        if piece.first == end && end - first < enough {
+            if let PageState::Retired = piece.state {
+                if piece.first <= piece.last && piece.last < PAGES_END {
+                    end = piece.last + 1;
+                }
+            }
+        }
+    }
+    PageRange::new(first, end - first)
+}
+
 /// A space and the list beside it.
 #[derive(Drop)]
 struct Pair {
@@ -68,14 +86,14 @@ struct Pair {
 }
 
 impl Pair {
-    /// Takes pages, from a floor on if there is one.
+    /// Takes pages, from a floor on if there is one: the first of them.
     fn take(
         &mut self,
         alloc: Global,
         floor: Option<u64>,
         pages: u64,
         order: u64,
-    ) -> Result<(), Fail>
+    ) -> Result<Option<u64>, Fail>
         requires floor { IfSome floor (λ floor. 1 ≤ floor) }
         requires some { 1 ≤ pages }
         requires few { pages ≤ 4096 }
@@ -91,7 +109,7 @@ impl Pair {
         if taken.map(|page| page.number()) != listed {
             return Err("a take differs".into());
         }
-        Ok(())
+        Ok(listed.ok())
     }
 
     /// Takes pages and gives them back: the list, which is asked for nothing, stays as it is.
@@ -147,6 +165,16 @@ impl Pair {
         Ok(())
     }
 
+    /// Releases at once the retired pieces that lie side by side from a page on, if one begins there.
+    fn release_run(&mut self, alloc: Global, first: u64, enough: u64) -> Result<(), Fail> {
+        if let Some(range) = retired_run(&self.space, first, enough) {
+            self.space.release_run(range);
+            self.list
+                .free(alloc, range.first(), range.first() + (range.pages() - 1))?;
+        }
+        Ok(())
+    }
+
     /// Retires pages, or frees them at once, if they are live.
     fn end(&mut self, alloc: Global, range: PageRange, numbers: &mut Sequence) -> Result<(), Fail> {
         if numbers.below(2) == 0 {
@@ -154,6 +182,69 @@ impl Pair {
         } else {
             self.free(alloc, range)
         }
+    }
+
+    /// The range of the piece at a place, if it is one.
+    fn range_at(&self, place: u64) -> Option<PageRange> {
+        let piece = self.space.pieces().nth(place as usize)?;
+        PageRange::new(
+            piece.first,
+            piece.last.wrapping_sub(piece.first).wrapping_add(1),
+        )
+    }
+
+    /// Retires pieces that lie side by side, each by itself, if they are live.
+    fn retire_pieces(&mut self, alloc: Global, numbers: &mut Sequence) -> Result<(), Fail> {
+        let place = numbers.below(1024);
+        for further in 0..1 + numbers.below(8) {
+            if let Some(range) = self.range_at(place + further) {
+                self.retire(alloc, range)?;
+            }
+        }
+        Ok(())
+    }
+
+    /// Takes pages and retires them, some times, and then releases what lies side by side of them, as a lazy domain does.
+    fn take_and_retire(&mut self, alloc: Global, numbers: &mut Sequence) -> Result<(), Fail> {
+        let mut first = None;
+        for _ in 0..1 + numbers.below(8) {
+            let pages = 1 + numbers.below(4);
+            if let Some(page) = self.take(alloc, None, pages, 0)? {
+                self.retire(alloc, PageRange::new(page, pages).ok_or("pages")?)?;
+                first = first.or(Some(page));
+            }
+        }
+        if numbers.below(2) == 0 {
+            self.take(alloc, None, 1, 0)?;
+        }
+        match first {
+            Some(first) => self.release_run(alloc, first, 1 + numbers.below(32)),
+            None => Ok(()),
+        }
+    }
+
+    /// Releases the first retired pieces behind a page.
+    fn release_behind(
+        &mut self,
+        alloc: Global,
+        page: u64,
+        numbers: &mut Sequence,
+    ) -> Result<(), Fail> {
+        let retired = |piece: &&Piece| page <= piece.first && piece.state == PageState::Retired;
+        match self.list.pieces.iter().find(retired).copied() {
+            Some(piece) => self.release_run(alloc, piece.first, 1 + numbers.below(32)),
+            None => Ok(()),
+        }
+    }
+
+    /// A page is the same, if the number is a page's.
+    fn compare_page(&self, number: u64) -> Result<(), Fail> {
+        if let Some(page) = Page::new(number) {
+            if self.space.state_of(page) != self.list.state_of(number) {
+                return Err("a page differs".into());
+            }
+        }
+        Ok(())
     }
 
     /// The pieces are the same.
@@ -170,6 +261,7 @@ impl Pair {
         Ok(())
     }
 
+    /// One of the calls.
     fn step(
         &mut self,
         alloc: Global,
@@ -184,30 +276,28 @@ impl Pair {
                 let pages = 1 + numbers.below(1 << order);
                 self.take(alloc, floor, pages, order)?;
             }
-            8 => self.take(alloc, floor, 1 + numbers.below(4096), numbers.below(10))?,
+            8 => {
+                self.take(alloc, floor, 1 + numbers.below(4096), numbers.below(10))?;
+            }
             9 => self.try_take(1 + numbers.below(8))?,
-            10 | 11 => {
+            10 => {
                 let first = 1 + numbers.below(3000);
                 let range = PageRange::new(first, 1 + numbers.below(40)).ok_or("pages")?;
                 self.end(alloc, range, numbers)?;
             }
-            12 => {
-                let held = self.space.pieces().nth(numbers.below(1024) as usize);
-                if let Some(held) = held {
-                    if let Some(range) = PageRange::new(
-                        held.first,
-                        held.last.wrapping_sub(held.first).wrapping_add(1),
-                    ) {
-                        self.end(alloc, range, numbers)?;
-                    }
+            11 => {
+                if let Some(range) = self.range_at(numbers.below(1024)) {
+                    self.end(alloc, range, numbers)?;
                 }
             }
-            _ => {
-                let held = self.space.pieces().nth(numbers.below(1024) as usize);
-                if let Some(held) = held {
-                    self.release(alloc, held.first)?;
+            12 => self.retire_pieces(alloc, numbers)?,
+            13 => self.take_and_retire(alloc, numbers)?,
+            14 => {
+                if let Some(range) = self.range_at(numbers.below(1024)) {
+                    self.release(alloc, range.first())?;
                 }
             }
+            _ => self.release_behind(alloc, numbers.below(3000), numbers)?,
         }
         Ok(())
     }
@@ -234,6 +324,7 @@ fn agree(alloc: Global, with_floors: bool) -> Result<(), Fail> {
         };
         pair.step(alloc, &mut numbers, floor)?;
         pair.compare()?;
+        pair.compare_page(numbers.floor())?;
     }
     Ok(())
 }

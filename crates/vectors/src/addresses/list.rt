@@ -46,6 +46,12 @@ impl List {
         Ok(())
     }
 
+    /// The state of the piece that a page lies in.
+    pub(super) fn state_of(&self, page: u64) -> Option<PageState> {
+        let holds = |held: &&Piece| held.first <= page && page <= held.last;
+        self.pieces.iter().find(holds).map(|held| held.state)
+    }
+
     /// Whether so many pages cut a piece.
     fn is_cut(&self, first: u64, last: u64) -> bool {
         let mut cut = false;
