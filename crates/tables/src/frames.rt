@@ -198,6 +198,10 @@ impl Pool {
         ensures pool { IsPool self.new }
     {
         let end = self.free + frames.len();
+        // Most unmaps cut no table, and then nothing is copied.
+        if frames.is_empty() {
+            return;
+        }
         self.slots[self.free..end].copy_from_slice(frames);
         self.free = end;
     }

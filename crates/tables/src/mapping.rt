@@ -61,6 +61,7 @@ fn grow(pool: &mut Pool, level: u64, table: Frame, index: u64) -> Frame
 }
 
 /// Maps a piece: one walk down, with the tables that it lacks, and one run of words or one leaf of 512 pages.
+#[inline(always)]
 pub(crate) fn map_piece(pool: &mut Pool, level: u64, table: Frame, piece: &Piece)
     requires low { 1 ≤ level }
     requires high { level ≤ MOST_LEVELS }

@@ -21,6 +21,11 @@ use crate::mapping::map_segments;
 use crate::unmapping::{leaves_splitting, release, spans_met, unmap_pieces};
 use dmatypes::{FRAMES_END, Frame, Page, PageRange, Rights, SPAN_PAGES, Segment, Width};
 
+// How many levels a tree has, by its width: constants, so that the way down is written out for each.
+const NARROW: u64 = 3;
+
+const WIDE: u64 = 4;
+
 /// A tree of tables in a pool, by the frame of its root and the width of its pages. Its calls ask that it is a tree of the pool that
 /// they are given.
 #[derive(Drop)]
@@ -79,8 +84,11 @@ impl Tree {
         if page.number() >= self.width.pages_end() {
             return None;
         }
-        let levels = self.width.levels();
-        find(pool, levels, self.root, page.number()).map(|to| (to.frame(), to.rights()))
+        let to = match self.width {
+            Width::W39 => find(pool, NARROW, self.root, page.number()),
+            Width::W48 => find(pool, WIDE, self.root, page.number()),
+        };
+        to.map(|to| (to.frame(), to.rights()))
     }
 
     /// Maps the pages of a range, which are absent, to as many host frames from one on.
@@ -162,8 +170,11 @@ impl Tree {
         ensures tree { IsTree pool.new (levels self.old.width) self.old.root }
         ensures pool { IsPool pool.new }
     {
-        let levels = self.width.levels();
-        map_segments(pool, levels, self.root, segments, start.number(), rights)
+        let first = start.number();
+        match self.width {
+            Width::W39 => map_segments(pool, NARROW, self.root, segments, first, rights),
+            Width::W48 => map_segments(pool, WIDE, self.root, segments, first, rights),
+        }
     }
 
     /// Whether the free frames suffice to unmap a range: each leaf of 2 MiB that it meets and doesn't cover
@@ -221,8 +232,11 @@ impl Tree {
         ensures pool { IsPool pool.new }
     {
         let from = range.first();
-        let levels = self.width.levels();
-        unmap_pieces(pool, levels, self.root, from, from + range.pages())
+        let to = from + range.pages();
+        match self.width {
+            Width::W39 => unmap_pieces(pool, NARROW, self.root, from, to),
+            Width::W48 => unmap_pieces(pool, WIDE, self.root, from, to),
+        }
     }
 
     /// Gives all its frames back.

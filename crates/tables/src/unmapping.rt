@@ -130,6 +130,7 @@ fn clear_span(pool: &mut Pool, table: Frame, from: u64, to: u64) -> Cleared
 }
 
 /// Unmaps a piece: one walk down, and one run of words or one leaf of 512 pages.
+#[inline(always)]
 fn clear_piece(pool: &mut Pool, level: u64, table: Frame, from: u64, to: u64) -> Cleared
     requires low { 2 ≤ level }
     requires high { level ≤ MOST_LEVELS }

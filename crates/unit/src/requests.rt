@@ -37,7 +37,13 @@ pub(crate) fn context_of(
 {
     if look {
         if let Some(context) = first_context(cached, device) {
-            return Some(context);
+            // Part by part: a copy of it whole takes what lies between the parts along.
+            return Some(CachedContext {
+                device: context.device,
+                domain: context.domain,
+                root: context.root,
+                width: context.width,
+            });
         }
     }
     let number = DeviceNumber::new(device).unwrap();

@@ -1,4 +1,5 @@
-use Rattle.std.proofs.Common.{◌∙◌, ◌==◌, sym, ap, inr, Some, eq-eqb}
+use Rattle.std.proofs.Common.{◌∙◌, ◌==◌, sym, ap, inr, Some, eq-eqb, subst}
+use Rattle.dmatypes.specs.World.{IsIn}
 use Rattle.std.proofs.lemmas.Bool.{eqb-true}
 use Rattle.vtdbits.specs.declared.context.ContextEntry.{ContextEntry}
 use Rattle.unit.specs.Caches.{CachedContext}
@@ -10,8 +11,10 @@ pub returns-in-Some-clause-some : goal.returns-in-Some-clause-some
 returns-in-Some-clause-some c =
     let found =
     find_in (λ (x : CachedContext). x.device == c.args.device) c.args.cached.now c.in-Some.context
-    (sym c.first_context.ensures ∙ c.in-Some.is) in
-    (eqb-true c.in-Some.context.device c.args.device found.1, inr (c.if-look.true, found.0))
+    (sym c.first_context.ensures ∙ c.in-Some.is) in (
+      ap (λ (x : CachedContext). x.device) c.context.view_is ∙ eqb-true c.in-Some.context.device c.args.device found.1,
+      inr (c.if-look.true, subst (λ (x : CachedContext). IsIn x c.args.cached.now) (sym c.context.view_is) found.0),
+    )
 
 pub returns-in-Absent-clause-none : goal.returns-in-Absent-clause-none
 returns-in-Absent-clause-none c = (

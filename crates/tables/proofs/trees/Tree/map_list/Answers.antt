@@ -1,58 +1,55 @@
-use Rattle.std.proofs.Common.{◌≡◌, ◌+◌, ◌-◌, ◌/◌, [], sym, subst, arith}
-use Rattle.std.specs.Prelude.{OnOk}
-use Rattle.dmatypes.specs.Page.{levels}
+use Rattle.std.proofs.Common.{ℕ, [], List, ap, sym}
+use Rattle.dmatypes.specs.Page.{Range, levels}
 use Rattle.dmatypes.specs.Conditions.{total_pages}
-use Rattle.dmatypes.proofs.numbers.Ranges.{HasEnds, end_of_fit, to_ends}
 use Rattle.dmatypes.specs.Rights.{bits_of}
 use Rattle.dmatypes.specs.World.{placed}
-use Rattle.tables.specs.Tree.{IsLeafAt, span}
-use Rattle.tables.specs.Changes.{MapsPages, TakesAndGivesFrames}
-use Rattle.tables.specs.Pool.{Pool, memory}
-use Rattle.tables.proofs.pools.Kept.{span-levels, some_levels, same_root, map_leaves, apart_stays, either_way}
+use Rattle.dmatypes.specs.declared.call.Segment.{Segment}
+use Rattle.tables.proofs.pools.ByWidth.{in_root, mapped_leaves, mapped_tables, others_stay}
 use Rattle.tables.proofs.trees.Tree.map_list.Goals as goal
+
+abbrev range_of : ℕ → List Segment → Range
+range_of start segments = record { first = start; pages = total_pages segments }
 
 pub map_segments-requires-clause-one_span : goal.map_segments-requires-clause-one_span
 map_segments-requires-clause-one_span c =
-    let e : HasEnds (record { first = c.args.start; pages = total_pages c.args.segments.now }) =
-    to_ends (record { first = c.args.start; pages = total_pages c.args.segments.now }) c.requires.range in
-    let end =
-    end_of_fit (record { first = c.args.start; pages = total_pages c.args.segments.now }) c.args.self.now.width c.requires.range
-    c.requires.fits in
-    subst (λ l. c.number.result / span l ≡ (c.number.result + total_pages c.args.segments.now - 1) / span l)
-    (sym c.levels-levels.ensures.exact)
-    (same_root (levels c.args.self.now.width) c.number.result (c.number.result + total_pages c.args.segments.now - 1)
-    (omega (arith, span-levels c.args.self.now.width, end, e.some, c.number.ensures.value))
-    (omega (arith, span-levels c.args.self.now.width, end, e.some, c.number.ensures.value)))
+    rw c.number-first.ensures.value (in_root c.args.self.now.width (range_of c.args.start c.args.segments.now) 3 (sym (ap levels c.in-W39.is)) c.requires.range c.requires.fits).1
 
-pub returns-clause-leaves : goal.returns-clause-leaves
-returns-clause-leaves c =
-    let e : HasEnds (record { first = c.args.start; pages = total_pages c.args.segments.now }) =
-    to_ends (record { first = c.args.start; pages = total_pages c.args.segments.now }) c.requires.range in
-    let end =
-    end_of_fit (record { first = c.args.start; pages = total_pages c.args.segments.now }) c.args.self.now.width c.requires.range
-    c.requires.fits in
-    let maps_by =
-    subst (λ l. OnOk c.map_segments.result (MapsPages c.args.pool.now c.map_segments.new.pool l c.args.self.now.root c.number.result
-    (c.number.result + total_pages c.args.segments.now) (placed c.args.segments.now c.number.result (bits_of c.args.rights))))
-    c.levels-levels.ensures.exact c.map_segments.ensures.maps in
-    either_way c.map_segments.result maps_by c.map_segments.ensures.unchanged
-    (λ maps.
-    map_leaves c.args.pool.now c.map_segments.new.pool (levels c.args.self.now.width) c.args.self.now.root c.number.result
-    (c.number.result + total_pages c.args.segments.now) (placed c.args.segments.now c.number.result (bits_of c.args.rights))
-    (omega (arith, some_levels c.args.self.now.width)) (omega (
-      arith,
-      span-levels c.args.self.now.width,
-      end,
-      e.some,
-      c.number.ensures.value,
-    ))
-    (λ p low high. c.requires.absent p (omega (arith, low, c.number.ensures.value)) (omega (arith, high, c.number.ensures.value))) maps)
-    (λ same first pages frame rights h.
-    subst (λ (p : Pool). IsLeafAt (memory p.words) (levels c.args.self.now.width) c.args.self.now.root first pages frame rights)
-    (sym same) h)
+pub returns-in-W39-clause-leaves : goal.returns-in-W39-clause-leaves
+returns-in-W39-clause-leaves c =
+    mapped_leaves c.args.pool.now c.map_segments.new.pool c.args.self.now.width (range_of c.args.start c.args.segments.now)
+    (placed c.args.segments.now c.args.start (bits_of c.args.rights)) 3 c.args.self.now.root c.map_segments.result
+    (sym (ap levels c.in-W39.is)) c.requires.range c.requires.fits c.requires.absent
+    (rw c.number-first.ensures.value at c.map_segments.ensures.maps) c.map_segments.ensures.unchanged
 
-pub returns-clause-others : goal.returns-clause-others
-returns-clause-others c level table tree apart =
-    apart_stays c.args.pool.now c.map_segments.new.pool (levels c.args.self.now.width) c.args.self.now.root level table [] c.requires.tree
-    (subst (λ l. TakesAndGivesFrames c.args.pool.now c.map_segments.new.pool l c.args.self.now.root []) c.levels-levels.ensures.exact
-    c.map_segments.ensures.moves) tree apart
+pub returns-in-W39-clause-tables : goal.returns-in-W39-clause-tables
+returns-in-W39-clause-tables c =
+    mapped_tables c.args.pool.now c.map_segments.new.pool c.args.self.now.width (range_of c.args.start c.args.segments.now)
+    (placed c.args.segments.now c.args.start (bits_of c.args.rights)) 3 c.args.self.now.root c.map_segments.result
+    (sym (ap levels c.in-W39.is)) (rw c.number-first.ensures.value at c.map_segments.ensures.maps) c.map_segments.ensures.unchanged
+
+pub returns-in-W39-clause-others : goal.returns-in-W39-clause-others
+returns-in-W39-clause-others c =
+    others_stay c.args.pool.now c.map_segments.new.pool c.args.self.now.width 3 c.args.self.now.root [] (sym (ap levels c.in-W39.is))
+    c.requires.tree c.map_segments.ensures.moves
+
+pub map_segments-requires-in-W48-clause-one_span : goal.map_segments-requires-in-W48-clause-one_span
+map_segments-requires-in-W48-clause-one_span c =
+    rw c.number-first.ensures.value (in_root c.args.self.now.width (range_of c.args.start c.args.segments.now) 4 (sym (ap levels c.in-W48.is)) c.requires.range c.requires.fits).1
+
+pub returns-in-W48-clause-leaves : goal.returns-in-W48-clause-leaves
+returns-in-W48-clause-leaves c =
+    mapped_leaves c.args.pool.now c.map_segments-in-W48.new.pool c.args.self.now.width (range_of c.args.start c.args.segments.now)
+    (placed c.args.segments.now c.args.start (bits_of c.args.rights)) 4 c.args.self.now.root c.map_segments-in-W48.result
+    (sym (ap levels c.in-W48.is)) c.requires.range c.requires.fits c.requires.absent
+    (rw c.number-first.ensures.value at c.map_segments-in-W48.ensures.maps) c.map_segments-in-W48.ensures.unchanged
+
+pub returns-in-W48-clause-tables : goal.returns-in-W48-clause-tables
+returns-in-W48-clause-tables c =
+    mapped_tables c.args.pool.now c.map_segments-in-W48.new.pool c.args.self.now.width (range_of c.args.start c.args.segments.now)
+    (placed c.args.segments.now c.args.start (bits_of c.args.rights)) 4 c.args.self.now.root c.map_segments-in-W48.result
+    (sym (ap levels c.in-W48.is)) (rw c.number-first.ensures.value at c.map_segments-in-W48.ensures.maps) c.map_segments-in-W48.ensures.unchanged
+
+pub returns-in-W48-clause-others : goal.returns-in-W48-clause-others
+returns-in-W48-clause-others c =
+    others_stay c.args.pool.now c.map_segments-in-W48.new.pool c.args.self.now.width 4 c.args.self.now.root [] (sym (ap levels c.in-W48.is))
+    c.requires.tree c.map_segments-in-W48.ensures.moves

@@ -1,84 +1,58 @@
-use Rattle.std.proofs.Common.{◌≡◌, ℕ, ◌+◌, ◌-◌, ◌<◌, inl, inr, true, false, sym, subst, ap, ◌∙◌, ◌/◌, arith}
+use Rattle.std.proofs.Common.{ap, sym}
 use Rattle.dmatypes.specs.Page.{levels}
-use Rattle.dmatypes.proofs.numbers.Ranges.{HasEnds, end_of_fit, to_ends}
-use Rattle.tables.specs.Pool.{Pool, memory}
-use Rattle.tables.specs.Tree.{span}
-use Rattle.tables.specs.Changes.{TakesAndGivesFrames, UnmapsPages}
-use Rattle.tables.specs.Lacks.{leaves_splitting}
-use Rattle.tables.proofs.unmaps.Ended.{unmap_leaves, unmap_tables, unmap_whole}
-use Rattle.tables.proofs.pools.Kept.{span-levels, some_levels, same_root, apart_stays}
+use Rattle.tables.proofs.pools.ByWidth.{ended_leaves, ended_tables, ended_whole, in_root, others_stay}
 use Rattle.tables.proofs.trees.Tree.unmap.Goals as goal
 
 pub unmap_pieces-requires-clause-one_span : goal.unmap_pieces-requires-clause-one_span
 unmap_pieces-requires-clause-one_span c =
-    let e : HasEnds c.args.range = to_ends c.args.range c.first-from.ensures.range in
-    let end = end_of_fit c.args.range c.args.self.now.width c.first-from.ensures.range c.requires.fits in
-    subst (λ l. c.first-from.result / span l ≡ (c.first-from.result + c.pages.result - 1) / span l) (sym c.levels-levels.ensures.exact)
-    (same_root (levels c.args.self.now.width) c.first-from.result (c.first-from.result + c.pages.result - 1)
-    (omega (arith, span-levels c.args.self.now.width, end, e.some, c.first-from.ensures.value))
-    (omega (arith, span-levels c.args.self.now.width, end, e.some, c.first-from.ensures.value, c.pages.ensures.value)))
+    rw (c.first-from.ensures.value, c.pages.ensures.value)
+    (in_root c.args.self.now.width c.args.range 3 (sym (ap levels c.in-W39.is)) c.first-from.ensures.range c.requires.fits).1
 
-true_false : true ≡ false → ⊥
-true_false e = cc
+pub returns-in-W39-clause-whole : goal.returns-in-W39-clause-whole
+returns-in-W39-clause-whole c =
+    ended_whole c.args.pool.now c.args.self.now.width c.args.range 3 c.args.self.now.root c.unmap_pieces.result.split
+    (sym (ap levels c.in-W39.is)) (rw (c.first-from.ensures.value, c.pages.ensures.value) at c.unmap_pieces.ensures.split)
 
-zero_or_more : (n : ℕ) → (0 < n → ⊥) → n ≡ 0
-zero_or_more n h = omega arith
+pub returns-in-W39-clause-leaves : goal.returns-in-W39-clause-leaves
+returns-in-W39-clause-leaves c =
+    ended_leaves c.args.pool.now c.unmap_pieces.new.pool c.args.self.now.width c.args.range 3 c.args.self.now.root c.unmap_pieces.result.frames
+    (sym (ap levels c.in-W39.is)) c.first-from.ensures.range c.requires.fits
+    (rw (c.first-from.ensures.value, c.pages.ensures.value) at c.unmap_pieces.ensures.unmaps)
 
-pub returns-clause-whole : goal.returns-clause-whole
-returns-clause-whole c p x within unset leaf q near =
-    let none : leaves_splitting (memory c.args.pool.now.words) (levels c.args.self.now.width) c.args.self.now.root c.first-from.result
-    (c.first-from.result + c.pages.result)
-    ≡ 0 =
-    zero_or_more
-    (leaves_splitting (memory c.args.pool.now.words) (levels c.args.self.now.width) c.args.self.now.root c.first-from.result
-    (c.first-from.result + c.pages.result))
-    (λ some. true_false (sym (c.unmap_pieces.ensures.split.1 (subst (λ l. 0 < leaves_splitting (memory c.args.pool.now.words) l
-    c.args.self.now.root c.first-from.result (c.first-from.result + c.pages.result)) (sym c.levels-levels.ensures.exact) some)) ∙ unset)) in
-    let all =
-    unmap_whole c.args.pool.now (levels c.args.self.now.width) c.args.self.now.root c.first-from.result
-    (c.first-from.result + c.pages.result) none p x
-    (omega (arith, within.0, c.first-from.ensures.value)) (omega (arith, within.1, c.first-from.ensures.value, c.pages.ensures.value))
-    leaf q near in
-    (omega (arith, all.0, c.first-from.ensures.value), omega (arith, all.1, c.first-from.ensures.value, c.pages.ensures.value))
+pub returns-in-W39-clause-tables : goal.returns-in-W39-clause-tables
+returns-in-W39-clause-tables c =
+    ended_tables c.args.pool.now c.unmap_pieces.new.pool c.args.self.now.width c.args.range 3 c.args.self.now.root c.unmap_pieces.result.frames
+    (sym (ap levels c.in-W39.is)) c.first-from.ensures.range c.requires.fits
+    (rw (c.first-from.ensures.value, c.pages.ensures.value) at c.unmap_pieces.ensures.unmaps)
 
-pub returns-clause-leaves : goal.returns-clause-leaves
-returns-clause-leaves c first pages frame rights leaf apart =
-    let e : HasEnds c.args.range = to_ends c.args.range c.first-from.ensures.range in
-    let end = end_of_fit c.args.range c.args.self.now.width c.first-from.ensures.range c.requires.fits in
-    let unmaps =
-    subst (λ l. UnmapsPages c.args.pool.now c.unmap_pieces.new.pool l c.args.self.now.root c.first-from.result
-    (c.first-from.result + c.pages.result) c.unmap_pieces.result.frames) c.levels-levels.ensures.exact c.unmap_pieces.ensures.unmaps in
-    unmap_leaves c.args.pool.now c.unmap_pieces.new.pool (levels c.args.self.now.width) c.args.self.now.root c.first-from.result
-    (c.first-from.result + c.pages.result) c.unmap_pieces.result.frames (omega (arith, some_levels c.args.self.now.width))
-    (omega (arith, span-levels c.args.self.now.width, end, e.some, c.first-from.ensures.value)) unmaps first pages frame rights leaf
-    (elim apart [
-      | inl h ↦ inl (omega (arith, h, c.first-from.ensures.value))
-      | inr h ↦ inr (omega (arith, h, c.first-from.ensures.value, c.pages.ensures.value))
-    ])
+pub returns-in-W39-clause-others : goal.returns-in-W39-clause-others
+returns-in-W39-clause-others c =
+    others_stay c.args.pool.now c.unmap_pieces.new.pool c.args.self.now.width 3 c.args.self.now.root c.unmap_pieces.result.frames
+    (sym (ap levels c.in-W39.is)) c.requires.tree c.unmap_pieces.ensures.moves
 
-pub returns-clause-tables : goal.returns-clause-tables
-returns-clause-tables c first level table at =
-    let e : HasEnds c.args.range = to_ends c.args.range c.first-from.ensures.range in
-    let end = end_of_fit c.args.range c.args.self.now.width c.first-from.ensures.range c.requires.fits in
-    let unmaps =
-    subst (λ l. UnmapsPages c.args.pool.now c.unmap_pieces.new.pool l c.args.self.now.root c.first-from.result
-    (c.first-from.result + c.pages.result) c.unmap_pieces.result.frames) c.levels-levels.ensures.exact c.unmap_pieces.ensures.unmaps in
-    elim (unmap_tables c.args.pool.now c.unmap_pieces.new.pool (levels c.args.self.now.width) c.args.self.now.root c.first-from.result
-    (c.first-from.result + c.pages.result) c.unmap_pieces.result.frames
-    (omega (arith, span-levels c.args.self.now.width, end, e.some, c.first-from.ensures.value)) unmaps first level table at) [
-      | inl there ↦ inl there
-      | inr gone ↦
-          inr (
-            gone.0,
-            omega (arith, gone.1, c.first-from.ensures.value),
-            omega (arith, gone.2, c.first-from.ensures.value, c.pages.ensures.value),
-            gone.3,
-          )
-    ]
+pub unmap_pieces-requires-in-W48-clause-one_span : goal.unmap_pieces-requires-in-W48-clause-one_span
+unmap_pieces-requires-in-W48-clause-one_span c =
+    rw (c.first-from.ensures.value, c.pages.ensures.value)
+    (in_root c.args.self.now.width c.args.range 4 (sym (ap levels c.in-W48.is)) c.first-from.ensures.range c.requires.fits).1
 
-pub returns-clause-others : goal.returns-clause-others
-returns-clause-others c level table tree apart =
-    apart_stays c.args.pool.now c.unmap_pieces.new.pool (levels c.args.self.now.width)
-    c.args.self.now.root level table c.unmap_pieces.result.frames c.requires.tree
-    (subst (λ l. TakesAndGivesFrames c.args.pool.now c.unmap_pieces.new.pool l c.args.self.now.root c.unmap_pieces.result.frames)
-    c.levels-levels.ensures.exact c.unmap_pieces.ensures.moves) tree apart
+pub returns-in-W48-clause-whole : goal.returns-in-W48-clause-whole
+returns-in-W48-clause-whole c =
+    ended_whole c.args.pool.now c.args.self.now.width c.args.range 4 c.args.self.now.root c.unmap_pieces-in-W48.result.split
+    (sym (ap levels c.in-W48.is)) (rw (c.first-from.ensures.value, c.pages.ensures.value) at c.unmap_pieces-in-W48.ensures.split)
+
+pub returns-in-W48-clause-leaves : goal.returns-in-W48-clause-leaves
+returns-in-W48-clause-leaves c =
+    ended_leaves c.args.pool.now c.unmap_pieces-in-W48.new.pool c.args.self.now.width c.args.range 4 c.args.self.now.root c.unmap_pieces-in-W48.result.frames
+    (sym (ap levels c.in-W48.is)) c.first-from.ensures.range c.requires.fits
+    (rw (c.first-from.ensures.value, c.pages.ensures.value) at c.unmap_pieces-in-W48.ensures.unmaps)
+
+pub returns-in-W48-clause-tables : goal.returns-in-W48-clause-tables
+returns-in-W48-clause-tables c =
+    ended_tables c.args.pool.now c.unmap_pieces-in-W48.new.pool c.args.self.now.width c.args.range 4 c.args.self.now.root c.unmap_pieces-in-W48.result.frames
+    (sym (ap levels c.in-W48.is)) c.first-from.ensures.range c.requires.fits
+    (rw (c.first-from.ensures.value, c.pages.ensures.value) at c.unmap_pieces-in-W48.ensures.unmaps)
+
+pub returns-in-W48-clause-others : goal.returns-in-W48-clause-others
+returns-in-W48-clause-others c =
+    others_stay c.args.pool.now c.unmap_pieces-in-W48.new.pool c.args.self.now.width 4 c.args.self.now.root c.unmap_pieces-in-W48.result.frames
+    (sym (ap levels c.in-W48.is)) c.requires.tree c.unmap_pieces-in-W48.ensures.moves
