@@ -14,8 +14,8 @@ use Rattle.iova.specs.Pieces.{piece_of, state_at}
 use Rattle.iova.specs.Space.{Space, IsSpace}
 use Rattle.tables.specs.Pool.{Pool, memory, occurs, IsZeroed}
 use Rattle.tables.specs.Tree.{IsLeafAt, IsTableAt, Memory, span, states, sum_below, uses}
-use Rattle.vtdbits.specs.declared.context.ContextEntry.{ContextEntry}
-use Rattle.vtdbits.specs.declared.context.ContextEntry.TheVariants.{Absent, Present}
+use Rattle.vtdbits.specs.Context.{attached}
+use Rattle.vtdbits.specs.declared.context.ContextEntry.TheVariants.{Present}
 use Rattle.unit.specs.Caches.{Caches, CachedContext, CachedFault, CachedLeaf, CachedNonLeaf, UnitState}
 use Rattle.unit.specs.Walking.{stated_by}
 use Rattle.engine.specs.declared.record.Record.{Record}
@@ -124,12 +124,6 @@ abbrev pub IsLawfulFault : UnitState → World → CachedFault → Type 0
 IsLawfulFault u w f = IsTrue u.caching × ((v : world.Domain) → w.domains f.domain ≡ Some v → v.live f.page ≡ None)
 
 -- ---- contexts
-
--- the domain that an entry attaches its device to
-abbrev pub attached : Option ContextEntry → Option ℕ
-attached None = None
-attached (Some Absent) = None
-attached (Some (Present root width domain)) = Some domain
 
 -- context: the row is the devices' attachments with their domains' roots and widths, and each cached context is one of these
 pub record Attaches (m : State) (w : World) : Type 0 where

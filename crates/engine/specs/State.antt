@@ -1,6 +1,6 @@
 -- What contracts see of the state.
 use Rattle.std.specs.Prelude.{◌≢◌, ◌==◌, ◌&&◌, ◌++◌, ◌∷◌, Bool, filter, not}
-use Rattle.std.specs.Prelude.{◌≡◌, ℕ, ◌+◌, ◌-◌, ◌/◌, ◌<◌, ◌≤◌, List, [], replicate, IsSomeAnd, Option, None, Some, length, slice_get}
+use Rattle.std.specs.Prelude.{◌≡◌, ℕ, ◌+◌, ◌-◌, ◌/◌, ◌<◌, ◌≤◌, List, [], replicate, IsSome, IsSomeAnd, Option, None, Some, length, slice_get}
 use Rattle.std.specs.Prelude.{slice_set, Result, Ok, Err, IfOk, IsTrue}
 use Rattle.dmatypes.specs.declared.call.Call.{Call}
 use Rattle.dmatypes.specs.declared.call.Call.TheVariants as calls
@@ -85,13 +85,17 @@ IsExactMap m domain segments order (Refused refusals.NoFrames) =
     IsSomeAnd (domain_at m.domains domain) (λ h. IsShort m.pool h segments order)
 IsExactMap m domain segments order reply = Unit {0}
 
--- what the model leaves open: a domain is refused for its root exactly where no frame is free; a map, which takes
--- the start at which its domain serves it, is refused for its pieces exactly where the range there cuts a piece and there are more than
--- 1,022, and else for its frames exactly where more tables are lacking than frames are free; an unmap likewise, for
--- its frames where more leaves of 2 MiB are to be split; a step of the unit finds nothing exactly where nothing waits, and a
--- reap is answered that it is pending exactly where the ticket's wait isn't done
+-- the lowest id that no domain has
+abbrev pub IsLowestUnused : State → ℕ → Type 0
+IsLowestUnused m d = (domain_at m.domains d ≡ None) × ((e : ℕ) → 1 ≤ e → e < d → IsSome (domain_at m.domains e))
+
+-- what the model leaves open: a new domain gets the lowest unused id, and is refused for its root exactly where no frame is
+-- free; a map, which takes the start at which its domain serves it, is refused for its pieces exactly where the range there
+-- cuts a piece and there are more than 1,022, and else for its frames exactly where more tables are lacking than frames are
+-- free; an unmap likewise, for its frames where more leaves of 2 MiB are to be split; a step of the unit finds nothing exactly
+-- where nothing waits, and a reap is answered that it is pending exactly where the ticket's wait isn't done
 unfoldable pub Exact : State → Call → Reply → Type 0
-Exact m (calls.Domain mode width) (Made d) = 0 < length m.pool.free
+Exact m (calls.Domain mode width) (Made d) = (0 < length m.pool.free) × IsLowestUnused m d
 Exact m (calls.Domain mode width) (Refused refusals.NoFrames) = length m.pool.free ≡ 0
 Exact m (calls.Map domain frame pages order rights) reply = IsExactMap m domain (one_segment frame pages) order reply
 Exact m (calls.MapList domain order rights segments) reply = IsExactMap m domain segments.items order reply

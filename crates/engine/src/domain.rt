@@ -2,10 +2,9 @@
 
 ghost use Rattle.std.specs.Prelude.{◌≡◌, ◌<◌, ◌≤◌, ◌+◌, ◌^◌, ◌++◌, ◌∷◌, filter, length, IfOk, IfErr, OnErr, Ok, [], vec_capacity};
 ghost use Rattle.dmatypes.specs.Conditions.{total_pages};
-ghost use Rattle.dmatypes.specs.Page.{Fits, IsPageRange, Range};
+ghost use Rattle.dmatypes.specs.Page.{Fits, IsPageRange, Range, levels, pages_end};
 ghost use Rattle.dmatypes.specs.Rights.{bits_of};
 ghost use Rattle.dmatypes.specs.declared.limits.TheConstants.{MOST_RECORDS, MOST_SEGMENTS};
-ghost use Rattle.dmatypes.specs.Page.{levels, pages_end};
 ghost use Rattle.dmatypes.specs.declared.width.TheConstants.{PAGES_END};
 ghost use Rattle.iova.specs.Space.{AllFree, IsSpace, MayRetire};
 ghost use Rattle.tables.specs.Pool.{IsTree};

@@ -13,7 +13,8 @@ ghost use Rattle.dmatypes.specs.declared.reply.Reply.TheVariants.{Done};
 ghost use Rattle.engine.specs.Domains.{domain_at};
 ghost use Rattle.engine.specs.Hits.{IsHitOf};
 ghost use Rattle.engine.specs.State.{IsNew, done_reply, flushed_reply, unmapped_reply, made_reply, mapped_reply, request_reply};
-ghost use Rattle.engine.specs.Quarantine.{Quarantine, attached};
+ghost use Rattle.engine.specs.Quarantine.{Quarantine};
+ghost use Rattle.vtdbits.specs.Context.{attached};
 ghost use Rattle.engine.specs.Steps.{Does};
 ghost use Rattle.engine.specs.Whole.{IsWhole};
 
@@ -126,8 +127,8 @@ impl State {
         Ok(state)
     }
 
-    /// Makes an empty domain with addresses of this width, and answers its id, 1 to 15. Refuses with `TooManyDomains` where all
-    /// ids are in use, else with `NoFrames` where no table frame is free.
+    /// Makes an empty domain with addresses of this width, and answers its id, the lowest of 1 to 15 that is unused. Refuses with
+    /// `TooManyDomains` where all ids are in use, else with `NoFrames` where no table frame is free.
     pub fn domain(&mut self, mode: Mode, width: Width) -> Result<u64, Refusal>
         requires { self.old.calls < CALLS_END }
         ensures { Does self.old (calls.Domain mode width) (made_reply result) self.new }
@@ -393,6 +394,7 @@ fn all_rooms(alloc: Global) -> Result<Vec<Room>, AllocError>
 // The first place with no domain.
 fn first_vacant(domains: &[Option<Domain>]) -> Option<usize>
     ensures vacant { IfSome result (λ i. (i < length domains.now) × (slice_get domains.now i ≡ Some None)) }
+    ensures first { IfSome result (λ i. (d : ℕ) → 1 ≤ d → d ≤ i → IsSome (domain_at domains.now d)) }
     ensures none { IfNone result ((d : ℕ) → 1 ≤ d → d ≤ length domains.now → IsSome (domain_at domains.now d)) }
 {
     domains.iter().position(|domain| domain.is_none())
@@ -413,21 +415,11 @@ fn is_attached(contexts: &Contexts, id: DomainId) -> bool
     ensures none { IsFalse result → (v : ℕ) → attached (slice_get contexts.now v) ≡ Some id → ⊥ }
 {
     for device in 0..DEVICES {
-        if attaches(contexts.get(device), id) {
+        if contexts.domain_of(device) == Some(id.number()) {
             return true;
         }
     }
     false
-}
-
-// Whether the entry attaches its device to the domain.
-fn attaches(entry: ContextEntry, id: DomainId) -> bool
-    ensures { IsTrue result ↔ attached (Some entry) ≡ Some id }
-{
-    match entry {
-        ContextEntry::Present { domain, .. } => domain == id,
-        ContextEntry::Absent => false,
-    }
 }
 
 // The pages of an unmap, where it names some.

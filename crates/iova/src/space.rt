@@ -28,7 +28,7 @@ pub enum TakeError {
     /// No aligned range of so many free pages exists.
     #[error("no aligned range of so many free pages")]
     NoRange,
-    /// Taking the lowest such range would cut a piece, and there are more than 1,022.
+    /// The range that would be taken cuts a piece, and there are more than 1,022.
     #[error("too many pieces")]
     TooManyPieces,
 }

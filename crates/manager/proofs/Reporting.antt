@@ -4,7 +4,7 @@ use Rattle.std.proofs.lemmas.List.{append-nil}
 use Rattle.engine.specs.declared.state.totals.DomainTotals.{DomainTotals}
 use Rattle.engine.specs.Domains.{domain_at}
 use Rattle.engine.specs.State.{State}
-use Rattle.engine.specs.Quarantine.{attached}
+use Rattle.vtdbits.specs.Context.{attached}
 use Rattle.engine.specs.Totals.{domain_totals_of}
 use Rattle.manager.specs.Report.{device_line, device_lines, domain_line, domain_lines, line_of_device, line_of_domain}
 

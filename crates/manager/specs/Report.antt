@@ -6,7 +6,7 @@ use Rattle.engine.specs.declared.state.totals.DomainTotals.{DomainTotals}
 use Rattle.engine.specs.declared.state.totals.Totals.{Totals}
 use Rattle.engine.specs.Domains.{domain_at}
 use Rattle.engine.specs.State.{State}
-use Rattle.engine.specs.Quarantine.{attached}
+use Rattle.vtdbits.specs.Context.{attached}
 use Rattle.dmatypes.specs.declared.limits.TheConstants.{DEVICES, MOST_DOMAINS}
 use Rattle.engine.specs.Totals.{domain_totals_of, totals_of}
 

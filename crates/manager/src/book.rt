@@ -151,6 +151,20 @@ impl<B: Owner> Book<B> {
         self.desk.tell(&rows.words, &mut mine.pass);
     }
 
+    /// Tells a port and a share one and the same history. No event is entered, and no word of a row changes.
+    pub fn check_in(&mut self, rows: &Rows<B>, mine: &mut Share<B>, port: &mut Port<B>)
+        ensures share { IsPrefix mine.old.seen self.old.history × (mine.new.seen ≡ self.old.history) × (mine.new.calls ≡ mine.old.calls) }
+        ensures port { IsPrefix port.old.seen self.old.history × (port.new.seen ≡ self.old.history) × (port.new.device ≡ port.old.device) }
+        ensures did { port.new.did ≡ port.old.did ++ Loaded counter (length self.old.history) ∷ [] }
+        ensures same { self.new ≡ self.old }
+        ensures kept { IsKept B.frames B.room B.mode self.new }
+    {
+        // It changes nothing: its contract says that the history which both have seen is legal.
+        self.keeps();
+        self.tell(rows, mine);
+        self.meet(rows, port);
+    }
+
     /// Hands the history out to whoever has all shares.
     pub fn close(self, rows: &Rows<B>, shares: Vec<Share<B>>) -> History<B>
         requires { B.shares ≤ vec_len shares }

@@ -152,12 +152,7 @@ impl<B: Owner> Manager<B> {
         ensures same { mine.new.seen ≡ port.new.seen }
         ensures legal { IsLegal B.frames mine.new.seen }
     {
-        let mut guard = self.book.lock(rt);
-        let book = &mut *guard;
-        // It changes nothing: its contract says that the history which both have seen is legal.
-        book.keeps();
-        book.tell(rows, mine);
-        book.meet(rows, port);
+        self.book.lock(rt).check_in(rows, mine, port);
     }
 
     /// Hands the history out to whoever has all shares; with fewer, the manager and the shares come back.

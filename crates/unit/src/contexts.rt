@@ -1,6 +1,7 @@
 //! The row of contexts.
 
 ghost use Rattle.std.specs.Prelude.{◌≡◌, ◌<◌, Some, slice_get, slice_set, replicate, length};
+ghost use Rattle.vtdbits.specs.Context.{attached};
 
 use dmatypes::DEVICES;
 use std::marker::Model;
@@ -41,6 +42,16 @@ impl Contexts {
         ensures { slice_get self.now device ≡ Some result }
     {
         ContextEntry::decode(self.words[device as usize]).unwrap_or(ContextEntry::Absent)
+    }
+
+    /// The domain that a device is attached to, by its number.
+    pub fn domain_of(&self, device: u64) -> Option<u64>
+        requires { device < DEVICES }
+        ensures { result ≡ attached (slice_get self.now device) }
+    {
+        // Each pair of words spells an entry, and no domain has the number 0: so the rest needn't be read.
+        let domain = self.words[device as usize].high >> 8;
+        if domain == 0 { None } else { Some(domain) }
     }
 
     /// Writes the entry of a device.

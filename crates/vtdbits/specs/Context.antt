@@ -21,6 +21,12 @@ Spells words (Present root width domain) =
     IsFrame root × IsDomainId domain
     × (words.low ≡ 1 + 2 ^ 12 * root) × (words.high ≡ number_of_width width + 2 ^ 8 * domain)
 
+-- the domain that an entry attaches its device to
+abbrev pub attached : Option ContextEntry → Option ℕ
+attached None = None
+attached (Some Absent) = None
+attached (Some (Present root width domain)) = Some domain
+
 -- ---- the same as a function
 
 -- the address width of a number

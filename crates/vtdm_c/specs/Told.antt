@@ -10,7 +10,7 @@ use Rattle.engine.specs.declared.state.totals.DomainTotals as engine
 use Rattle.engine.specs.declared.state.totals.Totals as state
 use Rattle.engine.specs.Domains.{Domain, domain_at}
 use Rattle.engine.specs.Hits.{mode_of, width_of}
-use Rattle.engine.specs.Quarantine.{attached}
+use Rattle.vtdbits.specs.Context.{attached}
 use Rattle.engine.specs.State.{State}
 use Rattle.engine.specs.Totals.{domain_totals_of, totals_of}
 use Rattle.engine.specs.Walkable.{SpellsContext, root_of}
@@ -70,13 +70,12 @@ FindsDomainOf device m answer =
     (DEVICES ≤ device → answer ≡ lone NO_DEVICE)
     × (device < DEVICES → answer ≡ found (attached (slice_get m.iommu.contexts device)) NOT_ATTACHED)
 
--- the devices of a domain that is there: bit j is device j
+-- the devices of a domain that is there: bit j is device j, and no other bit is set
 abbrev pub AreDevicesOf : ℕ → State → Option Domain → Answer → Type 0
 AreDevicesOf domain m None answer = answer ≡ lone NO_DOMAIN
 AreDevicesOf domain m (Some h) answer =
     (answer.status ≡ OK)
-    × ((device : ℕ) → device < DEVICES
-    → (bit_at answer.value device ≡ 1) ↔ (attached (slice_get m.iommu.contexts device) ≡ Some domain))
+    × ((device : ℕ) → (bit_at answer.value device ≡ 1) ↔ (attached (slice_get m.iommu.contexts device) ≡ Some domain))
 
 abbrev pub FindsDevices : ℕ → State → Answer → Type 0
 FindsDevices domain m answer = AreDevicesOf domain m (domain_at m.domains domain) answer

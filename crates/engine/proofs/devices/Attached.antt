@@ -13,7 +13,8 @@ use Rattle.dmatypes.specs.Conditions.{Stands}
 use Rattle.dmatypes.specs.Step.{IsStep, Answers, next}
 use Rattle.engine.specs.Domains.{Domain, domain_at}
 use Rattle.engine.specs.State.{State, Exact, Becomes}
-use Rattle.engine.specs.Quarantine.{Attaches, attached}
+use Rattle.engine.specs.Quarantine.{Attaches}
+use Rattle.vtdbits.specs.Context.{attached}
 use Rattle.engine.specs.Steps.{Does}
 use Rattle.dmatypes.proofs.histories.Maps.{put_same, put_other, same_or_not}
 use Rattle.engine.proofs.lists.Places.{get_set, get_set_other, is_none, is_some, not_none, not_some}

@@ -18,7 +18,8 @@ use Rattle.vtdbits.specs.declared.descriptor.Descriptor.TheVariants.{ContextDevi
 use Rattle.engine.specs.declared.iommu.Iommu.{Iommu}
 use Rattle.engine.specs.Ending.{Invalidates, status_of}
 use Rattle.engine.specs.State.{Becomes, Exact, State}
-use Rattle.engine.specs.Quarantine.{Quarantine, attached, ticket_there}
+use Rattle.engine.specs.Quarantine.{Quarantine, ticket_there}
+use Rattle.vtdbits.specs.Context.{attached}
 use Rattle.engine.specs.Steps.{Does}
 use Rattle.dmatypes.proofs.histories.Maps.{put_other, put_same, same_or_not}
 use Rattle.engine.proofs.lists.Places.{get_set, get_set_other, is_none, not_none}

@@ -11,7 +11,8 @@ use Rattle.vtdbits.specs.declared.context.ContextEntry.TheVariants.{Present}
 use Rattle.engine.specs.Ending.{Destroys}
 use Rattle.engine.specs.Domains.{Domain, held_in, domain_at}
 use Rattle.engine.specs.State.{State}
-use Rattle.engine.specs.Quarantine.{Attaches, InDomain, IsLawfulLeaf, IsLawfulTable, Quarantine, attached, owned, ticket_there}
+use Rattle.engine.specs.Quarantine.{Attaches, InDomain, IsLawfulLeaf, IsLawfulTable, Quarantine, owned, ticket_there}
+use Rattle.vtdbits.specs.Context.{attached}
 use Rattle.engine.proofs.frames.Owners.{apart_of, frames_move, held_out, tree_of}
 use Rattle.engine.proofs.frames.Held.{held-nil, held_stays}
 use Rattle.engine.proofs.caches.Lawful.{KeepsLawful, keeps_same}

@@ -141,12 +141,13 @@ with_new m t w mode width i root q many less free grown is_space all domains row
   ]
 
 pub makes : (m t : State) (mode : Mode) (width : Width) (i : ℕ) (root : ℕ) → length m.domains ≡ MOST_DOMAINS → i < length m.domains
-    → domain_at m.domains (i + 1) ≡ None → IsEmptyTree m.pool t.pool width root → IsSpace (new_space (pages_end width - 1))
+    → domain_at m.domains (i + 1) ≡ None → ((d : ℕ) → 1 ≤ d → d ≤ i → IsSome (domain_at m.domains d))
+    → IsEmptyTree m.pool t.pool width root → IsSpace (new_space (pages_end width - 1))
     → AllFree (new_space (pages_end width - 1))
     → t ≡ record m { pool = t.pool; domains = slice_set m.domains i (Some (new_domain mode width root)); calls = m.calls + 1 }
     → Does m (calls.Domain mode width) (Made (i + 1)) t
 unfolding Exact Becomes IsStep Stands Answers next
-makes m t mode width i root many less free grown is_space all is =
+makes m t mode width i root many less free below grown is_space all is =
     record {
       steps = λ w q.
           let absent : w.domains (i + 1) ≡ None =
@@ -159,7 +160,7 @@ makes m t mode width i root many less free grown is_space all is =
                 (ap (λ (x : State). x.iommu.contexts) is) (ap (λ (x : State). x.iommu.unit) is)
                 (ap (λ (x : State). x.tickets) is),
           );
-      exact = omega (arith, grown.roots.count);
+      exact = (omega (arith, grown.roots.count), (free, λ e low less. below e low (omega (arith, less))));
       becomes = let place : i + 1 - 1 ≡ i = omega arith in (root, grown.roots, rw place is);
       calls = ap (λ (x : State). x.calls) is;
     }

@@ -20,7 +20,8 @@ use Rattle.engine.specs.declared.iommu.Iommu.{Iommu}
 use Rattle.engine.specs.Ending.{Closes, Flushes, Invalidates, left_by_all, domain_shown, status_of}
 use Rattle.engine.specs.Domains.{Domain, domain_at, parts_of}
 use Rattle.engine.specs.State.{Becomes, Exact, State, parts_in}
-use Rattle.engine.specs.Quarantine.{IsOfSomeWorld, Quarantine, attached, ticket_there}
+use Rattle.engine.specs.Quarantine.{IsOfSomeWorld, Quarantine, ticket_there}
+use Rattle.vtdbits.specs.Context.{attached}
 use Rattle.engine.specs.declared.ticket.Ticket.{Ticket}
 use Rattle.engine.specs.Steps.{Does}
 use Rattle.engine.specs.Whole.{IsWhole}

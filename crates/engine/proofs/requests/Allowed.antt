@@ -28,7 +28,8 @@ use Rattle.engine.specs.Hits.{Has}
 use Rattle.engine.specs.Domains.{Domain, domain_at}
 use Rattle.engine.specs.State.{State, host_in, reached_reply}
 use Rattle.engine.specs.Quarantine.{AreLawful, MirrorsIfAny, InDomain, IsLawfulFault, IsLawfulLeaf, IsLawfulTable, Mirrors}
-use Rattle.engine.specs.Quarantine.{Quarantine, attached}
+use Rattle.engine.specs.Quarantine.{Quarantine}
+use Rattle.vtdbits.specs.Context.{attached}
 use Rattle.engine.proofs.caches.Faults.{AreLawfulFaults}
 use Rattle.engine.proofs.requests.Read.{IsOnWay, MeetsNothing, IsReadOf, from_start, leaf_of_way, off_leaf, off_walk, table_of_way}
 

@@ -17,7 +17,8 @@ use Rattle.engine.specs.Tickets.{AreDifferent, Follow, KeepsTickets, pairs_of}
 use Rattle.engine.specs.Domains.{Domain, domain_at}
 use Rattle.engine.specs.State.{IsNew, State}
 use Rattle.engine.specs.Whole.{IsWhole}
-use Rattle.engine.specs.Quarantine.{AreLawful, Quarantine, attached, owned, ticket_there}
+use Rattle.engine.specs.Quarantine.{AreLawful, Quarantine, owned, ticket_there}
+use Rattle.vtdbits.specs.Context.{attached}
 use Rattle.engine.proofs.domains.OneChanged.{domain_of_place}
 use Rattle.dmatypes.specs.declared.limits.TheConstants.{DEVICES, MOST_DOMAINS}
 use Rattle.tables.specs.declared.entries.TheConstants.{TABLE_ENTRIES}

@@ -1,11 +1,10 @@
 //! What is asked of a state by whoever keeps words for its devices.
 
-ghost use Rattle.std.specs.Prelude.{◌≡◌, ◌<◌, ◌↔◌, ℕ, IsTrue, Some, slice_get};
+ghost use Rattle.std.specs.Prelude.{◌≡◌, ◌↔◌, ℕ, IsTrue, Some, slice_get};
 ghost use Rattle.std.specs.Int.{bit_at};
-ghost use Rattle.dmatypes.specs.declared.limits.TheConstants.{DEVICES};
 ghost use Rattle.engine.specs.Domains.{domain_at};
 ghost use Rattle.engine.specs.Hits.{mode_of, width_of};
-ghost use Rattle.engine.specs.Quarantine.{attached};
+ghost use Rattle.vtdbits.specs.Context.{attached};
 
 use super::{State, place_of};
 use dmatypes::{DEVICES, Mode, Width};
@@ -15,9 +14,10 @@ impl State {
     /// The devices that are attached to a domain: bit j is device j. None are where there is no such domain. It changes
     /// nothing, and isn't counted as a call.
     pub fn devices_of(&self, id: u64) -> u16
-        ensures { (device : ℕ) → device < DEVICES
-            → (bit_at result device ≡ 1) ↔ (attached (slice_get self.now.iommu.contexts device) ≡ Some id) }
+        ensures { (device : ℕ) → (bit_at result device ≡ 1) ↔ (attached (slice_get self.now.iommu.contexts device) ≡ Some id) }
     {
+        // The row has an entry for each device, and no other: what its type keeps.
+        let _ = &self.iommu;
         let mut devices = 0;
         for device in 0..DEVICES {
             if self.is_attached_to(device, id) {

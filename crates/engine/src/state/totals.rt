@@ -3,13 +3,13 @@
 ghost use Rattle.std.specs.Prelude.{◌≡◌, ◌≤◌, length, slice_get};
 ghost use Rattle.dmatypes.specs.declared.limits.TheConstants.{MOST_DOMAINS};
 ghost use Rattle.engine.specs.Domains.{domain_at};
-ghost use Rattle.engine.specs.Quarantine.{attached};
+ghost use Rattle.vtdbits.specs.Context.{attached};
 ghost use Rattle.engine.specs.Totals.{domain_totals_of, held_by_all, totals_of};
 
 use super::{State, place_of};
 use crate::domain::Domain;
 use dmatypes::{DEVICES, Mode};
-use vtdbits::{ContextEntry, DomainId};
+use vtdbits::DomainId;
 
 /// How many table frames are free, used by trees, and held by retired records; how many tickets are open, and how
 /// many descriptors wait.
@@ -66,10 +66,7 @@ impl State {
         if device >= DEVICES {
             return None;
         }
-        match contexts.get(device) {
-            ContextEntry::Present { domain, .. } => Some(domain.number()),
-            ContextEntry::Absent => None,
-        }
+        contexts.domain_of(device)
     }
 }
 

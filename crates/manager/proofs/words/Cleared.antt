@@ -16,7 +16,8 @@ use Rattle.dmatypes.specs.World.{World, change_of, flushed, is_full, unmapped_by
 use Rattle.dmatypes.specs.World as world
 use Rattle.engine.specs.Domains.{Domain, domain_at}
 use Rattle.engine.specs.Hits.{mode_of}
-use Rattle.engine.specs.Quarantine.{MirrorsIfAny, Quarantine, attached}
+use Rattle.engine.specs.Quarantine.{MirrorsIfAny, Quarantine}
+use Rattle.vtdbits.specs.Context.{attached}
 use Rattle.engine.specs.State.{State}
 use Rattle.dmatypes.proofs.histories.Maps.{put_same, same_or_not}
 use Rattle.ports.specs.Cleared.{IsCleared, TakesAway}

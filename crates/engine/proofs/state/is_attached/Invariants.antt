@@ -1,5 +1,5 @@
 use Rattle.std.proofs.Common.{◌≡◌, ℕ, ◌<◌, Some, slice_get}
-use Rattle.engine.specs.Quarantine.{attached}
+use Rattle.vtdbits.specs.Context.{attached}
 use Rattle.engine.proofs.state.is_attached.Given as goal
 
 -- none of the devices before

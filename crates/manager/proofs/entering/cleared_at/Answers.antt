@@ -10,20 +10,20 @@ pub returns-in-Flush-Flushed : goal.returns-in-Flush-Flushed
 returns-in-Flush-Flushed c w q =
     rw (c.in-Flush-Flushed.is-0, c.in-Flush-Flushed.is-1)
     (told_flush c.args.state.now w c.in-Flush-Flushed.domain c.in-Flush-Flushed.field-0-1 _
-    (rw (c.in-Flush-Flushed.is-0, c.in-Flush-Flushed.is-1) at q) c.devices_of.ensures)
+    (rw (c.in-Flush-Flushed.is-0, c.in-Flush-Flushed.is-1) at q) (λ v less. c.devices_of.ensures v))
 
 pub returns-in-Reap-Reaped : goal.returns-in-Reap-Reaped
 returns-in-Reap-Reaped c w q =
     let r = c.in-Reap-Reaped in
     rw (r.is-0, r.is-1)
-    (told_reap c.args.state.now w r.domain r.number-0 r.field-0-1 _ (rw (r.is-0, r.is-1) at q) c.devices_of-in-Reap-Reaped.ensures)
+    (told_reap c.args.state.now w r.domain r.number-0 r.field-0-1 _ (rw (r.is-0, r.is-1) at q) (λ v less. c.devices_of-in-Reap-Reaped.ensures v))
 
 pub returns-then-takes_away : goal.returns-then-takes_away
 returns-then-takes_away c w q =
     let u = c.in-Unmap-Unmapped in
     rw (u.is-0, u.is-1)
     (told_unmap c.args.state.now w u.domain u.address-0 u.pages-0 u.released _ (rw (u.is-0, u.is-1) at q)
-    (rw c.mode_of.ensures at (c.takes_away.ensures.0 c.if-takes_away.true)) c.devices_of-then-takes_away.ensures)
+    (rw c.mode_of.ensures at (c.takes_away.ensures.0 c.if-takes_away.true)) (λ v less. c.devices_of-then-takes_away.ensures v))
 
 pub returns-else-takes_away : goal.returns-else-takes_away
 returns-else-takes_away c w q =

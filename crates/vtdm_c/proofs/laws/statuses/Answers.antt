@@ -1,4 +1,4 @@
-use Rattle.std.proofs.Common.{refl}
+use Rattle.std.proofs.Common.{arith, refl}
 use Rattle.vtdm_c.proofs.Statuses as statuses
 use Rattle.vtdm_c.proofs.laws.statuses.Goals as goal
 
@@ -8,6 +8,7 @@ returns c = record {
   refusals_apart = statuses.refusals_apart;
   faults = statuses.behind;
   faults_apart = statuses.faults_apart;
+  own = (omega arith, omega arith, omega arith, omega arith, omega arith, omega arith, omega arith, omega arith);
   domain = refl;
   device = refl;
   attached = refl;

@@ -1,6 +1,6 @@
 use Rattle.std.proofs.Common.{◌≡◌, ◌<◌, ◌≤◌, ◌↔◌, ℕ, Some, slice_get}
 use Rattle.std.specs.Int.{bit_at}
-use Rattle.engine.specs.Quarantine.{attached}
+use Rattle.vtdbits.specs.Context.{attached}
 use Rattle.engine.proofs.state.State.devices_of.Given as goal
 
 -- the bits of the devices before are told, and no other is set

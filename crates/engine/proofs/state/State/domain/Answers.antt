@@ -79,7 +79,8 @@ does c =
     let new : c.new-2.result ≡ new_domain c.args.mode c.args.width c.in-Ok.tree.root =
     c.new-2.ensures.new ∙ ap (λ n. new_domain c.args.mode n c.in-Ok.tree.root) c.in-Ok.ensures.width in
     makes (the_view c.self.inside) (after c) c.args.mode c.args.width c.in-Some.index c.in-Ok.tree.root c.self.invariant.0.places vacant.0
-    (at_place c.self.inside.domains.items (c.in-Some.index + 1) c.in-Some.index None refl vacant.1) grown
+    (at_place c.self.inside.domains.items (c.in-Some.index + 1) c.in-Some.index None refl vacant.1)
+    (rw c.as_slice.ensures.value at c.in-Some.ensures.first) grown
     (rw new at c.new-2.ensures.space) (rw new at c.new-2.ensures.free)
     (ap (λ (d : Domain).
     record (the_view c.self.inside) {

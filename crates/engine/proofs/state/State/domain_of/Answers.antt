@@ -1,6 +1,6 @@
 use Rattle.std.proofs.Common.{◌≤◌, arith, length, sym, ap}
 use Rattle.std.proofs.lemmas.Option.{slice_get_past}
-use Rattle.engine.specs.Quarantine.{attached}
+use Rattle.vtdbits.specs.Context.{attached}
 use Rattle.engine.proofs.state.State.domain_of.Goals as goal
 
 pub returns-then-device-ge-DEVICES : goal.returns-then-device-ge-DEVICES

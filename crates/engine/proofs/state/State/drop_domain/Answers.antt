@@ -9,7 +9,8 @@ use Rattle.engine.specs.contracts.state.State.{the_view}
 use Rattle.engine.specs.Ending.{Closes}
 use Rattle.engine.specs.State.{parts_in}
 use Rattle.engine.specs.Domains.{domain_at}
-use Rattle.engine.specs.Quarantine.{attached, ticket_there}
+use Rattle.engine.specs.Quarantine.{ticket_there}
+use Rattle.vtdbits.specs.Context.{attached}
 use Rattle.engine.proofs.domains.OneChanged.{count_set, no_id_no_domain}
 use Rattle.engine.proofs.domains.Found.{Finds, finds, keeps_found, put_back}
 use Rattle.engine.proofs.flushes.Steps.{Did, drop_attached, drop_did, drop_no_domain, drop_open}
