@@ -1,3 +1,4 @@
+pub mod Trees
 pub mod OneChanged
 pub mod Found
 pub mod Made

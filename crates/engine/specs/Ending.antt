@@ -20,7 +20,7 @@ use Rattle.iova.specs.Pieces.{AllIn, piece_of, state_at}
 use Rattle.iova.specs.Space.{Space, IsSpace, IsTooMany, MayRetire}
 use Rattle.queue.specs.Ring.{ring_of, with_last}
 use Rattle.queue.specs.declared.ring.TheConstants.Ring.{CAPACITY}
-use Rattle.tables.specs.Changes.{IsApart, TakesAndGivesFrames, TreeStays, UnmapsPages}
+use Rattle.tables.specs.Changes.{IsApart, KeepsSpellings, TakesAndGivesFrames, TreeStays, UnmapsPages}
 use Rattle.tables.specs.Lacks.{leaves_splitting}
 use Rattle.tables.specs.Pool.{Pool, memory, occurs, word, IsPool, IsTree, IsZeroed}
 use Rattle.tables.specs.Tree.{uses}
@@ -42,8 +42,8 @@ use Rattle.engine.specs.Domains.{Domain, Parts, held_in}
 abbrev pub leaves_split : Pool → Width → ℕ → Range → ℕ
 leaves_split pool width root range = leaves_splitting (memory pool.words) (levels width) root range.first (range.first + range.pages)
 
--- the pages of the record are retired in the domain's address space, and gone from its tree; what was cut from the
--- tree is zeroed and neither free nor used. Nothing else of the domain changes
+-- the pages of the record are retired in the domain's address space, and gone from its tree, whose words spell entries still;
+-- what was cut from the tree is zeroed and neither free nor used. Nothing else of the domain changes
 pub record RetiresAndUnmaps (pool : Pool) (old : Domain) (r : Record) (pool' : Pool) (new : Domain) : Type 0 where
   pub may : MayRetire old.space.pieces r.range
   pub mark : r.mark ≡ old.begun
@@ -51,16 +51,19 @@ pub record RetiresAndUnmaps (pool : Pool) (old : Domain) (r : Record) (pool' : P
   pub is_space : IsSpace new.space
   pub count : length pool'.free + leaves_split pool old.width old.root r.range ≡ length pool.free
   pub moves : TakesAndGivesFrames pool pool' (levels old.width) old.root r.cut.frames
+  pub spelled : KeepsSpellings pool pool' (levels old.width) old.root
   pub unmaps : UnmapsPages pool pool' (levels old.width) old.root r.range.first (r.range.first + r.range.pages) r.cut.frames
   pub split : IsTrue r.cut.split ↔ (0 < leaves_split pool old.width old.root r.range)
   pub is_pool : IsPool pool'
   pub same : new ≡ record old { space = new.space }
 
--- the tree loses the range, and the record says what was cut; the address space is as it was
+-- the tree loses the range, and the record says what was cut; the words of the tree spell entries still, and the address space
+-- is as it was
 pub record UnmapsAlone (pool : Pool) (domain : Domain) (r : Record) (pool' : Pool) : Type 0 where
   pub mark : r.mark ≡ domain.begun
   pub count : length pool'.free + leaves_split pool domain.width domain.root r.range ≡ length pool.free
   pub moves : TakesAndGivesFrames pool pool' (levels domain.width) domain.root r.cut.frames
+  pub spelled : KeepsSpellings pool pool' (levels domain.width) domain.root
   pub unmaps : UnmapsPages pool pool' (levels domain.width) domain.root r.range.first (r.range.first + r.range.pages) r.cut.frames
   pub split : IsTrue r.cut.split ↔ (0 < leaves_split pool domain.width domain.root r.range)
   pub is_pool : IsPool pool'

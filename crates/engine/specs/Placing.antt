@@ -12,7 +12,7 @@ use Rattle.iova.specs.Changes.{Takes}
 use Rattle.iova.specs.declared.piece.PageState.TheVariants.{Free}
 use Rattle.iova.specs.Pieces.{state_at}
 use Rattle.iova.specs.Space.{IsFit, IsLowestFrom, IsSpace, IsTooMany}
-use Rattle.tables.specs.Changes.{MakesTables, MapsPages, TakesAndGivesFrames}
+use Rattle.tables.specs.Changes.{KeepsSpellings, MakesTables, MapsPages, TakesAndGivesFrames}
 use Rattle.tables.specs.Lacks.{frames_to_map}
 use Rattle.tables.specs.Pool.{Pool, memory, IsPool, IsTree}
 use Rattle.tables.specs.Segments.{is_large_at}
@@ -72,13 +72,15 @@ abbrev pub range_of : Placement → Range
 range_of at = record { first = at.first; pages = total_pages at.segments }
 
 -- the pages of the segments are live where the domain serves them, and the domain's tree maps them,
--- one segment after the other; the table frames that it took were free. Nothing else of the domain changes
+-- one segment after the other; the table frames that it took were free, and its words spell entries still. Nothing else of the
+-- domain changes
 pub record Places (pool : Pool) (old : Domain) (at : Placement) (pool' : Pool) (new : Domain) : Type 0 where
   pub taken : IsTaken old (total_pages at.segments) at.order at.first
   pub takes : Takes old.space new.space (range_of at)
   pub is_space : IsSpace new.space
   pub count : length pool'.free + frames_taken pool old.width old.root at.segments at.first ≡ length pool.free
   pub moves : TakesAndGivesFrames pool pool' (levels old.width) old.root []
+  pub spelled : KeepsSpellings pool pool' (levels old.width) old.root
   pub maps : MapsPages pool pool' (levels old.width) old.root at.first (at.first + total_pages at.segments)
       (placed at.segments at.first at.rights)
   pub makes : MakesTables pool pool' (levels old.width) old.root at.first (at.first + total_pages at.segments)

@@ -13,6 +13,7 @@ use Rattle.iova.specs.declared.piece.PageState.TheVariants as pages
 use Rattle.iova.specs.Pieces.{piece_of, state_at}
 use Rattle.iova.specs.Space.{Space, IsSpace}
 use Rattle.tables.specs.Pool.{Pool, memory, occurs, IsZeroed}
+use Rattle.tables.specs.Spelled.{AreSpelled}
 use Rattle.tables.specs.Tree.{IsLeafAt, IsTableAt, Memory, span, states, sum_below, uses}
 use Rattle.vtdbits.specs.Context.{attached}
 use Rattle.vtdbits.specs.declared.context.ContextEntry.TheVariants.{Present}
@@ -77,10 +78,11 @@ pub record PartsPages (space : Space) (v : world.Domain) : Type 0 where
   pub apart : AllApart v.retired
   pub targets_known : (r : Retired) (p : ℕ) → IsIn r v.retired → IsWithin r.range p → IsSome (r.targets p)
 
--- the domain of the state is the one of the world
+-- the domain of the state is the one of the world, and the words of its tables spell entries
 pub record Mirrors (words : List ℕ) (h : Domain) (v : world.Domain) : Type 0 where
   pub ids : IsOfDomain h v
   pub tree : MeansLive words h.width h.root v
+  pub spelled : AreSpelled words (levels h.width) h.root
   pub pieces : PartsPages h.space v
 
 -- a domain is there exactly where the world has one of this id

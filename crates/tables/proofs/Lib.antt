@@ -4,3 +4,4 @@ pub mod walks
 pub mod maps
 pub mod counts
 pub mod unmaps
+pub mod spelled

@@ -6,6 +6,7 @@ use Rattle.tables.specs.declared.entries.TheConstants.{TABLE_ENTRIES}
 use Rattle.dmatypes.specs.World.{Target}
 use Rattle.tables.specs.Tree.{Found, IsLeafAt, IsTableAt, span, leaf_from, table_from, states, uses}
 use Rattle.tables.specs.Pool.{Pool, word, memory, occurs, IsZeroed, IsTree}
+use Rattle.tables.specs.Spelled.{AreSpelled}
 
 -- the page is not among those from one up to another
 abbrev pub IsOutside : ℕ → ℕ → ℕ → Type 0
@@ -87,12 +88,17 @@ abbrev pub IsApart : Pool → ℕ → ℕ → ℕ → ℕ → Type 0
 IsApart pool level table level' table' =
     (f : ℕ) → 0 < uses (memory pool.words) level' table' f → uses (memory pool.words) level table f + occurs f pool.free ≡ 0
 
+-- where the words of a table and of those below it spelled their entries, they do so still
+abbrev pub KeepsSpellings : Pool → Pool → ℕ → ℕ → Type 0
+KeepsSpellings old new level table = AreSpelled old.words level table → AreSpelled new.words level table
+
 -- a table that has the same leaves, tables and frames in both
 pub record TreeStays (old new : Pool) (level table : ℕ) : Type 0 where
   pub tree : IsTree new level table
   pub same_frames : (f : ℕ) → uses (memory new.words) level table f ≡ uses (memory old.words) level table f
   pub same_leaves : (p : ℕ) → leaf_from (memory new.words) level table p ≡ leaf_from (memory old.words) level table p
   pub same_tables : (p w : ℕ) → table_from (memory new.words) level table p w ≡ table_from (memory old.words) level table p w
+  pub spelled : KeepsSpellings old new level table
 
 -- the leaf entries of a tree stay
 abbrev pub KeepsLeaves : Pool → Pool → ℕ → ℕ → Type 0

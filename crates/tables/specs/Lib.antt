@@ -3,6 +3,7 @@ pub mod Tree
 pub mod Walks
 pub mod Pool
 pub mod Under
+pub mod Spelled
 pub mod Changes
 pub mod Segments
 pub mod Lacks

@@ -7,7 +7,7 @@ ghost use Rattle.dmatypes.specs.Rights.{AreRights, bits_of};
 ghost use Rattle.dmatypes.specs.World.{placed};
 ghost use Rattle.tables.specs.Tree.{Memory, span, index_in, states, leaf_from, table_from};
 ghost use Rattle.tables.specs.Pool.{memory, occurs, IsPool, IsTree, IsZeroed};
-ghost use Rattle.tables.specs.Changes.{TakesAndGivesFrames, MapsPages, MakesTables};
+ghost use Rattle.tables.specs.Changes.{TakesAndGivesFrames, KeepsSpellings, MapsPages, MakesTables};
 ghost use Rattle.tables.specs.Segments.{is_large_at, AreSegments};
 ghost use Rattle.tables.specs.Lacks.{lacks_table, tables_lacking, tables_lacking_at, frames_to_map, sum_spans};
 ghost use Rattle.tables.specs.Pieces.{piece_states, is_large, WritesEntries, leaf_at};
@@ -47,6 +47,7 @@ fn grow(pool: &mut Pool, level: u64, table: Frame, index: u64) -> Frame
     requires absent { memory pool.old.words level table index ≡ SsEntry.Absent }
     requires room { 0 < length pool.old.free }
     ensures moves { TakesAndGivesFrames pool.old pool.new level table [] }
+    ensures spelled { KeepsSpellings pool.old pool.new level table }
     ensures maps { (from to : ℕ) → from < to → index_in (level - 1) from ≡ index
         → MapsPages pool.old pool.new level table from to (states (memory pool.old.words) level table) }
     ensures leaves { (p : ℕ) → leaf_from (memory pool.new.words) level table p ≡ leaf_from (memory pool.old.words) level table p }
@@ -69,6 +70,7 @@ pub(crate) fn map_piece(pool: &mut Pool, level: u64, table: Frame, piece: &Piece
     requires absent { (p : ℕ) → piece.now.from ≤ p → p < piece.now.to → leaf_from (memory pool.old.words) level table p ≡ None }
     requires room { tables_lacking_at (memory pool.old.words) level table (is_large piece.now) piece.now.from ≤ length pool.old.free }
     ensures moves { TakesAndGivesFrames pool.old pool.new level table [] }
+    ensures spelled { KeepsSpellings pool.old pool.new level table }
     ensures maps { MapsPages pool.old pool.new level table piece.now.from piece.now.to (piece_states piece.now) }
     ensures made { (w : ℕ) → 1 ≤ w → w < level → (w ≡ 1 → is_large piece.now ≡ false)
         → IsSome (table_from (memory pool.new.words) level table piece.now.from w) }
@@ -106,6 +108,7 @@ fn write_large(pool: &mut Pool, table: Frame, index: u64, piece: &Piece)
     requires absent { memory pool.old.words 2 table index ≡ SsEntry.Absent }
     requires large { is_large piece.now ≡ true }
     ensures moves { TakesAndGivesFrames pool.old pool.new 2 table [] }
+    ensures spelled { KeepsSpellings pool.old pool.new 2 table }
     ensures maps { MapsPages pool.old pool.new 2 table piece.now.from piece.now.to (piece_states piece.now) }
     ensures tables { (p w : ℕ) → table_from (memory pool.new.words) 2 table p w ≡ table_from (memory pool.old.words) 2 table p w }
     ensures free { pool.new.free ≡ pool.old.free }
@@ -236,6 +239,7 @@ fn map_pieces(
     requires absent { (p : ℕ) → first ≤ p → p < first + total_pages segments.now → leaf_from (memory pool.old.words) level root p ≡ None }
     requires room { frames_to_map pool.old level root segments.now first ≤ length pool.old.free }
     ensures moves { TakesAndGivesFrames pool.old pool.new level root [] }
+    ensures spelled { KeepsSpellings pool.old pool.new level root }
     ensures maps { MapsPages pool.old pool.new level root first (first + total_pages segments.now)
         (placed segments.now first (bits_of rights)) }
     ensures makes { MakesTables pool.old pool.new level root first (first + total_pages segments.now) (is_large_at segments.now first) }
@@ -271,6 +275,7 @@ pub(crate) fn map_segments(
     ensures refused { IsErr result ↔ (length pool.old.free < frames_to_map pool.old level root segments.now first) }
     ensures unchanged { OnErr result (pool.new ≡ pool.old) }
     ensures moves { TakesAndGivesFrames pool.old pool.new level root [] }
+    ensures spelled { KeepsSpellings pool.old pool.new level root }
     ensures maps { OnOk result
         (MapsPages pool.old pool.new level root first (first + total_pages segments.now) (placed segments.now first (bits_of rights))) }
     ensures makes { OnOk result

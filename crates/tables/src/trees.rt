@@ -10,6 +10,8 @@ ghost use Rattle.vtdbits.specs.Translation.{target};
 ghost use Rattle.tables.specs.Tree.{one_if_same, root_states, span, states, leaf_from, table_from, uses, IsLeafAt, IsTableAt, Found};
 ghost use Rattle.tables.specs.Pool.{word, memory, occurs, IsPool, IsTree};
 ghost use Rattle.tables.specs.Changes.{TakesAndGivesFrames, MapsPages, MakesTables, UnmapsPages, KeepsLeaves, KeepsTables, KeepsOthers};
+ghost use Rattle.tables.specs.Changes.{KeepsSpellings};
+ghost use Rattle.tables.specs.Spelled.{AreSpelled};
 ghost use Rattle.tables.specs.Segments.{AreSegments, is_large_at, one_segment};
 ghost use Rattle.tables.specs.Lacks.{frames_to_map, leaves_splitting};
 
@@ -44,6 +46,7 @@ impl Tree {
         ensures empty { IfOk result (λ tree. (p : ℕ) → leaf_from (memory pool.new.words) (levels width) tree.root p ≡ None) }
         ensures tables { IfOk result (λ tree. (p w : ℕ) → w < levels width
             → table_from (memory pool.new.words) (levels width) tree.root p w ≡ None) }
+        ensures spelled { IfOk result (λ tree. AreSpelled pool.new.words (levels width) tree.root) }
         ensures frames { IfOk result (λ tree. (f : ℕ) → uses (memory pool.new.words) (levels width) tree.root f ≡ one_if_same tree.root f) }
         ensures free { IfOk result (λ tree. (f : ℕ) → occurs f pool.new.free + one_if_same tree.root f ≡ occurs f pool.old.free) }
         ensures count { OnOk result (length pool.new.free + 1 ≡ length pool.old.free) }
@@ -110,6 +113,7 @@ impl Tree {
         ensures unchanged { OnErr result (pool.new ≡ pool.old) }
         ensures root { self.new ≡ self.old }
         ensures moves { TakesAndGivesFrames pool.old pool.new (levels self.old.width) self.old.root [] }
+        ensures spelled { KeepsSpellings pool.old pool.new (levels self.old.width) self.old.root }
         ensures maps { OnOk result (MapsPages pool.old pool.new (levels self.old.width) self.old.root range.first
             (range.first + range.pages)
             (λ p. Some (target (frame + (p - range.first)) (bits_of rights)))) }
@@ -155,6 +159,7 @@ impl Tree {
         ensures unchanged { OnErr result (pool.new ≡ pool.old) }
         ensures root { self.new ≡ self.old }
         ensures moves { TakesAndGivesFrames pool.old pool.new (levels self.old.width) self.old.root [] }
+        ensures spelled { KeepsSpellings pool.old pool.new (levels self.old.width) self.old.root }
         ensures maps { OnOk result (MapsPages pool.old pool.new (levels self.old.width) self.old.root start
             (start + total_pages segments.now)
             (placed segments.now start (bits_of rights))) }
@@ -210,6 +215,7 @@ impl Tree {
             ≤ length pool.old.free }
         ensures root { self.new ≡ self.old }
         ensures moves { TakesAndGivesFrames pool.old pool.new (levels self.old.width) self.old.root result.frames }
+        ensures spelled { KeepsSpellings pool.old pool.new (levels self.old.width) self.old.root }
         ensures unmaps { UnmapsPages pool.old pool.new (levels self.old.width) self.old.root range.first (range.first + range.pages)
             result.frames }
         ensures split { IsTrue result.split

@@ -6,7 +6,7 @@ ghost use Rattle.tables.specs.Tree.{Memory, span, index_in, leaf_from, uses};
 ghost use Rattle.tables.specs.Pool.{word, memory, occurs, IsPool, IsTree, IsWrite};
 ghost use Rattle.vtdbits.specs.Entry.{look};
 ghost use Rattle.vtdbits.specs.Translation.{target};
-ghost use Rattle.tables.specs.Changes.{TakesAndGivesFrames, UnmapsPages};
+ghost use Rattle.tables.specs.Changes.{TakesAndGivesFrames, KeepsSpellings, UnmapsPages};
 ghost use Rattle.tables.specs.Lacks.{splits_leaf, leaves_splitting};
 ghost use Rattle.tables.specs.Under.{IsSplit, used_at};
 ghost use Rattle.tables.specs.Pieces.{WritesEntries, cut_of, was_split, piece_splits};
@@ -57,6 +57,7 @@ fn split(pool: &mut Pool, table: Frame, page: u64, leaf: LargeTranslation) -> Fr
     requires leaf { memory pool.old.words 2 table (index_in 1 page) ≡ SsEntry.LargeLeaf leaf }
     requires room { 0 < length pool.old.free }
     ensures moves { TakesAndGivesFrames pool.old pool.new 2 table [] }
+    ensures spelled { KeepsSpellings pool.old pool.new 2 table }
     ensures split { IsSplit pool.old pool.new table (index_in 1 page) page result leaf }
     ensures count { length pool.new.free + 1 ≡ length pool.old.free }
     ensures pool { IsPool pool.new }
@@ -99,6 +100,7 @@ fn clear_span(pool: &mut Pool, table: Frame, from: u64, to: u64) -> Cleared
     requires there { (p : ℕ) → from ≤ p → p < to → IsSome (leaf_from (memory pool.old.words) 2 table p) }
     requires room { piece_splits (memory pool.old.words) 2 table from to ≤ length pool.old.free }
     ensures moves { TakesAndGivesFrames pool.old pool.new 2 table (cut_of result) }
+    ensures spelled { KeepsSpellings pool.old pool.new 2 table }
     ensures unmaps { UnmapsPages pool.old pool.new 2 table from to (cut_of result) }
     ensures split { (if was_split result then 1 else 0) ≡ piece_splits (memory pool.old.words) 2 table from to }
     ensures count { length pool.new.free + piece_splits (memory pool.old.words) 2 table from to ≡ length pool.old.free }
@@ -141,6 +143,7 @@ fn clear_piece(pool: &mut Pool, level: u64, table: Frame, from: u64, to: u64) ->
     requires there { (p : ℕ) → from ≤ p → p < to → IsSome (leaf_from (memory pool.old.words) level table p) }
     requires room { piece_splits (memory pool.old.words) level table from to ≤ length pool.old.free }
     ensures moves { TakesAndGivesFrames pool.old pool.new level table (cut_of result) }
+    ensures spelled { KeepsSpellings pool.old pool.new level table }
     ensures unmaps { UnmapsPages pool.old pool.new level table from to (cut_of result) }
     ensures split { (if was_split result then 1 else 0) ≡ piece_splits (memory pool.old.words) level table from to }
     ensures count { length pool.new.free + piece_splits (memory pool.old.words) level table from to ≡ length pool.old.free }
@@ -169,6 +172,7 @@ pub(crate) fn unmap_pieces(pool: &mut Pool, level: u64, root: Frame, from: u64, 
     requires there { (p : ℕ) → from ≤ p → p < to → IsSome (leaf_from (memory pool.old.words) level root p) }
     requires room { leaves_splitting (memory pool.old.words) level root from to ≤ length pool.old.free }
     ensures moves { TakesAndGivesFrames pool.old pool.new level root result.frames }
+    ensures spelled { KeepsSpellings pool.old pool.new level root }
     ensures unmaps { UnmapsPages pool.old pool.new level root from to result.frames }
     ensures split { IsTrue result.split ↔ (0 < leaves_splitting (memory pool.old.words) level root from to) }
     ensures count { length pool.new.free + leaves_splitting (memory pool.old.words) level root from to ≡ length pool.old.free }
@@ -262,11 +266,8 @@ fn release_entry(pool: &mut Pool, level: u64, table: Frame, index: u64)
     ensures frames { pool.new.frames ≡ pool.old.frames }
     ensures pool { IsPool pool.new }
 {
-    match entry(pool, level, table, index) {
-        SsEntry::Table(below) => {
-            release(pool, level - 1, below);
-            pool.write(table, index, 0);
-        }
-        SsEntry::Absent | SsEntry::Leaf(_) | SsEntry::LargeLeaf(_) => pool.write(table, index, 0),
+    if let SsEntry::Table(below) = entry(pool, level, table, index) {
+        release(pool, level - 1, below);
     }
+    pool.write(table, index, 0);
 }

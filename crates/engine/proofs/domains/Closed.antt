@@ -18,6 +18,7 @@ use Rattle.engine.proofs.frames.Held.{held-nil, held_stays}
 use Rattle.engine.proofs.caches.Lawful.{KeepsLawful, keeps_same}
 use Rattle.dmatypes.proofs.histories.Maps.{put_other, put_same, same_or_not}
 use Rattle.engine.proofs.domains.OneChanged.{domain_out, domain_low}
+use Rattle.engine.proofs.domains.Trees.{tree_stays}
 use Rattle.engine.proofs.caches.Faults.{all_left, faults_stay, gone_pages}
 use Rattle.dmatypes.specs.declared.limits.TheConstants.{MOST_DOMAINS}
 use Rattle.dmatypes.specs.Page.{levels}
@@ -103,7 +104,7 @@ module _ (m t : State) (w : World) (d : ℕ) (h : Domain) (q : Quarantine m w) (
   pub domain_gone : Quarantine t (record w { domains = put d None w.domains })
   domain_gone = record {
     table_frames = q.table_frames ∙ sym destroys.frames;
-    domains = λ e. domain_out m t w d q domains (λ e k ne at p. (stays e k ne at).same_leaves p) e;
+    domains = domain_out m t w d q domains (λ e k ne at. tree_stays m.pool t.pool t.pool.words k.width k.root (stays e k ne at) refl);
     caches = record {
       leaves = λ l inside. let here = rw unit at inside in leaf_lawful l (no_leaf l here) (q.caches.leaves l here);
       tables = λ i inside. let here = rw unit at inside in table_lawful i (no_table i here) (q.caches.tables i here);

@@ -14,6 +14,7 @@ use Rattle.dmatypes.specs.Conditions.{Stands}
 use Rattle.dmatypes.specs.Step.{IsStep, Answers, next}
 use Rattle.iova.specs.Space.{AllFree, IsSpace, new_space}
 use Rattle.tables.specs.Pool.{Pool, memory, occurs, IsPool, IsZeroed}
+use Rattle.tables.specs.Spelled.{AreSpelled}
 use Rattle.tables.specs.Tree.{one_if_same, leaf_from, stated, table_from, uses}
 use Rattle.engine.specs.Domains.{Domain, domain_at, held_in, new_domain}
 use Rattle.engine.specs.State.{State, Exact, Becomes, TakesRoot}
@@ -24,6 +25,7 @@ use Rattle.dmatypes.proofs.histories.Maps.{put_same, put_other, same_or_not}
 use Rattle.engine.proofs.lists.Places.{is_none, not_some}
 use Rattle.engine.proofs.domains.Pieces.{pieces_new}
 use Rattle.engine.proofs.domains.OneChanged.{domain_set, both_absent, domains_put}
+use Rattle.engine.proofs.domains.Trees.{same_tree}
 use Rattle.engine.proofs.frames.Held.{held-nil}
 use Rattle.engine.proofs.caches.Lawful.{keeps_same, stay_lawful}
 use Rattle.engine.proofs.states.Refused.{counted, refuses}
@@ -65,6 +67,7 @@ no_root m t mode width i is many less free empty = refuses m t (calls.Domain mod
 pub record IsEmptyTree (old new : Pool) (width : Width) (root : ℕ) : Type 0 where
   pub roots : TakesRoot old new root
   pub empty : (p : ℕ) → leaf_from (memory new.words) (levels width) root p ≡ None
+  pub spelled : AreSpelled new.words (levels width) root
   pub frames : (f : ℕ) → uses (memory new.words) (levels width) root f ≡ one_if_same root f
   pub pool : IsPool new
 
@@ -81,9 +84,10 @@ with_new m t w mode width i root q many less free grown is_space all domains row
       (record {
         ids = record { mode = refl; begun = refl; width = refl; records = refl };
         tree = λ p low. ap (stated p) (grown.empty p);
+        spelled = grown.spelled;
         pieces = pieces_new (new_space (pages_end width - 1)) mode width is_space all refl;
       })
-      (λ e k ne there p. ap (λ ws. leaf_from (memory ws) (levels k.width) k.root p) grown.roots.words);
+      (λ e k ne there. same_tree m.pool.words t.pool.words k.width k.root grown.roots.words);
   caches =
       subst (λ u. AreLawful t (record w { domains = put (i + 1) (Some (empty_domain mode width)) w.domains }) u.caches) (sym unit)
       (stay_lawful m t w (record w { domains = put (i + 1) (Some (empty_domain mode width)) w.domains }) m.iommu.unit.caches q.caches

@@ -7,19 +7,19 @@ use Rattle.std.proofs.lemmas.Option.{none-some, same_Some, slice_get_cases}
 use Rattle.std.specs.Option.{option_flatten}
 use Rattle.dmatypes.specs.World.{World, put}
 use Rattle.dmatypes.specs.World as world
-use Rattle.tables.specs.Pool.{memory}
-use Rattle.tables.specs.Tree.{leaf_from, stated}
+use Rattle.tables.specs.Tree.{stated}
 use Rattle.engine.specs.Domains.{Domain, domain_at}
 use Rattle.engine.specs.Whole.{HasRooms, domain_count, one_if_there}
 use Rattle.vtdbits.specs.Numbers.{IsDomainId}
 use Rattle.engine.specs.State.{State}
 use Rattle.engine.specs.Quarantine.{MirrorsIfAny, IsOfSomeWorld, Mirrors, Quarantine}
 use Rattle.engine.specs.Placing.{CanPlace}
+use Rattle.engine.proofs.domains.Trees.{SameTree}
 use Rattle.engine.proofs.frames.Owners.{tree_of}
 use Rattle.dmatypes.proofs.histories.Maps.{put_same, put_other, same_or_not}
 use Rattle.engine.proofs.lists.Places.{get_set, get_set_other}
 use Rattle.dmatypes.specs.declared.limits.TheConstants.{MOST_DOMAINS}
-use Rattle.dmatypes.specs.Page.{levels, pages_end}
+use Rattle.dmatypes.specs.Page.{pages_end}
 
 -- ---- the list of domains
 
@@ -89,26 +89,24 @@ both_absent words None None both e = refl
 both_absent words None (Some v) both e = absurd both
 both_absent words (Some h) p both e = absurd cc
 
--- it stays where all leaves of its tree do
+-- it stays where its tree does
 both_stays : (words words' : List ℕ) (o : Option Domain) (p : Option world.Domain) → MirrorsIfAny words o p
-    → ((h : Domain) → o ≡ Some h → (page : ℕ) → leaf_from (memory words') (levels h.width) h.root page ≡ leaf_from (memory words)
-    (levels h.width) h.root page)
-    → MirrorsIfAny words' o p
+    → ((h : Domain) → o ≡ Some h → SameTree words words' h.width h.root) → MirrorsIfAny words' o p
 both_stays words words' None None both same = tt
 both_stays words words' None (Some v) both same = both
 both_stays words words' (Some h) None both same = both
 both_stays words words' (Some h) (Some v) both same = record {
   ids = both.ids;
-  tree = λ page low. ap (stated page) (same h refl page) ∙ both.tree page low;
+  tree = λ page low. ap (stated page) ((same h refl).leaves page) ∙ both.tree page low;
+  spelled = (same h refl).spelled both.spelled;
   pieces = both.pieces;
 }
 
 -- one domain of the state and of the world changes alike, and the trees of the others stay
 pub domains_put : (m t : State) (w : World) (d : ℕ) (h : Domain) (v : world.Domain) → Quarantine m w
     → ((e : ℕ) → domain_at t.domains e ≡ put d (Some h) (domain_at m.domains) e) → Mirrors t.pool.words h v
-    → ((e : ℕ) (k : Domain) → e ≢ d → domain_at m.domains e ≡ Some k → (page : ℕ)
-    → leaf_from (memory t.pool.words) (levels k.width) k.root page ≡ leaf_from (memory m.pool.words) (levels k.width) k.root page) → (e : ℕ)
-    → MirrorsIfAny t.pool.words (domain_at t.domains e) (put d (Some v) w.domains e)
+    → ((e : ℕ) (k : Domain) → e ≢ d → domain_at m.domains e ≡ Some k → SameTree m.pool.words t.pool.words k.width k.root)
+    → (e : ℕ) → MirrorsIfAny t.pool.words (domain_at t.domains e) (put d (Some v) w.domains e)
 domains_put m t w d h v q is mirrors stay e = elim (same_or_not e d) [
   | inl same ↦ rw (is e, same, put_same d (Some h) (domain_at m.domains), put_same d (Some v) w.domains) mirrors
   | inr ne ↦ rw (is e, put_other d (Some h) (domain_at m.domains) e ne, put_other d (Some v) w.domains e ne)
@@ -117,9 +115,8 @@ domains_put m t w d h v q is mirrors stay e = elim (same_or_not e d) [
 
 -- one domain of the state and of the world goes
 pub domain_out : (m t : State) (w : World) (d : ℕ) → Quarantine m w → ((e : ℕ) → domain_at t.domains e ≡ put d None (domain_at m.domains) e)
-    → ((e : ℕ) (k : Domain) → e ≢ d → domain_at m.domains e ≡ Some k → (page : ℕ)
-    → leaf_from (memory t.pool.words) (levels k.width) k.root page ≡ leaf_from (memory m.pool.words) (levels k.width) k.root page) → (e : ℕ)
-    → MirrorsIfAny t.pool.words (domain_at t.domains e) (put d None w.domains e)
+    → ((e : ℕ) (k : Domain) → e ≢ d → domain_at m.domains e ≡ Some k → SameTree m.pool.words t.pool.words k.width k.root)
+    → (e : ℕ) → MirrorsIfAny t.pool.words (domain_at t.domains e) (put d None w.domains e)
 domain_out m t w d q is stay e = elim (same_or_not e d) [
   | inl same ↦ rw (is e, same, put_same d None (domain_at m.domains), put_same d None w.domains) tt
   | inr ne ↦ rw (is e, put_other d None (domain_at m.domains) e ne, put_other d None w.domains e ne)

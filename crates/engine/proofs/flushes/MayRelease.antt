@@ -246,6 +246,7 @@ ended_at_once pool pool1 pool2 h space r range same may cuts freed = (
     is_space = freed.frees.is_space;
     count = cuts.count;
     moves = cuts.moves;
+    spelled = cuts.spelled;
     unmaps = cuts.unmaps;
     split = cuts.split;
     is_pool = cuts.is_pool;

@@ -13,6 +13,7 @@ use Rattle.iova.specs.declared.piece.Piece.{Piece}
 use Rattle.iova.specs.Pieces.{piece_of, state_at}
 use Rattle.iova.specs.Space.{Space, MayRetire}
 use Rattle.tables.specs.Pool.{Pool, memory, occurs, IsZeroed}
+use Rattle.tables.specs.Spelled.{AreSpelled}
 use Rattle.tables.specs.Tree.{states, uses}
 use Rattle.unit.specs.Caches.{CachedLeaf, CachedNonLeaf}
 use Rattle.unit.specs.Filters.{drops_leaf, drops_non_leaf}
@@ -23,7 +24,8 @@ use Rattle.engine.specs.Ready.{AreReleasable}
 use Rattle.engine.specs.Domains.{Domain, domain_at, held_in}
 use Rattle.engine.specs.State.{State}
 use Rattle.engine.specs.Quarantine.{Marked, Mirrors, Quarantine, marked_here, marked_there}
-use Rattle.engine.proofs.states.OneDomain.{ChangesDomain, changes_domain, same_tree}
+use Rattle.engine.proofs.states.OneDomain.{ChangesDomain, changes_domain}
+use Rattle.engine.proofs.domains.Trees.{same_tree}
 use Rattle.engine.proofs.frames.Held.{held-nil}
 use Rattle.engine.proofs.domains.OneChanged.{domain_set}
 use Rattle.engine.proofs.caches.Purged.{Purges, purges_sent}
@@ -139,6 +141,7 @@ pub mirrors_flushed : (pool pool' : Pool) (space' : Space) (h : Domain) (v : wor
 mirrors_flushed pool pool' space' h v mirrors all = record {
   ids = record { mode = mirrors.ids.mode; begun = mirrors.ids.begun; width = mirrors.ids.width; records = refl };
   tree = λ p low. ap (λ ws. states (memory ws) (levels h.width) h.root p) all.words ∙ mirrors.tree p low;
+  spelled = subst (λ ws. AreSpelled ws (levels h.width) h.root) (sym all.words) mirrors.spelled;
   pieces = pieces_flushed h.space space' v mirrors.pieces all.is_space all.last
       (λ p some.
       let k = matched h.records v.retired mirrors.ids.records some.0 some.1 in

@@ -10,6 +10,7 @@ use Rattle.iova.specs.declared.piece.PageState.TheVariants as pages
 use Rattle.iova.specs.Pieces.{piece_of}
 use Rattle.iova.specs.Space.{Space}
 use Rattle.tables.specs.Pool.{Pool, memory, IsZeroed}
+use Rattle.tables.specs.Spelled.{AreSpelled}
 use Rattle.tables.specs.Tree.{IsLeafAt, IsTableAt, states, uses}
 use Rattle.unit.specs.Caches.{Caches, CachedLeaf, CachedNonLeaf}
 use Rattle.engine.specs.declared.record.Record.{Record}
@@ -25,7 +26,8 @@ use Rattle.engine.proofs.flushes.MayRelease.{piece_some, pieces_differ}
 use Rattle.engine.proofs.flushes.OneByOne.{matched, matching}
 use Rattle.engine.proofs.flushes.PagesReaped.{pieces_reaped}
 use Rattle.engine.proofs.flushes.Parted.{held_parts, in_part, marks_gone, marks_left, parts_apart}
-use Rattle.engine.proofs.states.OneDomain.{ChangesDomain, changes_domain, same_tree}
+use Rattle.engine.proofs.states.OneDomain.{ChangesDomain, changes_domain}
+use Rattle.engine.proofs.domains.Trees.{same_tree}
 use Rattle.engine.proofs.lists.Membership.{in_left}
 use Rattle.engine.proofs.tickets.Closed.{last_done_is}
 use Rattle.engine.proofs.tickets.Stay.{follow_within, in_parts}
@@ -95,6 +97,7 @@ module _ (pool pool' : Pool) (space' : Space) (h : Domain) (v : world.Domain) (n
       records = marks_left number h.records v.retired mirrors.ids.records;
     };
     tree = λ p low. ap (λ ws. states (memory ws) (levels h.width) h.root p) all.words ∙ mirrors.tree p low;
+    spelled = subst (λ ws. AreSpelled ws (levels h.width) h.root) (sym all.words) mirrors.spelled;
     pieces = pieces_reaped h.space space' v (is_before number) mirrors.pieces all.is_space all.last
         (λ p some. let k = gone_here some.0 some.1 in all.inside k.0 k.1 p (subst (λ (x : Range). IsWithin x p) k.2 some.2))
         (λ p none. all.outside p (λ k goes within.

@@ -41,6 +41,7 @@ use Rattle.dmatypes.proofs.histories.Maps.{put_same, put_other, same_or_not}
 use Rattle.engine.proofs.lists.Places.{is_none, not_none, set_again}
 use Rattle.engine.proofs.domains.Pieces.{fit_of, free_pages, mapped_inside, mapped_outside, pieces_mapped}
 use Rattle.engine.proofs.domains.OneChanged.{both_absent, both_there, domain_low, domain_set, domains_put}
+use Rattle.engine.proofs.domains.Trees.{tree_stays}
 use Rattle.engine.proofs.states.Refused.{counted, refuses}
 use Rattle.engine.proofs.maps.Segments.{some_page}
 use Rattle.dmatypes.specs.declared.limits.TheConstants.{MOST_DOMAINS}
@@ -187,6 +188,7 @@ maps_mirror pool pool' h h1 v segments first order rights mirrors places some = 
         (omega (arith, start, span-levels h.width))) past)
         ∙ mirrors.tree p low ∙ sym (mapped_outside v segments first rights p past)
   ];
+  spelled = places.spelled mirrors.spelled;
   pieces = pieces_mapped h.space h1.space v segments first rights mirrors.pieces places.takes places.is_space;
 } where
   start : first < pages_end h.width
@@ -257,7 +259,8 @@ with_map m t w i h h1 v segments first order rights q many less there here mirro
   table_frames = q.table_frames ∙ sym places.moves.frames;
   domains =
       domains_put m t w (i + 1) (domain_mapped h h1.space) (mapped segments first rights v) q domains_are
-      (maps_mirror m.pool t.pool h h1 v segments first order rights mirrors places some) (λ e k ne at p. (stays e k ne at).same_leaves p);
+      (maps_mirror m.pool t.pool h h1 v segments first order rights mirrors places some)
+      (λ e k ne at. tree_stays m.pool t.pool t.pool.words k.width k.root (stays e k ne at) refl);
   caches =
       fewer_lawful t (record w { domains = put (i + 1) (Some (mapped segments first rights v)) w.domains }) m.iommu.unit.caches
       t.iommu.unit.caches

@@ -1,12 +1,10 @@
 -- A call that changes one domain, with free frames, and leaves no entry in the caches that isn't lawful then.
-use Rattle.std.proofs.Common.{◌≡◌, ◌≢◌, ℕ, ◌+◌, ◌<◌, ◌⊎◌, inl, inr, List, length, map, Option, Some, None, refl, sym, ap, subst, ◌∙◌, arith}
-use Rattle.dmatypes.specs.declared.width.Width.{Width}
+use Rattle.std.proofs.Common.{◌≡◌, ◌≢◌, ℕ, ◌+◌, ◌<◌, ◌⊎◌, inl, inr, length, map, Option, Some, None, refl, sym, ap, subst, ◌∙◌, arith}
 use Rattle.std.proofs.lemmas.Option.{same_Some}
 use Rattle.dmatypes.specs.World.{World, IsIn, put}
 use Rattle.dmatypes.specs.World as world
-use Rattle.tables.specs.Changes.{TreeStays}
-use Rattle.tables.specs.Pool.{Pool, memory, occurs, IsZeroed}
-use Rattle.tables.specs.Tree.{leaf_from, table_from, uses}
+use Rattle.tables.specs.Pool.{memory, occurs, IsZeroed}
+use Rattle.tables.specs.Tree.{uses}
 use Rattle.unit.specs.Caches.{CachedContext, CachedLeaf, CachedNonLeaf}
 use Rattle.engine.specs.Domains.{Domain, held_in, domain_at}
 use Rattle.engine.specs.State.{State}
@@ -16,25 +14,10 @@ use Rattle.engine.proofs.frames.Held.{held_stays}
 use Rattle.engine.proofs.caches.Lawful.{KeepsLawful, keeps_same}
 use Rattle.dmatypes.proofs.histories.Maps.{put_same, put_other, same_or_not}
 use Rattle.engine.proofs.domains.OneChanged.{domains_put, domain_low}
+use Rattle.engine.proofs.domains.Trees.{SameTree}
 use Rattle.engine.proofs.caches.Faults.{LeavesFaults, faults_stay, fewer_pages}
 use Rattle.dmatypes.specs.declared.limits.TheConstants.{MOST_DOMAINS}
 use Rattle.dmatypes.specs.Page.{levels}
-
--- a tree that has the same leaves, tables and frames in both
-pub record SameTree (words words' : List ℕ) (width : Width) (root : ℕ) : Type 0 where
-  pub leaves : (p : ℕ) → leaf_from (memory words') (levels width) root p ≡ leaf_from (memory words) (levels width) root p
-  pub tables : (p w : ℕ) → table_from (memory words') (levels width) root p w ≡ table_from (memory words) (levels width) root p w
-  pub frames : (f : ℕ) → uses (memory words') (levels width) root f ≡ uses (memory words) (levels width) root f
-
-pub same_tree : (words words' : List ℕ) (width : Width) (root : ℕ) → words' ≡ words → SameTree words words' width root
-same_tree words words' width root same =
-    subst (λ ws. SameTree words ws width root) (sym same) (record { leaves = λ p. refl; tables = λ p w. refl; frames = λ f. refl })
-
-pub tree_stays : (old new : Pool) (words : List ℕ) (width : Width) (root : ℕ) → TreeStays old new (levels width) root → words ≡ new.words
-    → SameTree old.words words width root
-tree_stays old new words width root stays same =
-    subst (λ ws. SameTree old.words ws width root) (sym same)
-    (record { leaves = stays.same_leaves; tables = stays.same_tables; frames = stays.same_frames })
 
 -- the domain is another one, and no other domain changes; each entry that is left is lawful of what it became
 pub record ChangesDomain (m t : State) (d : ℕ) (h h' : Domain) (v v' : world.Domain) : Type 0 where
@@ -172,7 +155,7 @@ module _ (m t : State) (w : World) (d : ℕ) (h h' : Domain) (v v' : world.Domai
   pub changes_domain : Quarantine t (record w { domains = put d (Some v') w.domains })
   changes_domain = record {
     table_frames = q.table_frames ∙ sym c.frames;
-    domains = domains_put m t w d h' v' q c.domains c.mirrors (λ e k ne at p. (c.others e k ne at).leaves p);
+    domains = domains_put m t w d h' v' q c.domains c.mirrors c.others;
     caches = record {
       leaves = λ l inside. let k = c.leaves l inside in leaf_lawful l k.1 (q.caches.leaves l k.0) (same_or_not l.domain d);
       tables = λ i inside. let k = c.tables i inside in table_lawful i k.1 (q.caches.tables i k.0) (same_or_not i.domain d);

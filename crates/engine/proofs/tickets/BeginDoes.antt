@@ -23,7 +23,8 @@ use Rattle.engine.specs.Whole.{IsWhole}
 use Rattle.engine.proofs.domains.OneChanged.{both_absent, both_there, domain_set}
 use Rattle.engine.proofs.flushes.Steps.{Did}
 use Rattle.engine.proofs.lists.Places.{is_none, not_none}
-use Rattle.engine.proofs.states.OneDomain.{ChangesDomain, changes_domain, same_tree}
+use Rattle.engine.proofs.states.OneDomain.{ChangesDomain, changes_domain}
+use Rattle.engine.proofs.domains.Trees.{same_tree}
 use Rattle.engine.proofs.states.RecordsMade.{begun_kept, made_kept}
 use Rattle.engine.proofs.states.Refused.{counted, refuses, tickets_of}
 use Rattle.engine.proofs.unmaps.DomainAfter.{mirrors_of}
@@ -87,6 +88,7 @@ module _ (m : State) (domain i : ℕ) (h : Domain) (x : Iommu) (whole : IsWhole 
       records = mirrors.ids.records;
     };
     tree = mirrors.tree;
+    spelled = mirrors.spelled;
     pieces = record {
       is_space = mirrors.pieces.is_space;
       whole = mirrors.pieces.whole;

@@ -26,7 +26,8 @@ use Rattle.engine.specs.Ending.{RetiresAndUnmaps, IsSent, Releases, left_by_all}
 use Rattle.engine.specs.Domains.{Domain, domain_at, held_in}
 use Rattle.engine.specs.State.{State}
 use Rattle.engine.specs.Quarantine.{IsLawfulLeaf, IsLawfulTable, Mirrors, Quarantine, marked_here, marked_there}
-use Rattle.engine.proofs.states.OneDomain.{ChangesDomain, SameTree, changes_domain, tree_stays}
+use Rattle.engine.proofs.states.OneDomain.{ChangesDomain, changes_domain}
+use Rattle.engine.proofs.domains.Trees.{SameTree, tree_stays}
 use Rattle.engine.proofs.frames.Owners.{apart_of, held_zeroed, tree_of}
 use Rattle.engine.proofs.frames.Held.{held_stays}
 use Rattle.engine.proofs.domains.OneChanged.{both_there, domain_low, domain_set}
@@ -69,6 +70,7 @@ module _ (pool pool1 : Pool) (h h1 : Domain) (v : world.Domain) (r : Record) (fi
   mirrors_unmapped pool2 space2 releases = record {
     ids = record { mode = mirrors.ids.mode; begun = mirrors.ids.begun; width = mirrors.ids.width; records = mirrors.ids.records };
     tree = tree_without;
+    spelled = cuts.spelled mirrors.spelled;
     pieces =
         pieces_unmapped h.space v r.range mirrors.pieces cuts.may.live h1.space space2 fits.0 cuts.retires releases.frees releases.is_space;
   }
@@ -84,6 +86,7 @@ module _ (pool pool1 : Pool) (h h1 : Domain) (v : world.Domain) (r : Record) (fi
           ∙ sym (map_last marked_there v.retired (record_of r.range v));
     };
     tree = tree_without;
+    spelled = cuts.spelled mirrors.spelled;
     pieces = pieces_put_off h.space v r.range mirrors.pieces cuts.may.live h1.space cuts.retires cuts.is_space;
   }
 

@@ -8,12 +8,14 @@ use Rattle.vtdbits.specs.declared.entry.SsEntry.TheVariants.{Absent, Table}
 use Rattle.tables.specs.Under.{ChangesUnder, used_by_entry}
 use Rattle.tables.specs.Tree.{Memory, span, index_in, leaf_from, table_from, stated, states, uses, one_if_same, entry_uses}
 use Rattle.tables.specs.Pool.{Pool, word, memory, occurs, IsTree, IsZeroed, IsWrite}
-use Rattle.tables.specs.Changes.{TakesAndGivesFrames, MapsPages}
+use Rattle.tables.specs.Changes.{TakesAndGivesFrames, KeepsSpellings, MapsPages}
 use Rattle.tables.proofs.sums.OneFrame.{one_if_same-self}
 use Rattle.tables.proofs.unmaps.UnderEntry.{under_moves, other_leaf, other_table, root_apart}
 use Rattle.tables.proofs.walks.Steps.{leaf_under, table_under, table_top, too_high, same_or_not, same_span, uses-bare}
 use Rattle.tables.proofs.walks.Onward.{IsBare, leaf_zeroed, table_zeroed}
 use Rattle.tables.proofs.walks.Words.{zeroed_bare, memory_at}
+use Rattle.tables.proofs.spelled.Stays.{zeroed_spelled}
+use Rattle.tables.proofs.spelled.UnderEntry.{table_spelled}
 
 no_word : (t i f k : ℕ) → (f ≡ t → k ≡ i → ⊥) → f ≢ t ⊎ (k ≢ i)
 no_word t i f k h = ⊎_elim (λ same. inr (λ e. h same e)) (λ ne. inl ne) (same_or_not f t)
@@ -126,6 +128,7 @@ pub record Grows (old new : Pool) (level l t i c : ℕ) : Type 0 where
   pub leaves : (p : ℕ) → leaf_from (memory new.words) level t p ≡ leaf_from (memory old.words) level t p
   pub names : memory new.words level t i ≡ Table c
   pub zeroed : IsZeroed new.words c
+  pub spelled : KeepsSpellings old new level t
 
 grows_two : (old mid new : Pool) (l t i c value : ℕ) → IsTree old (suc (suc l)) t → i < TABLE_ENTRIES
     → memory old.words (suc (suc l)) t i ≡ Absent → look (suc (suc l)) value ≡ Table c
@@ -156,6 +159,7 @@ grows_two old mid new l t i c value tree a absent reads free zeroed same_words s
       leaves = λ p. grown_leaf old new (suc l) t i c p tree a g;
       names = names;
       zeroed = zeroed_now;
+      spelled = table_spelled old new (suc l) t i c [] tree a u names (λ _. zeroed_spelled new.words (suc l) c zeroed_now);
     }
 
 pub grows : (old mid new : Pool) (level l t i c value : ℕ) → level ≡ suc (suc l) → IsTree old level t → i < TABLE_ENTRIES

@@ -9,8 +9,9 @@ use Rattle.vtdbits.specs.declared.entry.SsEntry.TheVariants.{Absent, LargeLeaf}
 use Rattle.tables.specs.Under.{ChangesUnder, used_by_entry}
 use Rattle.tables.specs.Tree.{Memory, index_in, table_of, table_from, stated, uses, entry_uses}
 use Rattle.tables.specs.Pool.{Pool, memory, occurs, IsTree, IsWrite}
-use Rattle.tables.specs.Changes.{TakesAndGivesFrames, MapsPages}
+use Rattle.tables.specs.Changes.{TakesAndGivesFrames, KeepsSpellings, MapsPages}
 use Rattle.tables.proofs.unmaps.UnderEntry.{under_moves, other_leaf, other_table}
+use Rattle.tables.proofs.spelled.UnderEntry.{leaf_spelled}
 use Rattle.tables.proofs.walks.Levels.{stated_large}
 use Rattle.tables.proofs.walks.Steps.{leaf_under, table_under, table_top, same_or_not, same_span, div_span_one, same_index}
 
@@ -59,7 +60,7 @@ pub large_maps : (old new : Pool) (t i from frame rights value : ℕ) → IsTree
     → from % SPAN_PAGES ≡ 0 → IsWrite old.words new.words t i value → new.free ≡ old.free → new.frames ≡ old.frames
     → memory old.words 2 t i ≡ Absent → memory new.words 2 t i ≡ LargeLeaf (target frame rights)
     → TakesAndGivesFrames old new 2 t [] × MapsPages old new 2 t from (from + SPAN_PAGES) (λ p. Some (target (frame + (p - from)) rights))
-    × ((p w : ℕ) → table_from (memory new.words) 2 t p w ≡ table_from (memory old.words) 2 t p w)
+    × ((p w : ℕ) → table_from (memory new.words) 2 t p w ≡ table_from (memory old.words) 2 t p w) × KeepsSpellings old new 2 t
 large_maps old new t i from frame rights value tree a at aligned wrote free frames was is =
     let n : Memory = memory new.words in
     let u : ChangesUnder old new 1 t i [] =
@@ -87,4 +88,5 @@ large_maps old new t i from frame rights value tree a at aligned wrote free fram
         clear = λ p w wide far. tables p w;
       },
       tables,
+      leaf_spelled old new 1 t i [] (LargeLeaf (target frame rights)) tree a u is (λ c e. cc) (λ e. cc),
     )

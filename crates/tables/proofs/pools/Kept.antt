@@ -16,6 +16,7 @@ use Rattle.tables.specs.Changes.{TakesAndGivesFrames, MapsPages, IsApart, TreeSt
 use Rattle.tables.proofs.walks.Agreeing.{AgreeAt, to_agree, leaf_agrees, table_agrees, uses_agree}
 use Rattle.tables.proofs.walks.Words.{same_entry}
 use Rattle.tables.proofs.walks.Near.{div_within, near_at, span_pos}
+use Rattle.tables.proofs.spelled.Stays.{words_stay}
 
 pub span-levels : (width : Width) → span (levels width) ≡ pages_end width
 unfolding span
@@ -113,6 +114,7 @@ apart_stays old new l t l' t' cut first moves tree apart =
       same_frames = same;
       same_leaves = λ p. leaf_agrees m n l' t' p agree;
       same_tables = λ p w. table_agrees m n l' t' p w agree;
+      spelled = words_stay old.words new.words l' t' (λ f some k k_in. moves.others f k k_in (apart f some));
     }
 
 -- a call that answered one of two
@@ -147,4 +149,5 @@ given_stays old new l t l' t' first free others frames tree apart =
       same_frames = same;
       same_leaves = λ p. leaf_agrees m n l' t' p agree;
       same_tables = λ p w. table_agrees m n l' t' p w agree;
+      spelled = words_stay old.words new.words l' t' (λ f some k k_in. others f k k_in (omega (arith, apart f some)));
     }

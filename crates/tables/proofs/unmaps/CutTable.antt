@@ -31,6 +31,38 @@ at_whole from i p even is low high =
     same_index 1 p from (div_span_one p ∙ (let e : p / SPAN_PAGES ≡ from / SPAN_PAGES = omega arith in e) ∙ sym (div_span_one from))
     ∙ sym is
 
+-- it is not the table of its entry
+not_itself : (old : Pool) (t i c : ℕ) → IsTree old 2 t → i < TABLE_ENTRIES → memory old.words 2 t i ≡ Table c → c ≡ t → ⊥
+not_itself old t i c tree a names e =
+    let used : used_by_entry (memory old.words) 1 t t i ≡ one_if_same c t =
+    ap (λ e. entry_uses e (λ c. uses (memory old.words) 1 c t)) names ∙ uses-one (memory old.words) c t in
+    let own : one_if_same c t ≡ one_if_same t t = ap (λ x. one_if_same x t) e in
+    omega (arith, root_apart old 1 t i tree a, used, one_if_same-self t)
+
+-- the change of its entry, which is absent then
+pub under_cut : (old mid new : Pool) (t i c from to value : ℕ) → IsTree old 2 t → i < TABLE_ENTRIES → memory old.words 2 t i ≡ Table c
+    → WritesEntries old.words mid.words c from to (λ p. Absent) → mid.free ≡ old.free → mid.frames ≡ old.frames
+    → IsWrite mid.words new.words t i value → new.free ≡ mid.free → new.frames ≡ mid.frames → memory new.words 2 t i ≡ Absent
+    → ChangesUnder old new 1 t i (c ∷ [])
+under_cut old mid new t i c from to value tree a names run free frames wrote free' frames' now =
+    let m : Memory = memory old.words in
+    let n : Memory = memory new.words in
+    let used : (f : ℕ) → used_by_entry m 1 t f i ≡ one_if_same c f = λ f. ap (λ e. entry_uses e (λ c. uses m 1 c f)) names
+    ∙ uses-one m c f in
+    let left : (f : ℕ) → used_by_entry n 1 t f i ≡ 0 = λ f. ap (λ e. entry_uses e (λ c. uses n 1 c f)) now in
+    let same_free : (f : ℕ) → occurs f new.free ≡ occurs f old.free = λ f. ap (λ xs. occurs f xs) (free' ∙ free) in
+    record {
+      account = λ f. omega (arith, used f, left f, same_free f, one_list f c);
+      fewer = λ f. omega (arith, same_free f);
+      others = λ f k k_in ne none.
+          wrote.1 f k k_in (λ e _. ne e)
+          ∙ run.rest f k k_in
+          (λ e p low high at. let own : one_if_same c f ≡ one_if_same c c = ap (λ x. one_if_same c x) e in
+          omega (arith, none, used f, one_if_same-self c));
+      row = λ k k_in ne. wrote.1 t k k_in (λ _ e. ne e) ∙ run.rest t k k_in (λ e p low high at. not_itself old t i c tree a names (sym e));
+      frames = frames' ∙ frames;
+    }
+
 pub table_cut : (old mid new : Pool) (t i c from value : ℕ) → IsTree old 2 t → i < TABLE_ENTRIES → i ≡ index_in 1 from
     → from % SPAN_PAGES ≡ 0 → memory old.words 2 t i ≡ Table c → WritesEntries old.words mid.words c from (from + SPAN_PAGES) (λ p. Absent)
     → ((p : ℕ) → from ≤ p → p < from + SPAN_PAGES → word mid.words c (p % SPAN_PAGES) ≡ 0) → mid.free ≡ old.free → mid.frames ≡ old.frames
@@ -39,24 +71,8 @@ pub table_cut : (old mid new : Pool) (t i c from value : ℕ) → IsTree old 2 t
 table_cut old mid new t i c from value tree a is even names run blank free frames wrote free' frames' now =
     let m : Memory = memory old.words in
     let n : Memory = memory new.words in
-    let used : (f : ℕ) → used_by_entry m 1 t f i ≡ one_if_same c f = λ f. ap (λ e. entry_uses e (λ c. uses m 1 c f)) names
-    ∙ uses-one m c f in
-    let left : (f : ℕ) → used_by_entry n 1 t f i ≡ 0 = λ f. ap (λ e. entry_uses e (λ c. uses n 1 c f)) now in
-    let apart : c ≡ t → ⊥ =
-    λ e. let own : one_if_same c t ≡ one_if_same t t = ap (λ x. one_if_same x t) e in
-    omega (arith, root_apart old 1 t i tree a, used t, one_if_same-self t) in
-    let same_free : (f : ℕ) → occurs f new.free ≡ occurs f old.free = λ f. ap (λ xs. occurs f xs) (free' ∙ free) in
-    let u : ChangesUnder old new 1 t i (c ∷ []) = record {
-      account = λ f. omega (arith, used f, left f, same_free f, one_list f c);
-      fewer = λ f. omega (arith, same_free f);
-      others = λ f k k_in ne none.
-          wrote.1 f k k_in (λ e _. ne e)
-          ∙ run.rest f k k_in
-          (λ e p low high at. let own : one_if_same c f ≡ one_if_same c c = ap (λ x. one_if_same c x) e in
-          omega (arith, none, used f, one_if_same-self c));
-      row = λ k k_in ne. wrote.1 t k k_in (λ _ e. ne e) ∙ run.rest t k k_in (λ e p low high at. apart (sym e));
-      frames = frames' ∙ frames;
-    } in
+    let u : ChangesUnder old new 1 t i (c ∷ []) =
+    under_cut old mid new t i c from (from + SPAN_PAGES) value tree a names run free frames wrote free' frames' now in
     let old_at : (p : ℕ) → index_in 1 p ≡ i → m 2 t (index_in 1 p) ≡ Table c = λ p e. ap (λ j. m 2 t j) e ∙ names in
     let new_at : (p : ℕ) → index_in 1 p ≡ i → n 2 t (index_in 1 p) ≡ Absent = λ p e. ap (λ j. n 2 t j) e ∙ now in
     let own_table : (p : ℕ) → index_in 1 p ≡ i → table_from m 2 t p 1 ≡ Some c =
@@ -122,7 +138,8 @@ table_cut old mid new t i c from value tree a is even names run blank free frame
         zeroed = λ x has.
             let same : c ≡ x = one_if_same_is c x (omega (arith, one_list x c, has)) in
             subst (λ y. IsZeroed new.words y) same (λ k k_in.
-            wrote.1 c k k_in (λ e _. apart e) ∙ ap (λ j. word mid.words c j) (let e : k ≡ (from + k) % SPAN_PAGES = omega arith in e)
+            wrote.1 c k k_in (λ e _. not_itself old t i c tree a names e)
+            ∙ ap (λ j. word mid.words c j) (let e : k ≡ (from + k) % SPAN_PAGES = omega arith in e)
             ∙ blank (from + k) (omega arith) (omega arith));
       },
     )

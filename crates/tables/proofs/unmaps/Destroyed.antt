@@ -23,11 +23,47 @@ pub used_table : (pool : Pool) (level t f i c : ℕ) → memory pool.words level
 unfolding used_at
 used_table pool level t f i c e = ap (λ x. entry_uses x (λ c. uses (memory pool.words) (level - 1) c f)) e
 
-pub used_none : (pool : Pool) (level t f i : ℕ) (e : SsEntry) → memory pool.words level t i ≡ e → ((below : ℕ → ℕ) → entry_uses e below ≡ 0)
+used_none : (pool : Pool) (level t f i : ℕ) (e : SsEntry) → memory pool.words level t i ≡ e → ((below : ℕ → ℕ) → entry_uses e below ≡ 0)
     → used_at pool level t f i ≡ 0
 unfolding used_at
 used_none pool level t f i e is none =
     ap (λ x. entry_uses x (λ c. uses (memory pool.words) (level - 1) c f)) is ∙ none (λ c. uses (memory pool.words) (level - 1) c f)
+
+-- ---- one entry
+
+-- what lay below it came free, and nothing else changed
+pub record IsFreed (old cur : Pool) (level t i : ℕ) : Type 0 where
+  pub free : (f : ℕ) → occurs f cur.free ≡ occurs f old.free + used_at old level t f i
+  pub others : (f k : ℕ) → k < TABLE_ENTRIES → used_at old level t f i ≡ 0 → word cur.words f k ≡ word old.words f k
+  pub frames : cur.frames ≡ old.frames
+
+pub table_freed : (old new cur : Pool) (level t i c : ℕ) → cur ≡ new → memory old.words level t i ≡ Table c
+    → ((f : ℕ) → occurs f new.free ≡ occurs f old.free + uses (memory old.words) (level - 1) c f)
+    → ((f k : ℕ) → k < TABLE_ENTRIES → uses (memory old.words) (level - 1) c f ≡ 0 → word new.words f k ≡ word old.words f k)
+    → new.frames ≡ old.frames → IsFreed old cur level t i
+table_freed old new cur level t i c same is free others frames =
+    subst (λ p. IsFreed old p level t i) (sym same) (record {
+      free = λ f. omega (arith, free f, used_table old level t f i c is);
+      others = λ f k k_in none. others f k k_in (omega (arith, none, used_table old level t f i c is));
+      frames = frames;
+    })
+
+pub nothing_freed : (old cur : Pool) (level t i : ℕ) (e : SsEntry) → cur ≡ old → memory old.words level t i ≡ e
+    → ((c : ℕ) → e ≡ Table c → ⊥) → IsFreed old cur level t i
+nothing_freed old cur level t i e same is other =
+    subst (λ p. IsFreed old p level t i) (sym same) (record {
+      free = λ f. omega (arith, used_none old level t f i e is (by_entry e other));
+      others = λ f k k_in none. refl;
+      frames = refl;
+    })
+  where
+    by_entry : (e : SsEntry) → ((c : ℕ) → e ≡ Table c → ⊥) → (below : ℕ → ℕ) → entry_uses e below ≡ 0
+    by_entry Absent other below = refl
+    by_entry (Table c) other below = absurd (other c refl)
+    by_entry (Leaf x) other below = refl
+    by_entry (LargeLeaf x) other below = refl
+
+-- ---- all of them
 
 -- the uses of a tree, by entries
 pub uses_level : (pool : Pool) (level l t f : ℕ) → level ≡ suc l

@@ -5,7 +5,7 @@ use Rattle.tables.specs.declared.entries.TheConstants.{TABLE_ENTRIES}
 use Rattle.vtdbits.specs.declared.entry.SsEntry.TheVariants.{Table}
 use Rattle.tables.specs.Under.{ChangesUnder, used_by_entry}
 use Rattle.tables.specs.Tree.{Memory, index_in, leaf_of, leaf_from, table_from, entry_uses, uses}
-use Rattle.tables.specs.Pool.{Pool, memory, occurs, IsTree}
+use Rattle.tables.specs.Pool.{Pool, word, memory, occurs, IsTree}
 use Rattle.tables.specs.Changes.{TakesAndGivesFrames}
 use Rattle.tables.proofs.sums.Firsts.{sum_below_change}
 use Rattle.tables.proofs.sums.OneFrame.{one_if_same-self}
@@ -42,24 +42,29 @@ pub root_apart : (pool : Pool) (l t i : ℕ) → IsTree pool (suc l) t → i < T
 root_apart pool l t i tree inside = omega (arith, tree.once t, own_use (memory pool.words) l t i inside)
 
 -- the frames of another entry
+pub apart_words : (old new : Pool) (l t i j f : ℕ) (cut : List ℕ) → IsTree old (suc l) t → i < TABLE_ENTRIES → j < TABLE_ENTRIES → j ≢ i
+    → ChangesUnder old new l t i cut → 0 < used_by_entry (memory old.words) l t f j → (k : ℕ) → k < TABLE_ENTRIES
+    → word new.words f k ≡ word old.words f k
+apart_words old new l t i j f cut tree a b ne u some k k_in =
+    let two = two_uses (memory old.words) l t f i j a b ne in
+    let none : used_by_entry (memory old.words) l t f i + occurs f old.free ≡ 0 = omega (arith, two, tree.once f) in
+    u.others f k k_in (λ e. let own = root_apart old l t j tree b in
+    let moved : used_by_entry (memory old.words) l t f j ≡ used_by_entry (memory old.words) l t t j =
+    ap (λ x. used_by_entry (memory old.words) l t x j) e in
+    absurd (omega (arith, own, moved, some)))
+    none
+
 apart : (old new : Pool) (l t i j f : ℕ) (cut : List ℕ) → IsTree old (suc l) t → i < TABLE_ENTRIES → j < TABLE_ENTRIES → j ≢ i
     → ChangesUnder old new l t i cut → 0 < used_by_entry (memory old.words) l t f j → (l' k : ℕ) → k < TABLE_ENTRIES
     → memory new.words l' f k ≡ memory old.words l' f k
 apart old new l t i j f cut tree a b ne u some l' k k_in =
-    let two = two_uses (memory old.words) l t f i j a b ne in
-    let none : used_by_entry (memory old.words) l t f i + occurs f old.free ≡ 0 = omega (arith, two, tree.once f) in
-    same_entry old.words new.words l' f k
-    (u.others f k k_in (λ e. let own = root_apart old l t j tree b in
-    let moved : used_by_entry (memory old.words) l t f j ≡ used_by_entry (memory old.words) l t t j =
-    ap (λ x. used_by_entry (memory old.words) l t x j) e in
-    absurd (omega (arith, own, moved, some)))
-    none)
+    same_entry old.words new.words l' f k (apart_words old new l t i j f cut tree a b ne u some k k_in)
 
 row_entry : (old new : Pool) (l t i j : ℕ) (cut : List ℕ) → j < TABLE_ENTRIES → j ≢ i → ChangesUnder old new l t i cut
     → memory new.words (suc l) t j ≡ memory old.words (suc l) t j
 row_entry old new l t i j cut b ne u = same_entry old.words new.words (suc l) t j (u.row j b ne)
 
-some_child : (m : Memory) (l t f j c : ℕ) → m (suc l) t j ≡ Table c → 0 < uses m l c f → 0 < used_by_entry m l t f j
+pub some_child : (m : Memory) (l t f j c : ℕ) → m (suc l) t j ≡ Table c → 0 < uses m l c f → 0 < used_by_entry m l t f j
 some_child m l t f j c e some =
     let is : used_by_entry m l t f j ≡ uses m l c f = ap (λ x. entry_uses x (λ c. uses m l c f)) e in omega arith
 

@@ -16,11 +16,11 @@ pub to_agree : (a b : Memory) (l t : ℕ) → ((f : ℕ) → 0 < uses a l t f �
 unfolding AgreeAt
 to_agree a b l t h = h
 
-root_used : (a : Memory) (l t : ℕ) → 0 < uses a (suc l) t t
+pub root_used : (a : Memory) (l t : ℕ) → 0 < uses a (suc l) t t
 unfolding uses
 root_used a l t = let is : nat_eq t t ≡ true = grind (arith, nat_tests) in rw is (omega arith)
 
-under : (a : Memory) (l t k c f : ℕ) → k < TABLE_ENTRIES → a (suc l) t k ≡ Table c → 0 < uses a l c f → 0 < uses a (suc l) t f
+pub under : (a : Memory) (l t k c f : ℕ) → k < TABLE_ENTRIES → a (suc l) t k ≡ Table c → 0 < uses a l c f → 0 < uses a (suc l) t f
 unfolding uses
 under a l t k c f lt e some =
     let part = sum_below_part (λ i. entry_uses (a (suc l) t i) (λ c. uses a l c f)) TABLE_ENTRIES k lt in

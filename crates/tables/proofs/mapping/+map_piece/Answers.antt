@@ -2,7 +2,7 @@ use Rattle.std.proofs.Common.{◌≡◌, ℕ, ◌+◌, ◌-◌, ◌<◌, ◌≤�
 use Rattle.vtdbits.specs.declared.entry.SsEntry.TheVariants.{Absent, Leaf, LargeLeaf}
 use Rattle.tables.specs.Tree.{index_in, table_from}
 use Rattle.tables.specs.Pool.{memory}
-use Rattle.tables.specs.Changes.{TakesAndGivesFrames, MapsPages}
+use Rattle.tables.specs.Changes.{TakesAndGivesFrames, KeepsSpellings, MapsPages}
 use Rattle.tables.specs.Lacks.{tables_lacking_at}
 use Rattle.tables.specs.Pieces.{piece_states, is_large}
 use Rattle.vtdbits.specs.Translation.{target}
@@ -15,6 +15,8 @@ use Rattle.tables.proofs.walks.Levels.{root_in_level, root_taken_level, below_le
 use Rattle.tables.proofs.maps.Mapped.{maps_over, moves_then}
 use Rattle.tables.proofs.maps.Runs.{run_moves, run_maps}
 use Rattle.tables.proofs.unmaps.UnderEntry.{moved_tree}
+use Rattle.tables.proofs.spelled.Runs.{run_spelled}
+use Rattle.tables.proofs.spelled.UnderEntry.{through_spelled}
 use Rattle.tables.proofs.walks.Words.{zeroed_bare}
 use Rattle.tables.proofs.mapping.+map_piece.Goals as goal
 use Rattle.tables.proofs.mapping.+map_piece.Goals.{After-grow-below, After-map_piece-else-level-eq2}
@@ -45,6 +47,12 @@ returns-then-level-eq1-clause-maps t c =
     (sym c.if-level-eq1.true) (run_maps c.args.pool.now c.write_run.new.pool c.args.table c.args.piece.now.from c.args.piece.now.to _
     (λ p. target (c.args.piece.now.frame + (p - c.args.piece.now.from)) (bits_of c.args.piece.now.rights)) c.write_run.ensures.run
     (λ q low high. omega (arith, low, high, c.args.piece.now.one_span)) (λ p. refl))
+
+pub returns-then-level-eq1-clause-spelled : goal.returns-then-level-eq1-clause-spelled
+returns-then-level-eq1-clause-spelled t c =
+    subst (λ n. KeepsSpellings c.args.pool.now c.write_run.new.pool n c.args.table) (sym c.if-level-eq1.true)
+    (run_spelled c.args.pool.now c.write_run.new.pool c.args.table c.args.piece.now.from c.args.piece.now.to _ c.write_run.ensures.run
+    c.args.piece.now.some c.args.piece.now.one_span (λ p low high e. cc))
 
 pub returns-then-level-eq1-clause-count : goal.returns-then-level-eq1-clause-count
 returns-then-level-eq1-clause-count t c =
@@ -101,6 +109,12 @@ returns-in-Table-clause-moves t c =
     (low c.args.level c.if-level-eq1.false c.requires.low)
     c.args.piece.now.one_span c.requires.tree c.index_of-index.ensures.inside c.index_of-index.ensures.exact c.in-Table.ensures.is
     c.map_piece.ensures.moves c.map_piece.ensures.maps).0
+
+pub returns-in-Table-clause-spelled : goal.returns-in-Table-clause-spelled
+returns-in-Table-clause-spelled t c =
+    through_spelled c.args.pool.now c.map_piece.new.pool c.args.level (c.args.level - 1) c.args.table c.index_of-index.result
+    c.in-Table.below [] (omega arith) c.requires.tree c.index_of-index.ensures.inside c.in-Table.ensures.is c.map_piece.ensures.moves
+    c.map_piece.ensures.spelled
 
 pub returns-in-Table-clause-maps : goal.returns-in-Table-clause-maps
 returns-in-Table-clause-maps t c =
@@ -267,6 +281,15 @@ returns-else-level-eq2-clause-moves t c =
     let some : 1 ≤ c.args.level - 1 = low c.args.level c.if-level-eq1.false c.requires.low in
     let through = grown_through t (goal.at.returns-else-level-eq2-clause-moves t c).After-map_piece-else-level-eq2 in
     moves_then c.args.pool.now mid new c.args.level c.args.table [] [] c.grow-below.ensures.moves through.0
+
+pub returns-else-level-eq2-clause-spelled : goal.returns-else-level-eq2-clause-spelled
+returns-else-level-eq2-clause-spelled t c s =
+    let mid = c.grow-below.new.pool in
+    through_spelled mid c.map_piece-else-level-eq2.new.pool c.args.level (c.args.level - 1) c.args.table c.index_of-index.result
+    c.grow-below.result [] (omega arith)
+    (moved_tree c.args.pool.now mid c.args.level c.args.table [] c.requires.tree c.grow-below.ensures.moves)
+    c.index_of-index.ensures.inside c.grow-below.ensures.names c.map_piece-else-level-eq2.ensures.moves
+    c.map_piece-else-level-eq2.ensures.spelled (c.grow-below.ensures.spelled s)
 
 pub returns-else-level-eq2-clause-maps : goal.returns-else-level-eq2-clause-maps
 returns-else-level-eq2-clause-maps t c =

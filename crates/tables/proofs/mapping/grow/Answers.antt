@@ -45,3 +45,6 @@ pub returns-clause-maps : goal.returns-clause-maps
 returns-clause-maps c from to some is =
     let below : suc (c.args.level - 2) ≡ c.args.level - 1 = omega arith in
     (grown (goal.at.returns-clause-maps c).After-write).maps from to some (subst (λ l. index_in l from ≡ c.args.index) (sym below) is)
+
+pub returns-clause-spelled : goal.returns-clause-spelled
+returns-clause-spelled c = (grown (goal.at.returns-clause-spelled c).After-write).spelled

@@ -48,6 +48,7 @@ loop-piece-init c = record {
   low = omega arith;
   high = omega arith;
   moves = no_moves c.args.pool.now c.args.level c.args.root;
+  spelled = λ s. s;
   maps = no_maps c.args.pool.now c.args.level c.args.root c.args.first (placed c.args.segments.now c.args.first (bits_of c.args.rights));
   count = refl;
   inner =
@@ -128,6 +129,7 @@ loop-piece-preserved c =
       low = omega arith;
       high = far;
       moves = moves_then c.args.pool.now cur new c.args.level c.args.root [] [] c.loop-piece.invariant.moves c.map_piece.ensures.moves;
+      spelled = λ s. c.map_piece.ensures.spelled (c.loop-piece.invariant.spelled s);
       maps =
           maps_then c.args.pool.now cur new c.args.level c.args.root c.args.first x.from x.to says_it near some
           (λ p low high. wide p low (omega arith)) c.loop-piece.invariant.moves before

@@ -4,7 +4,7 @@ use Rattle.dmatypes.specs.Conditions.{total_pages}
 use Rattle.dmatypes.specs.Rights.{bits_of}
 use Rattle.dmatypes.specs.World.{placed}
 use Rattle.tables.specs.Pool.{memory, IsPool}
-use Rattle.tables.specs.Changes.{TakesAndGivesFrames, MapsPages, MakesTables}
+use Rattle.tables.specs.Changes.{TakesAndGivesFrames, KeepsSpellings, MapsPages, MakesTables}
 use Rattle.tables.specs.Segments.{is_large_at}
 use Rattle.tables.specs.Lacks.{tables_lacking, frames_to_map}
 use Rattle.tables.proofs.mapping.map_pieces.Given as goal
@@ -14,6 +14,7 @@ invariant-loop-piece l = record {
   low : l.first ≤ l.place;
   high : l.place ≤ l.first + total_pages l.segments;
   moves : TakesAndGivesFrames l.initial.pool l.pool l.level l.root [];
+  spelled : KeepsSpellings l.initial.pool l.pool l.level l.root;
   maps : MapsPages l.initial.pool l.pool l.level l.root l.first l.place (placed l.segments l.first (bits_of l.rights));
   count : length l.pool.free + frames_to_map l.initial.pool l.level l.root l.segments l.first
       ≡ length l.initial.pool.free

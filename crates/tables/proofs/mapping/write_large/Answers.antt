@@ -5,7 +5,7 @@ use Rattle.vtdbits.specs.Entry.{look}
 use Rattle.vtdbits.specs.Translation.{target}
 use Rattle.vtdbits.specs.declared.entry.SsEntry.TheVariants.{LargeLeaf}
 use Rattle.dmatypes.specs.Rights.{bits_of}
-use Rattle.tables.specs.Changes.{TakesAndGivesFrames, MapsPages}
+use Rattle.tables.specs.Changes.{TakesAndGivesFrames, KeepsSpellings, MapsPages}
 use Rattle.tables.specs.Pieces.{piece_states}
 use Rattle.tables.specs.Tree.{table_from}
 use Rattle.tables.specs.Pool.{memory}
@@ -29,6 +29,7 @@ written : (c : After-write)
     × MapsPages c.args.pool.now c.write.new.self 2 c.args.table c.args.piece.now.from c.args.piece.now.to (piece_states c.args.piece.now)
     × ((p w : ℕ)
     → table_from (memory c.write.new.self.words) 2 c.args.table p w ≡ table_from (memory c.args.pool.now.words) 2 c.args.table p w)
+    × KeepsSpellings c.args.pool.now c.write.new.self 2 c.args.table
 written c =
     let whole = large_from c.args.piece.now c.requires.large in
     let named : c.unwrap-frame.result ≡ c.args.piece.now.frame = (rw c.unwrap-frame.ensures at c.new.ensures.value) in
@@ -48,6 +49,7 @@ written c =
       subst (λ to. MapsPages c.args.pool.now c.write.new.self 2 c.args.table c.args.piece.now.from to (piece_states c.args.piece.now)) end
           all.1,
       all.2,
+      all.3,
     )
 
 pub returns-clause-moves : goal.returns-clause-moves
@@ -58,3 +60,6 @@ returns-clause-maps c = (written (goal.at.returns-clause-maps c).After-write).1
 
 pub returns-clause-tables : goal.returns-clause-tables
 returns-clause-tables c = (written (goal.at.returns-clause-tables c).After-write).2
+
+pub returns-clause-spelled : goal.returns-clause-spelled
+returns-clause-spelled c = (written (goal.at.returns-clause-spelled c).After-write).3

@@ -8,6 +8,7 @@ use Rattle.tables.proofs.maps.Descending.{absent_below}
 use Rattle.tables.proofs.walks.Levels.{root_in_level, below_level, leaf_level}
 use Rattle.tables.proofs.unmaps.SplitLeaf.{leaves_splitting_below}
 use Rattle.tables.proofs.unmaps.Unmapped.{unmap_through}
+use Rattle.tables.proofs.spelled.UnderEntry.{through_spelled}
 use Rattle.tables.proofs.unmapping.+clear_piece.Goals as goal
 
 deep : (level : ℕ) → (level ≡ 2 → ⊥) → 2 ≤ level → (1 ≤ level - 1) × (1 < level - 1)
@@ -64,6 +65,12 @@ returns-clause-moves t c =
     c.args.from c.args.to (cut_of c.clear_piece.result) (omega arith) (deep c.args.level c.if-level-eq2.false c.requires.low).1
     c.requires.some c.requires.one_span c.requires.tree c.index_of.ensures.inside c.index_of.ensures.exact c.in-Table.ensures.is
     c.clear_piece.ensures.moves c.clear_piece.ensures.unmaps).0
+
+pub returns-clause-spelled : goal.returns-clause-spelled
+returns-clause-spelled t c =
+    through_spelled c.args.pool.now c.clear_piece.new.pool c.args.level (c.args.level - 1) c.args.table c.index_of.result c.in-Table.below
+    (cut_of c.clear_piece.result) (omega arith) c.requires.tree c.index_of.ensures.inside c.in-Table.ensures.is c.clear_piece.ensures.moves
+    c.clear_piece.ensures.spelled
 
 pub returns-clause-unmaps : goal.returns-clause-unmaps
 returns-clause-unmaps t c =

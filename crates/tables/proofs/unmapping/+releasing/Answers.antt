@@ -1,15 +1,15 @@
-use Rattle.std.proofs.Common.{◌≡◌, ℕ, ◌-◌, refl, ap, ◌∙◌, arith, inl, inr}
+use Rattle.std.proofs.Common.{◌≡◌, ◌-◌, ap, ◌∙◌, arith}
 use Rattle.dmatypes.specs.declared.page.TheConstants.{SPAN_PAGES}
 use Rattle.tables.specs.declared.entries.TheConstants.{TABLE_ENTRIES}
-use Rattle.vtdbits.specs.declared.entry.SsEntry.TheVariants.{Absent, Leaf, LargeLeaf}
 use Rattle.tables.specs.Tree.{sum_below, uses}
 use Rattle.tables.specs.Pool.{memory, word, occurs}
 use Rattle.tables.specs.Under.{used_at}
 use Rattle.tables.proofs.sums.OneFrame.{one_if_same-self}
 use Rattle.tables.proofs.walks.Levels.{root_in_level}
 use Rattle.tables.proofs.unmaps.Destroyed.{releasing_start, releasing_more, root_left, taken_left}
-use Rattle.tables.proofs.unmaps.Destroyed.{below_left, uses_level, used_table, used_none}
+use Rattle.tables.proofs.unmaps.Destroyed.{IsFreed, below_left, nothing_freed, table_freed, uses_level}
 use Rattle.tables.proofs.unmapping.+releasing.Goals as goal
+use Rattle.tables.proofs.unmapping.+releasing.Goals.{release_entry-in-Table, release_entry-in_default}
 
 pub release-loop-index-init : goal.release-loop-index-init
 release-loop-index-init t c = releasing_start c.args.pool.now c.args.level c.args.table
@@ -99,52 +99,27 @@ release-returns-clause-others t c f k k_in none =
 
 pub release_entry-write-requires-clause-taken : goal.release_entry-write-requires-clause-taken
 release_entry-write-requires-clause-taken t c =
-    omega (
-      arith,
-      c.release.ensures.free c.args.table,
-      used_table c.args.pool.now c.args.level c.args.table c.args.table c.args.index c.in-Table.below c.in-Table.ensures.is,
-      c.requires.taken,
-    )
+    let freed : IsFreed c.args.pool.now c.match-entry.pool c.args.level c.args.table c.args.index = elim c.match-entry.branch [
+      | release_entry-in-Table w ↦ table_freed _ _ _ _ _ _ _ w.pool-is w.in-Table.ensures.is w.release.ensures.free w.release.ensures.others
+          w.release.ensures.frames
+      | release_entry-in_default w ↦ nothing_freed _ _ _ _ _ _ w.pool-is c.entry.ensures.is w.in_default.not-Table
+    ] in
+    omega (arith, freed.free c.args.table, c.requires.taken)
 
-pub release_entry-returns-in-Table-clause-free : goal.release_entry-returns-in-Table-clause-free
-release_entry-returns-in-Table-clause-free t c f =
-    omega (
-      arith,
-      ap (occurs f) c.write.ensures.free,
-      c.release.ensures.free f,
-      used_table c.args.pool.now c.args.level c.args.table f c.args.index c.in-Table.below c.in-Table.ensures.is,
-    )
-
-pub release_entry-returns-in-Table-clause-row : goal.release_entry-returns-in-Table-clause-row
-release_entry-returns-in-Table-clause-row t c k k_in ne =
-    c.write.ensures.wrote.1 c.args.table k k_in (λ _ e. ne e)
-    ∙ c.release.ensures.others c.args.table k k_in (omega (
-      arith,
-      used_table c.args.pool.now c.args.level c.args.table c.args.table c.args.index c.in-Table.below c.in-Table.ensures.is,
-      c.requires.taken,
-    ))
-
-pub release_entry-returns-in-Table-clause-others : goal.release_entry-returns-in-Table-clause-others
-release_entry-returns-in-Table-clause-others t c f k k_in ne none =
-    c.write.ensures.wrote.1 f k k_in (λ e _. ne e)
-    ∙ c.release.ensures.others f k k_in
-    (omega (arith, used_table c.args.pool.now c.args.level c.args.table f c.args.index c.in-Table.below c.in-Table.ensures.is, none))
-
-pub release_entry-returns-in-Absent : goal.release_entry-returns-in-Absent
-release_entry-returns-in-Absent t c =
-    let unused : (f : ℕ) → used_at c.args.pool.now c.args.level c.args.table f c.args.index ≡ 0 = λ f.
-    elim c.in-Absent.is [
-      | inl e ↦ used_none c.args.pool.now c.args.level c.args.table f c.args.index Absent (c.entry.ensures.is ∙ e) (λ below. refl)
-      | inr (inl (x, e)) ↦
-          used_none c.args.pool.now c.args.level c.args.table f c.args.index (Leaf x) (c.entry.ensures.is ∙ e) (λ below. refl)
-      | inr (inr (x, e)) ↦
-          used_none c.args.pool.now c.args.level c.args.table f c.args.index (LargeLeaf x) (c.entry.ensures.is ∙ e) (λ below. refl)
+pub release_entry-returns : goal.release_entry-returns
+release_entry-returns t c =
+    let freed : IsFreed c.args.pool.now c.match-entry.pool c.args.level c.args.table c.args.index = elim c.match-entry.branch [
+      | release_entry-in-Table w ↦ table_freed _ _ _ _ _ _ _ w.pool-is w.in-Table.ensures.is w.release.ensures.free w.release.ensures.others
+          w.release.ensures.frames
+      | release_entry-in_default w ↦ nothing_freed _ _ _ _ _ _ w.pool-is c.entry.ensures.is w.in_default.not-Table
     ] in
     record {
-      free = λ f. omega (arith, ap (occurs f) c.write-in-Absent.ensures.free, unused f);
-      cleared = c.write-in-Absent.ensures.wrote.0;
-      row = λ k k_in ne. c.write-in-Absent.ensures.wrote.1 c.args.table k k_in (λ _ e. ne e);
-      others = λ f k k_in ne none. c.write-in-Absent.ensures.wrote.1 f k k_in (λ e _. ne e);
-      frames = c.write-in-Absent.ensures.frames;
-      pool = c.write-in-Absent.ensures.pool;
+      free = λ f. ap (occurs f) c.write.ensures.free ∙ freed.free f;
+      cleared = c.write.ensures.wrote.0;
+      row = λ k k_in ne.
+          c.write.ensures.wrote.1 c.args.table k k_in (λ _ e. ne e)
+          ∙ freed.others c.args.table k k_in (omega (arith, c.requires.taken));
+      others = λ f k k_in ne none. c.write.ensures.wrote.1 f k k_in (λ e _. ne e) ∙ freed.others f k k_in none;
+      frames = c.write.ensures.frames ∙ freed.frames;
+      pool = c.write.ensures.pool;
     }

@@ -9,6 +9,7 @@ use Rattle.tables.proofs.sums.OneFrame.{one_if_same-self}
 use Rattle.tables.proofs.unmaps.SplitLeaf.{leaf_stays, spells_leaf, splits}
 use Rattle.tables.proofs.unmaps.UnderEntry.{root_in, root_taken, under_moves}
 use Rattle.tables.proofs.walks.Onward.{index_lt}
+use Rattle.tables.proofs.spelled.Runs.{split_spelled}
 use Rattle.tables.proofs.unmapping.split.Goals as goal
 
 pub write_run-requires-clause-taken : goal.write_run-requires-clause-taken
@@ -61,3 +62,8 @@ pub returns-clause-moves : goal.returns-clause-moves
 returns-clause-moves c =
     under_moves c.args.pool.now c.link.new.pool 1 c.args.table (index_in 1 c.args.page) [] c.requires.tree (index_lt 1 c.args.page)
     (returns-clause-split c).under
+
+pub returns-clause-spelled : goal.returns-clause-spelled
+returns-clause-spelled c =
+    split_spelled c.args.pool.now c.link.new.pool c.args.table (index_in 1 c.args.page) c.args.page c.take-below.result c.args.leaf
+    c.requires.tree (index_lt 1 c.args.page) (returns-clause-split c)

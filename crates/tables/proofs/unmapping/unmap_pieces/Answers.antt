@@ -67,6 +67,7 @@ loop-place-init c = record {
   moves =
       subst (λ xs. TakesAndGivesFrames c.args.pool.now c.args.pool.now c.args.level c.args.root xs) (sym c.none-cut.ensures.frames)
       (no_moves c.args.pool.now c.args.level c.args.root);
+  spelled = λ s. s;
   unmaps =
       subst (λ xs. UnmapsPages c.args.pool.now c.args.pool.now c.args.level c.args.root c.args.from c.args.from xs)
       (sym c.none-cut.ensures.frames) (no_unmaps c.args.pool.now c.args.level c.args.root c.args.from);
@@ -160,6 +161,7 @@ loop-place-preserved c =
           subst (λ xs. TakesAndGivesFrames c.args.pool.now new c.args.level c.args.root xs) (sym joined)
           (moves_then c.args.pool.now cur new c.args.level c.args.root cut more c.loop-place.invariant.moves
           c.clear_piece-cleared.ensures.moves);
+      spelled = λ s. c.clear_piece-cleared.ensures.spelled (c.loop-place.invariant.spelled s);
       unmaps = subst (λ xs. UnmapsPages c.args.pool.now new c.args.level c.args.root c.args.from next xs) (sym joined)
           (unmaps_then c.args.pool.now cur new c.args.level c.args.root c.args.from c.loop-place.place next cut more
           c.loop-place.invariant.low one.0

@@ -1,7 +1,7 @@
 use Rattle.std.proofs.Common.{◌≡◌, ◌+◌, ◌-◌, ◌*◌, ◌%◌, ◌<◌, ◌≤◌, ◌⊎◌, length, true, false}
 use Rattle.dmatypes.specs.declared.page.TheConstants.{SPAN_PAGES}
 use Rattle.tables.specs.Pool.{IsPool}
-use Rattle.tables.specs.Changes.{TakesAndGivesFrames, UnmapsPages}
+use Rattle.tables.specs.Changes.{TakesAndGivesFrames, KeepsSpellings, UnmapsPages}
 use Rattle.tables.proofs.sums.OverSpans.{split_so_far}
 use Rattle.tables.proofs.unmapping.unmap_pieces.Given as goal
 
@@ -11,6 +11,7 @@ invariant-loop-place l = record {
   high : l.place ≤ l.to;
   edge : (l.place % SPAN_PAGES ≡ 0) ⊎ ((l.place ≡ l.from) ⊎ (l.place ≡ l.to));
   moves : TakesAndGivesFrames l.initial.pool l.pool l.level l.root l.cut.frames;
+  spelled : KeepsSpellings l.initial.pool l.pool l.level l.root;
   unmaps : UnmapsPages l.initial.pool l.pool l.level l.root l.from l.place l.cut.frames;
   room : SPAN_PAGES * length l.cut.frames ≤ l.place - l.from;
   count : length l.pool.free + split_so_far l.initial.pool l.level l.root l.from l.to l.place ≡ length l.initial.pool.free;

@@ -73,6 +73,7 @@ does c =
             frames = c.in-Ok.ensures.size;
           };
       empty = c.in-Ok.ensures.empty;
+      spelled = c.in-Ok.ensures.spelled;
       frames = c.in-Ok.ensures.frames;
       pool = c.in-Ok.ensures.pool;
     } in

@@ -3,6 +3,7 @@ use Rattle.tables.specs.Pool.{memory}
 use Rattle.tables.proofs.pools.Fresh.{fresh_root, uses-root}
 use Rattle.tables.proofs.walks.Onward.{leaf_zeroed, table_zeroed}
 use Rattle.tables.proofs.walks.Words.{zeroed_bare}
+use Rattle.tables.proofs.spelled.Stays.{zeroed_spelled}
 use Rattle.tables.proofs.trees.Tree.new.Goals as goal
 
 pub returns-clause-tree : goal.returns-clause-tree
@@ -25,3 +26,6 @@ pub returns-clause-frames : goal.returns-clause-frames
 returns-clause-frames c f =
     uses-root (memory c.take.new.self.words) c.args.width c.take.result f
     (zeroed_bare c.take.new.self.words c.take.result c.take.ensures.zeroed)
+
+pub returns-clause-spelled : goal.returns-clause-spelled
+returns-clause-spelled c = zeroed_spelled c.take.new.self.words (levels c.args.width) c.take.result c.take.ensures.zeroed
