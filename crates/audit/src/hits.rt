@@ -2,7 +2,7 @@
 
 ghost use Rattle.manager.specs.Kept.{IsNamedBy};
 
-use crate::judge::Judge;
+use checker::Checker;
 use dmatypes::{Access, Call, Event, Mode, PAGE_BYTES, Reply, Whim, Width};
 use manager::*;
 use std::alloc::{AllocError, Global};
@@ -11,6 +11,8 @@ use std::process::Abort;
 use std::sync::Wait;
 use std::test::Fail;
 use std::thread::{Threads, join};
+
+const TABLE_FRAMES: u64 = 64;
 
 // How many rounds a device goes, and how many calls a driver makes.
 const ROUNDS: u64 = 400;
@@ -98,15 +100,7 @@ impl<B: Owner> Device<B> {
 
     // One read through the unit's caches, which is remembered.
     fn request<R: Wait>(&mut self, rt: &R, manager: &Manager<B>, rows: &Rows<B>, address: u64) {
-        let request = Call::Dma {
-            device: self.notes.device,
-            address,
-            access: Access::Read,
-            whim: Whim {
-                look: true,
-                fill: true,
-            },
-        };
+        let request = read_of(self.notes.device, address);
         let _ = manager.call(rt, rows, &mut self.share, request);
     }
 
@@ -119,6 +113,19 @@ impl<B: Owner> Device<B> {
             self.hit(rows, address);
         }
         manager.check_in(rt, rows, &mut self.share, &mut self.port);
+    }
+}
+
+// A read through the unit's caches, which is remembered.
+fn read_of(device: u64, address: u64) -> Call {
+    Call::Dma {
+        device,
+        address,
+        access: Access::Read,
+        whim: Whim {
+            look: true,
+            fill: true,
+        },
     }
 }
 
@@ -178,7 +185,7 @@ fn read_beside<B: Owner, R: Wait>(
 
 #[test]
 fn hits_stand_in_the_history(rt: HostRuntime) -> Result<(), Fail> {
-    let config = Config::new(64, 8 * ROUNDS, 4).ok_or("within the limits")?;
+    let config = Config::new(TABLE_FRAMES, 8 * ROUNDS, 4).ok_or("within the limits")?;
     let seed = Seed::new(rt.alloc(), config)?;
     audited::<Brand, _>(&rt, rt.alloc(), seed)
 }
@@ -282,7 +289,7 @@ fn device_of<B: Owner>(alloc: Global, number: u64, port: Port<B>, share: Share<B
 }
 
 // Whether each host address that a device's port answered is allowed after some front of the events, which is no shorter
-// than the count that came with the answer, and no longer than that of the port's next answer.
+// than the count that came with the answer, and no longer than that of the port's next answer; and these events are legal.
 fn are_allowed(
     alloc: Global,
     events: &[Event],
@@ -292,17 +299,16 @@ fn are_allowed(
     let mut front = Front {
         events,
         seen: 0,
-        judge: Judge::new(alloc),
+        checker: Checker::new(alloc, TABLE_FRAMES),
     };
     for (place, hit) in hits.iter().enumerate() {
         let most = match hits.get(place + 1) {
             Some(next) => next.count,
             None => events.len() as u64,
         };
-        if hit.count > events.len() as u64 {
+        if hit.count > events.len() as u64 || !front.go_to(hit.count)? {
             return Ok(false);
         }
-        front.go_to(hit.count)?;
         if let Some(host) = hit.host {
             if !front.comes_to(device, hit.address, host, most)? {
                 return Ok(false);
@@ -312,24 +318,26 @@ fn are_allowed(
     Ok(true)
 }
 
-// A front of the events, and the judge that has seen it.
+// A front of the events, and the world that it leads to.
 #[derive(Drop)]
 struct Front<'a> {
     events: &'a [Event],
     seen: u64,
-    judge: Judge,
+    checker: Checker,
 }
 
 impl Front<'_> {
-    // Goes on to a front of this length.
-    fn go_to(&mut self, length: u64) -> Result<(), AllocError> {
+    // Goes on to a front of this length; whether that is legal.
+    fn go_to(&mut self, length: u64) -> Result<bool, AllocError> {
         for _ in self.seen..length {
             if let Some(event) = self.events.get(self.seen as usize) {
-                self.judge.see(event)?;
+                if !self.checker.judge(&event.call, event.reply)? {
+                    return Ok(false);
+                }
                 self.seen = self.seen.saturating_add(1);
             }
         }
-        Ok(())
+        Ok(true)
     }
 
     // Goes on to the next front at which the read is allowed, no longer than the most; whether there is one.
@@ -340,9 +348,13 @@ impl Front<'_> {
         host: u64,
         most: u64,
     ) -> Result<bool, AllocError> {
+        let read = read_of(device, address);
         for length in self.seen..=most {
-            self.go_to(length)?;
-            if self.judge.allows(device, address, host) {
+            if !self.go_to(length)? {
+                return Ok(false);
+            }
+            // A request leaves the world as it is.
+            if self.checker.judge(&read, Reply::Host(host))? {
                 return Ok(true);
             }
         }
@@ -361,6 +373,10 @@ fn read_at(frame: Option<u64>, count: u64) -> Hit {
 
 // A domain with page 1 mapped to frame 0x800 at the third event, and unmapped at the fourth; the fifth flushes it.
 fn short_history(alloc: Global, mode: Mode) -> Result<Vec<Event>, AllocError> {
+    let released = match mode {
+        Mode::Strict => 0,
+        Mode::Lazy => 1,
+    };
     let mut events = Vec::new(alloc);
     let attach = Call::Attach {
         device: 3,
@@ -382,7 +398,7 @@ fn short_history(alloc: Global, mode: Mode) -> Result<Vec<Event>, AllocError> {
         (attach, Reply::Done),
         (map_of(1, 0x800), Reply::Mapped(PAGE_BYTES)),
         (unmap, Reply::Unmapped(0)),
-        (Call::Flush { domain: 1 }, Reply::Flushed(0)),
+        (Call::Flush { domain: 1 }, Reply::Flushed(released)),
     ] {
         events.push(Event { call, reply })?;
     }

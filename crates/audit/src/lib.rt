@@ -5,5 +5,3 @@
 
 #[cfg(test)]
 mod hits;
-#[cfg(test)]
-mod judge;

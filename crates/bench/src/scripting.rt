@@ -6,12 +6,13 @@ use crate::driver::TABLE_FRAMES;
 use crate::timing::{Tenths, each};
 use crate::trouble::{Trouble, check};
 use manager::Config;
-use script::{Counted, run};
+use script::run;
 use std::alloc::{AllocError, Global};
 use std::io;
 use std::num::NonZeroU32;
 use std::sync::Wait;
 use std::time::{Clock, Instant};
+use streams::Counted;
 
 /// What the lines of a script do.
 #[derive(Clone, Copy)]

@@ -1,2 +1,5 @@
 pub mod Calls
 pub mod Events
+pub mod Lengths
+pub mod Small
+pub mod Written

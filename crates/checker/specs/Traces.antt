@@ -12,6 +12,7 @@ use Rattle.dmatypes.specs.Grammar.{◌>>=◌, says}
 use Rattle.dmatypes.specs.History.{event}
 use Rattle.dmatypes.specs.Replying.{HasSmallNumbers, says_reply}
 use Rattle.dmatypes.specs.Text.{words_of}
+use Rattle.checker.specs.declared.trace.TheConstants.{LONGEST_TRACE_LINE}
 
 -- the reply is entered in histories, as each is but that the history is full
 abbrev pub is_entered : Reply → Bool
@@ -37,7 +38,7 @@ event_at line (suc i) = if nat_le 4 (length (drop i line)) && pointwise nat_eq (
 
 -- the event that a line says, its newline left out
 unfoldable pub event_said : List ℕ → Option Event
-event_said line = position_from (λ b. b == 61) 0 line >>= event_at line
+event_said line = if nat_le (length line) LONGEST_TRACE_LINE then (position_from (λ b. b == 61) 0 line >>= event_at line) else None
 
 -- ---- that is the writing, read back
 

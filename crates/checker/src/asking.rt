@@ -23,7 +23,7 @@ pub(crate) fn is_bad_map(segments: &[Segment], order: u64, rights: u64) -> bool
 }
 
 /// How many pages the segments have together, where these are at most 4,096.
-pub(crate) fn pages_of(segments: &[Segment]) -> Option<u64>
+pub fn pages_of(segments: &[Segment]) -> Option<u64>
     ensures { MatchOption result (MOST_PAGES < total_pages segments.now) (λ n. (n ≡ total_pages segments.now) × (n ≤ MOST_PAGES)) }
 {
     let mut pages = 0;

@@ -66,7 +66,7 @@ impl Checker {
     }
 
     /// The domain that a device is attached to.
-    pub(crate) fn domain_of_device(&self, device: u64) -> Option<u64>
+    pub fn domain_of_device(&self, device: u64) -> Option<u64>
         ensures { result ≡ (world_of self.now).devices device }
     {
         self.devices.get(&device).copied()

@@ -41,7 +41,8 @@ mod ticket;
 mod trace;
 mod verdict;
 
+pub use asking::pages_of;
 pub use checker::Checker;
 pub use page_state::PageState;
-pub use trace::parse_event;
+pub use trace::{LONGEST_TRACE_LINE, parse_event};
 pub use verdict::{Verdict, audit};

@@ -1,52 +1,51 @@
 -- The report at the end of a script.
-use Rattle.std.proofs.Common.{◌≡◌, ◌≢◌, ℕ, List, [], ◌∷◌, ◌++◌, length, Option, Some, None, Result, Ok, Err, refl, sym, ap, subst}
+use Rattle.std.proofs.Common.{◌≡◌, ◌≢◌, ℕ, List, [], ◌++◌, length, Option, Some, None, Result, Ok, Err, refl, sym, ap, subst}
 use Rattle.std.proofs.Common.{◌∙◌, ◌⊎◌, inl, inr, append_assoc}
 use Rattle.std.proofs.lemmas.List.{append-nil}
 use Rattle.dmatypes.specs.declared.call.Call.{Call}
+use Rattle.dmatypes.specs.declared.limits.TheConstants.{LONGEST_LINE}
+use Rattle.dmatypes.specs.Grammar.{says}
 use Rattle.manager.specs.Kept.{Book}
 use Rattle.manager.specs.Report.{report_text}
-use Rattle.script.specs.Bytes.{PutsSome, Sent, SentFront}
 use Rattle.script.specs.Reported.{Concludes, GoneThrough, GoneThroughKnown, IsOf, OutputKnown, ReportedAs, ReportedAsKnown, replies_of}
 use Rattle.script.specs.Reported.{report_of}
-use Rattle.script.specs.Run.{Answers, IsAllSent, RanPartly, RanToBadLine, RanToEnd, RanToFailedRead, ScriptSays, Size, WroteAll, WroteFront}
+use Rattle.script.specs.Run.{IsAllSent, Outcome, RanPartly, RanToBadLine, RanToEnd, RanToFailedRead, Size, WroteAll, WroteFront}
+use Rattle.script.specs.declared.answering.Replies.{Replies}
+use Rattle.script.specs.declared.answering.Replies.TheVariants.{Silent, Traced, Written}
 use Rattle.script.specs.declared.error.RunError.{RunError}
 use Rattle.script.specs.declared.error.RunError.TheVariants as errors
 use Rattle.script.specs.declared.running.Output.{Output}
 use Rattle.script.specs.declared.running.Output.TheVariants as outputs
 use Rattle.script.proofs.Going.{no_memory, run_known}
-use Rattle.script.proofs.Known.{front_with, sent_more}
-use Rattle.script.specs.declared.answering.Replies.{Replies}
-use Rattle.script.specs.declared.answering.Replies.TheVariants.{Silent, Written}
+use Rattle.streams.specs.Bytes.{PutsSome, Sent, SentFront}
+use Rattle.streams.specs.Lines.{ReadPartly}
+use Rattle.streams.proofs.Known.{front_with, sent_more}
+use Rattle.streams.proofs.Reading.{bad_partly, end_partly, failure_partly}
 
--- ---- whole lines at the beginning of the script
+-- ---- a script that was run through in silence
 
--- more bytes follow
-script_more : (bytes : List ℕ) (calls : List Call) (rest more : List ℕ) → ScriptSays bytes calls rest
-    → ScriptSays (bytes ++ more) calls (rest ++ more)
-script_more bytes [] rest more e = ap (λ (b : List ℕ). b ++ more) e
-script_more bytes (call ∷ calls) rest more s =
-    (s.0, s.1 ++ more, ap (λ (b : List ℕ). b ++ more) s.2 ∙ append_assoc s.0 (10 ∷ s.1) more, s.3, script_more s.1 calls rest more s.4)
+abbrev silent_end : (size : Size) (input left shown : List ℕ) → RanToEnd Silent size input left shown → RanToEnd Silent size input left []
+silent_end size input left shown r = record { calls = r.calls; read = r.read; outcome = r.outcome; is_shown = refl }
 
-partly_end : (size : Size) (input left written : List ℕ) → RanToEnd size input left written → RanPartly size input written
-partly_end size input left written r = record { calls = r.calls; rest = []; script = r.script; answers = r.answers }
+abbrev silent_bad : (size : Size) (input left shown : List ℕ) (k : ℕ) → RanToBadLine Silent size input left shown k
+    → RanToBadLine Silent size input left [] k
+silent_bad size input left shown k r = record { calls = r.calls; read = r.read; outcome = r.outcome; is_shown = refl }
 
-partly_bad : (size : Size) (input left written : List ℕ) (k : ℕ) → RanToBadLine size input left written k → RanPartly size input written
-partly_bad size input left written k r = record { calls = r.calls; rest = r.rest; script = r.script; answers = r.answers }
+abbrev silent_read : (size : Size) (input left shown : List ℕ) → RanToFailedRead Silent size input left shown
+    → RanToFailedRead Silent size input left []
+silent_read size input left shown r = record { calls = r.calls; read = r.read; outcome = r.outcome; is_shown = refl }
 
-partly_read : (size : Size) (input left written : List ℕ) → RanToFailedRead size input left written → RanPartly size input written
-partly_read size input left written r = record {
-  calls = r.calls;
-  rest = r.rest ++ left;
-  script = rw r.parts (script_more r.taken r.calls r.rest left r.script);
-  answers = r.answers;
-}
+-- whole lines at the beginning of the script were answered
+abbrev silent_partly : (size : Size) (input : List ℕ) (calls : List Call) → ReadPartly says input calls → Outcome size calls
+    → RanPartly Silent size input []
+silent_partly size input calls read outcome = record { calls = calls; read = read; outcome = outcome; is_shown = refl }
 
 -- ---- what is written
 
--- the report of the answers is that of the history and the state that they come from
-report_is : (book : Book) (size : Size) (calls : List Call) (written : List ℕ) (a : Answers size calls written)
-    → IsOf book size calls written a → report_of size calls written a ≡ report_text (length book.history) book.state
-report_is book size calls written a is = rw (is.history, is.state) refl
+-- the report of where the calls lead is that of the book
+report_is : (book : Book) (size : Size) (calls : List Call) (outcome : Outcome size calls) → IsOf book size calls outcome
+    → report_of size calls outcome ≡ report_text (length book.history) book.state
+report_is book size calls outcome is = rw (is.history, is.state) refl
 
 -- all of it is, behind what was pending
 all_written : (before pending after after' block text : List ℕ) → WroteAll before pending after [] → block ≡ []
@@ -75,42 +74,51 @@ none_written before pending after text w =
 -- ---- the end
 
 -- what is told of the report, or the failure to write it
-ends_so : (U : Type 0) (told : List ℕ → List ℕ) (size : Size) (input left before pending after after' block rest written text : List ℕ)
-    (end result : Result U RunError) (partly : RanPartly size input written) → report_of size partly.calls written partly.answers ≡ text
+ends_so : (U : Type 0) (told : List ℕ → List ℕ) (size : Size) (input left before pending after after' block rest text : List ℕ)
+    (end result : Result U RunError) (partly : RanPartly Silent size input []) → report_of size partly.calls partly.outcome ≡ text
     → WroteAll before pending after [] → block ≡ []
-    → (WroteAll before pending after' (told text) → ReportedAs told size input left before pending after' written end)
+    → (WroteAll before pending after' (told text) → ReportedAs told size input left before pending after' end)
     → (((result ≡ end) × (rest ≡ []) × Sent (Some after) (Some after') block [] (told text))
     ⊎ ((result ≡ Err errors.Write) × SentFront (Some after) (Some after') block (told text)))
-    → ReportedAs told size input left before pending after' written result
-ends_so U told size input left before pending after after' block rest written text end result partly is wrote empty ended (inl h) =
+    → ReportedAs told size input left before pending after' result
+ends_so U told size input left before pending after after' block rest text end result partly is wrote empty ended (inl h) =
     rw h.0 (ended (all_written before pending after after' block (told text) wrote empty h.2))
-ends_so U told size input left before pending after after' block rest written text end result partly is wrote empty ended (inr h) =
+ends_so U told size input left before pending after after' block rest text end result partly is wrote empty ended (inr h) =
     rw h.0 (partly, rw is (front_written before pending after after' block (told text) wrote empty h.1))
 
-concluded : (U : Type 0) (told : List ℕ → List ℕ) (size : Size) (input left before pending after after' block rest written : List ℕ)
-    (book : Book) (end result : Result U RunError) → GoneThrough Silent size input left before pending after written book end
+concluded : (U : Type 0) (told : List ℕ → List ℕ) (size : Size) (input left before pending after after' block rest : List ℕ)
+    (book : Book) (end result : Result U RunError) → GoneThrough Silent size input left before pending after book end
     → IsAllSent block end → end ≢ Err errors.NoMemory
     → Concludes (Some after) (Some after') block rest (told (report_text (length book.history) book.state)) end result
-    → ReportedAs told size input left before pending after' written result
-unfolding partly_end partly_bad partly_read
-concluded U told size input left before pending after after' block rest written book (Ok u) result w empty made c =
-    let is = report_is book size w.1.0.calls written w.1.0.answers w.1.1 in
-    ends_so U told size input left before pending after after' block rest written (report_text (length book.history) book.state) (Ok u)
-    result (partly_end size input left written w.1.0) is w.0 empty (λ all. (w.1.0, rw is all)) c
-concluded U told size input left before pending after after' block rest written book (Err (errors.BadLine k)) result w empty made c =
-    let is = report_is book size w.1.0.calls written w.1.0.answers w.1.1 in
-    ends_so U told size input left before pending after after' block rest written (report_text (length book.history) book.state)
-    (Err (errors.BadLine k)) result (partly_bad size input left written k w.1.0) is w.0 empty (λ all. (w.1.0, rw is all)) c
-concluded U told size input left before pending after after' block rest written book (Err errors.Read) result w empty made c =
-    let is = report_is book size w.1.0.calls written w.1.0.answers w.1.1 in
-    ends_so U told size input left before pending after after' block rest written (report_text (length book.history) book.state)
-    (Err errors.Read) result (partly_read size input left written w.1.0) is w.0 empty (λ all. (w.1.0, rw is all)) c
-concluded U told size input left before pending after after' block rest written book (Err errors.Write) result w empty made c = rw c.0
-    (w.1, rw (same after' after c.1) (none_written before pending after _ w.0)) where
-      same : (a b : List ℕ) → Some a ≡ Some b → a ≡ b
-      same a b e = cc
-concluded U told size input left before pending after after' block rest written book (Err errors.NoMemory) result w empty made c = absurd
-    (made refl)
+    → ReportedAs told size input left before pending after' result
+concluded U told size input left before pending after after' block rest book (Ok u) result w empty made c =
+    let is = report_is book size w.2.0.calls w.2.0.outcome w.2.1 in
+    ends_so U told size input left before pending after after' block rest (report_text (length book.history) book.state) (Ok u) result
+    (silent_partly size input w.2.0.calls (end_partly says input left w.2.0.calls w.2.0.read) w.2.0.outcome) is
+    (subst (WroteAll before pending after) w.2.0.is_shown w.1) empty
+    (λ all. (silent_end size input left w.0 w.2.0, rw is all)) c
+concluded U told size input left before pending after after' block rest book (Err (errors.BadLine k)) result w empty made c =
+    let is = report_is book size w.2.0.calls w.2.0.outcome w.2.1 in
+    ends_so U told size input left before pending after after' block rest (report_text (length book.history) book.state)
+    (Err (errors.BadLine k)) result
+    (silent_partly size input w.2.0.calls (bad_partly says LONGEST_LINE input left w.2.0.calls k w.2.0.read) w.2.0.outcome) is
+    (subst (WroteAll before pending after) w.2.0.is_shown w.1) empty
+    (λ all. (silent_bad size input left w.0 k w.2.0, rw is all)) c
+concluded U told size input left before pending after after' block rest book (Err errors.Read) result w empty made c =
+    let is = report_is book size w.2.0.calls w.2.0.outcome w.2.1 in
+    ends_so U told size input left before pending after after' block rest (report_text (length book.history) book.state)
+    (Err errors.Read) result
+    (silent_partly size input w.2.0.calls (failure_partly says LONGEST_LINE input left w.2.0.calls w.2.0.read) w.2.0.outcome) is
+    (subst (WroteAll before pending after) w.2.0.is_shown w.1) empty
+    (λ all. (silent_read size input left w.0 w.2.0, rw is all)) c
+concluded U told size input left before pending after after' block rest book (Err errors.Write) result w empty made c = rw c.0 (
+  silent_partly size input w.2.calls w.2.read w.2.outcome,
+  rw (same after' after c.1) (none_written before pending after _ (subst (WroteFront before pending after) w.2.is_shown w.1)),
+) where
+  same : (a b : List ℕ) → Some a ≡ Some b → a ≡ b
+  same a b e = cc
+concluded U told size input left before pending after after' block rest book (Err errors.NoMemory) result w empty made c =
+    absurd (made refl)
 
 -- the writer doesn't lose what it holds
 still_known : (U : Type 0) (after : List ℕ) (block rest text : List ℕ) (end result : Result U RunError)
@@ -139,18 +147,19 @@ told_known U told size (Some input) (Some left) (Some before) pending None after
 told_known U told size (Some input) (Some left) (Some before) pending (Some after) None block rest book end result w empty made c =
     absurd (still_known U after block rest _ end result c)
 told_known U told size (Some input) (Some left) (Some before) pending (Some after) (Some after') block rest book end result w empty made
-    c = (w.0, concluded U told size input left before pending after after' block rest w.0 book end result w.1 empty made c)
+    c = concluded U told size input left before pending after after' block rest book end result w empty made c
 
 -- nothing was read and nothing written
 nothing_done : (U : Type 0) (told : List ℕ → List ℕ) (size : Size) (old before : Option (List ℕ)) (pending : List ℕ)
     → ReportedAsKnown {U = U} told size old old before pending before (Err errors.NoMemory)
 nothing_done U told size None before pending = tt
 nothing_done U told size (Some input) None pending = tt
-nothing_done U told size (Some input) (Some from) pending = ([], (refl, refl))
+nothing_done U told size (Some input) (Some from) pending = (refl, refl)
 
 pub nothing_written : (U : Type 0) (output : Output) (size : Size) (old before : Option (List ℕ)) (pending : List ℕ)
     → OutputKnown {U = U} output size old old before pending before (Err errors.NoMemory)
-nothing_written U outputs.Answers size old before pending = no_memory U size old before pending
+nothing_written U outputs.Answers size old before pending = no_memory U Written size old before pending
+nothing_written U outputs.Trace size old before pending = no_memory U Traced size old before pending
 nothing_written U (outputs.Report text) size old before pending = nothing_done U (λ report. report) size old before pending
 nothing_written U (outputs.Map text) size old before pending =
     ([], nothing_done U (λ report. report ++ []) size old before pending)
@@ -232,11 +241,18 @@ pub answers_known : (U : Type 0) (output : Output) (replies : Replies) (size : S
     → replies ≡ replies_of output
     → GoneThroughKnown replies size old left before pending after book result
     → OutputKnown output size old left before pending after result
-answers_known U outputs.Answers Written size old left before pending after book result is so w = run_known U size old left before
-    pending after book result w
-answers_known U outputs.Answers Silent size old left before pending after book result is so w = absurd cc
-answers_known U (outputs.Report text) replies size old left before pending after book result is so w = absurd cc
-answers_known U (outputs.Map text) replies size old left before pending after book result is so w = absurd cc
+answers_known U output replies size old left before pending after book result is so w =
+    rw is (run_known U Written size old left before pending after book result (subst (λ r. GoneThroughKnown r size old left before pending
+    after book result) (so ∙ ap replies_of is) w))
+
+pub trace_known : (U : Type 0) (output : Output) (replies : Replies) (size : Size) (old left before : Option (List ℕ))
+    (pending : List ℕ) (after : Option (List ℕ)) (book : Book) (result : Result U RunError) → output ≡ outputs.Trace
+    → replies ≡ replies_of output
+    → GoneThroughKnown replies size old left before pending after book result
+    → OutputKnown output size old left before pending after result
+trace_known U output replies size old left before pending after book result is so w =
+    rw is (run_known U Traced size old left before pending after book result (subst (λ r. GoneThroughKnown r size old left before pending
+    after book result) (so ∙ ap replies_of is) w))
 
 pub report_known : (U : Type 0) (output : Output) (replies : Replies) (text : List ℕ) (size : Size)
     (old left before : Option (List ℕ)) (pending : List ℕ) (after after' : Option (List ℕ)) (block rest : List ℕ) (book : Book)
@@ -244,15 +260,9 @@ pub report_known : (U : Type 0) (output : Output) (replies : Replies) (text : Li
     → GoneThroughKnown replies size old left before pending after book end → IsAllSent block end → end ≢ Err errors.NoMemory
     → Concludes after after' block rest (report_text (length book.history) book.state) end result
     → OutputKnown output size old left before pending after' result
-report_known U outputs.Answers replies text size old left before pending after after' block rest book end result is so w empty made
-    c = absurd cc
-report_known U (outputs.Map text') replies text size old left before pending after after' block rest book end result is so w empty
-    made c = absurd cc
-report_known U (outputs.Report text') Written text size old left before pending after after' block rest book end result is so w
-    empty made c = absurd cc
-report_known U (outputs.Report text') Silent text size old left before pending after after' block rest book end result is so w
-    empty made c =
-    told_known U (λ report. report) size old left before pending after after' block rest book end result w empty made c
+report_known U output replies text size old left before pending after after' block rest book end result is so w empty made c =
+    rw is (told_known U (λ report. report) size old left before pending after after' block rest book end result
+    (subst (λ r. GoneThroughKnown r size old left before pending after book end) (so ∙ ap replies_of is) w) empty made c)
 
 pub map_known : (U : Type 0) (output : Output) (replies : Replies) (text : List ℕ) (size : Size)
     (old left before : Option (List ℕ)) (pending : List ℕ) (after middle after' : Option (List ℕ)) (block between rest : List ℕ)
@@ -261,16 +271,11 @@ pub map_known : (U : Type 0) (output : Output) (replies : Replies) (text : List 
     → Concludes after middle block between (report_text (length book.history) book.state) end reported
     → ((map : List ℕ) × Concludes middle after' between rest map reported result)
     → OutputKnown output size old left before pending after' result
-map_known U outputs.Answers replies text size old left before pending after middle after' block between rest book end reported result
-    is so w empty made c m = absurd cc
-map_known U (outputs.Report text') replies text size old left before pending after middle after' block between rest book end reported
-    result is so w empty made c m = absurd cc
-map_known U (outputs.Map text') Written text size old left before pending after middle after' block between rest book end reported
-    result is so w empty made c m = absurd cc
-map_known U (outputs.Map text') Silent text size old left before pending after middle after' block between rest book end reported
-    result is so w empty made c m = (
+map_known U output replies text size old left before pending after middle after' block between rest book end reported result is so w
+    empty made c m = rw is (
       m.0,
-      told_known U (λ report. report ++ m.0) size old left before pending after after' block rest book end result w empty made
+      told_known U (λ report. report ++ m.0) size old left before pending after after' block rest book end result
+          (subst (λ r. GoneThroughKnown r size old left before pending after book end) (so ∙ ap replies_of is) w) empty made
           (concludes_both U after middle after' block between rest (report_text (length book.history) book.state) m.0 end reported
           result c m.1),
     )

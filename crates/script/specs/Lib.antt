@@ -1,4 +1,3 @@
-pub mod Streams
-pub mod Bytes
 pub mod Run
 pub mod Reported
+pub mod Traced

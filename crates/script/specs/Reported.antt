@@ -1,86 +1,69 @@
 -- What a report reads and writes.
-use Rattle.std.specs.Prelude.{◌≡◌, ◌↔◌, ◌⊎◌, ℕ, Bool, true, IsErrOf, List, [], ◌++◌, length, Option, Some, None, Result, Ok, Err}
+use Rattle.std.specs.Prelude.{◌≡◌, ◌↔◌, ◌⊎◌, ℕ, Bool, true, IsErrOf, List, [], ◌++◌, length, Option, Result, Ok, Err}
 use Rattle.dmatypes.specs.declared.call.Call.{Call}
 use Rattle.manager.specs.Kept.{Book}
 use Rattle.manager.specs.Report.{report_text}
-use Rattle.script.specs.Bytes.{Sent, SentFront}
-use Rattle.script.specs.Run.{Answers, RanKnown, RanPartly, RanToBadLine, RanToEnd, RanToFailedRead, Size, WroteAll, WroteFront}
+use Rattle.script.specs.Run.{Outcome, RanKnown, RanPartly, RanToBadLine, RanToEnd, RanToFailedRead, Size, WroteAll, WroteFront}
+use Rattle.script.specs.declared.answering.Replies.{Replies}
+use Rattle.script.specs.declared.answering.Replies.TheVariants.{Written, Traced, Silent}
 use Rattle.script.specs.declared.error.RunError.{RunError}
 use Rattle.script.specs.declared.error.RunError.TheVariants as errors
 use Rattle.script.specs.declared.running.Output.{Output}
 use Rattle.script.specs.declared.running.Output.TheVariants as outputs
-use Rattle.script.specs.declared.answering.Replies.{Replies}
-use Rattle.script.specs.declared.answering.Replies.TheVariants.{Written, Silent}
+use Rattle.streams.specs.Bytes.{Sent, SentFront}
+use Rattle.streams.specs.Lines.{IfKnown}
 
--- ---- a script, whether its answers are written or not
+-- ---- a script, and the book that it led to
 
--- what is written of the answers
-abbrev pub shown : Replies → List ℕ → List ℕ
-shown Written text = text
-shown Silent text = []
+-- the calls lead to this history and this state
+pub record IsOf (book : Book) (size : Size) (calls : List Call) (outcome : Outcome size calls) : Type 0 where
+  pub history : outcome.history ≡ book.history
+  pub state : outcome.state ≡ book.state
 
--- the answers come from this history and this state
-pub record IsOf (book : Book) (size : Size) (calls : List Call) (written : List ℕ) (answers : Answers size calls written) : Type 0
-  where
-    pub history : answers.history ≡ book.history
-    pub state : answers.state ≡ book.state
-
--- a script was gone through as by a run, which would answer so, and it led to this history and this state
-abbrev pub GoneThrough : {U : Type 0} → Replies → Size → (input left before pending after written : List ℕ) → Book → Result U RunError
-    → Type 0
-GoneThrough replies size input left before pending after written book (Ok u) =
-    WroteAll before pending after (shown replies written)
-    × ((ran : RanToEnd size input left written) × IsOf book size ran.calls written ran.answers)
-GoneThrough replies size input left before pending after written book (Err (errors.BadLine k)) =
-    WroteAll before pending after (shown replies written)
-    × ((ran : RanToBadLine size input left written k) × IsOf book size ran.calls written ran.answers)
-GoneThrough replies size input left before pending after written book (Err errors.Read) =
-    WroteAll before pending after (shown replies written)
-    × ((ran : RanToFailedRead size input left written) × IsOf book size ran.calls written ran.answers)
-GoneThrough replies size input left before pending after written book (Err errors.Write) =
-    WroteFront before pending after (shown replies written) × RanPartly size input written
-GoneThrough replies size input left before pending after written book (Err errors.NoMemory) =
-    WroteFront before pending after (shown replies written) × RanPartly size input written
+-- a script was run through, and it led to this history and this state
+abbrev pub GoneThrough : {U : Type 0} → Replies → Size → (input left before pending after : List ℕ) → Book → Result U RunError → Type 0
+GoneThrough replies size input left before pending after book (Ok u) = (shown : List ℕ) × WroteAll before pending after shown
+    × ((ran : RanToEnd replies size input left shown) × IsOf book size ran.calls ran.outcome)
+GoneThrough replies size input left before pending after book (Err (errors.BadLine k)) =
+    (shown : List ℕ) × WroteAll before pending after shown
+    × ((ran : RanToBadLine replies size input left shown k) × IsOf book size ran.calls ran.outcome)
+GoneThrough replies size input left before pending after book (Err errors.Read) = (shown : List ℕ) × WroteAll before pending after shown
+    × ((ran : RanToFailedRead replies size input left shown) × IsOf book size ran.calls ran.outcome)
+GoneThrough replies size input left before pending after book (Err errors.Write) =
+    (shown : List ℕ) × WroteFront before pending after shown × RanPartly replies size input shown
+GoneThrough replies size input left before pending after book (Err errors.NoMemory) =
+    (shown : List ℕ) × WroteFront before pending after shown × RanPartly replies size input shown
 
 -- the same where the reader and the writer tell their bytes
 abbrev pub GoneThroughKnown : {U : Type 0} → Replies → Size → (input left before : Option (List ℕ)) → List ℕ → Option (List ℕ) → Book
     → Result U RunError → Type 0
-GoneThroughKnown replies size None left before pending after book result = Unit {0}
-GoneThroughKnown replies size (Some input) None before pending after book result = ⊥
-GoneThroughKnown replies size (Some input) (Some left) None pending after book result = Unit {0}
-GoneThroughKnown replies size (Some input) (Some left) (Some before) pending None book result = ⊥
-GoneThroughKnown replies size (Some input) (Some left) (Some before) pending (Some after) book result =
-    (written : List ℕ) × GoneThrough replies size input left before pending after written book result
+GoneThroughKnown replies size input left before pending after book result =
+    IfKnown input left (λ i l. IfKnown before after (λ b a. GoneThrough replies size i l b pending a book result))
 
 -- ---- a report
 
--- the report of the history and the state that answers come from
-abbrev pub report_of : (size : Size) (calls : List Call) (written : List ℕ) → Answers size calls written → List ℕ
-report_of size calls written answers = report_text (length answers.history) answers.state
+-- the report of the history and the state that calls lead to
+abbrev pub report_of : (size : Size) (calls : List Call) → Outcome size calls → List ℕ
+report_of size calls outcome = report_text (length outcome.history) outcome.state
 
--- a script was gone through as by a run, which would answer so; instead of the answers is written what is told of the report of
--- where they lead, or a beginning of that where a write fails. With no memory nothing was read and nothing is written
-abbrev pub ReportedAs : {U : Type 0} → (List ℕ → List ℕ) → Size → (input left before pending after written : List ℕ) → Result U RunError
-    → Type 0
-ReportedAs told size input left before pending after written (Ok u) =
-    (ran : RanToEnd size input left written) × WroteAll before pending after (told (report_of size ran.calls written ran.answers))
-ReportedAs told size input left before pending after written (Err (errors.BadLine k)) =
-    (ran : RanToBadLine size input left written k) × WroteAll before pending after (told (report_of size ran.calls written ran.answers))
-ReportedAs told size input left before pending after written (Err errors.Read) =
-    (ran : RanToFailedRead size input left written) × WroteAll before pending after (told (report_of size ran.calls written ran.answers))
-ReportedAs told size input left before pending after written (Err errors.Write) =
-    (ran : RanPartly size input written) × WroteFront before pending after (told (report_of size ran.calls written ran.answers))
-ReportedAs told size input left before pending after written (Err errors.NoMemory) = (left ≡ input) × (after ≡ before)
+-- a script was run through in silence, and what is told of the report of where it leads is written, or a beginning of that where a
+-- write fails. With no memory nothing was read and nothing is written
+abbrev pub ReportedAs : {U : Type 0} → (List ℕ → List ℕ) → Size → (input left before pending after : List ℕ) → Result U RunError → Type 0
+ReportedAs told size input left before pending after (Ok u) =
+    (ran : RanToEnd Silent size input left []) × WroteAll before pending after (told (report_of size ran.calls ran.outcome))
+ReportedAs told size input left before pending after (Err (errors.BadLine k)) =
+    (ran : RanToBadLine Silent size input left [] k) × WroteAll before pending after (told (report_of size ran.calls ran.outcome))
+ReportedAs told size input left before pending after (Err errors.Read) =
+    (ran : RanToFailedRead Silent size input left []) × WroteAll before pending after (told (report_of size ran.calls ran.outcome))
+ReportedAs told size input left before pending after (Err errors.Write) =
+    (ran : RanPartly Silent size input []) × WroteFront before pending after (told (report_of size ran.calls ran.outcome))
+ReportedAs told size input left before pending after (Err errors.NoMemory) = (left ≡ input) × (after ≡ before)
 
 -- the same where the reader and the writer tell their bytes
 abbrev pub ReportedAsKnown : {U : Type 0} → (List ℕ → List ℕ) → Size → (input left before : Option (List ℕ)) → List ℕ → Option (List ℕ)
     → Result U RunError → Type 0
-ReportedAsKnown told size None left before pending after result = Unit {0}
-ReportedAsKnown told size (Some input) None before pending after result = ⊥
-ReportedAsKnown told size (Some input) (Some left) None pending after result = Unit {0}
-ReportedAsKnown told size (Some input) (Some left) (Some before) pending None result = ⊥
-ReportedAsKnown told size (Some input) (Some left) (Some before) pending (Some after) result =
-    (written : List ℕ) × ReportedAs told size input left before pending after written result
+ReportedAsKnown told size input left before pending after result =
+    IfKnown input left (λ i l. IfKnown before after (λ b a. ReportedAs told size i l b pending a result))
 
 -- the report alone is told
 abbrev pub ReportedKnown : {U : Type 0} → Size → (input left before : Option (List ℕ)) → List ℕ → Option (List ℕ) → Result U RunError
@@ -103,16 +86,18 @@ Concludes before after block rest text end result =
 
 -- ---- a run or a report
 
--- the answers are written, or the report in their place
+-- what is written of calls: their answers, or their trace, or nothing, where a report comes in its place
 abbrev pub replies_of : Output → Replies
 replies_of outputs.Answers = Written
+replies_of outputs.Trace = Traced
 replies_of (outputs.Report text) = Silent
 replies_of (outputs.Map text) = Silent
 
--- a script was answered, or its report was written, alone or before a map
+-- a script was answered or traced, or its report was written, alone or before a map
 abbrev pub OutputKnown : {U : Type 0} → Output → Size → (input left before : Option (List ℕ)) → List ℕ → Option (List ℕ)
     → Result U RunError → Type 0
-OutputKnown outputs.Answers size input left before pending after result = RanKnown size input left before pending after result
+OutputKnown outputs.Answers size input left before pending after result = RanKnown Written size input left before pending after result
+OutputKnown outputs.Trace size input left before pending after result = RanKnown Traced size input left before pending after result
 OutputKnown (outputs.Report text) size input left before pending after result = ReportedKnown size input left before pending after result
 OutputKnown (outputs.Map text) size input left before pending after result = MappedKnown size input left before pending after result
 
@@ -124,5 +109,6 @@ ReportReaderEnds failed result = (IsErrOf result errors.Read → failed ≡ true
 -- the reader has failed exactly at `Read`; but where a report can't be written, that is the answer in its place
 abbrev pub ReaderEnds : {U : Type 0} → Output → Bool → Result U RunError → Type 0
 ReaderEnds outputs.Answers failed result = (failed ≡ true) ↔ IsErrOf result errors.Read
+ReaderEnds outputs.Trace failed result = (failed ≡ true) ↔ IsErrOf result errors.Read
 ReaderEnds (outputs.Report text) failed result = ReportReaderEnds failed result
 ReaderEnds (outputs.Map text) failed result = ReportReaderEnds failed result

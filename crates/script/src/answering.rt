@@ -1,29 +1,40 @@
 //! The lines of a script and their answers, to the first bad one.
 
-ghost use Rattle.std.specs.Prelude.{◌≡◌, ◌↔◌, ◌≤◌, ◌⊎◌, [], Err, true, false, length, IsErrOf};
+ghost use Rattle.std.specs.Prelude.{◌≡◌, ◌↔◌, ◌≤◌, ◌⊎◌, ◌++◌, [], Err, false, true, length, codes, is_err, is_ok, if◌then◌else◌, IsErrOf};
 ghost use Rattle.std.specs.Io.KnownBytes.{prepend_known};
+ghost use Rattle.dmatypes.specs.declared.limits.TheConstants.{LONGEST_LINE};
+ghost use Rattle.dmatypes.specs.Replying.{HasSmallNumbers};
 ghost use Rattle.manager.specs.Kept.{IsKept};
-ghost use Rattle.script.specs.Bytes.{Sent};
-ghost use Rattle.script.specs.Reported.{GoneThroughKnown, shown};
-ghost use Rattle.script.specs.Run.{AnswersOne, IsAllSent};
+ghost use Rattle.script.specs.Reported.{GoneThroughKnown};
+ghost use Rattle.script.specs.Run.{AnswersOne, IsAllSent, shown_of};
+ghost use Rattle.streams.specs.Bytes.{Sent};
 
-use crate::counted::Stream;
 use crate::error::RunError;
-use crate::lines::{LineEnd, next_line};
-use crate::streams::{Failed, Sink, Source};
 use arrayvec::{ArrayString, ArrayVec};
-use dmatypes::{Call, Refusal, Reply, parse_line, reply_line};
+use checker::LONGEST_TRACE_LINE;
+use dmatypes::{Call, LONGEST_LINE, Refusal, Reply, parse_line, reply_line};
 use manager::{Book, HistoryFull, Owner, Rows, Share};
 use std::sync::Wait;
+use streams::{Failed, LineEnd, Sink, Source, Stream, StreamError, next_line};
 
-/// Whether the answers to a script are written.
+// The bytes between a call and its reply in a trace.
+const ARROW: &[u8] = b" => ";
+
+// A line of a trace, and its newline.
+const TRACE_BYTES: usize = LONGEST_TRACE_LINE + 1;
+
+/// What is written of the calls of a script.
 #[derive(Clone, Copy, Debug, PartialEq, Eq)]
 pub(crate) enum Replies {
+    /// A line for each call: its reply.
     Written,
+    /// A line for each call that was entered: the call as it stands in the script, and its reply.
+    Traced,
+    /// Nothing.
     Silent,
 }
 
-/// Makes the call of each line, to the end or the first bad one, and writes one line for each unless it is to be silent.
+/// Makes the call of each line, to the end or the first bad one, and writes what is to be written of each.
 /// The lock is held from the first to the last.
 pub(crate) fn answer_lines<B: Owner, T: Wait, R: Source, W: Sink>(
     rt: &T,
@@ -47,7 +58,7 @@ pub(crate) fn answer_lines<B: Owner, T: Wait, R: Source, W: Sink>(
     ensures all_sent { IsAllSent writer.new.block result }
     ensures memory { IsErrOf result RunError.NoMemory → ⊥ }
 {
-    let mut line = ArrayVec::new();
+    let mut line = ArrayVec::<u8, LONGEST_LINE>::new();
     let mut text = ArrayString::new();
     let mut number = 1u64;
     // It changes nothing: its contract says what every book keeps, here before the first call.
@@ -58,13 +69,14 @@ pub(crate) fn answer_lines<B: Owner, T: Wait, R: Source, W: Sink>(
             Ok(LineEnd::Nothing) => return Ok(()),
             Ok(LineEnd::Cut) => return Err(RunError::BadLine(number)),
             Ok(LineEnd::Long) => return stop_at(writer, number),
-            Err(error) => return Err(error),
+            Err(StreamError::Read) => return Err(RunError::Read),
+            Err(StreamError::Write) => return Err(RunError::Write),
         }
         let Some(call) = parse_line(line.as_slice()) else {
             return stop_at(writer, number);
         };
-        answer(book, rows, mine, call, &mut text);
-        match writer.put(shown(replies, &text)) {
+        let entered = answer(book, rows, mine, call, &mut text);
+        match show(replies, writer, line.as_slice(), entered, &text) {
             Ok(()) => {}
             Err(Failed) => return Err(RunError::Write),
         }
@@ -86,33 +98,78 @@ fn stop_at<W: Sink>(writer: &mut Stream<W>, number: u64) -> Result<(), RunError>
     }
 }
 
-// One call of the book, and the line of its answer.
+// One call of the book, and the line of its answer; whether it is entered in the history.
 fn answer<B: Owner>(
     book: &mut Book<B>,
     rows: &Rows<B>,
     mine: &mut Share<B>,
     call: Call,
     text: &mut ArrayString<64>,
-)
-    ensures one { AnswersOne B.room book.old book.new call text.new.bytes }
+) -> bool
+    ensures one { AnswersOne B.room book.old book.new call result text.new.bytes }
     ensures kept { IsKept B.frames B.room B.mode book.new }
 {
-    let reply = match book.call(rows, mine, call) {
-        Ok((_, reply)) => reply,
-        Err(HistoryFull) => Reply::Refused(Refusal::HistoryFull),
-    };
+    let answered = book.call(rows, mine, call);
     // The same of the book after the call.
     book.keeps();
-    reply_line(reply, text);
+    match answered {
+        Ok((_, reply)) => {
+            fits(reply);
+            reply_line(reply, text);
+            true
+        }
+        Err(HistoryFull) => {
+            reply_line(Reply::Refused(Refusal::HistoryFull), text);
+            false
+        }
+    }
 }
 
-// What is written of an answer.
-fn shown(replies: Replies, text: &ArrayString<64>) -> &[u8]
-    ensures shown { result.now ≡ shown replies text.now.bytes }
-    ensures short { length result.now ≤ 64 }
+// It does nothing: its contract says that a reply's numbers have 64 bits.
+fn fits(reply: Reply)
+    ensures { HasSmallNumbers reply }
+{
+    match reply {
+        Reply::Ticket { .. } | Reply::Made(_) | Reply::Mapped(_) | Reply::Unmapped(_) => {}
+        Reply::Flushed(_) | Reply::Reaped(_) | Reply::Host(_) => {}
+        Reply::Done | Reply::Stepped(_) | Reply::Pending | Reply::Faulted(_) | Reply::Refused(_) =>
+            {}
+    }
+}
+
+// Puts what is to be written of a call behind what is still to be written.
+fn show<W: Sink>(
+    replies: Replies,
+    writer: &mut Stream<W>,
+    line: &[u8],
+    entered: bool,
+    text: &ArrayString<64>,
+) -> Result<(), Failed>
+    requires short { length line.now ≤ LONGEST_LINE }
+    requires unfailed { W.has_failed writer.old.wrapped ≡ false }
+    ensures sent { Sent (W.contents writer.old.wrapped) (W.contents writer.new.wrapped) writer.old.block writer.new.block
+        (if is_ok result then shown_of replies line.now entered text.now.bytes else []) }
+    ensures failed { W.has_failed writer.new.wrapped ≡ is_err result }
 {
     match replies {
-        Replies::Written => text.as_str().as_bytes(),
-        Replies::Silent => b"",
+        Replies::Written => writer.put(text.as_str().as_bytes()),
+        Replies::Traced if entered => put_event(writer, line, text.as_str().as_bytes()),
+        Replies::Traced | Replies::Silent => writer.put(b""),
     }
+}
+
+// Puts the line of an event.
+fn put_event<W: Sink>(writer: &mut Stream<W>, call: &[u8], reply: &[u8]) -> Result<(), Failed>
+    requires call { length call.now ≤ LONGEST_LINE }
+    requires reply { length reply.now ≤ 64 }
+    requires unfailed { W.has_failed writer.old.wrapped ≡ false }
+    ensures sent { Sent (W.contents writer.old.wrapped) (W.contents writer.new.wrapped) writer.old.block writer.new.block
+        (if is_ok result then call.now ++ codes " => " ++ reply.now else []) }
+    ensures failed { W.has_failed writer.new.wrapped ≡ is_err result }
+{
+    let mut event = ArrayVec::<u8, TRACE_BYTES>::new();
+    event.try_extend_from_slice(call).unwrap();
+    event.try_extend_from_slice(ARROW).unwrap();
+    event.try_extend_from_slice(reply).unwrap();
+    writer.put(event.as_slice())
 }

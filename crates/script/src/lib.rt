@@ -1,7 +1,9 @@
-//! Scripts of calls: a run answers each line of a script on a manager of its own, a report writes what is there at its end.
+//! Scripts of calls: a run answers each line of a script on a manager of its own, a trace is what its calls were and what they were
+//! answered, a report writes what is there at its end.
 //!
 //! ```rust
-//! use script::{Counted, run};
+//! use script::run;
+//! use streams::Counted;
 //!
 //! // `config` is Config::new(64, 65536, 1): a run has one share. `domain 1` is written, and a newline.
 //! let script: &[u8] = b"domain strict\n";
@@ -13,17 +15,12 @@
 #![tactic(auto)]
 
 mod answering;
-mod block;
-mod counted;
 mod error;
-mod lines;
+pub mod laws;
 mod map;
 mod memory;
 mod running;
-mod streams;
-mod wrapped;
 
-pub use counted::Counted;
 pub use error::RunError;
 pub use memory::run_in_memory;
-pub use running::{report, report_with_map, run};
+pub use running::{report, report_with_map, run, trace};

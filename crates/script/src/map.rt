@@ -1,18 +1,17 @@
 //! The map of a manager's address spaces: which runs of their pages are live, retired and free, and the retired records.
 
 ghost use Rattle.std.specs.Prelude.{◌≡◌, ◌↔◌, ◌⊎◌, ℕ, List, [], Err, true, false, is_err, IsErrOf, OnOk};
-ghost use Rattle.script.specs.Bytes.{PutsSome};
+ghost use Rattle.streams.specs.Bytes.{PutsSome};
 ghost use Rattle.script.specs.Reported.{Concludes};
 
-use crate::counted::Stream;
 use crate::error::RunError;
-use crate::streams::{Failed, Sink};
 use arrayvec::ArrayString;
 use dmatypes::{MOST_DOMAINS, MOST_RECORDS, Mode, PAGE_BYTES};
 use engine::{RetiredRecord, State};
 use iova::{Iter, PageState, Piece};
 use std::fmt;
 use std::fmt::Write as _;
+use streams::{Failed, Sink, Stream};
 
 // The most bytes of a line: 100 columns, and the newline.
 const LINE_BYTES: usize = 101;
@@ -41,7 +40,7 @@ pub(crate) fn send_map<W: Sink>(
 }
 
 // The map is written, to its last byte.
-#[tactic(auto, using(crate::proofs::Known::puts_nothing, crate::proofs::Known::puts_more))]
+#[tactic(auto, using(streams::proofs::Known::puts_nothing, streams::proofs::Known::puts_more))]
 fn draw<W: Sink>(writer: &mut Stream<W>, state: &State) -> Result<(), Failed>
     requires { W.has_failed writer.old.wrapped ≡ false }
     ensures put { PutsSome (W.contents writer.old.wrapped) (W.contents writer.new.wrapped) writer.old.block writer.new.block }
@@ -52,7 +51,7 @@ fn draw<W: Sink>(writer: &mut Stream<W>, state: &State) -> Result<(), Failed>
     writer.flush()
 }
 
-#[tactic(auto, using(crate::proofs::Known::puts_nothing, crate::proofs::Known::puts_more))]
+#[tactic(auto, using(streams::proofs::Known::puts_nothing, streams::proofs::Known::puts_more))]
 fn put_domains<W: Sink>(writer: &mut Stream<W>, state: &State) -> Result<(), Failed>
     requires { W.has_failed writer.old.wrapped ≡ false }
     ensures put { PutsSome (W.contents writer.old.wrapped) (W.contents writer.new.wrapped) writer.old.block writer.new.block }
@@ -65,7 +64,7 @@ fn put_domains<W: Sink>(writer: &mut Stream<W>, state: &State) -> Result<(), Fai
 }
 
 // The runs of a domain, and its retired records. None, where there is no such domain.
-#[tactic(auto, using(crate::proofs::Known::puts_nothing, crate::proofs::Known::puts_more))]
+#[tactic(auto, using(streams::proofs::Known::puts_nothing, streams::proofs::Known::puts_more))]
 fn put_domain<W: Sink>(writer: &mut Stream<W>, state: &State, id: u64) -> Result<(), Failed>
     requires { W.has_failed writer.old.wrapped ≡ false }
     ensures put { PutsSome (W.contents writer.old.wrapped) (W.contents writer.new.wrapped) writer.old.block writer.new.block }
@@ -82,7 +81,7 @@ fn put_domain<W: Sink>(writer: &mut Stream<W>, state: &State, id: u64) -> Result
     put_records(writer, state, id)
 }
 
-#[tactic(auto, using(crate::proofs::Known::puts_nothing, crate::proofs::Known::puts_more))]
+#[tactic(auto, using(streams::proofs::Known::puts_nothing, streams::proofs::Known::puts_more))]
 fn put_runs<W: Sink>(writer: &mut Stream<W>, pieces: Iter<'_>) -> Result<(), Failed>
     requires { W.has_failed writer.old.wrapped ≡ false }
     ensures put { PutsSome (W.contents writer.old.wrapped) (W.contents writer.new.wrapped) writer.old.block writer.new.block }
@@ -94,7 +93,7 @@ fn put_runs<W: Sink>(writer: &mut Stream<W>, pieces: Iter<'_>) -> Result<(), Fai
     Ok(())
 }
 
-#[tactic(auto, using(crate::proofs::Known::puts_nothing, crate::proofs::Known::puts_more))]
+#[tactic(auto, using(streams::proofs::Known::puts_nothing, streams::proofs::Known::puts_more))]
 fn put_records<W: Sink>(writer: &mut Stream<W>, state: &State, id: u64) -> Result<(), Failed>
     requires { W.has_failed writer.old.wrapped ≡ false }
     ensures put { PutsSome (W.contents writer.old.wrapped) (W.contents writer.new.wrapped) writer.old.block writer.new.block }

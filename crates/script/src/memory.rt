@@ -2,27 +2,15 @@
 
 ghost use Rattle.std.specs.Prelude.{◌≡◌, List, ℕ, [], Some, true, false, IsErrOf};
 ghost use Rattle.script.specs.Run.{Ran};
+ghost use Rattle.script.specs.declared.answering.Replies.TheVariants.{Written};
 
-use crate::counted::Stream;
 use crate::error::RunError;
 use crate::running::{Output, work};
-use crate::streams::{Sink, Source};
 use manager::Config;
 use std::alloc::Global;
-use std::io::Read;
 use std::sync::Wait;
 use std::{io, mem};
-
-/// No read of bytes in memory fails.
-impl Source for &[u8] {
-    ghost remaining = { λ bytes. Some bytes.now };
-
-    ghost has_failed = { λ _. false };
-
-    fn read(&mut self, bytes: &mut [u8]) -> io::Result<usize> {
-        Read::read(self, bytes)
-    }
-}
+use streams::{Sink, Stream};
 
 /// Bytes in memory, to which more are put, and whether there was no memory for some.
 #[derive(Drop)]
@@ -56,8 +44,8 @@ pub fn run_in_memory<T: Wait>(
     config: Config,
 ) -> Result<(), RunError>
     requires one { config.shares ≡ 1 }
-    ensures written { (left written : List ℕ) × Ran (record { frames = config.frames; room = config.calls; caching = config.caching })
-        script.now left answers.old.items [] answers.new.items written result }
+    ensures written { (left : List ℕ) × Ran Written (record { frames = config.frames; room = config.calls; caching = config.caching })
+        script.now left answers.old.items [] answers.new.items result }
     ensures read { IsErrOf result RunError.Read → ⊥ }
     ensures write { IsErrOf result RunError.Write → ⊥ }
 {

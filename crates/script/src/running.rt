@@ -5,23 +5,25 @@ ghost use Rattle.std.specs.Io.KnownBytes.{prepend_known};
 ghost use Rattle.manager.specs.Kept.{IsNamedBy, new_share};
 ghost use Rattle.script.specs.Reported.{Concludes, MappedKnown, OutputKnown, ReaderEnds, ReportedKnown, replies_of};
 ghost use Rattle.script.specs.Run.{IsAllSent, RanKnown};
+ghost use Rattle.script.specs.declared.answering.Replies.TheVariants.{Traced, Written};
 
 use crate::answering::{Replies, answer_lines};
-use crate::counted::{Counted, Stream};
 use crate::error::RunError;
 use crate::map::send_map;
-use crate::streams::{Failed, Sink, Source};
 use manager::{Config, Made, Manager, Owner, Report, Seed};
 use std::alloc::{AllocError, Global};
 use std::io::{Read, Write};
 use std::marker::Brand;
 use std::sync::Wait;
+use streams::{Counted, Failed, Sink, Source, Stream};
 
 /// What is written for a script.
 #[derive(Drop)]
 pub(crate) enum Output {
     /// A line for each of its lines.
     Answers,
+    /// The trace of what is entered in the history.
+    Trace,
     /// At its end the report of what the manager holds.
     Report(Report),
     /// Behind the report the map of its address spaces.
@@ -44,7 +46,7 @@ pub fn run<T: Wait, R: Read, W: Write>(
     requires one { config.shares ≡ 1 }
     requires reader { reader.old.wrapped.failed ≡ false }
     requires writer { writer.old.wrapped.failed ≡ false }
-    ensures written { RanKnown (record { frames = config.frames; room = config.calls; caching = config.caching })
+    ensures written { RanKnown Written (record { frames = config.frames; room = config.calls; caching = config.caching })
         (prepend_known reader.old.block (R.remaining reader.old.wrapped.inner))
         (prepend_known reader.new.block (R.remaining reader.new.wrapped.inner))
         (W.contents writer.old.wrapped.inner) writer.old.block (W.contents writer.new.wrapped.inner) result }
@@ -55,6 +57,34 @@ pub fn run<T: Wait, R: Read, W: Write>(
     ensures no_memory { IsErrOf result RunError.NoMemory → (reader.new ≡ reader.old) × (writer.new ≡ writer.old) }
 {
     work(rt, alloc, reader, writer, config, Output::Answers)
+}
+
+/// Reads a script as `run` does, and writes the trace of its calls in the place of their answers: for each event of the history a
+/// line that `checker::parse_event` reads as this event, the call as it stands in the script, ` => ` and its reply. Of a call that the
+/// full history refuses nothing is written.
+///
+/// It ends as `run` does.
+pub fn trace<T: Wait, R: Read, W: Write>(
+    rt: &T,
+    alloc: Global,
+    reader: &mut Counted<R>,
+    writer: &mut Counted<W>,
+    config: Config,
+) -> Result<(), RunError>
+    requires one { config.shares ≡ 1 }
+    requires reader { reader.old.wrapped.failed ≡ false }
+    requires writer { writer.old.wrapped.failed ≡ false }
+    ensures written { RanKnown Traced (record { frames = config.frames; room = config.calls; caching = config.caching })
+        (prepend_known reader.old.block (R.remaining reader.old.wrapped.inner))
+        (prepend_known reader.new.block (R.remaining reader.new.wrapped.inner))
+        (W.contents writer.old.wrapped.inner) writer.old.block (W.contents writer.new.wrapped.inner) result }
+    ensures reader { (reader.new.wrapped.failed ≡ true) ↔ IsErrOf result RunError.Read }
+    ensures writer { (writer.new.wrapped.failed ≡ true) ↔ IsErrOf result RunError.Write }
+    ensures used_up { IsErrOf result RunError.Read → reader.new.block ≡ [] }
+    ensures all_sent { IsAllSent writer.new.block result }
+    ensures no_memory { IsErrOf result RunError.NoMemory → (reader.new ≡ reader.old) × (writer.new ≡ writer.old) }
+{
+    work(rt, alloc, reader, writer, config, Output::Trace)
 }
 
 /// Reads a script to its first bad line as `run` does, on a manager of its own, and writes no answers, but at the end the
@@ -220,7 +250,7 @@ fn work_on<B: Owner, T: Wait, R: Source, W: Sink>(
         replies_for(&output),
     );
     match output {
-        Output::Answers => end,
+        Output::Answers | Output::Trace => end,
         Output::Report(mut text) => {
             book.write_report(&mut text);
             send_report(writer, &text, end)
@@ -233,12 +263,13 @@ fn work_on<B: Owner, T: Wait, R: Source, W: Sink>(
     }
 }
 
-// The answers are written, or the report in their place.
+// What is written of the calls.
 fn replies_for(output: &Output) -> Replies
     ensures { result ≡ replies_of output.now }
 {
     match output {
         Output::Answers => Replies::Written,
+        Output::Trace => Replies::Traced,
         Output::Report(_) | Output::Map(_) => Replies::Silent,
     }
 }

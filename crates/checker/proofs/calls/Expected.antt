@@ -12,16 +12,10 @@ use Rattle.dmatypes.specs.Conditions.{NoConditionStands, NoneStands, Stands, Sta
 use Rattle.dmatypes.specs.Page.{IsPageOf, IsWithin, Range}
 use Rattle.dmatypes.specs.Step.{Answers, IsMapAnswer}
 use Rattle.dmatypes.specs.World.{AreFreePages, Domain, IsFree, IsIn, World}
-use Rattle.checker.specs.Allowed.{AreAllowed, AreAllowedIn, IsExpected, IsExpectedAnswer, IsObstacle}
+use Rattle.checker.specs.Allowed.{AreAllowed, AreAllowedIn, IsExpectedAnswer, IsObstacle}
 use Rattle.checker.specs.Judging.{IsAnswer}
 use Rattle.checker.specs.Refusing.{map_conditions}
 use Rattle.checker.proofs.calls.Asked.{some_and_from}
-use Rattle.checker.proofs.calls.Judged.{step_from, step_parts}
-
-pub expected_from : (o : Option Reply) (w : World) (call : Call) → NoConditionStands w call → IsExpectedAnswer w call o
-    → IsExpected w call o
-expected_from None w call none h = λ reply answer small step. h reply small (step_parts w call reply answer step).1
-expected_from (Some reply) w call none h = step_from w call reply h.0 none h.1
 
 -- ---- maps
 

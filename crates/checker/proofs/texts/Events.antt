@@ -1,23 +1,26 @@
 -- The line of an event says this event, and a line says no other.
-use Rattle.std.proofs.Common.{◌≡◌, ℕ, zero, suc, ◌+◌, true, false, cond, List, [], ◌∷◌, ◌++◌, length, take, drop, Some, None}
+use Rattle.std.proofs.Common.{◌≡◌, ℕ, zero, suc, ◌+◌, ◌≤◌, true, false, cond, List, [], ◌∷◌, ◌++◌, length, take, drop, Some, None}
 use Rattle.std.proofs.Common.{refl, sym, ap, ◌∙◌, subst, arith}
 use Rattle.std.specs.Prelude.{◌==◌, ◌&&◌, IsTrue, codes, nat_eq, nat_le}
 use Rattle.std.specs.List.{position_from}
 use Rattle.std.specs.Cmp.Lexicographic.{pointwise, same_text}
 use Rattle.std.proofs.Math.Seq.{drop-append_seam, take-append_seam}
-use Rattle.std.proofs.lemmas.Bool.{and_parts, le-leb}
-use Rattle.std.proofs.lemmas.List.{take-append-drop}
+use Rattle.std.proofs.lemmas.Bool.{and_parts, le-leb, leb-true}
+use Rattle.std.proofs.lemmas.List.{length-append, take-append-drop}
 use Rattle.dmatypes.specs.declared.call.Call.{Call}
 use Rattle.dmatypes.specs.declared.reply.Event.{Event}
 use Rattle.dmatypes.specs.declared.reply.Reply.{Reply}
-use Rattle.dmatypes.specs.Grammar.{says}
+use Rattle.dmatypes.specs.Grammar.{◌>>=◌, says}
 use Rattle.dmatypes.specs.History.{event}
 use Rattle.dmatypes.specs.Replying.{says_reply}
 use Rattle.dmatypes.specs.Text.{words_of}
 use Rattle.dmatypes.proofs.texts.Binding.{same_value, then_some}
 use Rattle.dmatypes.proofs.texts.Replied.{said_is_written, written_is_said}
 use Rattle.checker.specs.Traces.{EventTextIsSaid, SaidIsEventText, both, entered, event_at, event_said, event_text, is_entered}
+use Rattle.checker.specs.declared.trace.TheConstants.{LONGEST_TRACE_LINE}
 use Rattle.checker.proofs.texts.Calls.{HasNoEquals, call_no_equals}
+use Rattle.checker.proofs.texts.Written.{written_short}
+use Rattle.checker.proofs.texts.Lengths.{says_short}
 
 -- ---- the line of an event says it
 
@@ -47,7 +50,13 @@ event_text_is_said front e says_call enters small =
     at_arrow line front back (length front) (take-append_seam front (codes " => " ++ back))
     (drop-append_seam front (codes " => " ++ back)) in
     let read : both front back ≡ Some e = rw (says_call, written_is_said e.reply small, enters) refl in
-    rw place (at ∙ read)
+    let short : length line ≤ LONGEST_TRACE_LINE = omega (
+      arith,
+      says_short front e.call says_call,
+      (written_short e.reply small).0,
+      length-append front (codes " => " ++ back),
+    ) in
+    rw (le-leb (length line) LONGEST_TRACE_LINE short, place) (at ∙ read)
 
 -- ---- a line says no other event
 
@@ -109,4 +118,20 @@ at_place line (suc i) e h =
 pub said_is_event_text : SaidIsEventText
 unfolding event_said
 said_is_event_text line e h =
-    let place = then_some (position_from (λ b. b == 61) 0 line) _ e h in at_place line place.0 e place.2
+    elim (nat_le (length line) LONGEST_TRACE_LINE)
+    as (λ b. cond b (position_from (λ c. c == 61) 0 line >>= event_at line) None ≡ Some e
+    → IsTrue (is_entered e.reply) × (front : List ℕ) × (says front ≡ Some e.call) × (line ≡ event_text front e.reply)) [
+      | true ↦ λ k. let place = then_some (position_from (λ c. c == 61) 0 line) _ e k in at_place line place.0 e place.2
+      | false ↦ λ k. absurd cc
+    ] h
+
+-- a line that says an event is no longer than one may be
+pub event_short : (line : List ℕ) (e : Event) → event_said line ≡ Some e → length line ≤ LONGEST_TRACE_LINE
+unfolding event_said
+event_short line e h =
+    elim (nat_le (length line) LONGEST_TRACE_LINE)
+    as (λ b. nat_le (length line) LONGEST_TRACE_LINE ≡ b
+    → cond b (position_from (λ c. c == 61) 0 line >>= event_at line) None ≡ Some e → length line ≤ LONGEST_TRACE_LINE) [
+      | true ↦ λ is k. leb-true (length line) LONGEST_TRACE_LINE is
+      | false ↦ λ is k. absurd cc
+    ] refl h

@@ -1,5 +1,5 @@
 use Rattle.std.proofs.Common.{[]}
-use Rattle.script.proofs.Known.{puts_more}
+use Rattle.streams.proofs.Known.{puts_more}
 use Rattle.script.proofs.map.draw.Goals as goal
 
 pub returns-clause-put : goal.returns-clause-put

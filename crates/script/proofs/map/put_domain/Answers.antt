@@ -1,4 +1,4 @@
-use Rattle.script.proofs.Known.{puts_more}
+use Rattle.streams.proofs.Known.{puts_more}
 use Rattle.script.proofs.map.put_domain.Goals as goal
 
 pub returns-in_err-put_runs-clause-put : goal.returns-in_err-put_runs-clause-put

@@ -1,5 +1,5 @@
 use Rattle.std.proofs.Common.{rules}
-use Rattle.script.proofs.Known.{puts_more}
+use Rattle.streams.proofs.Known.{puts_more}
 use Rattle.script.proofs.map.put_domains.Goals as goal
 
 pub returns-in_err-put_domain-clause-put : goal.returns-in_err-put_domain-clause-put

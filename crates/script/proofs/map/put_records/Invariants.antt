@@ -1,5 +1,5 @@
 use Rattle.std.proofs.Common.{◌≡◌, false}
-use Rattle.script.specs.Bytes.{PutsSome}
+use Rattle.streams.specs.Bytes.{PutsSome}
 use Rattle.script.proofs.map.put_records.Given as goal
 
 -- some text was put so far, and no write has failed

@@ -1,5 +1,5 @@
 use Rattle.std.proofs.Common.{rules}
-use Rattle.script.proofs.Known.{puts_more}
+use Rattle.streams.proofs.Known.{puts_more}
 use Rattle.script.proofs.map.put_runs.Goals as goal
 
 pub loop-piece-preserved : goal.loop-piece-preserved

@@ -11,7 +11,7 @@ returns-in_default g c = record {
     c.over-writer.ensures.wrapped,
     c.replace.ensures.value,
   ) at c.work-end.ensures.written in
-      (c.work-end.new.reader.block ++ c.work-end.new.reader.wrapped.now, ran.0, rw c.into_wrapped.ensures ran.1);
+      (c.work-end.new.reader.block ++ c.work-end.new.reader.wrapped.now, rw c.into_wrapped.ensures ran);
   read = search rules;
   write = search rules;
 }

@@ -1,7 +1,7 @@
-use Rattle.std.proofs.Common.{◌≡◌, ℕ, ◌<◌, List, [], ◌∷◌, ◌++◌, get_or, length, arith, length-append, refl, ap, subst, ◌∙◌}
+use Rattle.std.proofs.Common.{◌≡◌, ℕ, ◌<◌, List, [], ◌∷◌, ◌++◌, get_or, length, arith, length-append, refl, ap, subst, ◌∙◌, inl, inr}
 use Rattle.std.proofs.Math.Seq.{get_or-append_seam}
 use Rattle.manager.specs.Kept.{Share, new_share}
-use Rattle.script.proofs.Concluding.{answers_known, map_known, nothing_written, report_known}
+use Rattle.script.proofs.Concluding.{answers_known, map_known, nothing_written, report_known, trace_known}
 use Rattle.script.proofs.running.work_on.Goals as goal
 
 -- what all have, the last one has
@@ -27,8 +27,12 @@ returns-in_default-clause-written g c = nothing_written _ c.args.output _ _ _ _
 
 pub returns-in-Answers-clause-written : goal.returns-in-Answers-clause-written
 returns-in-Answers-clause-written g c =
-    answers_known _ c.args.output c.replies_for.result _ _ _ _ _ _ c.answer_lines-end.new.book
-    c.answer_lines-end.result c.in-Answers.is c.replies_for.ensures c.answer_lines-end.ensures.written
+    elim c.in-Answers.is [
+      | inl answers ↦ answers_known _ c.args.output c.replies_for.result _ _ _ _ _ _ c.answer_lines-end.new.book
+          c.answer_lines-end.result answers c.replies_for.ensures c.answer_lines-end.ensures.written
+      | inr trace ↦ trace_known _ c.args.output c.replies_for.result _ _ _ _ _ _ c.answer_lines-end.new.book
+          c.answer_lines-end.result trace c.replies_for.ensures c.answer_lines-end.ensures.written
+    ]
 
 pub returns-clause-written : goal.returns-clause-written
 returns-clause-written g c =
