@@ -1,8 +1,11 @@
 #!/usr/bin/env python3
 r"""Runs the examples by the built program, and compares all that it writes with the stored texts.
 
-Each examples/NAME.script is run, and what is written compared with NAME.output; and what `vtdm report` writes with NAME.report, and
-`vtdm report --iova` with NAME.iova, where there are such files.
+Each examples/NAME.script is run, and what is written compared with NAME.output; it is traced, and the trace is found legal; and what
+`vtdm report` writes is compared with NAME.report, and what `vtdm report --iova` writes with NAME.iova, where there are such files.
+
+Each examples/traces/NAME.trace is checked, and what is written compared with NAME.checked: the status is 0 where that says `legal`, and
+else 4. What the converter makes of NAME.perf is to be NAME.trace.
 
 Each examples/words/NAME.words is a command line. The program is given these words, and SCRIPT at its standard input. Its standard
 output, standard error and status are compared with NAME.output, NAME.errors and NAME.status; where there is no such file, nothing
@@ -21,6 +24,8 @@ import sys
 TOP = os.path.dirname(os.path.dirname(os.path.abspath(__file__)))
 EXAMPLES = f"{TOP}/examples"
 WORDS = f"{EXAMPLES}/words"
+TRACES = f"{EXAMPLES}/traces"
+CONVERTER = f"{TRACES}/perf_to_trace.py"
 VTDM = f"{TOP}/crates/vtdm/out/vtdm"
 # What each command line is given to read. Of it a full history answers the second line otherwise.
 SCRIPT = b"domain strict\ndomain lazy\n"
@@ -53,6 +58,14 @@ def fault_of_script(name, words, wanted):
     return None if ran.stdout == bytes_of(wanted) else f"the program writes {ran.stdout!r}"
 
 
+def fault_where_traced(name):
+    """Why the trace of a script isn't found legal, with as many events as the script has lines, if it isn't."""
+    script = bytes_of(f"{EXAMPLES}/{name}.script")
+    traced = subprocess.run([VTDM, "run", "--trace"], input=script, capture_output=True, timeout=SECONDS).stdout
+    ran = subprocess.run([VTDM, "check"], input=traced, capture_output=True, timeout=SECONDS)
+    return None if ran.stdout == b"legal %d\n" % script.count(b"\n") else f"the check writes {ran.stdout!r}, and {ran.stderr!r}"
+
+
 def faults_of_scripts():
     """Each script's command with its stored text, and why it fails."""
     for name in names_of(EXAMPLES, ".script"):
@@ -60,6 +73,30 @@ def faults_of_scripts():
             path = f"{EXAMPLES}/{name}.{ending}"
             if ending == "output" or os.path.isfile(path):
                 yield path, fault_of_script(name, words, path)
+        yield f"{EXAMPLES}/{name}.script, traced", fault_where_traced(name)
+
+
+def fault_of_trace(name):
+    """Why the program's verdict on a trace isn't the stored one, if it isn't."""
+    verdict = bytes_of(f"{TRACES}/{name}.checked")
+    ran = subprocess.run([VTDM, "check"], input=bytes_of(f"{TRACES}/{name}.trace"), capture_output=True, timeout=SECONDS)
+    if (ran.stdout, ran.stderr) != (verdict, b""):
+        return f"the program writes {ran.stdout!r}, and {ran.stderr!r}"
+    return None if ran.returncode == (0 if verdict.startswith(b"legal ") else 4) else f"the status is {ran.returncode}"
+
+
+def fault_of_conversion(name):
+    """Why the converter doesn't make the stored trace of recorded events, if it doesn't."""
+    ran = subprocess.run([sys.executable, CONVERTER], input=bytes_of(f"{TRACES}/{name}.perf"), capture_output=True, timeout=SECONDS)
+    return None if ran.stdout == bytes_of(f"{TRACES}/{name}.trace") else f"the converter writes {ran.stdout!r}, and {ran.stderr!r}"
+
+
+def faults_of_traces():
+    """Each trace and each recording, and why it fails."""
+    for name in names_of(TRACES, ".trace"):
+        yield f"{TRACES}/{name}.trace", fault_of_trace(name)
+    for name in names_of(TRACES, ".perf"):
+        yield f"{TRACES}/{name}.perf", fault_of_conversion(name)
 
 
 def unescaped(found):
@@ -144,7 +181,7 @@ def main():
     if sys.argv[1:] == ["--store"]:
         store()
     passed = failed = 0
-    for path, fault in [*faults_of_scripts(), *faults_of_words()]:
+    for path, fault in [*faults_of_scripts(), *faults_of_traces(), *faults_of_words()]:
         passed, failed = passed + (fault is None), failed + (fault is not None)
         if fault:
             print(f"{os.path.relpath(path, TOP)}: {fault}")

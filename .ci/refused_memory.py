@@ -35,6 +35,8 @@ OTHER_WAYS = {
     *("getline", "getdelim", "fopen", "fdopen", "open_memstream", "opendir", "getaddrinfo"),
 }
 SCRIPT = b"domain strict\nattach 3 1\nmap 1 0x400 512 9 rw\nunmap 1 0x201000 1\ndma 3 0x202000 r look fill\n"
+TRACE = b"domain lazy => domain 1\nmap 1 0x100 1 0 rw => map 0x1000\nunmap 1 0x1000 1 => unmapped 0\n"
+REUSED = b"map 1 0x200 1 0 rw => map 0x1000\n"
 # An address space of as many KiB is given to a command; and how far they lie apart, from the least one tried on: a page. Past the one
 # in which a program first has room so many more are tried.
 WITHIN = 'ulimit -v "$0" && exec "$@"'
@@ -99,7 +101,10 @@ def lacks_one(run, ample):
 CASES = [
     ("run", [VTDM, "run", *SMALL], SCRIPT, stops),
     ("run of a bad line", [VTDM, "run", *SMALL], SCRIPT + b"drop\n", stops),
+    ("trace", [VTDM, "run", "--trace", *SMALL], SCRIPT, stops),
     ("report", [VTDM, "report", *SMALL], SCRIPT, writes_nothing),
+    ("check of a legal trace", [VTDM, "check"], TRACE, writes_nothing),
+    ("check of another", [VTDM, "check"], TRACE + REUSED, writes_nothing),
     ("help", [VTDM, "run", "--help"], b"", writes_nothing),
     ("bad command line", [VTDM, "run", "--frames", "15"], b"", writes_nothing),
     ("storm", STORM, b"", is_no_storm),

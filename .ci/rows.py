@@ -15,7 +15,8 @@ are numbers, and `{hex 4096*n}` one in hexadecimal. `\\` is a backslash, `\xHH` 
 
 Besides, each run of a script is run again with Caching Mode, but those of RING_ASKED, and is to do the same; each whose domains are
 all strict is run again with entries of each cache evicted between all lines, with Caching Mode and without it, and the answers are
-to be the same; the scripts of CUT are cut at each byte; and each command meets input and output that fail. The last line of this
+to be the same; each is traced, which writes its lines with their answers, and the trace is found legal; the scripts of CUT are cut at
+each byte; and each command that reads a script meets input and output that fail. The last line of this
 script is `N passed, M failed`, a run each."""
 
 import os
@@ -163,6 +164,15 @@ def fault_where_cut(run):
     return None
 
 
+def fault_where_traced(run):
+    """Why the trace of a script isn't its lines with their answers, as far as they are entered, or is found illegal, if it is so."""
+    answers = zip(run.script.splitlines(), answers_of([VTDM, *run.words], run.script).splitlines())
+    events = [b"%s => %s\n" % it for it in answers if it[1] != FULL.encode()]
+    fault = fault_of([VTDM, *run.words, "--trace"], run.script, re.escape(b"".join(events)), run.errors, run.status)
+    frames = [it for option in zip(run.words, run.words[1:]) if option[0] == "--frames" for it in option]
+    return fault or fault_of([VTDM, "check", *frames], b"".join(events), b"legal %d\n" % len(events), b"", 0)
+
+
 def is_evicted(run):
     """Whether evictions are to change no answer: the domains are strict, no line is bad, and the history has room."""
     return run.words[0] == "run" and not (run.status or "--calls" in run.words or UNEVICTED.search(run.script))
@@ -180,6 +190,8 @@ def faults_of(name):
     for number, run in enumerate(runs_of(name), 1):
         for each in with_the_mode(name, number, run):
             yield f"run {number} by {each.words}", each.fault([VTDM])
+            if each.words[0] == "run":
+                yield f"run {number} by {each.words}, traced", fault_where_traced(each)
             if is_evicted(each):
                 yield f"run {number} by {each.words}, with evictions", fault_where_evicted(each, [VTDM])
         if name in CUT and run.words[0] == "run":
@@ -192,7 +204,7 @@ def fault_elsewhere(program, evicts):
     for name in sorted(os.listdir(ROWS)):
         runs = runs_of(name)
         for number, run in enumerate(runs, 1):
-            if any(FULL in it.output for it in runs) or run.errors or {"--calls", "--iova"} & set(run.words):
+            if any(FULL in it.output for it in runs) or run.errors or {"check", "--calls", "--iova"} & set(run.words):
                 continue
             for each in with_the_mode(name, number, run):
                 fault = each.fault(program) or (evicts and is_evicted(each) and fault_where_evicted(each, program))
@@ -210,7 +222,7 @@ def fault_of_end(words, said, **ends):
 def faults_of_ends():
     """Input that can't be read, and output that can't be written, of each command."""
     with open("/dev/full", "wb") as full:
-        for words in (["run"], ["report"], ["report", "--iova"]):
+        for words in (["run"], ["run", "--trace"], ["report"], ["report", "--iova"]):
             folder = os.open(ROWS, os.O_RDONLY)
             yield f"{words}, a folder as input", fault_of_end(words, b"input failed\n", stdin=folder, stdout=subprocess.DEVNULL)
             os.close(folder)

@@ -17,8 +17,11 @@ SCRIPT = b"domain strict\nattach 3 1\nmap 1 0x100 1 0 rw\ndma 3 0x1234 r look fi
 BAD_LINE = b"domain strict\nno line\nattach 3 1\n"
 # A script of several blocks, and of answers that are twice as long.
 LONG_SCRIPT = b"unit\n" * 2_000
-TASKS = (["run"], ["report"], ["report", "--iova"])
+TASKS = (["run"], ["run", "--trace"], ["report"], ["report", "--iova"])
 STORM = ["storm", "--drivers=1", "--devices=1", "--calls=1"]
+# A legal trace, and one whose last event is no step.
+TRACE = b"domain strict => domain 1\nmap 1 0x100 1 0 rw => map 0x1000\n"
+TRACES = (TRACE, TRACE + b"map 1 0x100 1 0 rw => map 0x1000\n")
 # What ends by words on standard error.
 FAULTS = ((["run"], BAD_LINE), (["report"], BAD_LINE), (["run", "--frames", "15"], SCRIPT), (["reports"], SCRIPT),
           (["run", "\x1b"], SCRIPT))
@@ -44,7 +47,11 @@ class Run:
         log = f"{room}/log"
         env = {"LD_PRELOAD": f"{room}/streams.so", "STREAMS_LOG": log, "HITCH": hitch, "PART": str(part)}
         env |= {"BAD_0": str(read), "BAD_1": str(write), "BAD_2": str(error)}
-        ran = subprocess.run([VTDM, *words], input=given, capture_output=True, env=env, timeout=60)
+        # A file: how much of a pipe one read finds depends on who comes first.
+        with open(f"{room}/given", "w+b") as file:
+            file.write(given)
+            file.seek(0)
+            ran = subprocess.run([VTDM, *words], stdin=file, capture_output=True, env=env, timeout=60)
         self.status, self.output, self.said = ran.returncode, ran.stdout, ran.stderr
         with open(log, encoding="ascii") as file:
             self.calls = file.read().split()
@@ -122,7 +129,7 @@ def reads_fail(room):
             output = plain(words, whole_lines(given[: part * (bad - 1)]))[1]
             run = Run(room, words, given, hitch, read=bad, part=part)
             yield (words, part, bad, hitch), (run.status, run.output, run.said) == (1, output, b"input failed\n")
-            yield (words, part, bad, hitch, "stops"), run.stops_at("r", "w" if words == ["run"] else "")
+            yield (words, part, bad, hitch, "stops"), run.stops_at("r", "w" if words[0] == "run" else "")
             if hitch == "failure":
                 untold = Run(room, words, given, read=bad, error=1, part=part)
                 yield (words, part, bad, 1), (untold.status, untold.of("e"), untold.output) == (1, ["e!"], output)
@@ -145,6 +152,23 @@ def writes_go_wrong(room):
             if hitch in TEXT_HITCHES:
                 untold = Run(room, words, given, hitch, read=bad_read, write=bad, error=1, part=part)
                 yield (words, hitch, bad, 1), (untold.status, untold.of("e"), untold.output) == (1, ["e!"], run.output)
+
+
+def verdicts(room):
+    """A trace that moves in small parts has the verdict of one that moves at once. Where a read goes wrong, it has none; where the write
+    of it does, a beginning of it is written, and nothing after."""
+    for trace in TRACES:
+        whole = Run(room, ["check"], trace, part=PART)
+        yield trace, (whole.status, whole.output, whole.said) == plain(["check"], trace)
+        for bad, hitch in itertools.product(range(1, len(whole.of("r")) + 1), ERRORS):
+            run = Run(room, ["check"], trace, hitch, read=bad, part=PART)
+            yield (trace, bad, hitch), (run.status, run.output, run.said) == (1, b"", b"input failed\n")
+            yield (trace, bad, hitch, "stops"), run.stops_at("r", "")
+        for bad, hitch in itertools.product(range(1, len(whole.of("w")) + 1), TEXT_HITCHES):
+            run = Run(room, ["check"], trace, hitch, write=bad, part=PART)
+            is_beginning = run.output != whole.output and whole.output.startswith(run.output)
+            yield (trace, bad, hitch), (run.status, run.said, is_beginning) == (1, b"output failed\n", True)
+            yield (trace, bad, hitch, "stops"), run.stops_at("w", "r")
 
 
 def texts_go_on(room):
@@ -181,7 +205,7 @@ def words_that_are_no_text(room):
         yield (hitch, 1), (untold.status, untold.of("e"), untold.output) == (2, ["e!"], b"")
 
 
-STEPS = (command_lines, options_at_their_limits, parts_of_streams, answers_before_the_next_read, reads_fail, writes_go_wrong,
+STEPS = (command_lines, options_at_their_limits, parts_of_streams, answers_before_the_next_read, reads_fail, writes_go_wrong, verdicts,
          texts_go_on, errors_go_wrong, words_that_are_no_text)
 
 

@@ -8,12 +8,14 @@ pub(crate) const ABOUT: &str =
 pub(crate) const USAGE: &str = "\
 vtdm run [OPTIONS] < SCRIPT
        vtdm report [OPTIONS] < SCRIPT
+       vtdm check [OPTIONS] < TRACE
        vtdm storm --drivers <DRIVERS> --devices <DEVICES> --calls <CALLS>";
 
 pub(crate) const SCRIPT: &str = "\
 A script is read from standard input, one call a line. 'run' answers each line
 by a line on standard output, 'report' answers none and tells at the end what is
-there; 'storm' reads no script. Lines, and what they are answered by:
+there; 'check' reads a trace, and 'storm' nothing. Lines, and what they are
+answered by:
 
   domain M [W]          makes a domain, whose addresses have W bits: 'domain D'
   drop D                ends domain D, to which no device is attached and of
@@ -81,11 +83,15 @@ too. No line is empty, and none is a comment. At the first line that isn't so
 the work stops: standard error says 'line L', the line's number from 1, and the
 lines before it are done.
 
+With --trace a line of a trace is written for each call that is entered in the
+history, in the place of its reply: 'vtdm check --help' explains it.
+
 Exit status: 0 done; 1 input or output failed; 2 a bad line or a bad command
-line; 3 no memory, or, for a storm, no thread. At the start the history asks for
-about 300 bytes for each call that it has room for; where the system gives
-memory only as it is used, it takes them call by call. The table frames are host
-frames 0 and on, and can't be mapped.
+line; 3 no memory, or, for a storm, no thread; 4, for a check, an event that is
+not allowed. At the start the history asks for about 300 bytes for each call
+that it has room for; where the system gives memory only as it is used, it takes
+them call by call. The table frames are host frames 0 and on, and can't be
+mapped.
 
 Examples:
 
@@ -128,6 +134,33 @@ Examples:
 
   printf 'domain lazy\\nattach 3 1\\n' | vtdm report
   vtdm report --calls 100 --iova < script";
+
+pub(crate) const CHECK: &str = "\
+A trace is read from standard input, one event a line: a call and its reply, as
+'vtdm run --help' tells them, with ' => ' between them. 'vtdm run --trace'
+writes such lines; so can whoever logs what another manager did. A trace begins
+in an empty world, of as many table frames as --frames says. The check tells
+whether each reply was allowed, by the model that 'vtdm' is proved to keep to:
+
+  legal 4               all 4 events were allowed
+
+or it stops at the first that wasn't, and tells why: the refusal that is due, or
+what the page was that it rests on, and then the replies that would have been
+allowed: all of them for a device's request, else one:
+
+  line 4: map 0x1000 is not allowed: page 0x1000 of domain 1 is retired, by an
+  unmap of 0x1000 1 behind 0 begun flushes; allowed: map 0x2000
+
+(in one line). A line has at most 600 bytes. It is a bad line where the reply is
+'refused 15', or isn't spelled as 'vtdm run' spells it.
+
+Exit status: 0 legal; 1 input or output failed; 2 a bad line (standard error
+says 'line L', its number) or a bad command line; 3 no memory; 4 not allowed.
+
+Examples:
+
+  vtdm run --trace < script | vtdm check
+  vtdm check --frames 16 < trace";
 
 pub(crate) const STORM: &str = "\
 Drivers, devices and the unit call one manager, each in a thread of its own. No

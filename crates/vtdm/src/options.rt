@@ -3,7 +3,7 @@
 ghost use Rattle.std.specs.Prelude.{◌≡◌, ◌↔◌, IsSome, IfSome};
 ghost use Rattle.manager.specs.Kept.{IsWithinLimits};
 
-use crate::help::{ABOUT, REPORT, SCRIPT, USAGE, VERSION};
+use crate::help::{ABOUT, CHECK, REPORT, SCRIPT, USAGE, VERSION};
 use crate::storming::{StormSize, storm_command, storm_of};
 use clap::{Arg, ArgAction, ArgMatches, Command, value_parser};
 use dmatypes::{LEAST_TABLE_FRAMES, MOST_CALLS, MOST_TABLE_FRAMES};
@@ -12,6 +12,9 @@ use std::alloc::{AllocError, Global};
 
 // The option that asks for the map of the address spaces.
 const IOVA: &str = "iova";
+
+// The option that asks for a trace in the place of answers.
+const TRACE: &str = "trace";
 
 // The option that asks for a unit with Caching Mode.
 const CACHING_MODE: &str = "caching-mode";
@@ -23,6 +26,8 @@ pub(crate) enum Task {
     Script(Answering, Options),
     /// Make calls by many threads.
     Storm(StormSize),
+    /// Judge a trace, from a world with so many table frames on.
+    Check(u64),
 }
 
 /// What the program is to write for a script.
@@ -30,6 +35,8 @@ pub(crate) enum Task {
 pub(crate) enum Answering {
     /// Answer each of its lines.
     Run,
+    /// Write a trace of its calls.
+    Trace,
     /// Tell at its end what the manager holds.
     Report,
     /// The same, and draw its address spaces behind it.
@@ -60,6 +67,7 @@ pub(crate) fn command<'a>(alloc: Global) -> Result<Command<'a>, AllocError> {
         .disable_help_subcommand(true)
         .subcommand(run_command(alloc)?)?
         .subcommand(report_command(alloc)?)?
+        .subcommand(check_command(alloc)?)?
         .subcommand(storm_command(alloc)?)
 }
 
@@ -70,7 +78,8 @@ fn run_command<'a>(alloc: Global) -> Result<Command<'a>, AllocError> {
         .override_usage("vtdm run [OPTIONS] < SCRIPT")
         .arg(frames(alloc))?
         .arg(calls(alloc))?
-        .arg(caching_mode(alloc))
+        .arg(caching_mode(alloc))?
+        .arg(trace(alloc))
 }
 
 fn report_command<'a>(alloc: Global) -> Result<Command<'a>, AllocError> {
@@ -82,6 +91,14 @@ fn report_command<'a>(alloc: Global) -> Result<Command<'a>, AllocError> {
         .arg(calls(alloc))?
         .arg(caching_mode(alloc))?
         .arg(iova(alloc))
+}
+
+fn check_command<'a>(alloc: Global) -> Result<Command<'a>, AllocError> {
+    Command::new(alloc, "check")
+        .about("Judges a trace of calls and replies, of any manager")
+        .after_help(CHECK)
+        .override_usage("vtdm check [OPTIONS] < TRACE")
+        .arg(frames(alloc))
 }
 
 fn frames<'a>(alloc: Global) -> Arg<'a> {
@@ -111,6 +128,13 @@ fn caching_mode<'a>(alloc: Global) -> Arg<'a> {
         .help("The unit may remember absent pages, and maps invalidate")
 }
 
+fn trace<'a>(alloc: Global) -> Arg<'a> {
+    Arg::new(alloc, TRACE)
+        .long(TRACE)
+        .action(ArgAction::SetTrue)
+        .help("Writes a trace, CALL => REPLY, in the place of replies")
+}
+
 fn iova<'a>(alloc: Global) -> Arg<'a> {
     Arg::new(alloc, IOVA)
         .long(IOVA)
@@ -122,10 +146,20 @@ fn iova<'a>(alloc: Global) -> Arg<'a> {
 pub(crate) fn task_of(matches: &ArgMatches) -> Option<Task> {
     let (name, given) = matches.subcommand()?;
     match name {
-        "run" => Some(Task::Script(Answering::Run, options_of(given)?)),
+        "run" => Some(Task::Script(running(given), options_of(given)?)),
         "report" => Some(Task::Script(reporting(given), options_of(given)?)),
         "storm" => Some(Task::Storm(storm_of(given)?)),
+        "check" => Some(Task::Check(given.get_one::<u64>("frames")?)),
         _ => None,
+    }
+}
+
+// Whether a trace is asked for.
+fn running(given: &ArgMatches) -> Answering {
+    if given.get_flag(TRACE) {
+        Answering::Trace
+    } else {
+        Answering::Run
     }
 }
 

@@ -4,16 +4,18 @@ ghost use Rattle.std.specs.Prelude.{◌≡◌};
 ghost use Rattle.vtdm.specs.Statuses.{status_of};
 ghost use Rattle.vtdm.specs.declared.status.End.{End};
 
+use crate::checking::check_trace;
 use crate::options::{Answering, Options, Task, command, config_of, task_of};
 use crate::status::{End, end_of};
 use crate::storming::make_storm;
 use clap::error::ErrorKind;
-use script::{Counted, RunError, report, report_with_map, run};
+use script::{RunError, report, report_with_map, run, trace};
 use std::alloc::Global;
 use std::io;
 use std::io::{Read, Write};
 use std::sync::Wait;
 use std::thread::Threads;
+use streams::Counted;
 
 // The bytes of the longest word that an error repeats (own).
 const LONGEST_WORD: usize = 64;
@@ -56,7 +58,8 @@ fn tell<E: Write>(errors: &mut E, end: End) -> u8
     let _ = match end {
         End::Stopped(error) => writeln!(errors, "{error}"),
         End::NoStorm(error) => writeln!(errors, "{error}"),
-        End::Done | End::BadCommandLine => Ok(()),
+        End::Unchecked(error) => writeln!(errors, "{error}"),
+        End::Done | End::BadCommandLine | End::Illegal => Ok(()),
     };
     end.status()
 }
@@ -126,6 +129,7 @@ fn run_task<T: Wait + Threads + Sync, R: Read + Drop, W: Write + Drop>(
             run_script(rt, alloc, answering, options, input, output)
         }
         Task::Storm(size) => make_storm(rt, alloc, size, &mut output),
+        Task::Check(frames) => check_trace(rt, alloc, frames, input, &mut output),
     }
 }
 
@@ -146,6 +150,7 @@ fn run_script<T: Wait, R: Read + Drop, W: Write + Drop>(
     let mut writer = Counted::new(output);
     end_of(match answering {
         Answering::Run => run(rt, alloc, &mut reader, &mut writer, config),
+        Answering::Trace => trace(rt, alloc, &mut reader, &mut writer, config),
         Answering::Report => report(rt, alloc, &mut reader, &mut writer, config),
         Answering::Map => report_with_map(rt, alloc, &mut reader, &mut writer, config),
     })
