@@ -70,20 +70,17 @@ impl<B: Owner> Device<B> {
         mode: Mode,
         domain: u64,
     ) {
+        let made = Call::Domain {
+            mode,
+            width: Width::W39,
+        };
+        let _ = manager.call(rt, rows, &mut self.share, made);
         let attach = Call::Attach {
             device: self.notes.device,
             domain,
         };
-        for call in [
-            Call::Domain {
-                mode,
-                width: Width::W39,
-            },
-            attach,
-            map_of(domain, 0x800),
-        ] {
-            let _ = manager.call(rt, rows, &mut self.share, call);
-        }
+        let _ = manager.call(rt, rows, &mut self.share, attach);
+        let _ = manager.call(rt, rows, &mut self.share, map_of(domain, 0x800));
         self.request(rt, manager, rows, PAGE_BYTES);
         self.hit(rows, PAGE_BYTES);
     }

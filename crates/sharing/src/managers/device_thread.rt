@@ -60,24 +60,19 @@ fn map_buffer<B: Owner, R: Wait>(
     rows: &Rows<B>,
     mine: &mut Share<B>,
 ) {
+    for _ in 0..2 {
+        let domain = Call::Domain {
+            mode: Mode::Strict,
+            width: Width::W39,
+        };
+        let _ = manager.call(rt, rows, mine, domain);
+    }
     let attach = Call::Attach {
         device: DEVICE,
         domain: 1,
     };
-    for call in [
-        Call::Domain {
-            mode: Mode::Strict,
-            width: Width::W39,
-        },
-        Call::Domain {
-            mode: Mode::Strict,
-            width: Width::W39,
-        },
-        attach,
-        map_of(1, FRAME, PAGES, 1),
-    ] {
-        let _ = manager.call(rt, rows, mine, call);
-    }
+    let _ = manager.call(rt, rows, mine, attach);
+    let _ = manager.call(rt, rows, mine, map_of(1, FRAME, PAGES, 1));
 }
 
 // Reads all over the buffer; whether each read came to where it lies in host memory.
