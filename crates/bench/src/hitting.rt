@@ -63,7 +63,7 @@ fn time_owned<B: Owner + Send + Sync, C: Clock + Wait + Threads + Sync>(
     hits: Hits,
     seed: Seed,
 ) -> Result<Tenths, Trouble>
-    requires { IsNamedBy seed B.name B.parts B.shares B.room B.frames B.mode B.rows }
+    requires { IsNamedBy seed B.name B.parts B.shares B.room B.frames B.mode B.rows B.most }
 {
     let Made {
         manager,

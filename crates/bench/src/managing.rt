@@ -46,7 +46,7 @@ fn time_owned<B: Owner, C: Clock + Wait>(
     attached: bool,
     seed: Seed,
 ) -> Result<Tenths, Trouble>
-    requires { IsNamedBy seed B.name B.parts B.shares B.room B.frames B.mode B.rows }
+    requires { IsNamedBy seed B.name B.parts B.shares B.room B.frames B.mode B.rows B.most }
 {
     let Made {
         manager,

@@ -1,3 +1,4 @@
 pub mod Entering
+pub mod Epochs
 pub mod Starting
 pub mod Shares

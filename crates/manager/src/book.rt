@@ -1,11 +1,11 @@
 //! What lies under a manager's lock: the state, and the history of its calls.
 
-ghost use Rattle.std.specs.Prelude.{◌≡◌, ◌+◌, ◌<◌, ◌≤◌, ◌↔◌, ◌++◌, ◌∷◌, [], length, IsErr, IfOk, OnOk, OnErr, All, sum_by, vec_len};
+ghost use Rattle.std.specs.Prelude.{◌≡◌, ◌+◌, ◌<◌, ◌≤◌, ◌↔◌, ◌++◌, ◌∷◌, [], length, IsErr, IsOk, IfOk, OnOk, OnErr, All, sum_by, vec_len};
 ghost use Rattle.dmatypes.specs.History.{event};
 ghost use Rattle.engine.specs.Steps.{Does};
 ghost use mathlib.Core.List.{IsPrefix};
 ghost use Rattle.dmatypes.specs.History.{after};
-ghost use Rattle.manager.specs.Kept.{AllSaw, Book, IsKept, IsWithinLimits, Share, new_share};
+ghost use Rattle.manager.specs.Kept.{AllSaw, Book, IsKept, IsWithinLimits, Share, end_of, kept_events, new_share, upto};
 ghost use Rattle.ports.specs.Seen.{new_desk};
 ghost use Rattle.ports.specs.Steps.{counter};
 ghost use Rattle.ports.specs.declared.known.OwnStep.TheVariants.{Loaded};
@@ -14,6 +14,7 @@ ghost use Rattle.manager.specs.Report.{report_text};
 
 use crate::config::Config;
 use crate::entering::enter;
+use crate::epoch::{Epoch, TakenElsewhere};
 use crate::manager::History;
 use crate::owner::Owner;
 use crate::port::{Port, Rows};
@@ -24,38 +25,45 @@ use engine::{Answer, State};
 use ports::{Desk, Pass};
 use std::alloc::{AllocError, Global};
 use std::marker::Model;
+use std::mem;
 use std::sync::ledger;
 use std::sync::ledger::Blank;
 
-/// The history has no room left. Nothing was changed, but for what the share has seen.
+/// There is no room left for an event. Nothing was changed, but for what the share has seen.
 #[derive(Clone, Copy, Debug, PartialEq, Eq)]
 pub struct HistoryFull;
 
 /// The state, the history of its calls, and the desk that stores port words and makes the history known. Its type keeps
-/// that the history is legal, that the state fits the world after it, that the history follows states by the state's
-/// methods alone, and that every word in the rows is lawful after it.
+/// that the history is legal, that the events which are kept are its end, that the state fits the world after it, that the
+/// history follows states by the state's methods alone, and that every word in the rows is lawful after it.
 #[derive(Drop)]
 pub struct Book<B: Owner> {
     state: State,
-    history: Vec<Event>,
+    // The end of the history. All of it stands in the desk's, which only contracts see.
+    kept: Vec<Event>,
+    handed: u64,
+    // How long the history is when there is no room left: a number that a call need not add up.
+    end: u64,
     room: u64,
+    most: u64,
     counted: ledger::Book<B>,
     desk: Desk,
 }
 
 impl<B: Owner> Model for Book<B> {
-    ghost use Rattle.std.specs.Prelude.{◌≡◌, ◌≤◌, vec_capacity, vec_len};
-    ghost use Rattle.dmatypes.specs.declared.limits.TheConstants.{MOST_CALLS};
+    ghost use Rattle.std.specs.Prelude.{◌≡◌, ◌+◌, ◌≤◌, drop, length, min, vec_capacity};
+    ghost use Rattle.dmatypes.specs.declared.limits.TheConstants.{CALLS_END};
     ghost use Rattle.manager.specs.Kept.{Book, IsKept};
 
     ghost Value = { Book };
 
-    ghost view = { λ b. record { history = b.history.items; state = b.state; last = b.desk.last } };
+    ghost view = { λ b. record { history = b.desk.history; state = b.state; last = b.desk.last; handed = b.handed } };
 
-    ghost invariant = { λ b. IsKept B.frames B.room B.mode (record { history = b.history.items; state = b.state; last = b.desk.last })
-        × (b.room ≡ B.room) × (B.room ≤ vec_capacity b.history) × (B.room ≤ MOST_CALLS) × (b.counted.total ≡ vec_len b.history)
+    ghost invariant = { λ b. IsKept B.frames B.room B.mode B.most
+        (record { history = b.desk.history; state = b.state; last = b.desk.last; handed = b.handed })
+        × (b.room ≡ B.room) × (B.room ≤ vec_capacity b.kept) × (B.most ≤ CALLS_END) × (b.counted.total ≡ length b.desk.history)
         × (1 ≤ B.shares) × (B.shares ≡ B.parts) × (b.desk.rows ≡ B.rows) × (B.rows.frames ≡ B.frames)
-        × (b.desk.history ≡ b.history.items) };
+        × (b.kept.items ≡ drop b.handed b.desk.history) × (b.most ≡ B.most) × (b.end ≡ min (b.handed + B.room) B.most) };
 }
 
 impl<B: Owner> Book<B> {
@@ -69,23 +77,27 @@ impl<B: Owner> Book<B> {
     ) -> Result<(Book<B>, Vec<Share<B>>), AllocError>
         requires config { IsWithinLimits config.frames config.calls config.shares × (config.shares ≡ B.shares) × (config.calls ≡ B.room)
             × (config.frames ≡ B.frames)
-            × (config.caching ≡ B.mode) }
+            × (config.caching ≡ B.mode)
+            × (config.most ≡ B.most) }
         requires blank { (blank.name ≡ B.name) × (blank.parts ≡ B.parts) × (B.shares ≡ B.parts) }
         requires desk { (desk ≡ new_desk B.rows) × (B.rows.frames ≡ B.frames) }
         requires passes { (vec_len passes ≡ B.shares) × All (λ pass. (pass.rows ≡ B.rows) × (pass.seen ≡ [])) passes.items }
-        ensures book { IfOk result (λ r. r.0.history ≡ []) }
+        ensures book { IfOk result (λ r. (r.0.history ≡ []) × (r.0.handed ≡ 0)) }
         ensures shares { IfOk result (λ r. vec_len r.1 ≡ B.shares) }
         ensures fresh { IfOk result (λ r. All (λ s. s ≡ new_share) r.1.items) }
     {
         let (counted, whole) = blank.open::<B>();
-        let history = Vec::with_capacity(alloc, config.calls() as usize)?;
+        let kept = Vec::with_capacity(alloc, config.calls() as usize)?;
         let shares = cut(alloc, whole, passes)?;
         let state = State::with_caching(alloc, config.frames(), config.is_caching())?;
         Ok((
             Book {
                 state,
-                history,
+                kept,
+                handed: 0,
+                end: config.calls(),
                 room: config.calls(),
+                most: config.most(),
                 counted,
                 desk,
             },
@@ -93,11 +105,19 @@ impl<B: Owner> Book<B> {
         ))
     }
 
-    /// The events so far.
+    /// The events that are kept: all so far, but for those that were handed on.
     pub fn events(&self) -> &[Event]
-        ensures { result.now ≡ self.now.history }
+        ensures events { result.now ≡ kept_events self.now }
+        ensures all { self.now.handed ≡ 0 → result.now ≡ self.now.history }
     {
-        self.history.as_slice()
+        self.kept.as_slice()
+    }
+
+    /// How many events were handed on.
+    pub fn handed(&self) -> u64
+        ensures { result ≡ self.now.handed }
+    {
+        self.handed
     }
 
     /// The state after the events.
@@ -111,12 +131,12 @@ impl<B: Owner> Book<B> {
     pub fn write_report(&self, report: &mut Report)
         ensures { report.new ≡ report_text (length self.now.history) self.now.state }
     {
-        report.tell(self.history.len() as u64, &self.state);
+        report.tell(self.handed + self.kept.len() as u64, &self.state);
     }
 
     /// What a book keeps, as a fact for its caller.
     pub fn keeps(&self)
-        ensures { IsKept B.frames B.room B.mode self.now }
+        ensures { IsKept B.frames B.room B.mode B.most self.now }
     {
         let _ = &self.room;
     }
@@ -127,7 +147,7 @@ impl<B: Owner> Book<B> {
         ensures share { mine.new ≡ mine.old }
         ensures bound { mine.old.calls ≤ length self.old.history }
         ensures alone { B.shares ≡ 1 → length self.old.history ≡ mine.old.calls }
-        ensures kept { IsKept B.frames B.room B.mode self.old }
+        ensures kept { IsKept B.frames B.room B.mode B.most self.old }
     {
         let Book { counted, .. } = self;
         let Share { part, .. } = mine;
@@ -157,12 +177,33 @@ impl<B: Owner> Book<B> {
         ensures port { IsPrefix port.old.seen self.old.history × (port.new.seen ≡ self.old.history) × (port.new.device ≡ port.old.device) }
         ensures did { port.new.did ≡ port.old.did ++ Loaded counter (length self.old.history) ∷ [] }
         ensures same { self.new ≡ self.old }
-        ensures kept { IsKept B.frames B.room B.mode self.new }
+        ensures kept { IsKept B.frames B.room B.mode B.most self.new }
     {
         // It changes nothing: its contract says that the history which both have seen is legal.
         self.keeps();
         self.tell(rows, mine);
         self.meet(rows, port);
+    }
+
+    /// Hands on the events that are kept, in place of those that the epoch had, which are the ones before them, and goes on in its
+    /// room. Nothing else changes. Where events were handed on into another epoch since, nothing changes at all.
+    pub fn hand_on(&mut self, epoch: &mut Epoch<B>) -> Result<(), TakenElsewhere>
+        requires { B.room < B.most }
+        ensures follows { IsOk result ↔ upto epoch.old ≡ self.old.handed }
+        ensures epoch { OnOk result (epoch.new ≡ record { first = self.old.handed; events = kept_events self.old }) }
+        ensures handed { OnOk result (self.new.handed ≡ length self.old.history) }
+        ensures same { (self.new.history ≡ self.old.history) × (self.new.state ≡ self.old.state) × (self.new.last ≡ self.old.last) }
+        ensures elsewhere { OnErr result ((self.new ≡ self.old) × (epoch.new ≡ epoch.old)) }
+        ensures kept { IsKept B.frames B.room B.mode B.most self.new }
+    {
+        if epoch.upto() != self.handed {
+            return Err(TakenElsewhere);
+        }
+        epoch.clear();
+        mem::swap(&mut self.kept, &mut epoch.events);
+        self.handed += epoch.events.len() as u64;
+        self.end = (self.handed + self.room).min(self.most);
+        Ok(())
     }
 
     /// Hands the history out to whoever has all shares.
@@ -172,7 +213,7 @@ impl<B: Owner> Book<B> {
         ensures all { vec_len shares ≡ B.shares }
         ensures counted { length result.history ≡ sum_by (λ s. s.calls) shares.items }
         ensures saw { AllSaw result.history shares.items }
-        ensures kept { IsKept B.frames B.room B.mode result }
+        ensures kept { IsKept B.frames B.room B.mode B.most result }
     {
         let mut book = self;
         let Book { counted, desk, .. } = &mut book;
@@ -182,35 +223,41 @@ impl<B: Owner> Book<B> {
     }
 
     /// Makes a call and enters it; the share has then seen the whole history. The number is the event's place in the history,
-    /// from 1. A refused call is entered too; `HistoryFull` comes exactly where the history has no room left.
+    /// from 1. A refused call is entered too; `HistoryFull` comes exactly where as many events are kept as there is room for, or the
+    /// history has the most in all. Where there is room for all, that is the same.
     pub fn call(
         &mut self,
         rows: &Rows<B>,
         mine: &mut Share<B>,
         call: Call,
     ) -> Result<(u64, Reply), HistoryFull>
-        ensures full { IsErr result ↔ length self.old.history ≡ B.room }
+        ensures full { IsErr result ↔ length self.old.history ≡ end_of B.room B.most self.old }
+        ensures all_kept { B.most ≡ B.room → IsErr result ↔ length self.old.history ≡ B.room }
         ensures unchanged { OnErr result ((self.new ≡ self.old) × (mine.new.calls ≡ mine.old.calls)) }
         ensures seen { IsPrefix mine.old.seen self.new.history × (mine.new.seen ≡ self.new.history) }
         ensures history { IfOk result (λ r. self.new.history ≡ self.old.history ++ event call r.1 ∷ []) }
         ensures number { IfOk result (λ r. r.0 ≡ length self.new.history) }
+        ensures handed { self.new.handed ≡ self.old.handed }
         ensures counted { OnOk result (mine.new.calls ≡ mine.old.calls + 1) }
         ensures does { IfOk result (λ r. Does self.old.state call r.1 self.new.state) }
         ensures last { IfOk result (λ r. IsLastAfter (after B.frames self.old.history) call r.1 self.old.last self.new.last) }
         ensures alone { B.shares ≡ 1 → length self.new.history ≡ mine.new.calls }
         ensures bound { mine.new.calls ≤ length self.new.history }
-        ensures kept { IsKept B.frames B.room B.mode self.new }
+        ensures kept { IsKept B.frames B.room B.mode B.most self.new }
     {
         let Book {
             state,
-            history,
-            room,
+            kept,
+            handed,
+            end,
             counted,
             desk,
+            ..
         } = self;
         let Share { calls, part, pass } = mine;
         counted.audit(part);
-        if history.len() as u64 == *room {
+        let before = *handed + kept.len() as u64;
+        if before == *end {
             desk.tell(&rows.words, pass);
             return Err(HistoryFull);
         }
@@ -219,10 +266,10 @@ impl<B: Owner> Book<B> {
         state.keeps();
         let event = Event { call, reply };
         enter(desk, &rows.words, state, &event, hit);
-        history.push_reserved(event);
+        kept.push_reserved(event);
         desk.tell(&rows.words, pass);
         counted.add(part, 1);
         *calls += 1;
-        Ok((history.len() as u64, reply))
+        Ok((before + 1, reply))
     }
 }

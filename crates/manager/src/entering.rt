@@ -7,7 +7,7 @@ ghost use Rattle.dmatypes.specs.History.{IsLegal, after};
 ghost use Rattle.dmatypes.specs.Page.{IsPage, page_of};
 ghost use Rattle.dmatypes.specs.Step.{IsStep, next};
 ghost use Rattle.dmatypes.specs.World.{World};
-ghost use Rattle.dmatypes.specs.declared.limits.TheConstants.{MOST_CALLS};
+ghost use Rattle.dmatypes.specs.declared.limits.TheConstants.{CALLS_END};
 ghost use Rattle.engine.specs.Hits.{Has, IsHitIn};
 ghost use Rattle.engine.specs.Quarantine.{Quarantine};
 ghost use Rattle.ports.specs.Cleared.{IsCleared, TakesAway};
@@ -27,7 +27,7 @@ use vtdbits::{PortWord, Translation};
 /// with what it hit. The state is the one after the event.
 pub(crate) fn enter(desk: &mut Desk, rows: &Rows, state: &State, event: &Event, hit: Option<Hit>)
     requires rows { desk.old.rows ≡ rows.now }
-    requires room { length desk.old.history < MOST_CALLS }
+    requires room { length desk.old.history < CALLS_END }
     requires legal { IsLegal desk.old.rows.frames (desk.old.history ++ event.now ∷ []) }
     requires lawful { AreLawful (IsLawfulAfter desk.old.rows.frames) desk.old.history desk.old.last }
     requires state { Quarantine state.now (after desk.old.rows.frames (desk.old.history ++ event.now ∷ [])) }

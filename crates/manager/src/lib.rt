@@ -8,7 +8,7 @@
 //! work::<Brand, _>(&rt, rt.alloc(), seed)
 //!
 //! fn work<B: Owner, R: Wait>(rt: &R, alloc: Global, seed: Seed) -> Result<(), AllocError>
-//!     requires { IsNamedBy seed B.name B.parts B.shares B.room B.frames B.mode B.rows }
+//!     requires { IsNamedBy seed B.name B.parts B.shares B.room B.frames B.mode B.rows B.most }
 //! {
 //!     let Made { manager, rows, mut ports, mut shares } = Manager::<B>::new(alloc, seed)?;
 //!     let Some(mut mine) = shares.pop() else { return Ok(()) };
@@ -23,12 +23,15 @@
 //! }
 //! ```
 //!
-//! `Manager::finish` hands the history out to whoever brings all shares.
+//! `Manager::finish` hands the history out to whoever brings all shares. A manager of `Config::handing_on` goes on up to 2^56 calls:
+//! `Manager::hand_on` hands on what it keeps, into an `Epoch` of `Manager::epoch`.
 #![tactic(auto)]
 
 mod book;
 mod config;
 mod entering;
+mod epoch;
+pub mod laws;
 mod manager;
 mod owner;
 mod port;
@@ -38,6 +41,7 @@ mod share;
 
 pub use book::{Book, HistoryFull};
 pub use config::{Config, Seed};
+pub use epoch::{Epoch, TakenElsewhere};
 pub use manager::{History, Made, Manager, SharesOut};
 pub use owner::Owner;
 pub use port::{Port, Rows};

@@ -5,13 +5,15 @@ ghost use Rattle.std.specs.Prelude.{OnOk, OnErr, All, sum_by, vec_len};
 ghost use Rattle.std.specs.Sync.Mutex.{mutex_guard_value};
 ghost use mathlib.Core.List.{IsPrefix};
 ghost use Rattle.dmatypes.specs.History.{IsLegal};
-ghost use Rattle.manager.specs.Kept.{AllSaw, Book, EndsWith, IsKept, IsNamedBy, Share, new_share};
+ghost use Rattle.dmatypes.specs.declared.limits.TheConstants.{MOST_CALLS};
+ghost use Rattle.manager.specs.Kept.{AllSaw, Book, EndsWith, IsEndOf, IsKept, IsNamedBy, Share, kept_events, new_share, upto};
 ghost use Rattle.ports.specs.Seen.{ArePorts, new_port};
 ghost use Rattle.ports.specs.Steps.{counter};
 ghost use Rattle.ports.specs.declared.known.OwnStep.TheVariants.{Loaded};
 
 use crate::book::{Book, HistoryFull};
 use crate::config::Seed;
+use crate::epoch::{Epoch, TakenElsewhere};
 use crate::owner::Owner;
 use crate::port::{Port, Rows};
 use crate::share::Share;
@@ -25,7 +27,8 @@ use std::sync::{Mutex, MutexGuard, Wait};
 pub struct Manager<B: Owner> {
     book: Mutex<Book<B>>,
     shares: u64,
-    ghost all: { shares ≡ B.shares },
+    room: u64,
+    ghost all: { (shares ≡ B.shares) × (room ≡ B.room) × (room ≤ MOST_CALLS) },
 }
 
 /// What a seed becomes: a manager, its port words, the ports of devices 0 to 15 in order, and all its shares.
@@ -59,14 +62,26 @@ impl<B: Owner> Model for History<B> {
 }
 
 impl<B: Owner> History<B> {
-    /// The events, the first of them first.
+    /// The events, the first of them first: all that were not handed on.
     pub fn events(&self) -> &[Event]
-        ensures events { result.now ≡ self.now.history }
-        ensures kept { IsKept B.frames B.room B.mode self.now }
+        ensures events { result.now ≡ kept_events self.now }
+        ensures all { self.now.handed ≡ 0 → result.now ≡ self.now.history }
+        ensures all_kept { B.most ≡ B.room → result.now ≡ self.now.history }
+        ensures kept { IsKept B.frames B.room B.mode B.most self.now }
     {
         // It changes nothing: its contract says what every book keeps.
         self.book.keeps();
         self.book.events()
+    }
+
+    /// How many events were handed on before these.
+    pub fn first(&self) -> u64
+        ensures first { result ≡ self.now.handed }
+        ensures end { IsEndOf (record { first = result; events = kept_events self.now }) self.now.history }
+    {
+        // It changes nothing: its contract says what every book keeps.
+        self.book.keeps();
+        self.book.handed()
     }
 
     /// Tells a port the whole history.
@@ -83,7 +98,7 @@ impl<B: Owner> Manager<B> {
     /// Makes a manager with an empty history, its port words and ports, and its shares: no call was made by one, and none of
     /// the ports and shares has seen anything.
     pub fn new(alloc: Global, seed: Seed) -> Result<Made<B>, AllocError>
-        requires { IsNamedBy seed B.name B.parts B.shares B.room B.frames B.mode B.rows }
+        requires { IsNamedBy seed B.name B.parts B.shares B.room B.frames B.mode B.rows B.most }
         ensures ports { IfOk result (λ m. (vec_len m.ports ≡ 16)
             × ((k : ℕ) → k < 16 → slice_get m.ports.items k ≡ Some (new_port B.rows k))) }
         ensures shares { IfOk result (λ m. vec_len m.shares ≡ B.shares) }
@@ -103,6 +118,7 @@ impl<B: Owner> Manager<B> {
             manager: Manager {
                 book: Mutex::new(book),
                 shares: config.shares(),
+                room: config.calls(),
             },
             rows: Rows {
                 words: rows,
@@ -116,7 +132,7 @@ impl<B: Owner> Manager<B> {
     /// Waits for the lock. The book found there has kept all that a book keeps: its history is legal, and
     /// its state fits the world after it.
     pub fn lock<R: Wait>(&self, rt: &R) -> MutexGuard<'_, Book<B>>
-        ensures { IsKept B.frames B.room B.mode (mutex_guard_value result) }
+        ensures { IsKept B.frames B.room B.mode B.most (mutex_guard_value result) }
     {
         let guard = self.book.lock(rt);
         // What is under the lock has no value in contracts, but its type keeps this at every moment, and here says so.
@@ -125,7 +141,7 @@ impl<B: Owner> Manager<B> {
     }
 
     /// Makes a call under the lock; the share has then seen the whole history, which ends with the call and its reply and
-    /// is as long as the number says. Where it is refused, the history is as long as the room.
+    /// is as long as the number says. Where it is refused, the history is as long as the room, or longer by what was handed on.
     pub fn call<R: Wait>(
         &self,
         rt: &R,
@@ -137,9 +153,12 @@ impl<B: Owner> Manager<B> {
         ensures err { OnErr result (mine.new.calls ≡ mine.old.calls) }
         ensures seen { IsPrefix mine.old.seen mine.new.seen × IsLegal B.frames mine.new.seen }
         ensures entered { IfOk result (λ r. (r.0 ≡ length mine.new.seen) × EndsWith mine.new.seen call r.1) }
-        ensures full { OnErr result (length mine.new.seen ≡ B.room) }
-        ensures number { IfOk result (λ r. (mine.new.calls ≤ r.0) × (r.0 ≤ B.room)) }
-        ensures alone { B.shares ≡ 1 → MatchResult result (λ r. r.0 ≡ mine.new.calls) (λ _. mine.new.calls ≡ B.room) }
+        ensures full { OnErr result (B.room ≤ length mine.new.seen) }
+        ensures all_kept { B.most ≡ B.room → OnErr result (length mine.new.seen ≡ B.room)
+            × IfOk result (λ r. (mine.new.calls ≤ r.0) × (r.0 ≤ B.room))
+            × (B.shares ≡ 1 → MatchResult result (λ r. r.0 ≡ mine.new.calls) (λ _. mine.new.calls ≡ B.room)) }
+        ensures number { IfOk result (λ r. (mine.new.calls ≤ r.0) × (r.0 ≤ B.most)) }
+        ensures alone { B.shares ≡ 1 → MatchResult result (λ r. r.0 ≡ mine.new.calls) (λ _. B.most ≡ B.room → mine.new.calls ≡ B.room) }
     {
         self.book.lock(rt).call(rows, mine, call)
     }
@@ -155,13 +174,48 @@ impl<B: Owner> Manager<B> {
         self.book.lock(rt).check_in(rows, mine, port);
     }
 
+    /// Room for what is handed on, from the beginning of the history on. All of a history goes through one epoch: into a second one
+    /// nothing is handed on once the first has events.
+    pub fn epoch(&self, alloc: Global) -> Result<Epoch<B>, AllocError>
+        ensures { IfOk result (λ e. (e.first ≡ 0) × (e.events ≡ [])) }
+    {
+        Epoch::new(alloc, self.room)
+    }
+
+    /// Hands on the events that are kept, under the lock: the end of the history that the share has then seen, from where the epoch's
+    /// own events end, which it forgets. Then as many calls have room again. Where events were handed on into another epoch since, the
+    /// epoch has none afterwards, and nothing else changes.
+    pub fn hand_on<R: Wait>(
+        &self,
+        rt: &R,
+        rows: &Rows<B>,
+        mine: &mut Share<B>,
+        epoch: &mut Epoch<B>,
+    ) -> Result<(), TakenElsewhere>
+        requires { B.room < B.most }
+        ensures first { epoch.new.first ≡ upto epoch.old }
+        ensures end { OnOk result (IsEndOf epoch.new mine.new.seen) }
+        ensures elsewhere { OnErr result (epoch.new.events ≡ []) }
+        ensures seen { IsPrefix mine.old.seen mine.new.seen × (mine.new.calls ≡ mine.old.calls) }
+        ensures legal { IsLegal B.frames mine.new.seen }
+    {
+        // They are dropped before the lock.
+        epoch.clear();
+        let mut guard = self.book.lock(rt);
+        let book = &mut *guard;
+        // It changes nothing: its contract says that the history which the share has seen is legal.
+        book.keeps();
+        book.tell(rows, mine);
+        book.hand_on(epoch)
+    }
+
     /// Hands the history out to whoever has all shares; with fewer, the manager and the shares come back.
     pub fn finish(self, rows: &Rows<B>, shares: Vec<Share<B>>) -> Result<History<B>, SharesOut<B>>
         ensures out { IsErr result ↔ vec_len shares < B.shares }
         ensures back { IfErr result (λ o. o.shares ≡ shares) }
         ensures counted { IfOk result (λ h. length h.history ≡ sum_by (λ s. s.calls) shares.items) }
         ensures saw { IfOk result (λ h. AllSaw h.history shares.items) }
-        ensures kept { IfOk result (λ h. IsKept B.frames B.room B.mode h) }
+        ensures kept { IfOk result (λ h. IsKept B.frames B.room B.mode B.most h) }
     {
         if (shares.len() as u64) < self.shares {
             return Err(SharesOut {
@@ -169,7 +223,7 @@ impl<B: Owner> Manager<B> {
                 shares,
             });
         }
-        let Manager { book, shares: _ } = self;
+        let Manager { book, .. } = self;
         Ok(book.into_inner().close(rows, shares))
     }
 }

@@ -7,9 +7,9 @@ ghost use Rattle.manager.specs.Kept.{no_rows};
 use std::marker::Brand;
 use std::sync::ledger::Ledger;
 
-/// One manager's numbers: its shares, the room of its history in calls, its table frames; whether its unit has Caching Mode; and its
-/// rows of port words. All work on a manager stands in a function that is generic in its owner, takes its seed, and is called once
-/// with `Brand`.
+/// One manager's numbers: its shares, how many events of its history it keeps at one time, its table frames; whether its unit has
+/// Caching Mode; its rows of port words; and the most events that its history may have. All work on a manager stands in a function
+/// that is generic in its owner, takes its seed, and is called once with `Brand`.
 pub trait Owner: Ledger {
     ghost shares: { ℕ };
 
@@ -20,6 +20,8 @@ pub trait Owner: Ledger {
     ghost mode: { Bool };
 
     ghost rows: { Rows };
+
+    ghost most: { ℕ };
 }
 
 impl Owner for Brand {
@@ -32,4 +34,6 @@ impl Owner for Brand {
     ghost mode = { false };
 
     ghost rows = { no_rows };
+
+    ghost most = { 0 };
 }

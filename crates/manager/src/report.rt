@@ -121,7 +121,7 @@ impl<B: Owner> Manager<B> {
     /// memory is taken before the lock.
     pub fn snapshot<R: Wait>(&self, rt: &R, alloc: Global) -> Result<Report, AllocError>
         ensures { IfOk result
-            (λ r. (book : Book) × IsKept B.frames B.room B.mode book × (r ≡ report_text (length book.history) book.state)) }
+            (λ r. (book : Book) × IsKept B.frames B.room B.mode B.most book × (r ≡ report_text (length book.history) book.state)) }
     {
         let mut report = Report::new(alloc)?;
         self.lock(rt).write_report(&mut report);

@@ -90,7 +90,7 @@ fn tell_manager<B: Owner, R: Wait, W: Write>(
     output: &mut W,
     seed: Seed,
 ) -> io::Result<()>
-    requires { IsNamedBy seed B.name B.parts B.shares B.room B.frames B.mode B.rows }
+    requires { IsNamedBy seed B.name B.parts B.shares B.room B.frames B.mode B.rows B.most }
 {
     let Ok(made) = Manager::<B>::new(alloc, seed) else {
         return tell(output, "manager", Err(AllocError));
@@ -102,6 +102,8 @@ fn tell_manager<B: Owner, R: Wait, W: Write>(
         ..
     } = made;
     tell(output, "manager", Ok(shares.len() as u64))?;
+    let epoch = manager.epoch(alloc);
+    tell(output, "epoch", epoch.map(|epoch| epoch.upto()))?;
     if let Some(mine) = shares.last_mut() {
         let _ = manager.call(
             rt,

@@ -13,7 +13,7 @@ ghost use Rattle.ports.specs.Seen.{emptied_slots};
 use crate::port::{Pass, Port, place};
 use crate::rows::Rows;
 use crate::rule::{Appends, COUNTER, Fills, Hosts, Leaves, Place, SLOTS, Told, Visit};
-use dmatypes::{DEVICES, Event, MOST_CALLS};
+use dmatypes::{CALLS_END, DEVICES, Event};
 use std::marker::{Brand, Model};
 use vtdbits::PortWord;
 
@@ -88,7 +88,7 @@ impl Desk {
     /// Adds an event to the history. All words that the desk last stored are lawful after it.
     pub fn append(&mut self, rows: &Rows, event: &Event)
         requires rows { self.old.rows ≡ rows.now }
-        requires room { length self.old.history < MOST_CALLS }
+        requires room { length self.old.history < CALLS_END }
         requires legal { IsLegal self.old.rows.frames (self.old.history ++ event.now ∷ []) }
         requires lawful { AreLawful (IsLawfulAfter self.old.rows.frames) (self.old.history ++ event.now ∷ []) self.old.last }
         ensures history { self.new.history ≡ self.old.history ++ event.now ∷ [] }
@@ -121,7 +121,7 @@ impl Desk {
 // Adds the event that its type names.
 fn append_as<E: Told>(desk: &mut Place, rows: &Rows, event: &Event)
     requires rows { (desk.old.table_id ≡ rows.now.table) × (desk.old.me.0.frames ≡ rows.now.frames) }
-    requires desk { (desk.old.me.0.is_desk ≡ true) × (length desk.old.me.0.mine.seen < MOST_CALLS) }
+    requires desk { (desk.old.me.0.is_desk ≡ true) × (length desk.old.me.0.mine.seen < CALLS_END) }
     requires legal { IsLegal rows.now.frames (desk.old.me.0.mine.seen ++ E.event ∷ []) }
     requires lawful { AreLawful (IsLawfulAfter rows.now.frames) (desk.old.me.0.mine.seen ++ E.event ∷ []) desk.old.me.0.last }
     ensures { (desk.new.table_id ≡ desk.old.table_id)

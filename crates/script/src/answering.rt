@@ -106,8 +106,10 @@ fn answer<B: Owner>(
     call: Call,
     text: &mut ArrayString<64>,
 ) -> bool
+    requires { book.old.handed ≡ 0 }
     ensures one { AnswersOne B.room book.old book.new call result text.new.bytes }
-    ensures kept { IsKept B.frames B.room B.mode book.new }
+    ensures handed { book.new.handed ≡ 0 }
+    ensures kept { IsKept B.frames B.room B.mode B.most book.new }
 {
     let answered = book.call(rows, mine, call);
     // The same of the book after the call.

@@ -15,6 +15,7 @@ use std::thread::{Threads, join};
 mod device_thread;
 mod emptied;
 mod full;
+mod handing_on;
 mod hits;
 mod unit_thread;
 
@@ -29,7 +30,7 @@ fn made<B: Owner>(
     alloc: Global,
     seed: Seed,
 ) -> Result<(Manager<B>, Rows<B>, Vec<Port<B>>, Share<B>), Fail>
-    requires { IsNamedBy seed B.name B.parts B.shares B.room B.frames B.mode B.rows }
+    requires { IsNamedBy seed B.name B.parts B.shares B.room B.frames B.mode B.rows B.most }
     ensures { IfOk result (λ r. vec_len r.2 ≡ 16) }
 {
     let Made {
@@ -135,7 +136,7 @@ fn shared_by_two<B: Owner + Send + Sync, R: Threads + Wait + Abort + Sync>(
     alloc: Global,
     seed: Seed,
 ) -> Result<(), Fail>
-    requires { IsNamedBy seed B.name B.parts B.shares B.room B.frames B.mode B.rows }
+    requires { IsNamedBy seed B.name B.parts B.shares B.room B.frames B.mode B.rows B.most }
 {
     let Made {
         manager,
@@ -180,7 +181,7 @@ fn two_shares_fill_the_history(rt: HostRuntime) -> Result<(), Fail> {
 
 // More than a thousand calls by each of two shares, in turn: the last of them finds no room, and not one before.
 fn filled_by_two<B: Owner, R: Wait + Abort>(rt: &R, alloc: Global, seed: Seed) -> Result<(), Fail>
-    requires { IsNamedBy seed B.name B.parts B.shares B.room B.frames B.mode B.rows }
+    requires { IsNamedBy seed B.name B.parts B.shares B.room B.frames B.mode B.rows B.most }
 {
     let Made {
         manager,
@@ -230,7 +231,7 @@ fn calls_of_one_share(rt: HostRuntime) -> Result<(), Fail> {
 // Each call through the book that the lock guards, a domain with as many pieces as it can have, and a
 // full history.
 fn called_by_one<B: Owner, R: Wait + Abort>(rt: &R, alloc: Global, seed: Seed) -> Result<(), Fail>
-    requires { IsNamedBy seed B.name B.parts B.shares B.room B.frames B.mode B.rows }
+    requires { IsNamedBy seed B.name B.parts B.shares B.room B.frames B.mode B.rows B.most }
 {
     let (manager, rows, _, mut mine) = made::<B>(alloc, seed)?;
     {
@@ -267,7 +268,7 @@ fn pieces_run_out(rt: HostRuntime) -> Result<(), Fail> {
 
 // The 1,022nd piece of one page is one too many; devices go on.
 fn crowded<B: Owner, R: Wait + Abort>(rt: &R, alloc: Global, seed: Seed) -> Result<(), Fail>
-    requires { IsNamedBy seed B.name B.parts B.shares B.room B.frames B.mode B.rows }
+    requires { IsNamedBy seed B.name B.parts B.shares B.room B.frames B.mode B.rows B.most }
 {
     let (manager, rows, _, mut mine) = made::<B>(alloc, seed)?;
     let _ = manager.call(
@@ -321,7 +322,7 @@ fn snapshots(rt: HostRuntime) -> Result<(), Fail> {
 
 // A new manager, and one with as many domains and devices as there can be.
 fn told_at_moments<B: Owner, R: Wait + Abort>(rt: &R, alloc: Global, seed: Seed) -> Result<(), Fail>
-    requires { IsNamedBy seed B.name B.parts B.shares B.room B.frames B.mode B.rows }
+    requires { IsNamedBy seed B.name B.parts B.shares B.room B.frames B.mode B.rows B.most }
 {
     let (manager, rows, _, mut mine) = made::<B>(alloc, seed)?;
     let report = manager.snapshot(rt, alloc)?;

@@ -11,7 +11,7 @@ prefix_length : {A : Type 0} (xs ys : List A) → IsPrefix xs ys → length xs �
 prefix_length xs ys (rest, e) = omega (arith, ap length e, length-append xs rest)
 
 -- what all of a list have, all but the last have, and the last
-split_last : {A : Type 0} (P : A → Type 0) (xs : List A) (x : A) → All P (xs ++ x ∷ []) → All P xs × P x
+pub split_last : {A : Type 0} (P : A → Type 0) (xs : List A) (x : A) → All P (xs ++ x ∷ []) → All P xs × P x
 split_last P [] x all = (All-nil P, All-head P x [] all)
 split_last P (y ∷ ys) x all =
     let rest = split_last P ys x (All-tail P y (ys ++ x ∷ []) all) in (All-cons P y ys (All-head P y (ys ++ x ∷ []) all) rest.0, rest.1)

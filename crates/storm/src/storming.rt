@@ -1,8 +1,9 @@
 //! A storm: drivers, devices and the unit, in threads of their own, on one manager.
 
-ghost use Rattle.std.specs.Prelude.{◌≡◌, ◌+◌, ◌-◌, ◌*◌, ◌≤◌, ℕ, All, IfOk, length, vec_len};
+ghost use Rattle.std.specs.Prelude.{◌≡◌, ◌+◌, ◌-◌, ◌*◌, ◌<◌, ◌≤◌, ℕ, All, IfOk, Some, length, slice_get, vec_len};
 ghost use Rattle.std.specs.Vec.Iter.{into_iter_items};
 ghost use Rattle.manager.specs.Kept.{IsNamedBy, new_share};
+ghost use Rattle.ports.specs.Seen.{new_port};
 ghost use Rattle.storm.specs.Storms.{AreNewFrom, HasChecked, HasMade, HasMet, HasNewPort, IsFresh};
 
 use crate::crew::{Returned, run_all};
@@ -114,8 +115,9 @@ fn storm_on<B: Owner + Send + Sync, G: Gate, R: Threads + Wait + Sync>(
     plan: Plan,
     gate: &G,
 ) -> Result<u64, StormError>
-    requires named { IsNamedBy seed B.name B.parts B.shares B.room B.frames B.mode B.rows }
+    requires named { IsNamedBy seed B.name B.parts B.shares B.room B.frames B.mode B.rows B.most }
     requires room { seed.room ≡ 2 + plan.devices + plan.calls * (plan.drivers + plan.devices + 1) }
+    requires most { seed.most ≡ seed.room }
     requires shares { seed.shares ≡ plan.drivers + plan.devices + 2 }
     requires frames { seed.frames ≡ TABLE_FRAMES }
     ensures { IfOk result (λ events. events ≡ seed.room) }
@@ -140,11 +142,35 @@ pub(crate) fn outcome_of<B: Owner + Send + Sync, G: Gate, R: Threads + Wait + Sy
     plan: Plan,
     gate: &G,
 ) -> Result<Outcome<B>, StormError>
-    requires named { IsNamedBy seed B.name B.parts B.shares B.room B.frames B.mode B.rows }
+    requires named { IsNamedBy seed B.name B.parts B.shares B.room B.frames B.mode B.rows B.most }
     requires room { seed.room ≡ 2 + plan.devices + plan.calls * (plan.drivers + plan.devices + 1) }
+    requires most { seed.most ≡ seed.room }
     requires shares { seed.shares ≡ plan.drivers + plan.devices + 2 }
     requires frames { seed.frames ≡ TABLE_FRAMES }
     ensures room { IfOk result (λ p. length p.history.history ≡ seed.room) }
+    ensures met { IfOk result (λ p. All (HasMet plan.calls p.history.history) p.ports.items) }
+{
+    outcome_on(rt, alloc, Manager::<B>::new(alloc, seed), plan, gate)
+}
+
+// Makes them on a manager, where there was memory for one. A manager is large: what this takes of the stack is not taken yet while the
+// manager is made.
+#[inline(never)]
+fn outcome_on<B: Owner + Send + Sync, G: Gate, R: Threads + Wait + Sync>(
+    rt: &R,
+    alloc: Global,
+    made: Result<Made<B>, AllocError>,
+    plan: Plan,
+    gate: &G,
+) -> Result<Outcome<B>, StormError>
+    requires room { B.room ≡ 2 + plan.devices + plan.calls * (plan.drivers + plan.devices + 1) }
+    requires most { B.most ≡ B.room }
+    requires few { B.shares ≡ plan.drivers + plan.devices + 2 }
+    requires shares { IfOk made (λ m. vec_len m.shares ≡ B.shares) }
+    requires fresh { IfOk made (λ m. All (λ s. s ≡ new_share) m.shares.items) }
+    requires ports { IfOk made (λ m. (vec_len m.ports ≡ 16)
+        × ((k : ℕ) → k < 16 → slice_get m.ports.items k ≡ Some (new_port B.rows k))) }
+    ensures room { IfOk result (λ p. length p.history.history ≡ B.room) }
     ensures met { IfOk result (λ p. All (HasMet plan.calls p.history.history) p.ports.items) }
 {
     let Made {
@@ -152,7 +178,7 @@ pub(crate) fn outcome_of<B: Owner + Send + Sync, G: Gate, R: Threads + Wait + Sy
         rows,
         ports,
         mut shares,
-    } = Manager::<B>::new(alloc, seed)?;
+    } = made?;
     let Some(mut first) = shares.pop() else {
         unreachable!()
     };

@@ -185,7 +185,7 @@ fn options_of(given: &ArgMatches) -> Option<Options> {
 pub(crate) fn config_of(options: Options) -> Option<Config>
     ensures some { IsSome result ↔ IsWithinLimits options.frames options.calls 1 }
     ensures is { IfSome result
-        (λ c. c ≡ record { frames = options.frames; calls = options.calls; shares = 1; caching = options.caching }) }
+        (λ c. c ≡ record { frames = options.frames; calls = options.calls; shares = 1; caching = options.caching; most = options.calls }) }
 {
     let config = Config::new(options.frames, options.calls, 1)?;
     Some(config.caching_mode(options.caching))

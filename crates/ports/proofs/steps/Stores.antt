@@ -18,7 +18,7 @@ use Rattle.ports.specs.Rule.{caller_view, desk_view, Truth, Fits, Table, Sat, Is
 use Rattle.ports.proofs.lists.Fronts.{prefix_self, prefix_trans}
 use Rattle.ports.proofs.runs.OwnSteps.{emptied_word, own_more, own_same, stores_more, stores_same}
 use Rattle.ports.proofs.runs.Reaching.{reached_more, with_step}
-use Rattle.dmatypes.specs.declared.limits.TheConstants.{DEVICES, MOST_CALLS}
+use Rattle.dmatypes.specs.declared.limits.TheConstants.{CALLS_END, DEVICES}
 use Rattle.ports.specs.declared.rule.TheConstants.{COUNTER, ROW_WORDS, SLOTS}
 use Rattle.ports.proofs.steps.Views.{Stays, apart, caller_fits, desk_fits_as, fits_stays, named_as, named_stays, desk_else, others}
 
@@ -171,7 +171,7 @@ module _ (legal : List Event → Type 0) (lawful : List Event → ℕ → ℕ �
       (λ (e : slice_index s.words i ≡ slice_index r.truth.last i). subst (lawful log device) (sym e) (all device slot d k)) (r.rows i lt))
 
   -- the desk appends an event
-  pub appends : (slots id : ℕ) (me : Sat) (event : Event) → me.0.is_desk ≡ true → length me.0.mine.seen < MOST_CALLS
+  pub appends : (slots id : ℕ) (me : Sat) (event : Event) → me.0.is_desk ≡ true → length me.0.mine.seen < CALLS_END
       → legal (me.0.mine.seen ++ event ∷ []) → AreLawful lawful (me.0.mine.seen ++ event ∷ []) me.0.last
       → Allows K slots id me counter (λ n. (n + 1) % 2 ^ 64) (Appended event (step slots counter 1 0 none) me)
   unfolding Stays
@@ -186,7 +186,7 @@ module _ (legal : List Event → Type 0) (lawful : List Event → ℕ → ℕ �
       let same = λ (q : ℕ). own_same q r.truth.steps one refl in
       let w = desk_view me.0.frames (me.0.mine.seen ++ event ∷ []) me.0.mine.did me.0.last me.0.made me.0.guest in
       let wide : counter < length s.words = rw r.wide (omega arith) in
-      let room' : length r.truth.core.history < MOST_CALLS = subst (λ (l : List Event). length l < MOST_CALLS) whole.1 room in
+      let room' : length r.truth.core.history < CALLS_END = subst (λ (l : List Event). length l < CALLS_END) whole.1 room in
       let count = r.count in
       let more : (n + 1) % 18446744073709551616 ≡ length log = omega (arith, length-append r.truth.core.history (event ∷ [])) in
       let may' : legal log = subst legal now may in

@@ -128,7 +128,7 @@ fn device_beside_driver<B: Owner + Send + Sync, R: Threads + Wait + Abort + Sync
     alloc: Global,
     seed: Seed,
 ) -> Result<(), Fail>
-    requires { IsNamedBy seed B.name B.parts B.shares B.room B.frames B.mode B.rows }
+    requires { IsNamedBy seed B.name B.parts B.shares B.room B.frames B.mode B.rows B.most }
 {
     let Made {
         manager,

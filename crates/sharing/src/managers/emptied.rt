@@ -20,9 +20,11 @@ const PAGES: u64 = 16;
 
 // The calls that make two domains, with their pages and devices; and how many they are with a request of each device at each page, by
 // which the rows get full.
-const STRICT: &str = "domain strict\ndomain strict\nattach 3 1\nattach 4 1\nattach 5 2\nmap 1 256 16 0 r\nmap 2 512 16 0 r";
+const STRICT: &str =
+    "domain strict\ndomain strict\nattach 3 1\nattach 4 1\nattach 5 2\nmap 1 256 16 0 r\nmap 2 512 16 0 r";
 
-const LAZY: &str = "domain lazy\ndomain lazy\nattach 3 1\nattach 4 1\nattach 5 2\nmap 1 256 16 0 r\nmap 2 512 16 0 r";
+const LAZY: &str =
+    "domain lazy\ndomain lazy\nattach 3 1\nattach 4 1\nattach 5 2\nmap 1 256 16 0 r\nmap 2 512 16 0 r";
 
 const FILLING: u64 = 7 + 3 * PAGES;
 
@@ -120,7 +122,9 @@ impl<B: Owner> Machine<B> {
         };
         for place in 0..PAGES {
             let (host, _) = port.hit(&self.rows, PAGE_BYTES * (1 + place), Access::Read);
-            let there = PAGE_BYTES.saturating_mul(domain.saturating_mul(0x100).saturating_add(place));
+            let there = PAGE_BYTES.saturating_mul(
+                domain.saturating_mul(0x100).saturating_add(place),
+            );
             if host != (if is_empty { None } else { Some(there) }) {
                 return false;
             }
@@ -145,7 +149,7 @@ fn filled<B: Owner, R: Wait + Abort>(
     script: &str,
     records: u64,
 ) -> Result<Machine<B>, Fail>
-    requires { IsNamedBy seed B.name B.parts B.shares B.room B.frames B.mode B.rows }
+    requires { IsNamedBy seed B.name B.parts B.shares B.room B.frames B.mode B.rows B.most }
 {
     let (manager, rows, ports, share) = made::<B>(alloc, seed)?;
     let mut machine = Machine {
@@ -185,7 +189,7 @@ fn judged<B: Owner, R: Wait + Abort>(
     trace: &str,
     emptied: Emptied,
 ) -> Result<(), Fail>
-    requires { IsNamedBy seed B.name B.parts B.shares B.room B.frames B.mode B.rows }
+    requires { IsNamedBy seed B.name B.parts B.shares B.room B.frames B.mode B.rows B.most }
 {
     let mut machine = filled::<B, _>(rt, alloc, seed, script, records)?;
     machine.assert_trace(rt, trace)?;
@@ -222,7 +226,11 @@ fn calls_in_lazy_domains(rt: HostRuntime) -> Result<(), Fail> {
     for (records, trace, emptied) in [
         (0, "unmap 1 0x1000 1 => unmapped 0", NO_ROW),
         (MOST_RECORDS - 1, "unmap 1 0x1000 1 => unmapped 0", NO_ROW),
-        (MOST_RECORDS, "unmap 1 0x1000 1 => unmapped 256", ROWS_OF_ONE),
+        (
+            MOST_RECORDS,
+            "unmap 1 0x1000 1 => unmapped 256",
+            ROWS_OF_ONE,
+        ),
         (1, "flush 1 => flushed 1", ROWS_OF_ONE),
         (0, "flush 2 => flushed 0", ROW_OF_TWO),
         (
@@ -253,7 +261,7 @@ fn calls_at_a_full_history(rt: HostRuntime) -> Result<(), Fail> {
 }
 
 fn filled_up<B: Owner, R: Wait + Abort>(rt: &R, alloc: Global, seed: Seed) -> Result<(), Fail>
-    requires { IsNamedBy seed B.name B.parts B.shares B.room B.frames B.mode B.rows }
+    requires { IsNamedBy seed B.name B.parts B.shares B.room B.frames B.mode B.rows B.most }
 {
     let mut machine = filled::<B, _>(rt, alloc, seed, STRICT, 0)?;
     for line in ["unmap 1 0x1000 1", "detach 3", "flush 2", "unit"] {

@@ -11,4 +11,5 @@ ghosts-audited-B-Owner g a = record {
   frames = a.seed.frames;
   mode = a.seed.caching;
   rows = a.seed.rows;
+  most = a.seed.most;
 }

@@ -11,4 +11,5 @@ ghosts-time_owned-B-Owner g a = record {
   frames = a.seed.frames;
   mode = a.seed.caching;
   rows = a.seed.rows;
+  most = a.seed.most;
 }

@@ -10,6 +10,7 @@ invariant-loop g l = record {
       (prepend_known l.reader.block (g.R.Source.remaining l.reader.wrapped))
       (g.W.Sink.contents l.fn.writer.wrapped) l.fn.writer.block (g.W.Sink.contents l.writer.wrapped) l.writer.block l.book
       l.number;
+  handed : l.book.handed ≡ 0;
   reader : g.R.Source.has_failed l.reader.wrapped ≡ false;
   writer : g.W.Sink.has_failed l.writer.wrapped ≡ false;
 }

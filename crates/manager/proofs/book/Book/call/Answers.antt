@@ -1,10 +1,11 @@
-use Rattle.std.proofs.Common.{◌≡◌, ◌<◌, ◌∙◌, ap, length, arith, rules}
+use Rattle.std.proofs.Common.{◌≡◌, ◌<◌, ◌∙◌, ◌∷◌, [], ap, length, length-append, arith}
 use Rattle.dmatypes.specs.History.{event}
 use Rattle.ports.specs.Lawful.{IsLawfulAfter}
 use Rattle.ports.specs.Seen.{Desk, Rows}
 use Rattle.ports.specs.Steps.{AreLawful}
-use Rattle.manager.specs.Kept.{Book}
+use Rattle.manager.specs.Kept.{Book, end_of}
 use Rattle.manager.proofs.books.Entering.{IsKept-push, push_legal}
+use Rattle.manager.proofs.books.Epochs.{all_told, kept_more}
 use Rattle.manager.proofs.book.Book.call.Goals as goal
 
 pub enter-requires-clause-legal : goal.enter-requires-clause-legal
@@ -12,9 +13,9 @@ enter-requires-clause-legal g c =
     let i = c.self.invariant in
     let s = c.self.inside in
     let frames : s.desk.rows.frames ≡ g.B.Owner.frames = ap (λ (r : Rows). r.frames) i.7 ∙ i.8 in
-    let a : Book = record { history = s.history.items; state = s.state; last = s.desk.last } in
-    rw (frames, i.9)
-    (push_legal g.B.Owner.frames g.B.Owner.room g.B.Owner.mode a (event c.args.call c.perform-reply.result.reply)
+    let a : Book = record { history = s.desk.history; state = s.state; last = s.desk.last; handed = s.handed } in
+    rw frames
+    (push_legal g.B.Owner.frames g.B.Owner.room g.B.Owner.mode g.B.Owner.most a (event c.args.call c.perform-reply.result.reply)
     c.perform-reply.new.self i.0
     c.perform-reply.ensures.does).0
 
@@ -23,9 +24,9 @@ enter-requires-clause-state g c =
     let i = c.self.invariant in
     let s = c.self.inside in
     let frames : s.desk.rows.frames ≡ g.B.Owner.frames = ap (λ (r : Rows). r.frames) i.7 ∙ i.8 in
-    let a : Book = record { history = s.history.items; state = s.state; last = s.desk.last } in
-    rw (frames, i.9)
-    (push_legal g.B.Owner.frames g.B.Owner.room g.B.Owner.mode a (event c.args.call c.perform-reply.result.reply)
+    let a : Book = record { history = s.desk.history; state = s.state; last = s.desk.last; handed = s.handed } in
+    rw frames
+    (push_legal g.B.Owner.frames g.B.Owner.room g.B.Owner.mode g.B.Owner.most a (event c.args.call c.perform-reply.result.reply)
     c.perform-reply.new.self i.0
     c.perform-reply.ensures.does).1
 
@@ -33,38 +34,51 @@ pub invariant_of-self-2 : goal.invariant_of-self-2
 invariant_of-self-2 g c =
     let i = c.self.invariant in
     let s = c.self.inside in
-    let less : length s.history.items < g.B.Owner.room = search rules in
+    let a : Book = record { history = s.desk.history; state = s.state; last = s.desk.last; handed = s.handed } in
+    let told = all_told s.handed s.desk.history s.kept.items i.0.begun i.9 in
+    let less : length s.desk.history < end_of g.B.Owner.room g.B.Owner.most a =
+    omega (arith, told, i.0.within, i.11, c.if-before-end.false) in
     let frames : s.desk.rows.frames ≡ g.B.Owner.frames = ap (λ (r : Rows). r.frames) i.7 ∙ i.8 in
     let same : c.tell-2.new.self ≡ c.enter.new.desk = c.tell-2.ensures.same.0 in
-    let history : c.enter.new.desk.history ≡ c.push_reserved.new.self.items =
-    rw (c.push_reserved.ensures.items, ← i.9) c.enter.ensures.history in
-    let lawful : AreLawful (IsLawfulAfter g.B.Owner.frames) c.push_reserved.new.self.items c.tell-2.new.self.last =
-    rw (same, ← history, ← frames) c.enter.ensures.lawful in (
-      IsKept-push g.B.Owner.frames g.B.Owner.room g.B.Owner.mode (record { history = s.history.items; state = s.state; last = s.desk.last })
-          (event c.args.call c.perform-reply.result.reply) c.perform-reply.new.self c.push_reserved.new.self.items c.tell-2.new.self.last
-          c.push_reserved.ensures.items i.0 less c.perform-reply.ensures.does c.keeps.ensures lawful,
+    let history = ap (λ (d : Desk). d.history) same ∙ c.enter.ensures.history in
+    let lawful : AreLawful (IsLawfulAfter g.B.Owner.frames) c.tell-2.new.self.history c.tell-2.new.self.last =
+    rw (same, ← frames) c.enter.ensures.lawful in (
+      IsKept-push g.B.Owner.frames g.B.Owner.room g.B.Owner.mode g.B.Owner.most a (event c.args.call c.perform-reply.result.reply)
+          c.perform-reply.new.self c.tell-2.new.self.history c.tell-2.new.self.last history i.0 less c.perform-reply.ensures.does
+          c.keeps.ensures lawful,
       i.1,
       omega (arith, i.2, c.push_reserved.ensures.capacity),
       i.3,
-      omega (arith, i.4, c.audit.ensures.total, c.add.ensures.total, c.push_reserved.ensures.len),
+      omega (
+        arith,
+        i.4,
+        c.audit.ensures.total,
+        c.add.ensures.total,
+        ap length history ∙ length-append s.desk.history (event c.args.call c.perform-reply.result.reply ∷ []),
+      ),
       i.5,
       i.6,
       ap (λ (d : Desk). d.rows) same ∙ c.enter.ensures.rows ∙ i.7,
       i.8,
-      ap (λ (d : Desk). d.history) same ∙ history,
+      kept_more s.handed s.desk.history c.tell-2.new.self.history s.kept.items c.push_reserved.new.self.items _ i.0.begun i.9
+          c.push_reserved.ensures.items history,
+      i.10,
+      i.11,
     )
 
 pub returns-clause-kept : goal.returns-clause-kept
 returns-clause-kept g c =
     let i = c.self.invariant in
     let s = c.self.inside in
-    let less : length s.history.items < g.B.Owner.room = search rules in
+    let a : Book = record { history = s.desk.history; state = s.state; last = s.desk.last; handed = s.handed } in
+    let told = all_told s.handed s.desk.history s.kept.items i.0.begun i.9 in
+    let less : length s.desk.history < end_of g.B.Owner.room g.B.Owner.most a =
+    omega (arith, told, i.0.within, i.11, c.if-before-end.false) in
     let frames : s.desk.rows.frames ≡ g.B.Owner.frames = ap (λ (r : Rows). r.frames) i.7 ∙ i.8 in
     let same : c.tell-2.new.self ≡ c.enter.new.desk = c.tell-2.ensures.same.0 in
-    let history : c.enter.new.desk.history ≡ c.push_reserved.new.self.items =
-    rw (c.push_reserved.ensures.items, ← i.9) c.enter.ensures.history in
-    let lawful : AreLawful (IsLawfulAfter g.B.Owner.frames) c.push_reserved.new.self.items c.tell-2.new.self.last =
-    rw (same, ← history, ← frames) c.enter.ensures.lawful in
-    IsKept-push g.B.Owner.frames g.B.Owner.room g.B.Owner.mode (record { history = s.history.items; state = s.state; last = s.desk.last })
-    (event c.args.call c.perform-reply.result.reply) c.perform-reply.new.self c.push_reserved.new.self.items c.tell-2.new.self.last
-    c.push_reserved.ensures.items i.0 less c.perform-reply.ensures.does c.keeps.ensures lawful
+    let history = ap (λ (d : Desk). d.history) same ∙ c.enter.ensures.history in
+    let lawful : AreLawful (IsLawfulAfter g.B.Owner.frames) c.tell-2.new.self.history c.tell-2.new.self.last =
+    rw (same, ← frames) c.enter.ensures.lawful in
+    IsKept-push g.B.Owner.frames g.B.Owner.room g.B.Owner.mode g.B.Owner.most a (event c.args.call c.perform-reply.result.reply)
+    c.perform-reply.new.self c.tell-2.new.self.history c.tell-2.new.self.last history i.0 less c.perform-reply.ensures.does
+    c.keeps.ensures lawful

@@ -11,4 +11,5 @@ ghosts-device_beside_driver-B-Owner g a = record {
   frames = a.seed.frames;
   mode = a.seed.caching;
   rows = a.seed.rows;
+  most = a.seed.most;
 }
