@@ -261,10 +261,15 @@ impl<B: Owner> Book<B> {
             desk.tell(&rows.words, pass);
             return Err(HistoryFull);
         }
-        let Answer { reply, hit } = state.perform(&call);
+        // It holds the call from here on, so that the call is moved once; the reply is put in its place below.
+        let mut event = Event {
+            call,
+            reply: Reply::Pending,
+        };
+        let Answer { reply, hit } = state.perform(&event.call);
+        event.reply = reply;
         // It changes nothing: its contract says what every state keeps.
         state.keeps();
-        let event = Event { call, reply };
         enter(desk, &rows.words, state, &event, hit);
         kept.push_reserved(event);
         desk.tell(&rows.words, pass);

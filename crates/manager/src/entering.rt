@@ -81,6 +81,7 @@ fn takes_away(mode: Option<Mode>, released: u64) -> bool
 }
 
 // Empties the rows of the devices.
+#[tactic(auto, using(crate::proofs::words::Cleared::no_bit))]
 fn clear(desk: &mut Desk, rows: &Rows, devices: u16)
     requires { desk.old.rows ≡ rows.now }
     ensures words { (device slot : ℕ) → device < 16 → slot < 16
@@ -89,6 +90,9 @@ fn clear(desk: &mut Desk, rows: &Rows, devices: u16)
         → slice_index desk.new.last (place_of device slot) ≡ slice_index desk.old.last (place_of device slot)) }
     ensures same { (desk.new.rows ≡ desk.old.rows) × (desk.new.history ≡ desk.old.history) }
 {
+    if devices == 0 {
+        return;
+    }
     for device in 0..16u64 {
         if devices >> device & 1 == 1 {
             desk.clear(rows, device);

@@ -40,6 +40,10 @@ bit_of k other low = elim (same_or_not other k) [
 pub one_device : (k : ℕ) → k < 16 → (other : ℕ) → other < 16 → (bit_at (1 * 2 ^ k % 2 ^ 16) other ≡ 1) ↔ (other ≡ k)
 one_device k low other small = bit_of k other low
 
+-- no bit of 0 is set
+pub no_bit : (device : ℕ) → bit_at 0 device ≡ 1 → ⊥
+no_bit device one = absurd (omega (arith, one, bit_at-zero device))
+
 -- no device
 pub no_device : (w : World) (call : Call) (reply : Reply) → ((device : ℕ) → IsCleared w call reply device → ⊥) → TellCleared w call reply 0
 no_device w call reply none device low = (
