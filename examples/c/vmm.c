@@ -7,7 +7,7 @@
 #include <stdio.h>
 #include <stdlib.h>
 
-enum { TABLE_FRAMES = 256, DEVICE = 4, PROCESSORS = 2, MAPS = 1000 };
+enum { TABLE_FRAMES = 256, DEVICE = 4, PROCESSORS = 2, MAPS = 1000, PAGES_OF_EACH = 1024 };
 
 /* The monitor: its manager under its lock, and the domain of its guest. */
 static struct {
@@ -16,7 +16,8 @@ static struct {
     uint64_t domain;
 } monitor = {PTHREAD_MUTEX_INITIALIZER, VTDM_INIT, 0};
 
-/* The host frame where the guest's memory begins. */
+/* The guest's memory, and the host frame where it begins. */
+static unsigned char memory[PROCESSORS * PAGES_OF_EACH * VTDM_PAGE_BYTES];
 static const uint64_t GUEST_MEMORY = 0x10000;
 
 static void stop(const char *what, uint64_t status) {
@@ -44,21 +45,26 @@ static void unmap_for_device(uint64_t address, uint64_t pages) {
         stop("unmap", ended.status);
 }
 
-/* A read of the emulated device: true, and the host address, where it reaches one. */
-static bool device_reads(uint64_t address, uint64_t *host) {
+/* A read of the emulated device: true, and the byte, where it reaches one. The byte is read under the lock: once that is given back,
+ * another thread may unmap the page and use it for something else. So no host address leaves this function. */
+static bool device_reads(uint64_t address, unsigned char *byte) {
     pthread_mutex_lock(&monitor.lock);
     struct vtdm_answer reached = vtdm_dma(&monitor.manager, DEVICE, address, false, true, true);
+    if (reached.status == VTDM_OK)
+        *byte = memory[reached.value - GUEST_MEMORY * VTDM_PAGE_BYTES];
     pthread_mutex_unlock(&monitor.lock);
-    *host = reached.value;
     return reached.status == VTDM_OK;
 }
 
-/* A virtual processor: its guest maps a buffer for the device, has it read, and takes it away again. */
+/* A virtual processor: its guest fills a buffer, maps it for the device, has it read, and takes it away again. */
 static void *processor(void *number) {
-    uint64_t first = *(const uint64_t *)number * 1024, host;
+    uint64_t first = *(const uint64_t *)number * PAGES_OF_EACH;
+    unsigned char byte;
     for (uint64_t i = 0; i < MAPS; i++) {
-        uint64_t pages = 1 + i % 16, address = map_for_device(first + i % 512, pages);
-        if (!device_reads(address, &host) || host != (GUEST_MEMORY + first + i % 512) * VTDM_PAGE_BYTES)
+        uint64_t page = first + i % 512, pages = 1 + i % 16;
+        memory[page * VTDM_PAGE_BYTES] = (unsigned char)i;
+        uint64_t address = map_for_device(page, pages);
+        if (!device_reads(address, &byte) || byte != (unsigned char)i)
             stop("the device misses a mapped page", 0);
         unmap_for_device(address, pages);
     }
@@ -81,7 +87,8 @@ static void begin(void) {
 
 int main(void) {
     pthread_t threads[PROCESSORS];
-    uint64_t numbers[PROCESSORS] = {0, 1}, host;
+    uint64_t numbers[PROCESSORS] = {0, 1};
+    unsigned char byte;
     begin();
     for (int i = 0; i < PROCESSORS; i++)
         if (pthread_create(&threads[i], NULL, processor, &numbers[i]))
@@ -90,7 +97,7 @@ int main(void) {
         pthread_join(threads[i], NULL);
     struct vtdm_domain_totals_answer left = vtdm_domain_totals(&monitor.manager, monitor.domain);
     printf("%d maps and unmaps, %" PRIu64 " pages are left, and the device reaches %s\n", PROCESSORS * MAPS, left.live,
-           device_reads(VTDM_PAGE_BYTES, &host) ? "one" : "none");
+           device_reads(VTDM_PAGE_BYTES, &byte) ? "one" : "none");
     vtdm_destroy(&monitor.manager);
     return 0;
 }
