@@ -1,10 +1,10 @@
 //! What stands against an event that is no step.
 
-ghost use Rattle.std.specs.Prelude.{◌≡◌, IfOk, IfSome, Some};
+ghost use Rattle.std.specs.Prelude.{◌≡◌, IfOk, IfSome, IsSome, IsSomeAnd, IsTrue, Some};
 ghost use Rattle.checker.specs.Allowed.{IsObstacle};
 ghost use Rattle.checker.specs.World.{world_of};
-ghost use Rattle.dmatypes.specs.Page.{IsWithin, page_of, range_at};
-ghost use Rattle.traces.specs.Findings.{AreAnswers, AreTold, Names, WasSo, listed};
+ghost use Rattle.dmatypes.specs.Page.{IsPageOf, IsWithin, page_of, range_at};
+ghost use Rattle.traces.specs.Findings.{AreAnswers, AreTold, IsNotLive, Names, WasSo, listed};
 
 use checker::{Checker, PageState, pages_of};
 use dmatypes::{Access, Call, Event, PAGE_BYTES, PageRange, Refusal, Reply};
@@ -111,42 +111,11 @@ fn list_of(alloc: Global, reply: Option<Reply>) -> Result<Vec<Reply>, AllocError
 // What the page was that an event rests on. A refusal rests on none but that a page isn't live.
 fn page_before(checker: &Checker, event: &Event, due: Option<Refusal>) -> Option<PageBefore>
     ensures { IfSome result
-        (λ page. Names (world_of checker.now) event.now.call event.now.reply page.domain page.page × WasSo (world_of checker.now) page) }
+        (λ page. Names (world_of checker.now) event.now.call event.now.reply page × WasSo (world_of checker.now) page) }
 {
     if !matches!(due, None | Some(Refusal::NotLive)) {
         return None;
     }
-    let (domain, page) = named_by(checker, event)?;
-    state_before(checker, domain, page)
-}
-
-// What a page was; none of a number that isn't one of a page.
-fn state_before(checker: &Checker, domain: u64, page: u64) -> Option<PageBefore>
-    ensures named { IfSome result (λ before. (before.domain ≡ domain) × (before.page ≡ page)) }
-    ensures so { IfSome result (WasSo (world_of checker.now)) }
-{
-    let state = checker.page_state(domain, page)?;
-    if state == PageState::Free && !is_free_page(checker, domain, page) {
-        return None;
-    }
-    Some(PageBefore {
-        domain,
-        page,
-        state,
-    })
-}
-
-// Whether a number is that of a free page of a domain.
-fn is_free_page(checker: &Checker, domain: u64, page: u64) -> bool {
-    match PageRange::new(page, 1) {
-        Some(range) => checker.obstacle(domain, range).is_none(),
-        None => false,
-    }
-}
-
-fn named_by(checker: &Checker, event: &Event) -> Option<(u64, u64)>
-    ensures { IfSome result (λ named. Names (world_of checker.now) event.now.call event.now.reply named.0 named.1) }
-{
     match (&event.call, event.reply) {
         (
             Call::Dma {
@@ -155,7 +124,11 @@ fn named_by(checker: &Checker, event: &Event) -> Option<(u64, u64)>
                 ..
             },
             _,
-        ) => Some((checker.domain_of_device(*device)?, *address / PAGE_BYTES)),
+        ) => state_before(
+            checker,
+            checker.domain_of_device(*device)?,
+            *address / PAGE_BYTES,
+        ),
         (Call::Map { domain, pages, .. }, Reply::Mapped(address)) => {
             taken(checker, *domain, address, *pages)
         }
@@ -179,23 +152,54 @@ fn named_by(checker: &Checker, event: &Event) -> Option<(u64, u64)>
     }
 }
 
+// What a page was; none of a number that isn't one of a page.
+fn state_before(checker: &Checker, domain: u64, page: u64) -> Option<PageBefore>
+    ensures named { IfSome result (λ before. (before.domain ≡ domain) × (before.page ≡ page)) }
+    ensures so { IfSome result (WasSo (world_of checker.now)) }
+{
+    let state = checker.page_state(domain, page)?;
+    if state == PageState::Free && !is_free_page(checker, domain, page) {
+        return None;
+    }
+    Some(PageBefore {
+        domain,
+        page,
+        state,
+    })
+}
+
+// Whether a number is that of a free page of a domain.
+fn is_free_page(checker: &Checker, domain: u64, page: u64) -> bool
+    ensures { IsTrue result → IsSome ((world_of checker.now).domains domain)
+        → IsSomeAnd ((world_of checker.now).domains domain) (λ v. IsPageOf v.width page) }
+{
+    match PageRange::new(page, 1) {
+        Some(range) => checker.obstacle(domain, range).is_none(),
+        None => false,
+    }
+}
+
 // A page of a map that isn't free.
-fn taken(checker: &Checker, domain: u64, address: u64, pages: u64) -> Option<(u64, u64)>
-    ensures { IfSome result (λ named. (named.0 ≡ domain)
-        × IsObstacle ((world_of checker.now).domains domain) (record { first = page_of address; pages = pages }) (Some named.1)) }
+fn taken(checker: &Checker, domain: u64, address: u64, pages: u64) -> Option<PageBefore>
+    ensures page { IfSome result (λ before. (before.domain ≡ domain)
+        × IsObstacle ((world_of checker.now).domains domain) (record { first = page_of address; pages = pages }) (Some before.page)) }
+    ensures so { IfSome result (WasSo (world_of checker.now)) }
 {
     let range = PageRange::new(address / PAGE_BYTES, pages)?;
-    Some((domain, checker.obstacle(domain, range)?))
+    state_before(checker, domain, checker.obstacle(domain, range)?)
 }
 
 // The first page of an unmap that isn't live.
-fn absent(checker: &Checker, domain: u64, address: u64, pages: u64) -> Option<(u64, u64)>
-    ensures { IfSome result (λ named. (named.0 ≡ domain) × IsWithin (range_at address pages) named.1) }
+fn absent(checker: &Checker, domain: u64, address: u64, pages: u64) -> Option<PageBefore>
+    ensures page { IfSome result (λ before. (before.domain ≡ domain) × IsWithin (range_at address pages) before.page
+        × IsNotLive before.state) }
+    ensures so { IfSome result (WasSo (world_of checker.now)) }
 {
     let range = PageRange::new(address / PAGE_BYTES, pages)?;
     for page in range.first()..range.first() + range.pages() {
-        if !matches!(checker.page_state(domain, page)?, PageState::Live { .. }) {
-            return Some((domain, page));
+        let before = state_before(checker, domain, page)?;
+        if !matches!(before.state, PageState::Live { .. }) {
+            return Some(before);
         }
     }
     None

@@ -14,11 +14,10 @@ use Rattle.script.proofs.laws.trace_is_found_legal.Goals as goal
 
 of_text : (frames : ℕ) (history : List Event) (shown traced rest : List ℕ) (found : Result Judgement CheckError) → IsLegal frames history
     → LinesSay event_said shown history [] → traced ≡ shown → Checked frames traced rest found
-    → (events : List Event) × IsLegalIfRead events found
-of_text frames history shown traced rest found legal lines is checked = (
-  history,
-  traced_is_legal frames history traced rest found legal (subst (λ (t : List ℕ). LinesSay event_said t history []) (sym is) lines) checked,
-)
+    → (events : List Event) × IsLegal frames events × LinesSay event_said traced events [] × IsLegalIfRead events found
+of_text frames history shown traced rest found legal lines is checked =
+    let said = subst (λ (t : List ℕ). LinesSay event_said t history []) (sym is) lines in
+    (history, legal, said, traced_is_legal frames history traced rest found legal said checked)
 
 legal : TraceIsFoundLegal
 legal size input left traced (Ok u) rest found whole ran checked =
