@@ -24,7 +24,6 @@ MEMORY = f"{TOP}/crates/memory/out/memory"
 SMALL = ["--frames", "16", "--calls", "100"]
 STORM = [VTDM, "storm", "--drivers", "2", "--devices", "2", "--calls", "3"]
 STORM_THREADS = 5
-SMALL_STORM = [VTDM, "storm", "--drivers", "1", "--devices", "1", "--calls", "1"]
 # What is asked for at the making of a thread: by the toolchain, before it asks for the thread, and then by the C library at most,
 # which also uses again what a thread had that has ended.
 TOOLCHAIN_REQUESTS = 1
@@ -158,9 +157,8 @@ def within(space, words):
 
 
 def fault_of_spaces():
-    """Why the program does otherwise than to say that there is no memory (of a storm, or no thread), or to do all, in an address space
-    in which it is loaded."""
-    for words in ([VTDM, "run", *SMALL], [VTDM, "report", *SMALL], [VTDM, "report", "--iova", *SMALL], SMALL_STORM):
+    """Why the program does otherwise than to say that there is no memory, or to do all, in an address space in which it is loaded."""
+    for words in ([VTDM, "run", *SMALL], [VTDM, "report", *SMALL], [VTDM, "report", "--iova", *SMALL]):
         ample = within("unlimited", words)
         space, is_loaded, done, lacked = LEAST_SPACE, False, 0, 0
         while done < MORE_SPACES:
@@ -171,7 +169,7 @@ def fault_of_spaces():
             is_loaded = True
             if (status, output, said) == ample:
                 done += 1
-            elif ((status, said) == NO_MEMORY or words == SMALL_STORM and (status, said) == NO_THREAD) and ample[1].startswith(output):
+            elif (status, said) == NO_MEMORY and ample[1].startswith(output):
                 lacked, done = lacked + 1, 0
             else:
                 return f"{words[1:]} in {space} KiB: status {status}, {said!r}, {output!r}"
