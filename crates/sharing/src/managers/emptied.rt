@@ -40,6 +40,17 @@ const ROWS_OF_ONE: Emptied = [true, true, false];
 
 const ROW_OF_TWO: Emptied = [false, false, true];
 
+// What comes before the calls of a trace, and which rows are empty after them.
+#[derive(Clone, Copy)]
+struct Situation<'a> {
+    // The calls that make the domains.
+    script: &'a str,
+    // The retired records of domain 1.
+    records: u64,
+    trace: &'a str,
+    emptied: Emptied,
+}
+
 // A manager with its port words, the ports of all devices, and the share by which it is called.
 #[derive(Drop)]
 struct Machine<B: Owner> {
@@ -167,33 +178,28 @@ fn filled<B: Owner, R: Wait + Abort>(
     Ok(machine)
 }
 
-// After the calls of a trace these rows are empty.
-fn judge<R: Wait + Abort>(
-    rt: &R,
-    alloc: Global,
-    script: &str,
-    records: u64,
-    trace: &str,
-    emptied: Emptied,
-) -> Result<(), Fail> {
+fn judge<R: Wait + Abort>(rt: &R, alloc: Global, situation: &Situation<'_>) -> Result<(), Fail> {
     let seed = seed_of(alloc, 64, 1000, 1)?;
-    judged::<Brand, _>(rt, alloc, seed, script, records, trace, emptied)
+    judged::<Brand, _>(rt, alloc, seed, situation)
 }
 
 fn judged<B: Owner, R: Wait + Abort>(
     rt: &R,
     alloc: Global,
     seed: Seed,
-    script: &str,
-    records: u64,
-    trace: &str,
-    emptied: Emptied,
+    situation: &Situation<'_>,
 ) -> Result<(), Fail>
     requires { IsNamedBy seed B.name B.parts B.shares B.room B.frames B.mode B.rows B.most }
 {
-    let mut machine = filled::<B, _>(rt, alloc, seed, script, records)?;
+    let Situation {
+        script,
+        records,
+        trace,
+        emptied,
+    } = situation;
+    let mut machine = filled::<B, _>(rt, alloc, seed, script, *records)?;
     machine.assert_trace(rt, trace)?;
-    machine.assert_rows(rt, trace, emptied);
+    machine.assert_rows(rt, trace, *emptied);
     Ok(())
 }
 
@@ -215,7 +221,13 @@ fn calls_in_strict_domains(rt: HostRuntime) -> Result<(), Fail> {
             NO_ROW,
         ),
     ] {
-        judge(&rt, rt.alloc(), STRICT, 0, trace, emptied)?;
+        let situation = Situation {
+            script: STRICT,
+            records: 0,
+            trace,
+            emptied,
+        };
+        judge(&rt, rt.alloc(), &situation)?;
     }
     Ok(())
 }
@@ -249,7 +261,13 @@ fn calls_in_lazy_domains(rt: HostRuntime) -> Result<(), Fail> {
             ROW_OF_TWO,
         ),
     ] {
-        judge(&rt, rt.alloc(), LAZY, records, trace, emptied)?;
+        let situation = Situation {
+            script: LAZY,
+            records,
+            trace,
+            emptied,
+        };
+        judge(&rt, rt.alloc(), &situation)?;
     }
     Ok(())
 }
