@@ -1,5 +1,3 @@
 pub mod Calls
 pub mod Events
-pub mod Lengths
-pub mod Small
 pub mod Written

@@ -8,3 +8,4 @@ pub mod Said
 pub mod Digits
 pub mod Hexadecimal
 pub mod Replied
+pub mod Lengths

@@ -6,7 +6,7 @@ use Rattle.std.proofs.lemmas.List.{append-nil}
 use Rattle.dmatypes.specs.declared.call.Call.{Call}
 use Rattle.dmatypes.specs.declared.limits.TheConstants.{LONGEST_LINE}
 use Rattle.dmatypes.specs.Grammar.{says}
-use Rattle.checker.proofs.texts.Lengths.{says_short}
+use Rattle.dmatypes.proofs.texts.Lengths.{says_short}
 use Rattle.engine.proofs.states.New.{new_state, new_is_new}
 use Rattle.manager.specs.Kept.{Book, IsKept}
 use Rattle.script.specs.declared.answering.Replies.{Replies}

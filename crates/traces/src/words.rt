@@ -3,7 +3,7 @@
 use crate::finding::{Finding, PageBefore};
 use arrayvec::ArrayString;
 use checker::PageState;
-use dmatypes::{PAGE_BYTES, Refusal, Reply, reply_line};
+use dmatypes::{PAGE_BYTES, Reply, reply_line};
 use std::fmt;
 
 /// `line K: REPLY is not allowed`, why, and the replies that are allowed.
@@ -16,7 +16,7 @@ impl fmt::Display for Finding {
             Words(self.event.reply)
         )?;
         if let Some(refusal) = self.due {
-            write!(f, ": {}", reason_of(refusal))?;
+            write!(f, ": {refusal}")?;
         } else if let (Reply::Mapped(address), None) = (self.event.reply, &self.page) {
             write!(f, ": no such range begins at {address:#x}")?;
         }
@@ -74,26 +74,5 @@ fn rights_text(rights: u64) -> &'static str {
         1 => "r",
         2 => "w",
         _ => "rw",
-    }
-}
-
-// Why a call is refused.
-fn reason_of(refusal: Refusal) -> &'static str {
-    match refusal {
-        Refusal::NoDomain => "no such domain",
-        Refusal::NoDevice => "no such device",
-        Refusal::Busy => "busy",
-        Refusal::NotAttached => "not attached",
-        Refusal::BadRange => "bad range",
-        Refusal::FrameOwned => "frame of a table",
-        Refusal::NoRange => "no free range",
-        Refusal::NoFrames => "no table frames",
-        Refusal::TooManyPieces => "too many pieces",
-        Refusal::NotLive => "not live",
-        Refusal::Window => "interrupt window",
-        Refusal::TooManyDomains => "too many domains",
-        Refusal::BadTicket => "no such ticket",
-        Refusal::TooManyTickets => "64 tickets are open",
-        Refusal::HistoryFull => "the history is full",
     }
 }

@@ -20,7 +20,7 @@ use Rattle.checker.specs.Traces.{EventTextIsSaid, SaidIsEventText, both, entered
 use Rattle.checker.specs.declared.trace.TheConstants.{LONGEST_TRACE_LINE}
 use Rattle.checker.proofs.texts.Calls.{HasNoEquals, call_no_equals}
 use Rattle.checker.proofs.texts.Written.{written_short}
-use Rattle.checker.proofs.texts.Lengths.{says_short}
+use Rattle.dmatypes.proofs.texts.Lengths.{says_short}
 
 -- ---- the line of an event says it
 

@@ -13,7 +13,7 @@ use Rattle.dmatypes.specs.Text.{address_text, words_of}
 use Rattle.dmatypes.proofs.texts.Hexadecimal.{length_digits}
 use Rattle.dmatypes.proofs.texts.Joining.{HasNo, has_no-append}
 use Rattle.dmatypes.proofs.texts.Numerals.{address_number, number_has_no}
-use Rattle.checker.proofs.texts.Small.{fault_small, refusal_small}
+use Rattle.dmatypes.proofs.texts.Replied.{fault_small, refusal_small}
 
 -- at most so many bytes, none of which is a newline
 abbrev IsShort : ℕ → List ℕ → Type 0

@@ -33,7 +33,7 @@ ticket_said : (d t : List ℕ) (domain ticket : ℕ) → number d ≡ Some domai
 unfolding ticket_of
 ticket_said d t domain ticket ed et = rw (ed, et) refl
 
-fault_small : (f : Fault) → fault_number f < 2 ^ 64
+pub fault_small : (f : Fault) → fault_number f < 2 ^ 64
 fault_small faults.NotAttached = omega arith
 fault_small faults.BeyondWidth = omega arith
 fault_small faults.Write = omega arith
@@ -45,7 +45,7 @@ fault_of_number faults.BeyondWidth = refl
 fault_of_number faults.Write = refl
 fault_of_number faults.Read = refl
 
-refusal_small : (r : Refusal) → refusal_number r < 2 ^ 64
+pub refusal_small : (r : Refusal) → refusal_number r < 2 ^ 64
 refusal_small refusals.NoDomain = omega arith
 refusal_small refusals.NoDevice = omega arith
 refusal_small refusals.Busy = omega arith
