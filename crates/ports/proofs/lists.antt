@@ -1,3 +1,4 @@
 pub mod Fronts
 pub mod Members
 pub mod Emptied
+pub mod Rows

@@ -1,12 +1,13 @@
 -- What contracts see of the rows, and of the ports, passes and the desk that belong to them.
-use Rattle.std.specs.Prelude.{◌≡◌, ℕ, zero, suc, ◌+◌, ◌<◌, List, [], ◌∷◌, ◌++◌, replicate, Some, slice_get}
+use Rattle.std.specs.Int.{bit_at}
+use Rattle.std.specs.Prelude.{◌≡◌, ℕ, zero, suc, ◌+◌, ◌<◌, List, [], ◌∷◌, ◌++◌, replicate, Some, slice_get, slice_index}
 use Rattle.atomic_table.specs.Seated.{TableId}
 use Rattle.dmatypes.specs.declared.reply.Event.{Event}
 use Rattle.ports.specs.declared.known.OwnStep.{OwnStep}
 use Rattle.ports.specs.declared.known.OwnStep.TheVariants.{Stored}
 use Rattle.ports.specs.Steps.{place_of}
 use Rattle.dmatypes.specs.declared.limits.TheConstants.{DEVICES}
-use Rattle.ports.specs.declared.rule.TheConstants.{ROW_WORDS}
+use Rattle.ports.specs.declared.rule.TheConstants.{ROW_WORDS, SLOTS}
 use Rattle.ports.specs.declared.known.View.{View}
 
 -- which rows they are: their table, and how many table frames the world of their history has
@@ -55,6 +56,11 @@ desk_of table v = record { rows = rows_of table v.frames; history = v.mine.seen;
 unfoldable pub emptied_slots : ℕ → ℕ → List OwnStep
 emptied_slots device zero = []
 emptied_slots device (suc slot) = emptied_slots device slot ++ Stored (place_of device slot) 0 ∷ []
+
+-- but for the rows of these bits, all words are 0
+abbrev pub AreEmptyBut : ℕ → List ℕ → Type 0
+AreEmptyBut filled last =
+    (device slot : ℕ) → device < DEVICES → slot < SLOTS → (bit_at filled device ≡ 1 → ⊥) → slice_index last (place_of device slot) ≡ 0
 
 -- ---- what is made with new rows
 

@@ -8,7 +8,7 @@ ghost use Rattle.ports.specs.Lawful.{IsBacked, IsLawfulAfter};
 ghost use Rattle.ports.specs.Steps.{AreLawful, counter, place_of, slot_of};
 ghost use Rattle.ports.specs.Rule.{desk_view, nobody, told, caller_view, with_guest};
 ghost use Rattle.ports.specs.declared.known.OwnStep.TheVariants.{Loaded, Stored};
-ghost use Rattle.ports.specs.Seen.{emptied_slots};
+ghost use Rattle.ports.specs.Seen.{AreEmptyBut, emptied_slots};
 
 use crate::port::{Pass, Port, place};
 use crate::rows::Rows;
@@ -21,18 +21,21 @@ use vtdbits::PortWord;
 #[derive(Drop)]
 pub struct Desk {
     pub(crate) seat: Place,
+    // The rows that may hold a word: bit j is device j.
+    pub(crate) filled: u16,
 }
 
 impl Model for Desk {
     ghost use Rattle.std.specs.Prelude.{◌≡◌, true, length};
-    ghost use Rattle.ports.specs.Seen.{Desk, desk_of};
+    ghost use Rattle.ports.specs.Seen.{AreEmptyBut, Desk, desk_of};
     ghost use Rattle.ports.specs.declared.rule.TheConstants.{ROW_WORDS};
 
     ghost Value = { Desk };
 
     ghost view = { λ d. desk_of d.seat.table_id d.seat.me.0 };
 
-    ghost invariant = { λ d. (d.seat.me.0.is_desk ≡ true) × (length d.seat.me.0.last ≡ ROW_WORDS) };
+    ghost invariant = { λ d. (d.seat.me.0.is_desk ≡ true) × (length d.seat.me.0.last ≡ ROW_WORDS)
+        × AreEmptyBut d.filled d.seat.me.0.last };
 }
 
 impl Desk {
@@ -67,6 +70,15 @@ impl Desk {
         for slot in 0..SLOTS {
             self.store(rows, device, slot, 0);
         }
+        self.filled &= !(1 << device);
+    }
+
+    /// The rows that may hold a word: bit j is device j. In all others it last stored 0 everywhere.
+    pub fn filled(&self) -> u16
+        ensures { AreEmptyBut result self.now.last }
+    {
+        let Desk { filled, .. } = self;
+        *filled
     }
 
     // Stores a lawful word.
@@ -80,6 +92,7 @@ impl Desk {
         ensures same { (self.new.rows ≡ self.old.rows) × (self.new.history ≡ self.old.history) }
     {
         let place = place(device, slot);
+        self.filled |= 1 << device;
         rows.words
             .shared
             .store::<Fills>(&mut self.seat, place, word);

@@ -47,7 +47,7 @@ impl Rows {
         let (words, mut seat) = Words::of_words(alloc, &[0; WORDS], &size)?;
         let ports = make_ports(alloc, &words, &mut seat)?;
         let passes = make_passes(alloc, &words, &mut seat, passes)?;
-        Ok((Rows { words }, Desk { seat }, ports, passes))
+        Ok((Rows { words }, Desk { seat, filled: 0 }, ports, passes))
     }
 }
 

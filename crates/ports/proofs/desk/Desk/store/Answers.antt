@@ -1,11 +1,12 @@
-use Rattle.std.proofs.Common.{ℕ, ◌<◌, length, get_or-set_same, arith, sym, ap, ◌∙◌, subst}
-use Rattle.std.specs.Prelude.{slice_index}
+use Rattle.std.proofs.Common.{◌≡◌, rules, ℕ, ◌<◌, length, get_or-set_same, arith, sym, ap, ◌∙◌, subst}
+use Rattle.std.specs.Prelude.{slice_index, slice_set}
 use Rattle.dmatypes.specs.History.{IsLegal}
 use Rattle.ports.specs.Lawful.{IsLawfulAfter}
 use Rattle.ports.specs.Seen.{Desk, Rows}
 use Rattle.ports.specs.Steps.{place_of}
 use Rattle.ports.specs.declared.known.View.{View}
 use Rattle.ports.proofs.histories.LawfulWords.{legal_empty, lawful_zero}
+use Rattle.ports.proofs.lists.Rows.{stored_filled}
 use Rattle.ports.proofs.steps.Stores.{fills}
 use Rattle.ports.proofs.desk.Desk.store.Goals as goal
 
@@ -31,3 +32,14 @@ returns-clause-stored c =
     let lt : i < length c.self.inside.seat.me.0.last = rw c.self.invariant.1 (omega (arith, c.requires.place)) in
     ap (λ (v : View). slice_index v.last i) c.store.ensures.2
     ∙ rw c.place-place.ensures (get_or-set_same c.self.inside.seat.me.0.last i c.args.word 0 lt)
+
+pub invariant_of-self : goal.invariant_of-self
+invariant_of-self c =
+    let is : c.store.new.seat.me.0.last ≡ slice_set c.self.inside.seat.me.0.last (place_of c.args.device c.args.slot) c.args.word =
+    ap (λ (v : View). v.last) c.store.ensures.2
+    ∙ ap (λ (k : ℕ). slice_set c.self.inside.seat.me.0.last k c.args.word) c.place-place.ensures in (
+      search rules,
+      search rules,
+      stored_filled c.self.inside.filled c.args.device c.args.slot c.args.word c.self.inside.seat.me.0.last c.store.new.seat.me.0.last
+          c.requires.place.0 c.requires.place.1 is c.self.invariant.2,
+    )
