@@ -8,7 +8,7 @@ the answer is `no thread` where a thread is refused. Where a request is refused 
 thread, either may be answered; there are no others once the first thread was asked for. No run holds a block at its end.
 
 An address space that is too small has no room for what the program asks for, or for its stack to grow: within it `vtdm` answers
-that there is no memory, or all, from where the system can load it on.
+that there is no memory, or all, from where the system can load it on; and a storm that there is no memory, or no thread.
 
 That each way to ask for memory is seen is tried first, by a program of its own; and the programs import no other way. The last
 line is `N passed, M failed`."""
@@ -24,6 +24,7 @@ MEMORY = f"{TOP}/crates/memory/out/memory"
 SMALL = ["--frames", "16", "--calls", "100"]
 STORM = [VTDM, "storm", "--drivers", "2", "--devices", "2", "--calls", "3"]
 STORM_THREADS = 5
+SMALL_STORM = [VTDM, "storm", "--drivers", "1", "--devices", "1", "--calls", "1"]
 # What is asked for at the making of a thread: by the toolchain, before it asks for the thread, and then by the C library at most,
 # which also uses again what a thread had that has ended.
 TOOLCHAIN_REQUESTS = 1
@@ -157,9 +158,12 @@ def within(space, words):
 
 
 def fault_of_spaces():
-    """Why the program does otherwise than to say that there is no memory, or to do all, in an address space in which it is loaded."""
-    for words in ([VTDM, "run", *SMALL], [VTDM, "report", *SMALL], [VTDM, "report", "--iova", *SMALL]):
+    """Why the program does otherwise than to say that there is no memory (of a storm, or no thread), or to do all, in an address space in
+    which it is loaded."""
+    for words in ([VTDM, "run", *SMALL], [VTDM, "report", *SMALL], [VTDM, "report", "--iova", *SMALL], SMALL_STORM):
         ample = within("unlimited", words)
+        # The stacks of threads take far more than such steps: a storm is tried up to where it is told that there is no thread.
+        last = (NO_THREAD[0], b"", NO_THREAD[1]) if words is SMALL_STORM else ample
         space, is_loaded, done, lacked = LEAST_SPACE, False, 0, 0
         while done < MORE_SPACES:
             space += SPACE_STEP
@@ -167,7 +171,7 @@ def fault_of_spaces():
             if not is_loaded and status == NOT_LOADED:
                 continue
             is_loaded = True
-            if (status, output, said) == ample:
+            if (status, output, said) == last:
                 done += 1
             elif (status, said) == NO_MEMORY and ample[1].startswith(output):
                 lacked, done = lacked + 1, 0

@@ -192,13 +192,14 @@ fn audited<B: Owner + Send + Sync, R: Threads + Wait + Abort + Sync>(
     alloc: Global,
     seed: Seed,
 ) -> Result<(), Fail>
-    requires { IsNamedBy seed B.name B.parts B.shares B.room B.frames B.mode B.rows B.most }
+    requires { IsNamedBy seed B.name B.parts B.shares B.room B.frames B.mode B.rows B.most B.handing }
 {
     let Made {
         manager,
         rows,
         mut ports,
         mut shares,
+        ..
     } = Manager::<B>::new(alloc, seed)?;
     if shares.len() != 4 {
         return Err(Fail::from("four shares"));

@@ -63,13 +63,14 @@ fn time_owned<B: Owner + Send + Sync, C: Clock + Wait + Threads + Sync>(
     hits: Hits,
     seed: Seed,
 ) -> Result<Tenths, Trouble>
-    requires { IsNamedBy seed B.name B.parts B.shares B.room B.frames B.mode B.rows B.most }
+    requires { IsNamedBy seed B.name B.parts B.shares B.room B.frames B.mode B.rows B.most B.handing }
 {
     let Made {
         manager,
         rows,
         ports,
         mut shares,
+        ..
     } = Manager::<B>::new(alloc, seed)?;
     let mut mine = shares.pop().ok_or(Trouble::Wrong)?;
     state_page(clock, &manager, &rows, &mut mine)?;

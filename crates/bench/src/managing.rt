@@ -46,7 +46,7 @@ fn time_owned<B: Owner, C: Clock + Wait>(
     attached: bool,
     seed: Seed,
 ) -> Result<Tenths, Trouble>
-    requires { IsNamedBy seed B.name B.parts B.shares B.room B.frames B.mode B.rows B.most }
+    requires { IsNamedBy seed B.name B.parts B.shares B.room B.frames B.mode B.rows B.most B.handing }
 {
     let Made {
         manager,
@@ -132,7 +132,7 @@ pub(crate) fn check_reply(
 ) -> Result<(), Trouble> {
     match answer {
         Ok((_, reply)) => check(reply == wanted),
-        Err(HistoryFull) => Err(Trouble::TooManyCalls),
+        Err(HistoryFull { .. }) => Err(Trouble::TooManyCalls),
     }
 }
 

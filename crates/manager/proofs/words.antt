@@ -1,3 +1,4 @@
 pub mod Cleared
+pub mod Rows
 pub mod Entered
 pub mod Filled

@@ -55,7 +55,8 @@ pub record IsWithinLimits (frames calls shares : ℕ) : Type 0 where
   pub least_shares : 1 ≤ shares
   pub most_shares : shares ≤ MOST_SHARES
 
--- one manager's numbers, whether its unit has Caching Mode, the name of its ledger, and its rows
+-- one manager's numbers, whether its unit has Caching Mode, the names of its two ledgers, of its calls and of what it hands on, and
+-- its rows
 pub record Seed : Type 0 where
   pub name : ℕ
   pub shares : ℕ
@@ -64,6 +65,7 @@ pub record Seed : Type 0 where
   pub caching : Bool
   pub rows : Rows
   pub most : ℕ
+  pub handing : ℕ
 
 -- the rows of no table
 abbrev pub no_rows : Rows
@@ -72,9 +74,9 @@ no_rows = record {
   frames = 0;
 }
 
--- an owner with this ledger, these numbers, this mode and these rows names the manager that the seed becomes: one part of the ledger
--- for each share
-pub record IsNamedBy (seed : Seed) (name parts shares room frames : ℕ) (mode : Bool) (rows : Rows) (most : ℕ) : Type 0 where
+-- an owner with these ledgers, these numbers, this mode and these rows names the manager that the seed becomes: one part of the
+-- ledger of calls for each share
+pub record IsNamedBy (seed : Seed) (name parts shares room frames : ℕ) (mode : Bool) (rows : Rows) (most handing : ℕ) : Type 0 where
   pub name_is : seed.name ≡ name
   pub parts_are : seed.shares ≡ parts
   pub shares_are : seed.shares ≡ shares
@@ -83,6 +85,7 @@ pub record IsNamedBy (seed : Seed) (name parts shares room frames : ℕ) (mode :
   pub mode_is : seed.caching ≡ mode
   pub rows_are : seed.rows ≡ rows
   pub most_is : seed.most ≡ most
+  pub handing_is : seed.handing ≡ handing
 
 -- the history is legal, the state is one of the world after it, with all places for domains and devices and nothing
 -- that waits in the ring but descriptors of tickets, the history follows states from a new one of this mode (whether the unit has
@@ -118,6 +121,10 @@ pub record Epoch : Type 0 where
 -- how many events of the history there are up to their end
 abbrev pub upto : Epoch → ℕ
 upto e = e.first + length e.events
+
+-- nothing was handed on
+abbrev pub new_epoch : Epoch
+new_epoch = record { first = 0; events = [] }
 
 -- they are the end of this history
 abbrev pub IsEndOf : Epoch → List Event → Type 0

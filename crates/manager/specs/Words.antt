@@ -1,4 +1,5 @@
 -- What a call makes of the words in the devices' rows: of those that the desk stored there last.
+use Rattle.std.specs.Int.{bit_at}
 use Rattle.std.specs.Prelude.{◌≡◌, ◌<◌, ℕ, ◌⊎◌, Bool, true, false, List, IsSomeAnd, slice_index, slice_set}
 use Rattle.dmatypes.specs.Allows.{domain_of_device}
 use Rattle.dmatypes.specs.Page.{page_of}
@@ -20,6 +21,14 @@ AreCleared w call reply last last' =
     → (IsCleared w call reply device → slice_index last' (place_of device slot) ≡ 0)
     × ((IsCleared w call reply device → ⊥)
     → slice_index last' (place_of device slot) ≡ slice_index last (place_of device slot))
+
+-- each device of these bits is one whose row is cleared, and each other such row is empty
+abbrev pub TellRows : List ℕ → World → Call → Reply → ℕ → Type 0
+TellRows last w call reply bits =
+    (device : ℕ) → device < 16
+    → (bit_at bits device ≡ 1 → IsCleared w call reply device)
+    × (IsCleared w call reply device
+    → (bit_at bits device ≡ 1) ⊎ ((slot : ℕ) → slot < 16 → slice_index last (place_of device slot) ≡ 0))
 
 -- the device's domain has the page live or retired, with the frame and the rights that the word spells
 abbrev pub IsHad : World → ℕ → PortWord → Type 0

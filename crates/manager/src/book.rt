@@ -5,7 +5,7 @@ ghost use Rattle.dmatypes.specs.History.{event};
 ghost use Rattle.engine.specs.Steps.{Does};
 ghost use mathlib.Core.List.{IsPrefix};
 ghost use Rattle.dmatypes.specs.History.{after};
-ghost use Rattle.manager.specs.Kept.{AllSaw, Book, IsKept, IsWithinLimits, Share, end_of, kept_events, new_share, upto};
+ghost use Rattle.manager.specs.Kept.{AllSaw, Book, IsEndOf, IsKept, IsWithinLimits, Share, end_of, kept_events, new_epoch, new_share, upto};
 ghost use Rattle.ports.specs.Seen.{new_desk};
 ghost use Rattle.ports.specs.Steps.{counter};
 ghost use Rattle.ports.specs.declared.known.OwnStep.TheVariants.{Loaded};
@@ -14,9 +14,9 @@ ghost use Rattle.manager.specs.Report.{report_text};
 
 use crate::config::Config;
 use crate::entering::enter;
-use crate::epoch::{Epoch, TakenElsewhere};
+use crate::epoch::Epoch;
 use crate::manager::History;
-use crate::owner::Owner;
+use crate::owner::{Handing, Owner};
 use crate::port::{Port, Rows};
 use crate::report::Report;
 use crate::share::{Share, cut, merged};
@@ -29,16 +29,19 @@ use std::mem;
 use std::sync::ledger;
 use std::sync::ledger::Blank;
 
-/// There is no room left for an event. Nothing was changed, but for what the share has seen.
+/// There is no room left for an event. Nothing was changed, but for what the share has seen. A book alone can make one.
 #[derive(Clone, Copy, Debug, PartialEq, Eq)]
-pub struct HistoryFull;
+pub struct HistoryFull {
+    by_a_book: (),
+}
 
 /// The state, the history of its calls, and the desk that stores port words and makes the history known. Its type keeps
 /// that the history is legal, that the events which are kept are its end, that the state fits the world after it, that the
 /// history follows states by the state's methods alone, and that every word in the rows is lawful after it.
 #[derive(Drop)]
 pub struct Book<B: Owner> {
-    state: State,
+    // In a place of its own, since it is large and whoever has a book moves it.
+    state: Box<State>,
     // The end of the history. All of it stands in the desk's, which only contracts see.
     kept: Vec<Event>,
     handed: u64,
@@ -47,6 +50,7 @@ pub struct Book<B: Owner> {
     room: u64,
     most: u64,
     counted: ledger::Book<B>,
+    handing: ledger::Book<Handing<B>>,
     desk: Desk,
 }
 
@@ -57,51 +61,60 @@ impl<B: Owner> Model for Book<B> {
 
     ghost Value = { Book };
 
-    ghost view = { λ b. record { history = b.desk.history; state = b.state; last = b.desk.last; handed = b.handed } };
+    ghost view = { λ b. record { history = b.desk.history; state = b.state.value; last = b.desk.last; handed = b.handed } };
 
     ghost invariant = { λ b. IsKept B.frames B.room B.mode B.most
-        (record { history = b.desk.history; state = b.state; last = b.desk.last; handed = b.handed })
+        (record { history = b.desk.history; state = b.state.value; last = b.desk.last; handed = b.handed })
         × (b.room ≡ B.room) × (B.room ≤ vec_capacity b.kept) × (B.most ≤ CALLS_END) × (b.counted.total ≡ length b.desk.history)
         × (1 ≤ B.shares) × (B.shares ≡ B.parts) × (b.desk.rows ≡ B.rows) × (B.rows.frames ≡ B.frames)
-        × (b.kept.items ≡ drop b.handed b.desk.history) × (b.most ≡ B.most) × (b.end ≡ min (b.handed + B.room) B.most) };
+        × (b.kept.items ≡ drop b.handed b.desk.history) × (b.most ≡ B.most) × (b.end ≡ min (b.handed + B.room) B.most)
+        × (b.handing.total ≡ b.handed) × (1 ≤ B.room) };
 }
 
 impl<B: Owner> Book<B> {
-    /// An empty book, with its shares.
+    /// An empty book, with its shares and its epoch.
     pub(crate) fn new(
         alloc: Global,
         config: Config,
         blank: Blank,
+        handing: Blank,
         desk: Desk,
         passes: Vec<Pass>,
-    ) -> Result<(Book<B>, Vec<Share<B>>), AllocError>
+    ) -> Result<(Book<B>, Vec<Share<B>>, Epoch<B>), AllocError>
         requires config { IsWithinLimits config.frames config.calls config.shares × (config.shares ≡ B.shares) × (config.calls ≡ B.room)
             × (config.frames ≡ B.frames)
             × (config.caching ≡ B.mode)
             × (config.most ≡ B.most) }
         requires blank { (blank.name ≡ B.name) × (blank.parts ≡ B.parts) × (B.shares ≡ B.parts) }
+        requires handing { (handing.name ≡ B.handing) × (handing.parts ≡ 1) }
         requires desk { (desk ≡ new_desk B.rows) × (B.rows.frames ≡ B.frames) }
         requires passes { (vec_len passes ≡ B.shares) × All (λ pass. (pass.rows ≡ B.rows) × (pass.seen ≡ [])) passes.items }
         ensures book { IfOk result (λ r. (r.0.history ≡ []) × (r.0.handed ≡ 0)) }
         ensures shares { IfOk result (λ r. vec_len r.1 ≡ B.shares) }
         ensures fresh { IfOk result (λ r. All (λ s. s ≡ new_share) r.1.items) }
+        ensures epoch { IfOk result (λ r. r.2 ≡ new_epoch) }
     {
         let (counted, whole) = blank.open::<B>();
+        let (handing, part) = handing.open::<Handing<B>>();
         let kept = Vec::with_capacity(alloc, config.calls() as usize)?;
+        let epoch = Epoch::new(alloc, config, part)?;
         let shares = cut(alloc, whole, passes)?;
         let state = State::with_caching(alloc, config.frames(), config.is_caching())?;
+        let boxed = Box::new(alloc, state)?;
         Ok((
             Book {
-                state,
+                state: boxed,
                 kept,
                 handed: 0,
                 end: config.calls(),
                 room: config.calls(),
                 most: config.most(),
                 counted,
+                handing,
                 desk,
             },
             shares,
+            epoch,
         ))
     }
 
@@ -186,24 +199,59 @@ impl<B: Owner> Book<B> {
     }
 
     /// Hands on the events that are kept, in place of those that the epoch had, which are the ones before them, and goes on in its
-    /// room. Nothing else changes. Where events were handed on into another epoch since, nothing changes at all.
-    pub fn hand_on(&mut self, epoch: &mut Epoch<B>) -> Result<(), TakenElsewhere>
+    /// room. The share has then seen the history, whose end they are. Nothing else changes.
+    pub fn hand_on(&mut self, rows: &Rows<B>, mine: &mut Share<B>, epoch: &mut Epoch<B>)
         requires { B.room < B.most }
-        ensures follows { IsOk result ↔ upto epoch.old ≡ self.old.handed }
-        ensures epoch { OnOk result (epoch.new ≡ record { first = self.old.handed; events = kept_events self.old }) }
-        ensures handed { OnOk result (self.new.handed ≡ length self.old.history) }
+        ensures follows { upto epoch.old ≡ self.old.handed }
+        ensures epoch { epoch.new ≡ record { first = self.old.handed; events = kept_events self.old } }
+        ensures end { IsEndOf epoch.new mine.new.seen }
+        ensures seen { IsPrefix mine.old.seen self.old.history × (mine.new.seen ≡ self.old.history) × (mine.new.calls ≡ mine.old.calls) }
+        ensures handed { self.new.handed ≡ length self.old.history }
         ensures same { (self.new.history ≡ self.old.history) × (self.new.state ≡ self.old.state) × (self.new.last ≡ self.old.last) }
-        ensures elsewhere { OnErr result ((self.new ≡ self.old) × (epoch.new ≡ epoch.old)) }
         ensures kept { IsKept B.frames B.room B.mode B.most self.new }
     {
-        if epoch.upto() != self.handed {
-            return Err(TakenElsewhere);
-        }
+        let Book {
+            kept,
+            handed,
+            end,
+            room,
+            most,
+            handing,
+            desk,
+            ..
+        } = self;
+        desk.tell(&rows.words, &mut mine.pass);
+        handing.audit(&mut epoch.part);
         epoch.clear();
-        mem::swap(&mut self.kept, &mut epoch.events);
-        self.handed += epoch.events.len() as u64;
-        self.end = (self.handed + self.room).min(self.most);
-        Ok(())
+        mem::swap(kept, &mut epoch.events);
+        let more = epoch.events.len() as u64;
+        handing.add(&mut epoch.part, more);
+        *handed += more;
+        *end = (*handed + *room).min(*most);
+    }
+
+    /// Hands on what is kept, as `hand_on` does, where there is no room for one more event and the manager hands on at all. There is room
+    /// afterwards, but where the history has the most in all.
+    pub fn make_room(&mut self, rows: &Rows<B>, mine: &mut Share<B>, epoch: &mut Epoch<B>)
+        ensures room { length self.old.history < B.most → length self.new.history < end_of B.room B.most self.new }
+        ensures none { length self.old.history < end_of B.room B.most self.old → (self.new ≡ self.old) × (epoch.new ≡ epoch.old) }
+        ensures seen { IsPrefix mine.old.seen mine.new.seen × (mine.new.calls ≡ mine.old.calls) }
+        ensures same { (self.new.history ≡ self.old.history) × (self.new.state ≡ self.old.state) × (self.new.last ≡ self.old.last) }
+        ensures kept { IsKept B.frames B.room B.mode B.most self.new }
+    {
+        let before = self.handed + self.kept.len() as u64;
+        if before == self.end && self.room < self.most {
+            self.hand_on(rows, mine, epoch);
+        }
+    }
+
+    /// The epoch has all that was handed on, and before it what it had and forgot.
+    pub(crate) fn audit_epoch(&mut self, epoch: &mut Epoch<B>)
+        ensures same { (self.new ≡ self.old) × (epoch.new ≡ epoch.old) }
+        ensures upto { upto epoch.old ≡ self.old.handed }
+    {
+        let Book { handing, .. } = self;
+        handing.audit(&mut epoch.part);
     }
 
     /// Hands the history out to whoever has all shares.
@@ -224,7 +272,8 @@ impl<B: Owner> Book<B> {
 
     /// Makes a call and enters it; the share has then seen the whole history. The number is the event's place in the history,
     /// from 1. A refused call is entered too; `HistoryFull` comes exactly where as many events are kept as there is room for, or the
-    /// history has the most in all. Where there is room for all, that is the same.
+    /// history has the most in all. Where there is room for all, that is the same. Whoever knows the call's kind pays for no look at it.
+    #[inline(always)]
     pub fn call(
         &mut self,
         rows: &Rows<B>,
@@ -255,11 +304,12 @@ impl<B: Owner> Book<B> {
             ..
         } = self;
         let Share { calls, part, pass } = mine;
+        let state = state.as_mut();
         counted.audit(part);
         let before = *handed + kept.len() as u64;
         if before == *end {
             desk.tell(&rows.words, pass);
-            return Err(HistoryFull);
+            return Err(HistoryFull { by_a_book: () });
         }
         // It holds the call from here on, so that the call is moved once; the reply is put in its place below.
         let mut event = Event {

@@ -126,6 +126,7 @@ impl Config {
 pub struct Seed {
     pub(crate) config: Config,
     pub(crate) blank: Blank,
+    pub(crate) handing: Blank,
     pub(crate) rows: Rows,
     pub(crate) desk: Desk,
     pub(crate) ports: Vec<Port>,
@@ -149,9 +150,10 @@ impl Model for Seed {
           caching = s.config.caching;
           rows = s.rows;
           most = s.config.most;
+          handing = s.handing.name;
         } };
 
-    ghost invariant = { λ s. (s.blank.parts ≡ s.config.shares) × IsWithinLimits s.config.frames s.config.calls s.config.shares
+    ghost invariant = { λ s. (s.blank.parts ≡ s.config.shares) × (s.handing.parts ≡ 1) × IsWithinLimits s.config.frames s.config.calls s.config.shares
         × (s.rows.frames ≡ s.config.frames)
         × (s.desk ≡ new_desk s.rows) × (vec_len s.ports ≡ 16) × ArePorts s.rows s.ports.items 16
         × (vec_len s.passes ≡ s.config.shares) × ArePasses s.rows s.passes.items s.config.shares };
@@ -170,6 +172,7 @@ impl Seed {
         Ok(Seed {
             config,
             blank: Blank::new(config.shares()),
+            handing: Blank::new(1),
             rows,
             desk,
             ports,

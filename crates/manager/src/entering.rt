@@ -16,7 +16,7 @@ ghost use Rattle.ports.specs.Steps.{AreLawful, place_of};
 ghost use Rattle.vtdbits.specs.Translation.{target};
 ghost use Rattle.dmatypes.specs.Rights.{bits_of};
 ghost use Rattle.manager.specs.Kept.{EndsWith};
-ghost use Rattle.manager.specs.Words.{AreCleared, AreFilled, IsLastAfter};
+ghost use Rattle.manager.specs.Words.{AreCleared, AreFilled, IsLastAfter, TellRows};
 
 use dmatypes::{Call, Event, MOST_RECORDS, Mode, PAGE_BYTES, Page, Reply};
 use engine::{Hit, State};
@@ -25,6 +25,7 @@ use vtdbits::{PortWord, Translation};
 
 /// Clears the rows of the devices that an event takes pages away from, appends the event, and fills the word of a request
 /// with what it hit. The state is the one after the event.
+#[inline]
 pub(crate) fn enter(desk: &mut Desk, rows: &Rows, state: &State, event: &Event, hit: Option<Hit>)
     requires rows { desk.old.rows ≡ rows.now }
     requires room { length desk.old.history < CALLS_END }
@@ -37,9 +38,22 @@ pub(crate) fn enter(desk: &mut Desk, rows: &Rows, state: &State, event: &Event, 
     ensures last { IsLastAfter (after desk.old.rows.frames desk.old.history) event.now.call event.now.reply desk.old.last desk.new.last }
     ensures lawful { AreLawful (IsLawfulAfter desk.old.rows.frames) desk.new.history desk.new.last }
 {
-    clear(desk, rows, cleared_at(state, event));
+    let devices = rows_to_clear(desk, state, event);
+    clear(desk, rows, devices);
     desk.append(rows, event);
     fill(desk, rows, event, hit);
+}
+
+// The devices whose rows have to be cleared at an event, but for those that are empty.
+fn rows_to_clear(desk: &Desk, state: &State, event: &Event) -> u16
+    ensures { (w : World) → Quarantine state.now (next w event.now.call event.now.reply)
+        → TellRows desk.now.last w event.now.call event.now.reply result }
+{
+    let filled = desk.filled();
+    if filled == 0 {
+        return 0;
+    }
+    cleared_at(state, event) & filled
 }
 
 // The devices whose rows are cleared at an event: bit j is device j. The state is the one after it.

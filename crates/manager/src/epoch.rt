@@ -1,29 +1,28 @@
 //! A part of a history that was handed on.
 
-ghost use Rattle.std.specs.Prelude.{◌≡◌, ◌≤◌, [], IfOk};
-ghost use Rattle.dmatypes.specs.declared.limits.TheConstants.{MOST_CALLS};
-ghost use Rattle.manager.specs.Kept.{upto};
+ghost use Rattle.std.specs.Prelude.{◌≡◌, [], IfOk};
+ghost use Rattle.manager.specs.Kept.{new_epoch, upto};
 
-use crate::owner::Owner;
+use crate::config::Config;
+use crate::owner::{Handing, Owner};
 use dmatypes::Event;
 use std::alloc::{AllocError, Global};
-use std::marker::{Model, PhantomData};
+use std::marker::Model;
+use std::sync::ledger;
 
-/// The events before these were handed on into another epoch: into this one go only those behind its own.
-#[derive(Clone, Copy, Debug, PartialEq, Eq)]
-pub struct TakenElsewhere;
-
-/// Events that a manager handed on: those that it kept then, which are the end of its history of that moment. It has room for as
-/// many as are kept at one time, and serves again for those behind them.
+/// Events that a manager handed on: those that it kept then, which are the end of its history of that moment. A manager has one
+/// epoch, and all that it hands on goes through it: it has room for as many events as are kept at one time, and serves again for
+/// those after them. The epoch of a manager that keeps all has no room.
 #[derive(Drop)]
 pub struct Epoch<B: Owner> {
     pub(crate) first: u64,
     pub(crate) events: Vec<Event>,
-    pub(crate) owner: PhantomData<B>,
+    // All of the ledger: nobody else has events that were handed on.
+    pub(crate) part: ledger::Share<Handing<B>>,
 }
 
 impl<B: Owner> Model for Epoch<B> {
-    ghost use Rattle.std.specs.Prelude.{◌+◌, ◌≤◌, vec_capacity, vec_len};
+    ghost use Rattle.std.specs.Prelude.{◌≡◌, ◌+◌, ◌<◌, ◌≤◌, vec_capacity, vec_len};
     ghost use Rattle.dmatypes.specs.declared.limits.TheConstants.{CALLS_END};
     ghost use Rattle.manager.specs.Kept.{Epoch};
 
@@ -31,19 +30,30 @@ impl<B: Owner> Model for Epoch<B> {
 
     ghost view = { λ e. record { first = e.first; events = e.events.items } };
 
-    ghost invariant = { λ e. (B.room ≤ vec_capacity e.events) × (e.first + vec_len e.events ≤ CALLS_END) };
+    ghost invariant = { λ e. (B.room < B.most → B.room ≤ vec_capacity e.events) × (e.first + vec_len e.events ≤ CALLS_END)
+        × (e.part.parts ≡ 1) × (e.part.amount ≡ e.first + vec_len e.events) };
 }
 
 impl<B: Owner> Epoch<B> {
-    /// Room for so many events, with none in it.
-    pub(crate) fn new(alloc: Global, room: u64) -> Result<Epoch<B>, AllocError>
-        requires { (room ≡ B.room) × (room ≤ MOST_CALLS) }
-        ensures { IfOk result (λ e. (e.first ≡ 0) × (e.events ≡ [])) }
+    /// Room for what is handed on, with no event in it.
+    pub(crate) fn new(
+        alloc: Global,
+        config: Config,
+        part: ledger::Share<Handing<B>>,
+    ) -> Result<Epoch<B>, AllocError>
+        requires config { (config.calls ≡ B.room) × (config.most ≡ B.most) }
+        requires part { (part.parts ≡ 1) × (part.amount ≡ 0) }
+        ensures { IfOk result (λ e. e ≡ new_epoch) }
     {
+        let room = if config.calls() < config.most() {
+            config.calls()
+        } else {
+            0
+        };
         Ok(Epoch {
             first: 0,
             events: Vec::with_capacity(alloc, room as usize)?,
-            owner: PhantomData,
+            part,
         })
     }
 

@@ -8,7 +8,7 @@
 //! work::<Brand, _>(&rt, rt.alloc(), seed)
 //!
 //! fn work<B: Owner, R: Wait>(rt: &R, alloc: Global, seed: Seed) -> Result<(), AllocError>
-//!     requires { IsNamedBy seed B.name B.parts B.shares B.room B.frames B.mode B.rows B.most }
+//!     requires { IsNamedBy seed B.name B.parts B.shares B.room B.frames B.mode B.rows B.most B.handing }
 //! {
 //!     let Made { manager, rows, mut ports, mut shares } = Manager::<B>::new(alloc, seed)?;
 //!     let Some(mut mine) = shares.pop() else { return Ok(()) };
@@ -24,7 +24,7 @@
 //! ```
 //!
 //! `Manager::finish` hands the history out to whoever brings all shares. A manager of `Config::handing_on` goes on up to 2^56 calls:
-//! `Manager::hand_on` hands on what it keeps, into an `Epoch` of `Manager::epoch`.
+//! `Manager::hand_on` hands on what it keeps, into the `Epoch` that it was made with.
 #![tactic(auto)]
 
 mod book;
@@ -35,15 +35,17 @@ pub mod laws;
 mod manager;
 mod owner;
 mod port;
+mod quiet;
 mod report;
 mod report_lines;
 mod share;
 
 pub use book::{Book, HistoryFull};
 pub use config::{Config, Seed};
-pub use epoch::{Epoch, TakenElsewhere};
+pub use epoch::Epoch;
 pub use manager::{History, Made, Manager, SharesOut};
 pub use owner::Owner;
 pub use port::{Port, Rows};
+pub use quiet::Quiet;
 pub use report::Report;
 pub use share::Share;

@@ -5,15 +5,14 @@ ghost use Rattle.std.specs.Prelude.{OnOk, OnErr, All, sum_by, vec_len};
 ghost use Rattle.std.specs.Sync.Mutex.{mutex_guard_value};
 ghost use mathlib.Core.List.{IsPrefix};
 ghost use Rattle.dmatypes.specs.History.{IsLegal};
-ghost use Rattle.dmatypes.specs.declared.limits.TheConstants.{MOST_CALLS};
-ghost use Rattle.manager.specs.Kept.{AllSaw, Book, EndsWith, IsEndOf, IsKept, IsNamedBy, Share, kept_events, new_share, upto};
+ghost use Rattle.manager.specs.Kept.{AllSaw, Book, EndsWith, IsEndOf, IsKept, IsNamedBy, Share, kept_events, new_epoch, new_share, upto};
 ghost use Rattle.ports.specs.Seen.{ArePorts, new_port};
 ghost use Rattle.ports.specs.Steps.{counter};
 ghost use Rattle.ports.specs.declared.known.OwnStep.TheVariants.{Loaded};
 
 use crate::book::{Book, HistoryFull};
 use crate::config::Seed;
-use crate::epoch::{Epoch, TakenElsewhere};
+use crate::epoch::Epoch;
 use crate::owner::Owner;
 use crate::port::{Port, Rows};
 use crate::share::Share;
@@ -27,17 +26,27 @@ use std::sync::{Mutex, MutexGuard, Wait};
 pub struct Manager<B: Owner> {
     book: Mutex<Book<B>>,
     shares: u64,
-    room: u64,
-    ghost all: { (shares ≡ B.shares) × (room ≡ B.room) × (room ≤ MOST_CALLS) },
 }
 
-/// What a seed becomes: a manager, its port words, the ports of devices 0 to 15 in order, and all its shares.
+// Clauses see how many shares it has.
+impl<B: Owner> Model for Manager<B> {
+    ghost use Rattle.std.specs.Prelude.{◌≡◌, ℕ};
+
+    ghost Value = { ℕ };
+
+    ghost view = { λ m. m.shares };
+
+    ghost invariant = { λ m. m.shares ≡ B.shares };
+}
+
+/// What a seed becomes: a manager, its port words, the ports of devices 0 to 15 in order, all its shares, and its epoch.
 #[derive(Drop)]
 pub struct Made<B: Owner> {
     pub manager: Manager<B>,
     pub rows: Rows<B>,
     pub ports: Vec<Port<B>>,
     pub shares: Vec<Share<B>>,
+    pub epoch: Epoch<B>,
 }
 
 /// Fewer shares came than were made. The manager and the shares that came are handed back.
@@ -84,6 +93,14 @@ impl<B: Owner> History<B> {
         self.book.handed()
     }
 
+    /// Nothing is lost between the epoch's events and these: as many were handed on as the epoch has, with those that it forgot.
+    pub fn audit(&mut self, epoch: &mut Epoch<B>)
+        ensures upto { upto epoch.old ≡ self.old.handed }
+        ensures same { (self.new ≡ self.old) × (epoch.new ≡ epoch.old) }
+    {
+        self.book.audit_epoch(epoch);
+    }
+
     /// Tells a port the whole history.
     pub fn meet(&mut self, rows: &Rows<B>, port: &mut Port<B>)
         ensures seen { IsPrefix port.old.seen self.old.history × (port.new.seen ≡ self.old.history) }
@@ -95,30 +112,31 @@ impl<B: Owner> History<B> {
 }
 
 impl<B: Owner> Manager<B> {
-    /// Makes a manager with an empty history, its port words and ports, and its shares: no call was made by one, and none of
-    /// the ports and shares has seen anything.
+    /// Makes a manager with an empty history, its port words and ports, its shares and its epoch: no call was made by one, none of
+    /// the ports and shares has seen anything, and nothing was handed on.
     pub fn new(alloc: Global, seed: Seed) -> Result<Made<B>, AllocError>
-        requires { IsNamedBy seed B.name B.parts B.shares B.room B.frames B.mode B.rows B.most }
+        requires { IsNamedBy seed B.name B.parts B.shares B.room B.frames B.mode B.rows B.most B.handing }
         ensures ports { IfOk result (λ m. (vec_len m.ports ≡ 16)
             × ((k : ℕ) → k < 16 → slice_get m.ports.items k ≡ Some (new_port B.rows k))) }
         ensures shares { IfOk result (λ m. vec_len m.shares ≡ B.shares) }
         ensures fresh { IfOk result (λ m. All (λ s. s ≡ new_share) m.shares.items) }
+        ensures epoch { IfOk result (λ m. m.epoch ≡ new_epoch) }
     {
         let Seed {
             config,
             blank,
+            handing,
             rows,
             desk,
             ports,
             passes,
         } = seed;
-        let (book, shares) = Book::<B>::new(alloc, config, blank, desk, passes)?;
+        let (book, shares, epoch) = Book::<B>::new(alloc, config, blank, handing, desk, passes)?;
         let ports = owned(alloc, ports)?;
         Ok(Made {
             manager: Manager {
                 book: Mutex::new(book),
                 shares: config.shares(),
-                room: config.calls(),
             },
             rows: Rows {
                 words: rows,
@@ -126,6 +144,7 @@ impl<B: Owner> Manager<B> {
             },
             ports,
             shares,
+            epoch,
         })
     }
 
@@ -142,6 +161,7 @@ impl<B: Owner> Manager<B> {
 
     /// Makes a call under the lock; the share has then seen the whole history, which ends with the call and its reply and
     /// is as long as the number says. Where it is refused, the history is as long as the room, or longer by what was handed on.
+    #[inline(always)]
     pub fn call<R: Wait>(
         &self,
         rt: &R,
@@ -174,39 +194,24 @@ impl<B: Owner> Manager<B> {
         self.book.lock(rt).check_in(rows, mine, port);
     }
 
-    /// Room for what is handed on, from the beginning of the history on. All of a history goes through one epoch: into a second one
-    /// nothing is handed on once the first has events.
-    pub fn epoch(&self, alloc: Global) -> Result<Epoch<B>, AllocError>
-        ensures { IfOk result (λ e. (e.first ≡ 0) × (e.events ≡ [])) }
-    {
-        Epoch::new(alloc, self.room)
-    }
-
     /// Hands on the events that are kept, under the lock: the end of the history that the share has then seen, from where the epoch's
-    /// own events end, which it forgets. Then as many calls have room again. Where events were handed on into another epoch since, the
-    /// epoch has none afterwards, and nothing else changes.
+    /// own events end, which it forgets. Then as many calls have room again.
     pub fn hand_on<R: Wait>(
         &self,
         rt: &R,
         rows: &Rows<B>,
         mine: &mut Share<B>,
         epoch: &mut Epoch<B>,
-    ) -> Result<(), TakenElsewhere>
+    )
         requires { B.room < B.most }
         ensures first { epoch.new.first ≡ upto epoch.old }
-        ensures end { OnOk result (IsEndOf epoch.new mine.new.seen) }
-        ensures elsewhere { OnErr result (epoch.new.events ≡ []) }
+        ensures end { IsEndOf epoch.new mine.new.seen }
         ensures seen { IsPrefix mine.old.seen mine.new.seen × (mine.new.calls ≡ mine.old.calls) }
         ensures legal { IsLegal B.frames mine.new.seen }
     {
         // They are dropped before the lock.
         epoch.clear();
-        let mut guard = self.book.lock(rt);
-        let book = &mut *guard;
-        // It changes nothing: its contract says that the history which the share has seen is legal.
-        book.keeps();
-        book.tell(rows, mine);
-        book.hand_on(epoch)
+        self.book.lock(rt).hand_on(rows, mine, epoch);
     }
 
     /// Hands the history out to whoever has all shares; with fewer, the manager and the shares come back.

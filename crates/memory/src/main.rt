@@ -57,7 +57,8 @@ fn tell_all<R: Wait, W: Write>(rt: &R, alloc: Global, output: &mut W) -> io::Res
     let Some(config) = Config::new(LEAST_TABLE_FRAMES, CALLS, SHARES) else {
         return Err(io::Error::from(io::ErrorKind::Other));
     };
-    match Seed::new(alloc, config) {
+    // One that hands on, so that its epoch takes memory too.
+    match Seed::new(alloc, config.handing_on()) {
         Ok(seed) => tell_manager::<Brand, R, W>(rt, alloc, output, seed),
         Err(AllocError) => tell(output, "seed", Err(AllocError)),
     }
@@ -90,7 +91,7 @@ fn tell_manager<B: Owner, R: Wait, W: Write>(
     output: &mut W,
     seed: Seed,
 ) -> io::Result<()>
-    requires { IsNamedBy seed B.name B.parts B.shares B.room B.frames B.mode B.rows B.most }
+    requires { IsNamedBy seed B.name B.parts B.shares B.room B.frames B.mode B.rows B.most B.handing }
 {
     let Ok(made) = Manager::<B>::new(alloc, seed) else {
         return tell(output, "manager", Err(AllocError));
@@ -102,8 +103,6 @@ fn tell_manager<B: Owner, R: Wait, W: Write>(
         ..
     } = made;
     tell(output, "manager", Ok(shares.len() as u64))?;
-    let epoch = manager.epoch(alloc);
-    tell(output, "epoch", epoch.map(|epoch| epoch.upto()))?;
     if let Some(mine) = shares.last_mut() {
         let _ = manager.call(
             rt,

@@ -120,7 +120,7 @@ fn answer<B: Owner>(
             reply_line(reply, text);
             true
         }
-        Err(HistoryFull) => {
+        Err(HistoryFull { .. }) => {
             reply_line(Reply::Refused(Refusal::HistoryFull), text);
             false
         }

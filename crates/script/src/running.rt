@@ -189,7 +189,7 @@ fn work_through<B: Owner, T: Wait, R: Source, W: Sink>(
     seed: Seed,
     output: Output,
 ) -> Result<(), RunError>
-    requires named { IsNamedBy seed B.name B.parts B.shares B.room B.frames B.mode B.rows B.most }
+    requires named { IsNamedBy seed B.name B.parts B.shares B.room B.frames B.mode B.rows B.most B.handing }
     requires one { seed.shares ≡ 1 }
     requires reader { R.has_failed reader.old.wrapped ≡ false }
     requires writer { W.has_failed writer.old.wrapped ≡ false }

@@ -115,7 +115,7 @@ fn storm_on<B: Owner + Send + Sync, G: Gate, R: Threads + Wait + Sync>(
     plan: Plan,
     gate: &G,
 ) -> Result<u64, StormError>
-    requires named { IsNamedBy seed B.name B.parts B.shares B.room B.frames B.mode B.rows B.most }
+    requires named { IsNamedBy seed B.name B.parts B.shares B.room B.frames B.mode B.rows B.most B.handing }
     requires room { seed.room ≡ 2 + plan.devices + plan.calls * (plan.drivers + plan.devices + 1) }
     requires most { seed.most ≡ seed.room }
     requires shares { seed.shares ≡ plan.drivers + plan.devices + 2 }
@@ -142,7 +142,7 @@ pub(crate) fn outcome_of<B: Owner + Send + Sync, G: Gate, R: Threads + Wait + Sy
     plan: Plan,
     gate: &G,
 ) -> Result<Outcome<B>, StormError>
-    requires named { IsNamedBy seed B.name B.parts B.shares B.room B.frames B.mode B.rows B.most }
+    requires named { IsNamedBy seed B.name B.parts B.shares B.room B.frames B.mode B.rows B.most B.handing }
     requires room { seed.room ≡ 2 + plan.devices + plan.calls * (plan.drivers + plan.devices + 1) }
     requires most { seed.most ≡ seed.room }
     requires shares { seed.shares ≡ plan.drivers + plan.devices + 2 }
@@ -178,6 +178,7 @@ fn outcome_on<B: Owner + Send + Sync, G: Gate, R: Threads + Wait + Sync>(
         rows,
         ports,
         mut shares,
+        ..
     } = made?;
     let Some(mut first) = shares.pop() else {
         unreachable!()

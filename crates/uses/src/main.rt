@@ -31,7 +31,7 @@ fn two_drivers<B: Owner + Send + Sync, R: Threads + Wait + Sync, W: Write>(
     seed: Seed,
     output: &mut W,
 ) -> io::Result<()>
-    requires { IsNamedBy seed B.name B.parts B.shares B.room B.frames B.mode B.rows B.most }
+    requires { IsNamedBy seed B.name B.parts B.shares B.room B.frames B.mode B.rows B.most B.handing }
 {
     let made = Manager::<B>::new(alloc, seed)?;
     let (manager, rows, mut shares) = (made.manager, made.rows, made.shares);

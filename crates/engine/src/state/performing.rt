@@ -14,7 +14,8 @@ use dmatypes::{Call, Fault, Refusal, Reply};
 use unit::Hit;
 
 impl State {
-    /// Makes a call.
+    /// Makes a call. Whoever knows its kind pays for no look at it.
+    #[inline(always)]
     pub fn perform(&mut self, call: &Call) -> Answer
         requires { self.old.calls < CALLS_END }
         ensures does { Does self.old call.now result.reply self.new }
@@ -36,6 +37,7 @@ impl State {
     }
 
     // Makes a call that is no request.
+    #[inline(always)]
     fn reply_to(&mut self, call: &Call) -> Reply
         requires counts { self.old.calls < CALLS_END }
         requires other { IsNoRequest call.now }

@@ -1,5 +1,5 @@
 -- The words of the rows, when an event enters the history.
-use Rattle.std.proofs.Common.{◌≡◌, ◌<◌, ℕ, inl, inr, List, [], ◌∷◌, ◌++◌, slice_index, sym, subst}
+use Rattle.std.proofs.Common.{◌∙◌, ◌≡◌, ◌<◌, ℕ, inl, inr, List, [], ◌∷◌, ◌++◌, slice_index, sym, subst}
 use Rattle.std.specs.Int.{bit_at}
 use Rattle.std.specs.Prelude.{Option, None, Some}
 use Rattle.dmatypes.specs.declared.call.Call.{Call}
@@ -20,8 +20,7 @@ use Rattle.ports.specs.Steps.{AreLawful, place_of}
 use Rattle.ports.proofs.histories.LawfulWords.{lawful_zero}
 use Rattle.ports.proofs.histories.Staying.{keeps}
 use Rattle.unit.specs.declared.hit.Hit.{Hit}
-use Rattle.manager.specs.Words.{AreCleared}
-use Rattle.manager.proofs.words.Cleared.{TellCleared}
+use Rattle.manager.specs.Words.{AreCleared, TellRows}
 
 -- the words of the devices of these bits are 0, and all others stay
 abbrev pub AreEmptied : ℕ → List ℕ → List ℕ → Type 0
@@ -31,9 +30,15 @@ AreEmptied bits last last' =
     × ((bit_at bits device ≡ 1 → ⊥) → slice_index last' (place_of device slot) ≡ slice_index last (place_of device slot))
 
 pub emptied_cleared : (w : World) (call : Call) (reply : Reply) (bits : ℕ) (last last' : List ℕ)
-    → TellCleared w call reply bits → AreEmptied bits last last' → AreCleared w call reply last last'
+    → TellRows last w call reply bits → AreEmptied bits last last' → AreCleared w call reply last last'
 emptied_cleared w call reply bits last last' tells emptied device slot low small = (
-  λ is. (emptied device slot low small).0 ((tells device low).1 is),
+  λ is. elim (same_or_not (bit_at bits device) 1) [
+    | inl one ↦ (emptied device slot low small).0 one
+    | inr not ↦ elim ((tells device low).1 is) [
+      | inl one ↦ absurd (not one)
+      | inr none ↦ (emptied device slot low small).1 not ∙ none slot small
+    ]
+  ],
   λ not. (emptied device slot low small).1 (λ one. not ((tells device low).0 one)),
 )
 
@@ -51,7 +56,7 @@ step_at frames history e legal = step_from (empty frames) history e legal
 -- the words stay lawful where the rows that are to be are cleared
 pub lawful_cleared : (frames : ℕ) (history : List Event) (e : Event) (bits : ℕ) (last last' : List ℕ)
     → IsLegal frames (history ++ e ∷ []) → AreLawful (IsLawfulAfter frames) history last
-    → TellCleared (after frames history) e.call e.reply bits → AreEmptied bits last last'
+    → TellRows last (after frames history) e.call e.reply bits → AreEmptied bits last last'
     → AreLawful (IsLawfulAfter frames) (history ++ e ∷ []) last'
 lawful_cleared frames history e bits last last' legal lawful tells emptied device slot low small =
     elim (same_or_not (bit_at bits device) 1) [
@@ -60,10 +65,18 @@ lawful_cleared frames history e bits last last' legal lawful tells emptied devic
           (lawful_zero frames (history ++ e ∷ []) device)
       | inr not ↦
           subst (IsLawfulAfter frames (history ++ e ∷ []) device) (sym ((emptied device slot low small).1 not))
-          (subst (λ (w : World). IsLawful w device (slice_index last (place_of device slot)))
-          (sym (after_from-push (empty frames) history e)) (keeps (after frames history) e.call e.reply device
-          (slice_index last (place_of device slot)) (step_at frames history e legal) (lawful device slot low small)
-          (λ is. not ((tells device low).1 is))))
+          (elim (same_or_not (slice_index last (place_of device slot)) 0) [
+            | inl none ↦
+                subst (IsLawfulAfter frames (history ++ e ∷ []) device) (sym none)
+                (lawful_zero frames (history ++ e ∷ []) device)
+            | inr some ↦ (subst (λ (w : World). IsLawful w device (slice_index last (place_of device slot)))
+                (sym (after_from-push (empty frames) history e)) (keeps (after frames history) e.call e.reply device
+                (slice_index last (place_of device slot)) (step_at frames history e legal) (lawful device slot low small)
+                (λ is. elim ((tells device low).1 is) [
+                  | inl one ↦ not one
+                  | inr none ↦ some (none slot small)
+                ])))
+          ])
     ]
 
 -- ---- the hit
@@ -99,9 +112,9 @@ hit_after frames history e hit is =
 module _ (s : State) (frames : ℕ) (history : List Event) (e : Event) (bits : ℕ) (last last' : List ℕ)
     (legal : IsLegal frames (history ++ e ∷ []))
     (lawful : AreLawful (IsLawfulAfter frames) history last) (state : Quarantine s (after frames (history ++ e ∷ [])))
-    (tells : (w : World) → Quarantine s (next w e.call e.reply) → TellCleared w e.call e.reply bits)
+    (tells : (w : World) → Quarantine s (next w e.call e.reply) → TellRows last w e.call e.reply bits)
     (emptied : AreEmptied bits last last') where
-  tells_here : TellCleared (after frames history) e.call e.reply bits
+  tells_here : TellRows last (after frames history) e.call e.reply bits
   tells_here = tells (after frames history) (subst (Quarantine s) (after_from-push (empty frames) history e) state)
 
   pub words_lawful : AreLawful (IsLawfulAfter frames) (history ++ e ∷ []) last'

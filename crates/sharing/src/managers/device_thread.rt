@@ -128,13 +128,14 @@ fn device_beside_driver<B: Owner + Send + Sync, R: Threads + Wait + Abort + Sync
     alloc: Global,
     seed: Seed,
 ) -> Result<(), Fail>
-    requires { IsNamedBy seed B.name B.parts B.shares B.room B.frames B.mode B.rows B.most }
+    requires { IsNamedBy seed B.name B.parts B.shares B.room B.frames B.mode B.rows B.most B.handing }
 {
     let Made {
         manager,
         rows,
         mut ports,
         mut shares,
+        ..
     } = Manager::<B>::new(alloc, seed)?;
     let mut driver = shares.pop().ok_or("a share")?;
     let device = Device {

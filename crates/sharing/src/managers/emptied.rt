@@ -64,7 +64,7 @@ impl<B: Owner> Machine<B> {
     fn reply_to<R: Wait>(&mut self, rt: &R, call: Call) -> Reply {
         match self.manager.call(rt, &self.rows, &mut self.share, call) {
             Ok((_, reply)) => reply,
-            Err(HistoryFull) => Reply::Refused(Refusal::HistoryFull),
+            Err(HistoryFull { .. }) => Reply::Refused(Refusal::HistoryFull),
         }
     }
 
@@ -160,7 +160,7 @@ fn filled<B: Owner, R: Wait + Abort>(
     script: &str,
     records: u64,
 ) -> Result<Machine<B>, Fail>
-    requires { IsNamedBy seed B.name B.parts B.shares B.room B.frames B.mode B.rows B.most }
+    requires { IsNamedBy seed B.name B.parts B.shares B.room B.frames B.mode B.rows B.most B.handing }
 {
     let (manager, rows, ports, share) = made::<B>(alloc, seed)?;
     let mut machine = Machine {
@@ -189,7 +189,7 @@ fn judged<B: Owner, R: Wait + Abort>(
     seed: Seed,
     situation: &Situation<'_>,
 ) -> Result<(), Fail>
-    requires { IsNamedBy seed B.name B.parts B.shares B.room B.frames B.mode B.rows B.most }
+    requires { IsNamedBy seed B.name B.parts B.shares B.room B.frames B.mode B.rows B.most B.handing }
 {
     let Situation {
         script,
@@ -279,7 +279,7 @@ fn calls_at_a_full_history(rt: HostRuntime) -> Result<(), Fail> {
 }
 
 fn filled_up<B: Owner, R: Wait + Abort>(rt: &R, alloc: Global, seed: Seed) -> Result<(), Fail>
-    requires { IsNamedBy seed B.name B.parts B.shares B.room B.frames B.mode B.rows B.most }
+    requires { IsNamedBy seed B.name B.parts B.shares B.room B.frames B.mode B.rows B.most B.handing }
 {
     let mut machine = filled::<B, _>(rt, alloc, seed, STRICT, 0)?;
     for line in ["unmap 1 0x1000 1", "detach 3", "flush 2", "unit"] {

@@ -38,7 +38,7 @@ fn calls_made<B: Owner>(
                 late = late || full;
             }
             Ok(_) => late = true,
-            Err(HistoryFull) => full = true,
+            Err(HistoryFull { .. }) => full = true,
         }
     }
     (mine, made, full && !late)
@@ -55,7 +55,7 @@ fn filled_by_threads<B: Owner + Send + Sync, R: Threads + Wait + Abort + Sync>(
     alloc: Global,
     seed: Seed,
 ) -> Result<(), Fail>
-    requires { IsNamedBy seed B.name B.parts B.shares B.room B.frames B.mode B.rows B.most }
+    requires { IsNamedBy seed B.name B.parts B.shares B.room B.frames B.mode B.rows B.most B.handing }
 {
     let Made {
         manager,

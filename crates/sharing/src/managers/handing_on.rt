@@ -77,40 +77,39 @@ fn fill_and_hand_on<B: Owner, R: Wait + Abort>(
 {
     make_calls(rt, manager, rows, mine, first, ROOM);
     let answer = manager.call(rt, rows, mine, call_at(0));
-    assert_eq!(rt; answer, Err(HistoryFull));
-    assert_eq!(rt; manager.hand_on(rt, rows, mine, epoch), Ok(()));
+    assert!(rt; answer.is_err());
+    manager.hand_on(rt, rows, mine, epoch);
     assert_eq!(rt; epoch.first(), first);
     assert_eq!(rt; epoch.events().len() as u64, ROOM);
     assert!(rt; are_from(epoch.events(), first));
 }
 
-// One epoch serves again and again, and another finds that the first was before it. The places go on counting, and the last two calls
-// come with the history that is handed out.
+// The epoch serves again and again. The places go on counting, and the last two calls come with the history that is handed out, which
+// begins where the epoch's events end.
 fn handed_on<B: Owner, R: Wait + Abort>(rt: &R, alloc: Global, seed: Seed) -> Result<(), Fail>
-    requires named { IsNamedBy seed B.name B.parts B.shares B.room B.frames B.mode B.rows B.most }
+    requires named { IsNamedBy seed B.name B.parts B.shares B.room B.frames B.mode B.rows B.most B.handing }
     requires most { seed.room < seed.most }
 {
     let Made {
         manager,
         rows,
         mut shares,
+        mut epoch,
         ..
     } = Manager::<B>::new(alloc, seed)?;
     let mut mine = shares.pop().ok_or("a share")?;
-    let mut epoch = manager.epoch(alloc)?;
     for time in 0..TIMES {
         fill_and_hand_on(rt, &manager, &rows, &mut mine, &mut epoch, ROOM * time);
     }
     make_calls(rt, &manager, &rows, &mut mine, ROOM * TIMES, 2);
-    let mut other = manager.epoch(alloc)?;
-    let answer = manager.hand_on(rt, &rows, &mut mine, &mut other);
-    assert_eq!(rt; answer, Err(TakenElsewhere));
     let report = manager.snapshot(rt, alloc)?;
     assert!(rt; report.text().starts_with("events 14\n"));
     shares.push(mine)?;
-    let Ok(history) = manager.finish(&rows, shares) else {
+    let Ok(mut history) = manager.finish(&rows, shares) else {
         return Err(Fail::from("all shares came"));
     };
+    history.audit(&mut epoch);
+    assert_eq!(rt; history.first(), epoch.upto());
     assert_eq!(rt; history.first(), ROOM * TIMES);
     assert_eq!(rt; history.events().len(), 2);
     assert!(rt; are_from(history.events(), history.first()));

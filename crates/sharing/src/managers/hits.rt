@@ -68,7 +68,7 @@ fn words_of_a_row(rt: HostRuntime) -> Result<(), Fail> {
 
 // Two pages share a slot of the row: the last that was filled is there. An unmap empties the row without a check-in.
 fn hit_by_words<B: Owner, R: Wait + Abort>(rt: &R, alloc: Global, seed: Seed) -> Result<(), Fail>
-    requires { IsNamedBy seed B.name B.parts B.shares B.room B.frames B.mode B.rows B.most }
+    requires { IsNamedBy seed B.name B.parts B.shares B.room B.frames B.mode B.rows B.most B.handing }
 {
     let (manager, rows, mut ports, mut mine) = made::<B>(alloc, seed)?;
     let mut port = ports.remove(3);
@@ -119,7 +119,7 @@ fn hit_beside_the_holder<B: Owner + Send + Sync, R: Threads + Wait + Abort + Syn
     alloc: Global,
     seed: Seed,
 ) -> Result<(), Fail>
-    requires { IsNamedBy seed B.name B.parts B.shares B.room B.frames B.mode B.rows B.most }
+    requires { IsNamedBy seed B.name B.parts B.shares B.room B.frames B.mode B.rows B.most B.handing }
 {
     let (manager, rows, mut ports, mut mine) = made::<B>(alloc, seed)?;
     let port = ports.remove(3);

@@ -74,7 +74,7 @@ fn stepped_by_a_thread<B: Owner + Send + Sync, R: Threads + Wait + Abort + Sync>
     alloc: Global,
     seed: Seed,
 ) -> Result<(), Fail>
-    requires { IsNamedBy seed B.name B.parts B.shares B.room B.frames B.mode B.rows B.most }
+    requires { IsNamedBy seed B.name B.parts B.shares B.room B.frames B.mode B.rows B.most B.handing }
 {
     let Made {
         manager,

@@ -47,7 +47,7 @@ fn made_by_each<B: Owner + Send + Sync, R: Threads + Wait + Abort + Sync>(
     seed: Seed,
     plan: Plan,
 ) -> Result<(), Fail>
-    requires named { IsNamedBy seed B.name B.parts B.shares B.room B.frames B.mode B.rows B.most }
+    requires named { IsNamedBy seed B.name B.parts B.shares B.room B.frames B.mode B.rows B.most B.handing }
     requires room { seed.room ≡ 2 + plan.devices + plan.calls * (plan.drivers + plan.devices + 1) }
     requires most { seed.most ≡ seed.room }
     requires shares { seed.shares ≡ plan.drivers + plan.devices + 2 }

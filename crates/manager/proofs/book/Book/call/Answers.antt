@@ -1,5 +1,7 @@
-use Rattle.std.proofs.Common.{◌≡◌, ◌<◌, ◌∙◌, ◌∷◌, [], ap, length, length-append, arith}
+use Rattle.std.proofs.Common.{◌≡◌, ◌<◌, ◌∙◌, ◌∷◌, [], ap, length, length-append, subst, arith}
 use Rattle.dmatypes.specs.History.{event}
+use Rattle.engine.specs.State.{State}
+use Rattle.engine.specs.Steps.{Does}
 use Rattle.ports.specs.Lawful.{IsLawfulAfter}
 use Rattle.ports.specs.Seen.{Desk, Rows}
 use Rattle.ports.specs.Steps.{AreLawful}
@@ -13,28 +15,30 @@ enter-requires-clause-legal g c =
     let i = c.self.invariant in
     let s = c.self.inside in
     let frames : s.desk.rows.frames ≡ g.B.Owner.frames = ap (λ (r : Rows). r.frames) i.7 ∙ i.8 in
-    let a : Book = record { history = s.desk.history; state = s.state; last = s.desk.last; handed = s.handed } in
+    let a : Book = record { history = s.desk.history; state = s.state.value; last = s.desk.last; handed = s.handed } in
     rw frames
     (push_legal g.B.Owner.frames g.B.Owner.room g.B.Owner.mode g.B.Owner.most a (event c.args.call c.perform-reply.result.reply)
     c.perform-reply.new.self i.0
-    c.perform-reply.ensures.does).0
+    (subst (λ (s : State). Does s c.args.call c.perform-reply.result.reply c.perform-reply.new.self) c.as_mut-state.ensures.value
+    c.perform-reply.ensures.does)).0
 
 pub enter-requires-clause-state : goal.enter-requires-clause-state
 enter-requires-clause-state g c =
     let i = c.self.invariant in
     let s = c.self.inside in
     let frames : s.desk.rows.frames ≡ g.B.Owner.frames = ap (λ (r : Rows). r.frames) i.7 ∙ i.8 in
-    let a : Book = record { history = s.desk.history; state = s.state; last = s.desk.last; handed = s.handed } in
+    let a : Book = record { history = s.desk.history; state = s.state.value; last = s.desk.last; handed = s.handed } in
     rw frames
     (push_legal g.B.Owner.frames g.B.Owner.room g.B.Owner.mode g.B.Owner.most a (event c.args.call c.perform-reply.result.reply)
     c.perform-reply.new.self i.0
-    c.perform-reply.ensures.does).1
+    (subst (λ (s : State). Does s c.args.call c.perform-reply.result.reply c.perform-reply.new.self) c.as_mut-state.ensures.value
+    c.perform-reply.ensures.does)).1
 
 pub invariant_of-self-2 : goal.invariant_of-self-2
 invariant_of-self-2 g c =
     let i = c.self.invariant in
     let s = c.self.inside in
-    let a : Book = record { history = s.desk.history; state = s.state; last = s.desk.last; handed = s.handed } in
+    let a : Book = record { history = s.desk.history; state = s.state.value; last = s.desk.last; handed = s.handed } in
     let told = all_told s.handed s.desk.history s.kept.items i.0.begun i.9 in
     let less : length s.desk.history < end_of g.B.Owner.room g.B.Owner.most a =
     omega (arith, told, i.0.within, i.11, c.if-before-end.false) in
@@ -44,7 +48,9 @@ invariant_of-self-2 g c =
     let lawful : AreLawful (IsLawfulAfter g.B.Owner.frames) c.tell-2.new.self.history c.tell-2.new.self.last =
     rw (same, ← frames) c.enter.ensures.lawful in (
       IsKept-push g.B.Owner.frames g.B.Owner.room g.B.Owner.mode g.B.Owner.most a (event c.args.call c.perform-reply.result.reply)
-          c.perform-reply.new.self c.tell-2.new.self.history c.tell-2.new.self.last history i.0 less c.perform-reply.ensures.does
+          c.perform-reply.new.self c.tell-2.new.self.history c.tell-2.new.self.last history i.0 less
+          (subst (λ (s : State). Does s c.args.call c.perform-reply.result.reply c.perform-reply.new.self) c.as_mut-state.ensures.value
+          c.perform-reply.ensures.does)
           c.keeps.ensures lawful,
       i.1,
       omega (arith, i.2, c.push_reserved.ensures.capacity),
@@ -64,13 +70,15 @@ invariant_of-self-2 g c =
           c.push_reserved.ensures.items history,
       i.10,
       i.11,
+      i.12,
+      i.13,
     )
 
 pub returns-clause-kept : goal.returns-clause-kept
 returns-clause-kept g c =
     let i = c.self.invariant in
     let s = c.self.inside in
-    let a : Book = record { history = s.desk.history; state = s.state; last = s.desk.last; handed = s.handed } in
+    let a : Book = record { history = s.desk.history; state = s.state.value; last = s.desk.last; handed = s.handed } in
     let told = all_told s.handed s.desk.history s.kept.items i.0.begun i.9 in
     let less : length s.desk.history < end_of g.B.Owner.room g.B.Owner.most a =
     omega (arith, told, i.0.within, i.11, c.if-before-end.false) in
@@ -80,5 +88,7 @@ returns-clause-kept g c =
     let lawful : AreLawful (IsLawfulAfter g.B.Owner.frames) c.tell-2.new.self.history c.tell-2.new.self.last =
     rw (same, ← frames) c.enter.ensures.lawful in
     IsKept-push g.B.Owner.frames g.B.Owner.room g.B.Owner.mode g.B.Owner.most a (event c.args.call c.perform-reply.result.reply)
-    c.perform-reply.new.self c.tell-2.new.self.history c.tell-2.new.self.last history i.0 less c.perform-reply.ensures.does
+    c.perform-reply.new.self c.tell-2.new.self.history c.tell-2.new.self.last history i.0 less
+    (subst (λ (s : State). Does s c.args.call c.perform-reply.result.reply c.perform-reply.new.self) c.as_mut-state.ensures.value
+    c.perform-reply.ensures.does)
     c.keeps.ensures lawful

@@ -12,4 +12,5 @@ ghosts-made_by_each-B-Owner g a = record {
   mode = a.seed.caching;
   rows = a.seed.rows;
   most = a.seed.most;
+  handing = a.seed.handing;
 }

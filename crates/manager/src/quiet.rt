@@ -1,0 +1,45 @@
+//! When memory may be used again: how far the thread of a device has come.
+
+ghost use Rattle.std.specs.Prelude.{◌≡◌};
+ghost use Rattle.ports.specs.Hits.{IsCount};
+
+use crate::owner::Owner;
+use crate::port::{Port, Rows};
+use std::sync::atomic::{AtomicU64, Ordering};
+
+/// How far the thread of a device has come, on a word of its own (own).
+///
+/// A hit answers a host address without a lock, and whoever has it may still use it after the page was unmapped. So the device's thread
+/// *rests* whenever it uses no host address that its port or the manager has answered: after each use, and now and then while it has
+/// nothing to do. A driver whose strict unmap has the number n in the history may use the memory for something else once the threads of
+/// all devices of the domain are past n: what they were answered before is out of use, and by `Port::hit` a port that has seen n events
+/// answers nothing by the page any more, until a map gives it back. In a lazy domain n is the number of the flush.
+#[derive(Drop)]
+pub struct Quiet {
+    count: AtomicU64,
+}
+
+impl Quiet {
+    /// Of a thread that hasn't rested yet.
+    pub fn new() -> Quiet {
+        Quiet {
+            count: AtomicU64::new(0),
+        }
+    }
+
+    /// The thread of the port's device rests: it uses no host address that it was answered. The number is how many events the history
+    /// has, which the thread is then past.
+    pub fn rest<B: Owner>(&self, rows: &Rows<B>, port: &mut Port<B>) -> u64
+        ensures count { IsCount B.rows.frames port.old port.new result }
+        ensures same { port.new.device ≡ port.old.device }
+    {
+        let count = port.count(rows);
+        self.count.store(count, Ordering::SeqCst);
+        count
+    }
+
+    /// Whether the thread has rested since the history had so many events.
+    pub fn is_past(&self, number: u64) -> bool {
+        self.count.load(Ordering::SeqCst) >= number
+    }
+}
