@@ -6,6 +6,7 @@
 //! ```
 #![tactic(auto)]
 
+mod contending;
 mod crowding;
 mod driver;
 mod failure;

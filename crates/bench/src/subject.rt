@@ -1,5 +1,6 @@
 //! What is measured.
 
+use crate::contending::{Managers, time_threads};
 use crate::crowding::Crowded;
 use crate::driver::{
     LAZY, LAZY_CACHING, LAZY_WIDE, STRICT, STRICT_CACHING, STRICT_WIDE, Setting, UNALIGNED_FRAME,
@@ -52,6 +53,8 @@ enum Kind {
     // Whether a device is attached to the domain.
     Manage(Way, bool),
     // On this number of threads.
+    Contend(u32, Managers),
+    // On this number of threads.
     Load(u32),
     Hit(Hits),
     Script(Lines),
@@ -64,7 +67,7 @@ const LAST_DEVICE: u64 = DEVICES - 1;
 
 /// All that is measured, in the table's order. The maps begin at frames behind the table frames; leaves of 2 MiB
 /// come where the frame is a multiple of a span's pages.
-pub(crate) const SUBJECTS: [Subject; 61] = [
+pub(crate) const SUBJECTS: [Subject; 67] = [
     Subject {
         name: "map and unmap 1 page",
         kind: Kind::Map(Shape {
@@ -246,6 +249,30 @@ pub(crate) const SUBJECTS: [Subject; 61] = [
     Subject {
         name: "map and unmap for a device, a lock each call",
         kind: Kind::Manage(Way::Locking, true),
+    },
+    Subject {
+        name: "map and unmap, 1 thread, one manager",
+        kind: Kind::Contend(1, Managers::Shared),
+    },
+    Subject {
+        name: "map and unmap, 2 threads, one manager",
+        kind: Kind::Contend(2, Managers::Shared),
+    },
+    Subject {
+        name: "map and unmap, 4 threads, one manager",
+        kind: Kind::Contend(4, Managers::Shared),
+    },
+    Subject {
+        name: "map and unmap, 1 thread, a manager each",
+        kind: Kind::Contend(1, Managers::Own),
+    },
+    Subject {
+        name: "map and unmap, 2 threads, a manager each",
+        kind: Kind::Contend(2, Managers::Own),
+    },
+    Subject {
+        name: "map and unmap, 4 threads, a manager each",
+        kind: Kind::Contend(4, Managers::Own),
     },
     Subject {
         name: "two loads and a comparison, 1 thread",
@@ -443,6 +470,9 @@ impl Subject {
             Kind::Walk(width) => time(clock, rounds, &mut Walking::new(alloc, width)?),
             Kind::Request(look) => time(clock, rounds, &mut Request::new(alloc, look)?),
             Kind::Manage(way, attached) => time_manager(clock, alloc, rounds, way, attached),
+            Kind::Contend(threads, managers) => time_threads(
+                clock, alloc, rounds, threads, managers,
+            ),
             Kind::Load(threads) => time_loads(clock, alloc, rounds, threads),
             Kind::Hit(hits) => time_hits(clock, alloc, rounds, hits),
             Kind::Script(lines) => time_script(clock, alloc, rounds, lines),

@@ -60,6 +60,11 @@ pub(crate) fn time_together<C: Clock + Threads + Sync, W: Work + Send + Drop>(
     meeting: &Meeting,
 ) -> Result<Tenths, Trouble> {
     let taken = map_vec(clock, works, &|work| time_at(clock, rounds, work, meeting))?;
+    slowest(taken)
+}
+
+/// What the slowest of the threads takes.
+pub(crate) fn slowest(taken: Vec<Result<Tenths, Trouble>>) -> Result<Tenths, Trouble> {
     let mut slowest = Tenths::default();
     for tenths in taken {
         slowest = slowest.max(tenths?);
@@ -67,8 +72,8 @@ pub(crate) fn time_together<C: Clock + Threads + Sync, W: Work + Send + Drop>(
     Ok(slowest)
 }
 
-// What each round takes on one of these threads.
-fn time_at<C: Clock, W: Work + Drop>(
+/// What each round takes on one of these threads.
+pub(crate) fn time_at<C: Clock, W: Work + Drop>(
     clock: &C,
     rounds: NonZeroU32,
     work: W,

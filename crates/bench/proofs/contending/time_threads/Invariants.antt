@@ -1,0 +1,16 @@
+use Rattle.bench.proofs.contending.time_threads.Given as goal
+
+-- what the seed has
+abbrev pub ghosts-time_shared-B-Ledger : goal.ghosts-time_shared-B-Ledger
+ghosts-time_shared-B-Ledger g a = record { name = a.seed.name; parts = a.seed.shares }
+
+abbrev pub ghosts-time_shared-B-Owner : goal.ghosts-time_shared-B-Owner
+ghosts-time_shared-B-Owner g a = record {
+  shares = a.seed.shares;
+  room = a.seed.room;
+  frames = a.seed.frames;
+  mode = a.seed.caching;
+  rows = a.seed.rows;
+  most = a.seed.most;
+  handing = a.seed.handing;
+}
