@@ -51,8 +51,8 @@ entered_none replies room = record { calls_are = sym (take_nil room); is_shown =
   none Traced = refl
   none Silent = refl
 
-unfoldable pub outcome : {most : ℕ} (replies : Replies) (size : Size) (book : Book) (calls : List Call) (shown : List ℕ)
-    → IsKept size.frames size.room size.caching most book → Entered replies size.room book.history calls shown → Outcome size calls
+unfoldable pub outcome : {room : ℕ} (replies : Replies) (size : Size) (book : Book) (calls : List Call) (shown : List ℕ)
+    → IsKept size.frames room size.caching size.room book → Entered replies size.room book.history calls shown → Outcome size calls
 outcome replies size book calls shown kept entered = record {
   history = book.history;
   state = book.state;
@@ -175,9 +175,9 @@ one_refusal replies room history calls shown line call was full =
       is_shown = shows_refusal replies room history calls shown line call was.is_shown many;
     }
 
-pub entered_more : {most : ℕ} (replies : Replies) (size : Size) (old new : Book) (calls : List Call) (shown line : List ℕ) (call : Call)
+pub entered_more : {room : ℕ} (replies : Replies) (size : Size) (old new : Book) (calls : List Call) (shown line : List ℕ) (call : Call)
     (entered : Bool) (reply : List ℕ) → Entered replies size.room old.history calls shown
-    → IsKept size.frames size.room size.caching most new → LineSays says line call → AnswersOne size.room old new call entered reply
+    → IsKept size.frames room size.caching size.room new → LineSays says line call → AnswersOne size.room old new call entered reply
     → Entered replies size.room new.history (calls ++ call ∷ []) (shown ++ shown_of replies line entered reply)
 entered_more replies size old new calls shown line call true reply was kept said h =
     let legal = subst (IsLegal size.frames) h.1 kept.legal in
@@ -185,9 +185,4 @@ entered_more replies size old new calls shown line call true reply was kept said
     (step_at size.frames old.history (event call h.0) legal) in
     rw (h.1, h.3) (one_event replies size.room old.history calls shown line call h.0 was h.4 said enters h.2)
 entered_more replies size old new calls shown line call false reply was kept said h =
-    rw (h.0, h.1) (one_refusal replies size.room old.history calls shown line call was h.2)
-
--- of an empty history nothing was handed on
-pub handed_none : {frames room most : ℕ} {mode : Bool} (book : Book) → IsKept frames room mode most book → book.history ≡ []
-    → book.handed ≡ 0
-handed_none book kept none = omega (arith, kept.begun, ap length none)
+    rw (h.0, h.3) (one_refusal replies size.room old.history calls shown line call was h.4)

@@ -28,19 +28,19 @@ pub record Going (replies : Replies) (size : Size) (old left before : Option (Li
   pub reading : Reading says old left calls number
   pub shown : List ℕ
   pub wrote : Sent before after pending block shown
-  pub most : ℕ
-  pub kept : IsKept size.frames size.room size.caching most book
+  pub kept_room : ℕ
+  pub kept : IsKept size.frames kept_room size.caching size.room book
   pub entered : Entered replies size.room book.history calls shown
 
-pub begins : (replies : Replies) (size : Size) (old before : Option (List ℕ)) (pending : List ℕ) (book : Book) (most : ℕ)
-    → IsKept size.frames size.room size.caching most book → book.history ≡ []
+pub begins : (replies : Replies) (size : Size) (old before : Option (List ℕ)) (pending : List ℕ) (book : Book) (room : ℕ)
+    → IsKept size.frames room size.caching size.room book → book.history ≡ []
     → Going replies size old old before pending before pending book 1
-begins replies size old before pending book most kept none = record {
+begins replies size old before pending book room kept none = record {
   calls = [];
   reading = begins_reading says old;
   shown = [];
   wrote = sent_nothing before pending;
-  most = most;
+  kept_room = room;
   kept = kept;
   entered = rw none (entered_none replies size.room);
 }
@@ -48,20 +48,20 @@ begins replies size old before pending book most kept none = record {
 -- one line more
 pub goes_on : (replies : Replies) (size : Size) (old left left' before : Option (List ℕ)) (pending : List ℕ)
     (after after' after'' : Option (List ℕ)) (block block' block'' : List ℕ) (book book' : Book) (number : ℕ) (line : List ℕ)
-    (call : Call) (entered : Bool) (text : List ℕ) (most : ℕ)
+    (call : Call) (entered : Bool) (text : List ℕ) (room : ℕ)
     → Going replies size old left before pending after block book number
     → Consumes left left' (line ++ 10 ∷ []) → LineSays says line call → Sent after after' block block' []
-    → IsKept size.frames size.room size.caching most book' → AnswersOne size.room book book' call entered text
+    → IsKept size.frames room size.caching size.room book' → AnswersOne size.room book book' call entered text
     → Sent after' after'' block' block'' (shown_of replies line entered text)
     → Going replies size old left' before pending after'' block'' book' (min (number + 1) (2 ^ 64 - 1))
 goes_on replies size old left left' before pending after after' after'' block block' block'' book book' number line call entered text
-    most g more said sent kept one put = record {
+    room g more said sent kept one put = record {
       calls = g.calls ++ call ∷ [];
       reading = reads_on says old left left' g.calls number line call g.reading more said;
       shown = g.shown ++ shown_of replies line entered text;
       wrote = sent_more before after' after'' pending block' block'' g.shown (shown_of replies line entered text)
           (sent_on before after after' pending block block' g.shown g.wrote sent) put;
-      most = most;
+      kept_room = room;
       kept = kept;
       entered = entered_more replies size book book' g.calls g.shown line call entered text g.entered kept said one;
     }

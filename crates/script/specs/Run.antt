@@ -24,7 +24,7 @@ use Rattle.streams.specs.Lines.{IfKnown, LinesSay, ReadPartly, ReadToBadLine, Re
 
 -- ---- where calls lead, and what is written of it
 
--- what manager it is: its table frames, for how many calls its history has room, and whether its unit has Caching Mode
+-- what manager it is: its table frames, how many calls its history has at most, and whether its unit has Caching Mode
 pub record Size : Type 0 where
   pub frames : ℕ
   pub room : ℕ
@@ -124,7 +124,8 @@ abbrev pub AnswersOne : ℕ → Book → Book → Call → Bool → List ℕ →
 AnswersOne room old new call true line =
     (reply : Reply) × (new.history ≡ old.history ++ event call reply ∷ []) × HasSmallNumbers reply × (line ≡ line_of reply)
     × (length old.history < room)
-AnswersOne room old new call false line = (new ≡ old) × (line ≡ refusal_line) × (length old.history ≡ room)
+AnswersOne room old new call false line =
+    (new.history ≡ old.history) × (new.state ≡ old.state) × (new.last ≡ old.last) × (line ≡ refusal_line) × (length old.history ≡ room)
 
 -- what is written of a call, by its own line, whether it was entered, and the line of its reply
 abbrev pub shown_of : Replies → List ℕ → Bool → List ℕ → List ℕ

@@ -13,7 +13,7 @@ use crate::error::RunError;
 use arrayvec::{ArrayString, ArrayVec};
 use checker::LONGEST_TRACE_LINE;
 use dmatypes::{Call, LONGEST_LINE, Refusal, Reply, parse_line, reply_line};
-use manager::{Book, HistoryFull, Owner, Rows, Share};
+use manager::{Book, Epoch, HistoryFull, Owner, Rows, Share};
 use std::sync::Wait;
 use streams::{Failed, LineEnd, Sink, Source, Stream, StreamError, next_line};
 
@@ -41,6 +41,7 @@ pub(crate) fn answer_lines<B: Owner, T: Wait, R: Source, W: Sink>(
     book: &mut Book<B>,
     rows: &Rows<B>,
     mine: &mut Share<B>,
+    epoch: &mut Epoch<B>,
     reader: &mut Stream<R>,
     writer: &mut Stream<W>,
     replies: Replies,
@@ -48,7 +49,7 @@ pub(crate) fn answer_lines<B: Owner, T: Wait, R: Source, W: Sink>(
     requires none { book.old.history ≡ [] }
     requires reader { R.has_failed reader.old.wrapped ≡ false }
     requires writer { W.has_failed writer.old.wrapped ≡ false }
-    ensures written { GoneThroughKnown replies (record { frames = B.frames; room = B.room; caching = B.mode })
+    ensures written { GoneThroughKnown replies (record { frames = B.frames; room = B.most; caching = B.mode })
         (prepend_known reader.old.block (R.remaining reader.old.wrapped))
         (prepend_known reader.new.block (R.remaining reader.new.wrapped))
         (W.contents writer.old.wrapped) writer.old.block (W.contents writer.new.wrapped) book.new result }
@@ -75,7 +76,7 @@ pub(crate) fn answer_lines<B: Owner, T: Wait, R: Source, W: Sink>(
         let Some(call) = parse_line(line.as_slice()) else {
             return stop_at(writer, number);
         };
-        let entered = answer(book, rows, mine, call, &mut text);
+        let entered = answer(book, rows, mine, epoch, call, &mut text);
         match show(replies, writer, line.as_slice(), entered, &text) {
             Ok(()) => {}
             Err(Failed) => return Err(RunError::Write),
@@ -98,19 +99,21 @@ fn stop_at<W: Sink>(writer: &mut Stream<W>, number: u64) -> Result<(), RunError>
     }
 }
 
-// One call of the book, and the line of its answer; whether it is entered in the history.
+// One call of the book, and the line of its answer; whether it is entered in the history. Where that needs room, the epoch takes what
+// is kept, and forgets what it had.
 fn answer<B: Owner>(
     book: &mut Book<B>,
     rows: &Rows<B>,
     mine: &mut Share<B>,
+    epoch: &mut Epoch<B>,
     call: Call,
     text: &mut ArrayString<64>,
 ) -> bool
-    requires { book.old.handed ≡ 0 }
-    ensures one { AnswersOne B.room book.old book.new call result text.new.bytes }
-    ensures handed { book.new.handed ≡ 0 }
+    ensures one { AnswersOne B.most book.old book.new call result text.new.bytes }
     ensures kept { IsKept B.frames B.room B.mode B.most book.new }
 {
+    // Where the manager hands on, room is made first: then a call is refused only where the history has the most in all.
+    book.make_room(rows, mine, epoch);
     let answered = book.call(rows, mine, call);
     // The same of the book after the call.
     book.keeps();

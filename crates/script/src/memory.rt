@@ -44,7 +44,7 @@ pub fn run_in_memory<T: Wait>(
     config: Config,
 ) -> Result<(), RunError>
     requires one { config.shares ≡ 1 }
-    ensures written { (left : List ℕ) × Ran Written (record { frames = config.frames; room = config.calls; caching = config.caching })
+    ensures written { (left : List ℕ) × Ran Written (record { frames = config.frames; room = config.most; caching = config.caching })
         script.now left answers.old.items [] answers.new.items result }
     ensures read { IsErrOf result RunError.Read → ⊥ }
     ensures write { IsErrOf result RunError.Write → ⊥ }

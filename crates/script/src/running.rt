@@ -36,6 +36,10 @@ pub(crate) enum Output {
 /// A bad line ends the work, as does a failed read: the lines before it are answered. Of a bad line at most 513 bytes
 /// are taken, and what follows is left for the next call, in the reader or in its block. After a failed write a beginning
 /// of the answers is written. With no memory for the manager nothing is read or written.
+///
+/// With a configuration that hands on, at most `calls` events are kept at one time: where there is no room for one more, those that
+/// are kept are forgotten, and no call is refused for want of room before the history has 2^56 events. The answers are those of the
+/// whole history, what is forgotten with it.
 pub fn run<T: Wait, R: Read, W: Write>(
     rt: &T,
     alloc: Global,
@@ -46,7 +50,7 @@ pub fn run<T: Wait, R: Read, W: Write>(
     requires one { config.shares ≡ 1 }
     requires reader { reader.old.wrapped.failed ≡ false }
     requires writer { writer.old.wrapped.failed ≡ false }
-    ensures written { RanKnown Written (record { frames = config.frames; room = config.calls; caching = config.caching })
+    ensures written { RanKnown Written (record { frames = config.frames; room = config.most; caching = config.caching })
         (prepend_known reader.old.block (R.remaining reader.old.wrapped.inner))
         (prepend_known reader.new.block (R.remaining reader.new.wrapped.inner))
         (W.contents writer.old.wrapped.inner) writer.old.block (W.contents writer.new.wrapped.inner) result }
@@ -74,7 +78,7 @@ pub fn trace<T: Wait, R: Read, W: Write>(
     requires one { config.shares ≡ 1 }
     requires reader { reader.old.wrapped.failed ≡ false }
     requires writer { writer.old.wrapped.failed ≡ false }
-    ensures written { RanKnown Traced (record { frames = config.frames; room = config.calls; caching = config.caching })
+    ensures written { RanKnown Traced (record { frames = config.frames; room = config.most; caching = config.caching })
         (prepend_known reader.old.block (R.remaining reader.old.wrapped.inner))
         (prepend_known reader.new.block (R.remaining reader.new.wrapped.inner))
         (W.contents writer.old.wrapped.inner) writer.old.block (W.contents writer.new.wrapped.inner) result }
@@ -103,7 +107,7 @@ pub fn report<T: Wait, R: Read, W: Write>(
     requires one { config.shares ≡ 1 }
     requires reader { reader.old.wrapped.failed ≡ false }
     requires writer { writer.old.wrapped.failed ≡ false }
-    ensures written { ReportedKnown (record { frames = config.frames; room = config.calls; caching = config.caching })
+    ensures written { ReportedKnown (record { frames = config.frames; room = config.most; caching = config.caching })
         (prepend_known reader.old.block (R.remaining reader.old.wrapped.inner))
         (prepend_known reader.new.block (R.remaining reader.new.wrapped.inner))
         (W.contents writer.old.wrapped.inner) writer.old.block (W.contents writer.new.wrapped.inner) result }
@@ -135,7 +139,7 @@ pub fn report_with_map<T: Wait, R: Read, W: Write>(
     requires one { config.shares ≡ 1 }
     requires reader { reader.old.wrapped.failed ≡ false }
     requires writer { writer.old.wrapped.failed ≡ false }
-    ensures written { MappedKnown (record { frames = config.frames; room = config.calls; caching = config.caching })
+    ensures written { MappedKnown (record { frames = config.frames; room = config.most; caching = config.caching })
         (prepend_known reader.old.block (R.remaining reader.old.wrapped.inner))
         (prepend_known reader.new.block (R.remaining reader.new.wrapped.inner))
         (W.contents writer.old.wrapped.inner) writer.old.block (W.contents writer.new.wrapped.inner) result }
@@ -164,7 +168,7 @@ pub(crate) fn work<T: Wait, R: Source, W: Sink>(
     requires one { config.shares ≡ 1 }
     requires reader { R.has_failed reader.old.wrapped ≡ false }
     requires writer { W.has_failed writer.old.wrapped ≡ false }
-    ensures written { OutputKnown output (record { frames = config.frames; room = config.calls; caching = config.caching })
+    ensures written { OutputKnown output (record { frames = config.frames; room = config.most; caching = config.caching })
         (prepend_known reader.old.block (R.remaining reader.old.wrapped))
         (prepend_known reader.new.block (R.remaining reader.new.wrapped))
         (W.contents writer.old.wrapped) writer.old.block (W.contents writer.new.wrapped) result }
@@ -193,7 +197,7 @@ fn work_through<B: Owner, T: Wait, R: Source, W: Sink>(
     requires one { seed.shares ≡ 1 }
     requires reader { R.has_failed reader.old.wrapped ≡ false }
     requires writer { W.has_failed writer.old.wrapped ≡ false }
-    ensures written { OutputKnown output (record { frames = seed.frames; room = seed.room; caching = seed.caching })
+    ensures written { OutputKnown output (record { frames = seed.frames; room = seed.most; caching = seed.caching })
         (prepend_known reader.old.block (R.remaining reader.old.wrapped))
         (prepend_known reader.new.block (R.remaining reader.new.wrapped))
         (W.contents writer.old.wrapped) writer.old.block (W.contents writer.new.wrapped) result }
@@ -221,7 +225,7 @@ fn work_on<B: Owner, T: Wait, R: Source, W: Sink>(
     requires fresh { IfOk made (λ m. All (λ s. s ≡ new_share) m.shares.items) }
     requires reader { R.has_failed reader.old.wrapped ≡ false }
     requires writer { W.has_failed writer.old.wrapped ≡ false }
-    ensures written { OutputKnown output (record { frames = B.frames; room = B.room; caching = B.mode })
+    ensures written { OutputKnown output (record { frames = B.frames; room = B.most; caching = B.mode })
         (prepend_known reader.old.block (R.remaining reader.old.wrapped))
         (prepend_known reader.new.block (R.remaining reader.new.wrapped))
         (W.contents writer.old.wrapped) writer.old.block (W.contents writer.new.wrapped) result }
@@ -245,6 +249,7 @@ fn work_on<B: Owner, T: Wait, R: Source, W: Sink>(
         book,
         &made.rows,
         &mut mine,
+        &mut made.epoch,
         reader,
         writer,
         replies_for(&output),

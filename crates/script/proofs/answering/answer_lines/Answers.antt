@@ -1,6 +1,5 @@
 use Rattle.std.proofs.Common.{◌++◌, ◌∷◌, [], List, ℕ, sym, ap, subst, ◌∙◌}
 use Rattle.dmatypes.specs.Grammar.{says}
-use Rattle.script.proofs.Entering.{handed_none}
 use Rattle.script.proofs.Going.{begins, ends, ends_cut, ends_long, ends_unsaid, fails_reading, fails_writing, goes_on, stopped}
 use Rattle.streams.specs.Bytes.{Sent}
 use Rattle.streams.specs.Lines.{LineSays}
@@ -10,7 +9,6 @@ use Rattle.script.proofs.answering.answer_lines.Goals as goal
 pub loop-init : goal.loop-init
 loop-init g c = record {
   going = begins _ _ _ _ _ c.args.book.now _ c.keeps.ensures c.requires.none;
-  handed = handed_none c.args.book.now c.keeps.ensures c.requires.none;
   reader = c.requires.reader;
   writer = c.requires.writer;
 }
@@ -80,7 +78,6 @@ loop-preserved g c =
       going = rw c.saturating_add-number.ensures (goes_on _ _ _ _ _ _ _ _ _ _ _ _ _ c.loop.book c.answer-entered.new.book c.loop.number
           c.next_line.new.line.items c.in-Some-parse_line.call c.answer-entered.result c.answer-entered.new.text.bytes
           _ c.loop.invariant.going h.0 said c.in-Ok-Newline.ensures.sent c.answer-entered.ensures.kept c.answer-entered.ensures.one put);
-      handed = c.answer-entered.ensures.handed;
       reader = c.in-Ok-Newline.ensures.ok.0;
       writer = c.in-Ok.ensures.failed;
     }
