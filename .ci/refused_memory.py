@@ -103,6 +103,7 @@ CASES = [
     ("run", [VTDM, "run", *SMALL], SCRIPT, stops),
     ("run of a bad line", [VTDM, "run", *SMALL], SCRIPT + b"drop\n", stops),
     ("trace", [VTDM, "run", "--trace", *SMALL], SCRIPT, stops),
+    ("run that forgets", [VTDM, "run", "--forever", "--frames", "16", "--calls", "1"], SCRIPT, stops),
     ("report", [VTDM, "report", *SMALL], SCRIPT, writes_nothing),
     ("check of a legal trace", [VTDM, "check"], TRACE, writes_nothing),
     ("check of another", [VTDM, "check"], TRACE + REUSED, writes_nothing),

@@ -3,10 +3,11 @@
 
 Its streams move few bytes at a time, or, of a long script, more. One read fails or is interrupted, or one write fails, is interrupted
 or takes nothing, each in turn, and then standard error too. Beside it: that answers come before the next read, what a command line
-reads, options at their limits, and words that are no text. The last line is `N passed, M failed`."""
+reads, options at their limits, runs that forget events, and words that are no text. The last line is `N passed, M failed`."""
 
 import itertools
 import os
+import re
 import subprocess
 import sys
 import tempfile
@@ -26,6 +27,16 @@ TRACES = (TRACE, TRACE + b"map 1 0x100 1 0 rw => map 0x1000\n")
 FAULTS = ((["run"], BAD_LINE), (["report"], BAD_LINE), (["run", "--frames", "15"], SCRIPT), (["reports"], SCRIPT),
           (["run", "\x1b"], SCRIPT))
 USUAL_FRAMES, USUAL_CALLS = 64, 65_536
+# Rounds of a lazy domain, in which a device's reads tell what the unit remembers, and a run's room that they go beyond many times.
+FEW_CALLS = 16
+ROUNDS = b"domain lazy\nattach 3 1\n" + b"".join(
+    b"map 1 %d 1 0 rw\ndma 3 0x1000 r look fill\nunmap 1 0x1000 1\ndma 3 0x1000 r look\nflush 1\ndma 3 0x1000 r look\n" % (256 + n)
+    for n in range(166))
+# A stream of calls in pieces of so many lines, two of which map a page and unmap it. The first pieces take all the memory that the
+# run is to have; the greatest is what it has for so many calls, its frames and its spaces, with some room.
+PIECE = b"map 1 0x100 1 0 rw\nunmap 1 0x1000 1\n" * 5_000
+PIECES, FIRST_PIECES = 300, 10
+MOST_KILOBYTES, SPARE_KILOBYTES = 4_096, 128
 # The most bytes that a call moves, that one moves of a long text, and those of a long script: a part of a block, and a block.
 PART = 3
 LARGE_PART = 64
@@ -97,6 +108,39 @@ def options_at_their_limits(_):
         status, output, _ = plain(["report", option], given)
         heads = [f"events {calls}".encode(), f"frames {frames} free 0 used 0 retired".encode()]
         yield f"report {option}", (status, output.splitlines()[:2]) == (0, heads)
+
+
+def forgets_and_goes_on(_):
+    """With little room and --forever a run is answered, and traced, as one with room for all. Without the option it is refused."""
+    few, lines = f"--calls={FEW_CALLS}", ROUNDS.count(b"\n")
+    for words in (["run"], ["run", "--trace"]):
+        whole = plain([*words, "--calls=1048576"], ROUNDS)
+        answers = whole[1].splitlines()
+        yield words, (whole[0], len(answers), b"refused" in whole[1]) == (0, lines, False)
+        yield (words, "forever"), plain([*words, few, "--forever"], ROUNDS) == whole
+        refused = [] if "--trace" in words else [b"refused 15"] * (lines - FEW_CALLS)
+        yield (words, few), plain([*words, few], ROUNDS)[1].splitlines() == answers[:FEW_CALLS] + refused
+
+
+def most_memory(process):
+    """The most memory that a process had so far, in kilobytes."""
+    with open(f"/proc/{process.pid}/status", encoding="ascii") as file:
+        return int(re.search(r"^VmHWM:\s*([0-9]+) kB$", file.read(), re.M)[1])
+
+
+def memory_stays_flat(_):
+    """A run with --forever has no more memory after all pieces of a stream than after the first ones, and goes on to its end."""
+    words = [VTDM, "run", "--forever", "--calls=1024"]
+    with subprocess.Popen(words, stdin=subprocess.PIPE, stdout=subprocess.DEVNULL) as process:
+        process.stdin.write(b"domain strict\n")
+        seen = []
+        for number in range(PIECES):
+            process.stdin.write(PIECE)
+            if number + 1 in (FIRST_PIECES, PIECES):
+                seen.append(most_memory(process))
+        process.stdin.close()
+        yield "status", process.wait(timeout=60) == 0
+    yield ("kilobytes", seen), seen[1] <= min(seen[0] + SPARE_KILOBYTES, MOST_KILOBYTES)
 
 
 def parts_of_streams(room):
@@ -205,8 +249,8 @@ def words_that_are_no_text(room):
         yield (hitch, 1), (untold.status, untold.of("e"), untold.output) == (2, ["e!"], b"")
 
 
-STEPS = (command_lines, options_at_their_limits, parts_of_streams, answers_before_the_next_read, reads_fail, writes_go_wrong, verdicts,
-         texts_go_on, errors_go_wrong, words_that_are_no_text)
+STEPS = (command_lines, options_at_their_limits, forgets_and_goes_on, memory_stays_flat, parts_of_streams, answers_before_the_next_read,
+         reads_fail, writes_go_wrong, verdicts, texts_go_on, errors_go_wrong, words_that_are_no_text)
 
 
 def main():

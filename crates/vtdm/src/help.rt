@@ -86,6 +86,10 @@ lines before it are done.
 With --trace a line of a trace is written for each call that is entered in the
 history, in the place of its reply: 'vtdm check --help' explains it.
 
+With --forever the history is never full, but after 2^56 calls: where there is
+no room for one more, those that are kept are forgotten. The history then asks
+for twice the memory at the start.
+
 Exit status: 0 done; 1 input or output failed; 2 a bad line or a bad command
 line; 3 no memory, or, for a storm, no thread; 4, for a check, an event that is
 not allowed. At the start the history asks for about 300 bytes for each call

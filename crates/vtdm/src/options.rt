@@ -1,6 +1,7 @@
 //! The command line.
 
-ghost use Rattle.std.specs.Prelude.{◌≡◌, ◌↔◌, IsSome, IfSome};
+ghost use Rattle.std.specs.Prelude.{◌≡◌, ◌↔◌, IsSome, IfSome, if◌then◌else◌};
+ghost use Rattle.dmatypes.specs.declared.limits.TheConstants.{CALLS_END};
 ghost use Rattle.manager.specs.Kept.{IsWithinLimits};
 
 use crate::help::{ABOUT, CHECK, REPORT, SCRIPT, USAGE, VERSION};
@@ -18,6 +19,9 @@ const TRACE: &str = "trace";
 
 // The option that asks for a unit with Caching Mode.
 const CACHING_MODE: &str = "caching-mode";
+
+// The option that asks for a history that is never full.
+const FOREVER: &str = "forever";
 
 /// What the program is to do.
 #[derive(Clone, Copy)]
@@ -52,6 +56,8 @@ pub(crate) struct Options {
     pub(crate) calls: u64,
     /// Whether the unit has Caching Mode.
     pub(crate) caching: bool,
+    /// Whether events are forgotten where there is no room for more.
+    pub(crate) forever: bool,
 }
 
 /// The program's command line, without the program's name.
@@ -79,6 +85,7 @@ fn run_command<'a>(alloc: Global) -> Result<Command<'a>, AllocError> {
         .arg(frames(alloc))?
         .arg(calls(alloc))?
         .arg(caching_mode(alloc))?
+        .arg(forever(alloc))?
         .arg(trace(alloc))
 }
 
@@ -128,6 +135,13 @@ fn caching_mode<'a>(alloc: Global) -> Arg<'a> {
         .help("The unit may remember absent pages, and maps invalidate")
 }
 
+fn forever<'a>(alloc: Global) -> Arg<'a> {
+    Arg::new(alloc, FOREVER)
+        .long(FOREVER)
+        .action(ArgAction::SetTrue)
+        .help("Forgets events where there is no room for more")
+}
+
 fn trace<'a>(alloc: Global) -> Arg<'a> {
     Arg::new(alloc, TRACE)
         .long(TRACE)
@@ -146,8 +160,11 @@ fn iova<'a>(alloc: Global) -> Arg<'a> {
 pub(crate) fn task_of(matches: &ArgMatches) -> Option<Task> {
     let (name, given) = matches.subcommand()?;
     match name {
-        "run" => Some(Task::Script(running(given), options_of(given)?)),
-        "report" => Some(Task::Script(reporting(given), options_of(given)?)),
+        "run" => {
+            let options = options_of(given, given.get_flag(FOREVER))?;
+            Some(Task::Script(running(given), options))
+        }
+        "report" => Some(Task::Script(reporting(given), options_of(given, false)?)),
         "storm" => Some(Task::Storm(storm_of(given)?)),
         "check" => Some(Task::Check(given.get_one::<u64>("frames")?)),
         _ => None,
@@ -172,12 +189,13 @@ fn reporting(given: &ArgMatches) -> Answering {
     }
 }
 
-// The options of a script's manager.
-fn options_of(given: &ArgMatches) -> Option<Options> {
+// The options of a script's manager, which forgets events or does not.
+fn options_of(given: &ArgMatches, forever: bool) -> Option<Options> {
     Some(Options {
         frames: given.get_one::<u64>("frames")?,
         calls: given.get_one::<u64>("calls")?,
         caching: given.get_flag(CACHING_MODE),
+        forever,
     })
 }
 
@@ -185,8 +203,18 @@ fn options_of(given: &ArgMatches) -> Option<Options> {
 pub(crate) fn config_of(options: Options) -> Option<Config>
     ensures some { IsSome result ↔ IsWithinLimits options.frames options.calls 1 }
     ensures is { IfSome result
-        (λ c. c ≡ record { frames = options.frames; calls = options.calls; shares = 1; caching = options.caching; most = options.calls }) }
+        (λ c. c ≡ record {
+          frames = options.frames;
+          calls = options.calls;
+          shares = 1;
+          caching = options.caching;
+          most = if options.forever then CALLS_END else options.calls;
+        }) }
 {
-    let config = Config::new(options.frames, options.calls, 1)?;
-    Some(config.caching_mode(options.caching))
+    let config = Config::new(options.frames, options.calls, 1)?.caching_mode(options.caching);
+    Some(if options.forever {
+        config.handing_on()
+    } else {
+        config
+    })
 }
