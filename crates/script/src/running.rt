@@ -39,7 +39,7 @@ pub(crate) enum Output {
 ///
 /// With a configuration that hands on, at most `calls` events are kept at one time: where there is no room for one more, those that
 /// are kept are forgotten, and no call is refused for want of room before the history has 2^56 events. The answers are those of the
-/// whole history, what is forgotten with it.
+/// whole history, forgotten events too.
 pub fn run<T: Wait, R: Read, W: Write>(
     rt: &T,
     alloc: Global,
