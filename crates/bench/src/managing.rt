@@ -126,6 +126,7 @@ const UNMAP: Call = Call::Unmap {
 };
 
 /// Whether a call was answered as it must be.
+#[inline(always)]
 pub(crate) fn check_reply(
     answer: Result<(u64, Reply), HistoryFull>,
     wanted: Reply,
