@@ -1,11 +1,11 @@
 #!/usr/bin/env python3
-"""Looks up each name of the tables in docs/PROVED.md: definitions in their files, contracts with their clauses, edits, tests; and
-those of three documents in plain words, each of which is a definition, a crate, or a word of the code.
+"""Looks up each name of docs/proved.tsv: definitions in their files, contracts with their clauses, edits, tests; and those of three
+documents in plain words, each of which is a definition, a crate, or a word of the code.
 
-A contract's row has a clause at least that the function ensures, and each clause that it names stands in each of its contracts: as a
-clause's label, or as a definition, or a part of a value, of which a clause speaks. In no other row is a cell of names empty either. A
-test's module is one that its crate has, and a step of a script is one that the script takes. Prints the names that don't exist.
-The last line is `N passed, M failed`, a table or a document each."""
+A promise has a clause at least that its function ensures, and each clause that it names stands in each of its contracts: as a
+clause's label, or as a definition, or a part of a value, of which a clause speaks. No other line lacks its names either. A test's
+module is one that its crate has, and a step of a script is one that the script takes. Prints the names that don't exist. The last
+line is `N passed, M failed`, a kind of lines or a document each."""
 
 import functools
 import glob
@@ -41,10 +41,10 @@ def words(cell):
     return re.findall(r"`([^`]+)`", cell)
 
 
-def lacks_definition(row):
-    file = f"{CRATES}/{words(row[2])[0]}"
+def lacks_definition(names, where):
+    file = f"{CRATES}/{where[0]}"
     text = text_of(file) if os.path.isfile(file) else ""
-    return [it for it in words(row[1]) if not re.search(rf"^\s*{DEFINED}{it}\b", text, re.M)]
+    return [it for it in names if not re.search(rf"^\s*{DEFINED}{it}\b", text, re.M)]
 
 
 def impl_of(text, kind):
@@ -82,21 +82,21 @@ def cites(contract, clause, kinds="ensures|requires"):
     return is_defined(clause) and any(re.search(rf"\b{clause}\b", it) for it in clauses)
 
 
-def lacks_contract(row):
+def lacks_contract(names, clauses):
     lost = []
-    for name in words(row[1]):
+    for name in names:
         contract = contract_of(name)
         if contract is None:
             lost.append(name)
             continue
-        lost += [f"{it} in {name}" for it in words(row[2]) if not cites(contract, it)]
-        if not any(cites(contract, it, "ensures") for it in words(row[2])):
+        lost += [f"{it} in {name}" for it in clauses if not cites(contract, it)]
+        if not any(cites(contract, it, "ensures") for it in clauses):
             lost.append(f"clause that {name} ensures")
     return lost
 
 
-def lacks_edit(row):
-    return [it for it in words(row[1]) if not os.path.isfile(f"{CRATES}/{it.replace('/', '/must-fail/')}.edit")]
+def lacks_edit(names, _):
+    return [it for it in names if not os.path.isfile(f"{CRATES}/{it.replace('/', '/must-fail/')}.edit")]
 
 
 def is_reached(texts, module):
@@ -105,10 +105,10 @@ def is_reached(texts, module):
     return all(re.search(rf"^\s*(?:pub )?mod {module[at]};", texts.get("::".join(module[:at]), ""), re.M) for at in steps)
 
 
-def lacks_test(row):
+def lacks_test(names, _):
     """A test is a function of a crate, a stored row or command line, or a step of one of the gate's scripts."""
     lost = []
-    for name in words(row[1]):
+    for name in names:
         folder = STORED.get(os.path.splitext(name)[1])
         if folder:
             lost += [] if os.path.isfile(f"{folder}/{name}") else [name]
@@ -144,35 +144,39 @@ def lost_in(document):
 
 
 DOCUMENTS = ("ARCHITECTURE.md", "DEFINITIONS.md", "PROVED.md")
-TABLES = {"Definition": lacks_definition, "Promise": lacks_contract, "Body": lacks_edit, "Row": lacks_test}
+LINES = f"{TOP}/docs/proved.tsv"
+HEADS = ["kind", "statement", "names", "where"]
+# What a line of each kind lacks; and whether it says where its names are.
+KINDS = {
+    "definition": (lacks_definition, True),
+    "promise": (lacks_contract, True),
+    "wrong body": (lacks_edit, False),
+    "row": (lacks_test, False),
+}
+
+
+def lacks(kind, names, where):
+    look, is_placed = KINDS[kind]
+    empty = [head for head, cells, wanted in (("names", names, True), ("where", where, is_placed)) if wanted and not cells]
+    return [f"word under {it}" for it in empty] or look(names, where)
 
 
 def main():
-    kind, heads, seen, lost = None, [], [], {}
-    for line in text_of(f"{TOP}/docs/PROVED.md").splitlines():
-        cells = [it.strip() for it in line.strip().strip("|").split("|")]
-        if not line.startswith("|"):
-            kind = None
-        elif kind is None and cells[0] in TABLES:
-            kind, heads = cells[0], cells
-            seen.append(kind)
-        elif kind and not line.startswith("|---"):
-            cells += [""] * (len(heads) - len(cells))
-            empty = [head for head, cell in zip(heads[1:], cells[1:]) if not words(cell)]
-            for name in [f"name under {it}" for it in empty] or TABLES[kind](cells):
-                lost.setdefault(kind, []).append(f"{name} ({cells[0]})")
+    lines = [line.split("\t") for line in text_of(LINES).splitlines()]
+    bad = [number for number, line in enumerate(lines, 1) if len(line) not in (3, 4) or line[0] not in {*KINDS, "kind"}]
+    lost = {"a line": [f"line {number} of a kind" for number in bad] + ([] if lines[:1] == [HEADS] else [f"first line {HEADS}"])}
+    for kind, statement, names, *where in [line for number, line in enumerate(lines, 1) if number > 1 and number not in bad]:
+        lost.setdefault(kind, []).extend(f"{it} ({statement})" for it in lacks(kind, names.split(), " ".join(where).split()))
+    lost |= {kind: ["line"] for kind in KINDS if kind not in lost}
     for kind, names in lost.items():
         for name in names:
-            print(f"docs/PROVED.md, {kind}: there is no {name}")
-    missing = [it for it in TABLES if it not in seen]
-    for kind in missing:
-        print(f"docs/PROVED.md has no table that begins with {kind}")
+            print(f"docs/proved.tsv, {kind}: there is no {name}")
     undefined = {it: lost_in(it) for it in DOCUMENTS}
     for document, names in undefined.items():
         for name in names:
             print(f"docs/{document}: there is no {name}")
-    failed = len(set(lost) | set(missing)) + sum(bool(it) for it in undefined.values())
-    print(f"{len(TABLES) + len(DOCUMENTS) - failed} passed, {failed} failed")
+    failed = sum(bool(it) for it in [*lost.values(), *undefined.values()])
+    print(f"{len(lost) + len(undefined) - failed} passed, {failed} failed")
     return 1 if failed else 0
 
 
