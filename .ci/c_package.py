@@ -81,7 +81,8 @@ class Tree:
         for path in ["c/vtdm.h", *SOURCES]:
             write(f"{self.top}/{path}", "")
         os.makedirs(f"{self.top}/bin")
-        shutil.copy(f"{TOP}/bin/vtdm-c", f"{self.top}/bin/vtdm-c")
+        for name in ("vtdm-c", "progress.sh"):
+            shutil.copy(f"{TOP}/bin/{name}", f"{self.top}/bin/{name}")
         self.age(-AWAY)
 
     def age(self, seconds):
