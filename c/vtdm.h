@@ -235,7 +235,8 @@ struct vtdm_answer vtdm_reap(struct vtdm *manager, uint64_t domain, uint64_t num
 /* A request of a device at a device address, to write or to read, as the unit translates it: the host address, or a fault. With
  * `look` cached entries are used, otherwise the tables are walked. With `fill` the entries that were used are cached.
  * The host address holds as long as you hold your lock: after that another thread's vtdm_unmap may end the page, and its memory be
- * used for something else. So use the memory under the lock, or have that thread wait until you have done with it.
+ * used for something else, also where the device was detached in between. So use the memory under the lock, or have that thread wait
+ * until you have done with it.
  * VTDM_NO_DEVICE, VTDM_WINDOW (also where the device is not attached), VTDM_FAULT_NOT_ATTACHED, VTDM_FAULT_BEYOND_WIDTH,
  * VTDM_FAULT_WRITE, VTDM_FAULT_READ. */
 struct vtdm_answer vtdm_dma(struct vtdm *manager, uint64_t device, uint64_t address, bool write, bool look, bool fill);

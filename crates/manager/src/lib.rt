@@ -10,7 +10,7 @@
 //! fn work<B: Owner, R: Wait>(rt: &R, alloc: Global, seed: Seed) -> Result<(), AllocError>
 //!     requires { IsNamedBy seed B.name B.parts B.shares B.room B.frames B.mode B.rows B.most B.handing }
 //! {
-//!     let Made { manager, rows, mut ports, mut shares } = Manager::<B>::new(alloc, seed)?;
+//!     let Made { manager, rows, mut ports, mut shares, .. } = Manager::<B>::new(alloc, seed)?;
 //!     let Some(mut mine) = shares.pop() else { return Ok(()) };
 //!     // A call, under the lock: its place in the history, from 1, and its reply. An error says that the history is full.
 //!     let answer = manager.call(rt, &rows, &mut mine, Call::Domain { mode: Mode::Strict, width: Width::W39 });

@@ -12,8 +12,10 @@ use std::sync::atomic::{AtomicU64, Ordering};
 /// A hit answers a host address without a lock, and whoever has it may still use it after the page was unmapped. So the device's thread
 /// *rests* whenever it uses no host address that its port or the manager has answered: after each use, and now and then while it has
 /// nothing to do. A driver whose strict unmap has the number n in the history may use the memory for something else once the threads of
-/// all devices of the domain are past n: what they were answered before is out of use, and by `Port::hit` a port that has seen n events
-/// answers nothing by the page any more, until a map gives it back. In a lazy domain n is the number of the flush.
+/// all devices that were attached to the domain since the page was mapped, detached ones too, are past n: what they were answered before
+/// is out of use, and by `Port::hit` a port that has seen n events answers nothing by the page any more, until a map gives it back. In a
+/// lazy domain n is the number of the event that released the page: a flush, a reap, an unmap that answers 256, or a drop. Each thread
+/// has a `Quiet` of its own, and of one manager.
 #[derive(Drop)]
 pub struct Quiet {
     count: AtomicU64,

@@ -210,8 +210,8 @@ fn work_through<B: Owner, T: Wait, R: Source, W: Sink>(
     work_on(rt, Manager::<B>::new(alloc, seed), reader, writer, output)
 }
 
-// Works through the script on a manager, where there was memory for one, and writes what is to be written. A manager is large: what
-// this takes of the stack is not taken yet while the manager is made.
+// Works through the script on a manager, where there was memory for one, and writes what is to be written. While the manager is made
+// its state stands on the stack: what this takes of the stack is not taken yet then.
 #[inline(never)]
 fn work_on<B: Owner, T: Wait, R: Source, W: Sink>(
     rt: &T,
