@@ -1,6 +1,7 @@
 pub mod Splitting
 pub mod Joining
 pub mod Numerals
+pub mod OnePass
 pub mod Binding
 pub mod Segments
 pub mod Spelled

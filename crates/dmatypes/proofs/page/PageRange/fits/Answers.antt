@@ -1,4 +1,4 @@
-use Rattle.std.proofs.Common.{ℕ, ◌+◌, ◌≤◌, ◌↔◌, IsTrue, subst, arith}
+use Rattle.std.proofs.Common.{◌+◌, ◌↔◌, IsTrue, subst, arith}
 use Rattle.std.specs.Prelude.{nat_le}
 use Rattle.std.proofs.lemmas.Bool.{le-leb, leb-true}
 use Rattle.dmatypes.specs.Page.{Fits, Range}
