@@ -1,3 +1,4 @@
 pub mod Known
+pub mod Past
 pub mod Lines
 pub mod Reading

@@ -1,5 +1,5 @@
 -- What a `Stream` does to the bytes of its reader or writer, where they are known.
-use Rattle.std.specs.Prelude.{◌≡◌, ◌≢◌, ℕ, Bool, true, false, length, List, [], ◌∷◌, ◌++◌, Option, Result, Ok, Err}
+use Rattle.std.specs.Prelude.{◌≡◌, ◌≢◌, ◌<◌, ◌+◌, take, drop, ℕ, Bool, true, false, length, List, [], ◌∷◌, ◌++◌, Option, Result, Ok, Err}
 use Rattle.std.specs.List.{AllByRecursion}
 use Rattle.std.specs.Io.KnownBytes.{Appends, Consumes, IsAtEnd}
 use Rattle.streams.specs.declared.stream.Taken.{Taken}
@@ -28,6 +28,13 @@ TakesLine most block rest line longer parts.More = (longer ≡ line ++ block) ×
 TakesLine most block rest line longer parts.Long =
     (more : List ℕ) × (b : ℕ) × (longer ≡ line ++ more) × (block ≡ more ++ b ∷ rest) × IsUnbroken (more ++ b ∷ [])
     × (length longer ≡ most)
+
+-- where a line with so much room ends in these bytes: at the newline behind so many, or at the last of them, or before one for which
+-- there is no room
+abbrev pub EndsLine : List ℕ → ℕ → ℕ → Taken → Type 0
+EndsLine bytes room count parts.Newline = (bytes ≡ take count bytes ++ 10 ∷ drop (count + 1) bytes) × IsUnbroken (take count bytes)
+EndsLine bytes room count parts.More = (count ≡ length bytes) × IsUnbroken bytes
+EndsLine bytes room count parts.Long = (count ≡ room) × (room < length bytes) × IsUnbroken (take (room + 1) bytes)
 
 -- of the bytes that were still to be written and a text behind them, a front is written, and the rest is
 -- still to be

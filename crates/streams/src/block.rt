@@ -1,7 +1,7 @@
 //! Bytes on their way.
 
-ghost use Rattle.std.specs.Prelude.{◌≡◌, ◌≢◌, ◌+◌, ◌<◌, ◌≤◌, ◌⊎◌, ◌↔◌, ◌∷◌, ◌++◌, [], List, ℕ, drop, length};
-ghost use Rattle.std.specs.Prelude.{IsTrue, IfSome, IfNone, OnOk, OnErr};
+ghost use Rattle.std.specs.Prelude.{◌≡◌, ◌≢◌, ◌+◌, ◌≤◌, ◌↔◌, ◌++◌, [], drop, length, take};
+ghost use Rattle.std.specs.Prelude.{IsTrue, OnOk, OnErr};
 
 use arrayvec::ArrayVec;
 use std::marker::Model;
@@ -55,17 +55,14 @@ impl Block {
         &self.bytes.as_slice()[self.gone..]
     }
 
-    /// Takes the first byte out.
-    pub(crate) fn take(&mut self) -> Option<u8>
-        ensures some { IfSome result (λ b. self.old ≡ b ∷ self.new) }
-        ensures none { IfNone result ((self.old ≡ []) × (self.new ≡ [])) }
+    /// Moves the first bytes to the line's end.
+    pub(crate) fn move_to<const MOST: usize>(&mut self, line: &mut ArrayVec<u8, MOST>, count: usize)
+        requires { (count ≤ length self.old) × (length line.old.items + count ≤ MOST) }
+        ensures line { line.new.items ≡ line.old.items ++ take count self.old }
+        ensures rest { self.new ≡ drop count self.old }
     {
-        if self.gone == self.bytes.len() {
-            return None;
-        }
-        let byte = self.bytes.as_slice()[self.gone];
-        self.gone += 1;
-        Some(byte)
+        line.try_extend_from_slice(&self.as_slice()[..count]).unwrap();
+        self.advance(count);
     }
 
     /// Lets the first bytes go.

@@ -1,8 +1,8 @@
 //! A reader or a writer that works in blocks, and remembers whether it has failed.
 
-ghost use Rattle.std.specs.Prelude.{◌≡◌, ◌≢◌, ◌≤◌, ◌++◌, [], true, false, length, OnOk, OnErr, IfOk, is_err, is_ok, if◌then◌else◌};
+ghost use Rattle.std.specs.Prelude.{◌≡◌, ◌≢◌, ◌≤◌, ◌<◌, ◌+◌, ◌++◌, ◌∷◌, [], true, false, length, take, drop, OnOk, OnErr, IfSome, IfNone, is_err, is_ok, if◌then◌else◌};
 ghost use Rattle.std.specs.Io.KnownBytes.{Appends, Consumes, IsAtEnd};
-ghost use Rattle.streams.specs.Bytes.{Filled, Sent, SentFront, TakesLine};
+ghost use Rattle.streams.specs.Bytes.{EndsLine, Filled, IsUnbroken, Sent, SentFront, TakesLine};
 
 use crate::block::{BLOCK_BYTES, Block, Full};
 use crate::ends::{Failed, Sink, Source};
@@ -94,17 +94,36 @@ impl<R: Source> Stream<R> {
         ensures bytes { TakesLine MOST self.old.block self.new.block line.old.items line.new.items result }
         ensures wrapped { self.new.wrapped ≡ self.old.wrapped }
     {
-        while let Some(byte) = self.block.take() {
-            if byte == b'\n' {
-                return Taken::Newline;
-            }
-            if line.is_full() {
-                return Taken::Long;
-            }
-            line.push(byte);
+        let (count, taken) = line_end(self.block.as_slice(), MOST - line.len());
+        self.block.move_to(line, count);
+        match taken {
+            Taken::Newline | Taken::Long => self.block.advance(1),
+            Taken::More => {}
         }
-        Taken::More
+        taken
     }
+}
+
+// How many bytes go to a line that has room for so many more, and how far it then is found.
+#[tactic(auto, using(crate::proofs::Past::unbroken_within, crate::proofs::Past::unbroken_front))]
+fn line_end(bytes: &[u8], room: usize) -> (usize, Taken)
+    ensures within { (result.0 ≤ room) × (result.0 ≤ length bytes.now) }
+    ensures end { EndsLine bytes.now room result.0 result.1 }
+{
+    match first_newline(bytes) {
+        Some(end) if end <= room => (end, Taken::Newline),
+        None if bytes.len() <= room => (bytes.len(), Taken::More),
+        _ => (room, Taken::Long),
+    }
+}
+
+// Where the first newline stands.
+fn first_newline(bytes: &[u8]) -> Option<usize>
+    ensures some { IfSome result (λ i. (i < length bytes.now) × IsUnbroken (take i bytes.now)
+        × (bytes.now ≡ take i bytes.now ++ 10 ∷ drop (i + 1) bytes.now)) }
+    ensures none { IfNone result (IsUnbroken bytes.now) }
+{
+    bytes.iter().position(|byte| *byte == b'\n')
 }
 
 impl<W: Sink> Stream<W> {
