@@ -17,7 +17,7 @@ use std::thread::{Threads, map_vec};
 use std::time::Clock;
 
 // The events that a manager keeps before it hands them on: few enough to stay in the processor's caches.
-const ROOM: u64 = 4096;
+const ROOM: u64 = 256;
 
 // A call finds the history full again only where the other threads filled it in between.
 const MOST_TRIES: u64 = 1000;
@@ -82,7 +82,8 @@ fn time_shared<B: Owner + Send + Sync, C: Clock + Wait + Threads + Sync>(
     };
     let mut works = Vec::new(alloc);
     for share in shares {
-        let pairs = Pairs::new(clock, &called, share)?;
+        let mut pairs = Pairs::new(clock, &called, share)?;
+        pairs.touch()?;
         if works.push(pairs).is_err() {
             return Err(Trouble::NoMemory);
         }
@@ -142,7 +143,8 @@ fn time_alone<B: Owner, C: Clock + Wait>(
         epoch: Mutex::new(epoch),
     };
     let share = shares.pop().ok_or(Trouble::Wrong)?;
-    let pairs = Pairs::new(clock, &called, share)?;
+    let mut pairs = Pairs::new(clock, &called, share)?;
+    pairs.touch()?;
     time_at(clock, rounds, pairs, meeting)
 }
 
@@ -183,6 +185,14 @@ impl<'a, B: Owner, C: Wait> Pairs<'a, B, C> {
             }),
             _ => Err(Trouble::Wrong),
         }
+    }
+
+    // Rounds that fill the manager's room and the epoch's, so that no memory is touched for the first time when it counts.
+    fn touch(&mut self) -> Result<(), Trouble> {
+        for _ in 0..ROOM {
+            self.once()?;
+        }
+        Ok(())
     }
 
     // Makes a call in the domain. Where there is no room for it, the history is handed on first.

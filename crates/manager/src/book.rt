@@ -1,6 +1,6 @@
 //! What lies under a manager's lock: the state, and the history of its calls.
 
-ghost use Rattle.std.specs.Prelude.{◌≡◌, ◌+◌, ◌<◌, ◌≤◌, ◌↔◌, ◌++◌, ◌∷◌, [], length, IsErr, IsOk, IfOk, OnOk, OnErr, All, sum_by, vec_len};
+ghost use Rattle.std.specs.Prelude.{◌≡◌, ◌+◌, ◌<◌, ◌≤◌, ◌↔◌, ◌++◌, ◌∷◌, [], length, IsErr, IfOk, OnOk, OnErr, All, sum_by, vec_len};
 ghost use Rattle.dmatypes.specs.History.{event};
 ghost use Rattle.engine.specs.Steps.{Does};
 ghost use mathlib.Core.List.{IsPrefix};
@@ -29,8 +29,9 @@ use std::mem;
 use std::sync::ledger;
 use std::sync::ledger::Blank;
 
-/// There is no room left for an event. Nothing was changed, but for what the share has seen. A book alone can make one.
-#[derive(Clone, Copy, Debug, PartialEq, Eq)]
+/// There is no room left for an event. Nothing was changed, but for what the share has seen. A book alone can make one, and it can't
+/// be copied: each is of one call that found no room.
+#[derive(Debug, PartialEq, Eq)]
 pub struct HistoryFull {
     by_a_book: (),
 }
@@ -235,6 +236,8 @@ impl<B: Owner> Book<B> {
     pub fn make_room(&mut self, rows: &Rows<B>, mine: &mut Share<B>, epoch: &mut Epoch<B>)
         ensures room { length self.old.history < B.most → length self.new.history < end_of B.room B.most self.new }
         ensures none { length self.old.history < end_of B.room B.most self.old → (self.new ≡ self.old) × (epoch.new ≡ epoch.old) }
+        ensures handed { length self.old.history ≡ end_of B.room B.most self.old → B.room < B.most
+            → (epoch.new ≡ record { first = self.old.handed; events = kept_events self.old }) × (mine.new.seen ≡ self.old.history) }
         ensures seen { IsPrefix mine.old.seen mine.new.seen × (mine.new.calls ≡ mine.old.calls) }
         ensures same { (self.new.history ≡ self.old.history) × (self.new.state ≡ self.old.state) × (self.new.last ≡ self.old.last) }
         ensures kept { IsKept B.frames B.room B.mode B.most self.new }

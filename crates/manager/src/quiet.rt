@@ -5,6 +5,7 @@ ghost use Rattle.ports.specs.Hits.{IsCount};
 
 use crate::owner::Owner;
 use crate::port::{Port, Rows};
+use std::marker::PhantomData;
 use std::sync::atomic::{AtomicU64, Ordering};
 
 /// How far the thread of a device has come, on a word of its own (own).
@@ -15,23 +16,25 @@ use std::sync::atomic::{AtomicU64, Ordering};
 /// all devices that were attached to the domain since the page was mapped, detached ones too, are past n: what they were answered before
 /// is out of use, and by `Port::hit` a port that has seen n events answers nothing by the page any more, until a map gives it back. In a
 /// lazy domain n is the number of the event that released the page: a flush, a reap, an unmap that answers 256, or a drop. Each thread
-/// has a `Quiet` of its own, and of one manager.
+/// has a `Quiet` of its own. It is of one manager by its type: no count of another's history gets into it.
 #[derive(Drop)]
-pub struct Quiet {
+pub struct Quiet<B: Owner> {
     count: AtomicU64,
+    owner: PhantomData<B>,
 }
 
-impl Quiet {
+impl<B: Owner> Quiet<B> {
     /// Of a thread that hasn't rested yet.
-    pub fn new() -> Quiet {
+    pub fn new() -> Quiet<B> {
         Quiet {
             count: AtomicU64::new(0),
+            owner: PhantomData,
         }
     }
 
     /// The thread of the port's device rests: it uses no host address that it was answered. The number is how many events the history
     /// has, which the thread is then past.
-    pub fn rest<B: Owner>(&self, rows: &Rows<B>, port: &mut Port<B>) -> u64
+    pub fn rest(&self, rows: &Rows<B>, port: &mut Port<B>) -> u64
         ensures count { IsCount B.rows.frames port.old port.new result }
         ensures same { port.new.device ≡ port.old.device }
     {

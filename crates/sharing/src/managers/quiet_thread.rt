@@ -40,9 +40,9 @@ const UNMAP: Call = Call::Unmap {
 
 // What both threads see beside the manager: the memory of the frame, how far the device's thread is, and whether the driver is done.
 #[derive(Drop)]
-struct Seen {
+struct Seen<B: Owner> {
     memory: AtomicU64,
-    quiet: Quiet,
+    quiet: Quiet<B>,
     is_over: AtomicBool,
 }
 
@@ -51,7 +51,7 @@ fn read_meanwhile<B: Owner, R: Wait>(
     rt: &R,
     manager: &Manager<B>,
     rows: &Rows<B>,
-    seen: &Seen,
+    seen: &Seen<B>,
     mut port: Port<B>,
     mut share: Share<B>,
 ) -> bool {
@@ -87,7 +87,7 @@ fn use_again<B: Owner, R: Wait>(
     rt: &R,
     manager: &Manager<B>,
     rows: &Rows<B>,
-    seen: &Seen,
+    seen: &Seen<B>,
     mut mine: Share<B>,
 ) -> bool {
     for _ in 0..TIMES {
@@ -107,7 +107,7 @@ fn use_again<B: Owner, R: Wait>(
 }
 
 // Waits until the thread is past a number.
-fn is_quiet(quiet: &Quiet, number: u64) -> bool {
+fn is_quiet<B: Owner>(quiet: &Quiet<B>, number: u64) -> bool {
     for _ in 0..TURNS {
         if quiet.is_past(number) {
             return true;
