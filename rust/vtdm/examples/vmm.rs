@@ -4,12 +4,12 @@
 //!
 //! The guest uses memory again once its unmap is answered. So the monitor answers when nobody reaches the memory any more:
 //!
-//! 1. The device doesn't, by the unit's caches: at once in a strict domain, and in a lazy one behind a flush, one for the whole batch.
+//! 1. The device doesn't, by the unit's caches: at once in a strict domain, and in a lazy one after a flush, one for the whole batch.
 //! 2. The device's own threads don't, by a host address that they got before the unmap. They use memory without the lock, so each use
 //!    has a number, from its translation to its end, and an unmap waits for the uses that began before it.
 //!
 //! One thread of the device does as it is told, another reads wherever it can, all the time. Neither may see what the guest writes into
-//! memory behind an unmap.
+//! memory after an unmap.
 
 use std::collections::BTreeSet;
 use std::sync::atomic::{AtomicBool, AtomicU8, Ordering};

@@ -14,7 +14,7 @@ const OK: u64 = 0;
 /// A manager of DMA addresses, with its simulated unit. Where it is dropped, its memory is given back.
 ///
 /// The refusals of a method are named in the order in which they are judged: the first whose condition holds is answered.
-/// [`Refused::Spent`], which each call can answer and no reader, is judged before the others, but behind [`Refused::ManySegments`].
+/// [`Refused::Spent`], which each call can answer and no reader, is judged before the others, but after [`Refused::ManySegments`].
 ///
 /// It is `Send`: nothing of it belongs to a thread, and the library asks for one call at a time alone. It is not `Sync`, since readers
 /// too are calls of which there is one at a time:
