@@ -314,17 +314,19 @@ impl<B: Owner> Book<B> {
             desk.tell(&rows.words, pass);
             return Err(HistoryFull { by_a_book: () });
         }
-        // It holds the call from here on, so that the call is moved once; the reply is put in its place below.
-        let mut event = Event {
+        // The event is made in its place, so that the call is moved once; its reply is put there below.
+        kept.push_reserved(Event {
             call,
             reply: Reply::Pending,
+        });
+        let Some(event) = kept.last_mut() else {
+            unreachable!()
         };
         let Answer { reply, hit } = state.perform(&event.call);
         event.reply = reply;
         // It changes nothing: its contract says what every state keeps.
         state.keeps();
-        enter(desk, &rows.words, state, &event, hit);
-        kept.push_reserved(event);
+        enter(desk, &rows.words, state, event, hit);
         desk.tell(&rows.words, pass);
         counted.add(part, 1);
         *calls += 1;
