@@ -31,7 +31,7 @@ use std::sync::ledger::Blank;
 
 /// There is no room left for an event. Nothing was changed, but for what the share has seen. A book alone can make one, and it can't
 /// be copied: each is of one call that found no room.
-#[derive(Debug, PartialEq, Eq)]
+#[derive(Debug, Drop, PartialEq, Eq)]
 pub struct HistoryFull {
     by_a_book: (),
 }
