@@ -1,0 +1,4 @@
+pub mod Runs
+pub mod Placed
+pub mod Turns
+pub mod Live
