@@ -1,2 +1,3 @@
 pub mod lists
 pub mod worlds
+pub mod reach

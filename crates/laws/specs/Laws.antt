@@ -1,8 +1,23 @@
 -- What a user can say of every legal history, in terms of its events alone.
 use Rattle.std.specs.Prelude.{ℕ, List, ◌∷◌, ◌++◌}
+use Rattle.dmatypes.specs.declared.call.Access.{Access}
+use Rattle.dmatypes.specs.declared.call.Mode.TheVariants as modes
+use Rattle.dmatypes.specs.declared.call.Whim.{Whim}
 use Rattle.dmatypes.specs.declared.reply.Event.{Event}
+use Rattle.dmatypes.specs.Page.{page_of}
 use Rattle.dmatypes.specs.History.{IsLegal}
-use Rattle.laws.specs.Events.{Maps, Occurs, TakesAway}
+use Rattle.laws.specs.Events.{Drops, Gives, IsAttached, IsOfMode, Lasts, Maps, Occurs, TakesAway, reaching}
+
+-- A device reaches only frames that a map put into the domain it is attached to, with a right that the map gave. The
+-- domain wasn't ended since; and in a strict domain the page wasn't unmapped since.
+abbrev pub DevicesReachOnlyWhatIsMapped : Type 0
+DevicesReachOnlyWhatIsMapped =
+    (frames : ℕ) (before rest : List Event) (device address : ℕ) (access : Access) (whim : Whim) (host : ℕ)
+    → IsLegal frames (before ++ reaching device address access whim host ∷ rest)
+    → (domain : ℕ) × IsAttached device domain before
+    × Lasts (Gives domain address access host) (Drops domain) before
+    × (IsOfMode modes.Strict domain before
+    → Lasts (Gives domain address access host) (TakesAway domain (page_of address)) before)
 
 -- Two live maps of a domain never share a page: between two maps of one page it was unmapped, or the domain ended.
 abbrev pub LiveMapsShareNoPage : Type 0

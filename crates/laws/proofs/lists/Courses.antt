@@ -52,6 +52,12 @@ lasts_as P R Q f [] h = absurd h
 lasts_as P R Q f (x ∷ xs) (inl here) = inl (f x here.0, here.1)
 lasts_as P R Q f (x ∷ xs) (inr later) = inr (lasts_as P R Q f xs later)
 
+-- what undoes less lets it last
+pub lasts_less : (P Q R : Event → Type 0) → ((e : Event) → R e → Q e) → (xs : List Event) → Lasts P Q xs → Lasts P R xs
+lasts_less P Q R f [] h = absurd h
+lasts_less P Q R f (x ∷ xs) (inl here) = inl (here.0, λ undone. here.1 (occurs_as R Q f xs undone))
+lasts_less P Q R f (x ∷ xs) (inr later) = inr (lasts_less P Q R f xs later)
+
 pub lasts_occurs : (P Q : Event → Type 0) (xs : List Event) → Lasts P Q xs → Occurs P xs
 lasts_occurs P Q [] h = absurd h
 lasts_occurs P Q (x ∷ xs) (inl here) = inl here.0

@@ -1,5 +1,6 @@
 -- A page that a map put in is live until an event takes it away; and no map puts in a live page.
-use Rattle.std.proofs.Common.{◌≡◌, ◌⊎◌, ℕ, ◌+◌, ◌<◌, ◌≤◌, inl, inr, Bool, true, false, List, [], ◌∷◌, ◌++◌, Option, Some, None, refl, sym, ap, ◌∙◌, arith}
+use Rattle.std.proofs.Common.{◌≡◌, ◌⊎◌, ℕ, ◌+◌, ◌<◌, ◌≤◌, inl, inr, Bool, true, false, List, [], ◌∷◌, ◌++◌, Option, Some, None, refl, sym}
+use Rattle.std.proofs.Common.{ap, ◌∙◌, arith}
 use Rattle.std.specs.Prelude.{if◌then◌else◌}
 use Rattle.std.specs.Option.{option_or}
 use Rattle.std.proofs.lemmas.Option.{same_Some}
@@ -7,7 +8,8 @@ use Rattle.dmatypes.specs.declared.call.Mode.{Mode}
 use Rattle.dmatypes.specs.declared.call.Mode.TheVariants as modes
 use Rattle.dmatypes.specs.declared.reply.Event.{Event}
 use Rattle.dmatypes.specs.Page.{Range, IsWithin, page_of, range_at}
-use Rattle.dmatypes.specs.World.{Target, Domain, World, begun_once_more, empty, flushed, is_full, mapped, placed, reaped, unmapped_by, without, IsFree}
+use Rattle.dmatypes.specs.World.{Target, Domain, World, begun_once_more, empty, flushed, is_full, mapped, placed, reaped, unmapped_by}
+use Rattle.dmatypes.specs.World.{without, IsFree}
 use Rattle.dmatypes.specs.Conditions.{total_pages}
 use Rattle.dmatypes.specs.Step.{IsStep, next}
 use Rattle.dmatypes.specs.History.{after, after_from, IsLegal}

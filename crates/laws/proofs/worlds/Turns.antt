@@ -17,7 +17,7 @@ use Rattle.dmatypes.specs.Conditions.{total_pages}
 use Rattle.dmatypes.specs.Step.{Answers, IsMapAnswer, IsStep, IsUnmapAnswer, next}
 use Rattle.dmatypes.specs.History.{event}
 use Rattle.dmatypes.proofs.histories.Maps.{put_same, put_other, same_or_not}
-use Rattle.laws.specs.Events.{Begins, Drops, MapsAll, Reaps}
+use Rattle.laws.specs.Events.{Begins, Drops, MapsAll, Reaps, Unmaps}
 use Rattle.laws.proofs.lists.Options.{is_of, no_one}
 
 -- the domain that an event changes, makes or ends
@@ -167,3 +167,22 @@ map_step w e d ss rights address step (inr m) =
     subst (λ (xs : List Segment). IsMappedBy w e d xs rights address) (sym m.2)
     (subst (λ (x : Event). IsStep w x.call x.reply → IsMappedBy w x d m.1.items rights address)
     (sym m.3) (list_mapped w d m.0 rights m.1 address) step)
+
+-- ---- unmaps, from their events
+
+abbrev pub IsUnmappedBy : World → Event → ℕ → ℕ → ℕ → ℕ → Type 0
+IsUnmappedBy w e d address pages released =
+    (v : Domain) × (w.domains d ≡ Some v) × IsUnmapAnswer v.mode v.retired (Unmapped released)
+    × ((next w e.call e.reply).domains d ≡ Some (unmapped_by v.mode (range_at address pages) v))
+
+range_unmapped : (w : World) (d address pages released : ℕ) → IsStep w (calls.Unmap d address pages) (Unmapped released)
+    → IsUnmappedBy w (event (calls.Unmap d address pages) (Unmapped released)) d address pages released
+unfolding next IsStep Answers
+range_unmapped w d address pages released step =
+    let there = is_of (w.domains d) (λ v. IsUnmapAnswer v.mode v.retired (Unmapped released)) step.1 in
+    let change = λ (v : Domain). unmapped_by v.mode (range_at address pages) v in
+    (there.0, there.1, there.2, put_same d (change_of change (w.domains d)) w.domains ∙ ap (change_of change) there.1)
+
+pub unmap_step : (w : World) (e : Event) (d p : ℕ) → IsStep w e.call e.reply → (u : Unmaps d p e) → IsUnmappedBy w e d u.0 u.1 u.2
+unmap_step w e d p step u =
+    subst (λ (x : Event). IsStep w x.call x.reply → IsUnmappedBy w x d u.0 u.1 u.2) (sym u.3) (range_unmapped w d u.0 u.1 u.2) step
