@@ -1,2 +1,4 @@
 pub mod Reached
 pub mod Mapped
+pub mod Since
+pub mod Strict

@@ -6,7 +6,7 @@ use Rattle.dmatypes.specs.declared.call.Whim.{Whim}
 use Rattle.dmatypes.specs.declared.reply.Event.{Event}
 use Rattle.dmatypes.specs.Page.{page_of}
 use Rattle.dmatypes.specs.History.{IsLegal}
-use Rattle.laws.specs.Events.{Drops, Gives, IsAttached, IsOfMode, Lasts, Maps, Occurs, TakesAway, reaching}
+use Rattle.laws.specs.Events.{Drops, Gives, IsAttached, IsOfMode, Lasts, Maps, Occurs, TakesAway, Unmaps, reaching}
 
 -- A device reaches only frames that a map put into the domain it is attached to, with a right that the map gave. The
 -- domain wasn't ended since; and in a strict domain the page wasn't unmapped since.
@@ -18,6 +18,16 @@ DevicesReachOnlyWhatIsMapped =
     × Lasts (Gives domain address access host) (Drops domain) before
     × (IsOfMode modes.Strict domain before
     → Lasts (Gives domain address access host) (TakesAway domain (page_of address)) before)
+
+-- After a strict unmap answered, no request of any device reaches by those pages, but what a later map gave.
+abbrev pub StrictUnmapsEndReach : Type 0
+StrictUnmapsEndReach =
+    (frames : ℕ) (before between rest : List Event) (unmap : Event) (domain device address : ℕ) (access : Access) (whim : Whim) (host : ℕ)
+    → IsLegal frames ((before ++ unmap ∷ between) ++ reaching device address access whim host ∷ rest)
+    → IsOfMode modes.Strict domain before
+    → Unmaps domain (page_of address) unmap
+    → IsAttached device domain (before ++ unmap ∷ between)
+    → Occurs (Gives domain address access host) between
 
 -- Two live maps of a domain never share a page: between two maps of one page it was unmapped, or the domain ended.
 abbrev pub LiveMapsShareNoPage : Type 0

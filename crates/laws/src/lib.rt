@@ -2,11 +2,16 @@
 //! nothing: its contract is the law, and its proof is from the definitions of `dmatypes` alone.
 #![tactic(auto)]
 
-ghost use Rattle.laws.specs.Laws.{DevicesReachOnlyWhatIsMapped, LiveMapsShareNoPage};
+ghost use Rattle.laws.specs.Laws.{DevicesReachOnlyWhatIsMapped, LiveMapsShareNoPage, StrictUnmapsEndReach};
 
 /// A device reaches only frames that a map put into the domain it is attached to, with a right that the map gave.
 pub fn devices_reach_only_what_is_mapped()
     ensures { DevicesReachOnlyWhatIsMapped }
+{}
+
+/// After a strict unmap answered, no DMA of any device reaches those frames by those pages until a map puts them there again.
+pub fn strict_unmaps_end_reach()
+    ensures { StrictUnmapsEndReach }
 {}
 
 /// Two live maps of a domain never share a page.
