@@ -5,3 +5,7 @@ pub mod Live
 pub mod Modes
 pub mod Attached
 pub mod Kept
+pub mod Apart
+pub mod Tickets
+pub mod Held
+pub mod Releases

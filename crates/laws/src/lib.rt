@@ -1,8 +1,10 @@
 //! Laws of every legal history, in a user's words, by which a reader can check the model's definitions. Each function does
-//! nothing: its contract is the law, and its proof is from the definitions of `dmatypes` alone.
+//! nothing: its contract is the law, and its proof is from the definitions of `dmatypes` alone. The laws speak of the events
+//! of a history, what was asked and answered, and of no world.
 #![tactic(auto)]
 
-ghost use Rattle.laws.specs.Laws.{DevicesReachOnlyWhatIsMapped, LiveMapsShareNoPage, StrictUnmapsEndReach};
+ghost use Rattle.laws.specs.Laws.{DevicesReachOnlyWhatIsMapped, LiveMapsShareNoPage};
+ghost use Rattle.laws.specs.Laws.{NoPageIsHandedOutUnreleased, StrictUnmapsEndReach};
 
 /// A device reaches only frames that a map put into the domain it is attached to, with a right that the map gave.
 pub fn devices_reach_only_what_is_mapped()
@@ -17,4 +19,9 @@ pub fn strict_unmaps_end_reach()
 /// Two live maps of a domain never share a page.
 pub fn live_maps_share_no_page()
     ensures { LiveMapsShareNoPage }
+{}
+
+/// No page is handed out between its unmap and its release.
+pub fn no_page_is_handed_out_unreleased()
+    ensures { NoPageIsHandedOutUnreleased }
 {}

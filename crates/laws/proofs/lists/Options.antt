@@ -30,3 +30,8 @@ in_either x y (z ∷ xs) (inr rest) = elim (in_either x y xs rest) [ inl old ↦
 pub in_last : {X : Type 0} (x : X) (xs : List X) → IsIn x (xs ++ x ∷ [])
 in_last x [] = inl refl
 in_last x (z ∷ xs) = inr (in_last x xs)
+
+pub in_left : {X : Type 0} (x : X) (xs ys : List X) → IsIn x xs → IsIn x (xs ++ ys)
+in_left x [] ys inside = absurd inside
+in_left x (z ∷ xs) ys (inl same) = inl same
+in_left x (z ∷ xs) ys (inr rest) = inr (in_left x xs ys rest)

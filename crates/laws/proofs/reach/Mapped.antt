@@ -19,7 +19,7 @@ use Rattle.laws.proofs.worlds.Runs.{carried, legal_front}
 kept_after : (frames : ℕ) (history : List Event) (d p : ℕ) → IsLegal frames history → IsKept d p history ((after frames history).domains d)
 kept_after frames history d p legal =
     carried (λ es w. IsKept d p es (w.domains d)) (kept_step d p) [] (empty frames) history
-    (kept_none d p None (λ v t none live. absurd cc) (λ v t none retired. absurd cc)) legal
+    (kept_none d p [] None (λ v t none live. absurd cc) (λ v t none retired. absurd cc)) legal
 
 -- a domain without records has no page in one
 pub bare_none : (v : Domain) (p : ℕ) (t : _) → v.retired ≡ [] → IsRetired v p t → ⊥

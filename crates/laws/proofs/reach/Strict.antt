@@ -33,7 +33,7 @@ kept_strict w e d p step u mode =
     let bare : (unmapped_by by.0.mode (range_at u.0 u.1) by.0).retired ≡ [] =
     unmapped_bare by.0.mode (range_at u.0 u.1) by.0 strict ∙ ap (λ (v : Domain). v.retired) (sym same) ∙ mode.bare refl in
     subst (IsKept d p []) (sym by.3)
-    (kept_none d p (Some (unmapped_by by.0.mode (range_at u.0 u.1) by.0))
+    (kept_none d p [] (Some (unmapped_by by.0.mode (range_at u.0 u.1) by.0))
     (λ v t at live.
     not_live by.0 (range_at u.0 u.1) p t u.4 (ap (λ (x : Domain). x.live p) (same_Some _ v at) ∙ live))
     (λ v t at retired.

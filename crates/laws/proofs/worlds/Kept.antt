@@ -48,7 +48,7 @@ takes_kind d p e (inr drops) = inr (ap kind drops)
 not_taken : (d p : ℕ) (e : Event) (n : ℕ) → kind e ≡ n → (n ≡ 6 → ⊥) → (n ≡ 1 → ⊥) → TakesAway d p e → ⊥
 not_taken d p e n is six one takes = elim (takes_kind d p e takes) [ inl at ↦ six (sym is ∙ at) | inr at ↦ one (sym is ∙ at) ]
 
-maps_kind : (d : ℕ) (ss : List Segment) (rights address : ℕ) (e : Event) → MapsAll d ss rights address e → (kind e ≡ 4) ⊎ (kind e ≡ 5)
+pub maps_kind : (d : ℕ) (ss : List Segment) (rights address : ℕ) (e : Event) → MapsAll d ss rights address e → (kind e ≡ 4) ⊎ (kind e ≡ 5)
 maps_kind d ss rights address e (inl one) = inl (ap kind one.4)
 maps_kind d ss rights address e (inr list) = inr (ap kind list.3)
 
@@ -100,15 +100,15 @@ kept_mapped d p es e o v ss rights address old there of = record {
 
 -- ---- unmaps
 
-room_retired : (v : Domain) (b : Bool) (r : Retired) → IsIn r (if b then flushed v else v).retired → IsIn r v.retired
+pub room_retired : (v : Domain) (b : Bool) (r : Retired) → IsIn r (if b then flushed v else v).retired → IsIn r v.retired
 room_retired v true r i = absurd i
 room_retired v false r i = i
 
-room_live : (v : Domain) (b : Bool) → (if b then flushed v else v).live ≡ v.live
+pub room_live : (v : Domain) (b : Bool) → (if b then flushed v else v).live ≡ v.live
 room_live v true = refl
 room_live v false = refl
 
-restricted_live : (range : Range) (map : ℕ → Option Target) (p : ℕ) (t : Target) → restricted range map p ≡ Some t → map p ≡ Some t
+pub restricted_live : (range : Range) (map : ℕ → Option Target) (p : ℕ) (t : Target) → restricted range map p ≡ Some t → map p ≡ Some t
 restricted_live range map p t e = elim (within_or_not range p) [
   | inl here ↦ sym (rw (within_is range p here) refl) ∙ e
   | inr past ↦ absurd (let none : None ≡ Some t = sym (rw (within_not range p past) refl) ∙ e in cc)
@@ -209,9 +209,9 @@ pub kept_step : (d p : ℕ) (es : List Event) (w : World) (e : Event) → IsKept
 kept_step d p es w e old step = kept_turn w d p es e ((next w e.call e.reply).domains d) old (turn w e.call e.reply d step)
 
 -- where the page is neither live nor in a record
-pub kept_none : (d p : ℕ) (o : Option Domain) → ((v : Domain) (t : Target) → o ≡ Some v → v.live p ≡ Some t → ⊥)
-    → ((v : Domain) (t : Target) → o ≡ Some v → IsRetired v p t → ⊥) → IsKept d p [] o
-kept_none d p o live retired = record {
+pub kept_none : (d p : ℕ) (es : List Event) (o : Option Domain) → ((v : Domain) (t : Target) → o ≡ Some v → v.live p ≡ Some t → ⊥)
+    → ((v : Domain) (t : Target) → o ≡ Some v → IsRetired v p t → ⊥) → IsKept d p es o
+kept_none d p es o live retired = record {
   live = λ v t at is. absurd (live v t at is);
   retired = λ v t at is. absurd (retired v t at is);
 }
