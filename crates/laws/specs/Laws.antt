@@ -32,6 +32,18 @@ StrictUnmapsEndReach =
     → IsAttached device domain (before ++ unmap ∷ between)
     → Occurs (Gives domain address access host) between
 
+-- In a lazy domain the same from the flush on: once what was unmapped is released.
+abbrev pub FlushesEndReach : Type 0
+FlushesEndReach =
+    (frames : ℕ) (before between rest : List Event) (unmap : Event) (domain device address : ℕ) (access : Access) (whim : Whim)
+    (host : ℕ)
+    → IsLegal frames ((before ++ unmap ∷ between) ++ reaching device address access whim host ∷ rest)
+    → IsOfMode modes.Lazy domain before
+    → Unmaps domain (page_of address) unmap
+    → IsReleased domain between
+    → IsAttached device domain (before ++ unmap ∷ between)
+    → Occurs (Gives domain address access host) between
+
 -- Two live maps of a domain never share a page: of two maps of one page the first isn't live when the second answers, for
 -- between them the page was unmapped or the domain ended.
 abbrev pub LiveMapsShareNoPage : Type 0

@@ -3,7 +3,7 @@
 //! of a history, what was asked and answered, and of no world.
 #![tactic(auto)]
 
-ghost use Rattle.laws.specs.Laws.{DevicesReachOnlyWhatIsMapped, LiveMapsShareNoPage};
+ghost use Rattle.laws.specs.Laws.{DevicesReachOnlyWhatIsMapped, FlushesEndReach, LiveMapsShareNoPage};
 ghost use Rattle.laws.specs.Laws.{NoPageIsHandedOutUnreleased, StrictUnmapsEndReach};
 
 /// A device reaches only frames that a map put into the domain it is attached to, with a right that the map gave.
@@ -14,6 +14,11 @@ pub fn devices_reach_only_what_is_mapped()
 /// After a strict unmap answered, no DMA of any device reaches those frames by those pages until a map puts them there again.
 pub fn strict_unmaps_end_reach()
     ensures { StrictUnmapsEndReach }
+{}
+
+/// In a lazy domain the same from the flush on.
+pub fn flushes_end_reach()
+    ensures { FlushesEndReach }
 {}
 
 /// Two live maps of a domain never share a page.
