@@ -21,7 +21,7 @@ DevicesReachOnlyWhatIsMapped =
     → Lasts (Gives domain address access host) (TakesAway domain (page_of address)) before)
 
 -- After a strict unmap answered, no request of any device reaches those frames by those pages until a map puts them there
--- again: where one is answered a host address, a map behind the unmap gives that address.
+-- again: where one is answered a host address, a map after the unmap gives that address.
 abbrev pub StrictUnmapsEndReach : Type 0
 StrictUnmapsEndReach =
     (frames : ℕ) (before between rest : List Event) (unmap : Event) (domain device address : ℕ) (access : Access) (whim : Whim)

@@ -1,4 +1,4 @@
--- What occurs in the course of events, with events more behind them.
+-- What occurs in the course of events, with events more after them.
 use Rattle.std.proofs.Common.{◌⊎◌, inl, inr, List, [], ◌∷◌, ◌++◌}
 use Rattle.dmatypes.specs.declared.reply.Event.{Event}
 use Rattle.laws.specs.Events.{Lasts, Occurs, OccurInTurn}

@@ -19,7 +19,7 @@ use Rattle.laws.proofs.worlds.Releases.{IsHeld, IsHeldOrReleased, held_first, he
 use Rattle.laws.proofs.worlds.Runs.{carried, legal_from, legal_front, legal_rest}
 use Rattle.laws.proofs.worlds.Tickets.{begun_after}
 
--- in the course of the events behind the unmap
+-- in the course of the events after the unmap
 held_or_released : (frames : ℕ) (before between rest : List Event) (unmap : Event) (d p : ℕ)
     → IsLegal frames ((before ++ unmap ∷ between) ++ rest) → IsOfMode modes.Lazy d before → Unmaps d p unmap
     → (mark : ℕ) × IsHeldOrReleased d p mark between (after_from (next (after frames before) unmap.call unmap.reply) between)

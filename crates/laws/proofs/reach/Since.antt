@@ -1,4 +1,4 @@
--- Where a domain has a page only by maps behind an event, a device reaches by it only what such a map gives.
+-- Where a domain has a page only by maps after an event, a device reaches by it only what such a map gives.
 use Rattle.std.proofs.Common.{◌≡◌, ℕ, inl, inr, List, ◌∷◌, ◌++◌, Some, sym, ap, subst, ◌∙◌}
 use Rattle.std.proofs.lemmas.Option.{same_Some}
 use Rattle.dmatypes.specs.declared.call.Access.{Access}
@@ -29,7 +29,7 @@ given d address access host w device between r same kept =
           lasts_occurs (WasPut d (page_of address) r.by.target) (Drops d) between (kept.retired r.domain r.by.target there retired)
     ])
 
--- from an event on, behind which only maps give the page
+-- from an event on, after which only maps give the page
 pub given_since : (frames : ℕ) (before between rest : List Event) (e : Event) (d device address : ℕ) (access : Access) (whim : Whim)
     (host : ℕ) → IsLegal frames ((before ++ e ∷ between) ++ reaching device address access whim host ∷ rest)
     → IsAttached device d (before ++ e ∷ between)

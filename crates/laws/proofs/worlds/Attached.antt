@@ -12,7 +12,7 @@ use Rattle.dmatypes.specs.Step.{IsStep, next}
 use Rattle.dmatypes.specs.History.{after, event, IsLegal}
 use Rattle.dmatypes.proofs.histories.Maps.{put_same, put_other, same_or_not}
 use Rattle.laws.specs.Events.{Attaches, Detaches, IsAttached}
-use Rattle.laws.proofs.lists.Kinds.{kind}
+use Rattle.laws.proofs.lists.Kinds.{Kind, kind}
 use Rattle.laws.proofs.lists.Courses.{lasts_either, lasts_now, lasts_still}
 use Rattle.laws.proofs.worlds.Runs.{carried}
 
@@ -95,7 +95,7 @@ told_move w device es e new old (Move.attaches d none at of) = record {
 told_move w device es e new old (Move.detaches none of) = record {
   told = λ d at. absurd (let both : None ≡ Some d = sym none ∙ at in cc);
   is = λ d lasts. elim (lasts_either (Attaches device d) (Detaches device) es e lasts) [
-    | inl same ↦ absurd (let both : 3 ≡ 2 = ap kind (sym of ∙ same) in cc)
+    | inl same ↦ absurd (let both : Kind.detaches ≡ Kind.attaches = ap kind (sym of ∙ same) in cc)
     | inr still ↦ absurd (still.1 of)
   ];
 }

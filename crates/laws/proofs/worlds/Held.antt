@@ -134,7 +134,7 @@ before_is r number less = rw (lt-ltb r.mark number less) refl
 before_not : (r : Retired) (number : ℕ) → number ≤ r.mark → not (is_before number r) ≡ true
 before_not r number le = rw (le-ltb r.mark number le) refl
 
--- one that was begun behind the unmap leaves none
+-- one that was begun after the unmap leaves none
 pub none_reaped : (p mark number : ℕ) (v : Domain) → mark < number → Holds p mark v → HasNone p (reaped number v)
 none_reaped p mark number v less h = record {
   not_live = h.not_live;

@@ -21,7 +21,7 @@ use Rattle.dmatypes.proofs.lists.Filtered.{in_filter}
 use Rattle.dmatypes.proofs.numbers.Ranges.{within_is, within_not, within_or_not}
 use Rattle.laws.specs.Events.{Drops, Lasts, MapsAll, MapsTo, TakesAway, Unmaps}
 use Rattle.laws.proofs.lists.Courses.{lasts_less, lasts_now, lasts_still}
-use Rattle.laws.proofs.lists.Kinds.{kind}
+use Rattle.laws.proofs.lists.Kinds.{Kind, kind}
 use Rattle.laws.proofs.lists.Options.{either_of, in_either}
 use Rattle.laws.proofs.worlds.Live.{unmapped_live, without_here, without_else}
 use Rattle.laws.proofs.worlds.Placed.{member_of}
@@ -40,22 +40,24 @@ takes_named : (d p : ℕ) (e : Event) → TakesAway d p e → named_by e ≡ Som
 takes_named d p e (inl unmaps) = ap named_by unmaps.3
 takes_named d p e (inr drops) = ap named_by drops
 
-takes_kind : (d p : ℕ) (e : Event) → TakesAway d p e → (kind e ≡ 6) ⊎ (kind e ≡ 1)
+takes_kind : (d p : ℕ) (e : Event) → TakesAway d p e → (kind e ≡ Kind.unmaps) ⊎ (kind e ≡ Kind.drops)
 takes_kind d p e (inl unmaps) = inl (ap kind unmaps.3)
 takes_kind d p e (inr drops) = inr (ap kind drops)
 
 -- an event of another kind doesn't
-not_taken : (d p : ℕ) (e : Event) (n : ℕ) → kind e ≡ n → (n ≡ 6 → ⊥) → (n ≡ 1 → ⊥) → TakesAway d p e → ⊥
-not_taken d p e n is six one takes = elim (takes_kind d p e takes) [ inl at ↦ six (sym is ∙ at) | inr at ↦ one (sym is ∙ at) ]
+not_taken : (d p : ℕ) (e : Event) (n : Kind) → kind e ≡ n → (n ≡ Kind.unmaps → ⊥) → (n ≡ Kind.drops → ⊥) → TakesAway d p e → ⊥
+not_taken d p e n is unmap drop takes =
+    elim (takes_kind d p e takes) [ inl at ↦ unmap (sym is ∙ at) | inr at ↦ drop (sym is ∙ at) ]
 
-pub maps_kind : (d : ℕ) (ss : List Segment) (rights address : ℕ) (e : Event) → MapsAll d ss rights address e → (kind e ≡ 4) ⊎ (kind e ≡ 5)
+pub maps_kind : (d : ℕ) (ss : List Segment) (rights address : ℕ) (e : Event) → MapsAll d ss rights address e
+    → (kind e ≡ Kind.maps) ⊎ (kind e ≡ Kind.maps_list)
 maps_kind d ss rights address e (inl one) = inl (ap kind one.4)
 maps_kind d ss rights address e (inr list) = inr (ap kind list.3)
 
 not_taken_by_map : (d p : ℕ) (e : Event) (ss : List Segment) (rights address : ℕ) → MapsAll d ss rights address e → TakesAway d p e → ⊥
 not_taken_by_map d p e ss rights address of = elim (maps_kind d ss rights address e of) [
-  | inl at ↦ not_taken d p e 4 at (λ x. cc) (λ x. cc)
-  | inr at ↦ not_taken d p e 5 at (λ x. cc) (λ x. cc)
+  | inl at ↦ not_taken d p e Kind.maps at (λ x. cc) (λ x. cc)
+  | inr at ↦ not_taken d p e Kind.maps_list at (λ x. cc) (λ x. cc)
 ]
 
 -- ---- what stays
@@ -192,15 +194,15 @@ kept_turn w d p es e new old (Turn.maps v ss rights address there free is of) =
 kept_turn w d p es e new old (Turn.unmaps v address pages released there answer is of) =
     subst (IsKept d p (es ++ e ∷ [])) (sym is)
     (kept_unmapped d p es e (w.domains d) v v.mode (range_at address pages) old there
-    (λ drops. let both : 6 ≡ 1 = ap kind (sym of ∙ drops) in cc) (within_of d p address pages released e of))
+    (λ drops. let both : Kind.unmaps ≡ Kind.drops = ap kind (sym of ∙ drops) in cc) (within_of d p address pages released e of))
 kept_turn w d p es e new old (Turn.flushes v released there is of) =
-    kept_less d p es e (w.domains d) v new (flushed v) old there is (not_taken d p e 7 (ap kind of) (λ x. cc) (λ x. cc))
+    kept_less d p es e (w.domains d) v new (flushed v) old there is (not_taken d p e Kind.flushes (ap kind of) (λ x. cc) (λ x. cc))
     (λ t live. live) (λ t retired. absurd retired.1)
 kept_turn w d p es e new old (Turn.begins v there is of) =
-    kept_less d p es e (w.domains d) v new (begun_once_more v) old there is (not_taken d p e 8 (ap kind of) (λ x. cc) (λ x. cc))
+    kept_less d p es e (w.domains d) v new (begun_once_more v) old there is (not_taken d p e Kind.begins (ap kind of) (λ x. cc) (λ x. cc))
     (λ t live. live) (λ t retired. retired)
 kept_turn w d p es e new old (Turn.reaps v number there is of) =
-    kept_less d p es e (w.domains d) v new (reaped number v) old there is (not_taken d p e 10 (ap kind of.1) (λ x. cc) (λ x. cc))
+    kept_less d p es e (w.domains d) v new (reaped number v) old there is (not_taken d p e Kind.reaps (ap kind of.1) (λ x. cc) (λ x. cc))
     (λ t live. live)
     (λ t r. (r.0, (in_filter (λ (x : Retired). not (is_before number x)) r.0 v.retired r.1).0, r.2, r.3))
 

@@ -1,4 +1,4 @@
--- In the course of events behind a lazy unmap its pages are held, or what was unmapped is released and only maps give them.
+-- In the course of events after a lazy unmap its pages are held, or what was unmapped is released and only maps give them.
 use Rattle.std.proofs.Common.{◌≡◌, ◌⊎◌, ℕ, ◌<◌, inl, inr, List, [], ◌∷◌, ◌++◌, Option, Some, None, refl, sym, ap, subst, ◌∙◌}
 use Rattle.std.proofs.Common.{arith}
 use Rattle.std.proofs.lemmas.Bool.{cases_lt}
@@ -18,7 +18,7 @@ use Rattle.dmatypes.specs.Step.{IsStep, next}
 use Rattle.dmatypes.specs.History.{event}
 use Rattle.laws.specs.Events.{Begins, IsReleased, Occurs, Reaps, ReleasesAll, Unmaps}
 use Rattle.laws.proofs.lists.Courses.{occurs_either, occurs_last, occurs_left, turn_either, turn_now, turn_still}
-use Rattle.laws.proofs.lists.Kinds.{kind}
+use Rattle.laws.proofs.lists.Kinds.{Kind, kind}
 use Rattle.laws.proofs.lists.Options.{in_either, in_last}
 use Rattle.laws.proofs.worlds.Apart.{IsApart, was_live}
 use Rattle.laws.proofs.worlds.Held.{HasNone, Holds, holds_begun, holds_mapped, holds_reaped, none_flushed, none_reaped, unmapped_held}
@@ -58,21 +58,23 @@ all_named d e (inl flush) = ap named_by flush.1
 all_named d e (inr (inl unmap)) = ap named_by unmap.4
 all_named d e (inr (inr drop)) = ap named_by drop
 
-all_kind : (d : ℕ) (e : Event) → ReleasesAll d e → (kind e ≡ 7) ⊎ (kind e ≡ 6) ⊎ (kind e ≡ 1)
+all_kind : (d : ℕ) (e : Event) → ReleasesAll d e → (kind e ≡ Kind.flushes) ⊎ (kind e ≡ Kind.unmaps) ⊎ (kind e ≡ Kind.drops)
 all_kind d e (inl flush) = inl (ap kind flush.1)
 all_kind d e (inr (inl unmap)) = inr (inl (ap kind unmap.4))
 all_kind d e (inr (inr drop)) = inr (inr (ap kind drop))
 
 -- an event of another kind releases none
-not_all : (d : ℕ) (e : Event) (n : ℕ) → kind e ≡ n → (n ≡ 7 → ⊥) → (n ≡ 6 → ⊥) → (n ≡ 1 → ⊥) → ReleasesAll d e → ⊥
-not_all d e n is seven six one all = elim (all_kind d e all) [
-  | inl at ↦ seven (sym is ∙ at)
-  | inr (inl at) ↦ six (sym is ∙ at)
-  | inr (inr at) ↦ one (sym is ∙ at)
+not_all : (d : ℕ) (e : Event) (n : Kind) → kind e ≡ n → (n ≡ Kind.flushes → ⊥) → (n ≡ Kind.unmaps → ⊥) → (n ≡ Kind.drops → ⊥)
+    → ReleasesAll d e → ⊥
+not_all d e n is flush unmap drop all = elim (all_kind d e all) [
+  | inl at ↦ flush (sym is ∙ at)
+  | inr (inl at) ↦ unmap (sym is ∙ at)
+  | inr (inr at) ↦ drop (sym is ∙ at)
 ]
 
-not_end : (d : ℕ) (es : List Event) (e : Event) (n : ℕ) → kind e ≡ n → (n ≡ 10 → ⊥) → (k : ℕ) → Occurs (Begins d k) es → Reaps d k e → ⊥
-not_end d es e n is ten k begun of = ten (sym is ∙ ap kind of.1)
+not_end : (d : ℕ) (es : List Event) (e : Event) (n : Kind) → kind e ≡ n → (n ≡ Kind.reaps → ⊥) → (k : ℕ) → Occurs (Begins d k) es
+    → Reaps d k e → ⊥
+not_end d es e n is reap k begun of = reap (sym is ∙ ap kind of.1)
 
 -- ---- what is still held
 
@@ -113,17 +115,17 @@ released_in e = of e.reply
     of (Unmapped n) = n
     of reply = 0
 
-not_six : (e : Event) → kind e ≡ 6 → (n : ℕ) → kind e ≡ n → (n ≡ 6 → ⊥) → ⊥
-not_six e six n is other = other (sym is ∙ six)
+not_unmap : (e : Event) → kind e ≡ Kind.unmaps → (n : Kind) → kind e ≡ n → (n ≡ Kind.unmaps → ⊥) → ⊥
+not_unmap e unmap n is other = other (sym is ∙ unmap)
 
 -- an unmap that releases none isn't one that does
 none_released : (d address pages released : ℕ) (e : Event) → e ≡ event (calls.Unmap d address pages) (Unmapped released) → released ≡ 0
     → ReleasesAll d e → ⊥
 unfolding released_in
-none_released d address pages released e of zero (inl flush) = not_six e (ap kind of) 7 (ap kind flush.1) (λ x. cc)
+none_released d address pages released e of zero (inl flush) = not_unmap e (ap kind of) Kind.flushes (ap kind flush.1) (λ x. cc)
 none_released d address pages released e of zero (inr (inl unmap)) =
     unmap.3 (ap released_in (sym unmap.4 ∙ of) ∙ zero)
-none_released d address pages released e of zero (inr (inr drop)) = not_six e (ap kind of) 1 (ap kind drop) (λ x. cc)
+none_released d address pages released e of zero (inr (inr drop)) = not_unmap e (ap kind of) Kind.drops (ap kind drop) (λ x. cc)
 
 number_in : Event → ℕ
 number_in e = of e.call
@@ -155,8 +157,8 @@ held_turn d p mark es w e old step (Turn.maps v ss rights address there free is 
     let more = held_more d p mark es w e (mapped ss (page_of address) rights v) old step is
     (holds_mapped p mark v ss (page_of address) rights free holds) in
     elim (maps_kind d ss rights address e of) [
-      | inl at ↦ inl (more (not_all d e 4 at (λ x. cc) (λ x. cc) (λ x. cc)) (not_end d es e 4 at (λ x. cc)))
-      | inr at ↦ inl (more (not_all d e 5 at (λ x. cc) (λ x. cc) (λ x. cc)) (not_end d es e 5 at (λ x. cc)))
+      | inl at ↦ inl (more (not_all d e Kind.maps at (λ x. cc) (λ x. cc) (λ x. cc)) (not_end d es e Kind.maps at (λ x. cc)))
+      | inr at ↦ inl (more (not_all d e Kind.maps_list at (λ x. cc) (λ x. cc) (λ x. cc)) (not_end d es e Kind.maps_list at (λ x. cc)))
     ]
 held_turn d p mark es w e old step (Turn.unmaps v address pages released there answer is of) =
     let holds = subst (Holds p mark) (same_Some old.domain v (sym old.there ∙ there)) old.holds in
@@ -169,7 +171,7 @@ held_turn d p mark es w e old step (Turn.unmaps v address pages released there a
           )
       | inr none ↦
           inl (held_more d p mark es w e (unmapped_by v.mode range v) old step is none.1
-          (none_released d address pages released e of none.0) (not_end d es e 6 (ap kind of) (λ x. cc)))
+          (none_released d address pages released e of none.0) (not_end d es e Kind.unmaps (ap kind of) (λ x. cc)))
     ]
 held_turn d p mark es w e old step (Turn.flushes v released there is of) =
     let holds = subst (Holds p mark) (same_Some old.domain v (sym old.there ∙ there)) old.holds in
@@ -180,7 +182,7 @@ held_turn d p mark es w e old step (Turn.flushes v released there is of) =
 held_turn d p mark es w e old step (Turn.begins v there is of) =
     let holds = subst (Holds p mark) (same_Some old.domain v (sym old.there ∙ there)) old.holds in
     inl (held_more d p mark es w e (begun_once_more v) old step is (holds_begun p mark v holds)
-    (not_all d e 8 (ap kind of) (λ x. cc) (λ x. cc) (λ x. cc)) (not_end d es e 8 (ap kind of) (λ x. cc)))
+    (not_all d e Kind.begins (ap kind of) (λ x. cc) (λ x. cc) (λ x. cc)) (not_end d es e Kind.begins (ap kind of) (λ x. cc)))
 held_turn d p mark es w e old step (Turn.reaps v number there is of) =
     let holds = subst (Holds p mark) (same_Some old.domain v (sym old.there ∙ there)) old.holds in
     elim (cases_lt mark number) [
@@ -192,7 +194,7 @@ held_turn d p mark es w e old step (Turn.reaps v number there is of) =
           )
       | inr le ↦
           inl (held_more d p mark es w e (reaped number v) old step is (holds_reaped p mark number v le holds)
-          (not_all d e 10 (ap kind of.1) (λ x. cc) (λ x. cc) (λ x. cc))
+          (not_all d e Kind.reaps (ap kind of.1) (λ x. cc) (λ x. cc) (λ x. cc))
           (λ k begun other.
           let less : mark < k = old.later k begun in
           let same : k ≡ number = same_number d k number e other of in
@@ -241,7 +243,7 @@ held_first w e d p step u is apart begun =
             let b = begun n was in
             let one : b.domain.begun ≡ v.begun = ap (λ (x : Domain). x.begun) (same_Some b.domain v (sym b.there ∙ is.there)) in
             absurd (omega (arith, b.below, one, less, room_begun v (is_full v)))
-        | inr begins ↦ absurd (let both : 6 ≡ 8 = ap kind (sym u.3 ∙ begins) in cc)
+        | inr begins ↦ absurd (let both : Kind.unmaps ≡ Kind.begins = ap kind (sym u.3 ∙ begins) in cc)
       ];
       later = λ n none. absurd none;
       unreleased = elim [ inl none ↦ none | inr none ↦ none.1 ];
