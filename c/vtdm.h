@@ -173,7 +173,7 @@ uint64_t vtdm_create_caching(struct vtdm *manager, uint64_t frames);
 /* Ends the manager, if there is one, and frees its memory. Then the struct is as at VTDM_INIT and can be used again. */
 void vtdm_destroy(struct vtdm *manager);
 
-/* ---- Calls. Each can also answer VTDM_ABSENT, which is judged before all others, and VTDM_SPENT, which is judged next, but behind
+/* ---- Calls. Each can also answer VTDM_ABSENT, which is judged before all others, and VTDM_SPENT, which is judged next, but after
  * VTDM_MANY_SEGMENTS and VTDM_BAD_CACHE. Its other statuses are named in the order in which they are judged: the first whose
  * condition holds is answered. */
 
