@@ -36,23 +36,22 @@ drop_more (suc k) (b ∷ bytes) = drop_more k bytes
 pub ended : (most room count : ℕ) (block rest line longer : List ℕ) (taken : Taken) → EndsLine block room count taken
     → (taken ≡ parts.More → ⊥) → count ≤ length block → longer ≡ line ++ take count block → rest ≡ drop 1 (drop count block)
     → length line + room ≡ most → TakesLine most block rest line longer taken
-ended most room count block rest line longer parts.Newline end more within is left full =
-    (
-      take count block,
-      is,
-      end.0 ∙ ap (λ (r : List ℕ). take count block ++ 10 ∷ r)
-          (ap (λ (n : ℕ). drop n block) (plus_one count) ∙ drop_more count block ∙ sym left),
-      end.1,
-    )
+ended most room count block rest line longer parts.Newline end more within is left full = (
+  take count block,
+  is,
+  end.0 ∙ ap (λ (r : List ℕ). take count block ++ 10 ∷ r)
+      (ap (λ (n : ℕ). drop n block) (plus_one count) ∙ drop_more count block ∙ sym left),
+  end.1,
+)
 ended most room count block rest line longer parts.More end more within is left full = absurd (more refl)
 ended most room count block rest line longer parts.Long end more within is left full =
     let found = past block room end.1 (subst (λ (n : ℕ). IsUnbroken (take n block)) (plus_one room) end.2) in
-    (
+    let next : drop (suc room) block ≡ rest = drop_more room block ∙ ap (λ (n : ℕ). drop 1 (drop n block)) (sym end.0) ∙ sym left in (
       take room block,
       found.0,
       is ∙ ap (λ (n : ℕ). line ++ take n block) end.0,
-      found.1 ∙ ap (λ (r : List ℕ). take room block ++ found.0 ∷ r) (drop_more room block ∙ ap (λ (n : ℕ). drop 1 (drop n block)) (sym end.0) ∙ sym left),
+      found.1 ∙ ap (λ (r : List ℕ). take room block ++ found.0 ∷ r) next,
       found.2,
       ap length (is ∙ ap (λ (n : ℕ). line ++ take n block) end.0) ∙ length-append line (take room block)
-      ∙ ap (λ (n : ℕ). length line + n) (length-take-le room block (omega (arith, end.1))) ∙ full,
+          ∙ ap (λ (n : ℕ). length line + n) (length-take-le room block (omega (arith, end.1))) ∙ full,
     )

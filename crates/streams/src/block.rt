@@ -61,7 +61,8 @@ impl Block {
         ensures line { line.new.items ≡ line.old.items ++ take count self.old }
         ensures rest { self.new ≡ drop count self.old }
     {
-        line.try_extend_from_slice(&self.as_slice()[..count]).unwrap();
+        line.try_extend_from_slice(&self.as_slice()[..count])
+            .unwrap();
         self.advance(count);
     }
 
