@@ -1,4 +1,5 @@
 pub mod Known
 pub mod Past
+pub mod Newlines
 pub mod Lines
 pub mod Reading

@@ -8,6 +8,7 @@ use crate::block::{BLOCK_BYTES, Block, Full};
 use crate::ends::{Failed, Sink, Source};
 use crate::wrapped::Wrapped;
 use arrayvec::ArrayVec;
+use memchr::memchr;
 
 /// A source or a sink, with a block of the bytes that were read and not yet used, or that are still to be written.
 #[derive(Drop)]
@@ -118,12 +119,13 @@ fn line_end(bytes: &[u8], room: usize) -> (usize, Taken)
 }
 
 // Where the first newline stands.
+#[tactic(auto, using(crate::proofs::Newlines::found, crate::proofs::Newlines::not_found))]
 fn first_newline(bytes: &[u8]) -> Option<usize>
     ensures some { IfSome result (λ i. (i < length bytes.now) × IsUnbroken (take i bytes.now)
         × (bytes.now ≡ take i bytes.now ++ 10 ∷ drop (i + 1) bytes.now)) }
     ensures none { IfNone result (IsUnbroken bytes.now) }
 {
-    bytes.iter().position(|byte| *byte == b'\n')
+    memchr(b'\n', bytes)
 }
 
 impl<W: Sink> Stream<W> {
