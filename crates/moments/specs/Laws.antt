@@ -1,0 +1,68 @@
+-- The law of moments: what a walk finds while the words of a call reach memory.
+use Rattle.std.specs.Prelude.{◌≡◌, ℕ, ◌<◌, List, Option, None, Some, IsSome}
+use Rattle.dmatypes.specs.Page.{IsWithin, Range, levels, pages_end}
+use Rattle.dmatypes.specs.World.{Target}
+use Rattle.dmatypes.specs.declared.width.Width.{Width}
+use Rattle.vtdbits.specs.declared.entry.SsEntry.TheVariants.{LargeLeaf, Table}
+use Rattle.tables.specs.Tree.{index_in, root_states, table_from}
+use Rattle.tables.specs.Pool.{Pool, memory}
+use Rattle.tables.specs.Changes.{IsApart, TakesAndGivesFrames}
+use Rattle.moments.specs.Moments.{FillsFirst, GoesDown, IsDestroyed, IsFilledFirst, IsMap, IsOldOrAbsent, IsOldOrNew, IsUnmap, Place}
+use Rattle.moments.specs.Moments.{Reached, meanwhile, reached_by}
+
+-- Whatever words of a map have reached memory when a walk reads them, each level at its own moment, each page is found as before the
+-- map or as after it. No order is asked of the words.
+abbrev pub MapsAreOldOrNew : Type 0
+MapsAreOldOrNew =
+    (old new : Pool) (width : Width) (root : ℕ) (range : Range) (says : ℕ → Option Target) (reached : Reached) (page : ℕ)
+    → IsMap old new width root range says
+    → IsOldOrNew old.words new.words reached width root page
+
+-- Whatever words of an unmap have reached memory when a walk reads them, each level at its own moment, each page is found as before the
+-- unmap or as after it, if only a table that takes the place of a leaf of 2 MiB is written before the word that names it.
+abbrev pub UnmapsAreOldOrNew : Type 0
+UnmapsAreOldOrNew =
+    (old new : Pool) (width : Width) (root : ℕ) (range : Range) (cut : List ℕ) (reached : Reached) (page : ℕ)
+    → IsUnmap old new width root range cut
+    → IsFilledFirst old.words new.words reached
+    → IsOldOrNew old.words new.words reached width root page
+
+-- Words that are written one after the other, in any order in which such a table stands before the word that names it, are read so by
+-- every walk that goes down.
+abbrev pub OneOrderSuffices : Type 0
+OneOrderSuffices =
+    (old new : List ℕ) (order : List Place) (moment : ℕ → ℕ)
+    → FillsFirst old new order
+    → GoesDown moment
+    → IsFilledFirst old new (reached_by order moment)
+
+-- And this one order matters: where a table took the place of a leaf of 2 MiB, and the word that names it reaches memory before the words
+-- of the table, a walk finds nothing at a page of that leaf, though it was there before the unmap and, where it isn't of the range, is
+-- there after it.
+abbrev pub OneOrderMatters : Type 0
+OneOrderMatters =
+    (old new : Pool) (width : Width) (root : ℕ) (range : Range) (cut : List ℕ) (table below page : ℕ) (leaf : Target)
+    → IsUnmap old new width root range cut
+    → page < pages_end width
+    → table_from (memory old.words) (levels width) root page 2 ≡ Some table
+    → memory old.words 2 table (index_in 1 page) ≡ LargeLeaf leaf
+    → memory new.words 2 table (index_in 1 page) ≡ Table below
+    → (IsWithin range page → ⊥)
+    → (reached : Reached) × (root_states (meanwhile old.words new.words reached) width root page ≡ None)
+    × IsSome (root_states (memory old.words) width root page)
+    × IsSome (root_states (memory new.words) width root page)
+
+-- Whatever words of a tree's end have reached memory, each page of the tree is found as before it or not at all.
+abbrev pub DestroysAreOldOrAbsent : Type 0
+DestroysAreOldOrAbsent =
+    (old new : Pool) (width : Width) (root : ℕ) (reached : Reached) (page : ℕ)
+    → IsDestroyed old new width root
+    → IsOldOrAbsent old.words new.words reached width root page
+
+-- Meanwhile the pages of every tree that stands apart are found as ever.
+abbrev pub OthersAreSteady : Type 0
+OthersAreSteady =
+    (old new : Pool) (width other : Width) (root root' : ℕ) (cut : List ℕ) (reached : Reached) (page : ℕ)
+    → TakesAndGivesFrames old new (levels width) root cut
+    → IsApart old (levels width) root (levels other) root'
+    → root_states (meanwhile old.words new.words reached) other root' page ≡ root_states (memory old.words) other root' page
