@@ -14,11 +14,11 @@ use Rattle.moments.specs.Moments.{AreFreeZeroed}
 use Rattle.moments.proofs.Between.{IsBetween, down}
 
 -- a table that a walk passes is the one where it begins, or lies below one that an entry of that names
-abbrev Step : Memory → ℕ → ℕ → ℕ → ℕ → ℕ → Type 0
+abbrev pub Step : Memory → ℕ → ℕ → ℕ → ℕ → ℕ → Type 0
 Step m l t p w c =
     ((w ≡ suc l) × (t ≡ c)) ⊎ ((d : ℕ) × (m (suc l) t (index_in l p) ≡ Table d) × (table_from m l d p w ≡ Some c))
 
-step : (m : Memory) (l t p w c : ℕ) → table_from m (suc l) t p w ≡ Some c → Step m l t p w c
+pub step : (m : Memory) (l t p w c : ℕ) → table_from m (suc l) t p w ≡ Some c → Step m l t p w c
 step m l t p w c h =
     ⊎_elim (λ same. inl (same, same_Some t c (sym (table_top m l t p w same) ∙ h)))
     (λ other. inr (by_entry (m (suc l) t (index_in l p)) refl (λ e is. sym (table_under m l t p w e other is) ∙ h))) (same_or_not w (suc l))

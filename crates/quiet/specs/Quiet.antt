@@ -1,0 +1,71 @@
+-- What a unit that isn't ours may have cached of a domain: entries that a walk met, in the memory of one moment or while a call was
+-- written. No list of the simulated unit is asked.
+use Rattle.std.specs.Prelude.{◌≡◌, ◌⊎◌, ℕ, ◌<◌, IsTrue, List, ◌∷◌, false, Some, slice_get}
+use Rattle.dmatypes.specs.Page.{IsWithin, Range, levels, pages_end}
+use Rattle.vtdbits.specs.declared.context.ContextEntry.TheVariants.{Present}
+use Rattle.vtdbits.specs.declared.descriptor.Descriptor.{Descriptor}
+use Rattle.vtdbits.specs.declared.descriptor.Descriptor.TheVariants.{Wait}
+use Rattle.tables.specs.Pool.{memory}
+use Rattle.tables.specs.Tree.{IsLeafAt, IsTableAt, Memory, leaf_from, span}
+use Rattle.moments.specs.Moments.{IsFilledFirst, Reached, meanwhile}
+use Rattle.unit.specs.Caches.{CachedContext, CachedLeaf, CachedNonLeaf}
+use Rattle.unit.specs.Filters.{drops_leaf, drops_non_leaf}
+use Rattle.unit.specs.Walking.{IsPassed, hold, met}
+use Rattle.engine.specs.Domains.{Domain}
+use Rattle.engine.specs.State.{State}
+
+-- ---- the tree
+
+-- the leaf is an entry of the domain's tree
+abbrev pub IsEntry : List ℕ → Domain → CachedLeaf → Type 0
+IsEntry words h leaf = IsLeafAt (memory words) (levels h.width) h.root leaf.first leaf.pages leaf.frame leaf.rights
+
+-- the table is in its place in the domain's tree
+abbrev pub IsInPlace : List ℕ → Domain → CachedNonLeaf → Type 0
+IsInPlace words h table =
+    (table.pages ≡ span table.level) × IsTableAt (memory words) (levels h.width) h.root table.first table.level table.frame
+
+-- the leaf holds a page of the range
+abbrev pub HoldsPageOf : CachedLeaf → Range → Type 0
+HoldsPageOf leaf range = (page : ℕ) × IsTrue (hold leaf.first leaf.pages page) × IsWithin range page
+
+-- ---- what a walk met
+
+-- a walk of the domain's tree met the leaf, in what it read
+abbrev pub IsMetIn : Memory → Domain → CachedLeaf → Type 0
+IsMetIn now h leaf =
+    (page : ℕ) × (page < pages_end h.width) × (met leaf.domain page (leaf_from now (levels h.width) h.root page) ≡ Some leaf)
+
+-- it passed the table
+abbrev pub IsPassedIn : Memory → Domain → CachedNonLeaf → Type 0
+IsPassedIn now h table =
+    (page : ℕ) × (page < pages_end h.width) × IsPassed now (levels h.width) h.root table.domain page table
+
+-- a walk met the leaf while a call was written, whatever words had reached memory
+abbrev pub IsMetDuring : State → State → Domain → CachedLeaf → Type 0
+IsMetDuring m t h leaf =
+    (reached : Reached) × IsFilledFirst m.pool.words t.pool.words reached
+    × IsMetIn (meanwhile m.pool.words t.pool.words reached) h leaf
+
+abbrev pub IsPassedDuring : State → State → Domain → CachedNonLeaf → Type 0
+IsPassedDuring m t h table =
+    (reached : Reached) × IsFilledFirst m.pool.words t.pool.words reached
+    × IsPassedIn (meanwhile m.pool.words t.pool.words reached) h table
+
+-- ---- descriptors
+
+-- the unit took this descriptor and after it a wait, and has taken none since
+abbrev pub IsDoneLast : State → Descriptor → Type 0
+IsDoneLast t d = (status : ℕ) × (earlier : List Descriptor) × (t.iommu.ring.taken ≡ Wait status ∷ d ∷ earlier)
+
+-- a leaf is cached once the descriptor was done: whatever it is, the descriptor left it, or a walk met it since
+abbrev pub IsCachedSince : State → State → Domain → Descriptor → CachedLeaf → Type 0
+IsCachedSince m t h d leaf = (drops_leaf d leaf ≡ false) ⊎ IsMetDuring m t h leaf
+
+-- so is a table
+abbrev pub IsTableCachedSince : State → State → Domain → Descriptor → CachedNonLeaf → Type 0
+IsTableCachedSince m t h d table = (drops_non_leaf d table ≡ false) ⊎ IsPassedDuring m t h table
+
+-- the row of contexts leads the device of the context to its domain
+abbrev pub IsOfRow : State → CachedContext → Type 0
+IsOfRow m x = slice_get m.iommu.contexts x.device ≡ Some (Present x.root x.width x.domain)

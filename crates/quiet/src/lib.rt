@@ -1,0 +1,26 @@
+//! The law of quiet: what a unit that isn't ours may still have cached once a call is done, of what it cached before the call and while
+//! the words of the call reached memory. No list of the simulated unit is asked. Each function does nothing: its contract is the law, and
+//! its proof is from the public contracts of `engine` and the crates below it.
+#![tactic(auto)]
+
+ghost use Rattle.quiet.specs.Laws.{CachedDuringIsOldOrNew, CallsAreOldOrNew, StrictUnmapsForgetPages, StrictUnmapsForgetTables};
+
+/// Whatever words of a call have reached memory, a walk finds each page of a domain as before the call or as after it.
+pub fn calls_are_old_or_new()
+    ensures { CallsAreOldOrNew }
+{}
+
+/// What is cached while a call is written is of the tree before it or after it.
+pub fn cached_during_is_old_or_new()
+    ensures { CachedDuringIsOldOrNew }
+{}
+
+/// Once a strict unmap's descriptor is done, no cached leaf holds an unmapped page.
+pub fn strict_unmaps_forget_pages()
+    ensures { StrictUnmapsForgetPages }
+{}
+
+/// Nor is a cached table one that was cut.
+pub fn strict_unmaps_forget_tables()
+    ensures { StrictUnmapsForgetTables }
+{}
