@@ -26,10 +26,10 @@ use Rattle.engine.specs.Ending.{ByMode, Closes, MakesRoom, PutsOff, RetiresAndUn
 use Rattle.engine.specs.Placing.{Placement, Places, range_of}
 use Rattle.engine.specs.State.{State, parts_in}
 use Rattle.engine.specs.Steps.{Does}
-use Rattle.engine.specs.Whole.{IsWhole}
 use Rattle.engine.proofs.domains.OneChanged.{both_there, domain_low}
 use Rattle.engine.proofs.frames.Owners.{apart_of}
 use Rattle.quiet.proofs.Changes.{Change, below_end, others_stay, space_end}
+use Rattle.quiet.specs.Quiet.{IsSound}
 
 -- ---- how many pages
 
@@ -46,7 +46,7 @@ some_range width address pages good =
     ⊎_elim (λ (some : 0 < pages). some)
     (λ (none : pages ≤ 0). absurd (good (inr (λ both. absurd (omega (arith, both.0.some, none)))))) (cases_lt 0 pages)
 
-module _ (m t : State) (d : ℕ) (h : Domain) (whole : IsWhole m.pool.frames m) (there : domain_at m.domains d ≡ Some h) where
+module _ (m t : State) (d : ℕ) (h : Domain) (whole : IsSound m) (there : domain_at m.domains d ≡ Some h) where
   abbrev Changed : Type 0
   Changed = Change m.pool.words t.pool.words h.width h.root
 
@@ -202,7 +202,7 @@ not_bad_unmap : (w : world.World) (d address pages released : ℕ) (v : world.Do
 unfolding IsStep Stands
 not_bad_unmap w d address pages released v here step bad = step.0.1.0 (rw here bad)
 
-pub unmap_pages : (m t : State) (d address pages released : ℕ) (h : Domain) → IsWhole m.pool.frames m → domain_at m.domains d ≡ Some h
+pub unmap_pages : (m t : State) (d address pages released : ℕ) (h : Domain) → IsSound m → domain_at m.domains d ≡ Some h
     → Does m (calls.Unmap d address pages) (Unmapped released) t → 1 ≤ pages
 unmap_pages m t d address pages released h whole here does =
     let v = both_there m.pool.words (domain_at m.domains d) (whole.of_world.0.domains d) h (whole.of_world.1.domains d) here in

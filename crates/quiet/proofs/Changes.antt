@@ -23,9 +23,9 @@ use Rattle.moments.proofs.Walks.{maps_old_or_new, unmaps_old_or_new}
 use Rattle.engine.specs.Domains.{Domain, domain_at, held_in}
 use Rattle.engine.specs.Quarantine.{PartsPages}
 use Rattle.engine.specs.State.{State}
-use Rattle.engine.specs.Whole.{IsWhole}
 use Rattle.engine.proofs.domains.OneChanged.{domain_low}
 use Rattle.engine.proofs.frames.Owners.{apart_of, held_out}
+use Rattle.quiet.specs.Quiet.{IsSound}
 
 -- ---- the words of one tree
 
@@ -81,7 +81,7 @@ module _ (old new : List ℕ) (reached : Reached) (width : Width) (root : ℕ) w
 
 -- ---- a domain of a state
 
-module _ (m t : State) (d : ℕ) (h : Domain) (whole : IsWhole m.pool.frames m) (there : domain_at m.domains d ≡ Some h) where
+module _ (m t : State) (d : ℕ) (h : Domain) (whole : IsSound m) (there : domain_at m.domains d ≡ Some h) where
   low : d < MOST_DOMAINS + 1
   low = domain_low m.domains d h whole.places there
 

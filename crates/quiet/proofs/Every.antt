@@ -11,14 +11,14 @@ use Rattle.dmatypes.specs.declared.reply.Reply.TheVariants.{Made, Done, Mapped, 
 use Rattle.engine.specs.Domains.{Domain, domain_at}
 use Rattle.engine.specs.State.{Becomes, State}
 use Rattle.engine.specs.Steps.{Does}
-use Rattle.engine.specs.Whole.{IsWhole}
 use Rattle.engine.proofs.domains.OneChanged.{domain_low, domain_set}
 use Rattle.quiet.specs.Laws.{CallsAreOldOrNew}
 use Rattle.quiet.proofs.Calls.{any_map, ended, not_bad_list, not_bad_map, other_dropped, quiet_pool, quiet_words, some_pages, unmap_pages}
 use Rattle.quiet.proofs.Changes.{Change, old_or_new}
+use Rattle.quiet.specs.Quiet.{IsSound}
 
 -- a domain that was dropped isn't there
-dropped : (m t : State) (d e : ℕ) (h h' : Domain) → IsWhole m.pool.frames m → domain_at m.domains d ≡ Some h → d ≡ e
+dropped : (m t : State) (d e : ℕ) (h h' : Domain) → IsSound m → domain_at m.domains d ≡ Some h → d ≡ e
     → t.domains ≡ slice_set m.domains (e - 1) None → domain_at t.domains d ≡ Some h' → ⊥
 dropped m t zero e h h' whole there same is then = absurd cc
 dropped m t (suc i) e h h' whole there same is then =
@@ -29,7 +29,7 @@ dropped m t (suc i) e h h' whole there same is then =
     ∙ ap (λ ds. domain_at ds (i + 1)) (sym (is ∙ ap (λ n. slice_set m.domains n None) place)) ∙ ap (domain_at t.domains) (sym next) ∙ then)
 
 -- one that was changed is the new one
-pub domain_then : (m t : State) (d : ℕ) (h new : Domain) → IsWhole m.pool.frames m → domain_at m.domains d ≡ Some h
+pub domain_then : (m t : State) (d : ℕ) (h new : Domain) → IsSound m → domain_at m.domains d ≡ Some h
     → t.domains ≡ slice_set m.domains (d - 1) (Some new) → domain_at t.domains d ≡ Some new
 domain_then m t zero h new whole there is = absurd cc
 domain_then m t (suc i) h new whole there is =
@@ -39,7 +39,7 @@ domain_then m t (suc i) h new whole there is =
     ap (domain_at t.domains) next ∙ ap (λ ds. domain_at ds (i + 1)) (is ∙ ap (λ n. slice_set m.domains n (Some new)) place)
     ∙ domain_set m.domains i (Some new) less (i + 1) ∙ put_same (i + 1) (Some new) (domain_at m.domains)
 
-pub changes : (m t : State) (d : ℕ) (h : Domain) → IsWhole m.pool.frames m → domain_at m.domains d ≡ Some h → (call : Call) (reply : Reply)
+pub changes : (m t : State) (d : ℕ) (h : Domain) → IsSound m → domain_at m.domains d ≡ Some h → (call : Call) (reply : Reply)
     → Does m call reply t → Becomes m call reply t → (h' : Domain) → domain_at t.domains d ≡ Some h' → Change m.pool.words t.pool.words h.width h.root
 unfolding Becomes
 changes m t d h whole there (calls.Domain mode width) (Made e) does (root, takes, is) h' then = quiet_words m t d h whole there takes.words

@@ -4,3 +4,6 @@ pub mod Every
 pub mod WhatIsMet
 pub mod Sent
 pub mod Strictly
+pub mod Kept
+pub mod Lazily
+pub mod Ends

@@ -22,9 +22,8 @@ use Rattle.engine.specs.Domains.{Domain, domain_at}
 use Rattle.engine.specs.Ending.{ByMode, EndsBy, PutsOff, UnmapsStrictly}
 use Rattle.engine.specs.State.{Becomes, State, parts_in}
 use Rattle.engine.specs.Steps.{Does}
-use Rattle.engine.specs.Whole.{IsWhole}
 use Rattle.quiet.specs.Laws.{StrictUnmapsForgetPages, StrictUnmapsForgetTables}
-use Rattle.quiet.specs.Quiet.{HoldsPageOf, IsDoneLast, IsEntry, IsInPlace}
+use Rattle.quiet.specs.Quiet.{HoldsPageOf, IsDoneLast, IsEntry, IsInPlace, IsSound}
 use Rattle.quiet.proofs.Calls.{free_zeroed, own_unmap, unmap_pages}
 use Rattle.quiet.proofs.Every.{domain_then}
 use Rattle.quiet.proofs.Sent.{sent_last}
@@ -39,7 +38,7 @@ by_mode : (m t : State) (d released : ℕ) (range : Range) (h new : Domain) (mod
 by_mode m t d released range h new Strict is does = does.1
 by_mode m t d released range h new Lazy is does = absurd cc
 
-strictly : (m t : State) (d address pages released : ℕ) (h : Domain) → IsWhole m.pool.frames m
+strictly : (m t : State) (d address pages released : ℕ) (h : Domain) → IsSound m
     → Becomes m (calls.Unmap d address pages) (Unmapped released) t
     → domain_at m.domains d ≡ Some h → h.mode ≡ Strict → Strictly m t d (range_at address pages) h
 unfolding Becomes
@@ -51,7 +50,7 @@ strictly m t d address pages released h whole (k, new, here, ends, is) there str
       domain_then m t d h new whole there (ap (λ (x : State). x.domains) is),
     )
 
-module _ (m t : State) (d address pages released : ℕ) (h : Domain) (whole : IsWhole m.pool.frames m)
+module _ (m t : State) (d address pages released : ℕ) (h : Domain) (whole : IsSound m)
     (does : Does m (calls.Unmap d address pages) (Unmapped released) t) (there : domain_at m.domains d ≡ Some h) (x : Descriptor)
     (last : IsDoneLast t x) (new : Domain) (u : UnmapsStrictly (parts_in m h) d (range_at address pages) (parts_in t new))
     (then : domain_at t.domains d ≡ Some new) where

@@ -1,21 +1,29 @@
 -- The law of quiet: what may still be cached once a call is done.
-use Rattle.std.specs.Prelude.{◌≡◌, ◌⊎◌, ℕ, false, Some}
-use Rattle.dmatypes.specs.Page.{range_at}
+use Rattle.std.specs.Prelude.{◌≡◌, ◌≢◌, ◌⊎◌, ℕ, ◌<◌, ◌≤◌, List, false, true, Some}
+use Rattle.arrayvec.specs.ArrayVec.{ArrayVec}
+use Rattle.dmatypes.specs.Conditions.{total_pages}
+use Rattle.dmatypes.specs.Page.{IsWithin, range_at}
+use Rattle.dmatypes.specs.History.{event}
+use Rattle.dmatypes.specs.World.{IsIn}
 use Rattle.dmatypes.specs.declared.call.Call.{Call}
 use Rattle.dmatypes.specs.declared.call.Call.TheVariants as calls
-use Rattle.dmatypes.specs.declared.call.Mode.TheVariants.{Strict}
+use Rattle.dmatypes.specs.declared.call.Mode.TheVariants.{Lazy, Strict}
+use Rattle.dmatypes.specs.declared.call.Segment.{Segment}
+use Rattle.dmatypes.specs.declared.reply.Event.{Event}
 use Rattle.dmatypes.specs.declared.reply.Reply.{Reply}
-use Rattle.dmatypes.specs.declared.reply.Reply.TheVariants.{Unmapped}
+use Rattle.dmatypes.specs.declared.reply.Reply.TheVariants.{Done, Flushed, Mapped, Reaped, Unmapped}
 use Rattle.vtdbits.specs.declared.descriptor.Descriptor.{Descriptor}
+use Rattle.vtdbits.specs.declared.descriptor.Descriptor.TheVariants.{IotlbDomain}
 use Rattle.tables.specs.Pool.{occurs}
 use Rattle.moments.specs.Moments.{IsFilledFirst, IsOldOrNew, Reached}
-use Rattle.unit.specs.Caches.{CachedLeaf, CachedNonLeaf}
-use Rattle.unit.specs.Filters.{drops_leaf, drops_non_leaf}
+use Rattle.unit.specs.Caches.{CachedContext, CachedFault, CachedLeaf, CachedNonLeaf}
+use Rattle.unit.specs.Filters.{drops_context, drops_fault, drops_leaf, drops_non_leaf}
+use Rattle.engine.specs.declared.record.Record.{Record}
 use Rattle.engine.specs.Domains.{Domain, domain_at}
 use Rattle.engine.specs.State.{State}
-use Rattle.engine.specs.Steps.{Does}
-use Rattle.engine.specs.Whole.{IsWhole}
-use Rattle.quiet.specs.Quiet.{HoldsPageOf, IsDoneLast, IsEntry, IsInPlace, IsMetDuring, IsPassedDuring}
+use Rattle.engine.specs.Steps.{Does, Goes}
+use Rattle.quiet.specs.Quiet.{HoldsPageOf, IsCachedSince, IsDoneLast, IsEntry, IsInPlace, IsMetAmong, IsMetDuring, IsOfRow}
+use Rattle.quiet.specs.Quiet.{IsPassedAmong, IsPassedDuring, IsSound, IsTableCachedSince}
 
 -- ---- any call
 
@@ -25,7 +33,7 @@ use Rattle.quiet.specs.Quiet.{HoldsPageOf, IsDoneLast, IsEntry, IsInPlace, IsMet
 abbrev pub CallsAreOldOrNew : Type 0
 CallsAreOldOrNew =
     (m t : State) (call : Call) (reply : Reply) (domain : ℕ) (h h' : Domain) (reached : Reached) (page : ℕ)
-    → IsWhole m.pool.frames m
+    → IsSound m
     → Does m call reply t
     → domain_at m.domains domain ≡ Some h
     → domain_at t.domains domain ≡ Some h'
@@ -37,7 +45,7 @@ CallsAreOldOrNew =
 abbrev pub CachedDuringIsOldOrNew : Type 0
 CachedDuringIsOldOrNew =
     (m t : State) (call : Call) (reply : Reply) (domain : ℕ) (h h' : Domain)
-    → IsWhole m.pool.frames m
+    → IsSound m
     → Does m call reply t
     → domain_at m.domains domain ≡ Some h
     → domain_at t.domains domain ≡ Some h'
@@ -51,7 +59,7 @@ CachedDuringIsOldOrNew =
 abbrev pub StrictUnmapsForgetPages : Type 0
 StrictUnmapsForgetPages =
     (m t : State) (domain address pages released : ℕ) (h : Domain) (d : Descriptor) (leaf : CachedLeaf)
-    → IsWhole m.pool.frames m
+    → IsSound m
     → Does m (calls.Unmap domain address pages) (Unmapped released) t
     → domain_at m.domains domain ≡ Some h
     → h.mode ≡ Strict
@@ -66,7 +74,7 @@ StrictUnmapsForgetPages =
 abbrev pub StrictUnmapsForgetTables : Type 0
 StrictUnmapsForgetTables =
     (m t : State) (domain address pages released : ℕ) (h : Domain) (d : Descriptor) (table : CachedNonLeaf)
-    → IsWhole m.pool.frames m
+    → IsSound m
     → Does m (calls.Unmap domain address pages) (Unmapped released) t
     → domain_at m.domains domain ≡ Some h
     → h.mode ≡ Strict
@@ -75,3 +83,107 @@ StrictUnmapsForgetTables =
     → IsInPlace m.pool.words h table ⊎ IsPassedDuring m t h table
     → drops_non_leaf d table ≡ false
     → IsInPlace t.pool.words h table × (occurs table.frame t.pool.free ≡ 0)
+
+-- ---- lazy domains
+
+-- Once a flush's descriptor is done, nothing of the domain that is cached then or is cached later in the call holds a page of a record or
+-- a table that was cut with one: whatever was cached, of which nothing is asked, the descriptor leaves none of the domain.
+abbrev pub FlushesForget : Type 0
+FlushesForget =
+    (m t : State) (domain released : ℕ) (h : Domain) (d : Descriptor) (r : Record)
+    → IsSound m
+    → Does m (calls.Flush domain) (Flushed released) t
+    → domain_at m.domains domain ≡ Some h
+    → IsDoneLast t d
+    → IsIn r h.records
+    → ((leaf : CachedLeaf) → leaf.domain ≡ domain → IsCachedSince m t h d leaf → HoldsPageOf leaf r.range → ⊥)
+    × ((table : CachedNonLeaf) → table.domain ≡ domain → IsTableCachedSince m t h d table → occurs table.frame r.cut.frames ≡ 0)
+
+-- The same of an unmap that finds the list of records full and flushes first; its own words are written after the flush, and may make a
+-- table of a frame that came free, so a cached table is in its place before the call or after it.
+abbrev pub FullListsForget : Type 0
+FullListsForget =
+    (m t : State) (domain address pages released : ℕ) (h : Domain) (d : Descriptor) (r : Record)
+    → IsSound m
+    → Does m (calls.Unmap domain address pages) (Unmapped released) t
+    → domain_at m.domains domain ≡ Some h
+    → h.mode ≡ Lazy
+    → released ≢ 0
+    → IsDoneLast t d
+    → IsIn r h.records
+    → ((leaf : CachedLeaf) → leaf.domain ≡ domain → IsCachedSince m t h d leaf → HoldsPageOf leaf r.range → ⊥)
+    × ((table : CachedNonLeaf) → table.domain ≡ domain → IsTableCachedSince m t h d table
+    → IsInPlace m.pool.words h table ⊎ IsInPlace t.pool.words h table)
+
+-- A flush of this number was begun, and its descriptor is done in a state; from there on calls are made, and then a reap of that number
+-- releases a record. Nothing of the domain that was cached when the descriptor was done, or was cached in the course of those calls or in
+-- the reap, holds a page of the record or is a table that was cut with it. Meanwhile the domain isn't dropped, as the model refuses while
+-- the ticket is open.
+abbrev pub ReapsForget : Type 0
+ReapsForget =
+    (s m t : State) (events : List Event) (domain number released : ℕ) (k h : Domain) (r : Record)
+    → IsSound s
+    → domain_at s.domains domain ≡ Some k
+    → number ≤ k.begun
+    → Goes s events m
+    → (IsIn (event (calls.Drop domain) Done) events → ⊥)
+    → Does m (calls.Reap domain number) (Reaped released) t
+    → domain_at m.domains domain ≡ Some h
+    → IsIn r h.records
+    → r.mark < number
+    → ((leaf : CachedLeaf) → leaf.domain ≡ domain
+    → (drops_leaf (IotlbDomain domain) leaf ≡ false) ⊎ (IsMetAmong s events m domain leaf ⊎ IsMetDuring m t h leaf)
+    → HoldsPageOf leaf r.range → ⊥)
+    × ((table : CachedNonLeaf) → table.domain ≡ domain
+    → (drops_non_leaf (IotlbDomain domain) table ≡ false) ⊎ (IsPassedAmong s events m domain table ⊎ IsPassedDuring m t h table)
+    → occurs table.frame r.cut.frames ≡ 0)
+
+-- ---- ends of domains and of attachments
+
+-- Once a drop's descriptor is done, nothing that is cached is of the domain, and no device's context leads there, so that no walk can
+-- cache anything of it either.
+abbrev pub DropsForget : Type 0
+DropsForget =
+    (m t : State) (domain : ℕ) (d : Descriptor)
+    → IsSound m
+    → Does m (calls.Drop domain) Done t
+    → IsDoneLast t d
+    → ((leaf : CachedLeaf) → drops_leaf d leaf ≡ false → leaf.domain ≢ domain)
+    × ((table : CachedNonLeaf) → drops_non_leaf d table ≡ false → table.domain ≢ domain)
+    × ((fault : CachedFault) → drops_fault d fault ≡ false → fault.domain ≢ domain)
+    × ((x : CachedContext) → IsOfRow m x ⊎ IsOfRow t x → x.domain ≢ domain)
+
+-- Once a detach's descriptor is done, no context that is cached is the device's: none that the descriptor leaves, and none that is read
+-- off the row since.
+abbrev pub DetachesForget : Type 0
+DetachesForget =
+    (m t : State) (device : ℕ) (d : Descriptor) (x : CachedContext)
+    → IsSound m
+    → Does m (calls.Detach device) Done t
+    → IsDoneLast t d
+    → (drops_context d x ≡ false) ⊎ IsOfRow t x
+    → x.device ≢ device
+
+-- ---- Caching Mode
+
+-- Once a map's descriptor is done, no page that it mapped is cached as absent, whatever was cached before the call or during it.
+abbrev pub MapsForgetFaults : Type 0
+MapsForgetFaults =
+    (m t : State) (domain order rights address : ℕ) (segments : ArrayVec Segment) (d : Descriptor) (fault : CachedFault)
+    → m.iommu.unit.caching ≡ true
+    → Does m (calls.MapList domain order rights segments) (Mapped address) t
+    → IsDoneLast t d
+    → fault.domain ≡ domain
+    → drops_fault d fault ≡ false
+    → IsWithin (range_at address (total_pages segments.items)) fault.page → ⊥
+
+-- The same of a map of one segment.
+abbrev pub MapsOfOneForgetFaults : Type 0
+MapsOfOneForgetFaults =
+    (m t : State) (domain frame pages order rights address : ℕ) (d : Descriptor) (fault : CachedFault)
+    → m.iommu.unit.caching ≡ true
+    → Does m (calls.Map domain frame pages order rights) (Mapped address) t
+    → IsDoneLast t d
+    → fault.domain ≡ domain
+    → drops_fault d fault ≡ false
+    → IsWithin (range_at address pages) fault.page → ⊥

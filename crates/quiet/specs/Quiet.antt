@@ -1,6 +1,8 @@
 -- What a unit that isn't ours may have cached of a domain: entries that a walk met, in the memory of one moment or while a call was
 -- written. No list of the simulated unit is asked.
-use Rattle.std.specs.Prelude.{◌≡◌, ◌⊎◌, ℕ, ◌<◌, IsTrue, List, ◌∷◌, false, Some, slice_get}
+use Rattle.std.specs.Prelude.{◌≡◌, ◌⊎◌, ℕ, ◌<◌, IsTrue, List, [], ◌∷◌, false, length, Some, slice_get}
+use Rattle.dmatypes.specs.declared.limits.TheConstants.{MOST_DOMAINS}
+use Rattle.dmatypes.specs.declared.reply.Event.{Event}
 use Rattle.dmatypes.specs.Page.{IsWithin, Range, levels, pages_end}
 use Rattle.vtdbits.specs.declared.context.ContextEntry.TheVariants.{Present}
 use Rattle.vtdbits.specs.declared.descriptor.Descriptor.{Descriptor}
@@ -11,8 +13,15 @@ use Rattle.moments.specs.Moments.{IsFilledFirst, Reached, meanwhile}
 use Rattle.unit.specs.Caches.{CachedContext, CachedLeaf, CachedNonLeaf}
 use Rattle.unit.specs.Filters.{drops_leaf, drops_non_leaf}
 use Rattle.unit.specs.Walking.{IsPassed, hold, met}
-use Rattle.engine.specs.Domains.{Domain}
+use Rattle.engine.specs.Domains.{Domain, domain_at}
+use Rattle.engine.specs.Quarantine.{IsOfSomeWorld}
 use Rattle.engine.specs.State.{State}
+use Rattle.engine.specs.Steps.{Does, Goes}
+
+-- a state of some world, with places for domains 1 to 15; each state is whole (`IsWhole`), and so it is this
+pub record IsSound (m : State) : Type 0 where
+  pub of_world : IsOfSomeWorld m
+  pub places : length m.domains ≡ MOST_DOMAINS
 
 -- ---- the tree
 
@@ -69,3 +78,19 @@ IsTableCachedSince m t h d table = (drops_non_leaf d table ≡ false) ⊎ IsPass
 -- the row of contexts leads the device of the context to its domain
 abbrev pub IsOfRow : State → CachedContext → Type 0
 IsOfRow m x = slice_get m.iommu.contexts x.device ≡ Some (Present x.root x.width x.domain)
+
+-- ---- a course of calls
+
+-- in the course of these events, each by what a method does, a walk of the domain's tree met the leaf
+abbrev pub IsMetAmong : State → List Event → State → ℕ → CachedLeaf → Type 0
+IsMetAmong m [] t domain leaf = ⊥
+IsMetAmong m (e ∷ es) t domain leaf =
+    (s : State) × Does m e.call e.reply s × Goes s es t
+    × (((h : Domain) × (domain_at m.domains domain ≡ Some h) × IsMetDuring m s h leaf) ⊎ IsMetAmong s es t domain leaf)
+
+-- or passed the table
+abbrev pub IsPassedAmong : State → List Event → State → ℕ → CachedNonLeaf → Type 0
+IsPassedAmong m [] t domain table = ⊥
+IsPassedAmong m (e ∷ es) t domain table =
+    (s : State) × Does m e.call e.reply s × Goes s es t
+    × (((h : Domain) × (domain_at m.domains domain ≡ Some h) × IsPassedDuring m s h table) ⊎ IsPassedAmong s es t domain table)

@@ -3,7 +3,9 @@
 //! its proof is from the public contracts of `engine` and the crates below it.
 #![tactic(auto)]
 
-ghost use Rattle.quiet.specs.Laws.{CachedDuringIsOldOrNew, CallsAreOldOrNew, StrictUnmapsForgetPages, StrictUnmapsForgetTables};
+ghost use Rattle.quiet.specs.Laws.{CachedDuringIsOldOrNew, CallsAreOldOrNew, DetachesForget, DropsForget, FlushesForget};
+ghost use Rattle.quiet.specs.Laws.{FullListsForget, MapsForgetFaults, MapsOfOneForgetFaults, StrictUnmapsForgetPages};
+ghost use Rattle.quiet.specs.Laws.{ReapsForget, StrictUnmapsForgetTables};
 
 /// Whatever words of a call have reached memory, a walk finds each page of a domain as before the call or as after it.
 pub fn calls_are_old_or_new()
@@ -23,4 +25,35 @@ pub fn strict_unmaps_forget_pages()
 /// Nor is a cached table one that was cut.
 pub fn strict_unmaps_forget_tables()
     ensures { StrictUnmapsForgetTables }
+{}
+
+/// Once a flush's descriptor is done, nothing cached holds a page or a table of a record.
+pub fn flushes_forget()
+    ensures { FlushesForget }
+{}
+
+/// The same of an unmap that finds the list of records full.
+pub fn full_lists_forget()
+    ensures { FullListsForget }
+{}
+
+/// Once a begun flush's descriptor is done, nothing cached until the reap holds a page or a table of a record that the reap releases.
+pub fn reaps_forget()
+    ensures { ReapsForget }
+{}
+
+/// Once a drop's descriptor is done, nothing cached is of the domain.
+pub fn drops_forget()
+    ensures { DropsForget }
+{}
+
+/// Once a detach's descriptor is done, no cached context is the device's.
+pub fn detaches_forget()
+    ensures { DetachesForget }
+{}
+
+/// Once a map's descriptor is done, in Caching Mode, none of its pages is cached as absent.
+pub fn maps_forget_faults()
+    ensures list { MapsForgetFaults }
+    ensures one { MapsOfOneForgetFaults }
 {}
