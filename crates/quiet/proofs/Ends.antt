@@ -1,13 +1,13 @@
 -- A drop, a detach, and a map in Caching Mode: what their descriptors leave.
-use Rattle.std.proofs.Common.{◌≡◌, ◌≢◌, ◌⊎◌, inl, inr, ℕ, ◌+◌, ◌/◌, ◌<◌, ◌≤◌, Bool, true, false, List, [], ◌∷◌, Some, None, refl, sym, ap, subst}
+use Rattle.std.proofs.Common.{◌≡◌, inl, inr, ℕ, ◌/◌, ◌<◌, true, false, List, [], Some, None, refl, sym, ap, subst}
 use Rattle.std.proofs.Common.{◌∙◌, arith, length, slice_get, slice_set}
 use Rattle.std.proofs.lemmas.Bool.Decides.{nat_tests}
 use Rattle.std.proofs.lemmas.List.Sums.{sum_by-cons}
-use Rattle.std.proofs.lemmas.Option.{none-some, same_Some, slice_get_cases}
+use Rattle.std.proofs.lemmas.Option.{none-some, slice_get_cases}
 use Rattle.arrayvec.specs.ArrayVec.{ArrayVec}
 use Rattle.dmatypes.specs.Block.{IsInBlock}
 use Rattle.dmatypes.specs.Conditions.{SomeIsAttached, Stands, total_pages}
-use Rattle.dmatypes.specs.Page.{IsWithin, Range, range_at}
+use Rattle.dmatypes.specs.Page.{IsWithin, Range}
 use Rattle.dmatypes.specs.Step.{IsStep}
 use Rattle.dmatypes.specs.World.{World}
 use Rattle.dmatypes.specs.declared.call.Call.TheVariants as calls
@@ -21,16 +21,14 @@ use Rattle.vtdbits.specs.declared.context.ContextEntry.TheVariants.{Absent, Pres
 use Rattle.vtdbits.specs.declared.descriptor.Descriptor.{Descriptor}
 use Rattle.vtdbits.specs.declared.descriptor.Descriptor.TheVariants.{ContextDevice, IotlbDomain, IotlbPages}
 use Rattle.tables.specs.Segments.{one_segment}
-use Rattle.unit.specs.Caches.{CachedContext, CachedFault, CachedLeaf, CachedNonLeaf}
-use Rattle.unit.specs.Filters.{drops_context, drops_fault, drops_leaf, drops_non_leaf}
+use Rattle.unit.specs.Caches.{CachedContext, CachedFault}
+use Rattle.unit.specs.Filters.{drops_context, drops_fault}
 use Rattle.engine.proofs.lists.Places.{get_set}
 use Rattle.engine.specs.declared.iommu.Iommu.{Iommu}
-use Rattle.engine.specs.Domains.{Domain, domain_at}
+use Rattle.engine.specs.Domains.{Domain}
 use Rattle.engine.specs.Ending.{Closes, Invalidates, IsSentForMap, SendsForMap, domain_shown}
 use Rattle.engine.specs.Placing.{Placement, range_of}
 use Rattle.engine.specs.State.{Becomes, BecomesMapped, State, parts_in}
-use Rattle.engine.specs.Steps.{Does}
-use Rattle.engine.specs.Whole.{IsWhole}
 use Rattle.quiet.specs.Laws.{DetachesForget, DropsForget, MapsForgetFaults, MapsOfOneForgetFaults}
 use Rattle.quiet.specs.Quiet.{IsDoneLast, IsOfRow}
 use Rattle.quiet.proofs.Lazily.{no_table_left, none_left}
@@ -63,8 +61,7 @@ drops_forget m t d x whole does last =
     let q = whole.of_world.1 in
     let none : (k : CachedContext) → IsOfRow m k → k.domain ≡ d → ⊥ =
     λ k at same. nobody w d (does.steps w q).0
-    (k.device, q.contexts.devices k.device ∙ ap attached at ∙ ap (λ n. Some n) same) in
-    (
+    (k.device, q.contexts.devices k.device ∙ ap attached at ∙ ap (λ n. Some n) same) in (
       λ leaf left here. none_left d x leaf is here left,
       λ table left here. no_table_left d x table is here left,
       λ fault left here. no_fault_left d x fault is here left,

@@ -1,34 +1,34 @@
 -- A flush, and an unmap that flushes first: what the descriptor leaves.
-use Rattle.std.proofs.Common.{◌≡◌, ◌≢◌, ◌⊎◌, inl, inr, ⊎_elim, ℕ, ◌+◌, ◌-◌, ◌/◌, ◌<◌, ◌≤◌, IsTrue, false, Some, None, refl, sym, ap, subst}
+use Rattle.std.proofs.Common.{◌≡◌, ◌≢◌, ◌⊎◌, inl, inr, ⊎_elim, ℕ, ◌+◌, ◌/◌, ◌<◌, ◌≤◌, false, Some, None, refl, sym, ap, subst}
 use Rattle.std.proofs.Common.{◌∙◌, arith}
 use Rattle.std.proofs.lemmas.Bool.{cases_lt}
 use Rattle.std.proofs.lemmas.Option.{none-some, same_Some}
-use Rattle.dmatypes.specs.Page.{Range, levels, pages_end, range_at}
+use Rattle.dmatypes.specs.Page.{Range, levels, range_at}
 use Rattle.dmatypes.specs.World.{IsIn}
 use Rattle.dmatypes.specs.declared.call.Call.TheVariants as calls
 use Rattle.dmatypes.specs.declared.call.Mode.{Mode}
 use Rattle.dmatypes.specs.declared.call.Mode.TheVariants.{Lazy, Strict}
 use Rattle.dmatypes.specs.declared.reply.Reply.TheVariants.{Flushed, Unmapped}
 use Rattle.tables.proofs.pools.Kept.{same_root, span-levels}
-use Rattle.tables.specs.Pool.{Pool, memory, occurs}
+use Rattle.tables.specs.Pool.{memory}
 use Rattle.tables.specs.Tree.{leaf_from, span, stated, states}
 use Rattle.vtdbits.specs.declared.descriptor.Descriptor.{Descriptor}
 use Rattle.vtdbits.specs.declared.descriptor.Descriptor.TheVariants.{IotlbDomain}
 use Rattle.moments.specs.Moments.{IsUnmap}
 use Rattle.unit.specs.Caches.{CachedLeaf, CachedNonLeaf}
 use Rattle.unit.specs.Filters.{drops_leaf, drops_non_leaf}
-use Rattle.engine.proofs.domains.OneChanged.{both_there, domain_low}
+use Rattle.engine.proofs.domains.OneChanged.{domain_low}
 use Rattle.engine.proofs.flushes.OneByOne.{dropped_leaf, dropped_table}
 use Rattle.engine.proofs.requests.Read.{hold_high, hold_low}
 use Rattle.engine.specs.declared.iommu.Iommu.{Iommu}
 use Rattle.engine.specs.declared.record.Record.{Record}
 use Rattle.engine.specs.Domains.{Domain, Parts, domain_at}
-use Rattle.engine.specs.Ending.{ByMode, Empties, EndsBy, Flushes, Invalidates, MakesRoom, PutsOff, RetiresAndUnmaps, UnmapsStrictly}
+use Rattle.engine.specs.Ending.{ByMode, Empties, EndsBy, Flushes, Invalidates, MakesRoom, PutsOff, UnmapsStrictly}
 use Rattle.engine.specs.Ending.{domain_shown}
 use Rattle.engine.specs.State.{Becomes, State, parts_in}
 use Rattle.engine.specs.Steps.{Does}
 use Rattle.quiet.specs.Laws.{FlushesForget, FullListsForget}
-use Rattle.quiet.specs.Quiet.{HoldsPageOf, IsDoneLast, IsEntry, IsInPlace, IsSound}
+use Rattle.quiet.specs.Quiet.{HoldsPageOf, IsEntry, IsInPlace, IsSound}
 use Rattle.quiet.proofs.Calls.{own_unmap, unmap_pages}
 use Rattle.quiet.proofs.Every.{domain_then}
 use Rattle.quiet.proofs.Kept.{entry_apart, place_apart, unstated}
@@ -44,8 +44,7 @@ flushes : (m t : State) (d released : ℕ) (h : Domain) → IsSound m → Become
     → domain_at m.domains d ≡ Some h → Flushed' m t d h
 unfolding Becomes
 flushes m t d released h whole (k, new, here, does, is) there =
-    let own : k ≡ h = same_Some k h (sym here ∙ there) in
-    (
+    let own : k ≡ h = same_Some k h (sym here ∙ there) in (
       new,
       subst (λ (x : Domain). Flushes (parts_in m x) d (parts_in t new)) own does,
       domain_then m t d h new whole there (ap (λ (x : State). x.domains) is),
@@ -64,8 +63,7 @@ flushes_forget m t d released h x r whole does there last inside =
     let is : x ≡ IotlbDomain d = sent_last m.iommu t.iommu (IotlbDomain d) x _ last.0 last.1 f.1.invalidates last.2 in
     let q = whole.of_world.1 in
     let low = domain_low m.domains d h whole.places there in
-    let during = cached_during m t _ _ d h f.0 whole does there f.2 in
-    (
+    let during = cached_during m t _ _ d h f.0 whole does there f.2 in (
       λ leaf here since holds. elim since [
         | inl left ↦ none_left d x leaf is here left
         | inr met ↦ elim (during.0 leaf met) [
@@ -108,8 +106,7 @@ unfolding Becomes
 put_off m t d address pages released h whole (k, new, here, ends, is) there lazy some =
     let own : k ≡ h = same_Some k h (sym here ∙ there) in
     let p = by_lazy m t d released (range_at address pages) h new h.mode lazy
-    (subst (λ (x : Domain). EndsBy (parts_in m x) d (range_at address pages) released (parts_in t new)) own ends) in
-    (
+    (subst (λ (x : Domain). EndsBy (parts_in m x) d (range_at address pages) released (parts_in t new)) own ends) in (
       new,
       p,
       emptied (parts_in m h) p.roomy d released some p.room,
@@ -162,8 +159,7 @@ full_lists_forget m t d address pages released h x r whole does there lazy some 
     let sends = subst (λ (y : Iommu). Invalidates m.iommu (IotlbDomain d) (domain_shown m.pool h) y) (sym o.1.quiet)
     o.2.flushes.invalidates in
     let is : x ≡ IotlbDomain d = sent_last m.iommu t.iommu (IotlbDomain d) x _ last.0 last.1 sends last.2 in
-    let during = cached_during m t _ _ d h o.0 whole does there o.3 in
-    (
+    let during = cached_during m t _ _ d h o.0 whole does there o.3 in (
       λ leaf here since holds. elim since [
         | inl left ↦ none_left d x leaf is here left
         | inr met ↦ elim (during.0 leaf met) [

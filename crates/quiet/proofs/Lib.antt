@@ -7,3 +7,5 @@ pub mod Strictly
 pub mod Kept
 pub mod Lazily
 pub mod Ends
+pub mod Onward
+pub mod Reaps
