@@ -47,14 +47,14 @@ some_range width address pages good =
     (λ (none : pages ≤ 0). absurd (good (inr (λ both. absurd (omega (arith, both.0.some, none)))))) (cases_lt 0 pages)
 
 module _ (m t : State) (d : ℕ) (h : Domain) (whole : IsSound m) (there : domain_at m.domains d ≡ Some h) where
-  abbrev Changed : Type 0
-  Changed = Change m.pool.words t.pool.words h.width h.root
+  abbrev Changed : Type 0 → Type 0
+  Changed P = Change P m.pool.words t.pool.words h.width h.root
 
   -- no word changes
-  pub quiet_words : t.pool.words ≡ m.pool.words → Changed
+  pub quiet_words : {P : Type 0} → t.pool.words ≡ m.pool.words → Changed P
   quiet_words same = inl (λ f k some inside. ap (λ ws. word ws f k) same)
 
-  pub quiet_pool : t.pool ≡ m.pool → Changed
+  pub quiet_pool : {P : Type 0} → t.pool ≡ m.pool → Changed P
   quiet_pool same = quiet_words (ap (λ (p : Pool). p.words) same)
 
   pub free_zeroed : AreFreeZeroed m.pool
@@ -63,7 +63,7 @@ module _ (m t : State) (d : ℕ) (h : Domain) (whole : IsSound m) (there : domai
   -- ---- a map
 
   module _ (at : Placement) (some : 1 ≤ total_pages at.segments) (new : Domain) where
-    own_map : Places m.pool h at t.pool new → Changed
+    own_map : {P : Type 0} → Places m.pool h at t.pool new → Changed P
     own_map places =
         let v = both_there m.pool.words (domain_at m.domains d) (whole.of_world.0.domains d) h (whole.of_world.1.domains d) there in
         let last = places.takes.free (at.first + total_pages at.segments - 1) (omega (arith, some), omega (arith, some)) in
@@ -85,7 +85,7 @@ module _ (m t : State) (d : ℕ) (h : Domain) (whole : IsSound m) (there : domai
           },
         ))
 
-    pub any_map : (e : ℕ) (k : Domain) → domain_at m.domains e ≡ Some k → Places m.pool k at t.pool new → Changed
+    pub any_map : {P : Type 0} (e : ℕ) (k : Domain) → domain_at m.domains e ≡ Some k → Places m.pool k at t.pool new → Changed P
     any_map e k here places = elim (same_or_not d e) [
       | inl same ↦
           own_map (subst (λ (x : Domain). Places m.pool x at t.pool new)
@@ -127,49 +127,53 @@ module _ (m t : State) (d : ℕ) (h : Domain) (whole : IsSound m) (there : domai
                 retires.unmaps);
           }
 
-      cut_tree : Changed
-      cut_tree = elim (same_or_not d e) [
+      cut_tree : {P : Type 0} → (d ≡ e → P) → Changed P
+      cut_tree by = elim (same_or_not d e) [
         | inl same ↦
             let own : k ≡ h = same_Some k h (sym here ∙ ap (domain_at m.domains) (sym same) ∙ there) in
             inr (inr (
-              p,
-              p',
-              r.range,
-              r.cut.frames,
-              was,
-              is,
-              subst (λ (y : Domain). IsUnmap p p' y.width y.root r.range r.cut.frames) own own_unmap,
+              by same,
+              (
+                p,
+                p',
+                r.range,
+                r.cut.frames,
+                was,
+                is,
+                subst (λ (y : Domain). IsUnmap p p' y.width y.root r.range r.cut.frames) own own_unmap,
+              ),
             ))
         | inr ne ↦ inl (others_stay m t d h whole there e k here ne p p' x.width x.root r.cut.frames was is wide top few retires.moves)
       ]
 
     -- as the mode of its domain ends it
-    pub ended : (e released : ℕ) (k new : Domain) → domain_at m.domains e ≡ Some k → (mode : Mode)
+    pub ended : {P : Type 0} (e released : ℕ) (k new : Domain) → domain_at m.domains e ≡ Some k → (d ≡ e → P) → (mode : Mode)
         → ByMode mode ((released ≡ 0) × UnmapsStrictly (parts_in m k) e range (parts_in t new))
-        (PutsOff (parts_in m k) e range released (parts_in t new)) → Changed
-    ended e released k new here Strict does =
+        (PutsOff (parts_in m k) e range released (parts_in t new)) → Changed P
+    ended e released k new here by Strict does =
         let u = does.1 in
         cut_tree e k here m.pool u.pool_between k u.between u.retired refl (sym u.releases.words) refl refl (λ f. omega arith) free_zeroed
         u.of_range refl (both_there m.pool.words (domain_at m.domains e) (whole.of_world.0.domains e) k (whole.of_world.1.domains e)
-        here).2.pieces.is_space u.retires
-    ended e released k new here Lazy does = by_room does.roomy does.room does.retires
+        here).2.pieces.is_space u.retires by
+    ended {P} e released k new here by Lazy does = by_room does.roomy does.room does.retires
       where
         by_room : (roomy : Parts) → MakesRoom (parts_in m k) e released roomy
-            → RetiresAndUnmaps roomy.pool roomy.domain does.retired t.pool does.between → Changed
+            → RetiresAndUnmaps roomy.pool roomy.domain does.retired t.pool does.between → Changed P
         by_room roomy (inl has) retires =
             cut_tree e k here m.pool t.pool k does.between does.retired refl refl refl refl (λ f. omega arith) free_zeroed does.of_range
             refl (both_there m.pool.words (domain_at m.domains e) (whole.of_world.0.domains e) k (whole.of_world.1.domains e)
             here).2.pieces.is_space
-            (subst (λ (y : Parts). RetiresAndUnmaps y.pool y.domain does.retired t.pool does.between) has.same retires)
+            (subst (λ (y : Parts). RetiresAndUnmaps y.pool y.domain does.retired t.pool does.between) has.same retires) by
         by_room roomy (inr empties) retires =
             let f = empties.flushes in
             cut_tree e k here roomy.pool t.pool roomy.domain does.between does.retired f.releases.words refl
             (ap (λ (y : Domain). y.width) f.same) (ap (λ (y : Domain). y.root) f.same)
-            (λ g. omega (arith, f.releases.free g)) f.releases.zeroed does.of_range f.releases.last f.releases.is_space retires
+            (λ g. omega (arith, f.releases.free g)) f.releases.zeroed does.of_range f.releases.last f.releases.is_space retires by
 
   -- ---- a drop of another domain
 
-  pub other_dropped : (e : ℕ) (k : Domain) → domain_at m.domains e ≡ Some k → d ≢ e → Closes (parts_in m k) e t.pool t.iommu → Changed
+  pub other_dropped : {P : Type 0} (e : ℕ) (k : Domain) → domain_at m.domains e ≡ Some k → d ≢ e → Closes (parts_in m k) e t.pool t.iommu
+      → Changed P
   other_dropped e k here ne closes = inl (λ f i some inside.
       closes.destroys.words f i inside (gone f some) ∙ ap (λ ws. word ws f i) closes.flushes.releases.words)
     where

@@ -44,8 +44,10 @@ abbrev pub Unmaps : List ℕ → List ℕ → Width → ℕ → Type 0
 Unmaps old new width root =
     (p p' : Pool) × (range : Range) × (cut : List ℕ) × (p.words ≡ old) × (p'.words ≡ new) × IsUnmap p p' width root range cut
 
-abbrev pub Change : List ℕ → List ℕ → Width → ℕ → Type 0
-Change old new width root = Stays old new width root ⊎ (Maps old new width root ⊎ Unmaps old new width root)
+-- they stay, or pages were mapped in it, or unmapped by a call that is an unmap
+abbrev pub Change : Type 0 → List ℕ → List ℕ → Width → ℕ → Type 0
+Change IsByUnmap old new width root =
+    Stays old new width root ⊎ (Maps old new width root ⊎ (IsByUnmap × Unmaps old new width root))
 
 unchanged : (b : Bool) (x y l : ℕ) → x ≡ y → look l (cond b x y) ≡ look l y
 unchanged true x y l same = ap (look l) same
@@ -69,12 +71,12 @@ module _ (old new : List ℕ) (reached : Reached) (width : Width) (root : ℕ) w
             inl (sym (table_agrees (memory old) (meanwhile old new reached) (levels width) root page l (agrees stays)) ∙ h);
       }
 
-  pub old_or_new : (page : ℕ) → Change old new width root → IsFilledFirst old new reached → IsOldOrNew old new reached width root page
+  pub old_or_new : {P : Type 0} (page : ℕ) → Change P old new width root → IsFilledFirst old new reached → IsOldOrNew old new reached width root page
   old_or_new page (inl stays) first = stays_old page stays
   old_or_new page (inr (inl (p, p', range, says, was, is, map))) first =
       subst (λ ws. IsOldOrNew ws new reached width root page) was
       (subst (λ ws. IsOldOrNew p.words ws reached width root page) is (maps_old_or_new p p' width root range says reached page map))
-  old_or_new page (inr (inr (p, p', range, cut, was, is, unmap))) first =
+  old_or_new page (inr (inr (by, (p, p', range, cut, was, is, unmap)))) first =
       subst (λ ws. IsFilledFirst ws new reached → IsOldOrNew ws new reached width root page) was
       (subst (λ ws. IsFilledFirst p.words ws reached → IsOldOrNew p.words ws reached width root page) is
       (λ filled. unmaps_old_or_new p p' width root range cut reached page unmap filled)) first

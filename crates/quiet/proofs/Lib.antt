@@ -9,3 +9,4 @@ pub mod Lazily
 pub mod Ends
 pub mod Onward
 pub mod Reaps
+pub mod Staying

@@ -154,7 +154,8 @@ onward m t d h sound there (calls.Domain mode width) (Made e) does (root, takes,
     away m t d h sound there e _ id.0 (omega (arith, id.1)) (λ own. id.2 v.0 (ap sound.of_world.0.domains (sym own) ∙ v.1))
     (ap (λ (x : State). x.domains) is)
 onward m t d h sound there (calls.Domain mode width) _ does is stays = same m t d h sound there (ap (λ (x : State). x.domains) is)
-onward m t d h sound there (calls.Attach device e) Done does (k, here, is) stays = same m t d h sound there (ap (λ (x : State). x.domains) is)
+onward m t d h sound there (calls.Attach device e) Done does (k, here, is) stays =
+    same m t d h sound there (ap (λ (x : State). x.domains) is)
 onward m t d h sound there (calls.Attach device e) _ does is stays = same m t d h sound there (ap (λ (x : State). x.domains) is)
 onward m t d h sound there (calls.Drop e) Done does (k, here, closes, is) stays =
     away m t d h sound there e None (positive m e k here) (domain_low m.domains e k sound.places here)

@@ -86,7 +86,8 @@ module _ (m : State) (d number : ℕ) (h : Domain) (there : domain_at m.domains 
   kept : (es : List Event) (s : State) (k : Domain) → IsSound s → domain_at s.domains d ≡ Some k → number ≤ k.begun → Goes s es m
       → (IsIn (event (calls.Drop d) Done) es → ⊥) → IsIn r k.records
   kept [] s k sound at begun same none =
-      subst (λ (y : Domain). IsIn r y.records) (same_Some h k (sym there ∙ ap (λ (y : State). domain_at y.domains d) (sym same) ∙ at)) inside
+      subst (λ (y : Domain). IsIn r y.records)
+      (same_Some h k (sym there ∙ ap (λ (y : State). domain_at y.domains d) (sym same) ∙ at)) inside
   kept (e ∷ es) s k sound at begun (x, (does, goes)) none =
       let n = step_on s x e es k sound at begun does none in
       elim (n.2.records r (kept es x n.0 n.4 n.1 n.3 goes (λ i. none (inr i)))) [

@@ -3,7 +3,7 @@
 //! its proof is from the public contracts of `engine` and the crates below it.
 #![tactic(auto)]
 
-ghost use Rattle.quiet.specs.Laws.{CachedDuringIsOldOrNew, CallsAreOldOrNew, DetachesForget, DropsForget, FlushesForget};
+ghost use Rattle.quiet.specs.Laws.{CachedDuringIsOldOrNew, CachesStay, CallsAreOldOrNew, DetachesForget, DropsForget, FlushesForget};
 ghost use Rattle.quiet.specs.Laws.{FullListsForget, MapsForgetFaults, MapsOfOneForgetFaults, StrictUnmapsForgetPages};
 ghost use Rattle.quiet.specs.Laws.{ReapsForget, StrictUnmapsForgetTables};
 
@@ -15,6 +15,11 @@ pub fn calls_are_old_or_new()
 /// What is cached while a call is written is of the tree before it or after it.
 pub fn cached_during_is_old_or_new()
     ensures { CachedDuringIsOldOrNew }
+{}
+
+/// What is cached of a domain's tree stays of it, but for an unmap in the domain.
+pub fn caches_stay()
+    ensures { CachesStay }
 {}
 
 /// Once a strict unmap's descriptor is done, no cached leaf holds an unmapped page.
