@@ -6,3 +6,4 @@ pub mod Orders
 pub mod Matters
 pub mod Others
 pub mod Walks
+pub mod ReadWords

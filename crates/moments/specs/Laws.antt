@@ -1,5 +1,5 @@
 -- The law of moments: what a walk finds while the words of a call reach memory.
-use Rattle.std.specs.Prelude.{◌≡◌, ℕ, ◌<◌, List, Option, None, Some, IsSome}
+use Rattle.std.specs.Prelude.{◌≡◌, ◌⊎◌, ℕ, ◌<◌, List, Option, None, Some, IsSome}
 use Rattle.dmatypes.specs.Page.{IsWithin, Range, levels, pages_end}
 use Rattle.dmatypes.specs.World.{Target}
 use Rattle.dmatypes.specs.declared.width.Width.{Width}
@@ -7,8 +7,9 @@ use Rattle.vtdbits.specs.declared.entry.SsEntry.TheVariants.{LargeLeaf, Table}
 use Rattle.tables.specs.Tree.{index_in, root_states, table_from}
 use Rattle.tables.specs.Pool.{Pool, memory}
 use Rattle.tables.specs.Changes.{IsApart, TakesAndGivesFrames}
+use Rattle.tables.specs.Spelled.{AreSpelled}
 use Rattle.moments.specs.Moments.{FillsFirst, GoesDown, IsDestroyed, IsFilledFirst, IsMap, IsOldOrAbsent, IsOldOrNew, IsUnmap, Place}
-use Rattle.moments.specs.Moments.{Reached, meanwhile, reached_by}
+use Rattle.moments.specs.Moments.{Reached, ReadsSpelled, meanwhile, reached_by}
 
 -- Whatever words of a map have reached memory when a walk reads them, each level at its own moment, each page is found as before the
 -- map or as after it. No order is asked of the words.
@@ -26,6 +27,17 @@ UnmapsAreOldOrNew =
     → IsUnmap old new width root range cut
     → IsFilledFirst old.words new.words reached
     → IsOldOrNew old.words new.words reached width root page
+
+-- Where the words of the tree spell its entries before the call and after it, as they do in every tree of a state, each word that a walk
+-- reads meanwhile spells what the walk sees there: so a unit that reads more into words than entries finds no more by it.
+abbrev pub WordsReadAreSpelled : Type 0
+WordsReadAreSpelled =
+    (old new : Pool) (width : Width) (root : ℕ) (range : Range) (says : ℕ → Option Target) (cut : List ℕ) (reached : Reached) (page : ℕ)
+    → IsMap old new width root range says ⊎ IsUnmap old new width root range cut
+    → AreSpelled old.words (levels width) root
+    → AreSpelled new.words (levels width) root
+    → page < pages_end width
+    → ReadsSpelled old.words new.words reached width root page
 
 -- Words that are written one after the other, in any order in which such a table stands before the word that names it, are read so by
 -- every walk that goes down.

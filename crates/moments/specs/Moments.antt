@@ -5,10 +5,10 @@ use Rattle.std.specs.Prelude.{Option, None, Some}
 use Rattle.dmatypes.specs.Page.{IsWithin, Range, levels, pages_end}
 use Rattle.dmatypes.specs.World.{Target}
 use Rattle.dmatypes.specs.declared.width.Width.{Width}
-use Rattle.vtdbits.specs.Entry.{look}
+use Rattle.vtdbits.specs.Entry.{Spells, look}
 use Rattle.vtdbits.specs.declared.entry.SsEntry.TheVariants.{LargeLeaf, Table}
 use Rattle.tables.specs.declared.entries.TheConstants.{TABLE_ENTRIES}
-use Rattle.tables.specs.Tree.{Memory, leaf_from, root_states, states, table_from, uses}
+use Rattle.tables.specs.Tree.{Memory, index_in, leaf_from, root_states, states, table_from, uses}
 use Rattle.tables.specs.Pool.{IsZeroed, Pool, memory, occurs, word}
 use Rattle.tables.specs.Changes.{MapsPages, UnmapsPages}
 
@@ -87,6 +87,13 @@ abbrev pub IsOldOrAbsent : List ℕ → List ℕ → Reached → Width → ℕ �
 IsOldOrAbsent old new reached width root page =
     (root_states (meanwhile old new reached) width root page ≡ root_states (memory old) width root page)
     ⊎ (root_states (meanwhile old new reached) width root page ≡ None)
+
+-- every word that it reads in the tables that it passes spells what it sees there, so that the word is 0 where nothing is
+abbrev pub ReadsSpelled : List ℕ → List ℕ → Reached → Width → ℕ → ℕ → Type 0
+ReadsSpelled old new reached width root page =
+    (l table : ℕ) → table_from (meanwhile old new reached) (levels width) root page (suc l) ≡ Some table
+    → Spells (suc l) (word_read old new reached (suc l) table (index_in l page))
+    (meanwhile old new reached (suc l) table (index_in l page))
 
 -- ---- words that are written one after the other
 

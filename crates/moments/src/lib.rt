@@ -4,7 +4,7 @@
 #![tactic(auto)]
 
 ghost use Rattle.moments.specs.Laws.{DestroysAreOldOrAbsent, MapsAreOldOrNew, OneOrderMatters, OneOrderSuffices, OthersAreSteady};
-ghost use Rattle.moments.specs.Laws.{UnmapsAreOldOrNew};
+ghost use Rattle.moments.specs.Laws.{UnmapsAreOldOrNew, WordsReadAreSpelled};
 
 /// Whatever words of a map have reached memory, each page is found as before it or as after it.
 pub fn maps_are_old_or_new()
@@ -15,6 +15,11 @@ pub fn maps_are_old_or_new()
 /// place of a leaf of 2 MiB is written before the word that names it.
 pub fn unmaps_are_old_or_new()
     ensures { UnmapsAreOldOrNew }
+{}
+
+/// Each word that a walk reads meanwhile spells what it sees there.
+pub fn words_read_are_spelled()
+    ensures { WordsReadAreSpelled }
 {}
 
 /// Words that are written one after the other, such a table before the word that names it, are read so.

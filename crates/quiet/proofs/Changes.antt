@@ -71,7 +71,8 @@ module _ (old new : List ℕ) (reached : Reached) (width : Width) (root : ℕ) w
             inl (sym (table_agrees (memory old) (meanwhile old new reached) (levels width) root page l (agrees stays)) ∙ h);
       }
 
-  pub old_or_new : {P : Type 0} (page : ℕ) → Change P old new width root → IsFilledFirst old new reached → IsOldOrNew old new reached width root page
+  pub old_or_new : {P : Type 0} (page : ℕ) → Change P old new width root → IsFilledFirst old new reached
+      → IsOldOrNew old new reached width root page
   old_or_new page (inl stays) first = stays_old page stays
   old_or_new page (inr (inl (p, p', range, says, was, is, map))) first =
       subst (λ ws. IsOldOrNew ws new reached width root page) was

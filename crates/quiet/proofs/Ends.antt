@@ -3,7 +3,7 @@ use Rattle.std.proofs.Common.{◌≡◌, inl, inr, ℕ, ◌/◌, ◌<◌, true, 
 use Rattle.std.proofs.Common.{◌∙◌, arith, length, slice_get, slice_set}
 use Rattle.std.proofs.lemmas.Bool.Decides.{nat_tests}
 use Rattle.std.proofs.lemmas.List.Sums.{sum_by-cons}
-use Rattle.std.proofs.lemmas.Option.{none-some, slice_get_cases}
+use Rattle.std.proofs.lemmas.Option.{none-some, same_Some, slice_get_cases}
 use Rattle.arrayvec.specs.ArrayVec.{ArrayVec}
 use Rattle.dmatypes.specs.Block.{IsInBlock}
 use Rattle.dmatypes.specs.Conditions.{SomeIsAttached, Stands, total_pages}
@@ -25,11 +25,13 @@ use Rattle.unit.specs.Caches.{CachedContext, CachedFault}
 use Rattle.unit.specs.Filters.{drops_context, drops_fault}
 use Rattle.engine.proofs.lists.Places.{get_set}
 use Rattle.engine.specs.declared.iommu.Iommu.{Iommu}
-use Rattle.engine.specs.Domains.{Domain}
+use Rattle.engine.specs.Domains.{Domain, domain_at}
 use Rattle.engine.specs.Ending.{Closes, Invalidates, IsSentForMap, SendsForMap, domain_shown}
 use Rattle.engine.specs.Placing.{Placement, range_of}
 use Rattle.engine.specs.State.{Becomes, BecomesMapped, State, parts_in}
-use Rattle.quiet.specs.Laws.{DetachesForget, DropsForget, MapsForgetFaults, MapsOfOneForgetFaults}
+use Rattle.moments.specs.Moments.{IsOldOrAbsent}
+use Rattle.moments.proofs.Walks.{destroys_old_or_absent}
+use Rattle.quiet.specs.Laws.{DetachesForget, DropsAreOldOrAbsent, DropsForget, MapsForgetFaults, MapsOfOneForgetFaults}
 use Rattle.quiet.specs.Quiet.{IsDoneLast, IsOfRow}
 use Rattle.quiet.proofs.Lazily.{no_table_left, none_left}
 use Rattle.quiet.proofs.Sent.{sent_last}
@@ -70,6 +72,21 @@ drops_forget m t d x whole does last =
         | inr after ↦ none k (ap (λ r. slice_get r k.device) (sym sends.contexts) ∙ after) same
       ],
     )
+
+closes_own : (m t : State) (d : ℕ) (h : Domain) → Becomes m (calls.Drop d) Done t → domain_at m.domains d ≡ Some h
+    → Closes (parts_in m h) d t.pool t.iommu
+unfolding Becomes
+closes_own m t d h (old, here, does, is) there =
+    subst (λ (y : Domain). Closes (parts_in m y) d t.pool t.iommu) (same_Some old h (sym here ∙ there)) does
+
+pub drops_old_or_absent : DropsAreOldOrAbsent
+drops_old_or_absent m t d h reached page does there =
+    let c = closes_own m t d h does.becomes there in
+    let ended : IsOldOrAbsent c.flushed.pool.words t.pool.words reached c.flushed.domain.width c.flushed.domain.root page =
+    destroys_old_or_absent c.flushed.pool t.pool c.flushed.domain.width c.flushed.domain.root reached page
+    (record { free = c.destroys.free; zeroed = c.destroys.is_pool.zeroed }) in
+    subst (λ ws. IsOldOrAbsent ws t.pool.words reached h.width h.root page) c.flushes.releases.words
+    (subst (λ (y : Domain). IsOldOrAbsent c.flushed.pool.words t.pool.words reached y.width y.root page) c.flushes.same ended)
 
 -- ---- a detach
 

@@ -15,7 +15,7 @@ use Rattle.dmatypes.specs.declared.reply.Reply.TheVariants.{Done, Flushed, Mappe
 use Rattle.vtdbits.specs.declared.descriptor.Descriptor.{Descriptor}
 use Rattle.vtdbits.specs.declared.descriptor.Descriptor.TheVariants.{IotlbDomain}
 use Rattle.tables.specs.Pool.{occurs}
-use Rattle.moments.specs.Moments.{IsFilledFirst, IsOldOrNew, Reached}
+use Rattle.moments.specs.Moments.{IsFilledFirst, IsOldOrAbsent, IsOldOrNew, Reached}
 use Rattle.unit.specs.Caches.{CachedContext, CachedFault, CachedLeaf, CachedNonLeaf}
 use Rattle.unit.specs.Filters.{drops_context, drops_fault, drops_leaf, drops_non_leaf}
 use Rattle.engine.specs.declared.record.Record.{Record}
@@ -39,6 +39,14 @@ CallsAreOldOrNew =
     → domain_at t.domains domain ≡ Some h'
     → IsFilledFirst m.pool.words t.pool.words reached
     → IsOldOrNew m.pool.words t.pool.words reached h.width h.root page
+
+-- And of the one domain that a drop ends, as before it or not at all.
+abbrev pub DropsAreOldOrAbsent : Type 0
+DropsAreOldOrAbsent =
+    (m t : State) (domain : ℕ) (h : Domain) (reached : Reached) (page : ℕ)
+    → Does m (calls.Drop domain) Done t
+    → domain_at m.domains domain ≡ Some h
+    → IsOldOrAbsent m.pool.words t.pool.words reached h.width h.root page
 
 -- So a leaf that is cached while a call is written is an entry of the tree before the call or after it, and a table that is cached then
 -- is in its place before the call or after it.

@@ -3,13 +3,15 @@
 //! its proof is from the public contracts of `engine` and the crates below it.
 #![tactic(auto)]
 
-ghost use Rattle.quiet.specs.Laws.{CachedDuringIsOldOrNew, CachesStay, CallsAreOldOrNew, DetachesForget, DropsForget, FlushesForget};
-ghost use Rattle.quiet.specs.Laws.{FullListsForget, MapsForgetFaults, MapsOfOneForgetFaults, StrictUnmapsForgetPages};
-ghost use Rattle.quiet.specs.Laws.{ReapsForget, StrictUnmapsForgetTables};
+ghost use Rattle.quiet.specs.Laws.{CachedDuringIsOldOrNew, CachesStay, CallsAreOldOrNew, DetachesForget, DropsAreOldOrAbsent};
+ghost use Rattle.quiet.specs.Laws.{DropsForget, FlushesForget, FullListsForget, MapsForgetFaults, MapsOfOneForgetFaults, ReapsForget};
+ghost use Rattle.quiet.specs.Laws.{StrictUnmapsForgetPages, StrictUnmapsForgetTables};
 
-/// Whatever words of a call have reached memory, a walk finds each page of a domain as before the call or as after it.
+/// Whatever words of a call have reached memory, a walk finds each page of a domain as before the call or as after it; of the domain that
+/// a drop ends, as before or not at all.
 pub fn calls_are_old_or_new()
-    ensures { CallsAreOldOrNew }
+    ensures calls { CallsAreOldOrNew }
+    ensures dropped { DropsAreOldOrAbsent }
 {}
 
 /// What is cached while a call is written is of the tree before it or after it.
