@@ -22,7 +22,7 @@ use Rattle.moments.proofs.Passed.{map_passed, step, unmap_passed}
 use Rattle.moments.proofs.Walks.{near}
 
 -- a word of a table on a way
-spelled_on : (words : List ℕ) (level root p l t k : ℕ) → AreSpelled words level root
+pub spelled_on : (words : List ℕ) (level root p l t k : ℕ) → AreSpelled words level root
     → table_from (memory words) level root p (suc l) ≡ Some t → k < TABLE_ENTRIES
     → Spells (suc l) (word words t k) (memory words (suc l) t k)
 spelled_on words zero root p l t k spelled at inside = absurd (none-some t (sym (table-zero (memory words) root p (suc l)) ∙ at))
@@ -43,7 +43,7 @@ zero_spelled : (words : List ℕ) (l t k : ℕ) → word words t k ≡ 0 → Spe
 zero_spelled words l t k zero_there =
     seen_spelled words l t k Absent (memory_at words l t k ∙ ap (look l) zero_there ∙ look-zero l) (λ _. zero_there)
 
-by_reached : (b : Bool) (x y l : ℕ) → Spells l x (look l x) → Spells l y (look l y) → Spells l (cond b x y) (look l (cond b x y))
+pub by_reached : (b : Bool) (x y l : ℕ) → Spells l x (look l x) → Spells l y (look l y) → Spells l (cond b x y) (look l (cond b x y))
 by_reached true x y l new old = new
 by_reached false x y l new old = old
 

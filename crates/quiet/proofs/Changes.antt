@@ -54,7 +54,7 @@ unchanged true x y l same = ap (look l) same
 unchanged false x y l same = refl
 
 module _ (old new : List ℕ) (reached : Reached) (width : Width) (root : ℕ) where
-  agrees : Stays old new width root → AgreeAt (memory old) (meanwhile old new reached) (levels width) root
+  pub agrees : Stays old new width root → AgreeAt (memory old) (meanwhile old new reached) (levels width) root
   agrees stays =
       to_agree (memory old) (meanwhile old new reached) (levels width) root
       (λ f some l k inside. meanwhile_at old new reached l f k

@@ -18,7 +18,7 @@ use Rattle.quiet.proofs.Changes.{Change, old_or_new}
 use Rattle.quiet.specs.Quiet.{IsSound}
 
 -- a domain that was dropped isn't there
-dropped : (m t : State) (d e : ℕ) (h h' : Domain) → IsSound m → domain_at m.domains d ≡ Some h → d ≡ e
+pub dropped : (m t : State) (d e : ℕ) (h h' : Domain) → IsSound m → domain_at m.domains d ≡ Some h → d ≡ e
     → t.domains ≡ slice_set m.domains (e - 1) None → domain_at t.domains d ≡ Some h' → ⊥
 dropped m t zero e h h' whole there same is then = absurd cc
 dropped m t (suc i) e h h' whole there same is then =

@@ -10,3 +10,4 @@ pub mod Ends
 pub mod Onward
 pub mod Reaps
 pub mod Staying
+pub mod ReadWords

@@ -2,7 +2,7 @@
 use Rattle.std.specs.Prelude.{◌≡◌, ◌≢◌, ◌⊎◌, ℕ, ◌<◌, ◌≤◌, List, false, true, Some}
 use Rattle.arrayvec.specs.ArrayVec.{ArrayVec}
 use Rattle.dmatypes.specs.Conditions.{total_pages}
-use Rattle.dmatypes.specs.Page.{IsWithin, range_at}
+use Rattle.dmatypes.specs.Page.{IsWithin, pages_end, range_at}
 use Rattle.dmatypes.specs.History.{event}
 use Rattle.dmatypes.specs.World.{IsIn}
 use Rattle.dmatypes.specs.declared.call.Call.{Call}
@@ -15,7 +15,7 @@ use Rattle.dmatypes.specs.declared.reply.Reply.TheVariants.{Done, Flushed, Mappe
 use Rattle.vtdbits.specs.declared.descriptor.Descriptor.{Descriptor}
 use Rattle.vtdbits.specs.declared.descriptor.Descriptor.TheVariants.{IotlbDomain}
 use Rattle.tables.specs.Pool.{occurs}
-use Rattle.moments.specs.Moments.{IsFilledFirst, IsOldOrAbsent, IsOldOrNew, Reached}
+use Rattle.moments.specs.Moments.{IsFilledFirst, IsOldOrAbsent, IsOldOrNew, Reached, ReadsSpelled}
 use Rattle.unit.specs.Caches.{CachedContext, CachedFault, CachedLeaf, CachedNonLeaf}
 use Rattle.unit.specs.Filters.{drops_context, drops_fault, drops_leaf, drops_non_leaf}
 use Rattle.engine.specs.declared.record.Record.{Record}
@@ -47,6 +47,17 @@ DropsAreOldOrAbsent =
     → Does m (calls.Drop domain) Done t
     → domain_at m.domains domain ≡ Some h
     → IsOldOrAbsent m.pool.words t.pool.words reached h.width h.root page
+
+-- Each word that the walk reads then spells what it sees there, so that a unit which reads more into words than entries finds no more.
+abbrev pub CallsReadSpelledWords : Type 0
+CallsReadSpelledWords =
+    (m t : State) (call : Call) (reply : Reply) (domain : ℕ) (h h' : Domain) (reached : Reached) (page : ℕ)
+    → IsSound m
+    → Does m call reply t
+    → domain_at m.domains domain ≡ Some h
+    → domain_at t.domains domain ≡ Some h'
+    → page < pages_end h.width
+    → ReadsSpelled m.pool.words t.pool.words reached h.width h.root page
 
 -- So a leaf that is cached while a call is written is an entry of the tree before the call or after it, and a table that is cached then
 -- is in its place before the call or after it.

@@ -3,15 +3,16 @@
 //! its proof is from the public contracts of `engine` and the crates below it.
 #![tactic(auto)]
 
-ghost use Rattle.quiet.specs.Laws.{CachedDuringIsOldOrNew, CachesStay, CallsAreOldOrNew, DetachesForget, DropsAreOldOrAbsent};
-ghost use Rattle.quiet.specs.Laws.{DropsForget, FlushesForget, FullListsForget, MapsForgetFaults, MapsOfOneForgetFaults, ReapsForget};
-ghost use Rattle.quiet.specs.Laws.{StrictUnmapsForgetPages, StrictUnmapsForgetTables};
+ghost use Rattle.quiet.specs.Laws.{CachedDuringIsOldOrNew, CachesStay, CallsAreOldOrNew, CallsReadSpelledWords, DetachesForget};
+ghost use Rattle.quiet.specs.Laws.{DropsAreOldOrAbsent, DropsForget, FlushesForget, FullListsForget, MapsForgetFaults};
+ghost use Rattle.quiet.specs.Laws.{MapsOfOneForgetFaults, ReapsForget, StrictUnmapsForgetPages, StrictUnmapsForgetTables};
 
 /// Whatever words of a call have reached memory, a walk finds each page of a domain as before the call or as after it; of the domain that
 /// a drop ends, as before or not at all.
 pub fn calls_are_old_or_new()
     ensures calls { CallsAreOldOrNew }
     ensures dropped { DropsAreOldOrAbsent }
+    ensures spelled { CallsReadSpelledWords }
 {}
 
 /// What is cached while a call is written is of the tree before it or after it.
