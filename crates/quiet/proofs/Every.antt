@@ -1,6 +1,6 @@
 -- Every call, by what becomes of the state.
 use Rattle.std.proofs.Common.{◌≡◌, ℕ, zero, suc, ◌+◌, ◌-◌, ◌<◌, ◌∷◌, [], Some, None, sym}
-use Rattle.std.proofs.Common.{ap, ◌∙◌, arith, length, slice_set}
+use Rattle.std.proofs.Common.{ap, ◌∙◌, arith, length, slice_set, refl}
 use Rattle.std.proofs.lemmas.Option.{none-some}
 use Rattle.dmatypes.proofs.histories.Maps.{put_same}
 use Rattle.dmatypes.specs.Page.{range_at}
@@ -39,13 +39,13 @@ domain_then m t (suc i) h new whole there is =
     ap (domain_at t.domains) next ∙ ap (λ ds. domain_at ds (i + 1)) (is ∙ ap (λ n. slice_set m.domains n (Some new)) place)
     ∙ domain_set m.domains i (Some new) less (i + 1) ∙ put_same (i + 1) (Some new) (domain_at m.domains)
 
--- the call is an unmap in the domain
-abbrev pub IsUnmapIn : Call → ℕ → Type 0
-IsUnmapIn call d = (address pages : ℕ) × (call ≡ calls.Unmap d address pages)
+-- the call is an unmap in the domain that was done
+abbrev pub IsUnmapIn : Call → Reply → ℕ → Type 0
+IsUnmapIn call reply d = (address pages released : ℕ) × (call ≡ calls.Unmap d address pages) × (reply ≡ Unmapped released)
 
 pub changes : (m t : State) (d : ℕ) (h : Domain) → IsSound m → domain_at m.domains d ≡ Some h → (call : Call) (reply : Reply)
     → Does m call reply t → Becomes m call reply t → (h' : Domain) → domain_at t.domains d ≡ Some h'
-    → Change (IsUnmapIn call d) m.pool.words t.pool.words h.width h.root
+    → Change (IsUnmapIn call reply d) m.pool.words t.pool.words h.width h.root
 unfolding Becomes
 changes m t d h whole there (calls.Domain mode width) (Made e) does (root, takes, is) h' then = quiet_words m t d h whole there takes.words
 changes m t d h whole there (calls.Domain mode width) _ does is h' then = quiet_pool m t d h whole there (ap (λ (x : State). x.pool) is)
@@ -76,7 +76,7 @@ changes m t d h whole there (calls.Flush e) (Flushed released) does (k, new, her
 changes m t d h whole there (calls.Flush e) _ does is h' then = quiet_pool m t d h whole there (ap (λ (x : State). x.pool) is)
 changes m t d h whole there (calls.Unmap e address pages) (Unmapped released) does (k, new, here, ends, is) h' then =
     ended m t d h whole there (range_at address pages) (unmap_pages m t e address pages released k whole here does) e released k new here
-    (λ same. (address, pages, ap (λ n. calls.Unmap n address pages) (sym same)))
+    (λ same. (address, pages, released, ap (λ n. calls.Unmap n address pages) (sym same), refl))
     k.mode ends
 changes m t d h whole there (calls.Unmap e address pages) _ does is h' then = quiet_pool m t d h whole there (ap (λ (x : State). x.pool) is)
 changes m t d h whole there (calls.Dma device address access whim) (Refused refusal) does is h' then =

@@ -50,16 +50,16 @@ caches_stay m t call reply domain h h' sound does there then other =
     let c = changes m t domain h sound there call reply does does.becomes h' then in
     let during = cached_during m t call reply domain h h' sound does there then in (
       λ leaf cached. elim cached [
-        | inl before ↦ entry_stays m.pool.words t.pool.words h (λ by. other by.0 by.1 by.2) c leaf before
+        | inl before ↦ entry_stays m.pool.words t.pool.words h (λ by. other by.0 by.1 by.2 by.3 by.4) c leaf before
         | inr met ↦ elim (during.0 leaf met) [
-          | inl before ↦ entry_stays m.pool.words t.pool.words h (λ by. other by.0 by.1 by.2) c leaf before
+          | inl before ↦ entry_stays m.pool.words t.pool.words h (λ by. other by.0 by.1 by.2 by.3 by.4) c leaf before
           | inr after ↦ after
         ]
       ],
       λ table cached. elim cached [
-        | inl before ↦ place_stays m.pool.words t.pool.words h (λ by. other by.0 by.1 by.2) c table before
+        | inl before ↦ place_stays m.pool.words t.pool.words h (λ by. other by.0 by.1 by.2 by.3 by.4) c table before
         | inr met ↦ elim (during.1 table met) [
-          | inl before ↦ place_stays m.pool.words t.pool.words h (λ by. other by.0 by.1 by.2) c table before
+          | inl before ↦ place_stays m.pool.words t.pool.words h (λ by. other by.0 by.1 by.2 by.3 by.4) c table before
           | inr after ↦ after
         ]
       ],

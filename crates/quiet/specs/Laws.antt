@@ -72,8 +72,8 @@ CachedDuringIsOldOrNew =
     × ((table : CachedNonLeaf) → IsPassedDuring m t h table → IsInPlace m.pool.words h table ⊎ IsInPlace t.pool.words h table)
 
 -- From call to call, what a unit has cached of a domain's tree stays of it: a leaf that was an entry before a call or was cached during it
--- is an entry after it, and a table in its place likewise, but for an unmap in the domain. So the laws of strict unmaps, which begin with
--- such leaves and tables and end with such, speak of all that a unit has ever cached of a strict domain.
+-- is an entry after it, and a table in its place likewise, but for an unmap in the domain that is done. So the laws of strict unmaps,
+-- which begin with such leaves and tables and end with such, speak of all that a unit has ever cached of a strict domain.
 abbrev pub CachesStay : Type 0
 CachesStay =
     (m t : State) (call : Call) (reply : Reply) (domain : ℕ) (h h' : Domain)
@@ -81,7 +81,7 @@ CachesStay =
     → Does m call reply t
     → domain_at m.domains domain ≡ Some h
     → domain_at t.domains domain ≡ Some h'
-    → ((address pages : ℕ) → call ≢ calls.Unmap domain address pages)
+    → ((address pages released : ℕ) → call ≡ calls.Unmap domain address pages → reply ≢ Unmapped released)
     → ((leaf : CachedLeaf) → IsEntry m.pool.words h leaf ⊎ IsMetDuring m t h leaf → IsEntry t.pool.words h leaf)
     × ((table : CachedNonLeaf) → IsInPlace m.pool.words h table ⊎ IsPassedDuring m t h table → IsInPlace t.pool.words h table)
 
