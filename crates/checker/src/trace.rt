@@ -1,6 +1,6 @@
 //! Lines of traces.
 
-ghost use Rattle.std.specs.Prelude.{◌≡◌, ◌==◌, ◌<◌, length, nat_eq, codes, IfSome};
+ghost use Rattle.std.specs.Prelude.{◌≡◌, ◌==◌, ◌<◌, length, nat_eq, codes, IfSome, MatchOption, None};
 ghost use Rattle.std.specs.Cmp.Lexicographic.{pointwise};
 ghost use Rattle.std.specs.List.{position_from};
 ghost use Rattle.checker.specs.Traces.{both, event_at, event_said, is_entered};
@@ -21,7 +21,14 @@ pub fn parse_event(line: &[u8]) -> Option<Event>
         return None;
     }
     let place = first_equals(line)?;
-    event_at(line, place)
+    let (front, back) = parts_at(line, place)?;
+    // Here and nowhere below, so that the call is moved once: it has room for all segments.
+    let call = parse_line(front)?;
+    let reply = parse_reply(back)?;
+    if !is_entered(reply) {
+        return None;
+    }
+    Some(Event { call, reply })
 }
 
 fn first_equals(line: &[u8]) -> Option<usize>
@@ -31,9 +38,11 @@ fn first_equals(line: &[u8]) -> Option<usize>
     line.iter().position(|b| *b == b'=')
 }
 
-fn event_at(line: &[u8], place: usize) -> Option<Event>
+// What stands before the arrow whose `=` is at a place, and behind it.
+#[inline(always)]
+fn parts_at(line: &[u8], place: usize) -> Option<(&[u8], &[u8])>
     requires { place < length line.now }
-    ensures { result ≡ event_at line.now place }
+    ensures { MatchOption result (event_at line.now place ≡ None) (λ r. event_at line.now place ≡ both r.0.now r.1.now) }
 {
     if place == 0 || line.len() - (place - 1) < 4 {
         return None;
@@ -43,25 +52,13 @@ fn event_at(line: &[u8], place: usize) -> Option<Event>
     if !is_arrow(arrow) {
         return None;
     }
-    both(front, back)
+    Some((front, back))
 }
 
 fn is_arrow(text: &[u8]) -> bool
     ensures { result ≡ pointwise nat_eq text.now (codes " => ") }
 {
     text == b" => ".as_slice()
-}
-
-fn both(front: &[u8], back: &[u8]) -> Option<Event>
-    ensures { result ≡ both front.now back.now }
-{
-    let call = parse_line(front)?;
-    let reply = parse_reply(back)?;
-    if is_entered(reply) {
-        Some(Event { call, reply })
-    } else {
-        None
-    }
 }
 
 fn is_entered(reply: Reply) -> bool
