@@ -1,6 +1,6 @@
 //! Where pages are taken.
 
-ghost use Rattle.std.specs.Prelude.{◌≡◌, List, ℕ, ◌<◌, ◌≤◌, IfSome, IfNone};
+ghost use Rattle.std.specs.Prelude.{◌≡◌, List, ℕ, ◌^◌, ◌<◌, ◌≤◌, IfSome, IfNone};
 ghost use Rattle.slab.specs.Slab.{get};
 ghost use Rattle.iova.specs.Pieces.{IsOrdered, NoneFreeBelow, piece_of, with_piece};
 ghost use Rattle.iova.specs.Space.{IsFit, IsLowestFit, IsLowestFrom};
@@ -29,6 +29,7 @@ pub(crate) fn fit(
     requires pages { pages < NUMBERS_END }
     requires some_unit { 0 < unit }
     requires unit { unit < NUMBERS_END }
+    requires power { (order : ℕ) × (unit ≡ 2 ^ order) }
     ensures lowest { IfSome result (λ spot. IsLowestFit (pieces_of nodes.now root) pages unit spot.start) }
     ensures none { IfNone result ((start : ℕ) → IsFit (pieces_of nodes.now root) pages unit start → ⊥) }
     ensures way { IfSome result (λ spot.
@@ -64,6 +65,7 @@ pub(crate) fn fit_in_mind(
     requires pages { pages < NUMBERS_END }
     requires some_unit { 0 < unit }
     requires unit { unit < NUMBERS_END }
+    requires power { (order : ℕ) × (unit ≡ 2 ^ order) }
     requires in_mind { IsInMind nodes.now root way.old in_mind }
     ensures lowest { IfSome result (λ spot. IsLowestFit (pieces_of nodes.now root) pages unit spot.start) }
     ensures none { IfNone result ((start : ℕ) → IsFit (pieces_of nodes.now root) pages unit start → ⊥) }
@@ -98,6 +100,7 @@ pub(crate) fn fit_from(
     requires pages { pages < NUMBERS_END }
     requires some_unit { 0 < unit }
     requires unit { unit < NUMBERS_END }
+    requires power { (order : ℕ) × (unit ≡ 2 ^ order) }
     ensures lowest { IfSome result (IsLowestFrom floor (pieces_of nodes.now root) pages unit) }
     ensures none { IfNone result ((start : ℕ) → IsFit (pieces_of nodes.now root) pages unit start → ⊥) }
 {

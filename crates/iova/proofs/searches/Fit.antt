@@ -1,8 +1,9 @@
 -- The lowest aligned start.
 use Rattle.std.proofs.Common.{◌≡◌, ℕ, ◌+◌, ◌*◌, ◌/◌, ◌%◌, ◌<◌, ◌≤◌, max, List, [], ◌∷◌, Some, ap, sym, ◌∙◌, inl}
 use Rattle.std.proofs.Common.{inr}
-use Rattle.std.proofs.Common.{refl, arith, IsTrue, false}
-use Rattle.std.proofs.Math.Nat.{div-add-mod, mul-le-mul_left, lt_of_mul-lt-mul_left}
+use Rattle.std.proofs.Common.{refl, arith, IsTrue, false, ◌-◌, ◌^◌, bit_and}
+use Rattle.std.proofs.lemmas.Nat.{and_mask}
+use Rattle.std.proofs.Math.Nat.{div-add-mod, mul-mod_right, mul-le-mul_left, lt_of_mul-lt-mul_left}
 use Rattle.iova.specs.declared.piece.PageState.{PageState}
 use Rattle.iova.specs.declared.piece.PageState.TheVariants.{Free, Live, Retired}
 use Rattle.iova.specs.declared.piece.Piece.{Piece}
@@ -31,6 +32,18 @@ round_up page unit up e l h = (
         absurd (omega (arith, q, r, more, next, h, k))
   ]),
 )
+
+-- a power of two rounds up by a mask
+pub masked_up : (page unit order : ℕ) → unit ≡ 2 ^ order → 0 < unit
+    → IsRoundUp page unit (page + (unit - 1) - bit_and (page + (unit - 1)) (unit - 1))
+masked_up page unit order e some =
+    let most = page + (unit - 1) in
+    let masked : bit_and most (unit - 1) ≡ most % unit =
+    ap (λ u. bit_and most (u - 1)) e ∙ and_mask most order ∙ ap (λ u. most % u) (sym e) in
+    let up : most - bit_and most (unit - 1) ≡ unit * (most / unit) = omega (arith, masked, div-add-mod most unit) in
+    let less : most % unit < unit = omega arith in
+    round_up page unit (most - bit_and most (unit - 1)) (ap (λ m. m % unit) up ∙ mul-mod_right unit (most / unit))
+    (omega (arith, masked, less)) (omega (arith, some))
 
 pub is_free_at : (u : PageState) → Some u ≡ Some Free → IsTrue (is_free u)
 is_free_at Free h = refl

@@ -10,7 +10,7 @@ use Rattle.iova.specs.Pieces.{IsOrdered, is_free}
 use Rattle.iova.specs.Space.{IsLowestFit}
 use Rattle.iova.specs.Search.{piece_at, IsFound, HasNoRoom, IsRoundUp}
 use Rattle.iova.specs.Tree.{Look, Shape, Empty, Fork, items, height_of, longest_of, free_pages, AreNodes, IsPiece, IsBelow}
-use Rattle.iova.specs.Tree.{CanSearch, node_of, root_of, at_root}
+use Rattle.iova.specs.Tree.{CanRead, CanSearch, node_of, root_of, at_root}
 use Rattle.iova.proofs.Pieces.{order}
 use Rattle.iova.proofs.parts.Parts.{front_ends, some_page, ordered_front, ordered_behind}
 use Rattle.iova.proofs.searches.Fit.{IsLowestAbove, fits_here, fits_tail, fits_cons, free_state}
@@ -323,6 +323,15 @@ module _ (nodes : Slab Node) (root : Option ℕ) (key : ℕ) (node : Node) (floo
 
   pub fit-short : node.longest < pages → AllByRecursion (HasNoRoom floor pages unit) (items t)
   fit-short h = short_none floor pages unit t (omega (arith, open_at.longest))
+
+  -- what is read of the tree before the node
+  pub fit-reads_left : CanRead (get nodes) node.left
+  fit-reads_left = (open_at.l, before.here, before.whole.tree.nodes)
+
+  -- nothing before the node, where all free pieces there are too short
+  pub none-short : (n : ℕ) → ((x : Shape) → node.left ≡ root_of x → AreNodes (get nodes) x → n ≡ longest_of x) → n < pages
+      → AllByRecursion (HasNoRoom floor pages unit) (items open_at.l)
+  none-short n h low = short_none floor pages unit open_at.l (omega (arith, h open_at.l before.here before.whole.tree.nodes, low))
 
   pub fit-left : (start : ℕ) (result : Option ℕ) → result ≡ Some start
       → ((x : Shape) (begin : ℕ) → IsBelow (get nodes) node.left x begin → IfSome result (IsFound floor pages unit (items x)))

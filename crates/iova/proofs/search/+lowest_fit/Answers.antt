@@ -3,17 +3,24 @@ use Rattle.std.specs.List.{AllByRecursion}
 use Rattle.slab.specs.Slab.{get}
 use Rattle.iova.specs.Search.{HasNoRoom, IsRoundUp}
 use Rattle.iova.specs.Tree.{items}
-use Rattle.iova.proofs.searches.Fit.{round_up, no_room, not_free}
+use Rattle.iova.proofs.searches.Fit.{no_room, not_free}
 use Rattle.iova.proofs.searches.Found.{open_at, search_height, search_there, fit-can_left, fit-can_right}
-use Rattle.iova.proofs.searches.Found.{fit-falls, fit-short, fit-left, fit-here, none-left, none-under}
+use Rattle.iova.proofs.searches.Found.{fit-falls, fit-short, fit-left, fit-here, none-left, none-short, none-under, fit-reads_left}
 use Rattle.iova.proofs.searches.Found.{fit-right, fit-none}
 use Rattle.iova.proofs.search.+lowest_fit.Goals as goal
-use Rattle.iova.proofs.search.+lowest_fit.Goals.{then-floor-node+in_default-lowest_fit, else-floor-node}
+use Rattle.iova.proofs.search.+lowest_fit.Goals.{then-floor-node+then-longest-pages+in_default-lowest_fit, else-floor-node}
+use Rattle.iova.proofs.search.+lowest_fit.Goals.{else-floor-node-via-then-floor-node+else-longest-pages}
+use Rattle.iova.proofs.search.+lowest_fit.Goals.{else-floor-node-via-else-floor-node}
 use Rattle.iova.proofs.search.+lowest_fit.Goals.{then-is_free+else-start-pages, else-is_free}
 
 pub index-node-requires : goal.index-node-requires
 index-node-requires t c = search_there (get c.args.nodes.now) c.args.root c.in-Some.key c.requires.tree.0 c.requires.tree.1
     c.requires.tree.2 c.in-Some.is
+
+pub longest-requires : goal.longest-requires
+longest-requires t c =
+    fit-reads_left c.args.nodes.now c.args.root c.in-Some.key c.index-node.result.now c.args.floor c.args.pages c.args.unit
+    c.requires.tree.0 c.requires.tree.1 c.requires.tree.2 c.in-Some.is c.index-node.ensures
 
 pub returns-then-node-pages-clause-none : goal.returns-then-node-pages-clause-none
 returns-then-node-pages-clause-none t c x from w = fit-short c.args.nodes.now c.args.root c.in-Some.key c.index-node.result.now
@@ -28,7 +35,7 @@ lowest_fit-requires t c =
       (
         fit-can_left c.args.nodes.now c.args.root c.in-Some.key c.index-node.result.now c.args.floor c.args.pages c.args.unit
             c.requires.tree.0 c.requires.tree.1 c.requires.tree.2 c.in-Some.is c.index-node.ensures,
-        (c.requires.floor, (c.requires.some_pages, (c.requires.pages, (c.requires.some_unit, c.requires.unit)))),
+        (c.requires.floor, (c.requires.some_pages, (c.requires.pages, (c.requires.some_unit, (c.requires.unit, c.requires.power))))),
       ),
     )
 
@@ -42,17 +49,20 @@ returns-then-start-pages-clause-found t c x from w =
     let left = open_at c.args.nodes.now c.args.root c.in-Some.key c.index-node.result.now c.args.floor c.args.pages c.args.unit x from w
     c.in-Some.is c.index-node.ensures in
     let before : AllByRecursion (HasNoRoom c.args.floor c.args.pages c.args.unit) (items left.l) = elim c.if-floor-node.branch [
-      | then-floor-node+in_default-lowest_fit v ↦ none-left c.args.nodes.now c.args.root c.in-Some.key c.index-node.result.now
+      | then-floor-node+then-longest-pages+in_default-lowest_fit v ↦ none-left c.args.nodes.now c.args.root c.in-Some.key c.index-node.result.now
           c.args.floor c.args.pages c.args.unit x from w c.in-Some.is c.index-node.ensures v.lowest_fit.result v.in_default-lowest_fit.is
           v.lowest_fit.ensures.none
-      | else-floor-node v ↦ none-under c.args.nodes.now c.args.root c.in-Some.key c.index-node.result.now
-          c.args.floor c.args.pages c.args.unit x from w c.in-Some.is c.index-node.ensures c.requires.some_pages v.if-floor-node.false
+      | else-floor-node v ↦ elim v.else-floor-node.branch [
+        | else-floor-node-via-then-floor-node+else-longest-pages u ↦ none-short c.args.nodes.now c.args.root c.in-Some.key
+            c.index-node.result.now c.args.floor c.args.pages c.args.unit x from w c.in-Some.is c.index-node.ensures u.longest.result
+            u.longest.ensures (omega (arith, u.if-longest-pages.false))
+        | else-floor-node-via-else-floor-node u ↦ none-under c.args.nodes.now c.args.root c.in-Some.key c.index-node.result.now
+            c.args.floor c.args.pages c.args.unit x from w c.in-Some.is c.index-node.ensures c.requires.some_pages u.if-floor-node.false
+      ]
     ] in
     fit-here c.args.nodes.now c.args.root c.in-Some.key c.index-node.result.now c.args.floor c.args.pages c.args.unit x from w c.in-Some.is
-    c.index-node.ensures c.next_multiple_of-start.result before (sym c.is_free.ensures ∙ c.if-is_free.true)
-    (subst (λ page. IsRoundUp page c.args.unit c.next_multiple_of-start.result) c.max.ensures
-    (round_up _ c.args.unit c.next_multiple_of-start.result c.next_multiple_of-start.ensures.multiple
-    c.next_multiple_of-start.ensures.lower_bound c.next_multiple_of-start.ensures.upper_bound)) c.if-start-pages.true
+    c.index-node.ensures c.round_up-start.result before (sym c.is_free.ensures ∙ c.if-is_free.true)
+    (subst (λ page. IsRoundUp page c.args.unit c.round_up-start.result) c.max.ensures c.round_up-start.ensures.up) c.if-start-pages.true
 
 pub lowest_fit-requires-2 : goal.lowest_fit-requires-2
 lowest_fit-requires-2 t c =
@@ -63,7 +73,7 @@ lowest_fit-requires-2 t c =
       (
         fit-can_right c.args.nodes.now c.args.root c.in-Some.key c.index-node.result.now c.args.floor c.args.pages c.args.unit
             c.requires.tree.0 c.requires.tree.1 c.requires.tree.2 c.in-Some.is c.index-node.ensures,
-        (c.requires.floor, (c.requires.some_pages, (c.requires.pages, (c.requires.some_unit, c.requires.unit)))),
+        (c.requires.floor, (c.requires.some_pages, (c.requires.pages, (c.requires.some_unit, (c.requires.unit, c.requires.power))))),
       ),
     )
 
@@ -72,17 +82,20 @@ returns-clause-found t c x from w =
     let left = open_at c.args.nodes.now c.args.root c.in-Some.key c.index-node.result.now c.args.floor c.args.pages c.args.unit x from w
     c.in-Some.is c.index-node.ensures in
     let before : AllByRecursion (HasNoRoom c.args.floor c.args.pages c.args.unit) (items left.l) = elim c.if-floor-node.branch [
-      | then-floor-node+in_default-lowest_fit v ↦ none-left c.args.nodes.now c.args.root c.in-Some.key c.index-node.result.now
+      | then-floor-node+then-longest-pages+in_default-lowest_fit v ↦ none-left c.args.nodes.now c.args.root c.in-Some.key c.index-node.result.now
           c.args.floor c.args.pages c.args.unit x from w c.in-Some.is c.index-node.ensures v.lowest_fit.result v.in_default-lowest_fit.is
           v.lowest_fit.ensures.none
-      | else-floor-node v ↦ none-under c.args.nodes.now c.args.root c.in-Some.key c.index-node.result.now
-          c.args.floor c.args.pages c.args.unit x from w c.in-Some.is c.index-node.ensures c.requires.some_pages v.if-floor-node.false
+      | else-floor-node v ↦ elim v.else-floor-node.branch [
+        | else-floor-node-via-then-floor-node+else-longest-pages u ↦ none-short c.args.nodes.now c.args.root c.in-Some.key
+            c.index-node.result.now c.args.floor c.args.pages c.args.unit x from w c.in-Some.is c.index-node.ensures u.longest.result
+            u.longest.ensures (omega (arith, u.if-longest-pages.false))
+        | else-floor-node-via-else-floor-node u ↦ none-under c.args.nodes.now c.args.root c.in-Some.key c.index-node.result.now
+            c.args.floor c.args.pages c.args.unit x from w c.in-Some.is c.index-node.ensures c.requires.some_pages u.if-floor-node.false
+      ]
     ] in
     let none : HasNoRoom c.args.floor c.args.pages c.args.unit c.index-node.result.now.piece = elim c.if-is_free.branch [
-      | then-is_free+else-start-pages v ↦ no_room _ c.args.floor c.args.pages c.args.unit v.next_multiple_of-start.result
-          (subst (λ page. IsRoundUp page c.args.unit v.next_multiple_of-start.result) v.max.ensures
-          (round_up _ c.args.unit v.next_multiple_of-start.result v.next_multiple_of-start.ensures.multiple
-          v.next_multiple_of-start.ensures.lower_bound v.next_multiple_of-start.ensures.upper_bound)) v.if-start-pages.false
+      | then-is_free+else-start-pages v ↦ no_room _ c.args.floor c.args.pages c.args.unit v.round_up-start.result
+          (subst (λ page. IsRoundUp page c.args.unit v.round_up-start.result) v.max.ensures v.round_up-start.ensures.up) v.if-start-pages.false
       | else-is_free v ↦ not_free _ c.args.floor c.args.pages c.args.unit (sym c.is_free.ensures ∙ v.if-is_free.false)
     ] in
     fit-right c.args.nodes.now c.args.root c.in-Some.key c.index-node.result.now c.args.floor c.args.pages c.args.unit x from w c.in-Some.is
@@ -93,17 +106,20 @@ returns-clause-none t c x from w =
     let left = open_at c.args.nodes.now c.args.root c.in-Some.key c.index-node.result.now c.args.floor c.args.pages c.args.unit x from w
     c.in-Some.is c.index-node.ensures in
     let before : AllByRecursion (HasNoRoom c.args.floor c.args.pages c.args.unit) (items left.l) = elim c.if-floor-node.branch [
-      | then-floor-node+in_default-lowest_fit v ↦ none-left c.args.nodes.now c.args.root c.in-Some.key c.index-node.result.now
+      | then-floor-node+then-longest-pages+in_default-lowest_fit v ↦ none-left c.args.nodes.now c.args.root c.in-Some.key c.index-node.result.now
           c.args.floor c.args.pages c.args.unit x from w c.in-Some.is c.index-node.ensures v.lowest_fit.result v.in_default-lowest_fit.is
           v.lowest_fit.ensures.none
-      | else-floor-node v ↦ none-under c.args.nodes.now c.args.root c.in-Some.key c.index-node.result.now
-          c.args.floor c.args.pages c.args.unit x from w c.in-Some.is c.index-node.ensures c.requires.some_pages v.if-floor-node.false
+      | else-floor-node v ↦ elim v.else-floor-node.branch [
+        | else-floor-node-via-then-floor-node+else-longest-pages u ↦ none-short c.args.nodes.now c.args.root c.in-Some.key
+            c.index-node.result.now c.args.floor c.args.pages c.args.unit x from w c.in-Some.is c.index-node.ensures u.longest.result
+            u.longest.ensures (omega (arith, u.if-longest-pages.false))
+        | else-floor-node-via-else-floor-node u ↦ none-under c.args.nodes.now c.args.root c.in-Some.key c.index-node.result.now
+            c.args.floor c.args.pages c.args.unit x from w c.in-Some.is c.index-node.ensures c.requires.some_pages u.if-floor-node.false
+      ]
     ] in
     let none : HasNoRoom c.args.floor c.args.pages c.args.unit c.index-node.result.now.piece = elim c.if-is_free.branch [
-      | then-is_free+else-start-pages v ↦ no_room _ c.args.floor c.args.pages c.args.unit v.next_multiple_of-start.result
-          (subst (λ page. IsRoundUp page c.args.unit v.next_multiple_of-start.result) v.max.ensures
-          (round_up _ c.args.unit v.next_multiple_of-start.result v.next_multiple_of-start.ensures.multiple
-          v.next_multiple_of-start.ensures.lower_bound v.next_multiple_of-start.ensures.upper_bound)) v.if-start-pages.false
+      | then-is_free+else-start-pages v ↦ no_room _ c.args.floor c.args.pages c.args.unit v.round_up-start.result
+          (subst (λ page. IsRoundUp page c.args.unit v.round_up-start.result) v.max.ensures v.round_up-start.ensures.up) v.if-start-pages.false
       | else-is_free v ↦ not_free _ c.args.floor c.args.pages c.args.unit (sym c.is_free.ensures ∙ v.if-is_free.false)
     ] in
     fit-none c.args.nodes.now c.args.root c.in-Some.key c.index-node.result.now c.args.floor c.args.pages c.args.unit x from w c.in-Some.is

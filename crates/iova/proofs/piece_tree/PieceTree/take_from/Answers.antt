@@ -48,6 +48,9 @@ returns-then-cuts_piece-clause-space c =
     let view : a ≡ c.args.self.now = ap (λ ps. record a { pieces = ps }) c.put_freed.ensures.pieces ∙ c.self.view_is in
     (subst (λ v. IsSpace v) view sp, sp)
 
+pub fit_from-requires-clause-power : goal.fit_from-requires-clause-power
+fit_from-requires-clause-power c = (c.args.order, unit_is c.args.order c.requires.order)
+
 pub overflow_add-piece : goal.overflow_add-piece
 overflow_add-piece c =
     let n = range_narrow (stored c.self.inside.last c.put_freed.new.root c.put_freed.new.nodes) c.in-Some.first c.args.pages Free

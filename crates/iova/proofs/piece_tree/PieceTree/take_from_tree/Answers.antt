@@ -11,6 +11,9 @@ use Rattle.iova.proofs.piece_tree.PieceTree.take_from_tree.Goals as goal
 use Rattle.iova.proofs.piece_tree.PieceTree.take_from_tree.Goals.{else-len-gt-MOST_PIECES_TO_CUT-via-then-len-gt-MOST_PIECES_TO_CUT+else-cuts_piece}
 use Rattle.iova.proofs.piece_tree.PieceTree.take_from_tree.Goals.{else-len-gt-MOST_PIECES_TO_CUT-via-else-len-gt-MOST_PIECES_TO_CUT}
 
+pub fit_in_mind-requires-clause-power : goal.fit_in_mind-requires-clause-power
+fit_in_mind-requires-clause-power c = (c.args.order, unit_is c.args.order c.requires.order)
+
 pub overflow_add-piece : goal.overflow_add-piece
 overflow_add-piece c =
     let a : Space = stored c.self.inside.last c.put_freed.new.root c.put_freed.new.nodes in
