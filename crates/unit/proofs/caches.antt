@@ -3,3 +3,4 @@ pub mod Found
 pub mod Members
 pub mod Blocks
 pub mod Kept
+pub mod Known

@@ -2,3 +2,4 @@ pub mod Walked
 pub mod Starts
 pub mod Reading
 pub mod Used
+pub mod Lowest

@@ -1,5 +1,5 @@
 -- Lists of bounded length that remember.
-use Rattle.std.specs.Prelude.{ℕ, ◌⊎◌, ◌∷◌, [], ◌++◌, Bool, IsTrue, List, length, drop, nat_lt, if◌then◌else◌}
+use Rattle.std.specs.Prelude.{◌≡◌, ℕ, ◌⊎◌, ◌∷◌, [], ◌++◌, Bool, false, IsTrue, List, length, drop, nat_lt, if◌then◌else◌}
 use Rattle.std.specs.List.{list_any}
 use Rattle.dmatypes.specs.World.{IsIn}
 
@@ -9,6 +9,10 @@ unfoldable pub with_entry : {A : Type 0} → (A → A → Bool) → ℕ → A �
 with_entry same most x xs =
     if list_any (λ y. same y x) xs then xs
     else (if nat_lt (length xs) most then xs ++ x ∷ [] else drop 1 xs ++ x ∷ [])
+
+-- no entry of the list is the same
+unfoldable pub IsNew : {A : Type 0} → (A → A → Bool) → A → List A → Type 0
+IsNew same x xs = list_any (λ y. same y x) xs ≡ false
 
 -- what a list gains is of this kind, and it gains only where it is to be filled
 abbrev pub Gains : {A : Type 0} → Bool → (A → Type 0) → List A → List A → Type 0

@@ -1,23 +1,25 @@
 //! Lists of bounded length that remember.
 
-ghost use Rattle.std.specs.Prelude.{◌≡◌, ◌<◌, ◌≤◌, if◌then◌else◌, length};
-ghost use Rattle.unit.specs.Lists.{with_entry};
+ghost use Rattle.std.specs.Prelude.{◌≡◌, ◌<◌, ◌≤◌, if◌then◌else◌, length, IsTrue};
+ghost use Rattle.unit.specs.Lists.{IsNew, with_entry};
 
 use arrayvec::ArrayVec;
 
 /// Remembers an entry, where `fill` says so: if it isn't there already it goes last, and a full list loses
-/// its first one.
-#[tactic(auto, unfolding(crate::specs::Lists::with_entry))]
+/// its first one. Where `is_new` says that it isn't there, the list isn't looked through for it.
+#[tactic(auto, unfolding(crate::specs::Lists::with_entry, crate::specs::Lists::IsNew))]
 pub(crate) fn remember<T: Copy + Default + PartialEq, const N: usize>(
     list: &mut ArrayVec<T, N>,
     entry: T,
     fill: bool,
+    is_new: bool,
 )
-    requires { 0 < N }
+    requires some { 0 < N }
+    requires new { IsTrue is_new → IsNew T.eq entry list.old.items }
     ensures items { list.new.items ≡ (if fill then with_entry T.eq N entry list.old.items else list.old.items) }
     ensures few { length list.old.items ≤ N → length list.new.items ≤ N }
 {
-    if !fill || list.contains(&entry) {
+    if !fill || !is_new && list.contains(&entry) {
         return;
     }
     if list.is_full() {

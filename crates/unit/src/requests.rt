@@ -1,8 +1,11 @@
 //! What serves a request: a context, and a translation.
 
-ghost use Rattle.std.specs.Prelude.{◌≡◌, ◌^◌, ◌<◌, ◌≤◌, ◌==◌, ◌&&◌, IfSome, IfNone, IsTrue, find, length};
+ghost use Rattle.std.specs.Prelude.{◌≡◌, ◌^◌, ◌<◌, ◌≤◌, ◌==◌, ◌&&◌, IfSome, IfNone, IsTrue, find, length, slice_get};
 ghost use Rattle.tables.specs.Pool.{memory};
 ghost use Rattle.unit.specs.Walking.{hold, stated_by};
+ghost use Rattle.vtdbits.specs.declared.context.ContextEntry.TheVariants.{Absent, Present};
+ghost use Rattle.dmatypes.specs.World.{IsIn};
+ghost use Rattle.unit.specs.Lists.{Gains};
 ghost use Rattle.unit.specs.Answers.{HasNoContext, IsContextOf, IsLowest, IsRead, IsRememberedIn, IsStart, entries};
 
 use crate::contexts::Contexts;
@@ -12,10 +15,14 @@ use crate::lookups::{first_context, first_leaf, is_absent, lowest_table};
 use crate::walking::{NON_LEAVES, Way, walk};
 use arrayvec::ArrayVec;
 use dmatypes::{
-    DEVICES, Frame, MOST_CACHED_FAULTS, MOST_CACHED_LEAVES, MOST_LEVELS, PAGES_END, Whim,
+    DEVICES, Frame, MOST_CACHED_CONTEXTS, MOST_CACHED_FAULTS, MOST_CACHED_LEAVES, MOST_LEVELS,
+    PAGES_END, Whim,
 };
 use tables::Pool;
 use vtdbits::{ContextEntry, DeviceNumber, Translation};
+
+/// The places for contexts.
+pub(crate) const CONTEXTS: usize = MOST_CACHED_CONTEXTS;
 
 /// The places for leaves.
 pub(crate) const LEAVES: usize = MOST_CACHED_LEAVES;
@@ -23,19 +30,24 @@ pub(crate) const LEAVES: usize = MOST_CACHED_LEAVES;
 /// The places for absent pages.
 pub(crate) const FAULTS: usize = MOST_CACHED_FAULTS;
 
-/// The context of a device: with a look the first cached one, else the row's.
+/// The context of a device: with a look the first cached one, else the row's, which is remembered with a fill.
 pub(crate) fn context_of(
-    cached: &[CachedContext],
+    cached: &mut ArrayVec<CachedContext, CONTEXTS>,
     contexts: &Contexts,
     device: u64,
-    look: bool,
+    whim: Whim,
 ) -> Option<CachedContext>
     requires { device < DEVICES }
-    ensures some { IfSome result (IsContextOf contexts.now cached.now look device) }
-    ensures none { IfNone result (HasNoContext contexts.now cached.now look device) }
-    ensures first { IsTrue look → IfSome (find (λ c. c.device == device) cached.now) (λ c. result ≡ Some c) }
+    ensures some { IfSome result (IsContextOf contexts.now cached.old.items whim.look device) }
+    ensures none { IfNone result (HasNoContext contexts.now cached.old.items whim.look device) }
+    ensures gains { IfSome result (λ c. Gains whim.fill (λ y. y ≡ c) cached.old.items cached.new.items) }
+    ensures remembered { IsTrue whim.fill → IfSome result (λ c. IsIn c cached.new.items) }
+    ensures unchanged { IfNone result (cached.new.items ≡ cached.old.items) }
+    ensures few { length cached.old.items ≤ CONTEXTS → length cached.new.items ≤ CONTEXTS }
+    ensures first { IsTrue whim.look → IfSome (find (λ c. c.device == device) cached.old.items) (λ c. result ≡ Some c) }
+    ensures kept { IsTrue whim.look → IfSome (find (λ c. c.device == device) cached.old.items) (λ _. cached.new.items ≡ cached.old.items) }
 {
-    if look {
+    if whim.look {
         if let Some(context) = first_context(cached, device) {
             // Part by part: a copy of it whole takes what lies between the parts along.
             return Some(CachedContext {
@@ -46,6 +58,17 @@ pub(crate) fn context_of(
             });
         }
     }
+    let context = row_context(contexts, device)?;
+    remember(cached, context, whim.fill, whim.look);
+    Some(context)
+}
+
+// The row's context of a device.
+fn row_context(contexts: &Contexts, device: u64) -> Option<CachedContext>
+    requires { device < DEVICES }
+    ensures some { IfSome result (λ c. (c.device ≡ device) × (slice_get contexts.now device ≡ Some (Present c.root c.width c.domain))) }
+    ensures none { IfNone result (slice_get contexts.now device ≡ Some Absent) }
+{
     let number = DeviceNumber::new(device).unwrap();
     match contexts.get(device) {
         ContextEntry::Absent => None,
@@ -113,12 +136,14 @@ pub(crate) fn translation_of(
         domain,
         page,
         fill: whim.fill,
+        is_lowest: whim.look,
     };
     let Some(leaf) = walk(pool, tables, way, level, table) else {
-        remember(faults, CachedFault { domain, page }, whim.fill && caching);
+        let fault = CachedFault { domain, page };
+        remember(faults, fault, whim.fill && caching, whim.look);
         return None;
     };
-    remember(leaves, leaf, whim.fill);
+    remember(leaves, leaf, whim.fill, whim.look);
     Some(leaf.translation(page))
 }
 

@@ -10,12 +10,11 @@ use crate::contexts::Contexts;
 use crate::entries::{CachedContext, CachedFault, CachedLeaf, CachedNonLeaf};
 use crate::filters::forget;
 use crate::hit::Hit;
-use crate::lists::remember;
-use crate::requests::{FAULTS, LEAVES, Lookup, context_of, translation_of};
+use crate::requests::{CONTEXTS, FAULTS, LEAVES, Lookup, context_of, translation_of};
 use crate::telling::tell;
 use crate::walking::NON_LEAVES;
 use arrayvec::ArrayVec;
-use dmatypes::{Access, Cache, DEVICES, Fault, MOST_CACHED_CONTEXTS, PAGE_BYTES, Progress, Whim};
+use dmatypes::{Access, Cache, DEVICES, Fault, PAGE_BYTES, Progress, Whim};
 use queue::Ring;
 use std::marker::Model;
 use tables::Pool;
@@ -25,9 +24,6 @@ use vtdbits::Descriptor;
 mod request_tests;
 #[cfg(test)]
 mod tests;
-
-// The places for contexts.
-const CONTEXTS: usize = MOST_CACHED_CONTEXTS;
 
 /// A unit: what it remembers of contexts, tables, leaves and absent pages, oldest first, whether it may remember that a page is
 /// absent, how many descriptors it did, and in how many steps none waited.
@@ -47,8 +43,7 @@ pub struct Unit {
 impl Model for Unit {
     ghost use Rattle.std.specs.Prelude.{◌+◌};
     ghost use Rattle.unit.specs.Caches.{AreFew, HavePlaces, UnitState, unit_state, caches};
-    ghost use Rattle.unit.specs.declared.requests.TheConstants.{FAULTS, LEAVES};
-    ghost use Rattle.unit.specs.declared.unit.TheConstants.{CONTEXTS};
+    ghost use Rattle.unit.specs.declared.requests.TheConstants.{CONTEXTS, FAULTS, LEAVES};
     ghost use Rattle.unit.specs.declared.walking.TheConstants.{NON_LEAVES};
 
     ghost Value = { UnitState };
@@ -109,10 +104,9 @@ impl Unit {
         ensures done { self.new.done ≡ self.old.done }
         ensures caching { self.new.caching ≡ self.old.caching }
     {
-        let Some(context) = context_of(&self.contexts, contexts, device, whim.look) else {
+        let Some(context) = context_of(&mut self.contexts, contexts, device, whim) else {
             return Err(Fault::NotAttached);
         };
-        remember(&mut self.contexts, context, whim.fill);
         let end = context.width.addresses_end();
         if address >= end {
             return Err(Fault::BeyondWidth);

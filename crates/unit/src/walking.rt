@@ -7,6 +7,7 @@ ghost use Rattle.tables.specs.Tree.{span, index_in, leaf_from};
 ghost use Rattle.tables.specs.Pool.{memory};
 ghost use Rattle.unit.specs.Caches.{CachedNonLeaf};
 ghost use Rattle.unit.specs.Walking.{met, IsPassed};
+ghost use Rattle.unit.specs.Answers.{IsLowest};
 ghost use Rattle.unit.specs.Lists.{Gains};
 
 use crate::entries::{CachedLeaf, CachedNonLeaf};
@@ -19,12 +20,14 @@ use vtdbits::{DomainId, SsEntry};
 /// The places for tables.
 pub(crate) const NON_LEAVES: usize = MOST_CACHED_NON_LEAVES;
 
-/// What a walk is for: a page of a domain, and whether what it passes is remembered.
+/// What a walk is for: a page of a domain, whether what it passes is remembered, and whether it begins below each remembered
+/// table of the domain that covers the page, as after a look. Then what it passes isn't remembered yet.
 #[derive(Clone, Copy)]
 pub(crate) struct Way {
     pub(crate) domain: DomainId,
     pub(crate) page: u64,
     pub(crate) fill: bool,
+    pub(crate) is_lowest: bool,
 }
 
 /// The leaf on the way from a table of a level, if there is one.
@@ -38,6 +41,7 @@ pub(crate) fn walk(
     requires page { way.page < PAGES_END }
     requires low { 1 ≤ level }
     requires high { level ≤ MOST_LEVELS }
+    requires lowest { IsTrue way.is_lowest → IsLowest passed.old.items way.domain way.page level }
     ensures leaf { result ≡ met way.domain way.page (leaf_from (memory pool.now.words) level table way.page) }
     ensures passed { Gains way.fill (IsPassed (memory pool.now.words) level table way.domain way.page) passed.old.items passed.new.items }
     ensures few { length passed.old.items ≤ NON_LEAVES → length passed.new.items ≤ NON_LEAVES }
@@ -46,7 +50,7 @@ pub(crate) fn walk(
         SsEntry::Absent => None,
         SsEntry::Table(below) => {
             let table = CachedNonLeaf::new(way.domain, way.page, level - 1, below);
-            remember(passed, table, way.fill);
+            remember(passed, table, way.fill, way.is_lowest);
             walk(pool, passed, way, level - 1, below)
         }
         SsEntry::Leaf(leaf) => Some(CachedLeaf::small(way.domain, way.page, leaf)),

@@ -1,17 +1,19 @@
-use Rattle.std.proofs.Common.{rules, ◌≡◌, ◌∙◌, ◌==◌, ◌&&◌, true, sym, ap, subst, List}
+use Rattle.std.proofs.Common.{arith, eq-eqb, Bool, rules, ◌≡◌, ◌∙◌, ◌==◌, ◌&&◌, true, false, refl, sym, ap, subst, List}
 use Rattle.dmatypes.specs.World.{IsIn}
 use Rattle.unit.specs.Answers.{IsStart, entries}
 use Rattle.std.specs.List.{list_any}
-use Rattle.std.proofs.lemmas.Bool.{eqb-true}
+use Rattle.std.specs.Prelude.{find, None}
+use Rattle.std.proofs.lemmas.Bool.{eqb-true, false≢true}
 use Rattle.tables.specs.Pool.{memory}
 use Rattle.unit.specs.Caches.{CachedLeaf, CachedNonLeaf, CachedContext, CachedFault, fault}
 use Rattle.unit.specs.Walking.{hold}
 use Rattle.unit.proofs.caches.Found.{find_in, both}
+use Rattle.unit.proofs.caches.Known.{both_true, new_of_none, new_unfound}
 use Rattle.unit.proofs.caches.Remembered.{gains_entry, remembered_in}
 use Rattle.unit.proofs.walks.Reading.{met_domain, met_holds, read_absent, read_cached, read_nothing, read_walked}
 use Rattle.unit.specs.Lists.{Gains}
 use Rattle.unit.proofs.requests.translation_of.Goals as goal
-use Rattle.unit.proofs.requests.translation_of.Goals.{then-whim-2, else-whim-2}
+use Rattle.unit.proofs.requests.translation_of.Goals.{then-whim-2, else-whim-2, then-whim+in_default+else-is_absent, else-whim}
 
 pub translation-requires : goal.translation-requires
 translation-requires c =
@@ -97,4 +99,42 @@ returns-clause-remembered c = λ fill. (
   met_domain _ _ _ _ (sym c.in-Some-walk.is ∙ c.walk.ensures.leaf) ∙ ap (λ (x : CachedContext). x.domain) c.context.view_is,
   met_holds _ _ _ _ (sym c.in-Some-walk.is ∙ c.walk.ensures.leaf),
   c.translation-2.ensures,
+)
+
+pub remember-requires-2 : goal.remember-requires-2
+remember-requires-2 c = (
+  omega arith,
+  (
+    omega arith,
+    λ looks. elim c.if-whim.branch [
+      | then-whim+in_default+else-is_absent w ↦
+          let serves : CachedLeaf → Bool =
+          λ (l : CachedLeaf). (l.domain == c.context.inside.domain) && hold l.first l.pages c.args.lookup.page in
+          let none =
+          subst (λ (ls : List CachedLeaf). find serves ls ≡ None) w.deref.ensures.0 (sym w.first_leaf.ensures ∙ w.in_default.is) in
+          let met = sym c.in-Some-walk.is ∙ c.walk.ensures.leaf in
+          new_unfound _ serves c.in-Some-walk.leaf c.args.leaves.now.items (λ y same. search rules) none
+          (both_true _ _ (eq-eqb _ _ (met_domain _ _ _ _ met)) (met_holds _ _ _ _ met))
+      | else-whim w ↦ absurd (false≢true (sym w.if-whim.false ∙ looks))
+    ],
+  ),
+)
+
+pub remember-requires : goal.remember-requires
+remember-requires c = (
+  omega arith,
+  (
+    omega arith,
+    λ looks. elim c.if-whim.branch [
+      | then-whim+in_default+else-is_absent w ↦
+          let is : CachedFault → Bool =
+          λ (f : CachedFault). (f.domain == c.context.inside.domain) && (f.page == c.args.lookup.page) in
+          let none =
+          subst (λ (fs : List CachedFault). list_any is fs ≡ false) w.deref-then-whim.ensures.0
+          (sym w.is_absent.ensures ∙ w.if-is_absent.false) in
+          new_of_none _ is (fault c.context.inside.domain c.args.lookup.page) c.args.faults.now.items (λ y same. search rules) none
+          (both_true _ _ (eq-eqb c.context.inside.domain c.context.inside.domain refl) (eq-eqb c.args.lookup.page c.args.lookup.page refl))
+      | else-whim w ↦ absurd (false≢true (sym w.if-whim.false ∙ looks))
+    ],
+  ),
 )

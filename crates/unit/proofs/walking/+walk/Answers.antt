@@ -1,10 +1,13 @@
-use Rattle.std.proofs.Common.{◌≡◌, ℕ, List, ◌∙◌, ap, sym, arith, Some, ◌≤◌, ◌-◌}
+use Rattle.std.proofs.Common.{◌≡◌, ℕ, List, ◌∙◌, ap, sym, arith, Some, ◌≤◌, ◌-◌, subst, rules}
 use Rattle.vtdbits.specs.declared.entry.SsEntry.{SsEntry}
 use Rattle.tables.specs.Pool.{memory}
 use Rattle.tables.specs.Tree.{index_in}
-use Rattle.unit.specs.Caches.{CachedLeaf}
+use Rattle.unit.specs.Caches.{CachedLeaf, CachedNonLeaf}
+use Rattle.dmatypes.specs.World.{IsIn}
 use Rattle.unit.specs.Walking.{IsPassed}
 use Rattle.unit.proofs.caches.Remembered.{gains_entry, gains_twice}
+use Rattle.unit.proofs.caches.Known.{new_outside}
+use Rattle.unit.proofs.walks.Lowest.{lowest_below, table_new}
 use Rattle.unit.proofs.walks.Walked.{met_absent, met_table, met_small, met_large, passed_next, passed_below}
 use Rattle.unit.proofs.walking.+walk.Goals as goal
 
@@ -55,3 +58,35 @@ returns-in-LargeLeaf-clause-leaf t c =
     ap (λ (l : CachedLeaf). Some l) c.large.ensures
     ∙ met_large m c.args.way.domain c.args.table c.args.way.page c.args.level c.requires.low c.in-LargeLeaf.leaf is
     (omega (arith, c.in-LargeLeaf.ensures.stands))
+
+pub remember-requires : goal.remember-requires
+remember-requires t c =
+    let deep : 2 ≤ c.args.level = omega (arith, c.in-Table.ensures.stands) in (
+      omega arith,
+      (
+        omega arith,
+        λ lowest.
+            new_outside _ c.new-table.result c.args.passed.now.items (λ y same. search rules) (λ there.
+            table_new c.args.way.domain c.args.way.page c.args.level c.in-Table.below c.args.passed.now.items deep (c.requires.lowest lowest)
+            (subst (λ (i : CachedNonLeaf). IsIn i c.args.passed.now.items) c.new-table.ensures there)),
+      ),
+    )
+
+pub walk-requires : goal.walk-requires
+walk-requires t c =
+    let deep : 2 ≤ c.args.level = omega (arith, c.in-Table.ensures.stands) in (
+      omega arith,
+      (
+        c.requires.page,
+        (
+          omega arith,
+          (
+            omega arith,
+            λ lowest.
+                lowest_below c.args.way.domain c.args.way.page c.args.level c.in-Table.below c.args.passed.now.items deep (c.requires.lowest lowest)
+                c.args.way.fill c.new-table.result c.new-table.ensures c.remember.new.list.items
+                (gains_entry _ _ _ _ _ _ c.remember.ensures.items),
+          ),
+        ),
+      ),
+    )
