@@ -4,3 +4,4 @@ pub mod Members
 pub mod Blocks
 pub mod Kept
 pub mod Known
+pub mod Marks

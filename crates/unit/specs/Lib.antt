@@ -4,3 +4,4 @@ pub mod Filters
 pub mod Lists
 pub mod Walking
 pub mod Answers
+pub mod Marks

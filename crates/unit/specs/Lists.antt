@@ -1,5 +1,5 @@
 -- Lists of bounded length that remember.
-use Rattle.std.specs.Prelude.{◌≡◌, ℕ, ◌⊎◌, ◌∷◌, [], ◌++◌, Bool, false, IsTrue, List, length, drop, nat_lt, if◌then◌else◌}
+use Rattle.std.specs.Prelude.{◌≡◌, ◌↔◌, ℕ, ◌⊎◌, ◌∷◌, [], ◌++◌, Bool, true, false, IsTrue, List, length, drop, nat_lt, if◌then◌else◌}
 use Rattle.std.specs.List.{list_any}
 use Rattle.dmatypes.specs.World.{IsIn}
 
@@ -13,6 +13,10 @@ with_entry same most x xs =
 -- no entry of the list is the same
 unfoldable pub IsNew : {A : Type 0} → (A → A → Bool) → A → List A → Type 0
 IsNew same x xs = list_any (λ y. same y x) xs ≡ false
+
+-- a test tells whether two are the same
+abbrev pub TellsSame : {A : Type 0} → (A → A → Bool) → Type 0
+TellsSame {A} same = (x y : A) → (same x y ≡ true) ↔ (x ≡ y)
 
 -- what a list gains is of this kind, and it gains only where it is to be filled
 abbrev pub Gains : {A : Type 0} → Bool → (A → Type 0) → List A → List A → Type 0

@@ -24,6 +24,7 @@ mod entries;
 mod filters;
 mod hit;
 pub mod laws;
+mod leaves;
 mod lists;
 mod lookups;
 mod requests;

@@ -9,23 +9,20 @@ ghost use Rattle.unit.specs.Lists.{Gains};
 ghost use Rattle.unit.specs.Answers.{HasNoContext, IsContextOf, IsLowest, IsRead, IsRememberedIn, IsStart, entries};
 
 use crate::contexts::Contexts;
-use crate::entries::{CachedContext, CachedFault, CachedLeaf, CachedNonLeaf};
+use crate::entries::{CachedContext, CachedFault, CachedNonLeaf};
+use crate::leaves::{LEAVES, Leaves};
 use crate::lists::remember;
-use crate::lookups::{first_context, first_leaf, is_absent, lowest_table};
+use crate::lookups::{first_context, is_absent, lowest_table};
 use crate::walking::{NON_LEAVES, Way, walk};
 use arrayvec::ArrayVec;
 use dmatypes::{
-    DEVICES, Frame, MOST_CACHED_CONTEXTS, MOST_CACHED_FAULTS, MOST_CACHED_LEAVES, MOST_LEVELS,
-    PAGES_END, Whim,
+    DEVICES, Frame, MOST_CACHED_CONTEXTS, MOST_CACHED_FAULTS, MOST_LEVELS, PAGES_END, Whim,
 };
 use tables::Pool;
 use vtdbits::{ContextEntry, DeviceNumber, Translation};
 
 /// The places for contexts.
 pub(crate) const CONTEXTS: usize = MOST_CACHED_CONTEXTS;
-
-/// The places for leaves.
-pub(crate) const LEAVES: usize = MOST_CACHED_LEAVES;
 
 /// The places for absent pages.
 pub(crate) const FAULTS: usize = MOST_CACHED_FAULTS;
@@ -100,20 +97,20 @@ pub(crate) struct Lookup {
 /// fill, and in Caching Mode that it found the page absent.
 pub(crate) fn translation_of(
     pool: &Pool,
-    leaves: &mut ArrayVec<CachedLeaf, LEAVES>,
+    leaves: &mut Leaves,
     tables: &mut ArrayVec<CachedNonLeaf, NON_LEAVES>,
     faults: &mut ArrayVec<CachedFault, FAULTS>,
     lookup: Lookup,
 ) -> Option<Translation>
     requires { lookup.page < PAGES_END }
     ensures read { IsRead (memory pool.now.words) lookup.context lookup.whim.look lookup.whim.fill lookup.caching lookup.page
-        (entries leaves.old.items tables.old.items faults.old.items) (entries leaves.new.items tables.new.items faults.new.items) result }
-    ensures remembered { IsTrue lookup.whim.fill → IfSome result (IsRememberedIn leaves.new.items lookup.context.domain lookup.page) }
-    ensures few_leaves { length leaves.old.items ≤ LEAVES → length leaves.new.items ≤ LEAVES }
+        (entries leaves.old tables.old.items faults.old.items) (entries leaves.new tables.new.items faults.new.items) result }
+    ensures remembered { IsTrue lookup.whim.fill → IfSome result (IsRememberedIn leaves.new lookup.context.domain lookup.page) }
+    ensures few_leaves { length leaves.old ≤ LEAVES → length leaves.new ≤ LEAVES }
     ensures few_tables { length tables.old.items ≤ NON_LEAVES → length tables.new.items ≤ NON_LEAVES }
     ensures few_faults { length faults.old.items ≤ FAULTS → length faults.new.items ≤ FAULTS }
     ensures first { IsTrue lookup.whim.look
-        → IfSome (find (λ l. (l.domain == lookup.context.domain) && hold l.first l.pages lookup.page) leaves.old.items)
+        → IfSome (find (λ l. (l.domain == lookup.context.domain) && hold l.first l.pages lookup.page) leaves.old)
         (λ l. result ≡ Some (stated_by lookup.page l)) }
 {
     let Lookup {
@@ -124,7 +121,7 @@ pub(crate) fn translation_of(
     } = lookup;
     let domain = context.domain;
     if whim.look {
-        if let Some(leaf) = first_leaf(leaves, domain, page) {
+        if let Some(leaf) = leaves.first(domain, page) {
             return Some(leaf.translation(page));
         }
         if is_absent(faults, domain, page) {
@@ -143,7 +140,7 @@ pub(crate) fn translation_of(
         remember(faults, fault, whim.fill && caching, whim.look);
         return None;
     };
-    remember(leaves, leaf, whim.fill, whim.look);
+    leaves.remember(leaf, whim.fill, whim.look);
     Some(leaf.translation(page))
 }
 

@@ -7,10 +7,11 @@ ghost use Rattle.unit.specs.Caches.{unit_state, nothing, without};
 ghost use Rattle.unit.specs.Filters.{left_by, left_by_first, after_first, done_after};
 
 use crate::contexts::Contexts;
-use crate::entries::{CachedContext, CachedFault, CachedLeaf, CachedNonLeaf};
+use crate::entries::{CachedContext, CachedFault, CachedNonLeaf};
 use crate::filters::forget;
 use crate::hit::Hit;
-use crate::requests::{CONTEXTS, FAULTS, LEAVES, Lookup, context_of, translation_of};
+use crate::leaves::Leaves;
+use crate::requests::{CONTEXTS, FAULTS, Lookup, context_of, translation_of};
 use crate::telling::tell;
 use crate::walking::NON_LEAVES;
 use arrayvec::ArrayVec;
@@ -29,7 +30,7 @@ mod tests;
 /// absent, how many descriptors it did, and in how many steps none waited.
 #[derive(Debug, Drop)]
 pub struct Unit {
-    leaves: ArrayVec<CachedLeaf, LEAVES>,
+    leaves: Leaves,
     non_leaves: ArrayVec<CachedNonLeaf, NON_LEAVES>,
     contexts: ArrayVec<CachedContext, CONTEXTS>,
     faults: ArrayVec<CachedFault, FAULTS>,
@@ -43,15 +44,16 @@ pub struct Unit {
 impl Model for Unit {
     ghost use Rattle.std.specs.Prelude.{◌+◌};
     ghost use Rattle.unit.specs.Caches.{AreFew, HavePlaces, UnitState, unit_state, caches};
-    ghost use Rattle.unit.specs.declared.requests.TheConstants.{CONTEXTS, FAULTS, LEAVES};
+    ghost use Rattle.unit.specs.declared.leaves.TheConstants.{LEAVES};
+    ghost use Rattle.unit.specs.declared.requests.TheConstants.{CONTEXTS, FAULTS};
     ghost use Rattle.unit.specs.declared.walking.TheConstants.{NON_LEAVES};
 
     ghost Value = { UnitState };
 
     ghost view = { λ u.
-        unit_state (caches u.leaves.items u.non_leaves.items u.contexts.items u.faults.items) (u.done + u.idle) u.done u.caching };
+        unit_state (caches u.leaves u.non_leaves.items u.contexts.items u.faults.items) (u.done + u.idle) u.done u.caching };
 
-    ghost invariant = { λ u. AreFew (caches u.leaves.items u.non_leaves.items u.contexts.items u.faults.items)
+    ghost invariant = { λ u. AreFew (caches u.leaves u.non_leaves.items u.contexts.items u.faults.items)
         × HavePlaces LEAVES NON_LEAVES CONTEXTS FAULTS };
 }
 
@@ -68,7 +70,7 @@ impl Unit {
         ensures { result ≡ unit_state nothing 0 0 on }
     {
         Unit {
-            leaves: ArrayVec::new(),
+            leaves: Leaves::new(),
             non_leaves: ArrayVec::new(),
             contexts: ArrayVec::new(),
             faults: ArrayVec::new(),
@@ -153,7 +155,7 @@ impl Unit {
     fn forget(&mut self, descriptor: Descriptor)
         ensures { self.new ≡ unit_state (left_by descriptor self.old.caches) self.old.steps self.old.done self.old.caching }
     {
-        forget(&mut self.leaves, &descriptor);
+        self.leaves.forget(&descriptor);
         forget(&mut self.non_leaves, &descriptor);
         forget(&mut self.contexts, &descriptor);
         forget(&mut self.faults, &descriptor);
@@ -166,7 +168,7 @@ impl Unit {
         let place = place as usize;
         match kind {
             Cache::Leaf => {
-                self.leaves.pop_at(place);
+                self.leaves.evict(place);
             }
             Cache::NonLeaf => {
                 self.non_leaves.pop_at(place);

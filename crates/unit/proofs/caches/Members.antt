@@ -22,7 +22,7 @@ in_remove y (x ∷ xs) zero h = inr h
 in_remove y (x ∷ xs) (suc k) (inl same) = inl same
 in_remove y (x ∷ xs) (suc k) (inr h) = inr (in_remove y xs k h)
 
-of_not : (b : Bool) → not b ≡ true → b ≡ false
+pub of_not : (b : Bool) → not b ≡ true → b ≡ false
 of_not true e = sym e
 of_not false e = refl
 

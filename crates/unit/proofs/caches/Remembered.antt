@@ -13,7 +13,7 @@ use Rattle.unit.specs.declared.hit.Hit.{Hit}
 use Rattle.dmatypes.specs.World.{IsIn}
 use Rattle.unit.specs.Lists.{with_entry, Gains}
 
-in_push : {A : Type 0} (x y : A) (xs : List A) → IsIn y (xs ++ x ∷ []) → IsIn y xs ⊎ (y ≡ x)
+pub in_push : {A : Type 0} (x y : A) (xs : List A) → IsIn y (xs ++ x ∷ []) → IsIn y xs ⊎ (y ≡ x)
 in_push x y [] (inl e) = inr e
 in_push x y [] (inr h) = absurd h
 in_push x y (z ∷ zs) (inl e) = inl (inl e)
@@ -52,6 +52,13 @@ gains_entry true same most x xs ys is = λ y h. gained (in_with_entry same most 
     gained (inl h) = inl h
     gained (inr e) = inr (refl, e)
 gains_entry false same most x xs ys is = λ y h. inl (subst (IsIn y) is h)
+
+-- by remembering it where that is to be filled
+pub gains_filled : {A : Type 0} (fill : Bool) (same : A → A → Bool) (most : ℕ) (x : A) (xs now ys : List A) → fill ≡ true → xs ≡ now
+    → ys ≡ with_entry same most x xs → Gains fill (λ y. y ≡ x) now ys
+gains_filled fill same most x xs now ys filled at is =
+    subst (λ (zs : List _). Gains fill (λ y. y ≡ x) zs ys) at
+    (subst (λ (b : Bool). Gains b (λ y. y ≡ x) xs ys) (sym filled) (gains_entry true same most x xs ys is))
 
 -- what was gained once and again
 pub gains_twice : {A : Type 0} (fill : Bool) (Used Once Again : A → Type 0) (xs ys zs : List A)

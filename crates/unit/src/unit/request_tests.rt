@@ -9,6 +9,8 @@ use super::tests::{
     absent, assert_absent, assert_remembered, context, domain_of, large, small, table, unit_of,
 };
 use super::*;
+use crate::entries::CachedLeaf;
+use crate::leaves::LEAVES;
 use dmatypes::{Frame, PageRange, Rights, Width};
 use std::alloc::{AllocError, Global};
 use std::process::Abort;
@@ -123,7 +125,9 @@ fn without_look_or_fill(rt: HostRuntime) -> Result<(), AllocError> {
     ] {
         assert_eq!(rt; read(&mut unit, &pool, &row, address, NEITHER), answer);
     }
-    assert!(rt; unit.leaves.is_empty() && unit.non_leaves.is_empty() && unit.contexts.is_empty());
+    assert!(rt;
+        unit.leaves.as_slice().is_empty() && unit.non_leaves.is_empty() && unit.contexts.is_empty()
+    );
     tree.destroy(&mut pool);
     Ok(())
 }
@@ -228,7 +232,11 @@ fn full_lists_lose_their_first_entry(rt: HostRuntime) -> Result<(), AllocError> 
         assert!(rt; faults.try_push(absent(&rt, 2, page)).is_ok());
     }
     let mut unit = unit_of(leaves, non_leaves, contexts, faults);
-    assert!(rt; unit.leaves.is_full() && unit.non_leaves.is_full() && unit.contexts.is_full());
+    assert!(rt;
+        unit.leaves.as_slice().len() == LEAVES
+            && unit.non_leaves.is_full()
+            && unit.contexts.is_full()
+    );
     assert!(rt; unit.faults.is_full());
     assert_eq!(rt;
         read(&mut unit, &pool, &row, 0x400_000, FILL),
@@ -236,6 +244,7 @@ fn full_lists_lose_their_first_entry(rt: HostRuntime) -> Result<(), AllocError> 
     );
     assert!(rt;
         unit.leaves
+            .as_slice()
             .iter()
             .map(|leaf| leaf.first)
             .eq((1..64).chain([0x400]))

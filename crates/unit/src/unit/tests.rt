@@ -1,6 +1,8 @@
 // Descriptors against entries that they drop, that they keep, and that they only overlap.
 
 use super::*;
+use crate::entries::CachedLeaf;
+use crate::leaves::LEAVES;
 use dmatypes::{Frame, Rights, Width};
 use std::process::Abort;
 use vtdbits::{DeviceNumber, DomainId, LargeTranslation, PageBlock, Translation};
@@ -78,10 +80,19 @@ pub(super) fn unit_of(
     contexts: ArrayVec<CachedContext, CONTEXTS>,
     faults: ArrayVec<CachedFault, FAULTS>,
 ) -> Unit {
+    let mut marked = Leaves::new();
+    for leaf in &leaves {
+        marked.remember(*leaf, true, false);
+    }
     // Each length says that it is within the list's capacity.
-    let _ = (leaves.len(), non_leaves.len(), contexts.len(), faults.len());
+    let _ = (
+        marked.as_slice().len(),
+        non_leaves.len(),
+        contexts.len(),
+        faults.len(),
+    );
     Unit {
-        leaves,
+        leaves: marked,
         non_leaves,
         contexts,
         faults,
@@ -154,6 +165,7 @@ pub(super) fn assert_remembered(
 ) {
     assert!(rt;
         unit.leaves
+            .as_slice()
             .iter()
             .map(|leaf| (leaf.first, leaf.pages))
             .eq(leaves.iter().copied())

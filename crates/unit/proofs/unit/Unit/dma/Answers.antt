@@ -14,13 +14,13 @@ returns-in_default-clause-answers c =
     c.in_default.ensures.none in
     subst (λ (u : UnitState).
     Answers (memory c.args.pool.now.words) c.args.contexts.now c.args.whim.look c.args.whim.fill u.caching c.args.device c.args.address
-    c.args.access u.caches (caches c.self.inside.leaves.items c.self.inside.non_leaves.items c.context_of.new.cached.items
+    c.args.access u.caches (caches c.self.inside.leaves c.self.inside.non_leaves.items c.context_of.new.cached.items
     c.self.inside.faults.items) (Err faults.NotAttached))
     c.self.view_is
     (inl (
       without,
       refl,
-      ap (λ (xs : List CachedContext). caches c.self.inside.leaves.items c.self.inside.non_leaves.items xs
+      ap (λ (xs : List CachedContext). caches c.self.inside.leaves c.self.inside.non_leaves.items xs
           c.self.inside.faults.items) c.in_default.ensures.unchanged,
     ))
 
@@ -32,7 +32,7 @@ returns-then-address-end-clause-answers c =
     let beyond : IsBeyond c.in-Some.context.width c.args.address = omega (arith, wide, c.addresses_end-end.ensures) in
     subst (λ (u : UnitState).
     Answers (memory c.args.pool.now.words) c.args.contexts.now c.args.whim.look c.args.whim.fill u.caching c.args.device c.args.address
-    c.args.access u.caches (caches c.self.inside.leaves.items c.self.inside.non_leaves.items c.context_of.new.cached.items
+    c.args.access u.caches (caches c.self.inside.leaves c.self.inside.non_leaves.items c.context_of.new.cached.items
     c.self.inside.faults.items)
     (Err faults.BeyondWidth))
     c.self.view_is
@@ -47,7 +47,7 @@ returns-clause-answers c =
     subst (λ (u : UnitState).
     Answers (memory c.args.pool.now.words) c.args.contexts.now c.args.whim.look c.args.whim.fill u.caching c.args.device c.args.address
     c.args.access u.caches
-    (caches c.translation_of-to.new.leaves.items c.translation_of-to.new.tables.items c.context_of.new.cached.items
+    (caches c.translation_of-to.new.leaves c.translation_of-to.new.tables.items c.context_of.new.cached.items
     c.translation_of-to.new.faults.items) c.tell.result)
     c.self.view_is
     (inr (
@@ -63,7 +63,7 @@ returns-clause-remembered c = λ fill.
     c.in-Some.ensures.some in
     let there : IsIn c.in-Some.context c.context_of.new.cached.items = c.in-Some.ensures.remembered fill in
     told_remembered c.translation_of-to.result c.args.address c.args.access c.tell.result
-    (caches c.translation_of-to.new.leaves.items c.translation_of-to.new.tables.items c.context_of.new.cached.items
+    (caches c.translation_of-to.new.leaves c.translation_of-to.new.tables.items c.context_of.new.cached.items
     c.translation_of-to.new.faults.items) c.in-Some.context
     c.args.device
     c.tell.ensures there serves.0 (c.translation_of-to.ensures.remembered fill)

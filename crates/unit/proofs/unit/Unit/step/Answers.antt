@@ -19,7 +19,7 @@ returns-in-Wait-clause-unit c =
     let more : c.self.inside.done + 1 + c.self.inside.idle ≡ c.self.inside.done + c.self.inside.idle + 1 = omega arith in
     ap (λ (n : ℕ).
     unit_state
-    (caches c.self.inside.leaves.items c.self.inside.non_leaves.items c.self.inside.contexts.items c.self.inside.faults.items) n
+    (caches c.self.inside.leaves c.self.inside.non_leaves.items c.self.inside.contexts.items c.self.inside.faults.items) n
     (c.self.inside.done + 1) c.self.inside.caching) more
     ∙ ap (λ (u : UnitState). unit_state u.caches (u.steps + 1) (u.done + 1) u.caching) c.self.view_is
     ∙ ap (λ (k : Caches). unit_state k (now.steps + 1) (now.done + 1) now.caching) (sym (left_wait c.in-Wait.number now.caches))
