@@ -113,18 +113,17 @@ impl Domain {
         ensures { OnOk result (domain_of self.new ≡ world.unmapped_by self.old.mode range (domain_of self.old)) }
     {
         match self.mode {
-            Mode::Strict => self.unmap_now(alloc, range)?,
+            Mode::Strict => self.unmap_now(range)?,
             Mode::Lazy => self.put_off(alloc, range)?,
         }
         Ok(())
     }
 
     // The pages of the range leave.
-    fn unmap_now(&mut self, alloc: Global, range: PageRange) -> Result<(), AllocError>
+    fn unmap_now(&mut self, range: PageRange) -> Result<(), AllocError>
         ensures { OnOk result (domain_of self.new ≡ world.unmapped range (domain_of self.old)) }
     {
-        let _ = self.live.take(alloc, range.first(), range.pages())?;
-        Ok(())
+        self.live.remove(range.first(), range.pages())
     }
 
     // The pages of the range leave and become the last record, where there is no room behind the others went.

@@ -18,14 +18,14 @@ pub(crate) struct Pages {
 }
 
 impl Pages {
-    ghost use Rattle.std.specs.Prelude.{◌≡◌, ◌+◌, ◌-◌, ◌<◌, ◌≤◌, ◌^◌, ℕ, [], ◌∷◌, Some, None, IfOk, OnOk, MatchOption};
+    ghost use Rattle.std.specs.Prelude.{◌≡◌, ◌+◌, ◌-◌, ◌<◌, ◌≤◌, ◌^◌, ℕ, [], ◌∷◌, Some, None, IfOk, IfSome, OnOk, MatchOption};
     ghost use Rattle.std.specs.List.{AllByRecursion};
     ghost use Rattle.std.specs.Option.{option_or};
     ghost use Rattle.dmatypes.specs.declared.page.TheConstants.{FRAMES_END};
     ghost use Rattle.dmatypes.specs.Conditions.{total_pages};
     ghost use Rattle.dmatypes.specs.World.{placed, restricted, without};
     ghost use Rattle.checker.specs.Pages.{AllAreMappedIn, IsMappedIn, IsUnmappedIn, NoneIsMappedIn, range, runs_of, target_at};
-    ghost use Rattle.checker.specs.Runs.{Holds, IsCutAt};
+    ghost use Rattle.checker.specs.Runs.{Holds, IsCutAt, IsFrontOf, Leaves, by_rest};
 
     /// No page is mapped.
     pub(crate) fn new(alloc: Global) -> Pages
@@ -137,6 +137,19 @@ impl Pages {
         self.put(first, *segment, rights)
     }
 
+    /// The pages of a range are mapped no more.
+    pub(crate) fn remove(&mut self, first: u64, pages: u64) -> Result<(), AllocError>
+        requires { first + pages < 2 ^ 64 }
+        ensures { OnOk result ((p : ℕ) → target_at self.new p ≡ without (range first pages) (target_at self.old) p) }
+    {
+        let end = first + pages;
+        let mut page = first;
+        while let Some((start, run)) = self.pop_run(page, end)? {
+            page = start + run.pages;
+        }
+        Ok(())
+    }
+
     /// The pages of a range are mapped no more, and are handed out.
     pub(crate) fn take(
         &mut self,
@@ -148,16 +161,102 @@ impl Pages {
         ensures left { OnOk result ((p : ℕ) → target_at self.new p ≡ without (range first pages) (target_at self.old) p) }
         ensures taken { IfOk result (λ t. (p : ℕ) → target_at t p ≡ restricted (range first pages) (target_at self.old) p) }
     {
-        self.cut(first)?;
-        self.cut(first + pages)?;
-        self.take_runs(alloc, first, first + pages)
+        let end = first + pages;
+        let mut taken = Pages::new(alloc);
+        let mut page = first;
+        while let Some((start, run)) = self.pop_run(page, end)? {
+            taken.put(start, run.segment(), run.rights)?;
+            page = start + run.pages;
+        }
+        Ok(taken)
+    }
+
+    // The first run that has pages between two pages leaves, as far as they lie there, and is handed out with its first page.
+    fn pop_run(&mut self, page: u64, end: u64) -> Result<Option<(u64, Run)>, AllocError>
+        requires { page ≤ end }
+        ensures leaves { IfOk result (λ o. Leaves (target_at self.old) (target_at self.new) page end o) }
+        ensures within { IfOk result (λ o. IfSome o (λ e. e.0 + e.1.pages ≤ end)) }
+    {
+        if page == end {
+            return Ok(None);
+        }
+        match self.pop_whole(page, end)? {
+            Some((start, run)) => {
+                let front = self.put_back(start, run, end)?;
+                Ok(Some((start, front)))
+            }
+            None => Ok(None),
+        }
+    }
+
+    // The first run that has pages between two pages leaves, with those behind them. Most often it begins at the first of the two, and
+    // leaves by one search.
+    fn pop_whole(&mut self, page: u64, end: u64) -> Result<Option<(u64, Run)>, AllocError>
+        requires { page < end }
+        ensures { IfOk result (λ o. Leaves (target_at self.old) (target_at self.new) page end o) }
+    {
+        match self.remove_at(page) {
+            Some(run) => Ok(Some((page, run))),
+            None => {
+                self.cut(page)?;
+                Ok(self.pop_next(page, end))
+            }
+        }
+    }
+
+    // The same where no run has pages on both sides of the first page.
+    fn pop_next(&mut self, page: u64, end: u64) -> Option<(u64, Run)>
+        requires order { page ≤ end }
+        requires here { IsCutAt (runs_of self.old) page }
+        ensures { Leaves (target_at self.old) (target_at self.new) page end result }
+    {
+        let (start, run) = self.first_run_in(page, end)?;
+        let _ = self.remove_at(start);
+        Some((start, run))
+    }
+
+    // The run that begins at a page leaves, where one does.
+    fn remove_at(&mut self, page: u64) -> Option<Run>
+        ensures run { result ≡ runs_of self.old page }
+        ensures gone { runs_of self.new page ≡ None }
+        ensures left { (r : Run) → runs_of self.old page ≡ Some r
+            → (p : ℕ) → target_at self.new p ≡ without (range page r.pages) (target_at self.old) p }
+        ensures same { runs_of self.old page ≡ None → (p : ℕ) → target_at self.new p ≡ target_at self.old p }
+    {
+        self.runs.remove(&page)
+    }
+
+    // Of a run that left, the pages from another page on come back, and the others are handed out.
+    fn put_back(&mut self, first: u64, run: Run, end: u64) -> Result<Run, AllocError>
+        requires order { first < end }
+        requires some { 1 ≤ run.pages }
+        requires ends { first + run.pages < 2 ^ 64 }
+        requires frames { run.frame + run.pages ≤ FRAMES_END }
+        requires free { NoneIsMappedIn self.old (range first run.pages) }
+        ensures front { IfOk result (λ r. IsFrontOf r run × (first + r.pages ≤ end)) }
+        ensures left { IfOk result (λ r. (p : ℕ) → target_at self.new p ≡ by_rest first run r p (target_at self.old p)) }
+    {
+        let pages = end - first;
+        if run.pages <= pages {
+            return Ok(run);
+        }
+        let rest = Segment {
+            frame: run.frame + pages,
+            pages: run.pages - pages,
+        };
+        self.put(end, rest, run.rights)?;
+        Ok(Run {
+            pages,
+            frame: run.frame,
+            rights: run.rights,
+        })
     }
 
     // The run that has pages on both sides becomes two.
     fn cut(&mut self, page: u64) -> Result<(), AllocError>
+        requires { runs_of self.old page ≡ None }
         ensures same { OnOk result ((p : ℕ) → target_at self.new p ≡ target_at self.old p) }
         ensures here { OnOk result (IsCutAt (runs_of self.new) page) }
-        ensures before { OnOk result ((p : ℕ) → IsCutAt (runs_of self.old) p → IsCutAt (runs_of self.new) p) }
     {
         match self.run_of(page) {
             Some((first, run)) => self.cut_run(first, run, page),
@@ -165,17 +264,14 @@ impl Pages {
         }
     }
 
-    // The run becomes two, where the page isn't its first.
+    // The run becomes two.
     fn cut_run(&mut self, first: u64, run: Run, page: u64) -> Result<(), AllocError>
         requires there { runs_of self.old first ≡ Some run }
-        requires holds { Holds first run page }
+        requires less { first < page }
+        requires below { page < first + run.pages }
         ensures same { OnOk result ((p : ℕ) → target_at self.new p ≡ target_at self.old p) }
         ensures here { OnOk result (IsCutAt (runs_of self.new) page) }
-        ensures before { OnOk result ((p : ℕ) → IsCutAt (runs_of self.old) p → IsCutAt (runs_of self.new) p) }
     {
-        if first == page {
-            return Ok(());
-        }
         let pages = page - first;
         let rest = Run {
             pages: run.pages - pages,
@@ -192,28 +288,13 @@ impl Pages {
         Ok(())
     }
 
-    // The runs between two cuts are handed out.
-    fn take_runs(&mut self, alloc: Global, first: u64, end: u64) -> Result<Pages, AllocError>
-        requires order { first ≤ end }
-        requires first { IsCutAt (runs_of self.old) first }
-        requires end { IsCutAt (runs_of self.old) end }
-        ensures left { OnOk result ((p : ℕ) → target_at self.new p ≡ without (range first (end - first)) (target_at self.old) p) }
-        ensures taken { IfOk result (λ t. (p : ℕ) → target_at t p ≡ restricted (range first (end - first)) (target_at self.old) p) }
-    {
-        let mut taken = BTreeMap::new(alloc);
-        while let Some((start, run)) = self.first_run_in(first, end) {
-            let _ = self.runs.remove(&start);
-            taken.insert(start, run)?;
-        }
-        Ok(Pages { runs: taken })
-    }
-
     // The first run that begins between two pages, and its first page.
     fn first_run_in(&self, first: u64, end: u64) -> Option<(u64, Run)>
         requires { first ≤ end }
         ensures { MatchOption result
             ((k : ℕ) → first ≤ k → k < end → runs_of self.now k ≡ None)
-            (λ e. (first ≤ e.0) × (e.0 < end) × (runs_of self.now e.0 ≡ Some e.1)) }
+            (λ e. (first ≤ e.0) × (e.0 < end) × (runs_of self.now e.0 ≡ Some e.1)
+            × ((k : ℕ) → first ≤ k → k < e.0 → runs_of self.now k ≡ None)) }
     {
         let (start, run) = self.runs.range(first..end).next()?;
         Some((*start, *run))

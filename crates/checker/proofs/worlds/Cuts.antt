@@ -1,15 +1,12 @@
--- Runs that are cut in two, and runs that are taken out between two cuts.
+-- Runs that are cut in two.
 use Rattle.std.proofs.Common.{◌≡◌, ◌≢◌, ◌⊎◌, inl, inr, ℕ, ◌+◌, ◌-◌, ◌^◌, ◌<◌, ◌≤◌, Some, None, refl, sym, ap, subst, ◌∙◌, arith}
 use Rattle.std.proofs.lemmas.Bool.{cases_lt}
 use Rattle.std.proofs.lemmas.Option.{same_Some}
 use Rattle.dmatypes.specs.declared.page.TheConstants.{FRAMES_END}
-use Rattle.dmatypes.specs.World.{restricted, without}
-use Rattle.dmatypes.proofs.numbers.Ranges.{within_is, within_not, within_or_not}
 use Rattle.dmatypes.proofs.histories.Maps.{same_or_not}
 use Rattle.checker.specs.declared.run.Run.{Run}
-use Rattle.checker.specs.Pages.{range}
 use Rattle.checker.specs.Runs.{AreApart, Holds, IsCutAt, by_runs, target_of}
-use Rattle.checker.proofs.worlds.Runs.{Runs, held, held_by, none_held, not_held, of_one, same_runs}
+use Rattle.checker.proofs.worlds.Runs.{Runs, held, held_by, none_held, not_held, of_one}
 
 -- ---- a run in two
 
@@ -56,7 +53,7 @@ rest_end f g first page k r s cut same is =
     of_one (λ (x : Run). k + x.pages ≡ first + r.pages) s (rest_of first page r) is (omega (arith, same, cut.less, cut.below))
 
 -- another run lies before the run or behind it
-beside : (f : Runs) (first k : ℕ) (r s : Run) → AreApart f → f first ≡ Some r → k ≢ first → f k ≡ Some s
+pub beside : (f : Runs) (first k : ℕ) (r s : Run) → AreApart f → f first ≡ Some r → k ≢ first → f k ≡ Some s
     → (k + s.pages ≤ first) ⊎ (first + r.pages ≤ k)
 beside f first k r s a there other is =
     elim (cases_lt k first) [
@@ -218,109 +215,3 @@ here_by f g first page k r s a cut (IsOther other is) less =
 
 pub cut_here : (f g : Runs) (first page : ℕ) (r : Run) → AreApart f → AreCut f g first page r → IsCutAt g page
 cut_here f g first page r a cut = λ k s is less. here_by f g first page k r s a cut (piece f g first page k r s cut is) less
-
-before_by : (f g : Runs) (first page q k : ℕ) (r s : Run) → AreCut f g first page r → IsCutAt f q → Piece f first page r k s → k < q
-    → k + s.pages ≤ q
-before_by f g first page q k r s cut was (IsFront e same) less =
-    omega (arith, was first r cut.there (omega (arith, e, less)), cut.below, front_end f g first page k r s cut e same)
-before_by f g first page q k r s cut was (IsRest e same) less =
-    omega (arith, was first r cut.there (omega (arith, e, less, cut.less)), rest_end f g first page k r s cut e same)
-before_by f g first page q k r s cut was (IsOther other is) less = was k s is less
-
-pub cut_before : (f g : Runs) (first page q : ℕ) (r : Run) → AreCut f g first page r → IsCutAt f q → IsCutAt g q
-cut_before f g first page q r cut was = λ k s is less.
-    before_by f g first page q k r s cut was (piece f g first page k r s cut is) less
-
--- ---- runs taken out between two cuts
-
--- each run of f is still there, or was taken from between the two pages
-abbrev pub AreParted : Runs → Runs → Runs → ℕ → ℕ → Type 0
-AreParted f left taken first end =
-    (k : ℕ) → ((left k ≡ f k) × (taken k ≡ None)) ⊎ ((left k ≡ None) × (taken k ≡ f k) × (first ≤ k) × (k < end))
-
-pub left_of : (f left taken : Runs) (first end k : ℕ) (r : Run) → AreParted f left taken first end → left k ≡ Some r → f k ≡ Some r
-left_of f left taken first end k r parted is =
-    elim (parted k) [
-      | inl still ↦ sym still.0 ∙ is
-      | inr gone ↦ absurd (let none : left k ≡ None = gone.0 in cc)
-    ]
-
-pub taken_of : (f left taken : Runs) (first end k : ℕ) (r : Run) → AreParted f left taken first end → taken k ≡ Some r
-    → (f k ≡ Some r) × (first ≤ k) × (k < end)
-taken_of f left taken first end k r parted is =
-    elim (parted k) [
-      | inl still ↦ absurd (let none : taken k ≡ None = still.1 in cc)
-      | inr gone ↦ (sym gone.1 ∙ is, gone.2, gone.3)
-    ]
-
--- no run is left between the pages, and none has pages on both sides of either
-pub record AllTaken (f left taken : Runs) (first end : ℕ) : Type 0 where
-  pub order : first ≤ end
-  pub whole : AreApart f
-  pub less : AreApart left
-  pub others : AreApart taken
-  pub at_first : IsCutAt f first
-  pub at_end : IsCutAt f end
-  pub parted : AreParted f left taken first end
-  pub none : (k : ℕ) → first ≤ k → k < end → left k ≡ None
-
--- a run that holds a page between them begins there, and was taken
-inside_taken : (f left taken : Runs) (first end p k : ℕ) (r : Run) → AllTaken f left taken first end → f k ≡ Some r → Holds k r p
-    → first ≤ p
-    → p < end → (left k ≡ None) × (taken k ≡ Some r)
-inside_taken f left taken first end p k r all is h from below =
-    elim (cases_lt k first) [
-      | inl before ↦ absurd (omega (arith, all.at_first k r is before, h.1, from))
-      | inr after ↦
-          let none : left k ≡ None = all.none k after (omega (arith, h.0, below)) in
-          elim (all.parted k) [
-            | inl still ↦ absurd (let clash : None ≡ Some r = sym none ∙ still.0 ∙ is in cc)
-            | inr gone ↦ (none, gone.1 ∙ is)
-          ]
-    ]
-
--- one that holds another page was left
-outside_left : (f left taken : Runs) (first end p k : ℕ) (r : Run) → AllTaken f left taken first end → f k ≡ Some r → Holds k r p
-    → ((p < first) ⊎ (end ≤ p)) → left k ≡ Some r
-outside_left f left taken first end p k r all is h out =
-    elim (all.parted k) [
-      | inl still ↦ still.0 ∙ is
-      | inr gone ↦ elim out [
-        | inl before ↦ absurd (omega (arith, gone.2, h.0, before))
-        | inr past ↦ absurd (omega (arith, all.at_end k r is gone.3, h.1, past))
-      ]
-    ]
-
-pub left_pages : (f left taken : Runs) (first end p : ℕ) → AllTaken f left taken first end
-    → by_runs left p p ≡ without (range first (end - first)) (λ q. by_runs f q q) p
-left_pages f left taken first end p all =
-    let r = range first (end - first) in
-    elim (within_or_not r p) [
-      | inl inside ↦ rw (within_is r p inside) (not_held left p (λ k s is h.
-          let was = left_of f left taken first end k s all.parted is in
-          let gone = inside_taken f left taken first end p k s all was h inside.0 (omega (arith, inside.1, all.order)) in
-          let clash : None ≡ Some s = sym gone.0 ∙ is in absurd cc))
-      | inr out ↦
-          let other : (p < first) ⊎ (end ≤ p) = elim out [ inl before ↦ inl before | inr past ↦ inr (omega (arith, past, all.order)) ] in
-          rw (within_not r p out) (same_runs f left p all.whole all.less
-          (λ k s h is. outside_left f left taken first end p k s all is h other)
-          (λ k s h is. left_of f left taken first end k s all.parted is))
-    ]
-
-pub taken_pages : (f left taken : Runs) (first end p : ℕ) → AllTaken f left taken first end
-    → by_runs taken p p ≡ restricted (range first (end - first)) (λ q. by_runs f q q) p
-taken_pages f left taken first end p all =
-    let r = range first (end - first) in
-    elim (within_or_not r p) [
-      | inl inside ↦ rw (within_is r p inside) (same_runs f taken p all.whole all.others
-          (λ k s h is. (inside_taken f left taken first end p k s all is h inside.0 (omega (arith, inside.1, all.order))).1)
-          (λ k s h is. (taken_of f left taken first end k s all.parted is).0))
-      | inr out ↦
-          let other : (p < first) ⊎ (end ≤ p) = elim out [ inl before ↦ inl before | inr past ↦ inr (omega (arith, past, all.order)) ] in
-          rw (within_not r p out) (not_held taken p (λ k s is h.
-          let was = taken_of f left taken first end k s all.parted is in
-          elim other [
-            | inl before ↦ omega (arith, was.1, h.0, before)
-            | inr past ↦ omega (arith, all.at_end k s was.0 was.2, h.1, past)
-          ]))
-    ]

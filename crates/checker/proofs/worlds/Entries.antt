@@ -10,6 +10,7 @@ use Rattle.checker.specs.declared.run.Run.{Run}
 use Rattle.checker.specs.Runs.{AreApart, Holds, by_runs}
 use Rattle.checker.proofs.worlds.Keys.{is_other}
 use Rattle.checker.proofs.worlds.Runs.{HasMore}
+use Rattle.checker.proofs.worlds.Taken.{HasLess}
 
 pub unchanged_apart : (old new : BTreeMap ℕ Run) → IsUnchanged old new → AreApart (tree.get nat_cmp old) → AreApart (tree.get nat_cmp new)
 unchanged_apart old new same a = subst (λ (es : List (ℕ × Run)). AreApart (λ k. lookup (is_at (nat_cmp k)) es)) (sym same) a
@@ -37,3 +38,7 @@ more_of old new first r put some ends frames free = record {
   frames = frames;
   free = free;
 }
+
+pub less_of : (old new : BTreeMap ℕ Run) (first : ℕ) (r : Run) → tree.get nat_cmp old first ≡ Some r → Updates nat_cmp old new first None
+    → HasLess (tree.get nat_cmp old) (tree.get nat_cmp new) first r
+less_of old new first r there gone = record { there = there; gone = gone.1; others = other_run old new first None gone }

@@ -28,7 +28,7 @@ invariant_of-self-2 c =
     let mid = c.insert.new.self in
     let new = c.insert-2.new.self in
     let r = c.args.run in
-    let less : c.args.first < c.args.page = omega (arith, c.requires.holds, c.if-first-page.false) in
+    let less : c.args.first < c.args.page = c.requires.less in
     let front : Run = front_of c.args.first c.args.page r in
     let rest : Run = rest_of c.args.first c.args.page r in
     let put : Updates nat_cmp old mid c.args.first (Some front) = c.in_ok-insert.ensures.updates in
@@ -36,9 +36,9 @@ invariant_of-self-2 c =
       apart = put_apart c.insert-2.result mid new c.args.page rest c.insert-2.ensures.updates c.insert-2.ensures.err
           (shorter_apart (tree.get nat_cmp old) (tree.get nat_cmp mid) c.args.first c.args.page r c.args.self.now.apart c.requires.there
           less
-          c.requires.holds.1 put.1 (other_run old mid c.args.first (Some front) put))
+          c.requires.below put.1 (other_run old mid c.args.first (Some front) put))
           (λ then_put. cut_apart (tree.get nat_cmp old) (tree.get nat_cmp new) c.args.first c.args.page r c.args.self.now.apart
-          (cut_of old mid new c.args.first c.args.page r c.requires.there less c.requires.holds.1 put then_put));
+          (cut_of old mid new c.args.first c.args.page r c.requires.there less c.requires.below put then_put));
     }
 
 pub returns-clause-same : goal.returns-clause-same
@@ -46,7 +46,7 @@ returns-clause-same c = λ p.
     let old = c.args.self.now.runs in
     let mid = c.insert.new.self in
     let new = c.insert-2.new.self in
-    let less : c.args.first < c.args.page = omega (arith, c.requires.holds, c.if-first-page.false) in
+    let less : c.args.first < c.args.page = c.requires.less in
     cut_same (tree.get nat_cmp old) (tree.get nat_cmp new) c.args.first c.args.page p c.args.run c.args.self.now.apart
-    (cut_of old mid new c.args.first c.args.page c.args.run c.requires.there less c.requires.holds.1 c.in_ok-insert.ensures.updates
+    (cut_of old mid new c.args.first c.args.page c.args.run c.requires.there less c.requires.below c.in_ok-insert.ensures.updates
     c.in_ok-insert-2.ensures.updates)

@@ -1,17 +1,12 @@
-use Rattle.std.proofs.Common.{◌≡◌, ◌≤◌, ℕ, None, Some, refl, arith}
+use Rattle.std.proofs.Common.{◌≤◌, ℕ, refl, arith}
 use Rattle.std.specs.BTreeMap.Range.{IsRangeOf}
 use Rattle.std.specs.Ordering.{nat_cmp}
-use Rattle.std.specs.Prelude.{Option}
 use Rattle.std.specs.declared.ops.Bound.TheVariants.{Included, Unbounded}
 use Rattle.std.proofs.lemmas.Map.Keys.{ge_from_not_lt, le_from_not_gt}
 use Rattle.checker.specs.declared.run.Run.{Run}
 use Rattle.checker.specs.Pages.{runs_of}
-use Rattle.checker.proofs.worlds.Keys.{not_greater}
+use Rattle.checker.proofs.worlds.Keys.{no_run, not_greater}
 use Rattle.checker.proofs.pages.Pages.last_run.Goals as goal
-
-no_run : (o : Option Run) → ((r : Run) → o ≡ Some r → ⊥) → o ≡ None
-no_run None h = refl
-no_run (Some r) h = absurd (h r refl)
 
 pub returns : goal.returns
 returns c =

@@ -1,0 +1,32 @@
+use Rattle.std.specs.BTreeMap as tree
+use Rattle.std.specs.Ordering.{nat_cmp}
+use Rattle.std.proofs.Common.{None}
+use Rattle.checker.proofs.worlds.Entries.{less_of, other_run}
+use Rattle.checker.proofs.worlds.Taken.{fewer_apart, less_pages, none_less}
+use Rattle.checker.proofs.pages.Pages.remove_at.Goals as goal
+
+pub invariant_of-self : goal.invariant_of-self
+invariant_of-self c =
+    let old = c.args.self.now.runs in
+    let new = c.remove.new.self in
+    record {
+      apart = fewer_apart (tree.get nat_cmp old) (tree.get nat_cmp new) c.args.page c.args.self.now.apart c.remove.ensures.updates.1
+          (other_run old new c.args.page None c.remove.ensures.updates);
+    }
+
+pub returns-clause-left : goal.returns-clause-left
+returns-clause-left c = λ r there p.
+    let old = c.args.self.now.runs in
+    let new = c.remove.new.self in
+    less_pages (tree.get nat_cmp old) (tree.get nat_cmp new) c.args.page p r c.args.self.now.apart
+    (fewer_apart (tree.get nat_cmp old) (tree.get nat_cmp new) c.args.page c.args.self.now.apart c.remove.ensures.updates.1
+    (other_run old new c.args.page None c.remove.ensures.updates)) (less_of old new c.args.page r there c.remove.ensures.updates)
+
+pub returns-clause-same : goal.returns-clause-same
+returns-clause-same c = λ none.
+    let old = c.args.self.now.runs in
+    let new = c.remove.new.self in
+    let others = other_run old new c.args.page None c.remove.ensures.updates in
+    none_less (tree.get nat_cmp old) (tree.get nat_cmp new) c.args.page c.args.self.now.apart
+    (fewer_apart (tree.get nat_cmp old) (tree.get nat_cmp new) c.args.page c.args.self.now.apart c.remove.ensures.updates.1 others) none
+    c.remove.ensures.updates.1 others
