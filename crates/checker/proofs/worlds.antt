@@ -3,6 +3,7 @@ pub mod Keys
 pub mod Runs
 pub mod Cuts
 pub mod Taken
+pub mod Rising
 pub mod Entries
 pub mod Reached
 pub mod Attached

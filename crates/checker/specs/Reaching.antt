@@ -9,7 +9,7 @@ use Rattle.dmatypes.specs.Allows.{host_of}
 use Rattle.dmatypes.specs.Page.{byte_address, offset_of, page_of}
 use Rattle.dmatypes.specs.World.{Target, is_within}
 use Rattle.checker.specs.declared.record.Record.{Record}
-use Rattle.checker.specs.Pages.{target_at}
+use Rattle.checker.specs.Taken.{taken_at}
 
 -- the access is permitted
 abbrev pub permits : ℕ → Access → Bool
@@ -29,7 +29,7 @@ reaches_by address access reply (Some t) = permits t.rights access && is_host t 
 -- the page of the address is in the record, and the reply is that of what was mapped there, with the right
 abbrev pub reaches : ℕ → Access → Reply → Record → Bool
 reaches address access reply r =
-    is_within r.range (page_of address) && reaches_by address access reply (target_at r.targets (page_of address))
+    is_within r.range (page_of address) && reaches_by address access reply (taken_at r.targets (page_of address))
 
 -- the host address of a target with the right
 abbrev pub hosts_by : ℕ → Access → Option Target → List Reply
@@ -39,7 +39,7 @@ hosts_by address access (Some t) = if permits t.rights access then Host (host_of
 -- that of what was mapped at the page of the address, where this is in the record
 abbrev pub hosts_in : ℕ → Access → Record → List Reply
 hosts_in address access r =
-    if is_within r.range (page_of address) then hosts_by address access (target_at r.targets (page_of address)) else []
+    if is_within r.range (page_of address) then hosts_by address access (taken_at r.targets (page_of address)) else []
 
 -- those by all of the records
 abbrev pub hosts : ℕ → Access → List Record → List Reply

@@ -13,9 +13,10 @@ use Rattle.checker.specs.declared.domain.Domain.{Domain}
 use Rattle.checker.specs.declared.checker.Checker.{Checker}
 use Rattle.checker.specs.declared.record.Record.{Record}
 use Rattle.checker.specs.Pages.{target_at}
+use Rattle.checker.specs.Taken.{taken_at}
 
 abbrev pub retired_of : Record → Retired
-retired_of r = record { range = r.range; targets = target_at r.targets; mark = r.mark }
+retired_of r = record { range = r.range; targets = taken_at r.targets; mark = r.mark }
 
 abbrev pub domain_of : Domain → world.Domain
 domain_of d =

@@ -36,6 +36,7 @@ mod record;
 mod refusing;
 mod run;
 mod searching;
+mod taken;
 mod target;
 mod ticket;
 mod trace;

@@ -5,6 +5,7 @@ ghost use Rattle.std.specs.Ordering.{nat_cmp};
 ghost use Rattle.checker.specs.Runs.{AreApart};
 
 use crate::run::Run;
+use crate::taken::Taken;
 use crate::target::Target;
 use dmatypes::Segment;
 use std::alloc::{AllocError, Global};
@@ -25,6 +26,7 @@ impl Pages {
     ghost use Rattle.dmatypes.specs.Conditions.{total_pages};
     ghost use Rattle.dmatypes.specs.World.{placed, restricted, without};
     ghost use Rattle.checker.specs.Pages.{AllAreMappedIn, IsMappedIn, IsUnmappedIn, NoneIsMappedIn, range, runs_of, target_at};
+    ghost use Rattle.checker.specs.Taken.{taken_at};
     ghost use Rattle.checker.specs.Runs.{Holds, IsCutAt, IsFrontOf, Leaves, by_rest};
 
     /// No page is mapped.
@@ -156,16 +158,16 @@ impl Pages {
         alloc: Global,
         first: u64,
         pages: u64,
-    ) -> Result<Pages, AllocError>
+    ) -> Result<Taken, AllocError>
         requires { first + pages < 2 ^ 64 }
         ensures left { OnOk result ((p : ℕ) → target_at self.new p ≡ without (range first pages) (target_at self.old) p) }
-        ensures taken { IfOk result (λ t. (p : ℕ) → target_at t p ≡ restricted (range first pages) (target_at self.old) p) }
+        ensures taken { IfOk result (λ t. (p : ℕ) → taken_at t p ≡ restricted (range first pages) (target_at self.old) p) }
     {
         let end = first + pages;
-        let mut taken = Pages::new(alloc);
+        let mut taken = Taken::with_room(alloc, pages)?;
         let mut page = first;
         while let Some((start, run)) = self.pop_run(page, end)? {
-            taken.put(start, run.segment(), run.rights)?;
+            taken.push(start, run)?;
             page = start + run.pages;
         }
         Ok(taken)

@@ -4,7 +4,7 @@ ghost use Rattle.std.specs.Prelude.{◌≡◌, MatchOption, [], ◌∷◌};
 ghost use Rattle.dmatypes.specs.declared.reply.Reply.TheVariants.{Host};
 ghost use Rattle.checker.specs.Reaching.{hosts_by, reaches_by};
 
-use crate::pages::Pages;
+use crate::taken::Taken;
 use crate::target::Target;
 use dmatypes::{Access, PAGE_BYTES, PageRange, Reply};
 
@@ -13,7 +13,7 @@ use dmatypes::{Access, PAGE_BYTES, PageRange, Reply};
 pub(crate) struct Record {
     pub(crate) range: PageRange,
     pub(crate) mark: u64,
-    targets: Pages,
+    targets: Taken,
 }
 
 impl Record {
@@ -25,7 +25,7 @@ impl Record {
     ghost use Rattle.checker.specs.World.{do_meet, retired_of};
 
     /// The record of a range that was unmapped.
-    pub(crate) fn new(range: PageRange, mark: u64, targets: Pages) -> Record
+    pub(crate) fn new(range: PageRange, mark: u64, targets: Taken) -> Record
         ensures { result ≡ record { range = range; mark = mark; targets = targets } }
     {
         Record {

@@ -16,7 +16,7 @@ use Rattle.dmatypes.specs.World.{IsIn, Retired, Target, is_within}
 use Rattle.dmatypes.proofs.numbers.Ranges.{within_is}
 use Rattle.checker.specs.declared.domain.Domain.{Domain}
 use Rattle.checker.specs.declared.record.Record.{Record}
-use Rattle.checker.specs.Pages.{target_at}
+use Rattle.checker.specs.Taken.{taken_at}
 use Rattle.checker.specs.Allowed.{AreAllowedIn}
 use Rattle.checker.specs.Reaching.{hosts, hosts_by, hosts_in, is_host, permits, reaches, reaches_by}
 use Rattle.checker.specs.World.{domain_of, retired_of}
@@ -80,8 +80,8 @@ pub reached : (d : Domain) (address : ℕ) (access : Access) (reply : Reply) →
 reached d address access reply e =
     let p = page_of address in
     let k = any_in (λ (r : Record). reaches address access reply r) d.retired.items e in
-    let both = and_parts (is_within k.0.range p) (reaches_by address access reply (target_at k.0.targets p)) k.2 in
-    let c = comes_by address access reply (target_at k.0.targets p) both.1 in (
+    let both = and_parts (is_within k.0.range p) (reaches_by address access reply (taken_at k.0.targets p)) k.2 in
+    let c = comes_by address access reply (taken_at k.0.targets p) both.1 in (
       c.0,
       ((retired_of k.0, to_map retired_of k.0 d.retired.items k.1, is_inside k.0.range p both.0, c.1), c.2),
       c.3,
@@ -94,10 +94,10 @@ to_reach d address access reply h =
     let retired = h.1.0 in
     let k = in_map retired_of retired.0 d.retired.items retired.1 in
     let within : IsWithin k.0.range p = subst (λ (r : Retired). IsWithin r.range p) k.2 retired.2 in
-    let at : target_at k.0.targets p ≡ Some h.0 = subst (λ (r : Retired). r.targets p ≡ Some h.0) k.2 retired.3 in
+    let at : taken_at k.0.targets p ≡ Some h.0 = subst (λ (r : Retired). r.targets p ≡ Some h.0) k.2 retired.3 in
     in_any (λ (r : Record). reaches address access reply r) k.0 d.retired.items k.1
-    (and_from (is_within k.0.range p) (reaches_by address access reply (target_at k.0.targets p)) (within_is k.0.range p within)
-    (to_come address access reply (target_at k.0.targets p) h.0 at h.1.1 h.2))
+    (and_from (is_within k.0.range p) (reaches_by address access reply (taken_at k.0.targets p)) (within_is k.0.range p within)
+    (to_come address access reply (taken_at k.0.targets p) h.0 at h.1.1 h.2))
 
 -- ---- all answers, where no live page has the right
 
@@ -117,20 +117,20 @@ to_hosts_by address access reply o h =
     subst (λ (x : Option Target). IsIn reply (hosts_by address access x)) (sym h.1) (rw (to_permit h.0.rights access h.2) (inl h.3))
 
 in_hosts_in : (address : ℕ) (access : Access) (reply : Reply) (r : Record) → IsIn reply (hosts_in address access r)
-    → IsWithin r.range (page_of address) × ComesBy address access reply (target_at r.targets (page_of address))
+    → IsWithin r.range (page_of address) × ComesBy address access reply (taken_at r.targets (page_of address))
 in_hosts_in address access reply r h =
     let p = page_of address in
     elim (is_within r.range p)
-    as (λ b. is_within r.range p ≡ b → IsIn reply (cond b (hosts_by address access (target_at r.targets p)) [])
-    → IsWithin r.range p × ComesBy address access reply (target_at r.targets p)) [
-      | true ↦ λ is k. (is_inside r.range p is, in_hosts_by address access reply (target_at r.targets p) k)
+    as (λ b. is_within r.range p ≡ b → IsIn reply (cond b (hosts_by address access (taken_at r.targets p)) [])
+    → IsWithin r.range p × ComesBy address access reply (taken_at r.targets p)) [
+      | true ↦ λ is k. (is_inside r.range p is, in_hosts_by address access reply (taken_at r.targets p) k)
       | false ↦ λ is k. absurd k
     ] refl h
 
 to_hosts_in : (address : ℕ) (access : Access) (reply : Reply) (r : Record) → IsWithin r.range (page_of address)
-    → ComesBy address access reply (target_at r.targets (page_of address)) → IsIn reply (hosts_in address access r)
+    → ComesBy address access reply (taken_at r.targets (page_of address)) → IsIn reply (hosts_in address access r)
 to_hosts_in address access reply r within h =
-    rw (within_is r.range (page_of address) within) (to_hosts_by address access reply (target_at r.targets (page_of address)) h)
+    rw (within_is r.range (page_of address) within) (to_hosts_by address access reply (taken_at r.targets (page_of address)) h)
 
 in_hosts : (d : Domain) (address : ℕ) (access : Access) (reply : Reply) → IsIn reply (hosts address access d.retired.items)
     → Reached d address access reply
@@ -146,7 +146,7 @@ to_hosts d address access reply h =
     let retired = h.1.0 in
     let k = in_map retired_of retired.0 d.retired.items retired.1 in
     let within : IsWithin k.0.range p = subst (λ (r : Retired). IsWithin r.range p) k.2 retired.2 in
-    let at : target_at k.0.targets p ≡ Some h.0 = subst (λ (r : Retired). r.targets p ≡ Some h.0) k.2 retired.3 in
+    let at : taken_at k.0.targets p ≡ Some h.0 = subst (λ (r : Retired). r.targets p ≡ Some h.0) k.2 retired.3 in
     to_flat_map (hosts_in address access) reply k.0 d.retired.items k.1
     (to_hosts_in address access reply k.0 within (h.0, at, h.1.1, h.2))
 
