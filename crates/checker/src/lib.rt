@@ -32,6 +32,7 @@ pub mod laws;
 mod mapping;
 mod page_state;
 mod pages;
+mod reaching;
 mod record;
 mod refusing;
 mod run;

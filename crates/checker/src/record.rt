@@ -1,19 +1,20 @@
 //! Retired records.
 
-ghost use Rattle.std.specs.Prelude.{◌≡◌, MatchOption, [], ◌∷◌};
-ghost use Rattle.dmatypes.specs.declared.reply.Reply.TheVariants.{Host};
-ghost use Rattle.checker.specs.Reaching.{hosts_by, reaches_by};
+ghost use Rattle.std.specs.Prelude.{◌≡◌, ◌+◌};
 
+use crate::reaching::{host_by, reaches_by};
 use crate::taken::Taken;
-use crate::target::Target;
 use dmatypes::{Access, PAGE_BYTES, PageRange, Reply};
 
 /// Pages that were unmapped and may still be used: what was mapped there, and how many flushes were begun when they were unmapped.
 #[derive(Drop)]
 pub(crate) struct Record {
     pub(crate) range: PageRange,
+    // The page behind the range, which each map asks of each record.
+    end: u64,
     pub(crate) mark: u64,
     targets: Taken,
+    ghost ends: { end ≡ range.first + range.pages },
 }
 
 impl Record {
@@ -26,10 +27,13 @@ impl Record {
 
     /// The record of a range that was unmapped.
     pub(crate) fn new(range: PageRange, mark: u64, targets: Taken) -> Record
-        ensures { result ≡ record { range = range; mark = mark; targets = targets } }
+        ensures range { result.range ≡ range }
+        ensures mark { result.mark ≡ mark }
+        ensures targets { result.targets ≡ targets }
     {
         Record {
             range,
+            end: range.first() + range.pages(),
             mark,
             targets,
         }
@@ -39,8 +43,7 @@ impl Record {
     pub(crate) fn meets(&self, range: PageRange) -> bool
         ensures { result ≡ do_meet self.now.range range }
     {
-        self.range.first() < range.first() + range.pages()
-            && range.first() < self.range.first() + self.range.pages()
+        self.range.first() < range.first() + range.pages() && range.first() < self.end
     }
 
     /// Whether it was there before the flush of this number was begun.
@@ -79,7 +82,7 @@ impl Record {
         ensures here { IsWithin self.now.range result }
         ensures there { IsWithin range result }
     {
-        let here = self.range.first() + (self.range.pages() - 1);
+        let here = self.end - 1;
         let there = range.first() + (range.pages() - 1);
         here.min(there)
     }
@@ -88,26 +91,6 @@ impl Record {
     pub(crate) fn holds(&self, page: u64) -> bool
         ensures { result ≡ world.is_within self.now.range page }
     {
-        self.range.first() <= page && page < self.range.first() + self.range.pages()
-    }
-}
-
-fn host_by(target: Option<Target>, address: u64, access: Access) -> Option<u64>
-    ensures { MatchOption result (hosts_by address access target ≡ []) (λ host. hosts_by address access target ≡ Host host ∷ []) }
-{
-    let target = target?;
-    if target.permits(access) {
-        Some(target.host(address))
-    } else {
-        None
-    }
-}
-
-fn reaches_by(target: Option<Target>, address: u64, access: Access, reply: Reply) -> bool
-    ensures { result ≡ reaches_by address access reply target }
-{
-    match target {
-        None => false,
-        Some(target) => target.permits(access) && target.is_host(address, reply),
+        self.range.first() <= page && page < self.end
     }
 }
