@@ -1,7 +1,7 @@
 //! What all answers come to.
 
 use crate::traffic::Answered;
-use dmatypes::Reply;
+use dmatypes::{Progress, Reply};
 
 /// A number that tells other answers, or others in another order.
 #[derive(Clone, Copy, Debug, PartialEq, Eq)]
@@ -27,8 +27,8 @@ impl Digest {
             Reply::Mapped(address) => (3, address),
             Reply::Unmapped(released) => (4, released),
             Reply::Flushed(released) => (5, released),
-            Reply::Ticket { number, .. } => (6, number),
-            Reply::Stepped(_) => (7, 0),
+            Reply::Ticket { domain, number } => (6, number.wrapping_mul(16).wrapping_add(domain)),
+            Reply::Stepped(progress) => (7, u64::from(progress == Progress::Did)),
             Reply::Reaped(released) => (8, released),
             Reply::Pending => (9, 0),
             Reply::Host(address) => (10, address),

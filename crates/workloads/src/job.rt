@@ -49,6 +49,18 @@ const PROFILES: [Profile; 6] = [
 // The most calls of a script.
 const SCRIPT: u64 = 50_000;
 
+// Traffic on managers, each with a seed of its own.
+const NETWORK: &[(Profile, u64)] = &[
+    (Profile::Packets(Mode::Strict), 1),
+    (Profile::Packets(Mode::Lazy), 2),
+];
+
+const STORAGE: &[(Profile, u64)] = &[(Profile::Disks, 3)];
+
+const GUEST: &[(Profile, u64)] = &[(Profile::Guest, 4)];
+
+const HOLES: &[(Profile, u64)] = &[(Profile::Holes, 5), (Profile::Bursts, 6)];
+
 impl Job {
     /// Makes about so many calls, and answers what all answers come to.
     pub(crate) fn run<T: Wait>(
@@ -60,70 +72,38 @@ impl Job {
     ) -> Result<Digest, Failure> {
         let mut digest = Digest::new();
         match self {
-            Job::Network => {
-                let strict = Profile::Packets(Mode::Strict);
-                let lazy = Profile::Packets(Mode::Lazy);
-                drive(
-                    rt,
-                    alloc,
-                    strict,
-                    Random::new(seed, 1),
-                    calls / 2,
-                    &mut digest,
-                )?;
-                drive(
-                    rt,
-                    alloc,
-                    lazy,
-                    Random::new(seed, 2),
-                    calls / 2,
-                    &mut digest,
-                )?;
-            }
-            Job::Storage => {
-                drive(
-                    rt,
-                    alloc,
-                    Profile::Disks,
-                    Random::new(seed, 3),
-                    calls,
-                    &mut digest,
-                )?;
-            }
-            Job::Guest => {
-                drive(
-                    rt,
-                    alloc,
-                    Profile::Guest,
-                    Random::new(seed, 4),
-                    calls,
-                    &mut digest,
-                )?;
-            }
-            Job::Holes => {
-                let holes = Profile::Holes;
-                drive(
-                    rt,
-                    alloc,
-                    holes,
-                    Random::new(seed, 5),
-                    calls / 2,
-                    &mut digest,
-                )?;
-                drive(
-                    rt,
-                    alloc,
-                    Profile::Bursts,
-                    Random::new(seed, 6),
-                    calls / 2,
-                    &mut digest,
-                )?;
-            }
+            Job::Network => drive_all(rt, alloc, NETWORK, seed, calls, &mut digest)?,
+            Job::Storage => drive_all(rt, alloc, STORAGE, seed, calls, &mut digest)?,
+            Job::Guest => drive_all(rt, alloc, GUEST, seed, calls, &mut digest)?,
+            Job::Holes => drive_all(rt, alloc, HOLES, seed, calls, &mut digest)?,
             Job::Stream => stream_all(rt, alloc, seed, calls, &mut digest)?,
             Job::Check => check_all(rt, alloc, seed, calls, &mut digest)?,
         }
         Ok(digest)
     }
+}
+
+// The traffic of each part, one after the other, with as many calls each.
+fn drive_all<T: Wait>(
+    rt: &T,
+    alloc: Global,
+    parts: &[(Profile, u64)],
+    seed: u64,
+    calls: u64,
+    digest: &mut Digest,
+) -> Result<(), Failure> {
+    let each = calls.checked_div(parts.len() as u64).unwrap_or(0);
+    for (profile, stream) in parts {
+        drive(
+            rt,
+            alloc,
+            *profile,
+            Random::new(seed, *stream),
+            each,
+            digest,
+        )?;
+    }
+    Ok(())
 }
 
 // Scripts of all kinds of traffic, one after the other.

@@ -50,6 +50,13 @@ impl Line {
                 self.put(b" rw");
                 self.put_segments(segments.as_slice());
             }
+            _ => self.put_addressed(call),
+        }
+    }
+
+    // A call at an address.
+    fn put_addressed(&mut self, call: &Call) {
+        match call {
             Call::Unmap {
                 domain,
                 address,

@@ -104,8 +104,8 @@ impl Traffic {
                 return Ok(call);
             }
         }
+        // Until fewer are live than are to be: what is left of a range that was unmapped in part is one again.
         if self.step > 0 && self.is_full() {
-            self.step = 0;
             if let Some(range) = self.leaving() {
                 return self.unmap(range);
             }
