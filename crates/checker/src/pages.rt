@@ -144,6 +144,7 @@ impl Pages {
         requires { first + pages < 2 ^ 64 }
         ensures { OnOk result ((p : ℕ) → target_at self.new p ≡ without (range first pages) (target_at self.old) p) }
     {
+        self.part(first, pages)?;
         let end = first + pages;
         let mut page = first;
         while let Some((start, run)) = self.pop_run(page, end)? {
@@ -163,6 +164,7 @@ impl Pages {
         ensures left { OnOk result ((p : ℕ) → target_at self.new p ≡ without (range first pages) (target_at self.old) p) }
         ensures taken { IfOk result (λ t. (p : ℕ) → taken_at t p ≡ restricted (range first pages) (target_at self.old) p) }
     {
+        self.part(first, pages)?;
         let end = first + pages;
         let mut taken = Taken::with_room(alloc, pages)?;
         let mut page = first;
@@ -171,6 +173,29 @@ impl Pages {
             page = start + run.pages;
         }
         Ok(taken)
+    }
+
+    // Cuts what crosses the ends of a range that isn't just one run, so that all memory for that is asked for before a run leaves.
+    fn part(&mut self, first: u64, pages: u64) -> Result<(), AllocError>
+        requires { first + pages < 2 ^ 64 }
+        ensures { OnOk result ((p : ℕ) → target_at self.new p ≡ target_at self.old p) }
+    {
+        match self.runs.get(&first) {
+            Some(run) if run.pages == pages => return Ok(()),
+            _ => {}
+        }
+        self.cut_at(first)?;
+        self.cut_at(first + pages)
+    }
+
+    // The run that has pages on both sides of a page's beginning becomes two, where there is one.
+    fn cut_at(&mut self, page: u64) -> Result<(), AllocError>
+        ensures { OnOk result ((p : ℕ) → target_at self.new p ≡ target_at self.old p) }
+    {
+        match self.run_of(page) {
+            Some((first, run)) if first < page => self.cut_run(first, run, page),
+            _ => Ok(()),
+        }
     }
 
     // The first run that has pages between two pages leaves, as far as they lie there, and is handed out with its first page.
@@ -228,7 +253,8 @@ impl Pages {
         self.runs.remove(&page)
     }
 
-    // Of a run that left, the pages from another page on come back, and the others are handed out.
+    // Of a run that left, the pages from another page on come back, and the others are handed out. Behind `part` there are none of the
+    // first, so that nothing is asked for here.
     fn put_back(&mut self, first: u64, run: Run, end: u64) -> Result<Run, AllocError>
         requires order { first < end }
         requires some { 1 ≤ run.pages }
