@@ -1,8 +1,10 @@
 -- Segments of host frames, mapped one after the other from a first page on.
-use Rattle.std.specs.Prelude.{ℕ, ◌+◌, ◌-◌, ◌%◌, ◌≤◌, Bool, false, ◌&&◌, ◌==◌, nat_le, if◌then◌else◌, Option, Some, None, List, [], ◌∷◌}
+use Rattle.std.specs.Prelude.{◌≡◌, ℕ, ◌+◌, ◌-◌, ◌%◌, ◌≤◌, length, drop, Bool, false, ◌&&◌, ◌==◌, nat_le, if◌then◌else◌, Option, Some, None, List, [], ◌∷◌}
 use Rattle.dmatypes.specs.declared.page.TheConstants.{FRAMES_END, SPAN_PAGES}
 use Rattle.dmatypes.specs.declared.call.Segment.{Segment}
+use Rattle.dmatypes.specs.Conditions.{total_pages}
 use Rattle.dmatypes.specs.World.{is_within}
+use Rattle.tables.specs.declared.segments.Passed.{Passed}
 
 -- what is left of a page's segment from that page on
 unfoldable pub rest_at : List Segment → ℕ → ℕ → Option Segment
@@ -29,3 +31,11 @@ AreSegments (s ∷ ss) = (1 ≤ s.pages) × (s.frame + s.pages ≤ FRAMES_END) �
 -- a number of frames from one on
 abbrev pub one_segment : ℕ → ℕ → List Segment
 one_segment frame pages = record { frame = frame; pages = pages } ∷ []
+
+-- so many segments lie before a page, and the others follow one another from there on
+pub record ArePassed (segments : List Segment) (first page : ℕ) (passed : Passed) : Type 0 where
+  pub few : passed.count ≤ length segments
+  pub before : passed.start ≤ page
+  pub rest : (p : ℕ) → page ≤ p → rest_at segments first p ≡ rest_at (drop passed.count segments) passed.start p
+  pub left : AreSegments (drop passed.count segments)
+  pub end : passed.start + total_pages (drop passed.count segments) ≡ first + total_pages segments

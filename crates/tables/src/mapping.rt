@@ -16,7 +16,7 @@ use crate::entries::{TABLE_ENTRIES, entry, index_of, span_of, table_at};
 use crate::error::NoFrames;
 use crate::frames::Pool;
 use crate::piece::Piece;
-use crate::segments::is_large_at;
+use crate::segments::{Passed, is_large_at};
 use dmatypes::{Frame, MOST_LEVELS, PAGES_END, Rights, SPAN_PAGES, Segment};
 use vtdbits::{LargeTranslation, SsEntry};
 
@@ -247,7 +247,11 @@ fn map_pieces(
     ensures pool { IsPool pool.new }
 {
     let mut place = first;
-    while let Some(piece) = Piece::at(segments, first, place, rights) {
+    let mut passed = Passed {
+        count: 0,
+        start: first,
+    };
+    while let Some(piece) = Piece::at(segments, first, &mut passed, place, rights) {
         map_piece(pool, level, root, &piece);
         place = piece.to;
     }

@@ -5,7 +5,7 @@ ghost use Rattle.dmatypes.specs.Rights.{AreRights, bits_of};
 ghost use Rattle.dmatypes.specs.declared.page.TheConstants.{FRAMES_END, SPAN_PAGES};
 ghost use Rattle.dmatypes.specs.declared.width.TheConstants.{PAGES_END};
 
-use crate::segments::rest_at;
+use crate::segments::{Passed, rest_behind};
 use dmatypes::{FRAMES_END, PAGES_END, Rights, SPAN_PAGES, Segment};
 
 /// Pages in one span of 512, and the host frames from a first one on that they are to be mapped to.
@@ -26,16 +26,24 @@ impl Piece {
     ghost use Rattle.std.specs.Prelude.{ℕ, ◌*◌, ◌%◌, false, IfSome, IfNone};
     ghost use Rattle.dmatypes.specs.Conditions.{total_pages};
     ghost use Rattle.dmatypes.specs.World.{placed};
-    ghost use Rattle.tables.specs.Segments.{AreSegments, is_large_at};
+    ghost use Rattle.tables.specs.Segments.{AreSegments, ArePassed, is_large_at};
     ghost use Rattle.tables.specs.Pieces.{piece_states, is_large};
 
     /// The piece that begins at a page of the segments, which follow one another from a first page on: up to
-    /// the end of the page's segment or of its span.
-    pub(crate) fn at(segments: &[Segment], first: u64, page: u64, rights: Rights) -> Option<Piece>
+    /// the end of the page's segment or of its span. Segments before it were passed.
+    pub(crate) fn at(
+        segments: &[Segment],
+        first: u64,
+        passed: &mut Passed,
+        page: u64,
+        rights: Rights,
+    ) -> Option<Piece>
         requires segments { AreSegments segments.now }
         requires within { first + total_pages segments.now ≤ PAGES_END }
         requires after { first ≤ page }
         requires rights { AreRights (bits_of rights) }
+        requires passed { ArePassed segments.now first page passed.old }
+        ensures passed { ArePassed segments.now first page passed.new }
         ensures none { IfNone result (first + total_pages segments.now ≤ page) }
         ensures page { IfSome result (λ x. x.from ≡ page) }
         ensures within { IfSome result (λ x. x.to ≤ first + total_pages segments.now) }
@@ -45,7 +53,7 @@ impl Piece {
         ensures inner { IfSome result
             (λ x. 0 < x.to % SPAN_PAGES → is_large_at segments.now first (SPAN_PAGES * (x.to / SPAN_PAGES)) ≡ false) }
     {
-        let rest = rest_at(segments, first, page)?;
+        let rest = rest_behind(segments, first, passed, page)?;
         let to = (page + rest.pages).min((page / SPAN_PAGES + 1) * SPAN_PAGES);
         Some(Piece {
             from: page,

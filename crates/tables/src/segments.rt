@@ -2,7 +2,7 @@
 
 ghost use Rattle.std.specs.Prelude.{◌≡◌, ◌+◌, ◌<◌, ◌≤◌, ◌^◌};
 ghost use Rattle.dmatypes.specs.Conditions.{total_pages};
-ghost use Rattle.tables.specs.Segments.{rest_at, is_large_at, AreSegments};
+ghost use Rattle.tables.specs.Segments.{rest_at, is_large_at, ArePassed, AreSegments};
 
 use dmatypes::{PAGES_END, SPAN_PAGES, Segment};
 
@@ -23,6 +23,41 @@ pub(crate) fn rest_at(segments: &[Segment], first: u64, page: u64) -> Option<Seg
             });
         }
         start = end;
+    }
+    None
+}
+
+/// How many segments lie before a page, and where the next one begins: who goes on from page to page need not pass them again.
+#[derive(Clone, Copy)]
+pub(crate) struct Passed {
+    pub(crate) count: usize,
+    pub(crate) start: u64,
+}
+
+/// As `rest_at`, where segments that lie before the page were passed already.
+pub(crate) fn rest_behind(
+    segments: &[Segment],
+    first: u64,
+    passed: &mut Passed,
+    page: u64,
+) -> Option<Segment>
+    requires segments { AreSegments segments.now }
+    requires within { first + total_pages segments.now ≤ PAGES_END }
+    requires passed { ArePassed segments.now first page passed.old }
+    ensures rest { result ≡ rest_at segments.now first page }
+    ensures passed { ArePassed segments.now first page passed.new }
+{
+    while passed.count < segments.len() {
+        let segment = &segments[passed.count];
+        let end = passed.start + segment.pages;
+        if page < end {
+            return Some(Segment {
+                frame: segment.frame + (page - passed.start),
+                pages: end - page,
+            });
+        }
+        passed.count += 1;
+        passed.start = end;
     }
     None
 }

@@ -13,7 +13,8 @@ use Rattle.dmatypes.specs.declared.call.Segment.{Segment}
 use Rattle.dmatypes.specs.World.{placed, is_within}
 use Rattle.dmatypes.proofs.numbers.Ranges.{within_is, within_not, within_or_not}
 use Rattle.vtdbits.specs.Translation.{target}
-use Rattle.tables.specs.Segments.{rest_at, fills_large, is_large_at, AreSegments}
+use Rattle.tables.specs.Segments.{rest_at, fills_large, is_large_at, ArePassed, AreSegments}
+use Rattle.tables.specs.declared.segments.Passed.{Passed}
 
 -- what is left of one segment from a page on
 abbrev pub rest_of : Segment → ℕ → ℕ → Segment
@@ -184,3 +185,56 @@ inner_small ss first p to r e is inside some one = by_rest (rest_at ss first (SP
         let pages : SPAN_PAGES * (to / SPAN_PAGES) + s.pages - p ≡ r.pages = ap (λ (x : Segment). x.pages) same in
         absurd (omega arith))
         (cases_lt s.pages SPAN_PAGES)
+
+-- ---- segments that were passed
+
+pub none_passed : (ss : List Segment) (first : ℕ) → AreSegments ss → ArePassed ss first first (record { count = 0; start = first })
+none_passed ss first are = record {
+  few = omega arith;
+  before = omega arith;
+  rest = λ p low. refl;
+  left = are;
+  end = refl;
+}
+
+-- what lies before a page lies before each one behind it
+pub still_passed : (ss : List Segment) (first page to : ℕ) (passed : Passed) → page ≤ to → ArePassed ss first page passed
+    → ArePassed ss first to passed
+still_passed ss first page to passed low h = record {
+  few = h.few;
+  before = omega (arith, h.before);
+  rest = λ p high. h.rest p (omega arith);
+  left = h.left;
+  end = h.end;
+}
+
+-- the next segment, where it ends before the page
+pub one_passed : (ss : List Segment) (first page : ℕ) (passed : Passed) (d : Segment) → passed.count < length ss
+    → passed.start + (get_or ss passed.count d).pages ≤ page → ArePassed ss first page passed
+    → ArePassed ss first page (record { count = passed.count + 1; start = passed.start + (get_or ss passed.count d).pages })
+one_passed ss first page passed d some past h =
+    let s = get_or ss passed.count d in
+    let rest = drop (passed.count + 1) ss in
+    let cut : drop passed.count ss ≡ s ∷ rest = drop_at ss passed.count d some in
+    record {
+      few = omega arith;
+      before = past;
+      rest = λ p low. h.rest p low ∙ ap (λ xs. rest_at xs passed.start p) cut ∙ rest_out s rest passed.start p (inr (omega arith));
+      left = (subst (λ xs. AreSegments xs) cut h.left).2;
+      end = omega (arith, h.end, ap (λ xs. total_pages xs) cut, total-cons s rest);
+    }
+
+-- the page lies in it, where it doesn't
+pub rest_there : (ss : List Segment) (first page : ℕ) (passed : Passed) (d : Segment) → passed.count < length ss
+    → page < passed.start + (get_or ss passed.count d).pages → ArePassed ss first page passed
+    → Some (rest_of (get_or ss passed.count d) passed.start page) ≡ rest_at ss first page
+rest_there ss first page passed d some within h =
+    sym (h.rest page (omega arith) ∙ ap (λ xs. rest_at xs passed.start page) (drop_at ss passed.count d some)
+    ∙ rest_in (get_or ss passed.count d) (drop (passed.count + 1) ss) passed.start page h.before within)
+
+-- all were passed
+pub all_passed : (ss : List Segment) (first page : ℕ) (passed : Passed) → length ss ≤ passed.count → ArePassed ss first page passed
+    → None ≡ rest_at ss first page
+all_passed ss first page passed all h =
+    sym (h.rest page (omega arith) ∙ ap (λ xs. rest_at xs passed.start page) (drop_ended ss passed.count all)
+    ∙ rest-nil passed.start page)

@@ -18,7 +18,7 @@ use Rattle.tables.proofs.maps.TablesMade.{no_makes, makes_then}
 use Rattle.tables.proofs.maps.Mapped.{no_moves, no_maps, moves_then, maps_then, maps_said}
 use Rattle.tables.proofs.walks.Near.{span_pos}
 use Rattle.tables.proofs.sums.OverSpans.{div_mono}
-use Rattle.tables.proofs.maps.Placed.{not_large, rest_below}
+use Rattle.tables.proofs.maps.Placed.{none_passed, not_large, rest_below, still_passed}
 use Rattle.tables.proofs.mapping.map_pieces.Goals as goal
 
 -- the pages are in one span of the root
@@ -57,6 +57,7 @@ loop-piece-init c = record {
       (rest_below c.args.segments.now c.args.first (SPAN_PAGES * (c.args.first / SPAN_PAGES)) (omega (arith, inside)));
   ended = λ e. absurd (omega (arith, e, c.requires.some));
   pool = λ some. absurd (omega (arith, some));
+  passed = none_passed c.args.segments.now c.args.first c.requires.segments;
   makes = no_makes c.args.pool.now c.args.level c.args.root c.args.first (is_large_at c.args.segments.now c.args.first);
 }
 
@@ -139,6 +140,8 @@ loop-piece-preserved c =
       inner = c.in-Some.ensures.inner;
       ended = λ e. lacks_ended cur new c.args.level c.args.root x.from x.to (piece_states x) large (is_large x) here;
       pool = λ _. c.map_piece.ensures.pool;
+      passed =
+          still_passed c.args.segments.now c.args.first c.loop-piece.place x.to _ (omega (arith, at, some)) c.in-Some.ensures.passed;
       makes =
           makes_then c.args.pool.now cur new c.args.level c.args.root c.args.first x.from x.to says_it (piece_states x) large (is_large x)
           near (λ p low high. wide p low (omega arith)) made before here

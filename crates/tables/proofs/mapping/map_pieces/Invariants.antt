@@ -5,7 +5,7 @@ use Rattle.dmatypes.specs.Rights.{bits_of}
 use Rattle.dmatypes.specs.World.{placed}
 use Rattle.tables.specs.Pool.{memory, IsPool}
 use Rattle.tables.specs.Changes.{TakesAndGivesFrames, KeepsSpellings, MapsPages, MakesTables}
-use Rattle.tables.specs.Segments.{is_large_at}
+use Rattle.tables.specs.Segments.{ArePassed, is_large_at}
 use Rattle.tables.specs.Lacks.{tables_lacking, frames_to_map}
 use Rattle.tables.proofs.mapping.map_pieces.Given as goal
 
@@ -23,6 +23,7 @@ invariant-loop-piece l = record {
   ended : l.place ≡ l.first + total_pages l.segments
       → tables_lacking (memory l.pool.words) l.level l.root (is_large_at l.segments l.first) l.place l.place ≡ 0;
   pool : l.first < l.place → IsPool l.pool;
+  passed : ArePassed l.segments l.first l.place l.passed;
   makes : MakesTables l.initial.pool l.pool l.level l.root l.first l.place (is_large_at l.segments l.first);
 }
 
