@@ -5,3 +5,4 @@ pub mod Blocks
 pub mod Kept
 pub mod Known
 pub mod Marks
+pub mod Parts

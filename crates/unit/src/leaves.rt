@@ -7,21 +7,17 @@ ghost use Rattle.dmatypes.specs.declared.width.TheConstants.{PAGES_END};
 ghost use Rattle.unit.specs.Caches.{CachedLeaf};
 ghost use Rattle.unit.specs.Filters.{drops_leaf};
 ghost use Rattle.unit.specs.Lists.{Gains, TellsSame, with_entry};
-ghost use Rattle.unit.specs.Marks.{HasMark, IsMarked, place_of};
+ghost use Rattle.unit.specs.Marks.{AreMarked, HasMark, IsMarked, place_of};
 ghost use Rattle.unit.specs.Walking.{hold};
 
 use crate::entries::CachedLeaf;
-use crate::filters::forget;
-use crate::lists::remember;
+use crate::lists::is_there;
 use crate::lookups::first_leaf;
-use arrayvec::ArrayVec;
-use dmatypes::{MOST_CACHED_LEAVES, PAGES_END, SPAN_PAGES};
+use crate::recent::{LEAVES, Recent};
+use dmatypes::{PAGES_END, SPAN_PAGES};
 use std::fmt;
 use std::marker::Model;
 use vtdbits::{Descriptor, DomainId};
-
-/// The places for leaves.
-pub(crate) const LEAVES: usize = MOST_CACHED_LEAVES;
 
 // The places for marks: many more than there are leaves, so that few pages share theirs with a leaf.
 const MARKS: usize = 2048;
@@ -30,7 +26,7 @@ const MARKS: usize = 2048;
 /// its leaf goes; after as many new leaves as there are places the marks are made anew.
 #[derive(Drop)]
 pub(crate) struct Leaves {
-    list: ArrayVec<CachedLeaf, LEAVES>,
+    list: Recent,
     marks: [bool; MARKS],
     // How many leaves were marked since the marks were made anew.
     added: usize,
@@ -45,9 +41,9 @@ impl Model for Leaves {
 
     ghost Value = { List CachedLeaf };
 
-    ghost view = { λ s. s.list.items };
+    ghost view = { λ s. s.list };
 
-    ghost invariant = { λ s. AreMarked s.marks s.list.items };
+    ghost invariant = { λ s. AreMarked s.marks s.list };
 }
 
 impl Leaves {
@@ -56,7 +52,7 @@ impl Leaves {
         ensures { result ≡ [] }
     {
         Leaves {
-            list: ArrayVec::new(),
+            list: Recent::new(),
             marks: [false; MARKS],
             added: 0,
         }
@@ -78,7 +74,7 @@ impl Leaves {
         if !self.may_hold(domain, page) {
             return None;
         }
-        first_leaf(&self.list, domain, page)
+        first_leaf(self.list.as_slice(), domain, page)
     }
 
     /// Remembers a leaf, where `fill` says so: if it isn't there already it goes last, and a full list loses its first one.
@@ -95,12 +91,15 @@ impl Leaves {
             return;
         }
         let is_new = is_new || !self.may_hold(leaf.domain, leaf.first);
-        remember(&mut self.list, leaf, true, is_new);
+        if is_there(self.list.as_slice(), &leaf, is_new) {
+            return;
+        }
+        self.list.push(leaf);
         if self.added < LEAVES {
             mark(&mut self.marks, &leaf);
             self.added += 1;
         } else {
-            remake(&mut self.marks, &self.list);
+            mark_all(&mut self.marks, self.list.as_slice());
             self.added = 0;
         }
     }
@@ -116,7 +115,7 @@ impl Leaves {
                 return;
             }
         }
-        forget(&mut self.list, descriptor);
+        self.list.forget(descriptor);
     }
 
     /// Forgets the leaf at a place, counted from 0 and from the oldest, if there is one.
@@ -124,7 +123,7 @@ impl Leaves {
         ensures items { self.new ≡ remove self.old place }
         ensures few { length self.new ≤ length self.old }
     {
-        self.list.pop_at(place);
+        self.list.evict(place);
     }
 
     // Whether a page of a domain may have leaves.
@@ -166,22 +165,12 @@ fn mark(marks: &mut [bool; MARKS], leaf: &CachedLeaf)
     }
 }
 
-// Makes the marks anew. It stands apart, for whoever has room for all marks clears it at each call, whether it is needed or not.
-#[inline(never)]
-fn remake(marks: &mut [bool; MARKS], leaves: &[CachedLeaf])
-    ensures { (l : CachedLeaf) → IsIn l leaves.now → IsMarked marks.new l }
+// Marks the places of these leaves alone.
+fn mark_all(marks: &mut [bool; MARKS], leaves: &[CachedLeaf])
+    ensures { AreMarked marks.new leaves.now }
 {
-    *marks = marks_of(leaves);
-}
-
-// The marks of leaves.
-#[inline(always)]
-fn marks_of(leaves: &[CachedLeaf]) -> [bool; MARKS]
-    ensures { (l : CachedLeaf) → IsIn l leaves.now → IsMarked result l }
-{
-    let mut marks = [false; MARKS];
+    marks.fill(false);
     for leaf in leaves {
-        mark(&mut marks, leaf);
+        mark(marks, leaf);
     }
-    marks
 }

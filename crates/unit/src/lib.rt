@@ -27,6 +27,7 @@ pub mod laws;
 mod leaves;
 mod lists;
 mod lookups;
+mod recent;
 mod requests;
 mod telling;
 mod unit;

@@ -1,7 +1,7 @@
 //! Lists of bounded length that remember.
 
 ghost use Rattle.std.specs.Prelude.{◌≡◌, ◌<◌, ◌≤◌, if◌then◌else◌, length, IsTrue};
-ghost use Rattle.unit.specs.Lists.{IsNew, with_entry};
+ghost use Rattle.unit.specs.Lists.{IsNew, is_there, with_entry};
 
 use arrayvec::ArrayVec;
 
@@ -26,4 +26,13 @@ pub(crate) fn remember<T: Copy + Default + PartialEq, const N: usize>(
         list.remove(0);
     }
     list.push(entry);
+}
+
+/// Whether an entry is in a list. Where `is_new` says that it isn't, the list isn't looked through for it.
+#[tactic(auto, unfolding(crate::specs::Lists::is_there, crate::specs::Lists::IsNew))]
+pub(crate) fn is_there<T: PartialEq>(list: &[T], entry: &T, is_new: bool) -> bool
+    requires { IsTrue is_new → IsNew T.eq entry.now list.now }
+    ensures { result ≡ is_there T.eq entry.now list.now }
+{
+    !is_new && list.contains(entry)
 }

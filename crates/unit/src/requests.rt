@@ -10,9 +10,10 @@ ghost use Rattle.unit.specs.Answers.{HasNoContext, IsContextOf, IsLowest, IsRead
 
 use crate::contexts::Contexts;
 use crate::entries::{CachedContext, CachedFault, CachedNonLeaf};
-use crate::leaves::{LEAVES, Leaves};
+use crate::leaves::Leaves;
 use crate::lists::remember;
 use crate::lookups::{first_context, is_absent, lowest_table};
+use crate::recent::LEAVES;
 use crate::walking::{NON_LEAVES, Way, walk};
 use arrayvec::ArrayVec;
 use dmatypes::{

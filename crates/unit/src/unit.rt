@@ -44,7 +44,7 @@ pub struct Unit {
 impl Model for Unit {
     ghost use Rattle.std.specs.Prelude.{◌+◌};
     ghost use Rattle.unit.specs.Caches.{AreFew, HavePlaces, UnitState, unit_state, caches};
-    ghost use Rattle.unit.specs.declared.leaves.TheConstants.{LEAVES};
+    ghost use Rattle.unit.specs.declared.recent.TheConstants.{LEAVES};
     ghost use Rattle.unit.specs.declared.requests.TheConstants.{CONTEXTS, FAULTS};
     ghost use Rattle.unit.specs.declared.walking.TheConstants.{NON_LEAVES};
 

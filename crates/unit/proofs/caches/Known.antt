@@ -1,11 +1,12 @@
 -- What isn't in a list that was looked through.
-use Rattle.std.proofs.Common.{◌≡◌, Bool, true, false, List, [], ◌∷◌, ◌||◌, None, find, ◌&&◌, refl, sym, ap, ◌∙◌, inl, inr, ℕ, if◌then◌else◌, ap₂, ◌++◌, nat_lt, length, drop, subst}
+use Rattle.std.proofs.Common.{◌≡◌, Bool, true, false, List, [], ◌∷◌, ◌||◌, None, find, ◌&&◌, refl, sym, ap, ◌∙◌, inl, inr, ℕ, if◌then◌else◌, ap₂, ◌++◌, nat_lt, length, drop, subst, ◌⊎◌, ◌≤◌, ◌<◌, arith, length-append, length-drop, IsTrue}
+use Rattle.std.proofs.lemmas.Bool.Decides.{nat_tests}
 use Rattle.std.specs.List.{list_any}
 use Rattle.std.proofs.lemmas.Bool.{false≢true}
 use Rattle.dmatypes.specs.World.{IsIn}
-use Rattle.unit.specs.Lists.{IsNew, TellsSame, with_entry}
+use Rattle.unit.specs.Lists.{IsNew, TellsSame, is_there, with_entry, with_last}
 use Rattle.unit.proofs.caches.Found.{find_none}
-use Rattle.unit.proofs.caches.Remembered.{any_in}
+use Rattle.unit.proofs.caches.Remembered.{any_in, in_last, in_push, in_rest}
 
 -- an entry that isn't in a list is new
 pub new_outside : {A : Type 0} (same : A → A → Bool) (x : A) (xs : List A) → ((y : A) → same y x ≡ true → y ≡ x)
@@ -52,11 +53,70 @@ any_same : {A : Type 0} (p q : A → Bool) (xs : List A) → ((y : A) → p y �
 any_same p q [] e = refl
 any_same p q (y ∷ ys) e = ap₂ (λ a b. a || b) (e y) (any_same p q ys e)
 
--- so a list remembers the same by both
-pub with_same : {A : Type 0} (s t : A → A → Bool) (most : ℕ) (x : A) (xs : List A) → ((y : A) → s y x ≡ true → y ≡ x)
-    → s x x ≡ true → TellsSame t → with_entry s most x xs ≡ with_entry t most x xs
-unfolding with_entry
-with_same {A} s t most x xs law itself tells =
-    ap (λ b. if b then xs else (if nat_lt (length xs) most then xs ++ x ∷ [] else drop 1 xs ++ x ∷ []))
-    (any_same (λ y. s y x) (λ y. t y x) xs (λ y.
-    same_test (s y x) (t y x) (λ h. (tells y x).1 (law y h)) (λ h. subst (λ (z : A). s z x ≡ true) (sym ((tells y x).0 h)) itself)))
+-- a list that has an entry remembers nothing more
+pub with_there : {A : Type 0} (s t : A → A → Bool) (most : ℕ) (x : A) (xs : List A) → ((y : A) → s y x ≡ true → y ≡ x)
+    → s x x ≡ true → TellsSame t → is_there s x xs ≡ true → xs ≡ with_entry t most x xs
+unfolding with_entry is_there
+with_there {A} s t most x xs law itself tells there =
+    let same : list_any (λ y. t y x) xs ≡ true =
+    any_same (λ y. t y x) (λ y. s y x) xs (λ y.
+    same_test (t y x) (s y x) (λ h. subst (λ (z : A). s z x ≡ true) (sym ((tells y x).0 h)) itself) (λ h. (tells y x).1 (law y h)))
+    ∙ there in
+    rw same refl
+
+-- and another one remembers it at its end
+pub with_new : {A : Type 0} (s t : A → A → Bool) (most : ℕ) (x : A) (xs : List A) → ((y : A) → s y x ≡ true → y ≡ x)
+    → s x x ≡ true → TellsSame t → is_there s x xs ≡ false → with_last most x xs ≡ with_entry t most x xs
+unfolding with_entry is_there with_last
+with_new {A} s t most x xs law itself tells there =
+    let other : list_any (λ y. t y x) xs ≡ false =
+    any_same (λ y. t y x) (λ y. s y x) xs (λ y.
+    same_test (t y x) (s y x) (λ h. subst (λ (z : A). s z x ≡ true) (sym ((tells y x).0 h)) itself) (λ h. (tells y x).1 (law y h)))
+    ∙ there in
+    rw other refl
+
+pub there_in : {A : Type 0} (s : A → A → Bool) (x : A) (xs : List A) → ((y : A) → s y x ≡ true → y ≡ x) → is_there s x xs ≡ true
+    → IsIn x xs
+unfolding is_there
+there_in s x xs law there = any_in s x xs law there
+
+-- what a list with one more at its end has
+pub in_with_last : {A : Type 0} (most : ℕ) (x y : A) (xs : List A) → IsIn y (with_last most x xs) → IsIn y xs ⊎ (y ≡ x)
+unfolding with_last
+in_with_last {A} most x y xs = by_room (nat_lt (length xs) most)
+  where
+    first_lost : IsIn y (drop 1 xs) ⊎ (y ≡ x) → IsIn y xs ⊎ (y ≡ x)
+    first_lost (inl h) = inl (in_rest y xs h)
+    first_lost (inr e) = inr e
+
+    by_room : (room : Bool) → IsIn y (if room then xs ++ x ∷ [] else drop 1 xs ++ x ∷ []) → IsIn y xs ⊎ (y ≡ x)
+    by_room true h = in_push x y xs h
+    by_room false h = first_lost (in_push x y (drop 1 xs) h)
+
+pub last_in : {A : Type 0} (most : ℕ) (x : A) (xs : List A) → IsIn x (with_last most x xs)
+unfolding with_last
+last_in {A} most x xs = by_room (nat_lt (length xs) most)
+  where
+    by_room : (room : Bool) → IsIn x (if room then xs ++ x ∷ [] else drop 1 xs ++ x ∷ [])
+    by_room true = in_last x xs
+    by_room false = in_last x (drop 1 xs)
+
+pub last_of_full : {A : Type 0} (most : ℕ) (x : A) (xs : List A) → most ≤ length xs → drop 1 xs ++ x ∷ [] ≡ with_last most x xs
+unfolding with_last
+last_of_full most x xs full = let test : nat_lt (length xs) most ≡ false = grind (arith, nat_tests) in rw test refl
+
+pub last_of_few : {A : Type 0} (most : ℕ) (x : A) (xs : List A) → length xs < most → xs ++ x ∷ [] ≡ with_last most x xs
+unfolding with_last
+last_of_few most x xs few = let test : nat_lt (length xs) most ≡ true = grind (arith, nat_tests) in rw test refl
+
+pub with_last_few : {A : Type 0} (most : ℕ) (x : A) (xs : List A) → 0 < most → length xs ≤ most → length (with_last most x xs) ≤ most
+unfolding with_last
+with_last_few {A} most x xs some few = by_room (nat_lt (length xs) most) refl
+  where
+    by_room : (room : Bool) → nat_lt (length xs) most ≡ room → length (if room then xs ++ x ∷ [] else drop 1 xs ++ x ∷ []) ≤ most
+    by_room true test = grind (arith, nat_tests, length-append {A = A})
+    by_room false test = grind (arith, nat_tests, length-append {A = A}, length-drop {A = A})
+
+pub gained_filled : {A B : Type 0} {fill : Bool} (x y : A) → fill ≡ true → B ⊎ (y ≡ x) → B ⊎ (IsTrue fill × (y ≡ x))
+gained_filled x y filled (inl h) = inl h
+gained_filled x y filled (inr e) = inr (filled, e)

@@ -23,7 +23,7 @@ in_push x y (z ∷ zs) (inr h) = behind (in_push x y zs h)
     behind (inl h) = inl (inr h)
     behind (inr e) = inr e
 
-in_rest : {A : Type 0} (y : A) (xs : List A) → IsIn y (drop 1 xs) → IsIn y xs
+pub in_rest : {A : Type 0} (y : A) (xs : List A) → IsIn y (drop 1 xs) → IsIn y xs
 in_rest y [] h = h
 in_rest y (x ∷ xs) h = inr h
 
@@ -74,7 +74,7 @@ gains_twice {A} fill Used Once Again xs ys zs once again first second = λ y h. 
     later y (inl h) = sooner y (first y h)
     later y (inr (f, u)) = inr (f, again y u)
 
-in_last : {A : Type 0} (x : A) (xs : List A) → IsIn x (xs ++ x ∷ [])
+pub in_last : {A : Type 0} (x : A) (xs : List A) → IsIn x (xs ++ x ∷ [])
 in_last x [] = inl refl
 in_last x (y ∷ ys) = inr (in_last x ys)
 

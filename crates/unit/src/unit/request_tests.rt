@@ -10,7 +10,7 @@ use super::tests::{
 };
 use super::*;
 use crate::entries::CachedLeaf;
-use crate::leaves::LEAVES;
+use crate::recent::LEAVES;
 use dmatypes::{Frame, PageRange, Rights, Width};
 use std::alloc::{AllocError, Global};
 use std::process::Abort;

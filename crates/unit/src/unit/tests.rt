@@ -2,7 +2,7 @@
 
 use super::*;
 use crate::entries::CachedLeaf;
-use crate::leaves::LEAVES;
+use crate::recent::LEAVES;
 use dmatypes::{Frame, Rights, Width};
 use std::process::Abort;
 use vtdbits::{DeviceNumber, DomainId, LargeTranslation, PageBlock, Translation};

@@ -4,7 +4,7 @@ use Rattle.unit.specs.Caches.{CachedLeaf}
 use Rattle.unit.proofs.caches.Marks.{more_marked}
 use Rattle.std.proofs.lemmas.List.{take_more, take_all}
 use Rattle.unit.proofs.caches.Remembered.{in_push}
-use Rattle.unit.proofs.leaves.marks_of.Goals as goal
+use Rattle.unit.proofs.leaves.mark_all.Goals as goal
 
 pub loop-leaf-preserved : goal.loop-leaf-preserved
 loop-leaf-preserved c =

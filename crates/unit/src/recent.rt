@@ -1,0 +1,129 @@
+//! A list of the last leaves that loses its first one without moving the others.
+
+ghost use Rattle.std.specs.Prelude.{◌≡◌, ◌<◌, ◌≤◌, [], ◌∷◌, ◌++◌, drop, filter, length, not, remove};
+ghost use Rattle.unit.specs.Filters.{drops_leaf};
+ghost use Rattle.unit.specs.Lists.{with_last};
+
+use crate::entries::CachedLeaf;
+use crate::filters::Cached;
+use arrayvec::ArrayVec;
+use dmatypes::MOST_CACHED_LEAVES;
+use std::fmt;
+use std::marker::Model;
+use vtdbits::Descriptor;
+
+/// The places for leaves.
+pub(crate) const LEAVES: usize = MOST_CACHED_LEAVES;
+
+// Half as many more, so that the leaves are moved to the front only once for so many new ones. A unit is moved where it is made, so more
+// room is more of the stack.
+const ROOM: usize = LEAVES + LEAVES / 2;
+
+/// Leaves, oldest first.
+#[derive(Drop)]
+pub(crate) struct Recent {
+    // Those that were lost, up to `start`, and behind them the leaves.
+    list: ArrayVec<CachedLeaf, ROOM>,
+    start: usize,
+}
+
+// Clauses see the list of the leaves.
+impl Model for Recent {
+    ghost use Rattle.std.specs.Prelude.{List, ◌≡◌, ◌+◌, ◌≤◌, drop, length};
+    ghost use Rattle.unit.specs.Caches.{CachedLeaf};
+
+    ghost Value = { List CachedLeaf };
+
+    ghost view = { λ r. drop r.start r.list.items };
+
+    ghost invariant = { λ r. (r.start ≤ length r.list.items) × (length r.list.items ≤ r.start + 64) };
+}
+
+impl Recent {
+    /// None.
+    pub(crate) fn new() -> Recent
+        ensures { result ≡ [] }
+    {
+        Recent {
+            list: ArrayVec::new(),
+            start: 0,
+        }
+    }
+
+    /// The leaves.
+    pub(crate) fn as_slice(&self) -> &[CachedLeaf]
+        ensures value { result.now ≡ self.now }
+        ensures few { length self.now ≤ LEAVES }
+    {
+        &self.list.as_slice()[self.start..]
+    }
+
+    /// Adds a leaf behind the others; a full list loses its first one.
+    pub(crate) fn push(&mut self, leaf: CachedLeaf)
+        ensures { self.new ≡ with_last LEAVES leaf self.old }
+    {
+        if self.as_slice().len() == LEAVES {
+            self.lose_first();
+        }
+        self.add(leaf);
+    }
+
+    // Loses the first of a full list.
+    fn lose_first(&mut self)
+        requires { length self.old ≡ LEAVES }
+        ensures { self.new ≡ drop 1 self.old }
+    {
+        self.start = self.list.len() - (LEAVES - 1);
+    }
+
+    // Adds a leaf to a list that has a place for it.
+    fn add(&mut self, leaf: CachedLeaf)
+        requires { length self.old < LEAVES }
+        ensures { self.new ≡ self.old ++ leaf ∷ [] }
+    {
+        if self.list.is_full() {
+            move_to_front(&mut self.list, self.start);
+            self.start = 0;
+        }
+        self.list.push(leaf);
+    }
+
+    /// Forgets the leaves that a descriptor drops.
+    pub(crate) fn forget(&mut self, descriptor: &Descriptor)
+        ensures items { self.new ≡ filter (λ l. not (drops_leaf descriptor.now l)) self.old }
+        ensures few { length self.new ≤ length self.old }
+    {
+        if !self.as_slice().iter().any(|leaf| leaf.goes(*descriptor)) {
+            return;
+        }
+        move_to_front(&mut self.list, self.start);
+        self.start = 0;
+        self.list.retain(|leaf| !leaf.goes(*descriptor));
+    }
+
+    /// Forgets the leaf at a place, counted from 0 and from the oldest, if there is one.
+    pub(crate) fn evict(&mut self, place: usize)
+        ensures items { self.new ≡ remove self.old place }
+        ensures few { length self.new ≤ length self.old }
+    {
+        if place < self.list.len() - self.start {
+            self.list.remove(self.start + place);
+        }
+    }
+}
+
+impl fmt::Debug for Recent {
+    fn fmt<W: fmt::Write>(&self, f: &mut fmt::Formatter<W>) -> fmt::Result {
+        f.debug_list().entries(self.as_slice()).finish()
+    }
+}
+
+// Leaves those of a list from a place on alone, at its front.
+fn move_to_front(list: &mut ArrayVec<CachedLeaf, ROOM>, start: usize)
+    requires { start ≤ length list.old.items }
+    ensures { list.new.items ≡ drop start list.old.items }
+{
+    let kept = list.len() - start;
+    list.as_mut_slice().rotate_left(start);
+    list.truncate(kept);
+}
