@@ -2,7 +2,7 @@
 use Rattle.std.specs.Prelude.{◌≡◌, ℕ, zero, suc, ◌+◌, ◌-◌, ◌^◌, ◌<◌, ◌≤◌, nat_lt, Option, Some, None, MatchOption, if◌then◌else◌}
 use Rattle.std.specs.Option.{option_or}
 use Rattle.dmatypes.specs.declared.page.TheConstants.{FRAMES_END}
-use Rattle.dmatypes.specs.World.{Target, is_within, without}
+use Rattle.dmatypes.specs.World.{Target, without}
 use Rattle.checker.specs.declared.run.Run.{Run}
 
 -- the run that begins at a page holds another page
@@ -33,15 +33,6 @@ pub record AreApart (runs : ℕ → Option Run) : Type 0 where
 -- no run has pages on both sides
 abbrev pub IsCutAt : (ℕ → Option Run) → ℕ → Type 0
 IsCutAt runs p = (k : ℕ) (r : Run) → runs k ≡ Some r → k < p → k + r.pages ≤ p
-
--- the run is another's first pages
-abbrev pub IsFrontOf : Run → Run → Type 0
-IsFrontOf r whole = (1 ≤ r.pages) × (r.pages ≤ whole.pages) × (r.frame ≡ whole.frame) × (r.rights ≡ whole.rights)
-
--- the pages of a run behind its first ones are mapped by it, and others as before
-abbrev pub by_rest : ℕ → Run → Run → ℕ → Option Target → Option Target
-by_rest first whole r p before =
-    if is_within (record { first = first + r.pages; pages = whole.pages - r.pages }) p then Some (target_of first whole p) else before
 
 -- of the pages from the one on and before the other, the first that are mapped are those of a run
 pub record HasFirst (now : ℕ → Option Target) (page end start : ℕ) (r : Run) : Type 0 where

@@ -27,7 +27,7 @@ impl Pages {
     ghost use Rattle.dmatypes.specs.World.{placed, restricted, without};
     ghost use Rattle.checker.specs.Pages.{AllAreMappedIn, IsMappedIn, IsUnmappedIn, NoneIsMappedIn, range, runs_of, target_at};
     ghost use Rattle.checker.specs.Taken.{taken_at};
-    ghost use Rattle.checker.specs.Runs.{Holds, IsCutAt, IsFrontOf, Leaves, by_rest};
+    ghost use Rattle.checker.specs.Runs.{Holds, IsCutAt, Leaves};
 
     /// No page is mapped.
     pub(crate) fn new(alloc: Global) -> Pages
@@ -147,7 +147,7 @@ impl Pages {
         self.part(first, pages)?;
         let end = first + pages;
         let mut page = first;
-        while let Some((start, run)) = self.pop_run(page, end)? {
+        while let Some((start, run)) = self.pop_run(page, end) {
             page = start + run.pages;
         }
         Ok(())
@@ -168,17 +168,20 @@ impl Pages {
         let end = first + pages;
         let mut taken = Taken::with_room(alloc, pages)?;
         let mut page = first;
-        while let Some((start, run)) = self.pop_run(page, end)? {
+        while let Some((start, run)) = self.pop_run(page, end) {
             taken.push(start, run)?;
             page = start + run.pages;
         }
         Ok(taken)
     }
 
-    // Cuts what crosses the ends of a range that isn't just one run, so that all memory for that is asked for before a run leaves.
+    // Cuts what crosses the ends of a range, so that all memory for that is asked for before a run leaves. A range that is just one run has
+    // nothing to cut.
     fn part(&mut self, first: u64, pages: u64) -> Result<(), AllocError>
         requires { first + pages < 2 ^ 64 }
-        ensures { OnOk result ((p : ℕ) → target_at self.new p ≡ target_at self.old p) }
+        ensures same { OnOk result ((p : ℕ) → target_at self.new p ≡ target_at self.old p) }
+        ensures first { OnOk result (IsCutAt (runs_of self.new) first) }
+        ensures end { OnOk result (IsCutAt (runs_of self.new) (first + pages)) }
     {
         match self.runs.get(&first) {
             Some(run) if run.pages == pages => return Ok(()),
@@ -190,52 +193,48 @@ impl Pages {
 
     // The run that has pages on both sides of a page's beginning becomes two, where there is one.
     fn cut_at(&mut self, page: u64) -> Result<(), AllocError>
-        ensures { OnOk result ((p : ℕ) → target_at self.new p ≡ target_at self.old p) }
+        ensures same { OnOk result ((p : ℕ) → target_at self.new p ≡ target_at self.old p) }
+        ensures here { OnOk result (IsCutAt (runs_of self.new) page) }
+        ensures others { OnOk result ((q : ℕ) → IsCutAt (runs_of self.old) q → IsCutAt (runs_of self.new) q) }
     {
-        match self.run_of(page) {
-            Some((first, run)) if first < page => self.cut_run(first, run, page),
-            _ => Ok(()),
+        let Some((first, run)) = self.run_of(page) else {
+            return Ok(());
+        };
+        if first == page {
+            return Ok(());
         }
+        self.cut_run(first, run, page)
     }
 
-    // The first run that has pages between two pages leaves, as far as they lie there, and is handed out with its first page.
-    fn pop_run(&mut self, page: u64, end: u64) -> Result<Option<(u64, Run)>, AllocError>
-        requires { page ≤ end }
-        ensures leaves { IfOk result (λ o. Leaves (target_at self.old) (target_at self.new) page end o) }
-        ensures within { IfOk result (λ o. IfSome o (λ e. e.0 + e.1.pages ≤ end)) }
+    // Between two pages that no run crosses, the first run leaves, and is handed out with its first page. Most often it begins at the
+    // first of the two, and leaves by one search.
+    fn pop_run(&mut self, page: u64, end: u64) -> Option<(u64, Run)>
+        requires order { page ≤ end }
+        requires first { IsCutAt (runs_of self.old) page }
+        requires end { IsCutAt (runs_of self.old) end }
+        ensures leaves { Leaves (target_at self.old) (target_at self.new) page end result }
+        ensures within { IfSome result (λ e. e.0 + e.1.pages ≤ end) }
+        ensures next { IfSome result (λ e. IsCutAt (runs_of self.new) (e.0 + e.1.pages)) }
+        ensures end { IsCutAt (runs_of self.new) end }
     {
         if page == end {
-            return Ok(None);
+            return None;
         }
-        match self.pop_whole(page, end)? {
-            Some((start, run)) => {
-                let front = self.put_back(start, run, end)?;
-                Ok(Some((start, front)))
-            }
-            None => Ok(None),
-        }
-    }
-
-    // The first run that has pages between two pages leaves, with those behind them. Most often it begins at the first of the two, and
-    // leaves by one search.
-    fn pop_whole(&mut self, page: u64, end: u64) -> Result<Option<(u64, Run)>, AllocError>
-        requires { page < end }
-        ensures { IfOk result (λ o. Leaves (target_at self.old) (target_at self.new) page end o) }
-    {
         match self.remove_at(page) {
-            Some(run) => Ok(Some((page, run))),
-            None => {
-                self.cut(page)?;
-                Ok(self.pop_next(page, end))
-            }
+            Some(run) => Some((page, run)),
+            None => self.pop_next(page, end),
         }
     }
 
-    // The same where no run has pages on both sides of the first page.
+    // The same where none begins at the first page.
     fn pop_next(&mut self, page: u64, end: u64) -> Option<(u64, Run)>
         requires order { page ≤ end }
-        requires here { IsCutAt (runs_of self.old) page }
-        ensures { Leaves (target_at self.old) (target_at self.new) page end result }
+        requires first { IsCutAt (runs_of self.old) page }
+        requires end { IsCutAt (runs_of self.old) end }
+        ensures leaves { Leaves (target_at self.old) (target_at self.new) page end result }
+        ensures within { IfSome result (λ e. e.0 + e.1.pages ≤ end) }
+        ensures next { IfSome result (λ e. IsCutAt (runs_of self.new) (e.0 + e.1.pages)) }
+        ensures end { IsCutAt (runs_of self.new) end }
     {
         let (start, run) = self.first_run_in(page, end)?;
         let _ = self.remove_at(start);
@@ -249,47 +248,10 @@ impl Pages {
         ensures left { (r : Run) → runs_of self.old page ≡ Some r
             → (p : ℕ) → target_at self.new p ≡ without (range page r.pages) (target_at self.old) p }
         ensures same { runs_of self.old page ≡ None → (p : ℕ) → target_at self.new p ≡ target_at self.old p }
+        ensures cuts { (q : ℕ) → IsCutAt (runs_of self.old) q → IsCutAt (runs_of self.new) q }
+        ensures end { (r : Run) → runs_of self.old page ≡ Some r → IsCutAt (runs_of self.new) (page + r.pages) }
     {
         self.runs.remove(&page)
-    }
-
-    // Of a run that left, the pages from another page on come back, and the others are handed out. Behind `part` there are none of the
-    // first, so that nothing is asked for here.
-    fn put_back(&mut self, first: u64, run: Run, end: u64) -> Result<Run, AllocError>
-        requires order { first < end }
-        requires some { 1 ≤ run.pages }
-        requires ends { first + run.pages < 2 ^ 64 }
-        requires frames { run.frame + run.pages ≤ FRAMES_END }
-        requires free { NoneIsMappedIn self.old (range first run.pages) }
-        ensures front { IfOk result (λ r. IsFrontOf r run × (first + r.pages ≤ end)) }
-        ensures left { IfOk result (λ r. (p : ℕ) → target_at self.new p ≡ by_rest first run r p (target_at self.old p)) }
-    {
-        let pages = end - first;
-        if run.pages <= pages {
-            return Ok(run);
-        }
-        let rest = Segment {
-            frame: run.frame + pages,
-            pages: run.pages - pages,
-        };
-        self.put(end, rest, run.rights)?;
-        Ok(Run {
-            pages,
-            frame: run.frame,
-            rights: run.rights,
-        })
-    }
-
-    // The run that has pages on both sides becomes two.
-    fn cut(&mut self, page: u64) -> Result<(), AllocError>
-        requires { runs_of self.old page ≡ None }
-        ensures same { OnOk result ((p : ℕ) → target_at self.new p ≡ target_at self.old p) }
-        ensures here { OnOk result (IsCutAt (runs_of self.new) page) }
-    {
-        match self.run_of(page) {
-            Some((first, run)) => self.cut_run(first, run, page),
-            None => Ok(()),
-        }
     }
 
     // The run becomes two.
@@ -299,6 +261,7 @@ impl Pages {
         requires below { page < first + run.pages }
         ensures same { OnOk result ((p : ℕ) → target_at self.new p ≡ target_at self.old p) }
         ensures here { OnOk result (IsCutAt (runs_of self.new) page) }
+        ensures others { OnOk result ((q : ℕ) → IsCutAt (runs_of self.old) q → IsCutAt (runs_of self.new) q) }
     {
         let pages = page - first;
         let rest = Run {

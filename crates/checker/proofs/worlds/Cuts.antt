@@ -64,6 +64,40 @@ beside f first k r s a there other is =
       ]
     ]
 
+-- no run crosses the page where another begins, nor the one where it ends
+pub begin_is_cut : (f : Runs) (first : ℕ) (r : Run) → AreApart f → f first ≡ Some r → IsCutAt f first
+begin_is_cut f first r a there = λ k s is less. a.apart k first s r is there less
+
+pub end_is_cut : (f : Runs) (first : ℕ) (r : Run) → AreApart f → f first ≡ Some r → IsCutAt f (first + r.pages)
+end_is_cut f first r a there = λ k s is less.
+    elim (same_or_not k first) [
+      | inl same ↦ of_one (λ (x : Run). k + x.pages ≤ first + r.pages) s r (same_Some s r (sym is ∙ ap f same ∙ there)) (omega (arith, same))
+      | inr other ↦ elim (beside f first k r s a there other is) [
+        | inl before ↦ omega (arith, before)
+        | inr behind ↦ absurd (omega (arith, behind, less))
+      ]
+    ]
+
+-- a page that no run crosses is crossed by none of fewer runs
+pub fewer_cut : (f g : Runs) (first q : ℕ) → g first ≡ None → ((k : ℕ) → k ≢ first → g k ≡ f k) → IsCutAt f q → IsCutAt g q
+fewer_cut f g first q none others cut = λ k s is less.
+    elim (same_or_not k first) [
+      | inl same ↦ let clash : None ≡ Some s = sym none ∙ ap g (sym same) ∙ is in absurd cc
+      | inr other ↦ cut k s (sym (others k other) ∙ is) less
+    ]
+
+-- nor by the pieces of one
+piece_cut : (f g : Runs) (first page q k : ℕ) (r s : Run) → AreCut f g first page r → IsCutAt f q → Piece f first page r k s → k < q
+    → k + s.pages ≤ q
+piece_cut f g first page q k r s cut was (IsFront e same) less =
+    omega (arith, was first r cut.there (omega (arith, e, less)), cut.below, front_end f g first page k r s cut e same)
+piece_cut f g first page q k r s cut was (IsRest e same) less =
+    omega (arith, was first r cut.there (omega (arith, e, less, cut.less)), rest_end f g first page k r s cut e same)
+piece_cut f g first page q k r s cut was (IsOther other is) less = was k s is less
+
+pub pieces_cut : (f g : Runs) (first page q : ℕ) (r : Run) → AreCut f g first page r → IsCutAt f q → IsCutAt g q
+pieces_cut f g first page q r cut was = λ k s is less. piece_cut f g first page q k r s cut was (piece f g first page k r s cut is) less
+
 ends_before : (f g : Runs) (first page k j : ℕ) (r s t : Run) → AreApart f → AreCut f g first page r → Piece f first page r k s
     → Piece f first page r j t → k < j → k + s.pages ≤ j
 ends_before f g first page k j r s t a cut (IsFront e same) (IsFront d also) less = absurd (omega (arith, e, d, less))

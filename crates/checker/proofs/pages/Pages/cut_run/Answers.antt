@@ -3,7 +3,7 @@ use Rattle.std.specs.BTreeMap as tree
 use Rattle.std.specs.BTreeMap.{BTreeMap, Updates}
 use Rattle.std.specs.Ordering.{nat_cmp}
 use Rattle.checker.specs.declared.run.Run.{Run}
-use Rattle.checker.proofs.worlds.Cuts.{AreCut, cut_apart, cut_same, front_of, rest_of, shorter_apart}
+use Rattle.checker.proofs.worlds.Cuts.{AreCut, cut_apart, cut_same, front_of, pieces_cut, rest_of, shorter_apart}
 use Rattle.checker.proofs.worlds.Entries.{other_run, put_apart}
 use Rattle.checker.proofs.pages.Pages.cut_run.Goals as goal
 
@@ -48,5 +48,15 @@ returns-clause-same c = λ p.
     let new = c.insert-2.new.self in
     let less : c.args.first < c.args.page = c.requires.less in
     cut_same (tree.get nat_cmp old) (tree.get nat_cmp new) c.args.first c.args.page p c.args.run c.args.self.now.apart
+    (cut_of old mid new c.args.first c.args.page c.args.run c.requires.there less c.requires.below c.in_ok-insert.ensures.updates
+    c.in_ok-insert-2.ensures.updates)
+
+pub returns-clause-others : goal.returns-clause-others
+returns-clause-others c = λ q.
+    let old = c.args.self.now.runs in
+    let mid = c.insert.new.self in
+    let new = c.insert-2.new.self in
+    let less : c.args.first < c.args.page = c.requires.less in
+    pieces_cut (tree.get nat_cmp old) (tree.get nat_cmp new) c.args.first c.args.page q c.args.run
     (cut_of old mid new c.args.first c.args.page c.args.run c.requires.there less c.requires.below c.in_ok-insert.ensures.updates
     c.in_ok-insert-2.ensures.updates)

@@ -1,6 +1,7 @@
 use Rattle.std.specs.BTreeMap as tree
 use Rattle.std.specs.Ordering.{nat_cmp}
-use Rattle.std.proofs.Common.{None}
+use Rattle.std.proofs.Common.{◌+◌, None}
+use Rattle.checker.proofs.worlds.Cuts.{end_is_cut, fewer_cut}
 use Rattle.checker.proofs.worlds.Entries.{less_of, other_run}
 use Rattle.checker.proofs.worlds.Taken.{fewer_apart, less_pages, none_less}
 use Rattle.checker.proofs.pages.Pages.remove_at.Goals as goal
@@ -30,3 +31,18 @@ returns-clause-same c = λ none.
     none_less (tree.get nat_cmp old) (tree.get nat_cmp new) c.args.page c.args.self.now.apart
     (fewer_apart (tree.get nat_cmp old) (tree.get nat_cmp new) c.args.page c.args.self.now.apart c.remove.ensures.updates.1 others) none
     c.remove.ensures.updates.1 others
+
+pub returns-clause-cuts : goal.returns-clause-cuts
+returns-clause-cuts c = λ q cut.
+    let old = c.args.self.now.runs in
+    let new = c.remove.new.self in
+    fewer_cut (tree.get nat_cmp old) (tree.get nat_cmp new) c.args.page q c.remove.ensures.updates.1
+    (other_run old new c.args.page None c.remove.ensures.updates) cut
+
+pub returns-clause-end : goal.returns-clause-end
+returns-clause-end c = λ r there.
+    let old = c.args.self.now.runs in
+    let new = c.remove.new.self in
+    fewer_cut (tree.get nat_cmp old) (tree.get nat_cmp new) c.args.page (c.args.page + r.pages) c.remove.ensures.updates.1
+    (other_run old new c.args.page None c.remove.ensures.updates)
+    (end_is_cut (tree.get nat_cmp old) c.args.page r c.args.self.now.apart there)

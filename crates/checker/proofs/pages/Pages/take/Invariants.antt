@@ -1,16 +1,19 @@
 use Rattle.std.proofs.Common.{◌-◌, ◌≤◌}
-use Rattle.checker.specs.Pages.{target_at}
+use Rattle.checker.specs.Pages.{runs_of, target_at}
+use Rattle.checker.specs.Runs.{IsCutAt}
 use Rattle.checker.specs.Taken.{taken_at, taken_end}
 use Rattle.checker.proofs.worlds.Taken.{AreLeft, AreTaken}
 use Rattle.checker.proofs.pages.Pages.take.Given as goal
 
-abbrev pub invariant-loop-taken : goal.invariant-loop-taken
-invariant-loop-taken l = record {
+abbrev pub invariant-loop-start : goal.invariant-loop-start
+invariant-loop-start l = record {
   order : (l.first ≤ l.page) × (l.page ≤ l.end);
   left : AreLeft (target_at l.fn.self) (target_at l.self) l.first l.page;
+  here : IsCutAt (runs_of l.self) l.page;
+  there : IsCutAt (runs_of l.self) l.end;
   taken : AreTaken (target_at l.fn.self) (taken_at l.taken) l.first l.page;
   end : taken_end l.taken ≤ l.page;
 }
 
-abbrev pub decreases-loop-taken : goal.decreases-loop-taken
-decreases-loop-taken l = l.end - l.page
+abbrev pub decreases-loop-start : goal.decreases-loop-start
+decreases-loop-start l = l.end - l.page
