@@ -9,6 +9,7 @@ pub mod InPlace
 pub mod ShortBefore
 pub mod Walk
 pub mod Beside
+pub mod Between
 pub mod Descent
 pub mod Seeking
 pub mod Holding

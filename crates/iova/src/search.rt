@@ -148,6 +148,31 @@ pub(crate) fn lowest_fit(
     ensures none { (t : Shape) (from : ℕ) → IsBelow (get nodes.now) root t from
         → IfNone result (AllByRecursion (HasNoRoom floor pages unit) (items t)) }
 {
+    fit_between(nodes, root, floor, NUMBERS_END, pages, unit)
+}
+
+// The same where all pieces end before an end. What lies between the floor and the end is told by the way down, so that no tree is gone
+// through where no multiple of the unit leaves so many pages.
+fn fit_between(
+    nodes: &Slab<Node>,
+    root: Option<usize>,
+    floor: u64,
+    end: u64,
+    pages: u64,
+    unit: u64,
+) -> Option<u64>
+    requires tree { CanSearch nodes.now root }
+    requires floor { floor ≤ NUMBERS_END }
+    requires some_pages { 1 ≤ pages }
+    requires pages { pages < NUMBERS_END }
+    requires some_unit { 0 < unit }
+    requires unit { unit < NUMBERS_END }
+    requires power { (order : ℕ) × (unit ≡ 2 ^ order) }
+    ensures found { (t : Shape) (from : ℕ) → IsBelow (get nodes.now) root t from
+        → IfSome result (IsFound floor pages unit (items t)) }
+    ensures none { (t : Shape) (from : ℕ) → IsBelow (get nodes.now) root t from → AllByRecursion (λ p. p.last < end) (items t)
+        → IfNone result (AllByRecursion (HasNoRoom floor pages unit) (items t)) }
+{
     let Some(key) = root else {
         return None;
     };
@@ -155,9 +180,12 @@ pub(crate) fn lowest_fit(
     if node.longest < pages {
         return None;
     }
-    // Else all pieces before it end below the floor, or are too short.
-    if floor < node.piece.first && longest(nodes, node.left) >= pages {
-        if let Some(start) = lowest_fit(nodes, node.left, floor, pages, unit) {
+    let least = round_up(floor, unit);
+    if end < least + pages {
+        return None;
+    }
+    if least + pages <= node.piece.first && longest(nodes, node.left) >= pages {
+        if let Some(start) = fit_between(nodes, node.left, floor, node.piece.first, pages, unit) {
             return Some(start);
         }
     }
@@ -167,11 +195,12 @@ pub(crate) fn lowest_fit(
             return Some(start);
         }
     }
-    lowest_fit(nodes, node.right, floor, pages, unit)
+    // All pieces behind begin behind this one.
+    let behind = floor.max(node.piece.last + 1);
+    fit_between(nodes, node.right, behind, end, pages, unit)
 }
 
-// The first multiple of the unit from a page on. The unit is a power of two, so no division is needed, which on some processors takes
-// longer than a whole search.
+// The first multiple of the unit from a page on. The unit is a power of two, so no division is needed.
 #[inline(always)]
 fn round_up(page: u64, unit: u64) -> u64
     requires page { page < 2 ^ 41 }

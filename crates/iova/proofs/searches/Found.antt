@@ -13,6 +13,7 @@ use Rattle.iova.specs.Tree.{Look, Shape, Empty, Fork, items, height_of, longest_
 use Rattle.iova.specs.Tree.{CanRead, CanSearch, node_of, root_of, at_root}
 use Rattle.iova.proofs.Pieces.{order}
 use Rattle.iova.proofs.parts.Parts.{front_ends, some_page, ordered_front, ordered_behind}
+use Rattle.iova.proofs.searches.Between.{all_behind, between_none, raised_found, raised_none}
 use Rattle.iova.proofs.searches.Fit.{IsLowestAbove, fits_here, fits_tail, fits_cons, free_state}
 use Rattle.iova.proofs.shapes.Trees.{is_there}
 
@@ -223,12 +224,6 @@ pub no_room_append : (floor pages unit : ℕ) (xs : List Piece) (q : Piece) (ys 
 no_room_append floor pages unit [] q ys a b c = (b, c)
 no_room_append floor pages unit (x ∷ xs) q ys a b c = (a.0, no_room_append floor pages unit xs q ys a.1 b c)
 
--- pieces that end below the floor
-ended_none : (floor pages unit : ℕ) (xs : List Piece) → 1 ≤ pages → AllByRecursion (λ p. p.last < floor) xs
-    → AllByRecursion (HasNoRoom floor pages unit) xs
-ended_none floor pages unit [] pos h = tt
-ended_none floor pages unit (x ∷ xs) pos h = (λ free t a b c. omega (arith, h.0), ended_none floor pages unit xs pos h.1)
-
 pub free_length : (p : Piece) → IsTrue (is_free p.state) → free_pages p ≡ p.last + 1 - p.first
 free_length p h = grind arith
 
@@ -341,15 +336,20 @@ module _ (nodes : Slab Node) (root : Option ℕ) (key : ℕ) (node : Node) (floo
       (found_before floor pages unit (items open_at.l) node.piece (items open_at.r) start
       (subst (λ o. IfSome o (IsFound floor pages unit (items open_at.l))) g (h open_at.l from before)))
 
-  -- nothing before the node, where it was looked for, and where all ends below the floor
-  pub none-left : (result : Option ℕ) → result ≡ None → ((x : Shape) (begin : ℕ) → IsBelow (get nodes) node.left x begin
-      → IfNone result (AllByRecursion (HasNoRoom floor pages unit) (items x)))
-      → AllByRecursion (HasNoRoom floor pages unit) (items open_at.l)
-  none-left result g h = subst (λ o. IfNone o (AllByRecursion (HasNoRoom floor pages unit) (items open_at.l))) g (h open_at.l from before)
+  -- what lies before the node ends there
+  before_ends : AllByRecursion (λ p. p.last < node.piece.first) (items open_at.l)
+  before_ends = front_ends from (items open_at.l) node.piece (items open_at.r) node.piece.first open_at.ordered (omega arith)
 
-  pub none-under : 1 ≤ pages → node.piece.first ≤ floor → AllByRecursion (HasNoRoom floor pages unit) (items open_at.l)
-  none-under pos h = ended_none floor pages unit (items open_at.l) pos
-      (front_ends from (items open_at.l) node.piece (items open_at.r) floor open_at.ordered h)
+  -- nothing before the node, where it was looked for, and where an aligned range would end behind its beginning
+  pub none-left : (result : Option ℕ) → result ≡ None → ((x : Shape) (begin : ℕ) → IsBelow (get nodes) node.left x begin
+      → AllByRecursion (λ p. p.last < node.piece.first) (items x) → IfNone result (AllByRecursion (HasNoRoom floor pages unit) (items x)))
+      → AllByRecursion (HasNoRoom floor pages unit) (items open_at.l)
+  none-left result g h =
+      subst (λ o. IfNone o (AllByRecursion (HasNoRoom floor pages unit) (items open_at.l))) g (h open_at.l from before before_ends)
+
+  pub none-under : (least : ℕ) → IsRoundUp floor unit least → node.piece.first < least + pages
+      → AllByRecursion (HasNoRoom floor pages unit) (items open_at.l)
+  none-under least up short = between_none floor pages unit least node.piece.first (items open_at.l) up short before_ends
 
   pub fit-here : (start : ℕ) → AllByRecursion (HasNoRoom floor pages unit) (items open_at.l) → IsTrue (is_free node.piece.state)
       → IsRoundUp (max node.piece.first floor) unit start → start + pages ≤ node.piece.last + 1 → IsFound floor pages unit (items t) start
@@ -366,21 +366,28 @@ module _ (nodes : Slab Node) (root : Option ℕ) (key : ℕ) (node : Node) (floo
         room = room;
       })
 
+  -- behind the node, where the floor is raised to where that begins
   pub fit-right : (right : Option ℕ) → AllByRecursion (HasNoRoom floor pages unit) (items open_at.l) → HasNoRoom floor pages unit node.piece
-      → ((x : Shape) (begin : ℕ) → IsBelow (get nodes) node.right x begin → IfSome right (IsFound floor pages unit (items x)))
+      → ((x : Shape) (begin : ℕ) → IsBelow (get nodes) node.right x begin
+      → IfSome right (IsFound (max floor (node.piece.last + 1)) pages unit (items x)))
       → IfSome right (IsFound floor pages unit (items t))
   fit-right None none here k = tt
   fit-right (Some start) none here k =
       subst (λ x. IsFound floor pages unit (items x) start) (sym open_at.is)
       (found_behind floor pages unit (items open_at.l) node.piece (items open_at.r) start none here
-      (k open_at.r (node.piece.last + 1) behind))
+      (raised_found floor (node.piece.last + 1) (node.piece.last + 1) pages unit (items open_at.r) start behind.whole.ordered (omega arith)
+      (k open_at.r (node.piece.last + 1) behind)))
 
-  pub fit-none : (right : Option ℕ) → AllByRecursion (HasNoRoom floor pages unit) (items open_at.l) → HasNoRoom floor pages unit node.piece
-      → ((x : Shape) (begin : ℕ) → IsBelow (get nodes) node.right x begin
-      → IfNone right (AllByRecursion (HasNoRoom floor pages unit) (items x)))
+  pub fit-none : (right : Option ℕ) (end : ℕ) → AllByRecursion (HasNoRoom floor pages unit) (items open_at.l)
+      → HasNoRoom floor pages unit node.piece → AllByRecursion (λ p. p.last < end) (items t)
+      → ((x : Shape) (begin : ℕ) → IsBelow (get nodes) node.right x begin → AllByRecursion (λ p. p.last < end) (items x)
+      → IfNone right (AllByRecursion (HasNoRoom (max floor (node.piece.last + 1)) pages unit) (items x)))
       → IfNone right (AllByRecursion (HasNoRoom floor pages unit) (items t))
-  fit-none (Some start) none here k = tt
-  fit-none None none here k =
+  fit-none (Some start) end none here ends k = tt
+  fit-none None end none here ends k =
       subst (λ x. AllByRecursion (HasNoRoom floor pages unit) (items x)) (sym open_at.is)
       (no_room_append floor pages unit (items open_at.l) node.piece (items open_at.r) none here
-      (k open_at.r (node.piece.last + 1) behind))
+      (raised_none floor (node.piece.last + 1) (node.piece.last + 1) pages unit (items open_at.r) behind.whole.ordered (omega arith)
+      (k open_at.r (node.piece.last + 1) behind
+      (all_behind (λ p. p.last < end) (items open_at.l) node.piece (items open_at.r)
+      (subst (λ x. AllByRecursion (λ p. p.last < end) (items x)) open_at.is ends)))))
