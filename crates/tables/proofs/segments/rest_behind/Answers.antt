@@ -1,4 +1,3 @@
-use Rattle.std.proofs.Common.{arith}
 use Rattle.tables.proofs.maps.Placed.{all_passed, one_passed, rest_there}
 use Rattle.tables.proofs.segments.rest_behind.Goals as goal
 

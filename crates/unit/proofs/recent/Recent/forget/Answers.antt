@@ -1,4 +1,4 @@
-use Rattle.std.proofs.Common.{◌≡◌, rules, tests, ◌∙◌, ap, sym, Bool, filter, not, List}
+use Rattle.std.proofs.Common.{◌≡◌, rules, tests, ◌∙◌, ap, sym, Bool, filter, not}
 use Rattle.std.proofs.lemmas.Iterator.{YieldsList-from_slice}
 use Rattle.std.proofs.lemmas.Iterator.Search.{any_from_yields_List}
 use Rattle.std.specs.List.{list_any}
