@@ -1,5 +1,6 @@
 -- Marks of what is remembered.
-use Rattle.std.specs.Prelude.{◌≡◌, ℕ, ◌+◌, ◌*◌, ◌/◌, ◌%◌, ◌<◌, ◌⊎◌, Bool, true, false, IsTrue, List, slice_index_or}
+use Rattle.std.specs.Prelude.{◌≡◌, ℕ, ◌+◌, ◌*◌, ◌/◌, ◌%◌, ◌<◌, ◌⊎◌, IsTrue, List, slice_index}
+use Rattle.std.specs.Int.{bit_at}
 use Rattle.dmatypes.specs.declared.page.TheConstants.{SPAN_PAGES}
 use Rattle.dmatypes.specs.World.{IsIn}
 use Rattle.unit.specs.Caches.{CachedLeaf}
@@ -9,19 +10,19 @@ use Rattle.unit.specs.Walking.{hold}
 abbrev pub place_of : ℕ → ℕ → ℕ
 place_of domain number = (number + 293 * domain) % 2048
 
--- a place is marked
-abbrev pub HasMark : List Bool → ℕ → Type 0
-HasMark marks place = slice_index_or marks place false ≡ true
+-- a place is marked, a bit for each in words of 64
+abbrev pub HasMark : List ℕ → ℕ → Type 0
+HasMark marks place = bit_at (slice_index marks (place / 64)) (place % 64) ≡ 1
 
 -- a page of a domain may have leaves: its place is marked, or that of its span
-abbrev pub MayHold : List Bool → ℕ → ℕ → Type 0
+abbrev pub MayHold : List ℕ → ℕ → ℕ → Type 0
 MayHold marks domain page = HasMark marks (place_of domain page) ⊎ HasMark marks (place_of domain (page / SPAN_PAGES))
 
 -- each page of a leaf may have leaves
-pub record IsMarked (marks : List Bool) (l : CachedLeaf) : Type 0 where
+pub record IsMarked (marks : List ℕ) (l : CachedLeaf) : Type 0 where
   pub some : 0 < l.pages
   pub marked : (p : ℕ) → IsTrue (hold l.first l.pages p) → MayHold marks l.domain p
 
 -- and so for each leaf of a list
-abbrev pub AreMarked : List Bool → List CachedLeaf → Type 0
+abbrev pub AreMarked : List ℕ → List CachedLeaf → Type 0
 AreMarked marks leaves = (l : CachedLeaf) → IsIn l leaves → IsMarked marks l

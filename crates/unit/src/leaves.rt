@@ -1,6 +1,6 @@
 //! The leaves that are remembered, with marks by which most pages without a leaf are told at once.
 
-ghost use Rattle.std.specs.Prelude.{◌≡◌, ℕ, Bool, if◌then◌else◌, ◌==◌, ◌&&◌, ◌^◌, ◌<◌, ◌≤◌, [], false, filter, find};
+ghost use Rattle.std.specs.Prelude.{◌≡◌, ◌↔◌, ℕ, Bool, if◌then◌else◌, ◌==◌, ◌&&◌, ◌^◌, ◌<◌, ◌≤◌, [], false, filter, find};
 ghost use Rattle.std.specs.Prelude.{length, not, remove, IsTrue};
 ghost use Rattle.dmatypes.specs.World.{IsIn};
 ghost use Rattle.dmatypes.specs.declared.width.TheConstants.{PAGES_END};
@@ -22,12 +22,15 @@ use vtdbits::{Descriptor, DomainId};
 // The places for marks: many more than there are leaves, so that few pages share theirs with a leaf.
 const MARKS: usize = 2048;
 
+// The marks, a bit each.
+type Marks = [u64; MARKS / 64];
+
 /// Leaves, oldest first. The places of their pages are marked, so a page whose place isn't marked has none. A mark stays when
-/// its leaf goes; after as many new leaves as there are places the marks are made anew.
+/// its leaf goes; after as many new leaves as there are places for leaves the marks are made anew.
 #[derive(Drop)]
 pub(crate) struct Leaves {
     list: Recent,
-    marks: [bool; MARKS],
+    marks: Marks,
     // How many leaves were marked since the marks were made anew.
     added: usize,
 }
@@ -53,7 +56,7 @@ impl Leaves {
     {
         Leaves {
             list: Recent::new(),
-            marks: [false; MARKS],
+            marks: [0; MARKS / 64],
             added: 0,
         }
     }
@@ -132,7 +135,8 @@ impl Leaves {
         ensures { result ≡ false → (l : CachedLeaf) → IsIn l self.now
             → ((l.domain == domain) && hold l.first l.pages page) ≡ false }
     {
-        self.marks[place_of(domain, page)] || self.marks[place_of(domain, page / SPAN_PAGES)]
+        is_marked(&self.marks, place_of(domain, page))
+            || is_marked(&self.marks, place_of(domain, page / SPAN_PAGES))
     }
 }
 
@@ -151,25 +155,44 @@ fn place_of(domain: DomainId, number: u64) -> usize
     ((number + 293 * domain.number()) % MARKS as u64) as usize
 }
 
+// Whether a place is marked.
+#[inline]
+fn is_marked(marks: &Marks, place: usize) -> bool
+    requires { place < MARKS }
+    ensures { IsTrue result ↔ HasMark marks.now place }
+{
+    marks[place / 64] >> (place % 64) & 1 == 1
+}
+
+// Marks a place.
+#[inline]
+fn mark_place(marks: &mut Marks, place: usize)
+    requires { place < MARKS }
+    ensures kept { (i : ℕ) → HasMark marks.old i → HasMark marks.new i }
+    ensures marked { HasMark marks.new place }
+{
+    marks[place / 64] |= 1 << (place % 64);
+}
+
 // Marks the places of a leaf: of its page, or of the spans in which it begins and ends.
-fn mark(marks: &mut [bool; MARKS], leaf: &CachedLeaf)
+fn mark(marks: &mut Marks, leaf: &CachedLeaf)
     ensures kept { (i : ℕ) → HasMark marks.old i → HasMark marks.new i }
     ensures marked { IsMarked marks.new leaf.now }
 {
     if leaf.pages == 1 {
-        marks[place_of(leaf.domain, leaf.first)] = true;
+        mark_place(marks, place_of(leaf.domain, leaf.first));
     } else {
-        marks[place_of(leaf.domain, leaf.first / SPAN_PAGES)] = true;
+        mark_place(marks, place_of(leaf.domain, leaf.first / SPAN_PAGES));
         let last = leaf.first + (leaf.pages - 1);
-        marks[place_of(leaf.domain, last / SPAN_PAGES)] = true;
+        mark_place(marks, place_of(leaf.domain, last / SPAN_PAGES));
     }
 }
 
-// Marks the places of these leaves alone.
-fn mark_all(marks: &mut [bool; MARKS], leaves: &[CachedLeaf])
+// Clears all marks, and marks the places of these leaves.
+fn mark_all(marks: &mut Marks, leaves: &[CachedLeaf])
     ensures { AreMarked marks.new leaves.now }
 {
-    marks.fill(false);
+    marks.fill(0);
     for leaf in leaves {
         mark(marks, leaf);
     }

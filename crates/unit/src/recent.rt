@@ -15,8 +15,8 @@ use vtdbits::Descriptor;
 /// The places for leaves.
 pub(crate) const LEAVES: usize = MOST_CACHED_LEAVES;
 
-// Half as many more, so that the leaves are moved to the front only once for so many new ones. A unit is moved where it is made, so more
-// room is more of the stack.
+// Half as many more, so that new leaves move the others to the front only once for so many of them. A unit is moved where it is made, so
+// more room is more of the stack.
 const ROOM: usize = LEAVES + LEAVES / 2;
 
 /// Leaves, oldest first.
@@ -31,12 +31,13 @@ pub(crate) struct Recent {
 impl Model for Recent {
     ghost use Rattle.std.specs.Prelude.{List, ◌≡◌, ◌+◌, ◌≤◌, drop, length};
     ghost use Rattle.unit.specs.Caches.{CachedLeaf};
+    ghost use Rattle.unit.specs.declared.recent.TheConstants.{LEAVES};
 
     ghost Value = { List CachedLeaf };
 
     ghost view = { λ r. drop r.start r.list.items };
 
-    ghost invariant = { λ r. (r.start ≤ length r.list.items) × (length r.list.items ≤ r.start + 64) };
+    ghost invariant = { λ r. (r.start ≤ length r.list.items) × (length r.list.items ≤ r.start + LEAVES) };
 }
 
 impl Recent {

@@ -1,5 +1,7 @@
 -- What isn't in a list that was looked through.
-use Rattle.std.proofs.Common.{◌≡◌, Bool, true, false, List, [], ◌∷◌, ◌||◌, None, find, ◌&&◌, refl, sym, ap, ◌∙◌, inl, inr, ℕ, if◌then◌else◌, ap₂, ◌++◌, nat_lt, length, drop, subst, ◌⊎◌, ◌≤◌, ◌<◌, arith, length-append, length-drop, IsTrue}
+use Rattle.std.proofs.Common.{◌≡◌, Bool, true, false, List, [], ◌∷◌, ◌||◌, None, find, ◌&&◌, refl, sym, ap, ◌∙◌, inl, inr, ℕ}
+use Rattle.std.proofs.Common.{if◌then◌else◌, ap₂, ◌++◌, nat_lt, length, drop, subst, ◌⊎◌, ◌≤◌, ◌<◌, arith, length-append, length-drop}
+use Rattle.std.proofs.Common.{IsTrue}
 use Rattle.std.proofs.lemmas.Bool.Decides.{nat_tests}
 use Rattle.std.specs.List.{list_any}
 use Rattle.std.proofs.lemmas.Bool.{false≢true}

@@ -53,13 +53,6 @@ gains_entry true same most x xs ys is = λ y h. gained (in_with_entry same most 
     gained (inr e) = inr (refl, e)
 gains_entry false same most x xs ys is = λ y h. inl (subst (IsIn y) is h)
 
--- by remembering it where that is to be filled
-pub gains_filled : {A : Type 0} (fill : Bool) (same : A → A → Bool) (most : ℕ) (x : A) (xs now ys : List A) → fill ≡ true → xs ≡ now
-    → ys ≡ with_entry same most x xs → Gains fill (λ y. y ≡ x) now ys
-gains_filled fill same most x xs now ys filled at is =
-    subst (λ (zs : List _). Gains fill (λ y. y ≡ x) zs ys) at
-    (subst (λ (b : Bool). Gains b (λ y. y ≡ x) xs ys) (sym filled) (gains_entry true same most x xs ys is))
-
 -- what was gained once and again
 pub gains_twice : {A : Type 0} (fill : Bool) (Used Once Again : A → Type 0) (xs ys zs : List A)
     → ((y : A) → Once y → Used y) → ((y : A) → Again y → Used y)

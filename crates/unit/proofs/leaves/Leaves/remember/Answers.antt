@@ -1,4 +1,4 @@
-use Rattle.std.proofs.Common.{rules, ◌≡◌, false, sym, ap, subst, ◌∙◌, arith, Bool, if◌then◌else◌, List, length, ◌≤◌, inl}
+use Rattle.std.proofs.Common.{rules, ◌≡◌, true, false, sym, ap, subst, ◌∙◌, arith, Bool, if◌then◌else◌, List, length, ◌≤◌, inl}
 use Rattle.std.proofs.lemmas.Bool.Decides.{nat_tests}
 use Rattle.unit.specs.Lists.{with_entry, with_last}
 use Rattle.unit.specs.declared.recent.TheConstants.{LEAVES}
@@ -7,13 +7,21 @@ use Rattle.unit.specs.Caches.{CachedLeaf}
 use Rattle.unit.proofs.caches.Marks.{more_marked, outside}
 use Rattle.unit.proofs.caches.Members.{of_not}
 use Rattle.unit.proofs.caches.Known.{gained_filled, in_with_last, last_in, new_outside, there_in, with_last_few, with_new, with_there}
+use Rattle.unit.specs.contracts.entries.CachedLeafPartialEq.TheImpl.{ghosts}
 use Rattle.unit.proofs.leaves.Leaves.remember.Goals as goal
 use Rattle.unit.proofs.leaves.Leaves.remember.Goals.{then-is_new, else-is_new}
+
+-- the derived test tells leaves apart
+same_leaf : (y x : CachedLeaf) → ghosts.eq y x ≡ true → y ≡ x
+same_leaf y x h = search rules
+
+itself : (x : CachedLeaf) → ghosts.eq x x ≡ true
+itself x = grind (arith, nat_tests)
 
 pub is_there-requires : goal.is_there-requires
 is_there-requires c = λ new.
     rw c.as_slice.ensures.value
-    (new_outside _ c.args.leaf c.self-2.inside.list (λ y same. search rules) (λ there.
+    (new_outside _ c.args.leaf c.self-2.inside.list (λ y h. same_leaf y c.args.leaf h) (λ there.
     elim c.if-is_new.branch [
       | then-is_new w ↦ c.requires.new w.if-is_new.true (subst (IsIn c.args.leaf) c.self-2.view_is there)
       | else-is_new w ↦
@@ -38,7 +46,7 @@ returns-then-is_there-clause-items c = λ same tells.
     let whole = c.as_slice.ensures.value ∙ c.self-2.view_is in
     subst (λ (xs : List CachedLeaf). xs ≡ (if c.args.fill then with_entry same LEAVES c.args.leaf xs else xs)) whole
     (rw c.if-not-fill.false
-    (with_there _ same LEAVES c.args.leaf c.as_slice.result.now (λ y h. search rules) (grind (arith, nat_tests)) tells
+    (with_there _ same LEAVES c.args.leaf c.as_slice.result.now (λ y h. same_leaf y c.args.leaf h) (itself c.args.leaf) tells
     (sym c.is_there.ensures ∙ c.if-is_there.true)))
 
 pub returns-then-is_there-clause-gains : goal.returns-then-is_there-clause-gains
@@ -48,14 +56,14 @@ pub returns-then-is_there-clause-remembered : goal.returns-then-is_there-clause-
 returns-then-is_there-clause-remembered c = λ fill.
     let whole = c.as_slice.ensures.value ∙ c.self-2.view_is in
     subst (IsIn c.args.leaf) whole
-    (there_in _ c.args.leaf c.as_slice.result.now (λ y h. search rules) (sym c.is_there.ensures ∙ c.if-is_there.true))
+    (there_in _ c.args.leaf c.as_slice.result.now (λ y h. same_leaf y c.args.leaf h) (sym c.is_there.ensures ∙ c.if-is_there.true))
 
 pub returns-then-self-lt-LEAVES-clause-items : goal.returns-then-self-lt-LEAVES-clause-items
 returns-then-self-lt-LEAVES-clause-items c = λ same tells.
     let whole = c.as_slice.ensures.value in
     c.push.ensures
     ∙ ap (λ (xs : List CachedLeaf). with_last LEAVES c.args.leaf xs) (sym whole)
-    ∙ with_new _ same LEAVES c.args.leaf c.as_slice.result.now (λ y h. search rules) (grind (arith, nat_tests)) tells
+    ∙ with_new _ same LEAVES c.args.leaf c.as_slice.result.now (λ y h. same_leaf y c.args.leaf h) (itself c.args.leaf) tells
     (sym c.is_there.ensures ∙ c.if-is_there.false)
     ∙ ap (λ (xs : List CachedLeaf). with_entry same LEAVES c.args.leaf xs) (whole ∙ c.self-2.view_is)
     ∙ ap (λ (b : Bool). if b then with_entry same LEAVES c.args.leaf c.args.self.now else c.args.self.now) (sym c.if-not-fill.false)
@@ -80,7 +88,7 @@ returns-else-self-lt-LEAVES-clause-items c = λ same tells.
     let whole = c.as_slice.ensures.value in
     c.push.ensures
     ∙ ap (λ (xs : List CachedLeaf). with_last LEAVES c.args.leaf xs) (sym whole)
-    ∙ with_new _ same LEAVES c.args.leaf c.as_slice.result.now (λ y h. search rules) (grind (arith, nat_tests)) tells
+    ∙ with_new _ same LEAVES c.args.leaf c.as_slice.result.now (λ y h. same_leaf y c.args.leaf h) (itself c.args.leaf) tells
     (sym c.is_there.ensures ∙ c.if-is_there.false)
     ∙ ap (λ (xs : List CachedLeaf). with_entry same LEAVES c.args.leaf xs) (whole ∙ c.self-2.view_is)
     ∙ ap (λ (b : Bool). if b then with_entry same LEAVES c.args.leaf c.args.self.now else c.args.self.now) (sym c.if-not-fill.false)

@@ -1,0 +1,15 @@
+use Rattle.std.proofs.Common.{◌≡◌, ℕ, ◌/◌, subst, arith}
+use Rattle.dmatypes.specs.declared.page.TheConstants.{SPAN_PAGES}
+use Rattle.unit.specs.Marks.{HasMark, IsMarked}
+use Rattle.unit.proofs.caches.Marks.{of_a_span, spans_marked}
+use Rattle.unit.proofs.leaves.mark.Goals as goal
+
+pub returns-else-leaf-eq1-clause-marked : goal.returns-else-leaf-eq1-clause-marked
+returns-else-leaf-eq1-clause-marked c =
+    let new = c.mark_place-else-leaf-eq1-2.new.marks in
+    let span = of_a_span _ c.leaf.invariant c.if-leaf-eq1.false in
+    subst (IsMarked new) c.leaf.view_is
+    (spans_marked new _ (omega (arith, span)) (omega (arith, span))
+    (subst (HasMark new) c.place_of-else-leaf-eq1.ensures.value
+    (c.mark_place-else-leaf-eq1-2.ensures.kept c.place_of-else-leaf-eq1.result c.mark_place-else-leaf-eq1.ensures.marked))
+    (subst (HasMark new) c.place_of-else-leaf-eq1-2.ensures.value c.mark_place-else-leaf-eq1-2.ensures.marked))
