@@ -28,7 +28,7 @@ pub(crate) fn rest_at(segments: &[Segment], first: u64, page: u64) -> Option<Seg
 }
 
 /// How many segments lie before a page, and where the next one begins: who goes on from page to page need not pass them again.
-#[derive(Clone, Copy)]
+#[derive(Drop)]
 pub(crate) struct Passed {
     pub(crate) count: usize,
     pub(crate) start: u64,

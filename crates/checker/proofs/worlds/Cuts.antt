@@ -64,14 +64,12 @@ beside f first k r s a there other is =
       ]
     ]
 
--- no run crosses the page where another begins, nor the one where it ends
-pub begin_is_cut : (f : Runs) (first : ℕ) (r : Run) → AreApart f → f first ≡ Some r → IsCutAt f first
-begin_is_cut f first r a there = λ k s is less. a.apart k first s r is there less
-
+-- no run crosses the page where another ends
 pub end_is_cut : (f : Runs) (first : ℕ) (r : Run) → AreApart f → f first ≡ Some r → IsCutAt f (first + r.pages)
 end_is_cut f first r a there = λ k s is less.
     elim (same_or_not k first) [
-      | inl same ↦ of_one (λ (x : Run). k + x.pages ≤ first + r.pages) s r (same_Some s r (sym is ∙ ap f same ∙ there)) (omega (arith, same))
+      | inl same ↦
+          of_one (λ (x : Run). k + x.pages ≤ first + r.pages) s r (same_Some s r (sym is ∙ ap f same ∙ there)) (omega (arith, same))
       | inr other ↦ elim (beside f first k r s a there other is) [
         | inl before ↦ omega (arith, before)
         | inr behind ↦ absurd (omega (arith, behind, less))

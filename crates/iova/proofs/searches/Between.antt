@@ -43,7 +43,8 @@ raised_found floor low from pages unit ps start o h f =
     }
 
 -- what holds of all pieces holds of those behind one
-pub all_behind : (P : Piece → Type 0) (xs : List Piece) (q : Piece) (ys : List Piece) → AllByRecursion P (xs ++ q ∷ ys) → AllByRecursion P ys
+pub all_behind : (P : Piece → Type 0) (xs : List Piece) (q : Piece) (ys : List Piece) → AllByRecursion P (xs ++ q ∷ ys)
+    → AllByRecursion P ys
 all_behind P [] q ys h = h.1
 all_behind P (x ∷ xs) q ys h = all_behind P xs q ys h.1
 

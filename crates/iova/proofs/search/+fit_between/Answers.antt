@@ -56,7 +56,8 @@ returns-then-start-pages-clause-found t c x from w =
     let left = open_at c.args.nodes.now c.args.root c.in-Some.key c.index-node.result.now c.args.floor c.args.pages c.args.unit x from w
     c.in-Some.is c.index-node.ensures in
     let before : AllByRecursion (HasNoRoom c.args.floor c.args.pages c.args.unit) (items left.l) = elim c.if-least-pages.branch [
-      | then-least-pages+then-longest-pages+in_default-fit_between v ↦ none-left c.args.nodes.now c.args.root c.in-Some.key c.index-node.result.now
+      | then-least-pages+then-longest-pages+in_default-fit_between v ↦
+          none-left c.args.nodes.now c.args.root c.in-Some.key c.index-node.result.now
           c.args.floor c.args.pages c.args.unit x from w c.in-Some.is c.index-node.ensures v.fit_between.result v.in_default-fit_between.is
           v.fit_between.ensures.none
       | else-least-pages v ↦ elim v.else-least-pages.branch [
@@ -64,7 +65,8 @@ returns-then-start-pages-clause-found t c x from w =
             c.index-node.result.now c.args.floor c.args.pages c.args.unit x from w c.in-Some.is c.index-node.ensures u.longest.result
             u.longest.ensures (omega (arith, u.if-longest-pages.false))
         | else-least-pages-via-else-least-pages u ↦ none-under c.args.nodes.now c.args.root c.in-Some.key c.index-node.result.now
-            c.args.floor c.args.pages c.args.unit x from w c.in-Some.is c.index-node.ensures c.round_up-least.result c.round_up-least.ensures.up (omega (arith, u.if-least-pages.false))
+            c.args.floor c.args.pages c.args.unit x from w c.in-Some.is c.index-node.ensures c.round_up-least.result
+                c.round_up-least.ensures.up (omega (arith, u.if-least-pages.false))
       ]
     ] in
     fit-here c.args.nodes.now c.args.root c.in-Some.key c.index-node.result.now c.args.floor c.args.pages c.args.unit x from w c.in-Some.is
@@ -82,7 +84,8 @@ fit_between-requires-2 t c =
       (
         fit-can_right c.args.nodes.now c.args.root c.in-Some.key c.index-node.result.now c.args.floor c.args.pages c.args.unit
             c.requires.tree.0 c.requires.tree.1 c.requires.tree.2 c.in-Some.is c.index-node.ensures,
-        (omega (arith, c.max-behind.ensures, c.requires.floor, below), (c.requires.some_pages, (c.requires.pages, (c.requires.some_unit, (c.requires.unit, c.requires.power))))),
+        (omega (arith, c.max-behind.ensures, c.requires.floor, below), (c.requires.some_pages, (c.requires.pages, (c.requires.some_unit,
+            (c.requires.unit, c.requires.power))))),
       ),
     )
 
@@ -91,7 +94,8 @@ returns-clause-found t c x from w =
     let left = open_at c.args.nodes.now c.args.root c.in-Some.key c.index-node.result.now c.args.floor c.args.pages c.args.unit x from w
     c.in-Some.is c.index-node.ensures in
     let before : AllByRecursion (HasNoRoom c.args.floor c.args.pages c.args.unit) (items left.l) = elim c.if-least-pages.branch [
-      | then-least-pages+then-longest-pages+in_default-fit_between v ↦ none-left c.args.nodes.now c.args.root c.in-Some.key c.index-node.result.now
+      | then-least-pages+then-longest-pages+in_default-fit_between v ↦
+          none-left c.args.nodes.now c.args.root c.in-Some.key c.index-node.result.now
           c.args.floor c.args.pages c.args.unit x from w c.in-Some.is c.index-node.ensures v.fit_between.result v.in_default-fit_between.is
           v.fit_between.ensures.none
       | else-least-pages v ↦ elim v.else-least-pages.branch [
@@ -99,12 +103,14 @@ returns-clause-found t c x from w =
             c.index-node.result.now c.args.floor c.args.pages c.args.unit x from w c.in-Some.is c.index-node.ensures u.longest.result
             u.longest.ensures (omega (arith, u.if-longest-pages.false))
         | else-least-pages-via-else-least-pages u ↦ none-under c.args.nodes.now c.args.root c.in-Some.key c.index-node.result.now
-            c.args.floor c.args.pages c.args.unit x from w c.in-Some.is c.index-node.ensures c.round_up-least.result c.round_up-least.ensures.up (omega (arith, u.if-least-pages.false))
+            c.args.floor c.args.pages c.args.unit x from w c.in-Some.is c.index-node.ensures c.round_up-least.result
+                c.round_up-least.ensures.up (omega (arith, u.if-least-pages.false))
       ]
     ] in
     let none : HasNoRoom c.args.floor c.args.pages c.args.unit c.index-node.result.now.piece = elim c.if-is_free.branch [
       | then-is_free+else-start-pages v ↦ no_room _ c.args.floor c.args.pages c.args.unit v.round_up-start.result
-          (subst (λ page. IsRoundUp page c.args.unit v.round_up-start.result) v.max.ensures v.round_up-start.ensures.up) v.if-start-pages.false
+          (subst (λ page. IsRoundUp page
+              c.args.unit v.round_up-start.result) v.max.ensures v.round_up-start.ensures.up) v.if-start-pages.false
       | else-is_free v ↦ not_free _ c.args.floor c.args.pages c.args.unit (sym c.is_free.ensures ∙ v.if-is_free.false)
     ] in
     fit-right c.args.nodes.now c.args.root c.in-Some.key c.index-node.result.now c.args.floor c.args.pages c.args.unit x from w c.in-Some.is
@@ -117,7 +123,8 @@ returns-clause-none t c x from w ends =
     let left = open_at c.args.nodes.now c.args.root c.in-Some.key c.index-node.result.now c.args.floor c.args.pages c.args.unit x from w
     c.in-Some.is c.index-node.ensures in
     let before : AllByRecursion (HasNoRoom c.args.floor c.args.pages c.args.unit) (items left.l) = elim c.if-least-pages.branch [
-      | then-least-pages+then-longest-pages+in_default-fit_between v ↦ none-left c.args.nodes.now c.args.root c.in-Some.key c.index-node.result.now
+      | then-least-pages+then-longest-pages+in_default-fit_between v ↦
+          none-left c.args.nodes.now c.args.root c.in-Some.key c.index-node.result.now
           c.args.floor c.args.pages c.args.unit x from w c.in-Some.is c.index-node.ensures v.fit_between.result v.in_default-fit_between.is
           v.fit_between.ensures.none
       | else-least-pages v ↦ elim v.else-least-pages.branch [
@@ -125,12 +132,14 @@ returns-clause-none t c x from w ends =
             c.index-node.result.now c.args.floor c.args.pages c.args.unit x from w c.in-Some.is c.index-node.ensures u.longest.result
             u.longest.ensures (omega (arith, u.if-longest-pages.false))
         | else-least-pages-via-else-least-pages u ↦ none-under c.args.nodes.now c.args.root c.in-Some.key c.index-node.result.now
-            c.args.floor c.args.pages c.args.unit x from w c.in-Some.is c.index-node.ensures c.round_up-least.result c.round_up-least.ensures.up (omega (arith, u.if-least-pages.false))
+            c.args.floor c.args.pages c.args.unit x from w c.in-Some.is c.index-node.ensures c.round_up-least.result
+                c.round_up-least.ensures.up (omega (arith, u.if-least-pages.false))
       ]
     ] in
     let none : HasNoRoom c.args.floor c.args.pages c.args.unit c.index-node.result.now.piece = elim c.if-is_free.branch [
       | then-is_free+else-start-pages v ↦ no_room _ c.args.floor c.args.pages c.args.unit v.round_up-start.result
-          (subst (λ page. IsRoundUp page c.args.unit v.round_up-start.result) v.max.ensures v.round_up-start.ensures.up) v.if-start-pages.false
+          (subst (λ page. IsRoundUp page
+              c.args.unit v.round_up-start.result) v.max.ensures v.round_up-start.ensures.up) v.if-start-pages.false
       | else-is_free v ↦ not_free _ c.args.floor c.args.pages c.args.unit (sym c.is_free.ensures ∙ v.if-is_free.false)
     ] in
     fit-none c.args.nodes.now c.args.root c.in-Some.key c.index-node.result.now c.args.floor c.args.pages c.args.unit x from w c.in-Some.is
