@@ -1,4 +1,5 @@
 pub mod FreeList
+pub mod FromLast
 pub mod Patched
 pub mod GivenBack
 pub mod Fresh

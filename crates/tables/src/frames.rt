@@ -1,8 +1,9 @@
 //! The pool of table frames.
 
-ghost use Rattle.std.specs.Prelude.{◌≡◌, ℕ, ◌+◌, ◌<◌, ◌≤◌, ◌^◌, length, slice_index, IfOk};
+ghost use Rattle.std.specs.Prelude.{◌≡◌, ℕ, ◌+◌, ◌-◌, ◌*◌, ◌<◌, ◌≤◌, ◌^◌, length, slice_index, IfOk};
 ghost use Rattle.dmatypes.specs.Rights.{AreRights, bits_of};
 ghost use Rattle.dmatypes.specs.declared.limits.TheConstants.{LEAST_TABLE_FRAMES, MOST_TABLE_FRAMES};
+ghost use Rattle.tables.specs.declared.entries.TheConstants.{TABLE_ENTRIES};
 ghost use Rattle.vtdbits.specs.Entry.{look};
 ghost use Rattle.vtdbits.specs.Translation.{target};
 ghost use Rattle.tables.specs.Tree.{one_if_same};
@@ -18,23 +19,37 @@ use vtdbits::SsEntry;
 /// were cut from one and not given back.
 #[derive(Drop)]
 pub struct Pool {
+    // Those of the last frame first, since that is taken first: a frame's words are written when it is first taken, so that memory which is
+    // never used isn't touched.
     words: Vec<u64>,
-    // The free frames come first, in no order.
+    // The free frames come first: those that were never taken in order, and the others in none.
     slots: Vec<Frame>,
     free: usize,
+    // How many were never taken.
+    rest: usize,
 }
 
 impl Model for Pool {
-    ghost use Rattle.std.specs.Prelude.{◌≤◌, length, take};
+    ghost use Rattle.std.specs.Prelude.{◌≤◌, length, take, vec_capacity};
+    ghost use Rattle.tables.specs.FromLast.{HasRest, from_last};
     ghost use Rattle.tables.specs.Pool.{Pool, IsPool};
 
     ghost Value = { Pool };
 
-    ghost view = { λ a. record { words = a.words.items; free = take a.free a.slots.items; frames = length a.slots.items } };
+    ghost view = { λ a. record {
+        words = from_last (length a.slots.items) a.words.items;
+        free = take a.free a.slots.items;
+        frames = length a.slots.items;
+    } };
 
     ghost invariant = { λ a.
-        IsPool (record { words = a.words.items; free = take a.free a.slots.items; frames = length a.slots.items })
-        × (a.free ≤ length a.slots.items) };
+        IsPool (record {
+            words = from_last (length a.slots.items) a.words.items;
+            free = take a.free a.slots.items;
+            frames = length a.slots.items;
+        })
+        × (a.free ≤ length a.slots.items)
+        × HasRest (length a.slots.items) a.rest a.free (vec_capacity a.words) a.words.items a.slots.items };
 }
 
 impl Pool {
@@ -48,7 +63,7 @@ impl Pool {
         ensures zeroed { IfOk result (λ pool. (f : ℕ) → f < frames → IsZeroed pool.words f) }
         ensures count { IfOk result (λ pool. length pool.free ≡ frames) }
     {
-        let words = vec![in alloc; 0u64; (frames * TABLE_ENTRIES) as usize]?;
+        let words = Vec::with_capacity(alloc, (frames * TABLE_ENTRIES) as usize)?;
         let mut slots = Vec::new(alloc);
         for number in 0..frames {
             slots.push(Frame::new(number).unwrap())?;
@@ -57,6 +72,7 @@ impl Pool {
             words,
             slots,
             free: frames as usize,
+            rest: frames as usize,
         })
     }
 
@@ -80,9 +96,8 @@ impl Pool {
         requires { index < TABLE_ENTRIES }
         ensures { result ≡ word self.now.words frame index }
     {
-        let place = (frame.number() * TABLE_ENTRIES + index) as usize;
-        if place < self.words.len() {
-            self.words[place]
+        if (frame.number() as usize) < self.slots.len() {
+            self.word_of(frame, index)
         } else {
             0
         }
@@ -94,7 +109,21 @@ impl Pool {
         requires index { index < TABLE_ENTRIES }
         ensures { result ≡ word self.now.words frame index }
     {
-        self.words[(frame.number() * TABLE_ENTRIES + index) as usize]
+        let place = self.start_of(frame) + index as usize;
+        if place < self.words.len() {
+            self.words[place]
+        } else {
+            0
+        }
+    }
+
+    // Where the words of a frame of the pool begin.
+    #[inline(always)]
+    fn start_of(&self, frame: Frame) -> usize
+        requires { frame < self.now.frames }
+        ensures { result ≡ (self.now.frames - 1 - frame) * TABLE_ENTRIES }
+    {
+        (self.slots.len() - 1 - frame.number() as usize) * TABLE_ENTRIES as usize
     }
 
     /// Sets a word of a frame that isn't free.
@@ -107,7 +136,8 @@ impl Pool {
         ensures frames { self.new.frames ≡ self.old.frames }
         ensures pool { IsPool self.new }
     {
-        self.words[(frame.number() * TABLE_ENTRIES + index) as usize] = value;
+        let place = self.start_of(frame) + index as usize;
+        self.words[place] = value;
     }
 
     /// Clears `count` words of a frame that isn't free, from an index on.
@@ -121,7 +151,7 @@ impl Pool {
         ensures frames { self.new.frames ≡ self.old.frames }
         ensures pool { IsPool self.new }
     {
-        let start = (frame.number() * TABLE_ENTRIES + from) as usize;
+        let start = self.start_of(frame) + from as usize;
         self.words[start..start + count as usize].fill(0);
     }
 
@@ -147,7 +177,7 @@ impl Pool {
         ensures frames { self.new.frames ≡ self.old.frames }
         ensures pool { IsPool self.new }
     {
-        let start = (frame.number() * TABLE_ENTRIES + from) as usize;
+        let start = self.start_of(frame) + from as usize;
         spell_leaves(
             &mut self.words[start..start + count as usize],
             first,
@@ -168,6 +198,12 @@ impl Pool {
         ensures pool { IsPool self.new }
     {
         self.free -= 1;
+        if self.free < self.rest {
+            self.rest = self.free;
+            let end = self.words.len() + TABLE_ENTRIES as usize;
+            // The pool was made with the room for it.
+            self.words.resize(end, 0).unwrap();
+        }
         self.slots[self.free]
     }
 
