@@ -37,16 +37,16 @@ impl Model for Pool {
     ghost Value = { Pool };
 
     ghost view = { λ a. record {
-        words = from_last (length a.slots.items) a.words.items;
-        free = take a.free a.slots.items;
-        frames = length a.slots.items;
+      words = from_last (length a.slots.items) a.words.items;
+      free = take a.free a.slots.items;
+      frames = length a.slots.items;
     } };
 
     ghost invariant = { λ a.
         IsPool (record {
-            words = from_last (length a.slots.items) a.words.items;
-            free = take a.free a.slots.items;
-            frames = length a.slots.items;
+          words = from_last (length a.slots.items) a.words.items;
+          free = take a.free a.slots.items;
+          frames = length a.slots.items;
         })
         × (a.free ≤ length a.slots.items)
         × HasRest (length a.slots.items) a.rest a.free (vec_capacity a.words) a.words.items a.slots.items };

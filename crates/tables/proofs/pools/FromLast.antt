@@ -14,9 +14,6 @@ use Rattle.tables.proofs.pools.Patched.{IsPatch, patched, patch_lent}
 
 -- ---- a word
 
-
-
-
 pub length_from_last : (frames : ℕ) (items : List ℕ) → length (from_last frames items) ≡ frames * TABLE_ENTRIES
 unfolding from_last
 length_from_last frames items =
@@ -151,7 +148,7 @@ turned_lent pool rest start t i count m limit items ys run ok is fit behind t_in
     at_frame lent =
         let row : ℕ = pool.frames - 1 - t in
         let one = patch_lent limit row row i count m (in_memory had items) ys run refl same all sound (omega
-            (arith, behind, t_in)) refl i_in
+        (arith, behind, t_in)) refl i_in
         counted lent in (
           one.0,
           turned_patch pool had items (patched limit (row * TABLE_ENTRIES + i) (row * TABLE_ENTRIES + i + count) items ys run) t i run ok is
@@ -212,7 +209,7 @@ has_memory frames rest free room f items slots h fits taken =
     (λ (l : f < rest).
     let here : get_or slots (f + 1 - 1) 0 ≡ f = ap (λ j. get_or slots j 0) (omega arith) ∙ h.order f l in
     let some : 0 < occurs (get_or slots (f + 1 - 1) 0) (take (f + 1) slots) = last_free slots (f + 1) (omega arith) (omega
-        (arith, l, h.free, fits)) in
+    (arith, l, h.free, fits)) in
     let also : 0 < occurs f (take (f + 1) slots) = subst (λ x. 0 < occurs x (take (f + 1) slots)) here some in
     let on : f + 1 + (free - (f + 1)) ≡ free = omega (arith, l, h.free) in
     absurd (omega (

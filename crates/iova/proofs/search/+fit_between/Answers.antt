@@ -66,7 +66,7 @@ returns-then-start-pages-clause-found t c x from w =
             u.longest.ensures (omega (arith, u.if-longest-pages.false))
         | else-least-pages-via-else-least-pages u ↦ none-under c.args.nodes.now c.args.root c.in-Some.key c.index-node.result.now
             c.args.floor c.args.pages c.args.unit x from w c.in-Some.is c.index-node.ensures c.round_up-least.result
-                c.round_up-least.ensures.up (omega (arith, u.if-least-pages.false))
+            c.round_up-least.ensures.up (omega (arith, u.if-least-pages.false))
       ]
     ] in
     fit-here c.args.nodes.now c.args.root c.in-Some.key c.index-node.result.now c.args.floor c.args.pages c.args.unit x from w c.in-Some.is
@@ -84,8 +84,19 @@ fit_between-requires-2 t c =
       (
         fit-can_right c.args.nodes.now c.args.root c.in-Some.key c.index-node.result.now c.args.floor c.args.pages c.args.unit
             c.requires.tree.0 c.requires.tree.1 c.requires.tree.2 c.in-Some.is c.index-node.ensures,
-        (omega (arith, c.max-behind.ensures, c.requires.floor, below), (c.requires.some_pages, (c.requires.pages, (c.requires.some_unit,
-            (c.requires.unit, c.requires.power))))),
+        (
+          omega (arith, c.max-behind.ensures, c.requires.floor, below),
+          (
+            c.requires.some_pages,
+            (
+              c.requires.pages,
+              (
+                c.requires.some_unit,
+                (c.requires.unit, c.requires.power),
+              ),
+            ),
+          ),
+        ),
       ),
     )
 
@@ -104,13 +115,13 @@ returns-clause-found t c x from w =
             u.longest.ensures (omega (arith, u.if-longest-pages.false))
         | else-least-pages-via-else-least-pages u ↦ none-under c.args.nodes.now c.args.root c.in-Some.key c.index-node.result.now
             c.args.floor c.args.pages c.args.unit x from w c.in-Some.is c.index-node.ensures c.round_up-least.result
-                c.round_up-least.ensures.up (omega (arith, u.if-least-pages.false))
+            c.round_up-least.ensures.up (omega (arith, u.if-least-pages.false))
       ]
     ] in
     let none : HasNoRoom c.args.floor c.args.pages c.args.unit c.index-node.result.now.piece = elim c.if-is_free.branch [
       | then-is_free+else-start-pages v ↦ no_room _ c.args.floor c.args.pages c.args.unit v.round_up-start.result
           (subst (λ page. IsRoundUp page
-              c.args.unit v.round_up-start.result) v.max.ensures v.round_up-start.ensures.up) v.if-start-pages.false
+          c.args.unit v.round_up-start.result) v.max.ensures v.round_up-start.ensures.up) v.if-start-pages.false
       | else-is_free v ↦ not_free _ c.args.floor c.args.pages c.args.unit (sym c.is_free.ensures ∙ v.if-is_free.false)
     ] in
     fit-right c.args.nodes.now c.args.root c.in-Some.key c.index-node.result.now c.args.floor c.args.pages c.args.unit x from w c.in-Some.is
@@ -133,13 +144,13 @@ returns-clause-none t c x from w ends =
             u.longest.ensures (omega (arith, u.if-longest-pages.false))
         | else-least-pages-via-else-least-pages u ↦ none-under c.args.nodes.now c.args.root c.in-Some.key c.index-node.result.now
             c.args.floor c.args.pages c.args.unit x from w c.in-Some.is c.index-node.ensures c.round_up-least.result
-                c.round_up-least.ensures.up (omega (arith, u.if-least-pages.false))
+            c.round_up-least.ensures.up (omega (arith, u.if-least-pages.false))
       ]
     ] in
     let none : HasNoRoom c.args.floor c.args.pages c.args.unit c.index-node.result.now.piece = elim c.if-is_free.branch [
       | then-is_free+else-start-pages v ↦ no_room _ c.args.floor c.args.pages c.args.unit v.round_up-start.result
           (subst (λ page. IsRoundUp page
-              c.args.unit v.round_up-start.result) v.max.ensures v.round_up-start.ensures.up) v.if-start-pages.false
+          c.args.unit v.round_up-start.result) v.max.ensures v.round_up-start.ensures.up) v.if-start-pages.false
       | else-is_free v ↦ not_free _ c.args.floor c.args.pages c.args.unit (sym c.is_free.ensures ∙ v.if-is_free.false)
     ] in
     fit-none c.args.nodes.now c.args.root c.in-Some.key c.index-node.result.now c.args.floor c.args.pages c.args.unit x from w c.in-Some.is

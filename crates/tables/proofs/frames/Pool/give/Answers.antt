@@ -25,7 +25,7 @@ invariant_of-self c =
     let frames : length c.self.inside.slots.items ≡ c.args.self.now.frames = ap (λ (p : Pool). p.frames) c.self.view_is in
     let taken : occurs c.args.frame (take n slots) ≡ 0 = ap (λ (p : Pool). occurs c.args.frame p.free) c.self.view_is ∙ c.requires.taken in
     let words : c.args.self.now.words ≡ from_last (length slots) c.self.inside.words.items = sym (ap (λ (p : Pool). p.words)
-        c.self.view_is) in
+    c.self.view_is) in
     let room : n < length slots =
     omega (
       arith,

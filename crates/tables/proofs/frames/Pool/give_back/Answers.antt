@@ -32,7 +32,7 @@ pub invariant_of-self : goal.invariant_of-self
 invariant_of-self c =
     let all =
     given_state (from_last (length c.self.inside.slots.items) c.self.inside.words.items) c.self.inside.slots.len c.self.inside.free
-        c.self.inside.slots.items c.deref_mut.result.now
+    c.self.inside.slots.items c.deref_mut.result.now
     c.copy_from_slice.new.self c.args.frames.now c.deref_mut.ensures.value c.copy_from_slice.ensures.after (omega arith)
     c.self.invariant.1 c.self.invariant.0
     (subst (λ (p : Pool). (f : ℕ) → occurs f p.free + occurs f c.args.frames.now ≤ 1) (sym c.self.view_is) c.requires.once)
@@ -45,7 +45,7 @@ pub returns-clause-free : goal.returns-clause-free
 returns-clause-free c f =
     let all =
     given_state (from_last (length c.self.inside.slots.items) c.self.inside.words.items) c.self.inside.slots.len c.self.inside.free
-        c.self.inside.slots.items c.deref_mut.result.now
+    c.self.inside.slots.items c.deref_mut.result.now
     c.copy_from_slice.new.self c.args.frames.now c.deref_mut.ensures.value c.copy_from_slice.ensures.after (omega arith)
     c.self.invariant.1 c.self.invariant.0
     (subst (λ (p : Pool). (f : ℕ) → occurs f p.free + occurs f c.args.frames.now ≤ 1) (sym c.self.view_is) c.requires.once)

@@ -20,7 +20,7 @@ loop-number-preserved c =
       past = rw pushed (counted_past c.loop-number.slots.items c.loop-number.number c.loop-number.invariant.past);
       order =
           rw pushed (pushed_order c.loop-number.slots.items c.loop-number.number c.loop-number.invariant.long
-              c.loop-number.invariant.order);
+          c.loop-number.invariant.order);
     }
 
 pub returns-clause-free : goal.returns-clause-free

@@ -37,17 +37,16 @@ open_one c = elim c.if-self.branch [
       subst (λ p.
       (p.slots ≡ c.self.inside.slots) × (p.free ≡ c.self.inside.free - 1) × (from_last n p.words.items ≡ from_last n items)
       × HasRest n p.rest (c.self.inside.free - 1) p.words.cap p.words.items c.self.inside.slots.items)
-      (sym w.self-inside-is)
-      (
+      (sym w.self-inside-is) (
         refl,
         refl,
         ap (from_last n) longer ∙ opened n TABLE_ENTRIES items,
         subst (λ xs. HasRest n (c.self.inside.free - 1) (c.self.inside.free - 1) w.resize.new.self.cap xs c.self.inside.slots.items)
             (sym longer)
             (taken_next n c.self.inside.rest c.self.inside.free c.self.inside.words.cap w.resize.new.self.cap items
-                c.self.inside.slots.items
+            c.self.inside.slots.items
             c.self.invariant.2 (omega (arith, w.if-self.true, c.self.invariant.2.free, some_free c))
-                (some_free c) w.resize.ensures.capacity),
+            (some_free c) w.resize.ensures.capacity),
       )
   | else-self w ↦
       let n = length c.self.inside.slots.items in
@@ -55,8 +54,7 @@ open_one c = elim c.if-self.branch [
       (p.slots ≡ c.self.inside.slots) × (p.free ≡ c.self.inside.free - 1)
       × (from_last n p.words.items ≡ from_last n c.self.inside.words.items)
       × HasRest n p.rest (c.self.inside.free - 1) p.words.cap p.words.items c.self.inside.slots.items)
-      (sym w.self-inside-is)
-      (
+      (sym w.self-inside-is) (
         refl,
         refl,
         refl,
@@ -133,7 +131,7 @@ returns-clause-zeroed c =
     let zeroed : IsZeroed (from_last n c.self.inside.words.items) c.index.result.now =
     subst (λ f. IsZeroed (from_last n c.self.inside.words.items) f) (sym (frame_is c))
     (c.self.invariant.0.zeroed (get_or slots (c.self.inside.free - 1) 0) (last_free slots c.self.inside.free (some_free c)
-        c.self.invariant.1)) in
+    c.self.invariant.1)) in
     subst (λ s. IsZeroed (from_last (length s.items) c.if-self.self-inside.words.items) c.index.result.now) (sym one.0)
     (subst (λ ws. IsZeroed ws c.index.result.now) (sym one.2) zeroed)
 

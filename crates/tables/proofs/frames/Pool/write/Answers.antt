@@ -35,8 +35,7 @@ invariant_of-self c =
     })
     × (c.self.inside.free ≤ n)
     × HasRest n c.self.inside.rest c.self.inside.free c.self.inside.words.cap (set items p c.args.value) c.self.inside.slots.items)
-    place
-    (
+    place (
       wrote_keeps _ (from_last n (set items ((n - 1 - c.args.frame) * TABLE_ENTRIES + c.args.index) c.args.value)) c.args.frame c.args.index
           c.args.value c.self.invariant.0
           (length_from_last n (set items ((n - 1 - c.args.frame) * TABLE_ENTRIES + c.args.index) c.args.value)
@@ -66,7 +65,7 @@ returns-clause-wrote c =
     let place : (n - 1 - c.args.frame) * TABLE_ENTRIES + c.args.index ≡ c.start_of.result + c.args.index =
     omega (arith, c.start_of.ensures, frames) in
     let one : IsWrite (from_last n items) (from_last n (set items (c.start_of.result + c.args.index) c.args.value)) c.args.frame
-        c.args.index
+    c.args.index
     c.args.value =
     subst (λ p. IsWrite (from_last n items) (from_last n (set items p c.args.value)) c.args.frame c.args.index c.args.value) place
     (turned_write n items c.args.frame c.args.index c.args.value (omega (arith, c.requires.frame, frames)) c.requires.index

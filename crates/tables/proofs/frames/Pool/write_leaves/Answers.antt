@@ -41,16 +41,24 @@ slice_bounds-spell_leaves-end c =
       c.start_of.ensures,
       rest.fit,
       has_memory n c.self.inside.rest c.self.inside.free _ c.args.frame c.self.inside.words.items c.self.inside.slots.items rest
-      c.self.invariant.1 taken,
+          c.self.invariant.1 taken,
       ap (λ xs. length xs) c.deref_mut.ensures.value,
     )
 
 pub invariant_of-self : goal.invariant_of-self
 invariant_of-self c =
     let lent = spelled (goal.at.invariant_of-self c).After-spell_leaves in
-    let rest = c.self.invariant.2 in
-    (lent.1.keeps, c.self.invariant.1, record { fit = omega
-        (arith, lent.2, rest.fit); free = rest.free; order = rest.order; room = rest.room })
+    let rest = c.self.invariant.2 in (
+      lent.1.keeps,
+      c.self.invariant.1,
+      record {
+        fit = omega
+            (arith, lent.2, rest.fit);
+        free = rest.free;
+        order = rest.order;
+        room = rest.room;
+      },
+    )
 
 pub returns-clause-leaves : goal.returns-clause-leaves
 returns-clause-leaves c k k_in =
