@@ -9,9 +9,9 @@ from_last frames items =
     map (λ p. slice_index items ((frames - 1 - p / TABLE_ENTRIES) * TABLE_ENTRIES + p % TABLE_ENTRIES))
     (range_with_len 0 (frames * TABLE_ENTRIES))
 
--- the first frames have no memory yet, but room for it; they are the first of the free ones, in order
-pub record HasRest (frames rest free_count capacity : ℕ) (items slots : List ℕ) : Type 0 where
-  pub fit : length items + rest * TABLE_ENTRIES ≡ frames * TABLE_ENTRIES
-  pub free : rest ≤ free_count
-  pub order : (i : ℕ) → i < rest → slice_index slots i ≡ i
+-- the first frames were never taken: they have no memory yet, but room for it, and are the first of the free ones, in order
+pub record HasUntaken (frames untaken free_count capacity : ℕ) (items slots : List ℕ) : Type 0 where
+  pub fit : length items + untaken * TABLE_ENTRIES ≡ frames * TABLE_ENTRIES
+  pub free : untaken ≤ free_count
+  pub order : (i : ℕ) → i < untaken → slice_index slots i ≡ i
   pub room : frames * TABLE_ENTRIES ≤ capacity

@@ -22,16 +22,16 @@ pub struct Pool {
     // Those of the last frame first, since that is taken first: a frame's words are written when it is first taken, so that memory which is
     // never used isn't touched.
     words: Vec<u64>,
-    // The free frames come first: those that were never taken in order, and the others in none.
+    // The free frames come first: those that were never taken, in order; then the others, in none.
     slots: Vec<Frame>,
     free: usize,
     // How many were never taken.
-    rest: usize,
+    untaken: usize,
 }
 
 impl Model for Pool {
     ghost use Rattle.std.specs.Prelude.{◌≤◌, length, take, vec_capacity};
-    ghost use Rattle.tables.specs.FromLast.{HasRest, from_last};
+    ghost use Rattle.tables.specs.FromLast.{HasUntaken, from_last};
     ghost use Rattle.tables.specs.Pool.{Pool, IsPool};
 
     ghost Value = { Pool };
@@ -49,7 +49,7 @@ impl Model for Pool {
           frames = length a.slots.items;
         })
         × (a.free ≤ length a.slots.items)
-        × HasRest (length a.slots.items) a.rest a.free (vec_capacity a.words) a.words.items a.slots.items };
+        × HasUntaken (length a.slots.items) a.untaken a.free (vec_capacity a.words) a.words.items a.slots.items };
 }
 
 impl Pool {
@@ -72,7 +72,7 @@ impl Pool {
             words,
             slots,
             free: frames as usize,
-            rest: frames as usize,
+            untaken: frames as usize,
         })
     }
 
@@ -103,7 +103,8 @@ impl Pool {
         }
     }
 
-    /// The word of a frame of the pool at an index: `read` without its test, for the tables of a tree.
+    /// The word of a frame of the pool at an index: `read` without the test whether the pool has the frame, for the
+    /// tables of a tree.
     pub(crate) fn word_of(&self, frame: Frame, index: u64) -> u64
         requires frame { frame < self.now.frames }
         requires index { index < TABLE_ENTRIES }
@@ -198,8 +199,8 @@ impl Pool {
         ensures pool { IsPool self.new }
     {
         self.free -= 1;
-        if self.free < self.rest {
-            self.rest = self.free;
+        if self.free < self.untaken {
+            self.untaken = self.free;
             let end = self.words.len() + TABLE_ENTRIES as usize;
             // The pool was made with the room for it.
             self.words.resize(end, 0).unwrap();

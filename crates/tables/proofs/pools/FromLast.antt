@@ -7,7 +7,7 @@ use Rattle.std.proofs.lemmas.List.{ext_get_or, get_or-take, length-append, lengt
 use Rattle.std.proofs.lemmas.List.{get_or-append_right, get_or_past, get_or_push, get_or-replicate}
 use Rattle.std.proofs.lemmas.List.FromFn.{length-map-range_with_len, get_or-map-range_with_len}
 use Rattle.tables.specs.declared.entries.TheConstants.{TABLE_ENTRIES}
-use Rattle.tables.specs.FromLast.{HasRest, from_last}
+use Rattle.tables.specs.FromLast.{HasUntaken, from_last}
 use Rattle.tables.specs.Pool.{Pool, word, occurs, IsPool, IsWrite, KeepsOtherWords}
 use Rattle.tables.proofs.pools.FreeList.{last_free, occurs_more, one_place}
 use Rattle.tables.proofs.pools.Patched.{IsPatch, patched, patch_lent}
@@ -202,7 +202,7 @@ occurs_le xs n (suc d) f fits =
       occurs_le xs n d f (omega (arith, fits)),
     )
 
-pub has_memory : (frames rest free room f : ℕ) (items slots : List ℕ) → HasRest frames rest free room items slots
+pub has_memory : (frames rest free room f : ℕ) (items slots : List ℕ) → HasUntaken frames rest free room items slots
     → free ≤ length slots → occurs f (take free slots) ≡ 0 → rest ≤ f
 has_memory frames rest free room f items slots h fits taken =
     ⊎_elim
@@ -242,8 +242,8 @@ longer_by old new n long is all more =
     ∙ ap (λ k. old ++ replicate k 0) by
 
 -- memory for one more frame, where the next one to be taken was never taken
-pub taken_next : (frames rest free capacity more : ℕ) (items slots : List ℕ) → HasRest frames rest free capacity items slots → free ≡ rest
-    → 0 < free → capacity ≤ more → HasRest frames (free - 1) (free - 1) more (items ++ replicate TABLE_ENTRIES 0) slots
+pub taken_next : (frames rest free capacity more : ℕ) (items slots : List ℕ) → HasUntaken frames rest free capacity items slots → free ≡ rest
+    → 0 < free → capacity ≤ more → HasUntaken frames (free - 1) (free - 1) more (items ++ replicate TABLE_ENTRIES 0) slots
 taken_next frames rest free capacity more items slots h next some larger = record {
   fit = omega (arith, length-append items (replicate TABLE_ENTRIES 0), h.fit, next, some);
   free = omega arith;
@@ -251,14 +251,14 @@ taken_next frames rest free capacity more items slots h next some larger = recor
   room = omega (arith, h.room, larger);
 }
 
-pub taken_again : (frames rest free capacity : ℕ) (items slots : List ℕ) → HasRest frames rest free capacity items slots → rest ≤ free - 1
-    → HasRest frames rest (free - 1) capacity items slots
+pub taken_again : (frames rest free capacity : ℕ) (items slots : List ℕ) → HasUntaken frames rest free capacity items slots → rest ≤ free - 1
+    → HasUntaken frames rest (free - 1) capacity items slots
 taken_again frames rest free capacity items slots h less = record { fit = h.fit; free = less; order = h.order; room = h.room }
 
 -- ---- a frame is given
 
-pub given_order : (frames rest free capacity v : ℕ) (items slots : List ℕ) → HasRest frames rest free capacity items slots
-    → HasRest frames rest (free + 1) capacity items (set slots free v)
+pub given_order : (frames rest free capacity v : ℕ) (items slots : List ℕ) → HasUntaken frames rest free capacity items slots
+    → HasUntaken frames rest (free + 1) capacity items (set slots free v)
 given_order frames rest free capacity v items slots h = record {
   fit = h.fit;
   free = omega (arith, h.free);
@@ -267,8 +267,8 @@ given_order frames rest free capacity v items slots h = record {
 }
 
 -- frames behind the free ones
-pub given_orders : (frames rest free capacity more : ℕ) (items slots new given : List ℕ) → HasRest frames rest free capacity items slots
-    → free ≤ length slots → take more new ≡ take free slots ++ given → free ≤ more → HasRest frames rest more capacity items new
+pub given_orders : (frames rest free capacity more : ℕ) (items slots new given : List ℕ) → HasUntaken frames rest free capacity items slots
+    → free ≤ length slots → take more new ≡ take free slots ++ given → free ≤ more → HasUntaken frames rest more capacity items new
 given_orders frames rest free capacity more items slots new given h fits is larger = record {
   fit = h.fit;
   free = omega (arith, h.free, larger);
@@ -287,10 +287,10 @@ as_many frames items pool ok is = omega (arith, ok.fit, ap (λ xs. length xs) is
 
 pub given_pool : (rest free capacity more : ℕ) (items slots new given : List ℕ)
     → IsPool (record { words = from_last (length slots) items; free = take more new; frames = length new }) → more ≤ length new
-    → take more new ≡ take free slots ++ given → HasRest (length slots) rest free capacity items slots → free ≤ length slots → free ≤ more
+    → take more new ≡ take free slots ++ given → HasUntaken (length slots) rest free capacity items slots → free ≤ length slots → free ≤ more
     → IsPool (record { words = from_last (length new) items; free = take more new; frames = length new })
     × (more ≤ length new)
-    × HasRest (length new) rest more capacity items new
+    × HasUntaken (length new) rest more capacity items new
 given_pool rest free capacity more items slots new given ok fits is h short larger =
     let same : length slots ≡ length new = as_many (length slots) items (record {
       words = from_last (length slots) items;
@@ -299,6 +299,6 @@ given_pool rest free capacity more items slots new given ok fits is h short larg
     }) ok refl in (
       subst (λ m. IsPool (record { words = from_last m items; free = take more new; frames = length new })) same ok,
       fits,
-      subst (λ m. HasRest m rest more capacity items new) same
+      subst (λ m. HasUntaken m rest more capacity items new) same
           (given_orders (length slots) rest free capacity more items slots new given h short is larger),
     )

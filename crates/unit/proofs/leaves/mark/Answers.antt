@@ -1,5 +1,4 @@
-use Rattle.std.proofs.Common.{◌≡◌, ℕ, ◌/◌, subst, arith}
-use Rattle.dmatypes.specs.declared.page.TheConstants.{SPAN_PAGES}
+use Rattle.std.proofs.Common.{subst, arith}
 use Rattle.unit.specs.Marks.{HasMark, IsMarked}
 use Rattle.unit.proofs.caches.Marks.{of_a_span, spans_marked}
 use Rattle.unit.proofs.leaves.mark.Goals as goal

@@ -10,8 +10,6 @@ use Rattle.iova.proofs.Taken.{no_cut, one_start, page_range, range_narrow, space
 use Rattle.iova.proofs.searches.FromFloor.{one_from}
 use Rattle.iova.proofs.shapes.Tall.{kept_self, kept_view}
 use Rattle.iova.proofs.piece_tree.PieceTree.take_from.Goals as goal
-use Rattle.iova.proofs.piece_tree.PieceTree.take_from.Goals.{}
-use Rattle.iova.proofs.piece_tree.PieceTree.take_from.Goals.{}
 use Rattle.iova.proofs.piece_tree.PieceTree.take_from.Goals.{else-len-gt-MOST_PIECES_TO_CUT-via-then-len-gt-MOST_PIECES_TO_CUT+else-cuts_piece}
 use Rattle.iova.proofs.piece_tree.PieceTree.take_from.Goals.{else-len-gt-MOST_PIECES_TO_CUT-via-else-len-gt-MOST_PIECES_TO_CUT}
 

@@ -8,8 +8,6 @@ use Rattle.iova.specs.Stored.{stored}
 use Rattle.iova.proofs.Taken.{no_cut, one_lowest, page_range, range_narrow, space_taken, start_is, takes, unit_is}
 use Rattle.iova.proofs.shapes.Tall.{kept_self, kept_view}
 use Rattle.iova.proofs.piece_tree.PieceTree.take_from_tree.Goals as goal
-use Rattle.iova.proofs.piece_tree.PieceTree.take_from_tree.Goals.{}
-use Rattle.iova.proofs.piece_tree.PieceTree.take_from_tree.Goals.{}
 use Rattle.iova.proofs.piece_tree.PieceTree.take_from_tree.Goals.{else-len-gt-MOST_PIECES_TO_CUT-via-then-len-gt-MOST_PIECES_TO_CUT+else-cuts_piece}
 use Rattle.iova.proofs.piece_tree.PieceTree.take_from_tree.Goals.{else-len-gt-MOST_PIECES_TO_CUT-via-else-len-gt-MOST_PIECES_TO_CUT}
 

@@ -19,9 +19,9 @@ cleared c =
     let taken : occurs c.args.frame (take c.self.inside.free c.self.inside.slots.items) ≡ 0 =
     ap (λ (p : Pool). occurs c.args.frame p.free) c.self.view_is ∙ c.requires.taken in
     let rest = c.self.invariant.2 in
-    turned_lent _ c.self.inside.rest c.start_of.result c.args.frame c.args.from c.args.count _ c.self.inside.words.len
+    turned_lent _ c.self.inside.untaken c.start_of.result c.args.frame c.args.from c.args.count _ c.self.inside.words.len
     c.self.inside.words.items c.deref_mut.result.now c.fill.new.self c.self.invariant.0 refl rest.fit
-    (has_memory n c.self.inside.rest c.self.inside.free _ c.args.frame c.self.inside.words.items c.self.inside.slots.items rest
+    (has_memory n c.self.inside.untaken c.self.inside.free _ c.args.frame c.self.inside.words.items c.self.inside.slots.items rest
     c.self.invariant.1 taken)
     (omega (arith, frames, c.requires.frame)) taken c.requires.within (omega (arith, c.start_of.ensures, frames)) c.deref_mut.ensures.value
     (omega arith) (omega arith) c.fill.ensures.len
@@ -40,7 +40,7 @@ slice_bounds-fill-end c =
       c.requires.within,
       c.start_of.ensures,
       rest.fit,
-      has_memory n c.self.inside.rest c.self.inside.free _ c.args.frame c.self.inside.words.items c.self.inside.slots.items rest
+      has_memory n c.self.inside.untaken c.self.inside.free _ c.args.frame c.self.inside.words.items c.self.inside.slots.items rest
           c.self.invariant.1 taken,
       ap (λ xs. length xs) c.deref_mut.ensures.value,
     )

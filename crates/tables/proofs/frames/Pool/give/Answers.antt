@@ -35,7 +35,7 @@ invariant_of-self c =
       rw length-set (more_keeps _ c.args.frame (take (n + 1) (set slots n c.args.frame)) c.self.invariant.0 (omega arith) taken
           (subst (λ w. IsZeroed w c.args.frame) words c.requires.zeroed) (λ f. occurs_given slots n c.args.frame f room)),
       rw length-set (omega arith),
-      rw length-set (given_order (length slots) c.self.inside.rest n c.self.inside.words.cap c.args.frame c.self.inside.words.items slots
+      rw length-set (given_order (length slots) c.self.inside.untaken n c.self.inside.words.cap c.args.frame c.self.inside.words.items slots
           c.self.invariant.2),
     )
 

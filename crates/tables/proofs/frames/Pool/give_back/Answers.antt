@@ -38,7 +38,7 @@ invariant_of-self c =
     (subst (λ (p : Pool). (f : ℕ) → occurs f p.free + occurs f c.args.frames.now ≤ 1) (sym c.self.view_is) c.requires.once)
     (subst (λ (p : Pool). (f : ℕ) → 0 < occurs f c.args.frames.now → f < p.frames) (sym c.self.view_is) c.requires.within)
     (subst (λ (p : Pool). (f : ℕ) → 0 < occurs f c.args.frames.now → IsZeroed p.words f) (sym c.self.view_is) c.requires.zeroed) in
-    given_pool c.self.inside.rest c.self.inside.free c.self.inside.words.cap _ c.self.inside.words.items c.self.inside.slots.items _
+    given_pool c.self.inside.untaken c.self.inside.free c.self.inside.words.cap _ c.self.inside.words.items c.self.inside.slots.items _
     c.args.frames.now all.0 all.1 all.2 c.self.invariant.2 c.self.invariant.1 (omega arith)
 
 pub returns-clause-free : goal.returns-clause-free

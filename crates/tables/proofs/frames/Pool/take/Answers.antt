@@ -3,7 +3,7 @@ use Rattle.std.proofs.Common.{arith, ⊎_elim}
 use Rattle.std.proofs.lemmas.List.{get_or_read}
 use Rattle.std.proofs.lemmas.Bool.{cases_lt}
 use Rattle.tables.specs.declared.entries.TheConstants.{TABLE_ENTRIES}
-use Rattle.tables.specs.FromLast.{HasRest, from_last}
+use Rattle.tables.specs.FromLast.{HasUntaken, from_last}
 use Rattle.tables.specs.Pool.{Pool, IsPool, IsZeroed}
 use Rattle.tables.proofs.pools.FreeList.{occurs_front, fewer_keeps, last_free}
 use Rattle.tables.proofs.pools.FromLast.{longer_by, opened, taken_again, taken_next}
@@ -25,7 +25,7 @@ open_one : (c : After-result-1)
     × (c.if-self.self-inside.free ≡ c.self.inside.free - 1)
     × (from_last (length c.self.inside.slots.items) c.if-self.self-inside.words.items
     ≡ from_last (length c.self.inside.slots.items) c.self.inside.words.items)
-    × HasRest (length c.self.inside.slots.items) c.if-self.self-inside.rest (c.self.inside.free - 1) c.if-self.self-inside.words.cap
+    × HasUntaken (length c.self.inside.slots.items) c.if-self.self-inside.untaken (c.self.inside.free - 1) c.if-self.self-inside.words.cap
     c.if-self.self-inside.words.items c.self.inside.slots.items
 open_one c = elim c.if-self.branch [
   | then-self w ↦
@@ -36,14 +36,14 @@ open_one c = elim c.if-self.branch [
       (rw w.unwrap.ensures at w.resize.ensures.items) (omega arith) (omega (arith, w.len.ensures)) in
       subst (λ p.
       (p.slots ≡ c.self.inside.slots) × (p.free ≡ c.self.inside.free - 1) × (from_last n p.words.items ≡ from_last n items)
-      × HasRest n p.rest (c.self.inside.free - 1) p.words.cap p.words.items c.self.inside.slots.items)
+      × HasUntaken n p.untaken (c.self.inside.free - 1) p.words.cap p.words.items c.self.inside.slots.items)
       (sym w.self-inside-is) (
         refl,
         refl,
         ap (from_last n) longer ∙ opened n TABLE_ENTRIES items,
-        subst (λ xs. HasRest n (c.self.inside.free - 1) (c.self.inside.free - 1) w.resize.new.self.cap xs c.self.inside.slots.items)
+        subst (λ xs. HasUntaken n (c.self.inside.free - 1) (c.self.inside.free - 1) w.resize.new.self.cap xs c.self.inside.slots.items)
             (sym longer)
-            (taken_next n c.self.inside.rest c.self.inside.free c.self.inside.words.cap w.resize.new.self.cap items
+            (taken_next n c.self.inside.untaken c.self.inside.free c.self.inside.words.cap w.resize.new.self.cap items
             c.self.inside.slots.items
             c.self.invariant.2 (omega (arith, w.if-self.true, c.self.invariant.2.free, some_free c))
             (some_free c) w.resize.ensures.capacity),
@@ -53,12 +53,12 @@ open_one c = elim c.if-self.branch [
       subst (λ p.
       (p.slots ≡ c.self.inside.slots) × (p.free ≡ c.self.inside.free - 1)
       × (from_last n p.words.items ≡ from_last n c.self.inside.words.items)
-      × HasRest n p.rest (c.self.inside.free - 1) p.words.cap p.words.items c.self.inside.slots.items)
+      × HasUntaken n p.untaken (c.self.inside.free - 1) p.words.cap p.words.items c.self.inside.slots.items)
       (sym w.self-inside-is) (
         refl,
         refl,
         refl,
-        taken_again n c.self.inside.rest c.self.inside.free c.self.inside.words.cap c.self.inside.words.items c.self.inside.slots.items
+        taken_again n c.self.inside.untaken c.self.inside.free c.self.inside.words.cap c.self.inside.words.items c.self.inside.slots.items
             c.self.invariant.2 (omega (arith, w.if-self.false)),
       )
 ]
@@ -86,7 +86,7 @@ invariant_of-self c =
       frames = length s.items;
     })
     × (c.if-self.self-inside.free ≤ length s.items)
-    × HasRest (length s.items) c.if-self.self-inside.rest c.if-self.self-inside.free c.if-self.self-inside.words.cap
+    × HasUntaken (length s.items) c.if-self.self-inside.untaken c.if-self.self-inside.free c.if-self.self-inside.words.cap
     c.if-self.self-inside.words.items s.items)
     (sym one.0)
     (subst (λ k.
@@ -96,7 +96,7 @@ invariant_of-self c =
       frames = n;
     })
     × (k ≤ n)
-    × HasRest n c.if-self.self-inside.rest k c.if-self.self-inside.words.cap c.if-self.self-inside.words.items c.self.inside.slots.items)
+    × HasUntaken n c.if-self.self-inside.untaken k c.if-self.self-inside.words.cap c.if-self.self-inside.words.items c.self.inside.slots.items)
     (sym one.1) (words, omega (arith, c.self.invariant.1), one.3))
 
 -- the frame is the last of the free ones

@@ -1,6 +1,6 @@
 use Rattle.std.proofs.Common.{◌≡◌, ◌+◌, ◌-◌, ◌*◌, ◌≤◌, length, length-set, take, ap, sym, ◌∙◌, subst, set, arith}
 use Rattle.tables.specs.declared.entries.TheConstants.{TABLE_ENTRIES}
-use Rattle.tables.specs.FromLast.{HasRest, from_last}
+use Rattle.tables.specs.FromLast.{HasUntaken, from_last}
 use Rattle.tables.specs.Pool.{Pool, word, occurs, IsWrite, IsPool}
 use Rattle.tables.proofs.pools.FromLast.{has_memory, length_from_last, turned_write, wrote_keeps}
 use Rattle.tables.proofs.frames.Pool.write.Goals as goal
@@ -11,7 +11,7 @@ index_mut-requires c =
     let frames : n ≡ c.args.self.now.frames = ap (λ (p : Pool). p.frames) c.self.view_is in
     let taken : occurs c.args.frame (take c.self.inside.free c.self.inside.slots.items) ≡ 0 =
     ap (λ (p : Pool). occurs c.args.frame p.free) c.self.view_is ∙ c.requires.taken in
-    let behind = has_memory n c.self.inside.rest c.self.inside.free _ c.args.frame c.self.inside.words.items c.self.inside.slots.items
+    let behind = has_memory n c.self.inside.untaken c.self.inside.free _ c.args.frame c.self.inside.words.items c.self.inside.slots.items
     c.self.invariant.2 c.self.invariant.1 taken in
     omega (arith, c.start_of.ensures, frames, c.requires.frame, c.requires.index, behind, c.self.invariant.2.fit)
 
@@ -22,7 +22,7 @@ invariant_of-self c =
     let frames : n ≡ c.args.self.now.frames = ap (λ (p : Pool). p.frames) c.self.view_is in
     let taken : occurs c.args.frame (take c.self.inside.free c.self.inside.slots.items) ≡ 0 =
     ap (λ (p : Pool). occurs c.args.frame p.free) c.self.view_is ∙ c.requires.taken in
-    let behind = has_memory n c.self.inside.rest c.self.inside.free _ c.args.frame items c.self.inside.slots.items c.self.invariant.2
+    let behind = has_memory n c.self.inside.untaken c.self.inside.free _ c.args.frame items c.self.inside.slots.items c.self.invariant.2
     c.self.invariant.1 taken in
     let place : (n - 1 - c.args.frame) * TABLE_ENTRIES + c.args.index ≡ c.start_of.result + c.args.index =
     omega (arith, c.start_of.ensures, frames) in
@@ -34,7 +34,7 @@ invariant_of-self c =
       frames = n;
     })
     × (c.self.inside.free ≤ n)
-    × HasRest n c.self.inside.rest c.self.inside.free c.self.inside.words.cap (set items p c.args.value) c.self.inside.slots.items)
+    × HasUntaken n c.self.inside.untaken c.self.inside.free c.self.inside.words.cap (set items p c.args.value) c.self.inside.slots.items)
     place (
       wrote_keeps _ (from_last n (set items ((n - 1 - c.args.frame) * TABLE_ENTRIES + c.args.index) c.args.value)) c.args.frame c.args.index
           c.args.value c.self.invariant.0
@@ -60,7 +60,7 @@ returns-clause-wrote c =
     let frames : n ≡ c.args.self.now.frames = ap (λ (p : Pool). p.frames) c.self.view_is in
     let taken : occurs c.args.frame (take c.self.inside.free c.self.inside.slots.items) ≡ 0 =
     ap (λ (p : Pool). occurs c.args.frame p.free) c.self.view_is ∙ c.requires.taken in
-    let behind = has_memory n c.self.inside.rest c.self.inside.free _ c.args.frame items c.self.inside.slots.items c.self.invariant.2
+    let behind = has_memory n c.self.inside.untaken c.self.inside.free _ c.args.frame items c.self.inside.slots.items c.self.invariant.2
     c.self.invariant.1 taken in
     let place : (n - 1 - c.args.frame) * TABLE_ENTRIES + c.args.index ≡ c.start_of.result + c.args.index =
     omega (arith, c.start_of.ensures, frames) in
