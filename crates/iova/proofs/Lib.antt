@@ -15,5 +15,5 @@ pub mod Same
 pub mod shapes
 pub mod parts
 pub mod searches
-pub mod fronts
+pub mod carvings
 mod FreedLive

@@ -1,10 +1,11 @@
 -- The page below which no free piece begins, the lowest free piece, and the first that is long enough.
 use Rattle.std.proofs.Common.{◌≡◌, ◌≢◌, ℕ, IsTrue, ◌+◌, ◌-◌, ◌%◌, ◌<◌, ◌≤◌, List, [], ◌∷◌, Some, refl, ap, sym, ◌∙◌, inl, inr, subst, arith}
+use Rattle.dmatypes.specs.Page.{Range}
 use Rattle.dmatypes.specs.World.{IsIn}
 use Rattle.iova.specs.declared.piece.PageState.{PageState}
 use Rattle.iova.specs.declared.piece.PageState.TheVariants.{Free, Live}
 use Rattle.iova.specs.declared.piece.Piece.{Piece}
-use Rattle.iova.specs.Pieces.{Holds, IsOrdered, NoneFreeBelow, is_free, state_at}
+use Rattle.iova.specs.Pieces.{AllIn, Holds, IsOrdered, NoneFreeBelow, is_free, state_at}
 use Rattle.iova.specs.Space.{IsFit, IsLowestFit}
 use Rattle.iova.proofs.Pieces.{put, order, state-here, state-past, state-under, state-nil}
 use Rattle.iova.proofs.Puts.{none_some}
@@ -48,10 +49,6 @@ page_fits q ps o m free = record {
   free = λ page w.
       in_state 1 q ps page o m w.0 (let a = in_le 1 q ps o m in omega (arith, w.1, a.1)) ∙ ap (λ s. Some s) free;
 }
-
--- no free piece begins below the lowest free page
-pub none_below_lowest : (start : ℕ) (ps : List Piece) → IsOrdered 1 ps → IsLowestFit ps 1 1 start → NoneFreeBelow start ps
-none_below_lowest start ps o i q m free = i.lowest q.first (page_fits q ps o m free)
 
 -- once the lowest free page is live, all free pieces begin behind it
 pub none_below_taken : (start : ℕ) (ps : List Piece) → IsOrdered 1 ps → IsLowestFit ps 1 1 start
@@ -100,6 +97,21 @@ next_not_free from q (p ∷ ps) o m free e = elim m [
       let a = in_le (p.last + 1) q ps o.3 n in
       next_not_free (p.last + 1) q ps o.3 n free (sym (state-past p ps (q.last + 1) (omega (arith, a.0, a.1))) ∙ e)
 ]
+
+-- free pages lie in one free piece
+pub holding_all : (ps : List Piece) (range : Range) → IsOrdered 1 ps → 1 ≤ range.pages → AllIn Free range ps
+    → (q : Piece) × IsIn q ps × (q.state ≡ Free) × (q.first ≤ range.first) × (range.first + range.pages ≤ q.last + 1)
+holding_all ps range o some free =
+    let h = holding ps range.first Free (free range.first (omega arith, omega (arith, some))) in (
+      h.0,
+      h.1,
+      h.3,
+      h.2.0,
+      elim (order (range.first + range.pages) (h.0.last + 1)) [
+        | inl k ↦ k
+        | inr k ↦ absurd (next_not_free 1 h.0 ps o h.1 h.3 (free (h.0.last + 1) (omega (arith, h.2.1), k)))
+      ],
+    )
 
 -- so many pages at the front of the first free piece that has them are the lowest that fit, if they may begin there
 pub front_first : (p : Piece) (pages unit : ℕ) (ps : List Piece) → IsOrdered 1 ps → IsIn p ps → p.state ≡ Free

@@ -12,7 +12,7 @@ use Rattle.iova.specs.declared.piece.PageState.{PageState}
 use Rattle.iova.specs.declared.piece.PageState.TheVariants.{Free, Live}
 use Rattle.iova.specs.declared.piece.Piece.{Piece}
 use Rattle.iova.specs.declared.way.InMind.{InMind}
-use Rattle.iova.specs.declared.way.InMind.TheVariants.{Nothing, Judged, Lowest, Freed}
+use Rattle.iova.specs.declared.way.InMind.TheVariants.{Nothing, Judged, Lowest, Freed, Open}
 use Rattle.iova.specs.declared.way.Known.{Known}
 use Rattle.iova.specs.declared.way.Step.{Step}
 use Rattle.iova.specs.Pieces.{Holds, IsOrdered, free_end, free_start, freed, part_above, piece_of, state_at, with_free, with_piece}
@@ -252,11 +252,13 @@ module _ (a : Space) (pages : Ends) (sp : IsSpace a) (i : IsIn (pages_as pages L
       ]
 
 -- where none came free, the tree's pieces are shown
-pub unfreed : (m : InMind) → (m ≡ Nothing) ⊎ (((k : Known) × (m ≡ Judged k)) ⊎ ((k : Known) × (m ≡ Lowest k))) → (ps : List Piece)
+pub unfreed : (m : InMind)
+    → (m ≡ Nothing) ⊎ (((k : Known) × (m ≡ Judged k)) ⊎ (((k : Known) × (m ≡ Lowest k)) ⊎ ((k : Known) × (m ≡ Open k)))) → (ps : List Piece)
     → shown m ps ≡ ps
 unfreed m (inl e) ps = ap (λ x. shown x ps) e
 unfreed m (inr (inl w)) ps = ap (λ x. shown x ps) w.1
-unfreed m (inr (inr w)) ps = ap (λ x. shown x ps) w.1
+unfreed m (inr (inr (inl w))) ps = ap (λ x. shown x ps) w.1
+unfreed m (inr (inr (inr w))) ps = ap (λ x. shown x ps) w.1
 
 -- ---- a space
 
@@ -265,6 +267,7 @@ module _ (last : ℕ) (root : Option ℕ) (nodes : Slab Node) (way : List Step) 
   space_shown Nothing k = sp
   space_shown (Judged known) k = sp
   space_shown (Lowest known) k = sp
+  space_shown (Open known) k = sp
   space_shown (Freed known) k = space_shown_free (stored last root nodes) known.pages sp k.there
 
   -- no more pieces are shown than there are
@@ -273,6 +276,7 @@ module _ (last : ℕ) (root : Option ℕ) (nodes : Slab Node) (way : List Step) 
   few_shown Nothing k = omega arith
   few_shown (Judged known) k = omega arith
   few_shown (Lowest known) k = omega arith
+  few_shown (Open known) k = omega arith
   few_shown (Freed known) k = freed_fewer (stored last root nodes) known.pages sp k.there
 
   -- a live piece of the tree is shown, if one of its pages is shown as it is in the tree
@@ -283,6 +287,7 @@ module _ (last : ℕ) (root : Option ℕ) (nodes : Slab Node) (way : List Step) 
   live_shown Nothing k p page i h l e = i
   live_shown (Judged known) k p page i h l e = i
   live_shown (Lowest known) k p page i h l e = i
+  live_shown (Open known) k p page i h l e = i
   live_shown (Freed known) k p page i h l e =
       let a : Space = stored last root nodes in
       (freed_others a known.pages sp k.there p (λ f. absurd (cc))).1 (

@@ -15,4 +15,4 @@ pub mod Seeking
 pub mod Holding
 pub mod Last
 pub mod Touching
-pub mod LowestHeld
+pub mod FreeHeld

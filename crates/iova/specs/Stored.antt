@@ -9,7 +9,7 @@ use Rattle.dmatypes.specs.World.{IsIn}
 use Rattle.iova.specs.declared.piece.PageState.{PageState}
 use Rattle.iova.specs.declared.piece.PageState.TheVariants.{Free, Live}
 use Rattle.iova.specs.declared.way.InMind.{InMind}
-use Rattle.iova.specs.declared.way.InMind.TheVariants.{Nothing, Judged, Lowest, Freed}
+use Rattle.iova.specs.declared.way.InMind.TheVariants.{Nothing, Judged, Lowest, Freed, Open}
 use Rattle.iova.specs.declared.way.Known.{Known}
 use Rattle.iova.specs.declared.beside.Ends.{Ends}
 use Rattle.iova.specs.declared.way.Step.{Step}
@@ -43,6 +43,7 @@ shown Nothing pieces = pieces
 shown (Judged known) pieces = pieces
 shown (Lowest known) pieces = pieces
 shown (Freed known) pieces = with_free (pages_as known.pages Live) pieces
+shown (Open known) pieces = pieces
 
 -- the same, where it is known how far that free piece goes
 abbrev pub with_freed : Option Ends → List Piece → List Piece
@@ -99,11 +100,12 @@ pub record IsKnown (nodes : Slab Node) (root : Option ℕ) (way : List Step) (st
   pub there : IsIn (pages_as known.pages state) (pieces_of nodes root)
   pub held : IsHeld (get nodes) root way known.held known.pages
 
--- the piece that is kept in mind is there: the live one, the free one below which no free piece begins, or the one that
--- came free, which the tree has as live
+-- the piece that is kept in mind is there: the live one, the free one below which no free piece begins, the one that came free, which
+-- the tree has as live, or a free one that pages are to be taken from
 abbrev pub IsInMind : Slab Node → Option ℕ → List Step → InMind → Type 0
 IsInMind nodes root way Nothing = Unit {0}
 IsInMind nodes root way (Judged known) = IsKnown nodes root way Live known
 IsInMind nodes root way (Lowest known) =
     IsKnown nodes root way Free known × NoneFreeBelow known.pages.first (pieces_of nodes root)
 IsInMind nodes root way (Freed known) = IsKnown nodes root way Live known
+IsInMind nodes root way (Open known) = IsKnown nodes root way Free known

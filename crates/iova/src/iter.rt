@@ -1,6 +1,8 @@
 //! The pieces of a space, one after the other.
 
 ghost use Rattle.std.specs.Iterator.{YieldsFirst, item_count};
+ghost use Rattle.std.specs.Prelude.{◌≡◌};
+ghost use Rattle.iova.specs.Way.{pages_as};
 
 use crate::beside::Ends;
 use crate::piece::{PageState, Piece};
@@ -11,11 +13,12 @@ use std::marker::Model;
 #[derive(Drop)]
 pub struct Iter<'a> {
     pub(crate) tree: TreeIter<'a>,
-    // The pieces that come in the place of the tree's piece that begins at this page.
-    pub(crate) first: u64,
-    pub(crate) cut: &'a [Piece],
-    // What is left of the tree's piece comes behind them.
-    pub(crate) rest: Option<Ends>,
+    // What comes in the place of the tree's piece that begins at this page: what is left of it before the row, the row, and what is left
+    // behind it.
+    pub(crate) block: u64,
+    pub(crate) before: Option<Ends>,
+    pub(crate) row: &'a [Piece],
+    pub(crate) behind: Option<Ends>,
     // Whether the tree's piece was passed.
     pub(crate) passed: bool,
 }
@@ -23,12 +26,12 @@ pub struct Iter<'a> {
 impl<'a> Model for Iter<'a> {
     ghost use Rattle.std.specs.Prelude.{List, ◌++◌, if◌then◌else◌};
     ghost use Rattle.iova.specs.declared.piece.Piece.{Piece};
-    ghost use Rattle.iova.specs.Front.{in_place_of, rest_of};
+    ghost use Rattle.iova.specs.Carved.{free_of, in_place_of};
 
     ghost Value = { List Piece };
 
-    ghost view = { λ it. if it.passed then it.cut.now ++ rest_of it.rest ++ it.tree
-        else in_place_of it.first (it.cut.now ++ rest_of it.rest) it.tree };
+    ghost view = { λ it. if it.passed then free_of it.before ++ it.row.now ++ free_of it.behind ++ it.tree
+        else in_place_of it.block (free_of it.before ++ it.row.now ++ free_of it.behind) it.tree };
 }
 
 impl<'a> Iterator for Iter<'a> {
@@ -41,23 +44,34 @@ impl<'a> Iterator for Iter<'a> {
     fn next(&mut self) -> Option<Piece> {
         if !self.passed {
             let piece = self.tree.next()?;
-            if piece.first != self.first {
+            if piece.first != self.block {
                 return Some(piece);
             }
             self.passed = true;
         }
-        if let Some((piece, behind)) = self.cut.split_first() {
-            self.cut = behind;
+        if let Some(ends) = self.before {
+            self.before = None;
+            return Some(free_piece(ends));
+        }
+        if let Some((piece, behind)) = self.row.split_first() {
+            self.row = behind;
             return Some(*piece);
         }
-        if let Some(rest) = self.rest {
-            self.rest = None;
-            return Some(Piece {
-                first: rest.first,
-                last: rest.last,
-                state: PageState::Free,
-            });
+        if let Some(ends) = self.behind {
+            self.behind = None;
+            return Some(free_piece(ends));
         }
         self.tree.next()
+    }
+}
+
+// The pages as a free piece.
+fn free_piece(ends: Ends) -> Piece
+    ensures { result ≡ pages_as ends PageState.Free }
+{
+    Piece {
+        first: ends.first,
+        last: ends.last,
+        state: PageState::Free,
     }
 }

@@ -21,9 +21,9 @@
 
 mod before;
 mod beside;
+mod carved;
 mod ends;
 mod fits;
-mod front;
 mod grow;
 mod iter;
 mod links;
@@ -33,6 +33,7 @@ mod pending;
 mod piece;
 mod piece_tree;
 mod put;
+mod row;
 mod search;
 mod settle;
 mod space;

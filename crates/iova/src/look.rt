@@ -1,13 +1,11 @@
 //! What lies at a page.
 
-ghost use Rattle.std.specs.Prelude.{◌≡◌, ◌≢◌, Some, ℕ, ◌+◌, ◌<◌, ◌≤◌, ◌↔◌, IsTrue, IsSome, IfSome, IfNone};
-ghost use Rattle.dmatypes.specs.Page.{IsWithin};
+ghost use Rattle.std.specs.Prelude.{◌≡◌, ◌≢◌, Some, IfSome, IfNone};
 ghost use Rattle.dmatypes.specs.World.{IsIn};
 ghost use Rattle.iova.specs.Pieces.{Holds, IsOrdered, state_at};
-ghost use Rattle.iova.specs.Space.{CutsPiece};
 ghost use Rattle.iova.specs.Stored.{IsKept, pieces_of};
 
-use crate::node::{NUMBERS_END, Node};
+use crate::node::Node;
 use crate::piece::{PageState, Piece};
 use crate::search::find;
 use slab::Slab;
@@ -36,20 +34,4 @@ pub(crate) fn live_at(nodes: &Slab<Node>, root: Option<usize>, page: u64) -> Opt
         PageState::Live => Some(piece),
         PageState::Free | PageState::Retired => None,
     }
-}
-
-/// Whether so many pages, which all lie in pieces, cut a piece.
-pub(crate) fn cuts_piece(nodes: &Slab<Node>, root: Option<usize>, first: u64, pages: u64) -> bool
-    requires kept { IsKept root nodes.now (pieces_of nodes.now root) }
-    requires ordered { IsOrdered 1 (pieces_of nodes.now root) }
-    requires some_pages { 1 ≤ pages }
-    requires range { first + pages < NUMBERS_END }
-    requires held { (page : ℕ) → IsWithin (record { first = first; pages = pages }) page
-        → IsSome (state_at (pieces_of nodes.now root) page) }
-    ensures { IsTrue result ↔ CutsPiece (pieces_of nodes.now root) (record { first = first; pages = pages }) }
-{
-    let last = first + pages - 1;
-    let low = find(nodes, root, first).unwrap();
-    let high = find(nodes, root, last).unwrap();
-    low.first < first || last < high.last
 }

@@ -68,7 +68,7 @@ pub(crate) fn put_freed(
             *low = put.low;
             *in_mind = put.in_mind;
         }
-        InMind::Nothing | InMind::Judged(_) | InMind::Lowest(_) => {}
+        InMind::Nothing | InMind::Judged(_) | InMind::Lowest(_) | InMind::Open(_) => {}
     }
 }
 
@@ -141,7 +141,7 @@ fn came_free(nodes: &Slab<Node>, root: Option<usize>, in_mind: InMind, page: u64
 {
     match in_mind {
         InMind::Freed(known) => known.pages.first <= page && page <= known.pages.last,
-        InMind::Nothing | InMind::Judged(_) | InMind::Lowest(_) => false,
+        InMind::Nothing | InMind::Judged(_) | InMind::Lowest(_) | InMind::Open(_) => false,
     }
 }
 
@@ -202,7 +202,7 @@ pub(crate) fn freed_ends(
             let ends = store::with_free_ends(nodes, root, way, known.held, known.pages);
             Some(ends)
         }
-        InMind::Nothing | InMind::Judged(_) | InMind::Lowest(_) => None,
+        InMind::Nothing | InMind::Judged(_) | InMind::Lowest(_) | InMind::Open(_) => None,
     }
 }
 
@@ -225,6 +225,6 @@ pub(crate) fn count(
             let behind = usize::from(known.pages.last < ends.last);
             nodes.len() - before - behind
         }
-        InMind::Nothing | InMind::Judged(_) | InMind::Lowest(_) => nodes.len(),
+        InMind::Nothing | InMind::Judged(_) | InMind::Lowest(_) | InMind::Open(_) => nodes.len(),
     }
 }

@@ -1,15 +1,16 @@
 //! The pieces of a space in a balanced tree.
 
-ghost use Rattle.std.specs.Prelude.{◌≡◌, ◌≢◌, ℕ, ◌+◌, ◌^◌, ◌<◌, ◌≤◌, ◌↔◌, length, Some, IsSome, IsTrue, IfSome, IfNone, IfOk, OnErr, Err};
+ghost use Rattle.std.specs.Prelude.{◌≡◌, ◌≢◌, ℕ, ◌+◌, ◌^◌, ◌<◌, ◌≤◌, ◌↔◌, length, Some, IsSome, IsTrue, IfSome, IfNone, IfOk};
 
 use crate::beside::Ends;
+use crate::carved::Sought;
 use crate::node::{NUMBERS_END, Node};
 use crate::piece::{PageState, Piece};
-use crate::space::{MOST_PIECES, MOST_PIECES_TO_CUT, TakeError};
+use crate::space::MOST_PIECES;
 use crate::tree_iter::TreeIter;
-use crate::way::{InMind, Known, MOST_HEIGHT, NO_STEP, Step};
-use crate::{fits, look, pending, store};
-use dmatypes::{MOST_PAGES, PAGES_END, Page, PageRange};
+use crate::way::{Found, InMind, Known, MOST_HEIGHT, NO_STEP, Step};
+use crate::{fits, pending, store};
+use dmatypes::{PAGES_END, Page, PageRange};
 use slab::Slab;
 use std::alloc::{AllocError, Global};
 use std::marker::Model;
@@ -45,10 +46,10 @@ impl Model for PieceTree {
 impl PieceTree {
     ghost use Rattle.dmatypes.specs.Page.{IsPageRange, Range};
     ghost use Rattle.dmatypes.specs.World.{IsIn};
-    ghost use Rattle.dmatypes.specs.declared.limits.TheConstants.{MOST_ORDER};
     ghost use Rattle.iova.specs.Pieces.{Holds, IsRun, NoneFreeBelow, piece_of, state_at, with_piece};
     ghost use Rattle.iova.specs.Way.{pages_as};
     ghost use Rattle.iova.specs.Space.{Space, AllFree, IsFit, IsLowestFit, IsLowestFrom, IsSpace, IsTooMany, MayRetire, new_space};
+    ghost use Rattle.iova.specs.Carved.{IsSought};
     ghost use Rattle.iova.specs.Changes.{Frees, FreesLive, FreesRun, Retires, Takes};
 
     /// A space of the pages up to a last one, all free. It takes the memory for all its pieces; no other call
@@ -116,29 +117,18 @@ impl PieceTree {
         pending::state_of(&self.nodes, self.root, self.in_mind, page.number())
     }
 
-    /// Makes so many free pages, 1 to 4,096, one live piece, and answers the first of them: the lowest that is
-    /// a multiple of 2^order (order 0 to 9). Where it is refused, nothing has changed.
+    /// Takes the piece that came free last, where so many pages that begin at a multiple of the unit are just that piece, and it is the
+    /// first that has so many.
     #[inline(always)]
-    pub(crate) fn take(&mut self, pages: u64, order: u64) -> Result<Page, TakeError>
+    pub(crate) fn take_freed(&mut self, pages: u64, unit: u64) -> Option<u64>
         requires some_pages { 1 ≤ pages }
-        requires few_pages { pages ≤ MOST_PAGES }
-        requires order { order ≤ MOST_ORDER }
-
-        // The start, and what the space then is.
-        ensures lowest { IfOk result (IsLowestFit self.old.pieces pages (2 ^ order)) }
-        ensures range { IfOk result (λ start. IsPageRange (record { first = start; pages = pages })) }
-        ensures taken { IfOk result (λ start. Takes self.old self.new (record { first = start; pages = pages })) }
-        ensures space { IsSpace self.old × IsSpace self.new }
-
-        // The refusals.
-        ensures no_range { (result ≡ Err TakeError.NoRange) ↔ ((start : ℕ) → IsFit self.old.pieces pages (2 ^ order) start → ⊥) }
-        ensures too_many { (result ≡ Err TakeError.TooManyPieces)
-            ↔ ((start : ℕ) × IsLowestFit self.old.pieces pages (2 ^ order) start
-            × IsTooMany self.old.pieces (record { first = start; pages = pages })) }
-        ensures unchanged { OnErr result (self.new ≡ self.old) }
+        requires power { (order : ℕ) × (unit ≡ 2 ^ order) }
+        ensures lowest { IfSome result (IsLowestFit self.old.pieces pages unit) }
+        ensures taken { IfSome result (λ start. Takes self.old self.new (record { first = start; pages = pages })) }
+        ensures few { IfSome result (λ start. IsTooMany self.old.pieces (record { first = start; pages = pages }) → ⊥) }
+        ensures unchanged { IfNone result (self.new ≡ self.old) }
     {
-        let unit = 1 << order;
-        let fits = pending::fit_freed(
+        let known = pending::fit_freed(
             &self.nodes,
             self.root,
             self.low,
@@ -146,33 +136,22 @@ impl PieceTree {
             unit,
             &self.way,
             self.in_mind,
-        );
-        if let Some(known) = fits {
-            self.in_mind = InMind::Judged(known);
-            return Ok(Page::new(known.pages.first).unwrap());
-        }
-        self.take_from_tree(pages, order)
+        )?;
+        self.in_mind = InMind::Judged(known);
+        Some(known.pages.first)
     }
 
-    // The same, where the piece that came free is not taken again: it is written into the tree first.
-    #[inline(always)]
-    fn take_from_tree(&mut self, pages: u64, order: u64) -> Result<Page, TakeError>
-        requires some_pages { 1 ≤ pages }
-        requires few_pages { pages ≤ MOST_PAGES }
-        requires order { order ≤ MOST_ORDER }
-
-        // The start, and what the space then is.
-        ensures lowest { IfOk result (IsLowestFit self.old.pieces pages (2 ^ order)) }
-        ensures range { IfOk result (λ start. IsPageRange (record { first = start; pages = pages })) }
-        ensures taken { IfOk result (λ start. Takes self.old self.new (record { first = start; pages = pages })) }
-        ensures space { IsSpace self.old × IsSpace self.new }
-
-        // The refusals.
-        ensures no_range { (result ≡ Err TakeError.NoRange) ↔ ((start : ℕ) → IsFit self.old.pieces pages (2 ^ order) start → ⊥) }
-        ensures too_many { (result ≡ Err TakeError.TooManyPieces)
-            ↔ ((start : ℕ) × IsLowestFit self.old.pieces pages (2 ^ order) start
-            × IsTooMany self.old.pieces (record { first = start; pages = pages })) }
-        ensures unchanged { OnErr result (self.new ≡ self.old) }
+    /// The lowest start of what is sought, and where there is none from the floor on the lowest of all, and the free piece that it lies
+    /// in: the tree keeps in mind where that is.
+    pub(crate) fn find(&mut self, sought: Sought) -> Option<Found>
+        requires sought { IsSought sought }
+        ensures lowest { IfSome result (λ found. IsLowestFrom sought.floor self.old.pieces sought.pages sought.unit found.start) }
+        ensures none { IfNone result ((start : ℕ) → IsFit self.old.pieces sought.pages sought.unit start → ⊥) }
+        ensures there { IfSome result (λ found. IsIn (pages_as found.known.pages PageState.Free) self.old.pieces) }
+        ensures inside { IfSome result (λ found. (found.known.pages.first ≤ found.start)
+            × (found.start + sought.pages ≤ found.known.pages.last + 1)) }
+        ensures space { IsSpace self.old }
+        ensures unchanged { self.new ≡ self.old }
     {
         pending::put_freed(
             &mut self.nodes,
@@ -183,56 +162,17 @@ impl PieceTree {
         );
         let in_mind = self.in_mind;
         self.in_mind = InMind::Nothing;
-        let unit = 1 << order;
-        let Some(spot) = fits::fit_in_mind(
-            &self.nodes,
-            self.root,
-            pages,
-            unit,
-            in_mind,
-            &mut self.way,
-        ) else {
-            return Err(TakeError::NoRange);
-        };
-        let start = spot.start;
-        if self.nodes.len() > MOST_PIECES_TO_CUT
-            && look::cuts_piece(&self.nodes, self.root, start, pages)
-        {
-            return Err(TakeError::TooManyPieces);
-        }
-        let piece = Piece {
-            first: start,
-            last: start + pages - 1,
-            state: PageState::Live,
-        };
-        self.low = fits::low_behind(self.low, start, pages, unit);
-        self.root = store::store_by(&mut self.nodes, self.root, piece, &mut self.way, spot.place);
-        Ok(Page::new(start).unwrap())
+        let found = fits::find_in_mind(&self.nodes, self.root, sought, in_mind, &mut self.way)?;
+        self.in_mind = InMind::Open(found.known);
+        Some(found)
     }
 
-    /// As `take`, where the pages are the lowest at or above a floor, and where there are none the lowest of all.
-    pub(crate) fn take_from(
-        &mut self,
-        floor: u64,
-        pages: u64,
-        order: u64,
-    ) -> Result<Page, TakeError>
-        requires some_pages { 1 ≤ pages }
-        requires few_pages { pages ≤ MOST_PAGES }
-        requires order { order ≤ MOST_ORDER }
-
-        // The start, and what the space then is.
-        ensures lowest { IfOk result (IsLowestFrom floor self.old.pieces pages (2 ^ order)) }
-        ensures range { IfOk result (λ start. IsPageRange (record { first = start; pages = pages })) }
-        ensures taken { IfOk result (λ start. Takes self.old self.new (record { first = start; pages = pages })) }
-        ensures space { IsSpace self.old × IsSpace self.new }
-
-        // The refusals.
-        ensures no_range { (result ≡ Err TakeError.NoRange) ↔ ((start : ℕ) → IsFit self.old.pieces pages (2 ^ order) start → ⊥) }
-        ensures too_many { (result ≡ Err TakeError.TooManyPieces)
-            ↔ ((start : ℕ) × IsLowestFrom floor self.old.pieces pages (2 ^ order) start
-            × IsTooMany self.old.pieces (record { first = start; pages = pages })) }
-        ensures unchanged { OnErr result (self.new ≡ self.old) }
+    /// Makes the lowest pages that were found one live piece.
+    pub(crate) fn take_found(&mut self, start: u64, sought: Sought)
+        requires sought { IsSought sought }
+        requires lowest { IsLowestFrom sought.floor self.old.pieces sought.pages sought.unit start }
+        requires few { IsTooMany self.old.pieces (record { first = start; pages = sought.pages }) → ⊥ }
+        ensures { Takes self.old self.new (record { first = start; pages = sought.pages }) }
     {
         pending::put_freed(
             &mut self.nodes,
@@ -241,22 +181,15 @@ impl PieceTree {
             &self.way,
             &mut self.in_mind,
         );
+        let in_mind = self.in_mind;
         self.in_mind = InMind::Nothing;
-        let Some(first) = fits::fit_from(&self.nodes, self.root, floor, pages, 1 << order) else {
-            return Err(TakeError::NoRange);
-        };
-        if self.nodes.len() > MOST_PIECES_TO_CUT
-            && look::cuts_piece(&self.nodes, self.root, first, pages)
-        {
-            return Err(TakeError::TooManyPieces);
-        }
         let piece = Piece {
-            first,
-            last: first + pages - 1,
+            first: start,
+            last: start + sought.pages - 1,
             state: PageState::Live,
         };
-        self.root = store::store_walked(&mut self.nodes, self.root, piece, &mut self.way);
-        Ok(Page::new(first).unwrap())
+        self.low = fits::low_behind(self.low, start, sought);
+        self.root = store::store_known(&mut self.nodes, self.root, piece, &mut self.way, in_mind);
     }
 
     /// The live piece that a page lies in.
@@ -341,26 +274,6 @@ impl PieceTree {
         self.free(range);
     }
 
-    /// The pages of the lowest free piece, if it is to be found: a piece that came free is rather taken again.
-    #[inline(always)]
-    pub(crate) fn lowest_free(&mut self) -> Option<Ends>
-        ensures there { IfSome result (λ pages. IsIn (pages_as pages PageState.Free) self.old.pieces) }
-        ensures lowest { IfSome result (λ pages. NoneFreeBelow pages.first self.old.pieces) }
-        ensures unchanged { self.new ≡ self.old }
-    {
-        match self.in_mind {
-            InMind::Lowest(known) => Some(known.pages),
-            InMind::Freed(_) => None,
-            InMind::Nothing | InMind::Judged(_) => {
-                // The way that leads to what is in mind is written over.
-                self.in_mind = InMind::Nothing;
-                let known = fits::lowest_free(&self.nodes, self.root, &mut self.way)?;
-                self.in_mind = InMind::Lowest(known);
-                Some(known.pages)
-            }
-        }
-    }
-
     /// Puts a piece in use over free pages.
     pub(crate) fn put(&mut self, piece: Piece)
         requires some { piece.first ≤ piece.last }
@@ -376,23 +289,9 @@ impl PieceTree {
             &self.way,
             &mut self.in_mind,
         );
+        let in_mind = self.in_mind;
         self.in_mind = InMind::Nothing;
-        self.root = store::store_walked(&mut self.nodes, self.root, piece, &mut self.way);
-    }
-
-    /// Notes that no free piece begins below a page, so that pages which come free there are known to be the lowest.
-    pub(crate) fn set_low(&mut self, page: u64)
-        requires { NoneFreeBelow page self.old.pieces }
-        ensures unchanged { self.new ≡ self.old }
-    {
-        pending::put_freed(
-            &mut self.nodes,
-            &mut self.root,
-            &mut self.low,
-            &self.way,
-            &mut self.in_mind,
-        );
-        self.low = page;
+        self.root = store::store_known(&mut self.nodes, self.root, piece, &mut self.way, in_mind);
     }
 
     /// Frees a range that is made of whole retired pieces, one after the other, as one release for each of them would.

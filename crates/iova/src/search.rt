@@ -200,9 +200,9 @@ fn fit_between(
     fit_between(nodes, node.right, behind, end, pages, unit)
 }
 
-// The first multiple of the unit from a page on. The unit is a power of two, so no division is needed.
+/// The first multiple of the unit from a page on. The unit is a power of two, so no division is needed.
 #[inline(always)]
-fn round_up(page: u64, unit: u64) -> u64
+pub(crate) fn round_up(page: u64, unit: u64) -> u64
     requires page { page < 2 ^ 41 }
     requires some_unit { 0 < unit }
     requires unit { unit < NUMBERS_END }

@@ -5,12 +5,13 @@ ghost use Rattle.dmatypes.specs.Page.{IsPageRange};
 ghost use Rattle.std.specs.Prelude.{◌-◌, IsOk, IsTrue, Ok, Err, vec_capacity};
 
 use crate::beside::Ends;
-use crate::front;
-use crate::front::{Front, MOST_CUT};
+use crate::carved;
+use crate::carved::{Carved, Sought};
 use crate::iter::Iter;
 use crate::node::NUMBERS_END;
 use crate::piece::{PageState, Piece};
 use crate::piece_tree::PieceTree;
+use crate::row::Row;
 use dmatypes::{MOST_PAGES, PAGES_END, Page, PageRange};
 use std::alloc::{AllocError, Global};
 use std::marker::Model;
@@ -63,22 +64,19 @@ fn ends_of(range: PageRange) -> Ends
 #[derive(Drop)]
 pub struct Space {
     tree: PieceTree,
-    // What was taken last off the lowest free piece, and mostly comes free before the tree has to show it.
-    front: Front,
+    // What was taken last out of one free piece, and mostly comes free before the tree has to show it.
+    carved: Carved,
 }
 
 impl Model for Space {
-    ghost use Rattle.std.specs.Prelude.{vec_capacity, ◌≤◌};
-    ghost use Rattle.iova.specs.Front.{IsFront, fronted};
+    ghost use Rattle.iova.specs.Carved.{IsCarved, with_carved};
     ghost use Rattle.iova.specs.Space.{Space, IsSpace};
-    ghost use Rattle.iova.specs.declared.front.TheConstants.{MOST_CUT};
 
     ghost Value = { Space };
 
-    ghost view = { λ a. fronted a.front.cut.items a.tree };
+    ghost view = { λ a. with_carved a.carved.row a.tree };
 
-    ghost invariant = { λ a. IsSpace a.tree × IsFront a.tree.pieces a.front.cut.items a.front.rest
-        × (MOST_CUT ≤ vec_capacity a.front.cut) };
+    ghost invariant = { λ a. IsSpace a.tree × IsCarved a.tree.pieces a.carved.row a.carved.block };
 }
 
 impl Space {
@@ -88,6 +86,7 @@ impl Space {
     ghost use Rattle.iova.specs.Pieces.{AllIn, Holds, IsRun, piece_of, state_at};
     ghost use Rattle.iova.specs.Space.{Space, AllFree, IsFit, IsLowestFit, IsLowestFrom, IsSpace, IsTooMany, CutsPiece};
     ghost use Rattle.iova.specs.Space.{MayRetire, new_space};
+    ghost use Rattle.iova.specs.Carved.{IsSought};
     ghost use Rattle.iova.specs.Changes.{Frees, FreesLive, FreesRun, Retires, Takes};
 
     /// A space of the pages up to a last one, all free. It takes the memory for all its pieces; no other call
@@ -100,10 +99,10 @@ impl Space {
         ensures space { IfOk result IsSpace }
     {
         let tree = PieceTree::new(alloc, last)?;
-        let cut = Vec::with_capacity(alloc, MOST_CUT)?;
+        let row = Row::new(alloc)?;
         Ok(Space {
             tree,
-            front: Front { cut, rest: None },
+            carved: Carved { row, block: None },
         })
     }
 
@@ -115,8 +114,8 @@ impl Space {
         ensures free { AllFree self.new }
         ensures space { IsSpace self.new }
     {
-        self.front.cut.clear();
-        self.front.rest = None;
+        self.carved.row.clear();
+        self.carved.block = None;
         self.tree.reset(last);
     }
 
@@ -125,22 +124,15 @@ impl Space {
         ensures pieces { result ≡ self.now.pieces }
         ensures space { IsSpace self.now }
     {
-        let cut = self.front.cut.as_slice();
-        match cut.first() {
-            Some(piece) => Iter {
-                tree: self.tree.pieces(),
-                first: piece.first,
-                cut,
-                rest: self.front.rest,
-                passed: false,
-            },
-            None => Iter {
-                tree: self.tree.pieces(),
-                first: 0,
-                cut,
-                rest: None,
-                passed: true,
-            },
+        let row = self.carved.row.as_slice();
+        let parts = self.carved.parts();
+        Iter {
+            tree: self.tree.pieces(),
+            block: parts.block,
+            before: parts.before,
+            row,
+            behind: parts.behind,
+            passed: row.is_empty(),
         }
     }
 
@@ -149,7 +141,7 @@ impl Space {
         ensures count { result ≡ length self.now.pieces }
         ensures few { result ≤ MOST_PIECES }
     {
-        self.tree.piece_count() + self.front.cut.len()
+        self.tree.piece_count() + carved::more(&self.carved)
     }
 
     /// What a page is; `None` exactly where it is past the last one.
@@ -157,7 +149,7 @@ impl Space {
         ensures state { result ≡ state_at self.now.pieces page }
         ensures some { IsSome result ↔ (page ≤ self.now.last) }
     {
-        match front::piece_at(&self.front.cut, page.number()) {
+        match carved::piece_at(self.carved.row.as_slice(), page.number()) {
             Some(piece) => Some(piece.state),
             None => self.tree.state_of(page),
         }
@@ -184,13 +176,11 @@ impl Space {
             × IsTooMany self.old.pieces (record { first = start; pages = pages })) }
         ensures unchanged { OnErr result (self.new ≡ self.old) }
     {
-        if order == 0 {
-            if let Some(start) = self.take_front(pages) {
-                return Ok(start);
-            }
-        }
-        front::settle(&mut self.tree, &mut self.front);
-        self.tree.take(pages, order)
+        self.take_sought(Sought {
+            floor: 1,
+            pages,
+            unit: 1 << order,
+        })
     }
 
     /// Makes so many free pages, 1 to 4,096, one live piece, and answers the first of them: the lowest at or above the floor
@@ -215,45 +205,51 @@ impl Space {
             × IsTooMany self.old.pieces (record { first = start; pages = pages })) }
         ensures unchanged { OnErr result (self.new ≡ self.old) }
     {
-        // No page is below the first, so it is a plain take, which mostly needs no search.
-        if floor == 1 {
-            return self.take(pages, order);
-        }
-        front::settle(&mut self.tree, &mut self.front);
-        self.tree.take_from(floor, pages, order)
+        self.take_sought(Sought {
+            floor,
+            pages,
+            unit: 1 << order,
+        })
     }
 
-    // As `take` for pages that may lie anywhere, where they are cut off the front of the lowest free piece and some of it is left;
-    // else nothing has changed.
+    // The same, where mostly they lie right behind those that were taken last.
     #[inline(always)]
-    fn take_front(&mut self, pages: u64) -> Option<Page>
-        requires some_pages { 1 ≤ pages }
-        requires few_pages { pages ≤ MOST_PAGES }
-        ensures lowest { IfSome result (IsLowestFit self.old.pieces pages 1) }
-        ensures range { IfSome result (λ start. IsPageRange (record { first = start; pages = pages })) }
-        ensures taken { IfSome result (λ start. Takes self.old self.new (record { first = start; pages = pages })) }
-        ensures room { IfSome result (λ start. IsTooMany self.old.pieces (record { first = start; pages = pages }) → ⊥) }
+    fn take_sought(&mut self, sought: Sought) -> Result<Page, TakeError>
+        requires sought { IsSought sought }
+        ensures lowest { IfOk result (IsLowestFrom sought.floor self.old.pieces sought.pages sought.unit) }
+        ensures range { IfOk result (λ start. IsPageRange (record { first = start; pages = sought.pages })) }
+        ensures taken { IfOk result (λ start. Takes self.old self.new (record { first = start; pages = sought.pages })) }
+        ensures space { IsSpace self.old × IsSpace self.new }
+        ensures no_range { (result ≡ Err TakeError.NoRange)
+            ↔ ((start : ℕ) → IsFit self.old.pieces sought.pages sought.unit start → ⊥) }
+        ensures too_many { (result ≡ Err TakeError.TooManyPieces)
+            ↔ ((start : ℕ) × IsLowestFrom sought.floor self.old.pieces sought.pages sought.unit start
+            × IsTooMany self.old.pieces (record { first = start; pages = sought.pages })) }
+        ensures unchanged { OnErr result (self.new ≡ self.old) }
+    {
+        if let Some(start) = self.take_behind(sought) {
+            return Ok(start);
+        }
+        carved::settle(&mut self.tree, &mut self.carved);
+        let start = carved::take(&mut self.tree, &mut self.carved, sought)?;
+        Ok(Page::new(start).unwrap())
+    }
+
+    // Takes what is sought where it is known to lie right behind those that were taken last; else nothing has changed.
+    #[inline(always)]
+    fn take_behind(&mut self, sought: Sought) -> Option<Page>
+        requires sought { IsSought sought }
+        ensures lowest { IfSome result (IsLowestFrom sought.floor self.old.pieces sought.pages sought.unit) }
+        ensures range { IfSome result (λ start. IsPageRange (record { first = start; pages = sought.pages })) }
+        ensures taken { IfSome result (λ start. Takes self.old self.new (record { first = start; pages = sought.pages })) }
+        ensures room { IfSome result (λ start. IsTooMany self.old.pieces (record { first = start; pages = sought.pages }) → ⊥) }
         ensures space { IsSpace self.old × IsSpace self.new }
         ensures unchanged { IfNone result (self.new ≡ self.old) }
     {
-        let rest = front::open(&mut self.tree, &mut self.front)?;
-        let start = rest.first;
-        if rest.last - start < pages
-            || !front::has_room(&self.front.cut)
-            || self.piece_count() > MOST_PIECES_TO_CUT
-        {
+        let start = self.carved.next_start(sought)?;
+        if self.piece_count() > MOST_PIECES_TO_CUT || !self.carved.carve(start, sought.pages) {
             return None;
         }
-        let first = start + pages;
-        self.front.cut.push_reserved(Piece {
-            first: start,
-            last: first - 1,
-            state: PageState::Live,
-        });
-        self.front.rest = Some(Ends {
-            first,
-            last: rest.last,
-        });
         Some(Page::new(start).unwrap())
     }
 
@@ -282,7 +278,7 @@ impl Space {
         ensures none { IfNone result (state_at self.now.pieces page ≢ Some PageState.Live) }
         ensures space { IsSpace self.now }
     {
-        match front::piece_at(&self.front.cut, page) {
+        match carved::piece_at(self.carved.row.as_slice(), page) {
             Some(piece) => match piece.state {
                 PageState::Live => Some(piece),
                 PageState::Free | PageState::Retired => None,
@@ -334,10 +330,10 @@ impl Space {
         ensures unchanged { self.new ≡ self.old }
     {
         let pages = ends_of(range);
-        if let Some(PageState::Live) = front::last_state(&self.front.cut, pages) {
+        if self.carved.is_live(pages) {
             return Ok(());
         }
-        front::settle(&mut self.tree, &mut self.front);
+        carved::settle(&mut self.tree, &mut self.carved);
         if self.tree.hold_live(pages) {
             return Ok(());
         }
@@ -352,11 +348,11 @@ impl Space {
         ensures space { IsSpace self.old × IsSpace self.new }
     {
         let pages = ends_of(range);
-        if front::last_state(&self.front.cut, pages).is_some() {
-            self.front.retire_last(pages);
+        if let Some(place) = self.carved.place_of(pages) {
+            self.carved.row.retire(place);
             return;
         }
-        front::settle(&mut self.tree, &mut self.front);
+        carved::settle(&mut self.tree, &mut self.carved);
         self.tree.retire(range);
     }
 
@@ -368,11 +364,10 @@ impl Space {
         ensures space { IsSpace self.old × IsSpace self.new }
     {
         let pages = ends_of(range);
-        if front::last_state(&self.front.cut, pages).is_some() {
-            self.front.give_back_last(pages);
+        if self.carved.give_back(pages) {
             return;
         }
-        front::settle(&mut self.tree, &mut self.front);
+        carved::settle(&mut self.tree, &mut self.carved);
         self.tree.free_live(range);
     }
 
@@ -405,17 +400,12 @@ impl Space {
         ensures space { IsSpace self.old × IsSpace self.new }
     {
         let pages = ends_of(range);
-        match front::run_count(&self.front.cut, pages) {
-            Some(count) if count == self.front.cut.len() => self.front.give_back_all(pages.first),
-            Some(count) => {
-                front::write_run(&mut self.tree, &mut self.front, pages, count);
-                self.tree.free(range);
-            }
-            None => {
-                front::settle(&mut self.tree, &mut self.front);
-                self.tree.release_run(range);
-            }
+        if let Some(count) = self.carved.run_count(pages) {
+            self.carved.row.lose_first(count);
+            return;
         }
+        carved::settle(&mut self.tree, &mut self.carved);
+        self.tree.release_run(range);
     }
 
     // Frees a range that is one piece.
@@ -427,11 +417,10 @@ impl Space {
         ensures space { IsSpace self.old × IsSpace self.new }
     {
         let pages = ends_of(range);
-        if front::last_state(&self.front.cut, pages).is_some() {
-            self.front.give_back_last(pages);
+        if self.carved.give_back(pages) {
             return;
         }
-        front::settle(&mut self.tree, &mut self.front);
+        carved::settle(&mut self.tree, &mut self.carved);
         self.tree.free(range);
     }
 }

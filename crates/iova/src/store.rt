@@ -56,20 +56,31 @@ pub(crate) fn store_by(
     put_by(nodes, root, &piece, way, place)
 }
 
-/// The same, where the way to its place is looked for.
-pub(crate) fn store_walked(
+/// The same, where a free piece may be in mind that it lies in: else the way to its place is looked for.
+pub(crate) fn store_known(
     nodes: &mut Slab<Node>,
     root: Option<usize>,
     piece: Piece,
     way: &mut [Step; MOST_HEIGHT],
+    in_mind: InMind,
 ) -> Option<usize>
     requires kept { IsKept root nodes.old (pieces_of nodes.old root) }
     requires ordered { IsOrdered 1 (pieces_of nodes.old root) }
     requires few { length (with_piece piece (pieces_of nodes.old root)) ≤ MOST_PIECES }
     requires piece { IsPiece piece }
+    requires in_mind { IsInMind nodes.old root way.old in_mind }
     ensures { IsKept result nodes.new (with_piece piece (pieces_of nodes.old root)) }
 {
-    let place = walk(nodes, root, &piece, way);
+    let place = match in_mind {
+        InMind::Open(known) | InMind::Lowest(known)
+            if known.pages.first <= piece.first && piece.last <= known.pages.last => {
+            Place {
+                at: Some(known.held.key),
+                depth: known.held.depth,
+            }
+        }
+        _ => walk(nodes, root, &piece, way),
+    };
     store_by(nodes, root, piece, way, place)
 }
 

@@ -64,6 +64,8 @@ pub(crate) enum InMind {
     Lowest(Known),
     /// A piece that came free: the tree still has it as live.
     Freed(Known),
+    /// The free piece that pages are to be taken from.
+    Open(Known),
 }
 
 /// Where pages are taken: the first of them, and where the piece lies that they are taken from.
@@ -71,6 +73,13 @@ pub(crate) enum InMind {
 pub(crate) struct Spot {
     pub(crate) start: u64,
     pub(crate) place: Place,
+}
+
+/// Where pages can be taken: the first of them, and the free piece that they lie in.
+#[derive(Clone, Copy)]
+pub(crate) struct Found {
+    pub(crate) start: u64,
+    pub(crate) known: Known,
 }
 
 /// What lies at a key once a tree was hung below it, and whether it shows what was there.

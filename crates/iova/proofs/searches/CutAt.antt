@@ -1,12 +1,12 @@
 -- Whether a range cuts a piece, by the pieces of its first and of its last page; and no fit where no piece has room.
-use Rattle.std.proofs.Common.{◌≡◌, ℕ, ◌+◌, ◌<◌, ◌≤◌, ◌⊎◌, List, [], ◌∷◌, ◌++◌, Option, Some, None, IsSome, IfSome, true, refl, ap, sym}
+use Rattle.std.proofs.Common.{◌≡◌, ℕ, ◌+◌, ◌<◌, ◌≤◌, ◌⊎◌, List, [], ◌∷◌, ◌++◌, Option, Some, None, IfSome, true, ap, sym}
 use Rattle.std.proofs.Common.{◌∙◌, ◌↔◌, IsTrue, nat_lt, lt-ltb, ltb-true, inl, inr, subst, arith}
 use Rattle.std.specs.List.{AllByRecursion}
 use Rattle.dmatypes.specs.Page.{Range}
 use Rattle.dmatypes.specs.World.{IsIn}
 use Rattle.iova.specs.declared.piece.Piece.{Piece}
 use Rattle.iova.specs.declared.piece.PageState.TheVariants.{Free}
-use Rattle.iova.specs.Pieces.{Holds, IsOrdered, state_at}
+use Rattle.iova.specs.Pieces.{Holds, IsOrdered}
 use Rattle.iova.specs.Space.{CutsPiece, IsFit}
 use Rattle.iova.specs.Search.{piece_at, HasNoRoom}
 use Rattle.std.specs.Option.{is_some}
@@ -16,7 +16,6 @@ use Rattle.iova.proofs.Puts.{none_some}
 use Rattle.iova.proofs.Among.{in_one}
 use Rattle.iova.proofs.searches.Fit.{fits_tail}
 use Rattle.iova.proofs.searches.Found.{at-nil, at-here, at-under, at-past}
-use Rattle.iova.proofs.parts.Filled.{its_state, state_is}
 
 pub at_in : (ps : List Piece) (page : ℕ) (q : Piece) → piece_at ps page ≡ Some q → IsIn q ps × Holds q page
 at_in [] page q e = absurd (let f = at-nil page in cc)
@@ -28,13 +27,6 @@ at_in (p ∷ ps) page q e =
       ]
       | inr k ↦ let i = at_in ps page q (sym (at-under p ps page k) ∙ e) in (inr i.0, i.1)
     ]
-
-some_of : (o : Option Piece) → IsSome (its_state o) → IsSome o
-some_of None h = h
-some_of (Some p) h = refl
-
-pub at_some : (ps : List Piece) (page : ℕ) → IsSome (state_at ps page) → IsSome (piece_at ps page)
-at_some ps page h = some_of (piece_at ps page) (subst (λ o. IsSome o) (sym (state_is ps page)) h)
 
 cut_low : (ps : List Piece) (range : Range) (q : Piece) → 1 ≤ range.pages → IsIn q ps × Holds q range.first → q.first < range.first
     → CutsPiece ps range

@@ -1,5 +1,5 @@
 -- A way leads to the one piece that has the pages.
-use Rattle.std.proofs.Common.{◌≡◌, ℕ, ◌+◌, ◌-◌, ◌<◌, ◌≤◌, List, Option, ap, sym, ◌∙◌, subst, arith}
+use Rattle.std.proofs.Common.{◌≡◌, ℕ, ◌+◌, ◌-◌, ◌<◌, ◌≤◌, ◌⊎◌, List, Option, ap, sym, ◌∙◌, inl, inr, subst, arith}
 use Rattle.slab.specs.Slab.{Slab, get}
 use Rattle.dmatypes.specs.Page.{Range}
 use Rattle.dmatypes.specs.World.{IsIn}
@@ -10,7 +10,7 @@ use Rattle.iova.specs.declared.piece.Piece.{Piece}
 use Rattle.iova.specs.declared.node.Node.{Node}
 use Rattle.iova.specs.declared.way.Held.{Held}
 use Rattle.iova.specs.declared.way.InMind.{InMind}
-use Rattle.iova.specs.declared.way.InMind.TheVariants.{Judged, Lowest, Freed}
+use Rattle.iova.specs.declared.way.InMind.TheVariants.{Judged, Lowest, Freed, Open}
 use Rattle.iova.specs.declared.way.Known.{Known}
 use Rattle.iova.specs.declared.way.Step.{Step}
 use Rattle.iova.specs.declared.node.TheConstants.{NUMBERS_END}
@@ -101,3 +101,8 @@ module _ (nodes : Slab Node) (root : Option ℕ) (way : List Step) (in_mind : In
   -- the one that came free is in mind
   pub freed_of : in_mind ≡ Freed known → IsInMind nodes root way in_mind → IsKnown nodes root way Live known
   freed_of e i = subst (λ m. IsInMind nodes root way m) e i
+
+  -- a free piece is in mind
+  pub open_of : (in_mind ≡ Open known) ⊎ (in_mind ≡ Lowest known) → IsInMind nodes root way in_mind → IsKnown nodes root way Free known
+  open_of (inl e) i = subst (λ m. IsInMind nodes root way m) e i
+  open_of (inr e) i = (lowest_of e i).0

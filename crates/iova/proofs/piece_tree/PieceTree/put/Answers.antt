@@ -14,10 +14,10 @@ invariant_of-self c =
     let p = c.args.piece in
     let space : IsSpace (record a { pieces = with_piece p a.pieces }) =
     subst (λ (v : Space). IsSpace (record v { pieces = with_piece p v.pieces })) (sym view) c.requires.space in
-    let now = sym (kept_view c.store_walked-self-inside.result c.store_walked-self-inside.new.nodes (with_piece p a.pieces)
-    c.store_walked-self-inside.ensures) in (
-      kept_self c.store_walked-self-inside.result c.store_walked-self-inside.new.nodes (with_piece p a.pieces)
-          c.store_walked-self-inside.ensures,
+    let now = sym (kept_view c.store_known-self-inside.result c.store_known-self-inside.new.nodes (with_piece p a.pieces)
+    c.store_known-self-inside.ensures) in (
+      kept_self c.store_known-self-inside.result c.store_known-self-inside.new.nodes (with_piece p a.pieces)
+          c.store_known-self-inside.ensures,
       subst (λ ps. IsSpace (record a { pieces = ps })) now space,
       subst (λ ps. NoneFreeBelow c.put_freed.new.low ps) now
           (none_below_put c.put_freed.new.low p.first p.last p.state a.pieces sp.ordered c.requires.some c.put_freed.ensures.low
@@ -31,7 +31,7 @@ returns c =
     let view : a ≡ c.args.self.now = ap (λ ps. record a { pieces = ps }) c.put_freed.ensures.pieces ∙ c.self.view_is in
     let p = c.args.piece in
     record {
-      is = ap (λ ps. record a { pieces = ps }) (kept_view c.store_walked-self-inside.result c.store_walked-self-inside.new.nodes
-          (with_piece p a.pieces) c.store_walked-self-inside.ensures)
+      is = ap (λ ps. record a { pieces = ps }) (kept_view c.store_known-self-inside.result c.store_known-self-inside.new.nodes
+          (with_piece p a.pieces) c.store_known-self-inside.ensures)
           ∙ ap (λ (v : Space). record v { pieces = with_piece p v.pieces }) view;
     }

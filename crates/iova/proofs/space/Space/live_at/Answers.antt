@@ -1,32 +1,35 @@
-use Rattle.std.proofs.Common.{◌≡◌, ◌≢◌, ◌⊎◌, inl, inr, ◌∙◌, Option, Some, None, IfSome, IfNone, ap, sym, subst}
+use Rattle.std.proofs.Common.{◌≡◌, ◌≢◌, ℕ, ◌⊎◌, inl, inr, ◌∙◌, Option, Some, None, IfSome, IfNone, ap, sym, subst}
 use Rattle.dmatypes.specs.World.{IsIn}
 use Rattle.iova.specs.declared.piece.PageState.{PageState}
 use Rattle.iova.specs.declared.piece.PageState.TheVariants.{Free, Live, Retired}
 use Rattle.iova.specs.declared.piece.Piece.{Piece}
+use Rattle.iova.specs.Carved.{FollowOn}
 use Rattle.iova.specs.Pieces.{state_at}
 use Rattle.iova.specs.Search.{piece_at}
 use Rattle.iova.specs.Space.{Space, IsSpace}
-use Rattle.iova.proofs.Among.{in_state}
-use Rattle.iova.proofs.fronts.Last.{view_space}
-use Rattle.iova.proofs.fronts.PageIn.{found_in, lies_as, stays_in}
+use Rattle.iova.proofs.carvings.PageIn.{found_in, found_state, lies_as, stays_in}
+use Rattle.iova.proofs.carvings.State.{follows, view_space}
 use Rattle.iova.proofs.space.Space.live_at.Goals as goal
 
-pub returns-in-Live-clause-live : goal.returns-in-Live-clause-live
-returns-in-Live-clause-live c =
-    let at : piece_at c.self.inside.front.cut.items c.args.page ≡ Some c.in-Some.piece = ap (λ l. piece_at l c.args.page)
-    (sym c.deref.ensures.value)
-    ∙ sym c.piece_at.ensures ∙ c.in-Some.is in
-    let i = found_in c.self.inside.tree c.self.inside.front.cut.items c.self.inside.front.rest c.args.page c.in-Some.piece
-    c.self.invariant.0
-    c.self.invariant.1 at in
-    let there : IsIn c.in-Some.piece c.args.self.now.pieces = subst (λ (v : Space). IsIn c.in-Some.piece v.pieces) c.self.view_is i.0 in
-    (there, i.1, c.in-Live.is)
+pub piece_at-requires : goal.piece_at-requires
+piece_at-requires c =
+    subst (λ l. (from : ℕ) × (end : ℕ) × FollowOn from l end) (sym c.as_slice.ensures)
+    (follows c.self.inside.tree.pieces c.self.inside.carved.row c.self.inside.carved.block c.self.invariant.1)
 
-pub returns-in-Live-clause-space : goal.returns-in-Live-clause-space
-returns-in-Live-clause-space c =
-    let view : IsSpace c.args.self.now = subst (λ v. IsSpace v) c.self.view_is (view_space c.self.inside.tree c.self.inside.front.cut.items
-    c.self.inside.front.rest c.self.invariant.0 c.self.invariant.1) in
-    view
+pub returns-in-Live : goal.returns-in-Live
+returns-in-Live c =
+    let a = c.self.inside.tree in
+    let row = c.self.inside.carved.row in
+    let known = c.self.inside.carved.block in
+    let p = c.in-Some.piece in
+    let at : piece_at row c.args.page ≡ Some p = ap (λ l. piece_at l c.args.page) (sym c.as_slice.ensures) ∙ sym c.piece_at.ensures
+    ∙ c.in-Some.is in
+    let i = found_in a row known c.args.page p c.self.invariant.0 c.self.invariant.1 at in
+    record {
+      live = (subst (λ (v : Space). IsIn p v.pieces) c.self.view_is i.0, i.1, c.in-Live.is);
+      none = tt;
+      space = subst (λ v. IsSpace v) c.self.view_is (view_space a row known c.self.invariant.0 c.self.invariant.1);
+    }
 
 other : (o : Option PageState) (u : PageState) → o ≡ Some u → (u ≡ Free) ⊎ (u ≡ Retired) → o ≡ Some Live → ⊥
 other o u e (inl a) f = cc
@@ -34,45 +37,41 @@ other o u e (inr a) f = cc
 
 pub returns-in-Free : goal.returns-in-Free
 returns-in-Free c =
-    let view : IsSpace c.args.self.now = subst (λ v. IsSpace v) c.self.view_is (view_space c.self.inside.tree c.self.inside.front.cut.items
-    c.self.inside.front.rest c.self.invariant.0 c.self.invariant.1) in
-    let at : piece_at c.self.inside.front.cut.items c.args.page ≡ Some c.in-Some.piece = ap (λ l. piece_at l c.args.page)
-    (sym c.deref.ensures.value)
-    ∙ sym c.piece_at.ensures ∙ c.in-Some.is in
-    let i = found_in c.self.inside.tree c.self.inside.front.cut.items c.self.inside.front.rest c.args.page c.in-Some.piece
-    c.self.invariant.0
-    c.self.invariant.1 at in
-    let there : IsIn c.in-Some.piece c.args.self.now.pieces = subst (λ (v : Space). IsIn c.in-Some.piece v.pieces) c.self.view_is i.0 in
+    let a = c.self.inside.tree in
+    let row = c.self.inside.carved.row in
+    let known = c.self.inside.carved.block in
+    let p = c.in-Some.piece in
+    let at : piece_at row c.args.page ≡ Some p = ap (λ l. piece_at l c.args.page) (sym c.as_slice.ensures) ∙ sym c.piece_at.ensures
+    ∙ c.in-Some.is in
     record {
       live = tt;
-      none = other (state_at c.args.self.now.pieces c.args.page) c.in-Some.piece.state
-          (in_state 1 c.in-Some.piece c.args.self.now.pieces c.args.page view.ordered there i.1.0 i.1.1) c.in-Free.is;
-      space = view;
+      none = other (state_at c.args.self.now.pieces c.args.page) p.state
+          (subst (λ (v : Space). state_at v.pieces c.args.page ≡ Some p.state) c.self.view_is
+          (found_state a row known c.args.page p c.self.invariant.0 c.self.invariant.1 at)) c.in-Free.is;
+      space = subst (λ v. IsSpace v) c.self.view_is (view_space a row known c.self.invariant.0 c.self.invariant.1);
     }
 
-pub returns-in-None-clause-live : goal.returns-in-None-clause-live
-returns-in-None-clause-live c = keep c.live_at.result c.live_at.ensures.live (λ q i. (
-  subst (λ (v : Space). IsIn q v.pieces) c.self.view_is (stays_in c.self.inside.tree c.self.inside.front.cut.items
-      c.self.inside.front.rest q c.self.invariant.0 c.self.invariant.1 i.0 i.2),
-  i.1,
-  i.2,
-))
-  where
-    keep : {P Q : Piece → Type 0} (o : Option Piece) → IfSome o P → ((q : Piece) → P q → Q q) → IfSome o Q
-    keep None h k = tt
-    keep (Some q) h k = k q h
+keep : {P Q : Piece → Type 0} (o : Option Piece) → IfSome o P → ((q : Piece) → P q → Q q) → IfSome o Q
+keep None h k = tt
+keep (Some q) h k = k q h
 
-pub returns-in-None-clause-none : goal.returns-in-None-clause-none
-returns-in-None-clause-none c =
-    let at : piece_at c.self.inside.front.cut.items c.args.page ≡ None = ap (λ l. piece_at l c.args.page) (sym c.deref.ensures.value)
-    ∙ sym c.piece_at.ensures ∙ c.in-None.is in
-    let same : state_at c.args.self.now.pieces c.args.page ≡ state_at c.self.inside.tree.pieces c.args.page =
-    ap (λ (v : Space). state_at v.pieces c.args.page) (sym c.self.view_is) ∙ lies_as c.self.inside.tree c.self.inside.front.cut.items
-    c.self.inside.front.rest c.args.page c.self.invariant.0 c.self.invariant.1 at in
-    subst (λ s. IfNone c.live_at.result (s ≢ Some Live)) (sym same) c.live_at.ensures.none
-
-pub returns-in-None-clause-space : goal.returns-in-None-clause-space
-returns-in-None-clause-space c =
-    let view : IsSpace c.args.self.now = subst (λ v. IsSpace v) c.self.view_is (view_space c.self.inside.tree c.self.inside.front.cut.items
-    c.self.inside.front.rest c.self.invariant.0 c.self.invariant.1) in
-    view
+pub returns-in-None : goal.returns-in-None
+returns-in-None c =
+    let a = c.self.inside.tree in
+    let row = c.self.inside.carved.row in
+    let known = c.self.inside.carved.block in
+    let at : piece_at row c.args.page ≡ None = ap (λ l. piece_at l c.args.page) (sym c.as_slice.ensures) ∙ sym c.piece_at.ensures
+    ∙ c.in-None.is in
+    let same : state_at c.args.self.now.pieces c.args.page ≡ state_at a.pieces c.args.page =
+    ap (λ (v : Space). state_at v.pieces c.args.page) (sym c.self.view_is)
+    ∙ lies_as a row known c.args.page c.self.invariant.0 c.self.invariant.1 at in
+    record {
+      live = keep c.live_at.result c.live_at.ensures.live (λ q i. (
+        subst (λ (v : Space). IsIn q v.pieces) c.self.view_is (stays_in a row known q c.self.invariant.0 c.self.invariant.1 i.0
+            (λ f. let no : Live ≡ Free = sym i.2 ∙ f in cc)),
+        i.1,
+        i.2,
+      ));
+      none = subst (λ s. IfNone c.live_at.result (s ≢ Some Live)) (sym same) c.live_at.ensures.none;
+      space = subst (λ v. IsSpace v) c.self.view_is (view_space a row known c.self.invariant.0 c.self.invariant.1);
+    }

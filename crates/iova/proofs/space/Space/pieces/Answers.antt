@@ -1,23 +1,45 @@
-use Rattle.std.proofs.Common.{◌∙◌, ◌++◌, ap, sym, subst}
+use Rattle.std.proofs.Common.{◌≡◌, ℕ, List, [], ◌∷◌, ◌++◌, ◌==◌, Bool, true, false, if◌then◌else◌, Option, None, length}
+use Rattle.std.proofs.Common.{◌∙◌, refl, ap, subst, arith}
+use Rattle.std.proofs.lemmas.Bool.Decides.{nat_tests}
+use Rattle.iova.specs.declared.beside.Ends.{Ends}
 use Rattle.iova.specs.declared.piece.Piece.{Piece}
-use Rattle.iova.specs.Front.{in_place_of, rest_of}
+use Rattle.iova.specs.Carved.{free_of, in_place_of, with_pieces}
 use Rattle.iova.specs.Space.{Space, IsSpace}
-use Rattle.iova.proofs.fronts.InPlace.{begins_with, front_in_place}
-use Rattle.iova.proofs.fronts.Last.{view_space}
+use Rattle.iova.proofs.carvings.State.{view_space}
 use Rattle.iova.proofs.space.Space.pieces.Goals as goal
 
-pub returns-in-Some-clause-pieces : goal.returns-in-Some-clause-pieces
-returns-in-Some-clause-pieces c =
-    let p : Piece = c.in-Some.piece.now in
-    let cut = c.self.inside.front.cut.items in
-    let rest = c.self.inside.front.rest in
-    let b = begins_with c.as_slice-cut.result.now p (sym c.in-Some.ensures.value) in
-    ap (λ l. in_place_of p.first (l ++ rest_of rest) c.pieces.result) c.as_slice-cut.ensures.value
-    ∙ ap (λ l. in_place_of p.first (cut ++ rest_of rest) l) c.pieces.ensures.pieces
-    ∙ front_in_place c.self.inside.tree cut rest p b.0 c.self.invariant.0 c.self.invariant.1 (sym c.as_slice-cut.ensures.value ∙ b.1)
+-- the tree's piece counts as passed where there is no row, and what comes is the tree's pieces
+abbrev coming : ℕ → Option Ends → List Piece → Option Ends → List Piece → Bool → List Piece
+coming block before row behind pieces passed =
+    if passed then free_of before ++ row ++ free_of behind ++ pieces
+    else in_place_of block (free_of before ++ row ++ free_of behind) pieces
+
+all_come : (block : ℕ) (before : Option Ends) (row : List Piece) (behind : Option Ends) (pieces : List Piece)
+    → (row ≡ [] → (before ≡ None) × (behind ≡ None))
+    → ((first : Piece) (rest : List Piece) → row ≡ first ∷ rest
+    → in_place_of block (free_of before ++ row ++ free_of behind) pieces ≡ with_pieces row pieces)
+    → coming block before row behind pieces (length row == 0) ≡ with_pieces row pieces
+all_come block before [] behind pieces f g =
+    let e = f refl in
+    ap (λ o. coming block o [] behind pieces true) e.0 ∙ ap (λ o. coming block None [] o pieces true) e.1
+all_come block before (p ∷ ps) behind pieces f g =
+    let not : length (p ∷ ps) == 0 ≡ false = grind (arith, nat_tests) in
+    ap (coming block before (p ∷ ps) behind pieces) not ∙ g p ps refl
+
+pub returns-clause-pieces : goal.returns-clause-pieces
+returns-clause-pieces c =
+    let a = c.self.inside.tree in
+    let parts = c.parts-parts.result in
+    let row = c.as_slice-row.result.now in
+    let is = c.as_slice-row.ensures in
+    ap (coming parts.block parts.before row parts.behind c.pieces.result) c.is_empty.ensures
+    ∙ ap (λ l. coming parts.block parts.before row parts.behind l (length row == 0)) c.pieces.ensures.pieces
+    ∙ ap (λ (l : List Piece). coming parts.block parts.before l parts.behind a.pieces (length l == 0)) is
+    ∙ all_come parts.block parts.before c.self.inside.carved.row parts.behind a.pieces c.parts-parts.ensures.none
+    (λ first rest e. c.parts-parts.ensures.some a first rest c.self.invariant.0 c.self.invariant.1 e)
     ∙ ap (λ (v : Space). v.pieces) c.self.view_is
 
-pub returns-in-Some-clause-space : goal.returns-in-Some-clause-space
-returns-in-Some-clause-space c =
-    subst (λ v. IsSpace v) c.self.view_is (view_space c.self.inside.tree c.self.inside.front.cut.items c.self.inside.front.rest
+pub returns-clause-space : goal.returns-clause-space
+returns-clause-space c =
+    subst (λ v. IsSpace v) c.self.view_is (view_space c.self.inside.tree c.self.inside.carved.row c.self.inside.carved.block
     c.self.invariant.0 c.self.invariant.1)

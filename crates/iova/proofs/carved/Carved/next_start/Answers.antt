@@ -1,0 +1,91 @@
+use Rattle.std.proofs.Common.{◌≡◌, ◌+◌, ◌%◌, max, sym, subst, arith}
+use Rattle.iova.specs.Carved.{with_pieces}
+use Rattle.iova.specs.Search.{IsRoundUp}
+use Rattle.iova.specs.Space.{IsLowestFrom}
+use Rattle.iova.proofs.carvings.Carved.{block_narrow, carved_in, same_ends}
+use Rattle.iova.proofs.carvings.Sought.{digits_zero, first_lowest, is_more, next_lowest, some_carved, unit_small}
+use Rattle.iova.proofs.carved.Carved.next_start.Goals as goal
+use Rattle.iova.proofs.carved.Carved.next_start.Goals.{in-None, in-Some-2}
+
+pub round_up-low-requires-clause-page : goal.round_up-low-requires-clause-page
+round_up-low-requires-clause-page c =
+    let a = c.requires.carved.0 in
+    let k = carved_in a.pieces c.args.self.now.row c.args.self.now.block c.in_ok-block.block c.in_ok-block.was c.requires.carved.2 in
+    let n = block_narrow a c.args.self.now.row c.in_ok-block.block c.requires.carved.1 k in
+    omega (arith, n, c.if-sought-block.false, c.max.ensures)
+
+pub overflow_add-low : goal.overflow_add-low
+overflow_add-low c =
+    let a = c.requires.carved.0 in
+    let k = carved_in a.pieces c.args.self.now.row c.args.self.now.block c.in_ok-block.block c.in_ok-block.was c.requires.carved.2 in
+    let n = block_narrow a c.args.self.now.row c.in_ok-block.block c.requires.carved.1 k in
+    omega (
+      arith,
+      n,
+      c.if-sought-block.false,
+      c.max.ensures,
+      c.round_up-low.ensures.near,
+      unit_small c.args.sought c.requires.sought,
+      c.requires.sought.few,
+    )
+
+pub overflow_add-start : goal.overflow_add-start
+overflow_add-start c =
+    let a = c.requires.carved.0 in
+    let k = carved_in a.pieces c.args.self.now.row c.args.self.now.block c.in_ok-block.block c.in_ok-block.was c.requires.carved.2 in
+    let n = block_narrow a c.args.self.now.row c.in_ok-block.block c.requires.carved.1 k in
+    let f = c.in-Some.ensures.first in
+    let s = same_ends f.0 f.1 c.args.self.now.row k.from k.end c.in-Some.ends.first (c.in-Some.ends.last + 1) f.2 k.follow
+    c.in-Some.ensures.some in
+    omega (arith, n, s.1, k.left)
+
+pub overflow_add-start-then-start-sought-eq0 : goal.overflow_add-start-then-start-sought-eq0
+overflow_add-start-then-start-sought-eq0 c =
+    let a = c.requires.carved.0 in
+    let k = carved_in a.pieces c.args.self.now.row c.args.self.now.block c.in_ok-block.block c.in_ok-block.was c.requires.carved.2 in
+    let n = block_narrow a c.args.self.now.row c.in_ok-block.block c.requires.carved.1 k in
+    elim c.match-ends.branch [
+      | in-None w ↦
+          omega (
+            arith,
+            w.start-is,
+            n,
+            c.if-sought-block.false,
+            c.max.ensures,
+            c.round_up-low.ensures.near,
+            unit_small c.args.sought c.requires.sought,
+            c.requires.sought.few,
+          )
+      | in-Some-2 w ↦
+          let f = w.in-Some.ensures.first in
+          let s = same_ends f.0 f.1 c.args.self.now.row k.from k.end w.in-Some.ends.first (w.in-Some.ends.last + 1) f.2 k.follow
+          w.in-Some.ensures.some in
+          omega (arith, w.start-is, n, s.1, k.left, c.requires.sought.few)
+    ]
+
+pub returns-then-start-sought-clause-lowest : goal.returns-then-start-sought-clause-lowest
+returns-then-start-sought-clause-lowest c a sp k =
+    let d = carved_in a.pieces c.args.self.now.row c.args.self.now.block c.in_ok-block.block c.in_ok-block.was k in
+    let more = is_more c.args.sought c.in_ok-block.block.sought c.requires.sought d.sought (omega (arith, c.if-sought-block.false))
+    (omega (arith, c.if-sought-block-2.false)) (omega (arith, c.if-sought-block-3.false)) in
+    let up : IsRoundUp (max c.in_ok-block.block.pages.first c.args.sought.floor) c.args.sought.unit c.round_up-low.result =
+    subst (λ n. IsRoundUp n c.args.sought.unit c.round_up-low.result) c.max.ensures c.round_up-low.ensures.up in
+    elim c.match-ends.branch [
+      | in-None w ↦
+          subst (IsLowestFrom c.args.sought.floor (with_pieces c.args.self.now.row a.pieces) c.args.sought.pages c.args.sought.unit)
+          (sym w.start-is)
+          (first_lowest a c.args.self.now.row c.in_ok-block.block sp d c.args.sought more c.requires.sought.some c.round_up-low.result
+          w.in-None.ensures.none up (omega (arith, w.start-is, c.if-start-sought.true)))
+      | in-Some-2 w ↦
+          let f = w.in-Some.ensures.first in
+          let s = same_ends f.0 f.1 c.args.self.now.row d.from d.end w.in-Some.ends.first (w.in-Some.ends.last + 1) f.2 d.follow
+          w.in-Some.ensures.some in
+          let at : c.match-ends.start ≡ d.end = omega (arith, w.start-is, s.1) in
+          let z = digits_zero c.args.sought c.match-ends.start c.requires.sought c.if-start-sought-eq0.true in
+          subst (IsLowestFrom c.args.sought.floor (with_pieces c.args.self.now.row a.pieces) c.args.sought.pages c.args.sought.unit)
+          (sym at)
+          (next_lowest a c.args.self.now.row c.in_ok-block.block sp d c.args.sought more c.requires.sought.some
+          (some_carved d.from c.args.self.now.row d.end f.0 f.1 f.2 d.follow) c.round_up-low.result up
+          (omega (arith, s.0, w.if-low-sought.false)) (subst (λ n. n % c.args.sought.unit ≡ 0) at z)
+          (omega (arith, at, c.if-start-sought.true)))
+    ]

@@ -1,0 +1,123 @@
+-- One more piece is carved: pages are taken.
+use Rattle.std.proofs.Common.{◌≡◌, ℕ, ◌+◌, ◌≤◌, List, [], ◌∷◌, ◌++◌, length, refl, ap, sym, ◌∙◌, subst, arith}
+use Rattle.std.proofs.Common.{Option, Some}
+use Rattle.dmatypes.specs.Page.{IsPageRange, Range}
+use Rattle.dmatypes.specs.World.{IsIn}
+use Rattle.dmatypes.specs.declared.page.TheConstants.{MOST_PAGES}
+use Rattle.iova.specs.declared.beside.Ends.{Ends}
+use Rattle.iova.specs.declared.carved.Block.{Block}
+use Rattle.iova.specs.declared.carved.Sought.{Sought}
+use Rattle.iova.specs.declared.piece.PageState.TheVariants.{Free, Live}
+use Rattle.iova.specs.declared.piece.Piece.{Piece}
+use Rattle.iova.specs.declared.space.TheConstants.{MOST_PIECES, MOST_PIECES_TO_CUT}
+use Rattle.iova.specs.Changes.{Takes}
+use Rattle.iova.specs.Carved.{AreCarved, CanCarve, IsCarved, IsSought, with_carved, with_pieces}
+use Rattle.iova.specs.Pieces.{AllIn, piece_of, with_piece}
+use Rattle.iova.specs.Space.{Space, IsLowestFrom, IsSpace, IsTooMany}
+use Rattle.iova.specs.Way.{pages_as}
+use Rattle.iova.proofs.Among.{in_state}
+use Rattle.iova.proofs.Taken.{page_range, space_taken, takes}
+use Rattle.iova.proofs.carvings.InPlace.{follow_both, follow_le, free_piece}
+use Rattle.iova.proofs.carvings.Carved.{carved_in}
+use Rattle.iova.proofs.carvings.State.{carved_space, carving, follow_in, untouched, view_space}
+
+-- the last is put last
+pub with_last : (es : List Piece) (e : Piece) (ps : List Piece) → with_pieces (es ++ e ∷ []) ps
+    ≡ with_piece e (with_pieces es ps)
+with_last [] e ps = refl
+with_last (x ∷ es) e ps = with_last es e (with_piece x ps)
+
+module _ (a : Space) (sp : IsSpace a) (row : List Piece) (block : Block) (c : AreCarved a.pieces row block) (start pages : ℕ)
+    (some : 1 ≤ pages) (p : CanCarve row block start pages) where
+  abbrev range : Range
+  range = record { first = start; pages = pages }
+
+  abbrev e : Piece
+  e = piece_of (record { first = start; pages = pages }) Live
+
+  viewed : IsSpace (with_carved row a)
+  viewed = carved_space a block.pages.first block.pages.last row c.from c.end (carving a row block sp c)
+
+  -- the pages are free
+  pub all_free : AllIn Free (record { first = start; pages = pages }) (with_pieces row a.pieces)
+  all_free page w =
+      untouched a block.pages.first block.pages.last row c.from c.end (carving a row block sp c) page
+      (λ q m h. let f = follow_in p.0 row start p.2 q m in omega (arith, f.2, h.1, w.0))
+      ∙ in_state 1 (free_piece block.pages.first block.pages.last) a.pieces page sp.ordered c.there
+      (omega (arith, w.0, p.1, follow_le p.0 row start p.2)) (omega (arith, w.1, p.3))
+
+  pub carved_range : pages ≤ MOST_PAGES → IsPageRange (record { first = start; pages = pages })
+  carved_range few = page_range (with_carved row a) range Free viewed some few all_free
+
+  is : with_carved (row ++ e ∷ []) a ≡ record (with_carved row a) { pieces = with_piece e (with_pieces row a.pieces) }
+  is = ap (λ (l : List Piece). record a { pieces = l }) (with_last row e a.pieces)
+
+  pub carved_takes : Takes (with_carved row a) (with_carved (row ++ piece_of (record { first = start; pages = pages }) Live ∷ []) a)
+      (record { first = start; pages = pages })
+  carved_takes = takes (with_carved row a) (with_carved (row ++ e ∷ []) a) range viewed some all_free is
+
+  -- and it is carved then
+  pub carved_more : (IsTooMany (with_pieces row a.pieces) (record { first = start; pages = pages }) → ⊥)
+      → AreCarved a.pieces (row ++ piece_of (record { first = start; pages = pages }) Live ∷ []) block
+  carved_more n = record {
+    there = c.there;
+    sought = c.sought;
+    none = c.none;
+    from = p.0;
+    end = start + pages;
+    low = p.1;
+    follow = follow_both p.0 row (e ∷ []) start (start + pages) p.2
+        (refl, omega (arith, some), (λ h. absurd (cc)), omega (arith, some));
+    left = p.3;
+    few = subst (λ l. length l ≤ MOST_PIECES) (sym (with_last row e a.pieces)) (space_taken (with_carved row a) range viewed some all_free n).few;
+  }
+
+-- a free piece that was found, of which nothing is carved yet
+module _ (a : Space) (sp : IsSpace a) (pages : Ends) (sought : Sought) (s : IsSought sought) (start : ℕ)
+    (there : IsIn (pages_as pages Free) a.pieces) (lowest : IsLowestFrom sought.floor a.pieces sought.pages sought.unit start)
+    (above : sought.floor ≤ start) (inside : pages.first ≤ start) (left : start + sought.pages ≤ pages.last) where
+  pub uncarved : AreCarved a.pieces [] (record { pages = pages; sought = sought })
+  uncarved = record {
+    there = there;
+    sought = s;
+    none = λ other f h. omega (arith, inside, lowest.above above other f h);
+    from = start;
+    end = start;
+    low = omega (arith, above, inside);
+    follow = refl;
+    left = omega (arith, left);
+    few = sp.few;
+  }
+
+  pub can_carve : CanCarve [] (record { pages = pages; sought = sought }) start sought.pages
+  can_carve = (start, omega (arith, above, inside), refl, left)
+
+-- what a space is once pages were carved
+pub record Carves (a old : Space) (now : List Piece) (block : Option Block) (start pages : ℕ) : Type 0 where
+  pub carved : IsCarved a.pieces now block
+  pub spaces : IsSpace old × IsSpace (with_carved now a)
+  pub range : IsPageRange (record { first = start; pages = pages })
+  pub taken : Takes old (with_carved now a) (record { first = start; pages = pages })
+
+pub carves : (a old : Space) (row now : List Piece) (known : Option Block) (start pages : ℕ) → IsSpace a → IsCarved a.pieces row known
+    → with_carved row a ≡ old → 1 ≤ pages → pages ≤ MOST_PAGES
+    → (block : Block) × (known ≡ Some block) × CanCarve row block start pages → length old.pieces ≤ MOST_PIECES_TO_CUT
+    → now ≡ row ++ piece_of (record { first = start; pages = pages }) Live ∷ [] → Carves a old now known start pages
+carves a old row now known start pages sp k was some few p room set =
+    let block = p.0 in
+    let c = carved_in a.pieces row known block p.1 k in
+    let is : Carves a (with_carved row a) (row ++ piece_of (record { first = start; pages = pages }) Live ∷ []) (Some block) start pages =
+    let more = carved_more a sp row block c start pages some p.2
+    (λ t. let n = ap (λ (v : Space). length v.pieces) was in omega (arith, t.1, n, room)) in
+    record {
+      carved = more;
+      spaces = (
+        view_space a row (Some block) sp c,
+        view_space a (row ++ piece_of (record { first = start; pages = pages }) Live ∷ []) (Some block) sp more,
+      );
+      range = carved_range a sp row block c start pages some p.2 few;
+      taken = carved_takes a sp row block c start pages some p.2;
+    } in
+    subst (λ v. Carves a v now known start pages) was
+    (subst (λ b. Carves a (with_carved row a) now b start pages) (sym p.1)
+    (subst (λ l. Carves a (with_carved row a) l (Some block) start pages) (sym set) is))

@@ -1,0 +1,418 @@
+//! Pieces that are carved out of a free piece, before the tree shows them.
+
+ghost use Rattle.std.specs.Prelude.{◌≡◌, List, ℕ, [], ◌∷◌, ◌++◌, ◌+◌, ◌-◌, ◌≤◌, ◌<◌, None, Some, length, slice_get, true, false};
+ghost use Rattle.std.specs.Prelude.{◌↔◌, IfSome, IfNone, IfOk, OnErr, IsTrue, Err};
+ghost use Rattle.iova.specs.Changes.{Takes};
+ghost use Rattle.iova.specs.Pieces.{piece_of};
+ghost use Rattle.dmatypes.specs.World.{IsIn};
+ghost use Rattle.iova.specs.Carved.{AreCarved, CanCarve, FollowOn, IsAt, IsCarved, IsSought, LosesEnd, free_of, in_place_of};
+ghost use Rattle.iova.specs.Carved.{with_carved, with_pieces};
+ghost use Rattle.iova.specs.Search.{piece_at};
+ghost use Rattle.iova.specs.Space.{IsFit, IsLowestFrom, IsSpace, IsTooMany, Space};
+ghost use Rattle.iova.specs.Way.{pages_as};
+
+use crate::beside::Ends;
+use crate::node::NUMBERS_END;
+use crate::piece::{PageState, Piece};
+use crate::piece_tree::PieceTree;
+use crate::row::Row;
+use crate::search::round_up;
+use crate::space::{MOST_PIECES_TO_CUT, TakeError};
+use crate::way::Found;
+
+/// What was looked for: so many free pages, from a floor on, whose first is a multiple of the unit.
+#[derive(Clone, Copy)]
+pub(crate) struct Sought {
+    pub(crate) floor: u64,
+    pub(crate) pages: u64,
+    pub(crate) unit: u64,
+}
+
+/// A free piece of the tree that pieces are carved out of: its pages, and what was looked for when it was found. None of what was
+/// looked for begins before it.
+#[derive(Clone, Copy)]
+pub(crate) struct Block {
+    pub(crate) pages: Ends,
+    pub(crate) sought: Sought,
+}
+
+/// The pieces that were carved out of a free piece, in the order of their pages and each right behind the one before it, and that free
+/// piece, if one is known. The tree has all of them as the free piece (own).
+#[derive(Drop)]
+pub(crate) struct Carved {
+    pub(crate) row: Row,
+    pub(crate) block: Option<Block>,
+}
+
+/// Where the free piece begins, and what is left of it before and behind the pieces that were carved out of it.
+#[derive(Clone, Copy)]
+pub(crate) struct Parts {
+    pub(crate) block: u64,
+    pub(crate) before: Option<Ends>,
+    pub(crate) behind: Option<Ends>,
+}
+
+// The pages from a first to a last one, if there are some.
+fn between(first: u64, last: u64) -> Option<Ends>
+    ensures some { IfSome result (λ ends. (ends.first ≡ first) × (ends.last ≡ last) × (first ≤ last)) }
+    ensures none { IfNone result (last < first) }
+{
+    if first <= last {
+        return Some(Ends { first, last });
+    }
+    None
+}
+
+impl Carved {
+    /// The pages from the first of the first piece to the last of the last one.
+    #[inline(always)]
+    pub(crate) fn ends(&self) -> Option<Ends>
+        requires { (from : ℕ) × (end : ℕ) × FollowOn from self.now.row end }
+        ensures some { IfSome result (λ ends. FollowOn ends.first self.now.row (ends.last + 1)) }
+        ensures first { IfSome result (λ _. (p : Piece) × (ps : List Piece) × (self.now.row ≡ p ∷ ps)) }
+        ensures none { IfNone result (self.now.row ≡ []) }
+    {
+        let pieces = self.row.as_slice();
+        let first = pieces.first()?;
+        let last = pieces.last()?;
+        Some(Ends {
+            first: first.first,
+            last: last.last,
+        })
+    }
+
+    /// The lowest start of what is sought, where it is known to lie right behind the pieces, and some of the free piece is left behind it
+    /// then.
+    #[inline(always)]
+    pub(crate) fn next_start(&self, sought: Sought) -> Option<u64>
+        requires sought { IsSought sought }
+        requires carved { (a : Space) × IsSpace a × IsCarved a.pieces self.now.row self.now.block }
+        ensures lowest { (a : Space) → IsSpace a → IsCarved a.pieces self.now.row self.now.block
+            → IfSome result (IsLowestFrom sought.floor (with_pieces self.now.row a.pieces) sought.pages sought.unit) }
+        ensures place { IfSome result (λ start. (block : Block) × (self.now.block ≡ Some block)
+            × CanCarve self.now.row block start sought.pages) }
+    {
+        let block = self.block?;
+        if sought.floor != block.sought.floor
+            || sought.pages < block.sought.pages
+            || sought.unit < block.sought.unit
+        {
+            return None;
+        }
+        let low = round_up(block.pages.first.max(sought.floor), sought.unit);
+        let start = match self.ends() {
+            None => low,
+            // What is free before the pieces may have room by now.
+            Some(ends) if low + sought.pages <= ends.first => return None,
+            Some(ends) => ends.last + 1,
+        };
+        if start & (sought.unit - 1) == 0 && start + sought.pages <= block.pages.last {
+            return Some(start);
+        }
+        None
+    }
+
+    /// Puts a live piece behind them, where one has room there.
+    #[inline(always)]
+    pub(crate) fn carve(&mut self, start: u64, pages: u64) -> bool
+        requires some { 1 ≤ pages }
+        requires narrow { start + pages < NUMBERS_END }
+        ensures carved { result ≡ true
+            → self.new.row ≡ self.old.row ++ piece_of (record { first = start; pages = pages }) PageState.Live ∷ [] }
+        ensures unchanged { result ≡ false → self.new.row ≡ self.old.row }
+        ensures block { self.new.block ≡ self.old.block }
+    {
+        self.row.push(Piece {
+            first: start,
+            last: start + pages - 1,
+            state: PageState::Live,
+        })
+    }
+
+    /// Where the piece lies that has some pages, if there is one: mostly it is the last one or the first.
+    #[inline(always)]
+    pub(crate) fn place_of(&self, pages: Ends) -> Option<usize>
+        requires { (from : ℕ) × (end : ℕ) × FollowOn from self.now.row end }
+        ensures { IfSome result (IsAt self.now.row pages) }
+    {
+        let pieces = self.row.as_slice();
+        let last = pieces.last()?;
+        if last.first <= pages.first {
+            return is_place(pieces, pieces.len() - 1, pages);
+        }
+        if pages.first < pieces.first()?.first {
+            return None;
+        }
+        find(pieces, pages)
+    }
+
+    /// Whether a live piece has some pages.
+    #[inline(always)]
+    pub(crate) fn is_live(&self, pages: Ends) -> bool
+        requires { (from : ℕ) × (end : ℕ) × FollowOn from self.now.row end }
+        ensures { IsTrue result → IsIn (pages_as pages PageState.Live) self.now.row }
+    {
+        match self.place_of(pages) {
+            Some(place) => matches!(self.row.as_slice()[place].state, PageState::Live),
+            None => false,
+        }
+    }
+
+    /// Lets the piece that has some pages come free, where it is the last one or the first.
+    #[inline(always)]
+    pub(crate) fn give_back(&mut self, pages: Ends) -> bool
+        requires { (from : ℕ) × (end : ℕ) × FollowOn from self.old.row end }
+        ensures given { result ≡ true → LosesEnd self.old.row self.new.row pages }
+        ensures unchanged { result ≡ false → self.new.row ≡ self.old.row }
+        ensures block { self.new.block ≡ self.old.block }
+    {
+        let Some(place) = self.place_of(pages) else {
+            return false;
+        };
+        if place == self.row.len() - 1 {
+            self.row.lose_last();
+            return true;
+        }
+        if place == 0 {
+            self.row.lose_first(1);
+            return true;
+        }
+        false
+    }
+
+    /// What the pieces stand in the place of, and what is free before them and behind them.
+    pub(crate) fn parts(&self) -> Parts
+        requires { (a : Space) × IsSpace a × IsCarved a.pieces self.now.row self.now.block }
+        ensures none { self.now.row ≡ [] → (result.before ≡ None) × (result.behind ≡ None) }
+        ensures some { (a : Space) (first : Piece) (rest : List Piece) → IsSpace a → IsCarved a.pieces self.now.row self.now.block
+            → self.now.row ≡ first ∷ rest
+            → in_place_of result.block (free_of result.before ++ self.now.row ++ free_of result.behind) a.pieces
+            ≡ with_pieces self.now.row a.pieces }
+    {
+        match (self.ends(), self.block) {
+            (Some(ends), Some(block)) => Parts {
+                block: block.pages.first,
+                before: between(block.pages.first, ends.first - 1),
+                behind: between(ends.last + 1, block.pages.last),
+            },
+            _ => Parts {
+                block: 0,
+                before: None,
+                behind: None,
+            },
+        }
+    }
+
+    /// How many pieces, from the first of them on, have just these pages, if some have.
+    pub(crate) fn run_count(&self, pages: Ends) -> Option<usize>
+        ensures first { IfSome result (λ _. (piece : Piece) × (slice_get self.now.row 0 ≡ Some piece) × (piece.first ≡ pages.first)) }
+        ensures last { IfSome result (λ count. (piece : Piece) × (slice_get self.now.row (count - 1) ≡ Some piece)
+            × (piece.last ≡ pages.last)) }
+        ensures count { IfSome result (λ count. (0 < count) × (count ≤ length self.now.row)) }
+    {
+        let pieces = self.row.as_slice();
+        let first = pieces.first()?;
+        if first.first != pages.first {
+            return None;
+        }
+        let before = pieces.partition_point(|piece| piece.last < pages.last);
+        let last = pieces.get(before)?;
+        if last.last == pages.last {
+            return Some(before + 1);
+        }
+        None
+    }
+}
+
+// A place, if the piece there has some pages.
+#[inline(always)]
+fn is_place(pieces: &[Piece], place: usize, pages: Ends) -> Option<usize>
+    ensures { IfSome result (IsAt pieces.now pages) }
+{
+    let piece = pieces.get(place)?;
+    if piece.first == pages.first && piece.last == pages.last {
+        return Some(place);
+    }
+    None
+}
+
+// Where the piece lies that has some pages, if there is one.
+fn find(pieces: &[Piece], pages: Ends) -> Option<usize>
+    requires { (from : ℕ) × (end : ℕ) × FollowOn from pieces.now end }
+    ensures { IfSome result (IsAt pieces.now pages) }
+{
+    let place = pieces.partition_point(|piece| piece.last < pages.first);
+    is_place(pieces, place, pages)
+}
+
+/// The piece that a page lies in.
+pub(crate) fn piece_at(pieces: &[Piece], page: u64) -> Option<Piece>
+    requires { (from : ℕ) × (end : ℕ) × FollowOn from pieces.now end }
+    ensures { result ≡ piece_at pieces.now page }
+{
+    let at = pieces.partition_point(|piece| piece.last < page);
+    let piece = pieces.get(at)?;
+    if piece.first <= page {
+        return Some(*piece);
+    }
+    None
+}
+
+/// How many pieces more there are than the tree shows.
+pub(crate) fn more(carved: &Carved) -> usize
+    requires { (a : Space) × IsSpace a × IsCarved a.pieces carved.now.row carved.now.block }
+    ensures { (a : Space) → IsSpace a → IsCarved a.pieces carved.now.row carved.now.block
+        → length (with_pieces carved.now.row a.pieces) ≡ length a.pieces + result }
+{
+    match (carved.row.as_slice().first(), carved.block) {
+        (Some(first), Some(block)) => carved.row.len()
+            + usize::from(block.pages.first < first.first),
+        _ => 0,
+    }
+}
+
+// Writes the pieces into the tree.
+fn put_all(tree: &mut PieceTree, pieces: &[Piece])
+    requires space { IsSpace tree.old }
+    requires carved { (block : Block) × AreCarved tree.old.pieces pieces.now block }
+    ensures tree { tree.new ≡ with_carved pieces.now tree.old }
+    ensures space { IsSpace tree.new }
+{
+    for piece in pieces.iter() {
+        tree.put(*piece);
+    }
+}
+
+// Writes all pieces into the tree, and forgets the free piece.
+#[inline(never)]
+fn write(tree: &mut PieceTree, carved: &mut Carved)
+    requires space { IsSpace tree.old }
+    requires carved { (block : Block) × AreCarved tree.old.pieces carved.old.row block }
+    ensures tree { tree.new ≡ with_carved carved.old.row tree.old }
+    ensures space { IsSpace tree.new }
+    ensures row { carved.new.row ≡ [] }
+    ensures block { carved.new.block ≡ None }
+{
+    put_all(tree, carved.row.as_slice());
+    carved.row.clear();
+    carved.block = None;
+}
+
+/// The same, where mostly there is none.
+#[inline(always)]
+pub(crate) fn settle(tree: &mut PieceTree, carved: &mut Carved)
+    requires space { IsSpace tree.old }
+    requires carved { IsCarved tree.old.pieces carved.old.row carved.old.block }
+    ensures tree { tree.new ≡ with_carved carved.old.row tree.old }
+    ensures space { IsSpace tree.new }
+    ensures row { carved.new.row ≡ [] }
+    ensures block { carved.new.block ≡ None }
+{
+    if carved.row.len() > 0 {
+        write(tree, carved);
+        return;
+    }
+    carved.block = None;
+}
+
+/// Makes the lowest pages that are sought one live piece, where none is carved: the first of them.
+#[inline(always)]
+pub(crate) fn take(
+    tree: &mut PieceTree,
+    carved: &mut Carved,
+    sought: Sought,
+) -> Result<u64, TakeError>
+    requires sought { IsSought sought }
+    requires space { IsSpace tree.old }
+    requires row { carved.old.row ≡ [] }
+    requires block { carved.old.block ≡ None }
+    ensures lowest { IfOk result (IsLowestFrom sought.floor tree.old.pieces sought.pages sought.unit) }
+    ensures taken { IfOk result (λ start.
+        Takes tree.old (with_carved carved.new.row tree.new) (record { first = start; pages = sought.pages })) }
+    ensures space { IsSpace tree.new }
+    ensures carved { IsCarved tree.new.pieces carved.new.row carved.new.block }
+    ensures no_range { (result ≡ Err TakeError.NoRange)
+        ↔ ((start : ℕ) → IsFit tree.old.pieces sought.pages sought.unit start → ⊥) }
+    ensures too_many { (result ≡ Err TakeError.TooManyPieces)
+        ↔ ((start : ℕ) × IsLowestFrom sought.floor tree.old.pieces sought.pages sought.unit start
+        × IsTooMany tree.old.pieces (record { first = start; pages = sought.pages })) }
+    ensures unchanged { OnErr result (with_carved carved.new.row tree.new ≡ tree.old) }
+{
+    if sought.floor == 1 {
+        if let Some(start) = tree.take_freed(sought.pages, sought.unit) {
+            return Ok(start);
+        }
+    }
+    take_found(tree, carved, sought)
+}
+
+// The same, where the pages are looked for.
+fn take_found(tree: &mut PieceTree, carved: &mut Carved, sought: Sought) -> Result<u64, TakeError>
+    requires sought { IsSought sought }
+    requires space { IsSpace tree.old }
+    requires row { carved.old.row ≡ [] }
+    requires block { carved.old.block ≡ None }
+    ensures lowest { IfOk result (IsLowestFrom sought.floor tree.old.pieces sought.pages sought.unit) }
+    ensures taken { IfOk result (λ start.
+        Takes tree.old (with_carved carved.new.row tree.new) (record { first = start; pages = sought.pages })) }
+    ensures space { IsSpace tree.new }
+    ensures carved { IsCarved tree.new.pieces carved.new.row carved.new.block }
+    ensures no_range { (result ≡ Err TakeError.NoRange)
+        ↔ ((start : ℕ) → IsFit tree.old.pieces sought.pages sought.unit start → ⊥) }
+    ensures too_many { (result ≡ Err TakeError.TooManyPieces)
+        ↔ ((start : ℕ) × IsLowestFrom sought.floor tree.old.pieces sought.pages sought.unit start
+        × IsTooMany tree.old.pieces (record { first = start; pages = sought.pages })) }
+    ensures unchanged { OnErr result (with_carved carved.new.row tree.new ≡ tree.old) }
+{
+    let Some(found) = tree.find(sought) else {
+        return Err(TakeError::NoRange);
+    };
+    if is_too_many(tree, sought, found) {
+        return Err(TakeError::TooManyPieces);
+    }
+    put_found(tree, carved, sought, found);
+    Ok(found.start)
+}
+
+// Whether the pages that were found cut a piece, and there are too many for that.
+#[inline(always)]
+fn is_too_many(tree: &PieceTree, sought: Sought, found: Found) -> bool
+    requires sought { IsSought sought }
+    requires space { IsSpace tree.now }
+    requires there { IsIn (pages_as found.known.pages PageState.Free) tree.now.pieces }
+    requires inside { (found.known.pages.first ≤ found.start) × (found.start + sought.pages ≤ found.known.pages.last + 1) }
+    ensures { IsTrue result ↔ IsTooMany tree.now.pieces (record { first = found.start; pages = sought.pages }) }
+{
+    if tree.piece_count() <= MOST_PIECES_TO_CUT {
+        return false;
+    }
+    let pages = found.known.pages;
+    if pages.first < found.start {
+        return true;
+    }
+    found.start + sought.pages <= pages.last
+}
+
+// Makes the lowest pages, which were found, one live piece: what is left behind them may be taken next.
+fn put_found(tree: &mut PieceTree, carved: &mut Carved, sought: Sought, found: Found)
+    requires sought { IsSought sought }
+    requires space { IsSpace tree.old }
+    requires row { carved.old.row ≡ [] }
+    requires block { carved.old.block ≡ None }
+    requires lowest { IsLowestFrom sought.floor tree.old.pieces sought.pages sought.unit found.start }
+    requires there { IsIn (pages_as found.known.pages PageState.Free) tree.old.pieces }
+    requires inside { (found.known.pages.first ≤ found.start) × (found.start + sought.pages ≤ found.known.pages.last + 1) }
+    requires few { IsTooMany tree.old.pieces (record { first = found.start; pages = sought.pages }) → ⊥ }
+    ensures taken { Takes tree.old (with_carved carved.new.row tree.new) (record { first = found.start; pages = sought.pages }) }
+    ensures space { IsSpace tree.new }
+    ensures carved { IsCarved tree.new.pieces carved.new.row carved.new.block }
+{
+    let start = found.start;
+    let pages = found.known.pages;
+    let is_last = pages.last < start + sought.pages;
+    if start < sought.floor || is_last || !carved.carve(start, sought.pages) {
+        tree.take_found(start, sought);
+        return;
+    }
+    carved.block = Some(Block { pages, sought });
+}

@@ -1,0 +1,112 @@
+//! Pieces in a row, of which the first and the last ones can leave.
+
+ghost use Rattle.std.specs.Prelude.{◌≡◌, List, ℕ, [], ◌∷◌, ◌++◌, ◌+◌, ◌-◌, ◌≤◌, ◌<◌, Some, drop, length, slice_get, slice_set};
+ghost use Rattle.std.specs.Prelude.{IfSome, IfNone, IfOk, true, false};
+ghost use Rattle.iova.specs.Carved.{FollowOn};
+ghost use Rattle.iova.specs.Search.{piece_at};
+ghost use Rattle.iova.specs.Way.{pages_as};
+
+use crate::beside::Ends;
+use crate::piece::{PageState, Piece};
+use std::alloc::{AllocError, Global};
+use std::marker::Model;
+
+/// How many pieces a row has room for (own): as many as a lazy domain retires before it has to flush, and what is taken just before
+/// that.
+pub(crate) const MOST_IN_ROW: usize = 272;
+
+/// Pieces, seen as their list.
+#[derive(Drop)]
+pub(crate) struct Row {
+    // Those that left at the front, up to `begin`, and behind them the pieces.
+    pieces: Vec<Piece>,
+    begin: usize,
+}
+
+impl Model for Row {
+    ghost use Rattle.std.specs.Prelude.{List, ◌≤◌, drop, length, vec_capacity};
+    ghost use Rattle.iova.specs.declared.piece.Piece.{Piece};
+    ghost use Rattle.iova.specs.declared.row.TheConstants.{MOST_IN_ROW};
+
+    ghost Value = { List Piece };
+
+    ghost view = { λ r. drop r.begin r.pieces.items };
+
+    ghost invariant = { λ r. (r.begin ≤ length r.pieces.items) × (MOST_IN_ROW ≤ vec_capacity r.pieces) };
+}
+
+impl Row {
+    /// None, and the memory for all.
+    pub(crate) fn new(alloc: Global) -> Result<Row, AllocError>
+        ensures { IfOk result (λ row. row ≡ []) }
+    {
+        let pieces = Vec::with_capacity(alloc, MOST_IN_ROW)?;
+        Ok(Row { pieces, begin: 0 })
+    }
+
+    /// The pieces.
+    pub(crate) fn as_slice(&self) -> &[Piece]
+        ensures { result.now ≡ self.now }
+    {
+        &self.pieces.as_slice()[self.begin..]
+    }
+
+    /// How many there are.
+    pub(crate) fn len(&self) -> usize
+        ensures { result ≡ length self.now }
+    {
+        self.pieces.len() - self.begin
+    }
+
+    /// Whether one more has room behind them. Those that left at the front take room until all have left.
+    pub(crate) fn push(&mut self, piece: Piece) -> bool
+        ensures pushed { result ≡ true → self.new ≡ self.old ++ piece ∷ [] }
+        ensures unchanged { result ≡ false → self.new ≡ self.old }
+    {
+        if self.pieces.len() >= MOST_IN_ROW {
+            return false;
+        }
+        self.pieces.push_reserved(piece);
+        true
+    }
+
+    /// The last one leaves.
+    pub(crate) fn lose_last(&mut self)
+        requires { 0 < length self.old }
+        ensures { (before : List Piece) (last : Piece) → self.old ≡ before ++ last ∷ [] → self.new ≡ before }
+    {
+        let _ = self.pieces.pop();
+        if self.len() == 0 {
+            self.clear();
+        }
+    }
+
+    /// So many at the front leave.
+    pub(crate) fn lose_first(&mut self, count: usize)
+        requires { count ≤ length self.old }
+        ensures { self.new ≡ drop count self.old }
+    {
+        self.begin += count;
+        if self.len() == 0 {
+            self.clear();
+        }
+    }
+
+    /// All leave.
+    pub(crate) fn clear(&mut self)
+        ensures { self.new ≡ [] }
+    {
+        self.pieces.clear();
+        self.begin = 0;
+    }
+
+    /// Makes the piece at a place, counted from 0, retired.
+    pub(crate) fn retire(&mut self, place: usize)
+        requires { place < length self.old }
+        ensures { (before : List Piece) (pages : Ends) (state : PageState) (behind : List Piece)
+            → self.old ≡ before ++ pages_as pages state ∷ behind → place ≡ length before
+            → self.new ≡ before ++ pages_as pages PageState.Retired ∷ behind }
+    {
+        self.pieces[self.begin + place].state = PageState::Retired;
+    }
+}
