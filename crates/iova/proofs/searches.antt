@@ -10,6 +10,7 @@ pub mod ShortBefore
 pub mod Walk
 pub mod Beside
 pub mod Between
+pub mod Fitting
 pub mod Descent
 pub mod Seeking
 pub mod Holding

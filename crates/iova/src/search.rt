@@ -173,31 +173,34 @@ fn fit_between(
     ensures none { (t : Shape) (from : ℕ) → IsBelow (get nodes.now) root t from → AllByRecursion (λ p. p.last < end) (items t)
         → IfNone result (AllByRecursion (HasNoRoom floor pages unit) (items t)) }
 {
-    let Some(key) = root else {
-        return None;
-    };
-    let node = &nodes[key];
-    if node.longest < pages {
-        return None;
-    }
-    let least = round_up(floor, unit);
-    if end < least + pages {
-        return None;
-    }
-    if least + pages <= node.piece.first && longest(nodes, node.left) >= pages {
-        if let Some(start) = fit_between(nodes, node.left, floor, node.piece.first, pages, unit) {
-            return Some(start);
+    let mut at = root;
+    let mut low = floor;
+    while let Some(key) = at {
+        let node = &nodes[key];
+        if node.longest < pages {
+            return None;
         }
-    }
-    if node.piece.is_free() {
-        let start = round_up(node.piece.first.max(floor), unit);
-        if start + pages <= node.piece.last + 1 {
-            return Some(start);
+        let least = round_up(low, unit);
+        if end < least + pages {
+            return None;
         }
+        let first = node.piece.first;
+        if least + pages <= first && longest(nodes, node.left) >= pages {
+            if let Some(start) = fit_between(nodes, node.left, low, first, pages, unit) {
+                return Some(start);
+            }
+        }
+        if node.piece.is_free() {
+            let start = round_up(first.max(low), unit);
+            if start + pages <= node.piece.last + 1 {
+                return Some(start);
+            }
+        }
+        // All pieces behind begin behind this one.
+        low = low.max(node.piece.last + 1);
+        at = node.right;
     }
-    // All pieces behind begin behind this one.
-    let behind = floor.max(node.piece.last + 1);
-    fit_between(nodes, node.right, behind, end, pages, unit)
+    None
 }
 
 /// The first multiple of the unit from a page on. The unit is a power of two, so no division is needed.
