@@ -1,5 +1,5 @@
 -- The page below which no free piece begins, the lowest free piece, and the first that is long enough.
-use Rattle.std.proofs.Common.{◌≡◌, ◌≢◌, ℕ, IsTrue, ◌+◌, ◌-◌, ◌%◌, ◌<◌, ◌≤◌, List, [], ◌∷◌, Some, refl, ap, sym, ◌∙◌, inl, inr, subst, arith}
+use Rattle.std.proofs.Common.{◌≡◌, ◌≢◌, ℕ, IsTrue, ◌+◌, ◌-◌, ◌%◌, ◌<◌, ◌≤◌, max, List, [], ◌∷◌, Some, refl, ap, sym, ◌∙◌, inl, inr, subst, arith}
 use Rattle.dmatypes.specs.Page.{Range}
 use Rattle.dmatypes.specs.World.{IsIn}
 use Rattle.iova.specs.declared.piece.PageState.{PageState}
@@ -36,11 +36,22 @@ none_below_put low first last s ps o w none own q m free = elim (put_only first 
   ]
 ]
 
--- and not if it is live
-pub none_below_live : (low first pages : ℕ) (ps : List Piece) → IsOrdered 1 ps → NoneFreeBelow low ps → 1 ≤ pages
-    → NoneFreeBelow low (put first (first + pages - 1) Live ps)
-none_below_live low first pages ps o none some =
-    none_below_put low first (first + pages - 1) Live ps o (omega arith) none (λ e. absurd (cc))
+-- a piece in use that is put there leaves none below what lies behind it
+pub none_below_used : (low first last : ℕ) (s : PageState) (ps : List Piece) → IsOrdered 1 ps → first ≤ last → NoneFreeBelow low ps
+    → s ≢ Free → first ≤ low → NoneFreeBelow (max low (last + 1)) (put first last s ps)
+none_below_used low first last s ps o w none used h q m free = elim (put_only first last s q ps o m) [
+  | inl e ↦ absurd (used (sym (ap (λ (r : Piece). r.state) e) ∙ free))
+  | inr x ↦ elim x [
+    | inl y ↦
+        let a = in_le 1 q ps o y.0 in
+        let b = none q y.0 free in
+        elim y.1 [ inl l ↦ absurd (omega (arith, a.1, b, h, l)) | inr l ↦ omega (arith, b, l) ]
+    | inr y ↦ elim y [
+      | inl z ↦ let b = none z.of z.among (z.state ∙ free) in absurd (omega (arith, b, z.under, h))
+      | inr z ↦ let b = none z.of z.among (z.state ∙ free) in omega (arith, b, z.under, z.begins)
+    ]
+  ]
+]
 
 -- a free page is one that fits
 page_fits : (q : Piece) (ps : List Piece) → IsOrdered 1 ps → IsIn q ps → q.state ≡ Free → IsFit ps 1 1 q.first
@@ -50,24 +61,9 @@ page_fits q ps o m free = record {
       in_state 1 q ps page o m w.0 (let a = in_le 1 q ps o m in omega (arith, w.1, a.1)) ∙ ap (λ s. Some s) free;
 }
 
--- once the lowest free page is live, all free pieces begin behind it
-pub none_below_taken : (start : ℕ) (ps : List Piece) → IsOrdered 1 ps → IsLowestFit ps 1 1 start
-    → NoneFreeBelow (start + 1) (put start (start + 1 - 1) Live ps)
-none_below_taken start ps o i q m free = elim (put_only start (start + 1 - 1) Live q ps o m) [
-  | inl e ↦ let b : q.state ≡ Live = ap (λ (r : Piece). r.state) e in absurd (cc)
-  | inr x ↦ elim x [
-    | inl y ↦
-        let a = in_le 1 q ps o y.0 in
-        let b = i.lowest q.first (page_fits q ps o y.0 free) in
-        elim y.1 [ inl h ↦ absurd (omega (arith, a.1)) | inr h ↦ omega arith ]
-    | inr y ↦ elim y [
-      | inl z ↦
-          let b = i.lowest z.of.first (page_fits z.of ps o z.among (z.state ∙ free)) in
-          absurd (omega (arith, z.under))
-      | inr z ↦ omega (arith, z.begins)
-    ]
-  ]
-]
+-- no free piece begins below the lowest free page
+pub none_below_lowest : (start : ℕ) (ps : List Piece) → IsOrdered 1 ps → IsLowestFit ps 1 1 start → NoneFreeBelow start ps
+none_below_lowest start ps o i q m free = i.lowest q.first (page_fits q ps o m free)
 
 -- the piece that a page with a state lies in
 pub holding : (ps : List Piece) (page : ℕ) (s : PageState) → state_at ps page ≡ Some s

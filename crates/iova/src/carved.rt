@@ -5,7 +5,8 @@ ghost use Rattle.std.specs.Prelude.{◌↔◌, IfSome, IfNone, IfOk, OnErr, IsTr
 ghost use Rattle.iova.specs.Changes.{Takes};
 ghost use Rattle.iova.specs.Pieces.{piece_of};
 ghost use Rattle.dmatypes.specs.World.{IsIn};
-ghost use Rattle.iova.specs.Carved.{AreCarved, CanCarve, FollowOn, IsAt, IsCarved, IsSought, LosesEnd, free_of, in_place_of};
+ghost use Rattle.iova.specs.Carved.{AreCarved, CanCarve, FollowOn, IsAt, IsCarved, IsSought, LosesEnd, NoneBelow, free_of};
+ghost use Rattle.iova.specs.Carved.{in_place_of};
 ghost use Rattle.iova.specs.Carved.{with_carved, with_pieces};
 ghost use Rattle.iova.specs.Search.{piece_at};
 ghost use Rattle.iova.specs.Space.{IsFit, IsLowestFrom, IsSpace, IsTooMany, Space};
@@ -28,8 +29,7 @@ pub(crate) struct Sought {
     pub(crate) unit: u64,
 }
 
-/// A free piece of the tree that pieces are carved out of: its pages, and what was looked for when it was found. None of what was
-/// looked for begins before it.
+/// A free piece of the tree that pieces are carved out of: its pages, and what nothing of begins from the floor on and before it.
 #[derive(Clone, Copy)]
 pub(crate) struct Block {
     pub(crate) pages: Ends,
@@ -47,7 +47,7 @@ pub(crate) struct Carved {
 /// Where the free piece begins, and what is left of it before and behind the pieces that were carved out of it.
 #[derive(Clone, Copy)]
 pub(crate) struct Parts {
-    pub(crate) block: u64,
+    pub(crate) first: u64,
     pub(crate) before: Option<Ends>,
     pub(crate) behind: Option<Ends>,
 }
@@ -186,17 +186,17 @@ impl Carved {
         ensures none { self.now.row ≡ [] → (result.before ≡ None) × (result.behind ≡ None) }
         ensures some { (a : Space) (first : Piece) (rest : List Piece) → IsSpace a → IsCarved a.pieces self.now.row self.now.block
             → self.now.row ≡ first ∷ rest
-            → in_place_of result.block (free_of result.before ++ self.now.row ++ free_of result.behind) a.pieces
+            → in_place_of result.first (free_of result.before ++ self.now.row ++ free_of result.behind) a.pieces
             ≡ with_pieces self.now.row a.pieces }
     {
         match (self.ends(), self.block) {
             (Some(ends), Some(block)) => Parts {
-                block: block.pages.first,
+                first: block.pages.first,
                 before: between(block.pages.first, ends.first - 1),
                 behind: between(ends.last + 1, block.pages.last),
             },
             _ => Parts {
-                block: 0,
+                first: 0,
                 before: None,
                 behind: None,
             },
@@ -411,8 +411,32 @@ fn put_found(tree: &mut PieceTree, carved: &mut Carved, sought: Sought, found: F
     let pages = found.known.pages;
     let is_last = pages.last < start + sought.pages;
     if start < sought.floor || is_last || !carved.carve(start, sought.pages) {
-        tree.take_found(start, sought);
+        tree.put(Piece {
+            first: start,
+            last: start + sought.pages - 1,
+            state: PageState::Live,
+        });
         return;
     }
+    let sought = least_sought(tree, sought, pages.first);
     carved.block = Some(Block { pages, sought });
+}
+
+// What of nothing begins before a free piece: any page, where it is known to be the lowest, else what was sought.
+fn least_sought(tree: &PieceTree, sought: Sought, first: u64) -> Sought
+    requires sought { IsSought sought }
+    requires space { IsSpace tree.now }
+    requires none { NoneBelow sought first tree.now.pieces }
+    ensures sought { IsSought result }
+    ensures floor { result.floor ≡ sought.floor }
+    ensures none { NoneBelow result first tree.now.pieces }
+{
+    if sought.floor == 1 && tree.is_lowest(first) {
+        return Sought {
+            floor: 1,
+            pages: 1,
+            unit: 1,
+        };
+    }
+    sought
 }

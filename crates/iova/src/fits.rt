@@ -1,6 +1,6 @@
 //! Where pages are taken.
 
-ghost use Rattle.std.specs.Prelude.{◌≡◌, List, ℕ, ◌+◌, ◌^◌, ◌<◌, ◌≤◌, IfSome, IfNone};
+ghost use Rattle.std.specs.Prelude.{◌≡◌, ◌≢◌, List, ℕ, ◌+◌, ◌^◌, ◌<◌, ◌≤◌, IfSome, IfNone};
 ghost use Rattle.slab.specs.Slab.{get};
 ghost use Rattle.iova.specs.Pieces.{IsOrdered, NoneFreeBelow, piece_of, with_piece};
 ghost use Rattle.iova.specs.Space.{IsFit, IsLowestFrom};
@@ -117,17 +117,29 @@ fn fit_from(
     lowest_fit(nodes, root, 0, pages, unit)
 }
 
-/// A page below which no free piece begins once the lowest pages that were sought are live, where none began below the page `low`.
-/// Where one page that may lie anywhere was wanted, all free pages lie behind it; else there may be some below.
-pub(crate) fn low_behind(low: u64, start: u64, sought: Sought) -> u64
+/// A page below which no free piece begins, where none began below the page `low`, once it is known where the lowest pages lie that were
+/// sought: where that was one page anywhere, all free pieces begin there or behind.
+pub(crate) fn low_found(low: u64, start: u64, sought: Sought) -> u64
     requires sought { IsSought sought }
-    requires start { start < NUMBERS_END }
     ensures { (pieces : List Piece) → IsOrdered 1 pieces → NoneFreeBelow low pieces
-        → IsLowestFrom sought.floor pieces sought.pages sought.unit start
-        → NoneFreeBelow result (with_piece (piece_of (record { first = start; pages = sought.pages }) PageState.Live) pieces) }
+        → IsLowestFrom sought.floor pieces sought.pages sought.unit start → NoneFreeBelow result pieces }
 {
     if sought.floor == 1 && sought.pages == 1 && sought.unit == 1 {
-        return start + 1;
+        return start;
+    }
+    low
+}
+
+/// A page below which no free piece begins once a piece in use was put there, where none began below the page `low`.
+pub(crate) fn low_behind(low: u64, piece: Piece) -> u64
+    requires some { piece.first ≤ piece.last }
+    requires narrow { piece.last < NUMBERS_END }
+    requires in_use { piece.state ≢ PageState.Free }
+    ensures { (pieces : List Piece) → IsOrdered 1 pieces → NoneFreeBelow low pieces
+        → NoneFreeBelow result (with_piece piece pieces) }
+{
+    if piece.first <= low {
+        return low.max(piece.last + 1);
     }
     low
 }

@@ -15,7 +15,7 @@ pub struct Iter<'a> {
     pub(crate) tree: TreeIter<'a>,
     // What comes in the place of the tree's piece that begins at this page: what is left of it before the row, the row, and what is left
     // behind it.
-    pub(crate) block: u64,
+    pub(crate) first: u64,
     pub(crate) before: Option<Ends>,
     pub(crate) row: &'a [Piece],
     pub(crate) behind: Option<Ends>,
@@ -31,7 +31,7 @@ impl<'a> Model for Iter<'a> {
     ghost Value = { List Piece };
 
     ghost view = { λ it. if it.passed then free_of it.before ++ it.row.now ++ free_of it.behind ++ it.tree
-        else in_place_of it.block (free_of it.before ++ it.row.now ++ free_of it.behind) it.tree };
+        else in_place_of it.first (free_of it.before ++ it.row.now ++ free_of it.behind) it.tree };
 }
 
 impl<'a> Iterator for Iter<'a> {
@@ -44,7 +44,7 @@ impl<'a> Iterator for Iter<'a> {
     fn next(&mut self) -> Option<Piece> {
         if !self.passed {
             let piece = self.tree.next()?;
-            if piece.first != self.block {
+            if piece.first != self.first {
                 return Some(piece);
             }
             self.passed = true;

@@ -163,33 +163,20 @@ impl PieceTree {
         let in_mind = self.in_mind;
         self.in_mind = InMind::Nothing;
         let found = fits::find_in_mind(&self.nodes, self.root, sought, in_mind, &mut self.way)?;
+        self.low = fits::low_found(self.low, found.start, sought);
         self.in_mind = InMind::Open(found.known);
         Some(found)
     }
 
-    /// Makes the lowest pages that were found one live piece.
-    pub(crate) fn take_found(&mut self, start: u64, sought: Sought)
-        requires sought { IsSought sought }
-        requires lowest { IsLowestFrom sought.floor self.old.pieces sought.pages sought.unit start }
-        requires few { IsTooMany self.old.pieces (record { first = start; pages = sought.pages }) → ⊥ }
-        ensures { Takes self.old self.new (record { first = start; pages = sought.pages }) }
+    /// Whether no free piece begins below a page. It is known of low pages alone, and not while a piece that came free is in mind.
+    pub(crate) fn is_lowest(&self, page: u64) -> bool
+        ensures { IsTrue result → NoneFreeBelow page self.now.pieces }
     {
-        pending::put_freed(
-            &mut self.nodes,
-            &mut self.root,
-            &mut self.low,
-            &self.way,
-            &mut self.in_mind,
-        );
-        let in_mind = self.in_mind;
-        self.in_mind = InMind::Nothing;
-        let piece = Piece {
-            first: start,
-            last: start + sought.pages - 1,
-            state: PageState::Live,
-        };
-        self.low = fits::low_behind(self.low, start, sought);
-        self.root = store::store_known(&mut self.nodes, self.root, piece, &mut self.way, in_mind);
+        match self.in_mind {
+            InMind::Freed(_) => false,
+            InMind::Nothing | InMind::Judged(_) | InMind::Lowest(_) | InMind::Open(_) => page
+                <= self.low,
+        }
     }
 
     /// The live piece that a page lies in.
@@ -291,6 +278,7 @@ impl PieceTree {
         );
         let in_mind = self.in_mind;
         self.in_mind = InMind::Nothing;
+        self.low = fits::low_behind(self.low, piece);
         self.root = store::store_known(&mut self.nodes, self.root, piece, &mut self.way, in_mind);
     }
 

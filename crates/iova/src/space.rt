@@ -128,7 +128,7 @@ impl Space {
         let parts = self.carved.parts();
         Iter {
             tree: self.tree.pieces(),
-            block: parts.block,
+            first: parts.first,
             before: parts.before,
             row,
             behind: parts.behind,
@@ -367,7 +367,12 @@ impl Space {
         if self.carved.give_back(pages) {
             return;
         }
+        let was_carved = self.carved.row.len() > 0;
         carved::settle(&mut self.tree, &mut self.carved);
+        // It was judged in the row, so the tree has not looked for it yet.
+        if was_carved {
+            self.tree.hold_live(pages);
+        }
         self.tree.free_live(range);
     }
 

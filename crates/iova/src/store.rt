@@ -72,13 +72,13 @@ pub(crate) fn store_known(
     ensures { IsKept result nodes.new (with_piece piece (pieces_of nodes.old root)) }
 {
     let place = match in_mind {
-        InMind::Open(known) | InMind::Lowest(known)
-            if known.pages.first <= piece.first && piece.last <= known.pages.last => {
-            Place {
-                at: Some(known.held.key),
-                depth: known.held.depth,
+        InMind::Open(known) if known.pages.first <= piece.first && piece.last <= known.pages.last =>
+            {
+                Place {
+                    at: Some(known.held.key),
+                    depth: known.held.depth,
+                }
             }
-        }
         _ => walk(nodes, root, &piece, way),
     };
     store_by(nodes, root, piece, way, place)

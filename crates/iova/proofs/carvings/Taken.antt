@@ -11,11 +11,12 @@ use Rattle.iova.specs.declared.piece.PageState.TheVariants.{Free, Live}
 use Rattle.iova.specs.declared.piece.Piece.{Piece}
 use Rattle.iova.specs.declared.space.TheConstants.{MOST_PIECES, MOST_PIECES_TO_CUT}
 use Rattle.iova.specs.Changes.{Takes}
-use Rattle.iova.specs.Carved.{AreCarved, CanCarve, IsCarved, IsSought, with_carved, with_pieces}
-use Rattle.iova.specs.Pieces.{AllIn, piece_of, with_piece}
+use Rattle.iova.specs.Carved.{AreCarved, CanCarve, IsCarved, IsSought, NoneBelow, with_carved, with_pieces}
+use Rattle.iova.specs.Pieces.{AllIn, IsOrdered, NoneFreeBelow, piece_of, with_piece}
 use Rattle.iova.specs.Space.{Space, IsLowestFrom, IsSpace, IsTooMany}
 use Rattle.iova.specs.Way.{pages_as}
 use Rattle.iova.proofs.Among.{in_state}
+use Rattle.iova.proofs.LowestFree.{holding}
 use Rattle.iova.proofs.Taken.{page_range, space_taken, takes}
 use Rattle.iova.proofs.carvings.InPlace.{follow_both, follow_le, free_piece}
 use Rattle.iova.proofs.carvings.Carved.{carved_in}
@@ -73,14 +74,14 @@ module _ (a : Space) (sp : IsSpace a) (row : List Piece) (block : Block) (c : Ar
   }
 
 -- a free piece that was found, of which nothing is carved yet
-module _ (a : Space) (sp : IsSpace a) (pages : Ends) (sought : Sought) (s : IsSought sought) (start : ℕ)
-    (there : IsIn (pages_as pages Free) a.pieces) (lowest : IsLowestFrom sought.floor a.pieces sought.pages sought.unit start)
-    (above : sought.floor ≤ start) (inside : pages.first ≤ start) (left : start + sought.pages ≤ pages.last) where
-  pub uncarved : AreCarved a.pieces [] (record { pages = pages; sought = sought })
+module _ (a : Space) (sp : IsSpace a) (pages : Ends) (least : Sought) (s : IsSought least) (start count : ℕ)
+    (there : IsIn (pages_as pages Free) a.pieces) (none : NoneBelow least pages.first a.pieces) (above : least.floor ≤ start)
+    (inside : pages.first ≤ start) (left : start + count ≤ pages.last) where
+  pub uncarved : AreCarved a.pieces [] (record { pages = pages; sought = least })
   uncarved = record {
     there = there;
     sought = s;
-    none = λ other f h. omega (arith, inside, lowest.above above other f h);
+    none = none;
     from = start;
     end = start;
     low = omega (arith, above, inside);
@@ -89,8 +90,15 @@ module _ (a : Space) (sp : IsSpace a) (pages : Ends) (sought : Sought) (s : IsSo
     few = sp.few;
   }
 
-  pub can_carve : CanCarve [] (record { pages = pages; sought = sought }) start sought.pages
+  pub can_carve : CanCarve [] (record { pages = pages; sought = least }) start count
   can_carve = (start, omega (arith, above, inside), refl, left)
+
+-- nothing begins before the lowest free piece
+pub none_before_lowest : (ps : List Piece) (page floor : ℕ) → IsOrdered 1 ps → NoneFreeBelow page ps
+    → NoneBelow (record { floor = floor; pages = 1; unit = 1 }) page ps
+none_before_lowest ps page floor o low start fit h =
+    let q = holding ps start Free (fit.free start (omega arith, omega arith)) in
+    omega (arith, low q.0 q.1 q.3, q.2.0)
 
 -- what a space is once pages were carved
 pub record Carves (a old : Space) (now : List Piece) (block : Option Block) (start pages : ℕ) : Type 0 where

@@ -103,6 +103,5 @@ module _ (nodes : Slab Node) (root : Option ℕ) (way : List Step) (in_mind : In
   freed_of e i = subst (λ m. IsInMind nodes root way m) e i
 
   -- a free piece is in mind
-  pub open_of : (in_mind ≡ Open known) ⊎ (in_mind ≡ Lowest known) → IsInMind nodes root way in_mind → IsKnown nodes root way Free known
-  open_of (inl e) i = subst (λ m. IsInMind nodes root way m) e i
-  open_of (inr e) i = (lowest_of e i).0
+  pub open_of : in_mind ≡ Open known → IsInMind nodes root way in_mind → IsKnown nodes root way Free known
+  open_of e i = subst (λ m. IsInMind nodes root way m) e i

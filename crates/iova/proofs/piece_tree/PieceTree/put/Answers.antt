@@ -2,7 +2,6 @@ use Rattle.std.proofs.Common.{◌≡◌, ◌∙◌, ap, subst, sym}
 use Rattle.iova.specs.Pieces.{NoneFreeBelow, with_piece}
 use Rattle.iova.specs.Space.{Space, IsSpace}
 use Rattle.iova.specs.Stored.{stored}
-use Rattle.iova.proofs.LowestFree.{none_below_put}
 use Rattle.iova.proofs.shapes.Tall.{kept_self, kept_view}
 use Rattle.iova.proofs.piece_tree.PieceTree.put.Goals as goal
 
@@ -19,9 +18,8 @@ invariant_of-self c =
       kept_self c.store_known-self-inside.result c.store_known-self-inside.new.nodes (with_piece p a.pieces)
           c.store_known-self-inside.ensures,
       subst (λ ps. IsSpace (record a { pieces = ps })) now space,
-      subst (λ ps. NoneFreeBelow c.put_freed.new.low ps) now
-          (none_below_put c.put_freed.new.low p.first p.last p.state a.pieces sp.ordered c.requires.some c.put_freed.ensures.low
-          (λ e. absurd (c.requires.in_use e))),
+      subst (λ ps. NoneFreeBelow c.low_behind-self-inside.result ps) now
+          (c.low_behind-self-inside.ensures a.pieces sp.ordered c.put_freed.ensures.low),
       tt,
     )
 

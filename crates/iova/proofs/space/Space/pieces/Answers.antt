@@ -32,10 +32,10 @@ returns-clause-pieces c =
     let parts = c.parts-parts.result in
     let row = c.as_slice-row.result.now in
     let is = c.as_slice-row.ensures in
-    ap (coming parts.block parts.before row parts.behind c.pieces.result) c.is_empty.ensures
-    ∙ ap (λ l. coming parts.block parts.before row parts.behind l (length row == 0)) c.pieces.ensures.pieces
-    ∙ ap (λ (l : List Piece). coming parts.block parts.before l parts.behind a.pieces (length l == 0)) is
-    ∙ all_come parts.block parts.before c.self.inside.carved.row parts.behind a.pieces c.parts-parts.ensures.none
+    ap (coming parts.first parts.before row parts.behind c.pieces.result) c.is_empty.ensures
+    ∙ ap (λ l. coming parts.first parts.before row parts.behind l (length row == 0)) c.pieces.ensures.pieces
+    ∙ ap (λ (l : List Piece). coming parts.first parts.before l parts.behind a.pieces (length l == 0)) is
+    ∙ all_come parts.first parts.before c.self.inside.carved.row parts.behind a.pieces c.parts-parts.ensures.none
     (λ first rest e. c.parts-parts.ensures.some a first rest c.self.invariant.0 c.self.invariant.1 e)
     ∙ ap (λ (v : Space). v.pieces) c.self.view_is
 
