@@ -6,8 +6,7 @@ ghost use Rattle.iova.specs.Changes.{Takes};
 ghost use Rattle.iova.specs.Pieces.{piece_of};
 ghost use Rattle.dmatypes.specs.World.{IsIn};
 ghost use Rattle.iova.specs.Carved.{AreCarved, CanCarve, FollowOn, IsAt, IsCarved, IsSought, LosesEnd, NoneBelow, free_of};
-ghost use Rattle.iova.specs.Carved.{in_place_of};
-ghost use Rattle.iova.specs.Carved.{with_carved, with_pieces};
+ghost use Rattle.iova.specs.Carved.{in_place_of, with_carved, with_pieces};
 ghost use Rattle.iova.specs.Search.{piece_at};
 ghost use Rattle.iova.specs.Space.{IsFit, IsLowestFrom, IsSpace, IsTooMany, Space};
 ghost use Rattle.iova.specs.Way.{pages_as};
@@ -29,7 +28,8 @@ pub(crate) struct Sought {
     pub(crate) unit: u64,
 }
 
-/// A free piece of the tree that pieces are carved out of: its pages, and what nothing of begins from the floor on and before it.
+/// A free piece of the tree that pieces are carved out of: its pages, and what was sought when it was found; from the floor on, no such
+/// pages begin before it.
 #[derive(Clone, Copy)]
 pub(crate) struct Block {
     pub(crate) pages: Ends,

@@ -1,5 +1,6 @@
 -- What carving pieces out of a free piece leaves: a space, in which each page lies as before but for those of the pieces.
-use Rattle.std.proofs.Common.{◌≡◌, ◌≢◌, ℕ, ◌+◌, ◌<◌, ◌≤◌, ◌⊎◌, List, [], ◌∷◌, ◌++◌, length, Option, None, Some, refl, ap, sym, ◌∙◌, inl, inr, subst, arith}
+use Rattle.std.proofs.Common.{◌≡◌, ◌≢◌, ℕ, ◌+◌, ◌<◌, ◌≤◌, ◌⊎◌, List, [], ◌∷◌, ◌++◌, length, Option, None, Some, refl, ap, sym, ◌∙◌, inl}
+use Rattle.std.proofs.Common.{inr, subst, arith}
 use Rattle.std.proofs.Common.{length-append}
 use Rattle.dmatypes.specs.World.{IsIn}
 use Rattle.iova.specs.declared.carved.Block.{Block}

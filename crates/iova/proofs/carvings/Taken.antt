@@ -70,7 +70,8 @@ module _ (a : Space) (sp : IsSpace a) (row : List Piece) (block : Block) (c : Ar
     follow = follow_both p.0 row (e ∷ []) start (start + pages) p.2
         (refl, omega (arith, some), (λ h. absurd (cc)), omega (arith, some));
     left = p.3;
-    few = subst (λ l. length l ≤ MOST_PIECES) (sym (with_last row e a.pieces)) (space_taken (with_carved row a) range viewed some all_free n).few;
+    few = subst (λ l. length l ≤ MOST_PIECES) (sym (with_last row e a.pieces))
+        (space_taken (with_carved row a) range viewed some all_free n).few;
   }
 
 -- a free piece that was found, of which nothing is carved yet

@@ -305,9 +305,6 @@ module _ (nodes : Slab Node) (root : Option ℕ) (key : ℕ) (node : Node) (floo
   pub fit-can_left : CanSearch nodes node.left
   fit-can_left = (open_at.l, from, before)
 
-  pub fit-can_right : CanSearch nodes node.right
-  fit-can_right = (open_at.r, node.piece.last + 1, behind)
-
   pub fit-falls : (node_height (at_root (get nodes) node.left) < height_of t)
       × (node_height (at_root (get nodes) node.right) < height_of t)
   fit-falls =

@@ -8,7 +8,8 @@ use Rattle.iova.proofs.carvings.Carved.{block_narrow, carved_in}
 use Rattle.iova.proofs.carvings.State.{view_space}
 use Rattle.iova.proofs.carvings.Taken.{carves}
 use Rattle.iova.proofs.space.Space.take_behind.Goals as goal
-use Rattle.iova.proofs.space.Space.take_behind.Goals.{then-piece_count-gt-MOST_PIECES_TO_CUT-via-then-piece_count-gt-MOST_PIECES_TO_CUT, then-piece_count-gt-MOST_PIECES_TO_CUT-via-else-piece_count-gt-MOST_PIECES_TO_CUT+then-not-carve}
+use Rattle.iova.proofs.space.Space.take_behind.Goals.{then-piece_count-gt-MOST_PIECES_TO_CUT-via-then-piece_count-gt-MOST_PIECES_TO_CUT}
+use Rattle.iova.proofs.space.Space.take_behind.Goals.{then-piece_count-gt-MOST_PIECES_TO_CUT-via-else-piece_count-gt-MOST_PIECES_TO_CUT+then-not-carve}
 
 pub returns-in_err-start-clause-space : goal.returns-in_err-start-clause-space
 returns-in_err-start-clause-space c =
@@ -75,7 +76,8 @@ returns-clause-taken c =
     c.self.invariant.0 c.self.invariant.1 c.self.view_is c.requires.sought.some c.requires.sought.few c.in_ok-start.ensures.place
     (omega (arith, c.piece_count.ensures.count, c.if-piece_count-gt-MOST_PIECES_TO_CUT.false))
     (c.carve.ensures.carved c.if-not-carve.false) in
-    subst (λ n. Takes c.args.self.now (with_carved c.carve.new.self.row c.self.inside.tree) (record { first = n; pages = c.args.sought.pages }))
+    subst (λ n. Takes c.args.self.now (with_carved c.carve.new.self.row c.self.inside.tree)
+    (record { first = n; pages = c.args.sought.pages }))
     (sym (start_is c.new.result c.unwrap.result c.in_ok-start.start c.unwrap.ensures c.new.ensures.value)) e.taken
 
 pub returns-clause-space : goal.returns-clause-space
