@@ -114,6 +114,10 @@ fn fit_from(
     if let Some(start) = lowest_fit(nodes, root, least, pages, unit) {
         return Some(start);
     }
+    // No piece has a page below the first one.
+    if least <= 1 {
+        return None;
+    }
     lowest_fit(nodes, root, 0, pages, unit)
 }
 

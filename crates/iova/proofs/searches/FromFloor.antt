@@ -46,7 +46,7 @@ one_from floor pages unit start x ps i j = elim (order floor start) [
 
 -- ---- a floor that no page is below
 
-start_some : (pages unit start : ℕ) (ps : List Piece) → IsOrdered 1 ps → 1 ≤ pages → IsFit ps pages unit start → 1 ≤ start
+pub start_some : (pages unit start : ℕ) (ps : List Piece) → IsOrdered 1 ps → 1 ≤ pages → IsFit ps pages unit start → 1 ≤ start
 start_some pages unit start ps o pos f = elim (order 1 start) [
   | inl h ↦ h
   | inr h ↦ absurd (none_some ps start Free (state_none 1 ps start o h) (f.free start (omega arith, omega arith)))

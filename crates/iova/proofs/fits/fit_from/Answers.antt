@@ -8,7 +8,7 @@ use Rattle.iova.specs.Stored.{pieces_of}
 use Rattle.iova.proofs.searches.CutAt.{no_fit}
 use Rattle.iova.proofs.searches.Descent.{found_narrow}
 use Rattle.iova.proofs.searches.Found.{found_above, found_lowest}
-use Rattle.iova.proofs.searches.FromFloor.{from_all, from_found}
+use Rattle.iova.proofs.searches.FromFloor.{from_all, from_found, start_some}
 use Rattle.iova.proofs.shapes.Tall.{kept_below}
 use Rattle.iova.proofs.fits.fit_from.Goals as goal
 
@@ -33,6 +33,16 @@ returns-in-Some-clause-lowest c =
     (subst (λ l. IsFound c.min-least.result c.args.pages c.args.unit l c.in-Some.start) c.requires.kept.all found) in
     from_found c.args.floor c.min-least.result c.args.pages c.args.unit c.in-Some.start ps (omega (arith, c.min-least.ensures))
     (omega (arith, c.min-least.ensures, least.above, narrow, c.requires.some_pages)) least
+
+pub returns-then-least-le1-clause-none : goal.returns-then-least-le1-clause-none
+returns-then-least-le1-clause-none c start fit =
+    let ps = pieces_of c.args.nodes.now c.args.root in
+    let w = kept_below c.args.root c.args.nodes.now ps c.requires.kept c.requires.ordered in
+    let some = start_some c.args.pages c.args.unit start ps c.requires.ordered c.requires.some_pages fit in
+    no_fit c.min-least.result 1 c.args.pages c.args.unit ps c.requires.ordered c.requires.some_pages
+    (subst (λ l. AllByRecursion (HasNoRoom c.min-least.result c.args.pages c.args.unit) l) c.requires.kept.all
+    (c.in_default.ensures.none c.requires.kept.shape 1 w))
+    start fit (omega (arith, some, c.if-least-le1.true))
 
 pub returns-clause-lowest : goal.returns-clause-lowest
 returns-clause-lowest c =
