@@ -19,7 +19,7 @@ use Rattle.iova.specs.Pieces.{Holds, IsOrdered, free_end, free_start, freed, par
 use Rattle.iova.specs.Space.{Space, IsSpace}
 use Rattle.iova.specs.Changes.{Frees, Takes}
 use Rattle.iova.specs.Stored.{IsInMind, TakesPlace, pieces_of, seen, shown, stored}
-use Rattle.iova.specs.Tree.{rest_above, rest_below}
+use Rattle.iova.specs.Tree.{IsPiece, rest_above, rest_below}
 use Rattle.iova.specs.Way.{pages_as}
 use Rattle.iova.proofs.Pieces.{order}
 use Rattle.iova.proofs.Puts.{ordered_put}
@@ -30,6 +30,7 @@ use Rattle.iova.proofs.FreedRun.{joined}
 use Rattle.iova.proofs.Same.{same_pieces}
 use Rattle.iova.proofs.Taken.{takes}
 use Rattle.iova.proofs.parts.Added.{rest_above-none, rest_above-some, rest_below-none, rest_below-some, with_over}
+use Rattle.iova.proofs.parts.Over.{with_same}
 use Rattle.iova.proofs.parts.Parts.{above_whole, below_whole, ordered_behind}
 
 -- a piece that is there, and those before and behind it
@@ -39,6 +40,12 @@ parted p (q ∷ ps) m = elim m [
   | inl e ↦ ([], ps, ap (λ r. r ∷ ps) (sym e))
   | inr n ↦ let r = parted p ps n in (q ∷ r.0, r.1, ap (λ l. q ∷ l) r.2)
 ]
+
+-- a piece that is there may be put there
+pub put_there : (from : ℕ) (p : Piece) (ps : List Piece) → IsOrdered from ps → IsPiece p → IsIn p ps → with_piece p ps ≡ ps
+put_there from p ps o w i =
+    let r = parted p ps i in
+    ap (λ l. with_piece p l) r.2 ∙ with_same from r.0 p r.1 p (subst (λ l. IsOrdered from l) r.2 o) w refl refl ∙ sym r.2
 
 -- a piece of a space ends at the number of a page
 pub in_narrow : (a : Space) (p : Piece) → IsSpace a → IsIn p a.pieces → p.last < NUMBERS_END

@@ -28,8 +28,8 @@ pub(crate) struct Sought {
     pub(crate) unit: u64,
 }
 
-/// A free piece of the tree that pieces are carved out of: its pages, and what was sought when it was found; from the floor on, no such
-/// pages begin before it.
+/// A free piece of the tree that pieces are carved out of: its pages, and what was sought when it was found, or a single page where it is
+/// the lowest free piece. From the floor on, no such pages begin before it.
 #[derive(Clone, Copy)]
 pub(crate) struct Block {
     pub(crate) pages: Ends,

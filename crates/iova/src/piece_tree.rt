@@ -25,8 +25,8 @@ pub(crate) struct PieceTree {
     low: u64,
     // The steps of the last way down.
     way: [Step; MOST_HEIGHT],
-    // The piece to which they lead, if it is still of use: one that was judged, the lowest free one, or one that came
-    // free and is taken again soon, as mostly, or else is written into the tree.
+    // The piece to which they lead, if it is still of use: one that was judged, the lowest free one, one that came free and
+    // is taken again soon, as mostly, or else is written into the tree, or a free one that pages are about to be taken from.
     in_mind: InMind,
 }
 
@@ -137,6 +137,12 @@ impl PieceTree {
             &self.way,
             self.in_mind,
         )?;
+        let taken = Piece {
+            first: known.pages.first,
+            last: known.pages.last,
+            state: PageState::Live,
+        };
+        self.low = fits::low_behind(self.low, taken);
         self.in_mind = InMind::Judged(known);
         Some(known.pages.first)
     }

@@ -1,15 +1,39 @@
 use Rattle.std.proofs.Common.{arith, ◌≡◌, ◌∙◌, ◌+◌, ◌-◌, ap, subst, sym}
 use Rattle.dmatypes.specs.Page.{Range}
 use Rattle.iova.specs.declared.piece.PageState.TheVariants.{Live}
-use Rattle.iova.specs.Pieces.{piece_of, with_piece}
+use Rattle.iova.specs.Pieces.{NoneFreeBelow, piece_of, with_piece}
 use Rattle.iova.specs.Space.{Space, IsSpace, IsTooMany}
 use Rattle.iova.specs.Changes.{Takes}
 use Rattle.iova.specs.Stored.{pieces_of, seen, shown, stored}
 use Rattle.iova.specs.Way.{pages_as}
-use Rattle.iova.proofs.Shown.{few_shown, space_shown, taken_back}
+use Rattle.iova.proofs.Among.{in_le}
+use Rattle.iova.proofs.Shown.{few_shown, in_narrow, put_there, space_shown, taken_back}
 use Rattle.iova.proofs.Taken.{takes}
 use Rattle.iova.proofs.searches.Holding.{freed_of}
 use Rattle.iova.proofs.piece_tree.PieceTree.take_freed.Goals as goal
+
+pub low_behind-self-inside-requires-clause-narrow : goal.low_behind-self-inside-requires-clause-narrow
+low_behind-self-inside-requires-clause-narrow c =
+    let known = c.in_ok-known.known in
+    let k = freed_of c.self.inside.nodes c.self.inside.root c.self.inside.way c.self.inside.in_mind known c.in_ok-known.ensures.freed
+    c.self.invariant.3 in
+    in_narrow (stored c.self.inside.last c.self.inside.root c.self.inside.nodes) (pages_as known.pages Live) c.self.invariant.1 k.there
+
+pub invariant_of-self : goal.invariant_of-self
+invariant_of-self c =
+    let known = c.in_ok-known.known in
+    let k = freed_of c.self.inside.nodes c.self.inside.root c.self.inside.way c.self.inside.in_mind known c.in_ok-known.ensures.freed
+    c.self.invariant.3 in
+    let ps = pieces_of c.self.inside.nodes c.self.inside.root in
+    let o = c.self.invariant.1.ordered in
+    let p = pages_as known.pages Live in
+    let narrow = in_narrow (stored c.self.inside.last c.self.inside.root c.self.inside.nodes) p c.self.invariant.1 k.there in (
+      c.self.invariant.0,
+      c.self.invariant.1,
+      subst (λ l. NoneFreeBelow c.low_behind-self-inside.result l) (put_there 1 p ps o ((in_le 1 p ps o k.there).1, narrow) k.there)
+          (c.low_behind-self-inside.ensures ps o c.self.invariant.2),
+      k,
+    )
 
 pub returns-clause-taken : goal.returns-clause-taken
 returns-clause-taken c =
