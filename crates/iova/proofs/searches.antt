@@ -1,3 +1,4 @@
+pub mod Above
 pub mod Fit
 pub mod Found
 pub mod FromFloor

@@ -6,13 +6,16 @@ ghost use Rattle.iova.specs.Pieces.{IsOrdered, NoneFreeBelow, piece_of, with_pie
 ghost use Rattle.iova.specs.Space.{IsFit, IsLowestFrom};
 ghost use Rattle.iova.specs.Stored.{IsInMind, IsKept, IsKnown, pieces_of};
 ghost use Rattle.iova.specs.Carved.{IsSought};
-ghost use Rattle.iova.specs.Way.{LeadsTo};
+ghost use Rattle.iova.specs.Search.{HasNoRoom, IsFound};
+ghost use Rattle.iova.specs.Tree.{IsBelow, Shape, items};
+ghost use Rattle.iova.specs.Way.{CanWalk, LeadsTo};
+ghost use Rattle.std.specs.List.{AllByRecursion};
 
 use crate::beside::Ends;
 use crate::carved::Sought;
 use crate::node::{NUMBERS_END, Node};
 use crate::piece::{PageState, Piece};
-use crate::search::{first_free, lowest_fit};
+use crate::search::{first_above, first_free, lowest_fit};
 use crate::way::{Found, Held, InMind, Known, MOST_HEIGHT, Spot, Step, walk};
 use slab::Slab;
 
@@ -80,7 +83,7 @@ fn find(
     if sought.unit == 1 && sought.floor == 1 {
         return first_free(nodes, root, sought.pages, way);
     }
-    let start = fit_from(nodes, root, sought.floor, sought.pages, sought.unit)?;
+    let start = fit_from(nodes, root, sought, way)?;
     let piece = Piece {
         first: start,
         last: start + sought.pages - 1,
@@ -90,35 +93,52 @@ fn find(
     Some(Spot { start, place })
 }
 
-// The lowest start of so many free pages at or above a floor that is a multiple of the unit; where there is none, the lowest
-// of all.
+// The lowest start of what is sought from the floor on; where there is none, the lowest of all. The steps of the way are lost.
 fn fit_from(
     nodes: &Slab<Node>,
     root: Option<usize>,
-    floor: u64,
-    pages: u64,
-    unit: u64,
+    sought: Sought,
+    way: &mut [Step; MOST_HEIGHT],
 ) -> Option<u64>
     requires kept { IsKept root nodes.now (pieces_of nodes.now root) }
     requires ordered { IsOrdered 1 (pieces_of nodes.now root) }
-    requires some_pages { 1 ≤ pages }
-    requires pages { pages < NUMBERS_END }
-    requires some_unit { 0 < unit }
-    requires unit { unit < NUMBERS_END }
-    requires power { (order : ℕ) × (unit ≡ 2 ^ order) }
-    ensures lowest { IfSome result (IsLowestFrom floor (pieces_of nodes.now root) pages unit) }
-    ensures none { IfNone result ((start : ℕ) → IsFit (pieces_of nodes.now root) pages unit start → ⊥) }
+    requires sought { IsSought sought }
+    ensures lowest { IfSome result (IsLowestFrom sought.floor (pieces_of nodes.now root) sought.pages sought.unit) }
+    ensures none { IfNone result ((start : ℕ) → IsFit (pieces_of nodes.now root) sought.pages sought.unit start → ⊥) }
 {
     // No page is at or above the end of the numbers, wherever above it the floor is.
-    let least = floor.min(NUMBERS_END);
-    if let Some(start) = lowest_fit(nodes, root, least, pages, unit) {
+    let least = sought.floor.min(NUMBERS_END);
+    if let Some(start) = first_fit(nodes, root, least, sought, way) {
         return Some(start);
     }
     // No piece has a page below the first one.
     if least <= 1 {
         return None;
     }
-    lowest_fit(nodes, root, 0, pages, unit)
+    first_fit(nodes, root, 0, sought, way)
+}
+
+// The first start of what is sought from a floor on, whatever its own is.
+#[inline(always)]
+fn first_fit(
+    nodes: &Slab<Node>,
+    root: Option<usize>,
+    floor: u64,
+    sought: Sought,
+    way: &mut [Step; MOST_HEIGHT],
+) -> Option<u64>
+    requires tree { CanWalk (get nodes.now) root }
+    requires floor { floor ≤ NUMBERS_END }
+    requires sought { IsSought sought }
+    ensures found { (t : Shape) (from : ℕ) → IsBelow (get nodes.now) root t from
+        → IfSome result (IsFound floor sought.pages sought.unit (items t)) }
+    ensures none { (t : Shape) (from : ℕ) → IsBelow (get nodes.now) root t from
+        → IfNone result (AllByRecursion (HasNoRoom floor sought.pages sought.unit) (items t)) }
+{
+    if sought.unit == 1 {
+        return first_above(nodes, root, floor, sought.pages, way);
+    }
+    lowest_fit(nodes, root, floor, sought.pages, sought.unit)
 }
 
 /// A page below which no free piece begins, where none began below the page `low`, once it is known where the lowest pages lie that were

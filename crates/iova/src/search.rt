@@ -1,11 +1,11 @@
 //! Where a page lies, and where a range fits.
 
-ghost use Rattle.std.specs.Prelude.{◌≡◌, ◌≢◌, ℕ, ◌+◌, ◌^◌, ◌<◌, ◌≤◌, None, IfSome, IfNone};
+ghost use Rattle.std.specs.Prelude.{◌≡◌, ◌≢◌, ℕ, ◌+◌, ◌^◌, ◌<◌, ◌≤◌, ◌∷◌, None, Some, IfSome, IfNone};
 ghost use Rattle.std.specs.List.{AllByRecursion};
 ghost use Rattle.slab.specs.Slab.{get};
 ghost use Rattle.iova.specs.Search.{HasNoRoom, IsFound, IsRoundUp, first_or, piece_at, pieces_from};
 ghost use Rattle.iova.specs.Pieces.{piece_of};
-ghost use Rattle.iova.specs.Tree.{CanSearch, IsBelow, Shape, items};
+ghost use Rattle.iova.specs.Tree.{CanSearch, IsBelow, IsPiece, Shape, items};
 ghost use Rattle.iova.specs.Way.{CanWalk, IsHeld, LeadsTo};
 ghost use Rattle.iova.specs.declared.piece.Piece.{Piece};
 ghost use Rattle.dmatypes.specs.World.{IsIn};
@@ -95,6 +95,67 @@ pub(crate) fn first_free(
         depth += 1;
     }
     None
+}
+
+/// The first start of so many free pages from a floor on: one way down to the floor, and one down behind the lowest node above it that has
+/// room. The steps of the way are lost.
+pub(crate) fn first_above(
+    nodes: &Slab<Node>,
+    root: Option<usize>,
+    floor: u64,
+    pages: u64,
+    way: &mut [Step; MOST_HEIGHT],
+) -> Option<u64>
+    requires tree { CanWalk (get nodes.now) root }
+    requires floor { floor ≤ NUMBERS_END }
+    requires some_pages { 1 ≤ pages }
+    requires pages { pages < NUMBERS_END }
+    ensures found { (t : Shape) (from : ℕ) → IsBelow (get nodes.now) root t from
+        → IfSome result (IsFound floor pages 1 (items t)) }
+    ensures none { (t : Shape) (from : ℕ) → IsBelow (get nodes.now) root t from
+        → IfNone result (AllByRecursion (HasNoRoom floor pages 1) (items t)) }
+{
+    let mut next = None;
+    let mut at = root;
+    while let Some(key) = at {
+        let node = &nodes[key];
+        if node.piece.first < floor {
+            if node.piece.is_free() && floor + pages <= node.piece.last + 1 {
+                return Some(floor);
+            }
+            at = node.right;
+        } else {
+            if free_length(node.piece) >= pages || longest(nodes, node.right) >= pages {
+                next = Some(key);
+            }
+            at = node.left;
+        }
+    }
+    first_here(nodes, next?, pages, way)
+}
+
+// The first page of so many free ones in the piece of a node or behind it.
+#[inline(always)]
+fn first_here(
+    nodes: &Slab<Node>,
+    key: usize,
+    pages: u64,
+    way: &mut [Step; MOST_HEIGHT],
+) -> Option<u64>
+    requires node { (node : Node) × (get nodes.now key ≡ Some node) × IsPiece node.piece × CanWalk (get nodes.now) node.right }
+    requires some_pages { 1 ≤ pages }
+    requires pages { pages < NUMBERS_END }
+    ensures found { (node : Node) (r : Shape) (from : ℕ) → get nodes.now key ≡ Some node → IsBelow (get nodes.now) node.right r from
+        → IfSome result (IsFound 0 pages 1 (node.piece ∷ items r)) }
+    ensures none { (node : Node) (r : Shape) (from : ℕ) → get nodes.now key ≡ Some node → IsBelow (get nodes.now) node.right r from
+        → IfNone result (AllByRecursion (HasNoRoom 0 pages 1) (node.piece ∷ items r)) }
+{
+    let node = &nodes[key];
+    if free_length(node.piece) >= pages {
+        return Some(node.piece.first);
+    }
+    let spot = first_free(nodes, node.right, pages, way)?;
+    Some(spot.start)
 }
 
 /// Where the piece lies that begins at a page, if one does, and the way there: one way down.

@@ -13,7 +13,7 @@ use Rattle.iova.specs.declared.space.TheConstants.{MOST_PIECES, MOST_PIECES_TO_C
 use Rattle.iova.specs.Changes.{Takes}
 use Rattle.iova.specs.Carved.{AreCarved, CanCarve, IsCarved, IsSought, NoneBelow, with_carved, with_pieces}
 use Rattle.iova.specs.Pieces.{AllIn, IsOrdered, NoneFreeBelow, piece_of, with_piece}
-use Rattle.iova.specs.Space.{Space, IsLowestFrom, IsSpace, IsTooMany}
+use Rattle.iova.specs.Space.{Space, IsSpace, IsTooMany}
 use Rattle.iova.specs.Way.{pages_as}
 use Rattle.iova.proofs.Among.{in_state}
 use Rattle.iova.proofs.LowestFree.{holding}

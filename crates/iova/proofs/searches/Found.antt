@@ -212,7 +212,7 @@ way-end look root now page i e x start v = sym (i.same x start v ∙ ap (λ ps. 
 
 -- ---- where a range fits
 
-one_divides : (n : ℕ) → n % 1 ≡ 0
+pub one_divides : (n : ℕ) → n % 1 ≡ 0
 one_divides n = omega arith
 
 pub free_of : (q : Piece) (pages : ℕ) → 1 ≤ pages → pages ≤ free_pages q → IsTrue (is_free q.state)

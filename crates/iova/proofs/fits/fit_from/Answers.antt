@@ -28,19 +28,19 @@ returns-in-Some-clause-lowest c =
     let ps = pieces_of c.args.nodes.now c.args.root in
     let w = kept_below c.args.root c.args.nodes.now ps c.requires.kept c.requires.ordered in
     let found = c.in-Some.ensures.found c.requires.kept.shape 1 w in
-    let narrow = found_narrow c.requires.kept.shape c.min-least.result c.args.pages c.args.unit c.in-Some.start w.whole.tree.pieces found in
-    let least = found_above c.min-least.result 1 c.args.pages c.args.unit ps c.in-Some.start c.requires.ordered c.requires.some_pages
-    (subst (λ l. IsFound c.min-least.result c.args.pages c.args.unit l c.in-Some.start) c.requires.kept.all found) in
-    from_found c.args.floor c.min-least.result c.args.pages c.args.unit c.in-Some.start ps (omega (arith, c.min-least.ensures))
-    (omega (arith, c.min-least.ensures, least.above, narrow, c.requires.some_pages)) least
+    let narrow = found_narrow c.requires.kept.shape c.min-least.result c.args.sought.pages c.args.sought.unit c.in-Some.start w.whole.tree.pieces found in
+    let least = found_above c.min-least.result 1 c.args.sought.pages c.args.sought.unit ps c.in-Some.start c.requires.ordered c.requires.sought.some
+    (subst (λ l. IsFound c.min-least.result c.args.sought.pages c.args.sought.unit l c.in-Some.start) c.requires.kept.all found) in
+    from_found c.args.sought.floor c.min-least.result c.args.sought.pages c.args.sought.unit c.in-Some.start ps (omega (arith, c.min-least.ensures))
+    (omega (arith, c.min-least.ensures, least.above, narrow, c.requires.sought.some)) least
 
 pub returns-then-least-le1-clause-none : goal.returns-then-least-le1-clause-none
 returns-then-least-le1-clause-none c start fit =
     let ps = pieces_of c.args.nodes.now c.args.root in
     let w = kept_below c.args.root c.args.nodes.now ps c.requires.kept c.requires.ordered in
-    let some = start_some c.args.pages c.args.unit start ps c.requires.ordered c.requires.some_pages fit in
-    no_fit c.min-least.result 1 c.args.pages c.args.unit ps c.requires.ordered c.requires.some_pages
-    (subst (λ l. AllByRecursion (HasNoRoom c.min-least.result c.args.pages c.args.unit) l) c.requires.kept.all
+    let some = start_some c.args.sought.pages c.args.sought.unit start ps c.requires.ordered c.requires.sought.some fit in
+    no_fit c.min-least.result 1 c.args.sought.pages c.args.sought.unit ps c.requires.ordered c.requires.sought.some
+    (subst (λ l. AllByRecursion (HasNoRoom c.min-least.result c.args.sought.pages c.args.sought.unit) l) c.requires.kept.all
     (c.in_default.ensures.none c.requires.kept.shape 1 w))
     start fit (omega (arith, some, c.if-least-le1.true))
 
@@ -48,17 +48,17 @@ pub returns-clause-lowest : goal.returns-clause-lowest
 returns-clause-lowest c =
     let ps = pieces_of c.args.nodes.now c.args.root in
     let w = kept_below c.args.root c.args.nodes.now ps c.requires.kept c.requires.ordered in
-    of_all c.lowest_fit-2.result c.args.floor c.min-least.result c.args.pages c.args.unit ps c.requires.ordered c.requires.some_pages
+    of_all c.first_fit-2.result c.args.sought.floor c.min-least.result c.args.sought.pages c.args.sought.unit ps c.requires.ordered c.requires.sought.some
     (omega (arith, c.min-least.ensures))
-    (subst (λ l. AllByRecursion (HasNoRoom c.min-least.result c.args.pages c.args.unit) l) c.requires.kept.all
+    (subst (λ l. AllByRecursion (HasNoRoom c.min-least.result c.args.sought.pages c.args.sought.unit) l) c.requires.kept.all
     (c.in_default.ensures.none c.requires.kept.shape 1 w))
-    (subst (λ l. IfSome c.lowest_fit-2.result (IsFound 0 c.args.pages c.args.unit l)) c.requires.kept.all
-    (c.lowest_fit-2.ensures.found c.requires.kept.shape 1 w))
+    (subst (λ l. IfSome c.first_fit-2.result (IsFound 0 c.args.sought.pages c.args.sought.unit l)) c.requires.kept.all
+    (c.first_fit-2.ensures.found c.requires.kept.shape 1 w))
 
 pub returns-clause-none : goal.returns-clause-none
 returns-clause-none c =
     let ps = pieces_of c.args.nodes.now c.args.root in
     let w = kept_below c.args.root c.args.nodes.now ps c.requires.kept c.requires.ordered in
-    no_start c.lowest_fit-2.result c.args.pages c.args.unit ps c.requires.ordered c.requires.some_pages
-    (subst (λ l. IfNone c.lowest_fit-2.result (AllByRecursion (HasNoRoom 0 c.args.pages c.args.unit) l)) c.requires.kept.all
-    (c.lowest_fit-2.ensures.none c.requires.kept.shape 1 w))
+    no_start c.first_fit-2.result c.args.sought.pages c.args.sought.unit ps c.requires.ordered c.requires.sought.some
+    (subst (λ l. IfNone c.first_fit-2.result (AllByRecursion (HasNoRoom 0 c.args.sought.pages c.args.sought.unit) l)) c.requires.kept.all
+    (c.first_fit-2.ensures.none c.requires.kept.shape 1 w))
