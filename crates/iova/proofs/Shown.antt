@@ -41,9 +41,9 @@ parted p (q ∷ ps) m = elim m [
   | inr n ↦ let r = parted p ps n in (q ∷ r.0, r.1, ap (λ l. q ∷ l) r.2)
 ]
 
--- a piece that is there may be put there
-pub put_there : (from : ℕ) (p : Piece) (ps : List Piece) → IsOrdered from ps → IsPiece p → IsIn p ps → with_piece p ps ≡ ps
-put_there from p ps o w i =
+-- a piece that is put where it is changes nothing
+pub put_again : (from : ℕ) (p : Piece) (ps : List Piece) → IsOrdered from ps → IsPiece p → IsIn p ps → with_piece p ps ≡ ps
+put_again from p ps o w i =
     let r = parted p ps i in
     ap (λ l. with_piece p l) r.2 ∙ with_same from r.0 p r.1 p (subst (λ l. IsOrdered from l) r.2 o) w refl refl ∙ sym r.2
 

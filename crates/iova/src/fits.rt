@@ -13,6 +13,7 @@ ghost use Rattle.std.specs.List.{AllByRecursion};
 
 use crate::beside::Ends;
 use crate::carved::Sought;
+use crate::links::longest;
 use crate::node::{NUMBERS_END, Node};
 use crate::piece::{PageState, Piece};
 use crate::search::{first_above, first_free, lowest_fit};
@@ -106,6 +107,9 @@ fn fit_from(
     ensures lowest { IfSome result (IsLowestFrom sought.floor (pieces_of nodes.now root) sought.pages sought.unit) }
     ensures none { IfNone result ((start : ℕ) → IsFit (pieces_of nodes.now root) sought.pages sought.unit start → ⊥) }
 {
+    if longest(nodes, root) < sought.pages {
+        return None;
+    }
     // No page is at or above the end of the numbers, wherever above it the floor is.
     let least = sought.floor.min(NUMBERS_END);
     if let Some(start) = first_fit(nodes, root, least, sought, way) {
@@ -118,7 +122,7 @@ fn fit_from(
     first_fit(nodes, root, 0, sought, way)
 }
 
-// The first start of what is sought from a floor on, whatever its own is.
+// The first start of what is sought from this floor on, in the place of its own.
 #[inline(always)]
 fn first_fit(
     nodes: &Slab<Node>,
@@ -135,6 +139,10 @@ fn first_fit(
     ensures none { (t : Shape) (from : ℕ) → IsBelow (get nodes.now) root t from
         → IfNone result (AllByRecursion (HasNoRoom floor sought.pages sought.unit) (items t)) }
 {
+    if sought.unit == 1 && floor == 0 {
+        let spot = first_free(nodes, root, sought.pages, way)?;
+        return Some(spot.start);
+    }
     if sought.unit == 1 {
         return first_above(nodes, root, floor, sought.pages, way);
     }

@@ -25,8 +25,8 @@ pub(crate) struct PieceTree {
     low: u64,
     // The steps of the last way down.
     way: [Step; MOST_HEIGHT],
-    // The piece to which they lead, if it is still of use: one that was judged, the lowest free one, one that came free and
-    // is taken again soon, as mostly, or else is written into the tree, or a free one that pages are about to be taken from.
+    // The piece to which they lead, if it is still of use: one that was judged, the lowest free one, a free one that pages
+    // are about to be taken from, or one that came free. That is taken again soon, as mostly, or else written into the tree.
     in_mind: InMind,
 }
 

@@ -97,8 +97,8 @@ pub(crate) fn first_free(
     None
 }
 
-/// The first start of so many free pages from a floor on: one way down to the floor, and one down behind the lowest node above it that has
-/// room. The steps of the way are lost.
+/// The first start of so many free pages from a floor on: one way down to the floor, and where they lie behind a node of it one more down
+/// there. The steps of the way are lost.
 pub(crate) fn first_above(
     nodes: &Slab<Node>,
     root: Option<usize>,
@@ -131,12 +131,12 @@ pub(crate) fn first_above(
             at = node.left;
         }
     }
-    first_here(nodes, next?, pages, way)
+    first_at_node(nodes, next?, pages, way)
 }
 
 // The first page of so many free ones in the piece of a node or behind it.
 #[inline(always)]
-fn first_here(
+fn first_at_node(
     nodes: &Slab<Node>,
     key: usize,
     pages: u64,

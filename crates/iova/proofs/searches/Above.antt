@@ -8,14 +8,14 @@ use Rattle.iova.specs.declared.piece.Piece.{Piece}
 use Rattle.iova.specs.declared.node.Node.{Node}
 use Rattle.iova.specs.Pieces.{IsOrdered, is_free}
 use Rattle.iova.specs.Search.{HasNoRoom, IsFound, IsRoundUp}
-use Rattle.iova.specs.Tree.{Shape, Empty, Fork, AreNodes, CanRead, IsBelow, IsPiece, at_root, free_pages, height_of, items, longest_of}
+use Rattle.iova.specs.Tree.{Shape, Empty, Fork, AreNodes, IsBelow, IsPiece, free_pages, height_of, items, longest_of}
 use Rattle.iova.specs.Tree.{root_of}
 use Rattle.iova.specs.Way.{CanWalk, IsLowBelow}
 use Rattle.iova.proofs.Pieces.{order}
 use Rattle.iova.proofs.parts.Parts.{front_ends}
-use Rattle.iova.proofs.searches.Between.{all_behind, between_none}
-use Rattle.iova.proofs.searches.Found.{Passes, passes, empty_items, free_length, free_of, found_behind, no_room_append, node_height}
-use Rattle.iova.proofs.searches.Found.{one_divides, one_tree, own_round_up, search_height, short_none}
+use Rattle.iova.proofs.searches.Between.{all_at, all_before, all_behind, between_none}
+use Rattle.iova.proofs.searches.Found.{Passes, passes, empty_items, free_length, free_of, found_behind, no_room_append, none_both}
+use Rattle.iova.proofs.searches.Found.{one_divides, one_tree, own_round_up, short_none}
 
 -- ---- of a piece and those behind it
 
@@ -33,20 +33,20 @@ first_of pages p ps some fits =
       room = omega (arith, free_length p free);
     }
 
+-- a piece that is too short
+short_piece : (floor pages : ℕ) (p : Piece) → free_pages p < pages → HasNoRoom floor pages 1 p
+short_piece floor pages p short free t a b c = let y = free_length p free in omega arith
+
 pub first_behind : (pages : ℕ) (p : Piece) (ps : List Piece) (start : ℕ) → free_pages p < pages → IsFound 0 pages 1 ps start
     → IsFound 0 pages 1 (p ∷ ps) start
 first_behind pages p ps start short f =
-    found_behind 0 pages 1 [] p ps start tt (λ free t a b c. let y = free_length p free in omega arith) f
+    found_behind 0 pages 1 [] p ps start tt (short_piece 0 pages p short) f
 
 -- ---- a floor that no piece begins below
 
 all_from : (floor from : ℕ) (ps : List Piece) → IsOrdered from ps → floor ≤ from → AllByRecursion (λ p. floor ≤ p.first) ps
 all_from floor from [] o h = tt
 all_from floor from (p ∷ ps) o h = (omega (arith, o.0), all_from floor (p.last + 1) ps o.3 (omega (arith, o.0, o.1)))
-
-all_at : (P : Piece → Type 0) (xs : List Piece) (q : Piece) (ys : List Piece) → AllByRecursion P (xs ++ q ∷ ys) → P q
-all_at P [] q ys h = h.0
-all_at P (x ∷ xs) q ys h = all_at P xs q ys h.1
 
 none_above : (floor pages unit : ℕ) (ps : List Piece) → AllByRecursion (HasNoRoom 0 pages unit) ps
     → AllByRecursion (HasNoRoom floor pages unit) ps
@@ -73,36 +73,22 @@ found_from floor pages unit ps start high f =
 
 -- ---- what has no room
 
-none_both : (floor pages unit : ℕ) (xs ys : List Piece) → AllByRecursion (HasNoRoom floor pages unit) xs
-    → AllByRecursion (HasNoRoom floor pages unit) ys → AllByRecursion (HasNoRoom floor pages unit) (xs ++ ys)
-none_both floor pages unit [] ys a b = b
-none_both floor pages unit (x ∷ xs) ys a b = (a.0, none_both floor pages unit xs ys a.1 b)
-
--- a piece that is too short
-short_piece : (floor pages : ℕ) (p : Piece) → free_pages p < pages → HasNoRoom floor pages 1 p
-short_piece floor pages p short free t a b c = let y = free_length p free in omega arith
-
 -- pieces that end below the floor
 none_ended : (floor pages : ℕ) (ps : List Piece) → 1 ≤ pages → AllByRecursion (λ p. p.last < floor) ps
     → AllByRecursion (HasNoRoom floor pages 1) ps
 none_ended floor pages ps some ends =
     between_none floor pages 1 floor floor ps (one_divides floor, omega arith, λ other e h. omega arith) (omega arith) ends
 
--- a tree with a free piece of so many pages has room
-room_front : (pages : ℕ) (xs : List Piece) (q : Piece) (ys : List Piece) → AllByRecursion (HasNoRoom 0 pages 1) (xs ++ q ∷ ys)
-    → AllByRecursion (HasNoRoom 0 pages 1) xs
-room_front pages [] q ys n = tt
-room_front pages (x ∷ xs) q ys n = (n.0, room_front pages xs q ys n.1)
-
 long_piece : (pages : ℕ) (p : Piece) → 1 ≤ pages → pages ≤ free_pages p → HasNoRoom 0 pages 1 p → ⊥
 long_piece pages p some fits n =
     let free = free_of p pages some fits in
     n free p.first (omega arith) (one_divides p.first) (omega (arith, free_length p free))
 
+-- a tree with a free piece of so many pages has room
 long_room : (pages : ℕ) (t : Shape) → 1 ≤ pages → pages ≤ longest_of t → AllByRecursion (HasNoRoom 0 pages 1) (items t) → ⊥
 long_room pages Empty some long n = omega arith
 long_room pages (Fork key p l r) some long n = elim (order pages (longest_of l)) [
-  | inl h ↦ long_room pages l some h (room_front pages (items l) p (items r) n)
+  | inl h ↦ long_room pages l some h (all_before (HasNoRoom 0 pages 1) (items l) p (items r) n)
   | inr h ↦ elim (order pages (longest_of r)) [
     | inl k ↦ long_room pages r some k (all_behind (HasNoRoom 0 pages 1) (items l) p (items r) n)
     | inr k ↦ long_piece pages p some (omega arith) (all_at (HasNoRoom 0 pages 1) (items l) p (items r) n)
@@ -177,21 +163,6 @@ module _ (nodes : Slab Node) (root at : Option ℕ) (floor pages : ℕ) (next : 
     (i : IsAbove nodes root at floor pages next) (e : at ≡ Some key) (f : get nodes key ≡ Some node) where
   s : Passes (get nodes) key node i.t i.from
   s = passes (get nodes) at key node i.t i.from i.below.below e f
-
-  pub above-piece : IsPiece node.piece
-  above-piece = s.piece
-
-  pub above-falls : (node_height (at_root (get nodes) node.left) < node_height (at_root (get nodes) at))
-      × (node_height (at_root (get nodes) node.right) < node_height (at_root (get nodes) at))
-  above-falls =
-      let a = search_height (get nodes) node.left s.l i.from s.before in
-      let b = search_height (get nodes) node.right s.r (node.piece.last + 1) s.behind in
-      let c = search_height (get nodes) at i.t i.from i.below.below in
-      let d : height_of i.t ≡ height_of (Fork key node.piece s.l s.r) = ap height_of s.is in
-      (omega arith, omega arith)
-
-  pub above-read : CanRead (get nodes) node.right
-  above-read = (s.r, s.behind.here, s.behind.whole.tree.nodes)
 
   low_left : IsLowBelow (get nodes) node.left s.l i.from
   low_left =

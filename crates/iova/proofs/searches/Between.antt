@@ -48,6 +48,17 @@ pub all_behind : (P : Piece → Type 0) (xs : List Piece) (q : Piece) (ys : List
 all_behind P [] q ys h = h.1
 all_behind P (x ∷ xs) q ys h = all_behind P xs q ys h.1
 
+-- of the one
+pub all_at : (P : Piece → Type 0) (xs : List Piece) (q : Piece) (ys : List Piece) → AllByRecursion P (xs ++ q ∷ ys) → P q
+all_at P [] q ys h = h.0
+all_at P (x ∷ xs) q ys h = all_at P xs q ys h.1
+
+-- and of those before it
+pub all_before : (P : Piece → Type 0) (xs : List Piece) (q : Piece) (ys : List Piece) → AllByRecursion P (xs ++ q ∷ ys)
+    → AllByRecursion P xs
+all_before P [] q ys h = tt
+all_before P (x ∷ xs) q ys h = (h.0, all_before P xs q ys h.1)
+
 pub all_both : (P : Piece → Type 0) (xs : List Piece) (q : Piece) (ys : List Piece) → AllByRecursion P xs → P q → AllByRecursion P ys
     → AllByRecursion P (xs ++ q ∷ ys)
 all_both P [] q ys a b c = (b, c)

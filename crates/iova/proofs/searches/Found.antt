@@ -224,6 +224,11 @@ pub no_room_append : (floor pages unit : ℕ) (xs : List Piece) (q : Piece) (ys 
 no_room_append floor pages unit [] q ys a b c = (b, c)
 no_room_append floor pages unit (x ∷ xs) q ys a b c = (a.0, no_room_append floor pages unit xs q ys a.1 b c)
 
+pub none_both : (floor pages unit : ℕ) (xs ys : List Piece) → AllByRecursion (HasNoRoom floor pages unit) xs
+    → AllByRecursion (HasNoRoom floor pages unit) ys → AllByRecursion (HasNoRoom floor pages unit) (xs ++ ys)
+none_both floor pages unit [] ys a b = b
+none_both floor pages unit (x ∷ xs) ys a b = (a.0, none_both floor pages unit xs ys a.1 b)
+
 pub free_length : (p : Piece) → IsTrue (is_free p.state) → free_pages p ≡ p.last + 1 - p.first
 free_length p h = grind arith
 

@@ -7,7 +7,8 @@ use Rattle.iova.specs.declared.node.Node.{Node}
 use Rattle.iova.specs.Search.{IsFound, HasNoRoom}
 use Rattle.iova.specs.Tree.{Look, Shape, Empty, Fork, items, height_of, longest_of, free_pages, root_of, at_root, AreNodes, IsPiece}
 use Rattle.iova.specs.Tree.{IsBelow, CanRead}
-use Rattle.iova.proofs.searches.Found.{Passes, passes, one_tree, node_height, search_height, short_none, no_room_append, own_round_up}
+use Rattle.iova.proofs.searches.Found.{Passes, passes, one_tree, node_height, search_height, short_none, no_room_append, none_both}
+use Rattle.iova.proofs.searches.Found.{own_round_up}
 use Rattle.iova.proofs.searches.Found.{free_length, free_of}
 
 -- what lies below the place that was come to, and what of all the pieces before it has no room
@@ -100,12 +101,9 @@ module _ (look : Look) (root now : Option ℕ) (pages key : ℕ) (node : Node) (
 
   none_front : (x : Shape) (start : ℕ) (v : IsBelow look root x start) → longest_of s.l < pages
       → AllByRecursion (HasNoRoom 0 pages 1) ((i.narrows x start v).before ++ items s.l)
-  none_front x start v h = both (i.narrows x start v).before (items s.l) (i.narrows x start v).none (short_none 0 pages 1 s.l h)
-    where
-      both : (xs ys : List Piece) → AllByRecursion (HasNoRoom 0 pages 1) xs → AllByRecursion (HasNoRoom 0 pages 1) ys
-          → AllByRecursion (HasNoRoom 0 pages 1) (xs ++ ys)
-      both [] ys a b = b
-      both (x ∷ xs) ys a b = (a.0, both xs ys a.1 b)
+  none_front x start v h =
+      let n = i.narrows x start v in
+      none_both 0 pages 1 n.before (items s.l) n.none (short_none 0 pages 1 s.l h)
 
   -- at it
   pub narrowed-here : (longest : ℕ) → ((x : Shape) → node.left ≡ root_of x → AreNodes look x → longest ≡ longest_of x) → longest < pages

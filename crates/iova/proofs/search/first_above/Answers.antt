@@ -45,17 +45,17 @@ loop-at-preserved c = elim c.if-free_length-pages.branch [
       (omega (arith, c.free_length.ensures, w.if-free_length-pages.false)) (omega (arith, w.if-longest-pages.false)))
 ]
 
-pub first_here-requires-clause-node : goal.first_here-requires-clause-node
-first_here-requires-clause-node c =
+pub first_at_node-requires-clause-node : goal.first_at_node-requires-clause-node
+first_at_node-requires-clause-node c =
     above-node c.args.nodes.now c.args.root c.loop-at.at c.args.floor c.args.pages c.loop-at.next c.loop-at.invariant c.in_default.is
     c.requires.tree.0 c.requires.tree.1 c.requires.tree.2.below c.in_ok-next.field-0 c.in_ok-next.was
 
 pub returns-clause-found : goal.returns-clause-found
 returns-clause-found c x from w =
     above-found c.args.nodes.now c.args.root c.loop-at.at c.args.floor c.args.pages c.loop-at.next c.loop-at.invariant c.in_default.is x
-    from w c.in_ok-next.field-0 c.in_ok-next.was c.first_here.result c.first_here.ensures.found
+    from w c.in_ok-next.field-0 c.in_ok-next.was c.first_at_node.result c.first_at_node.ensures.found
 
 pub returns-clause-none : goal.returns-clause-none
 returns-clause-none c x from w =
     above-nothing c.args.nodes.now c.args.root c.loop-at.at c.args.floor c.args.pages c.loop-at.next c.loop-at.invariant c.in_default.is x
-    from w c.in_ok-next.field-0 c.in_ok-next.was c.first_here.result c.requires.some_pages c.first_here.ensures.none
+    from w c.in_ok-next.field-0 c.in_ok-next.was c.first_at_node.result c.requires.some_pages c.first_at_node.ensures.none

@@ -7,7 +7,7 @@ use Rattle.iova.specs.Changes.{Takes}
 use Rattle.iova.specs.Stored.{pieces_of, seen, shown, stored}
 use Rattle.iova.specs.Way.{pages_as}
 use Rattle.iova.proofs.Among.{in_le}
-use Rattle.iova.proofs.Shown.{few_shown, in_narrow, put_there, space_shown, taken_back}
+use Rattle.iova.proofs.Shown.{few_shown, in_narrow, put_again, space_shown, taken_back}
 use Rattle.iova.proofs.Taken.{takes}
 use Rattle.iova.proofs.searches.Holding.{freed_of}
 use Rattle.iova.proofs.piece_tree.PieceTree.take_freed.Goals as goal
@@ -30,7 +30,7 @@ invariant_of-self c =
     let narrow = in_narrow (stored c.self.inside.last c.self.inside.root c.self.inside.nodes) p c.self.invariant.1 k.there in (
       c.self.invariant.0,
       c.self.invariant.1,
-      subst (λ l. NoneFreeBelow c.low_behind-self-inside.result l) (put_there 1 p ps o ((in_le 1 p ps o k.there).1, narrow) k.there)
+      subst (λ l. NoneFreeBelow c.low_behind-self-inside.result l) (put_again 1 p ps o ((in_le 1 p ps o k.there).1, narrow) k.there)
           (c.low_behind-self-inside.ensures ps o c.self.invariant.2),
       k,
     )

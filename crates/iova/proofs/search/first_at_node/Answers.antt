@@ -4,7 +4,7 @@ use Rattle.iova.specs.declared.node.Node.{Node}
 use Rattle.iova.specs.Search.{IsFound}
 use Rattle.iova.specs.Tree.{IsBelow, items}
 use Rattle.iova.proofs.searches.Above.{first_behind, first_of}
-use Rattle.iova.proofs.search.first_here.Goals as goal
+use Rattle.iova.proofs.search.first_at_node.Goals as goal
 
 pub returns-then-free_length-pages-clause-found : goal.returns-then-free_length-pages-clause-found
 returns-then-free_length-pages-clause-found c node r from f w =
