@@ -46,7 +46,10 @@
  * Every number that is passed may be any number: one outside its limits is refused by a status.
  *
  * MEMORY. vtdm_create and vtdm_create_caching take all that a manager ever needs, about 1.6 MiB and VTDM_PAGE_BYTES more for each
- * table frame; vtdm_destroy gives it back, and no other function asks for any.
+ * table frame; vtdm_destroy gives it back, and no other function asks for any. The words of the table frames are one block of it,
+ * asked for by one malloc of VTDM_PAGE_BYTES for each frame and written whole before a creation returns: those of frame F begin
+ * F * VTDM_PAGE_BYTES bytes behind those of frame 0, where the block begins. So an allocator that puts this block where a unit walks
+ * lets the unit walk the tables in place. That is how the code is and stays; no contract speaks of where words lie.
  *
  * IT DOES NOT WEAR OUT. A manager answers VTDM_CALLS_END calls, 2^56, and VTDM_SPENT to each further one, since its counts have 64
  * bits. Nobody gets there: at a billion calls a second it takes more than two years. Readers are not counted.

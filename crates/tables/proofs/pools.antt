@@ -1,5 +1,4 @@
 pub mod FreeList
-pub mod FromLast
 pub mod Patched
 pub mod GivenBack
 pub mod Fresh

@@ -1,7 +1,6 @@
 pub mod Cut
 pub mod Tree
 pub mod Walks
-pub mod FromLast
 pub mod Pool
 pub mod Under
 pub mod Spelled

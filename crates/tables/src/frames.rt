@@ -1,9 +1,8 @@
 //! The pool of table frames.
 
-ghost use Rattle.std.specs.Prelude.{◌≡◌, ℕ, ◌+◌, ◌-◌, ◌*◌, ◌<◌, ◌≤◌, ◌^◌, length, slice_index, IfOk};
+ghost use Rattle.std.specs.Prelude.{◌≡◌, ℕ, ◌+◌, ◌<◌, ◌≤◌, ◌^◌, length, slice_index, IfOk};
 ghost use Rattle.dmatypes.specs.Rights.{AreRights, bits_of};
 ghost use Rattle.dmatypes.specs.declared.limits.TheConstants.{LEAST_TABLE_FRAMES, MOST_TABLE_FRAMES};
-ghost use Rattle.tables.specs.declared.entries.TheConstants.{TABLE_ENTRIES};
 ghost use Rattle.vtdbits.specs.Entry.{look};
 ghost use Rattle.vtdbits.specs.Translation.{target};
 ghost use Rattle.tables.specs.Tree.{one_if_same};
@@ -17,43 +16,35 @@ use vtdbits::SsEntry;
 
 /// Frames for tables, of a word for each entry. Some of them are free, and these are zeroed; the others are of trees, or
 /// were cut from one and not given back.
+///
+/// The words stand in one block, frame after frame: those of frame F begin F × 4,096 bytes behind those of frame 0, where
+/// the block begins. So a unit that walks the block where it lies walks the tables. `Pool::new` alone takes memory, and
+/// writes all of it.
 #[derive(Drop)]
 pub struct Pool {
-    // Those of the last frame first, since that is taken first: a frame's words are written when it is first taken, so that memory which is
-    // never used isn't touched.
+    // The view is this very list, so what `word` says of it is where a frame's words lie in memory.
     words: Vec<u64>,
-    // The free frames come first: those that were never taken, in order; then the others, in none.
+    // The free frames come first, in no order.
     slots: Vec<Frame>,
     free: usize,
-    // How many were never taken.
-    untaken: usize,
 }
 
 impl Model for Pool {
-    ghost use Rattle.std.specs.Prelude.{◌≤◌, length, take, vec_capacity};
-    ghost use Rattle.tables.specs.FromLast.{HasUntaken, from_last};
+    ghost use Rattle.std.specs.Prelude.{◌≤◌, length, take};
     ghost use Rattle.tables.specs.Pool.{Pool, IsPool};
 
     ghost Value = { Pool };
 
-    ghost view = { λ a. record {
-      words = from_last (length a.slots.items) a.words.items;
-      free = take a.free a.slots.items;
-      frames = length a.slots.items;
-    } };
+    ghost view = { λ a. record { words = a.words.items; free = take a.free a.slots.items; frames = length a.slots.items } };
 
     ghost invariant = { λ a.
-        IsPool (record {
-          words = from_last (length a.slots.items) a.words.items;
-          free = take a.free a.slots.items;
-          frames = length a.slots.items;
-        })
-        × (a.free ≤ length a.slots.items)
-        × HasUntaken (length a.slots.items) a.untaken a.free (vec_capacity a.words) a.words.items a.slots.items };
+        IsPool (record { words = a.words.items; free = take a.free a.slots.items; frames = length a.slots.items })
+        × (a.free ≤ length a.slots.items) };
 }
 
 impl Pool {
-    /// A pool of 16 to 4,096 frames (own), all of them free.
+    /// A pool of 16 to 4,096 frames (own), all of them free. The block of its words is asked for by one request, and cleared
+    /// here: no later call takes memory, or is the first to write any.
     pub fn new(alloc: Global, frames: u64) -> Result<Pool, AllocError>
         requires some { LEAST_TABLE_FRAMES ≤ frames }
         requires few { frames ≤ MOST_TABLE_FRAMES }
@@ -63,7 +54,7 @@ impl Pool {
         ensures zeroed { IfOk result (λ pool. (f : ℕ) → f < frames → IsZeroed pool.words f) }
         ensures count { IfOk result (λ pool. length pool.free ≡ frames) }
     {
-        let words = Vec::with_capacity(alloc, (frames * TABLE_ENTRIES) as usize)?;
+        let words = vec![in alloc; 0u64; (frames * TABLE_ENTRIES) as usize]?;
         let mut slots = Vec::new(alloc);
         for number in 0..frames {
             slots.push(Frame::new(number).unwrap())?;
@@ -72,7 +63,6 @@ impl Pool {
             words,
             slots,
             free: frames as usize,
-            untaken: frames as usize,
         })
     }
 
@@ -96,21 +86,7 @@ impl Pool {
         requires { index < TABLE_ENTRIES }
         ensures { result ≡ word self.now.words frame index }
     {
-        if (frame.number() as usize) < self.slots.len() {
-            self.word_of(frame, index)
-        } else {
-            0
-        }
-    }
-
-    /// The word of a frame of the pool at an index: `read` without the test whether the pool has the frame, for the
-    /// tables of a tree.
-    pub(crate) fn word_of(&self, frame: Frame, index: u64) -> u64
-        requires frame { frame < self.now.frames }
-        requires index { index < TABLE_ENTRIES }
-        ensures { result ≡ word self.now.words frame index }
-    {
-        let place = self.start_of(frame) + index as usize;
+        let place = (frame.number() * TABLE_ENTRIES + index) as usize;
         if place < self.words.len() {
             self.words[place]
         } else {
@@ -118,13 +94,13 @@ impl Pool {
         }
     }
 
-    // Where the words of a frame of the pool begin.
-    #[inline(always)]
-    fn start_of(&self, frame: Frame) -> usize
-        requires { frame < self.now.frames }
-        ensures { result ≡ (self.now.frames - 1 - frame) * TABLE_ENTRIES }
+    /// The word of a frame of the pool at an index: `read` without its test, for the tables of a tree.
+    pub(crate) fn word_of(&self, frame: Frame, index: u64) -> u64
+        requires frame { frame < self.now.frames }
+        requires index { index < TABLE_ENTRIES }
+        ensures { result ≡ word self.now.words frame index }
     {
-        (self.slots.len() - 1 - frame.number() as usize) * TABLE_ENTRIES as usize
+        self.words[(frame.number() * TABLE_ENTRIES + index) as usize]
     }
 
     /// Sets a word of a frame that isn't free.
@@ -137,8 +113,7 @@ impl Pool {
         ensures frames { self.new.frames ≡ self.old.frames }
         ensures pool { IsPool self.new }
     {
-        let place = self.start_of(frame) + index as usize;
-        self.words[place] = value;
+        self.words[(frame.number() * TABLE_ENTRIES + index) as usize] = value;
     }
 
     /// Clears `count` words of a frame that isn't free, from an index on.
@@ -152,7 +127,7 @@ impl Pool {
         ensures frames { self.new.frames ≡ self.old.frames }
         ensures pool { IsPool self.new }
     {
-        let start = self.start_of(frame) + from as usize;
+        let start = (frame.number() * TABLE_ENTRIES + from) as usize;
         self.words[start..start + count as usize].fill(0);
     }
 
@@ -178,7 +153,7 @@ impl Pool {
         ensures frames { self.new.frames ≡ self.old.frames }
         ensures pool { IsPool self.new }
     {
-        let start = self.start_of(frame) + from as usize;
+        let start = (frame.number() * TABLE_ENTRIES + from) as usize;
         spell_leaves(
             &mut self.words[start..start + count as usize],
             first,
@@ -199,12 +174,6 @@ impl Pool {
         ensures pool { IsPool self.new }
     {
         self.free -= 1;
-        if self.free < self.untaken {
-            self.untaken = self.free;
-            let end = self.words.len() + TABLE_ENTRIES as usize;
-            // The pool was made with the room for it.
-            self.words.resize(end, 0).unwrap();
-        }
         self.slots[self.free]
     }
 

@@ -7,11 +7,10 @@ use Rattle.dmatypes.specs.declared.width.Width.{Width}
 use Rattle.queue.specs.Ring.{Ring, ring_of}
 use Rattle.unit.specs.Caches.{Caches, UnitState, nothing, unit_state}
 use Rattle.vtdbits.specs.declared.context.ContextEntry.TheVariants.{Absent, Present}
-use Rattle.std.proofs.lemmas.List.{get_or-replicate}
 use Rattle.std.proofs.lemmas.Option.{none-some}
-use Rattle.tables.specs.Pool.{memory, occurs, word}
+use Rattle.tables.specs.Pool.{memory, occurs}
 use Rattle.tables.specs.Tree.{sum_below}
-use Rattle.tables.proofs.pools.FreeList.{counted_up, counted_past}
+use Rattle.tables.proofs.pools.FreeList.{counted_up, counted_past, zero_words}
 use Rattle.tables.proofs.sums.Firsts.{sum_below-none}
 use Rattle.std.specs.Option.{option_flatten}
 use Rattle.engine.specs.Tickets.{AreDifferent, Follow, KeepsTickets, pairs_of}
@@ -158,12 +157,6 @@ new_state frames caching = record {
   calls = 0;
 }
 
--- the words of its frames are 0
-zero_word : (frames f k : ℕ) → f < frames → k < TABLE_ENTRIES → word (replicate (frames * TABLE_ENTRIES) 0) f k ≡ 0
-unfolding word
-zero_word frames f k f_in k_in =
-    get_or-replicate (frames * TABLE_ENTRIES) (f * TABLE_ENTRIES + k) 0 0 (omega (arith, f_in, k_in))
-
 pub new_is_new : (frames : ℕ) (caching : Bool) → IsNew frames caching (new_state frames caching)
 unfolding new_state
 new_is_new frames caching = record {
@@ -171,7 +164,7 @@ new_is_new frames caching = record {
   free = below frames;
   past = past frames;
   count = many frames;
-  zeroed = λ f low k small. zero_word frames f k low small;
+  zeroed = λ f low k small. zero_words (replicate (frames * TABLE_ENTRIES) 0) frames refl f k low small;
   domains_are = refl;
   contexts_are = refl;
   ring_is = refl;

@@ -1,13 +1,13 @@
 -- The pool's list of free frames, and one word written.
 use Rattle.std.proofs.Common.{◌≡◌, ℕ, zero, suc, ◌+◌, ◌-◌, ◌*◌, ◌<◌, ◌≤◌, ◌≢◌, ◌⊎◌, List, [], ◌∷◌, ◌++◌, length, get_or, set, take, refl}
-use Rattle.std.proofs.Common.{ap, sym, ◌∙◌, subst, inl, inr, ⊎_elim, arith}
+use Rattle.std.proofs.Common.{ap, sym, ◌∙◌, subst, inl, inr, ⊎_elim, arith, get_or-set_same, get_or-set_other, length-set, replicate}
 use Rattle.std.proofs.lemmas.List.Sums.{sum_by_more, sum_by_push, sum_by-cons}
-use Rattle.std.proofs.lemmas.List.{take_more_set}
+use Rattle.std.proofs.lemmas.List.{take_more_set, get_or-replicate}
 use Rattle.std.proofs.lemmas.Bool.{cases_lt}
 use Rattle.std.proofs.lemmas.Bool.Decides.{eqb_tells}
 use Rattle.tables.specs.declared.entries.TheConstants.{TABLE_ENTRIES}
 use Rattle.tables.specs.Tree.{sum_below, one_if_same}
-use Rattle.tables.specs.Pool.{Pool, occurs, IsZeroed, IsPool}
+use Rattle.tables.specs.Pool.{Pool, word, occurs, IsZeroed, IsPool, IsWrite}
 use Rattle.tables.proofs.sums.Firsts.{sum_below_same, sum_below_change, sum_below-zeros}
 use Rattle.tables.proofs.sums.OneFrame.{one_if_same-self, one_if_same-other, one_if_same_le}
 
@@ -93,6 +93,30 @@ shorter xs n g once within g_in none =
 pub one_place : (t i f k : ℕ) → i < TABLE_ENTRIES → k < TABLE_ENTRIES → f * TABLE_ENTRIES + k ≡ t * TABLE_ENTRIES + i → (f ≡ t) × (k ≡ i)
 one_place t i f k a b e = (omega arith, omega arith)
 
+pub wrote : (words : List ℕ) (frames t i w : ℕ) → length words ≡ frames * TABLE_ENTRIES → t < frames → i < TABLE_ENTRIES
+    → IsWrite words (set words (t * TABLE_ENTRIES + i) w) t i w
+unfolding word
+wrote words frames t i w fit t_in i_in =
+    let inside : t * TABLE_ENTRIES + i < length words = omega arith in (
+      get_or-set_same words (t * TABLE_ENTRIES + i) w 0 inside,
+      λ f k k_in other.
+          get_or-set_other words (t * TABLE_ENTRIES + i) (f * TABLE_ENTRIES + k) w 0
+          (λ e. let one : (f ≡ t) × (k ≡ i) = one_place t i f k i_in k_in e in other one.0 one.1),
+    )
+
+pub write_keeps : (pool : Pool) (t i w : ℕ) → IsPool pool → t < pool.frames → i < TABLE_ENTRIES → occurs t pool.free ≡ 0
+    → IsPool (record pool { words = set pool.words (t * TABLE_ENTRIES + i) w })
+write_keeps pool t i w ok t_in i_in taken = record {
+  fit = length-set pool.words (t * TABLE_ENTRIES + i) w ∙ ok.fit;
+  few = ok.few;
+  once = ok.once;
+  within = ok.within;
+  zeroed = λ f free k k_in.
+      (wrote pool.words pool.frames t i w ok.fit t_in i_in).1 f k k_in
+      (λ e _. let same : occurs f pool.free ≡ occurs t pool.free = ap (λ x. occurs x pool.free) e in absurd (omega arith))
+      ∙ ok.zeroed f free k k_in;
+}
+
 -- a pool whose free frames are fewer
 pub fewer_keeps : (pool : Pool) (free : List ℕ) → IsPool pool → ((f : ℕ) → occurs f free ≤ occurs f pool.free)
     → IsPool (record pool { free = free })
@@ -135,3 +159,10 @@ counted_past xs n past f l =
 pub counted_once : (xs : List ℕ) (n : ℕ) → ((f : ℕ) → f < n → occurs f xs ≡ 1) → ((f : ℕ) → n ≤ f → occurs f xs ≡ 0) → (f : ℕ)
     → occurs f xs ≤ 1
 counted_once xs n below past f = ⊎_elim (λ l. omega (arith, below f l)) (λ g. omega (arith, past f g)) (cases_lt f n)
+
+pub zero_words : (words : List ℕ) (frames : ℕ) → words ≡ replicate (frames * TABLE_ENTRIES) 0 → (f k : ℕ) → f < frames → k < TABLE_ENTRIES
+    → word words f k ≡ 0
+unfolding word
+zero_words words frames e f k f_in k_in =
+    let inside : f * TABLE_ENTRIES + k < frames * TABLE_ENTRIES = omega arith in
+    ap (λ w. get_or w (f * TABLE_ENTRIES + k) 0) e ∙ get_or-replicate (frames * TABLE_ENTRIES) (f * TABLE_ENTRIES + k) 0 0 inside

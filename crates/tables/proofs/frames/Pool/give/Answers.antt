@@ -1,9 +1,7 @@
 use Rattle.std.proofs.Common.{◌≡◌, ◌+◌, ◌<◌, length, length-take, length-set, take, set, ap, sym, ◌∙◌, subst, arith}
 use Rattle.tables.specs.Tree.{one_if_same}
-use Rattle.tables.specs.FromLast.{from_last}
 use Rattle.tables.specs.Pool.{Pool, occurs, IsZeroed}
 use Rattle.tables.proofs.pools.FreeList.{occurs_given, more_keeps, shorter}
-use Rattle.tables.proofs.pools.FromLast.{given_order}
 use Rattle.tables.proofs.frames.Pool.give.Goals as goal
 
 pub index_mut-requires : goal.index_mut-requires
@@ -24,8 +22,7 @@ invariant_of-self c =
     let n = c.self.inside.free in
     let frames : length c.self.inside.slots.items ≡ c.args.self.now.frames = ap (λ (p : Pool). p.frames) c.self.view_is in
     let taken : occurs c.args.frame (take n slots) ≡ 0 = ap (λ (p : Pool). occurs c.args.frame p.free) c.self.view_is ∙ c.requires.taken in
-    let words : c.args.self.now.words ≡ from_last (length slots) c.self.inside.words.items = sym (ap (λ (p : Pool). p.words)
-    c.self.view_is) in
+    let words : c.args.self.now.words ≡ c.self.inside.words.items = sym (ap (λ (p : Pool). p.words) c.self.view_is) in
     let room : n < length slots =
     omega (
       arith,
@@ -35,8 +32,6 @@ invariant_of-self c =
       rw length-set (more_keeps _ c.args.frame (take (n + 1) (set slots n c.args.frame)) c.self.invariant.0 (omega arith) taken
           (subst (λ w. IsZeroed w c.args.frame) words c.requires.zeroed) (λ f. occurs_given slots n c.args.frame f room)),
       rw length-set (omega arith),
-      rw length-set (given_order (length slots) c.self.inside.untaken n c.self.inside.words.cap c.args.frame c.self.inside.words.items slots
-          c.self.invariant.2),
     )
 
 pub returns-clause-free : goal.returns-clause-free

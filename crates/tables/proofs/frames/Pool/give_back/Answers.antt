@@ -1,7 +1,5 @@
 use Rattle.std.proofs.Common.{◌≡◌, ℕ, ◌+◌, ◌<◌, ◌≤◌, length, length-take, take, ap, sym, ◌∙◌, subst, arith}
-use Rattle.tables.specs.FromLast.{from_last}
 use Rattle.tables.specs.Pool.{Pool, occurs, IsZeroed}
-use Rattle.tables.proofs.pools.FromLast.{given_pool}
 use Rattle.tables.proofs.pools.GivenBack.{given_state, given_fits, occurs-append}
 use Rattle.tables.proofs.frames.Pool.give_back.Goals as goal
 
@@ -9,7 +7,7 @@ pub slice_bounds-copy_from_slice-end : goal.slice_bounds-copy_from_slice-end
 slice_bounds-copy_from_slice-end c =
     let pool : Pool =
     record {
-      words = from_last (length c.self.inside.slots.items) c.self.inside.words.items;
+      words = c.self.inside.words.items;
       free = take c.self.inside.free c.self.inside.slots.items;
       frames = length c.self.inside.slots.items;
     } in
@@ -31,21 +29,18 @@ slice_bounds-copy_from_slice-end c =
 pub invariant_of-self : goal.invariant_of-self
 invariant_of-self c =
     let all =
-    given_state (from_last (length c.self.inside.slots.items) c.self.inside.words.items) c.self.inside.slots.len c.self.inside.free
-    c.self.inside.slots.items c.deref_mut.result.now
+    given_state c.self.inside.words.items c.self.inside.slots.len c.self.inside.free c.self.inside.slots.items c.deref_mut.result.now
     c.copy_from_slice.new.self c.args.frames.now c.deref_mut.ensures.value c.copy_from_slice.ensures.after (omega arith)
     c.self.invariant.1 c.self.invariant.0
     (subst (λ (p : Pool). (f : ℕ) → occurs f p.free + occurs f c.args.frames.now ≤ 1) (sym c.self.view_is) c.requires.once)
     (subst (λ (p : Pool). (f : ℕ) → 0 < occurs f c.args.frames.now → f < p.frames) (sym c.self.view_is) c.requires.within)
     (subst (λ (p : Pool). (f : ℕ) → 0 < occurs f c.args.frames.now → IsZeroed p.words f) (sym c.self.view_is) c.requires.zeroed) in
-    given_pool c.self.inside.untaken c.self.inside.free c.self.inside.words.cap _ c.self.inside.words.items c.self.inside.slots.items _
-    c.args.frames.now all.0 all.1 all.2 c.self.invariant.2 c.self.invariant.1 (omega arith)
+    (all.0, all.1)
 
 pub returns-clause-free : goal.returns-clause-free
 returns-clause-free c f =
     let all =
-    given_state (from_last (length c.self.inside.slots.items) c.self.inside.words.items) c.self.inside.slots.len c.self.inside.free
-    c.self.inside.slots.items c.deref_mut.result.now
+    given_state c.self.inside.words.items c.self.inside.slots.len c.self.inside.free c.self.inside.slots.items c.deref_mut.result.now
     c.copy_from_slice.new.self c.args.frames.now c.deref_mut.ensures.value c.copy_from_slice.ensures.after (omega arith)
     c.self.invariant.1 c.self.invariant.0
     (subst (λ (p : Pool). (f : ℕ) → occurs f p.free + occurs f c.args.frames.now ≤ 1) (sym c.self.view_is) c.requires.once)

@@ -1,11 +1,10 @@
-use Rattle.std.proofs.Common.{◌≡◌, ℕ, ◌+◌, ◌-◌, ◌*◌, ◌<◌, List, [], ◌∷◌, ◌++◌, length, take, get_or, ap, ◌∙◌, arith, ⊎_elim}
+use Rattle.std.proofs.Common.{◌≡◌, ◌*◌, [], ◌∷◌, ◌++◌, length, take, ap, ◌∙◌, arith, ⊎_elim, replicate}
 use Rattle.std.proofs.lemmas.Bool.{cases_lt}
+use Rattle.std.proofs.Math.ListN.{length-replicate}
 use Rattle.std.proofs.Math.Seq.{take-length}
 use Rattle.tables.specs.declared.entries.TheConstants.{TABLE_ENTRIES}
-use Rattle.tables.specs.FromLast.{from_last}
-use Rattle.tables.specs.Pool.{occurs, word}
-use Rattle.tables.proofs.pools.FreeList.{counted_up, counted_past, counted_once}
-use Rattle.tables.proofs.pools.FromLast.{length_from_last, pushed_order, word_here}
+use Rattle.tables.specs.Pool.{occurs}
+use Rattle.tables.proofs.pools.FreeList.{zero_words, counted_up, counted_past, counted_once}
 use Rattle.tables.proofs.frames.Pool.new.Goals as goal
 
 pub loop-number-preserved : goal.loop-number-preserved
@@ -18,9 +17,6 @@ loop-number-preserved c =
       below =
           rw pushed (counted_up c.loop-number.slots.items c.loop-number.number c.loop-number.invariant.below c.loop-number.invariant.past);
       past = rw pushed (counted_past c.loop-number.slots.items c.loop-number.number c.loop-number.invariant.past);
-      order =
-          rw pushed (pushed_order c.loop-number.slots.items c.loop-number.number c.loop-number.invariant.long
-          c.loop-number.invariant.order);
     }
 
 pub returns-clause-free : goal.returns-clause-free
@@ -29,23 +25,21 @@ returns-clause-free c f h =
     let whole : take c.args.frames slots ≡ slots = ap (λ n. take n slots) (omega arith) ∙ take-length slots in
     ap (occurs f) whole ∙ c.loop-number.invariant.below f (omega arith)
 
--- no frame has memory yet
-unused : (frames : ℕ) (items : List ℕ) → items ≡ [] → (f k : ℕ) → f < frames → k < TABLE_ENTRIES → word (from_last frames items) f k ≡ 0
-unused frames items none f k f_in k_in =
-    word_here frames items f k f_in k_in ∙ ap (λ xs. get_or xs ((frames - 1 - f) * TABLE_ENTRIES + k) 0) none
-
 pub returns-clause-zeroed : goal.returns-clause-zeroed
 returns-clause-zeroed c f h k k_in =
-    unused (length c.loop-number.slots.items) c.in_ok-words.words.items c.in_ok-words.ensures.items f k
-    (omega (arith, h, c.loop-number.invariant.long)) k_in
+    let made : c.in_ok-words.words.items ≡ replicate (c.args.frames * TABLE_ENTRIES) 0 =
+    c.in_ok-words.ensures.items_if_clones_equal (λ y e. e) in
+    zero_words _ c.args.frames made f k h k_in
 
 pub invariant_of-result : goal.invariant_of-result
 invariant_of-result c =
     let slots = c.loop-number.slots.items in
     let long : c.args.frames ≡ length c.loop-number.slots.items = omega arith in
-    let whole : take c.args.frames slots ≡ slots = ap (λ n. take n slots) long ∙ take-length slots in (
+    let whole : take c.args.frames slots ≡ slots = ap (λ n. take n slots) long ∙ take-length slots in
+    let made : c.in_ok-words.words.items ≡ replicate (c.args.frames * TABLE_ENTRIES) 0 =
+    c.in_ok-words.ensures.items_if_clones_equal (λ y e. e) in (
       record {
-        fit = length_from_last (length slots) c.in_ok-words.words.items;
+        fit = ap length made ∙ length-replicate _ _ ∙ ap (λ n. n * TABLE_ENTRIES) long;
         few = omega arith;
         once =
             λ f.
@@ -57,17 +51,11 @@ invariant_of-result c =
         within = λ f g. ap (occurs f) whole ∙ c.loop-number.invariant.past f (omega arith);
         zeroed =
             λ f g k k_in.
-            ⊎_elim (λ l. unused (length slots) c.in_ok-words.words.items c.in_ok-words.ensures.items f k l k_in)
+            ⊎_elim (λ l. zero_words _ c.args.frames made f k l k_in)
             (λ past. absurd (omega (arith, ap (occurs f) whole, c.loop-number.invariant.past f (omega arith))))
-            (cases_lt f (length slots));
+            (cases_lt f c.args.frames);
       },
       omega arith,
-      record {
-        fit = omega (arith, ap (λ xs. length xs) c.in_ok-words.ensures.items, long);
-        free = omega arith;
-        order = λ i l. c.loop-number.invariant.order i (omega (arith, l, long));
-        room = omega (arith, c.in_ok-words.ensures.capacity, long);
-      },
     )
 
 pub returns-clause-pool : goal.returns-clause-pool

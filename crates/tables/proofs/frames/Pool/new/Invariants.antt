@@ -1,4 +1,4 @@
-use Rattle.std.proofs.Common.{◌≡◌, ℕ, ◌≤◌, ◌<◌, length, slice_index}
+use Rattle.std.proofs.Common.{◌≡◌, ℕ, ◌≤◌, ◌<◌, length}
 use Rattle.tables.specs.Pool.{occurs}
 use Rattle.tables.proofs.frames.Pool.new.Given as goal
 
@@ -7,5 +7,4 @@ invariant-loop-number l = record {
   long : length l.slots.items ≡ l.number;
   below : (f : ℕ) → f < l.number → occurs f l.slots.items ≡ 1;
   past : (f : ℕ) → l.number ≤ f → occurs f l.slots.items ≡ 0;
-  order : (i : ℕ) → i < l.number → slice_index l.slots.items i ≡ i;
 }
