@@ -1,6 +1,6 @@
 //! Pieces that are carved out of a free piece, before the tree shows them.
 
-ghost use Rattle.std.specs.Prelude.{◌≡◌, List, ℕ, [], ◌∷◌, ◌++◌, ◌+◌, ◌-◌, ◌≤◌, ◌<◌, None, Some, length, slice_get, true, false};
+ghost use Rattle.std.specs.Prelude.{◌≡◌, List, ℕ, [], ◌∷◌, ◌++◌, ◌+◌, ◌-◌, ◌%◌, ◌≤◌, ◌<◌, None, Some, length, slice_get, true, false};
 ghost use Rattle.std.specs.Prelude.{◌↔◌, IfSome, IfNone, IfOk, OnErr, IsTrue, Err};
 ghost use Rattle.iova.specs.Changes.{Takes};
 ghost use Rattle.iova.specs.Pieces.{piece_of};
@@ -99,11 +99,11 @@ impl Carved {
         {
             return None;
         }
-        let low = round_up(block.pages.first.max(sought.floor), sought.unit);
+        let low = block.pages.first.max(sought.floor);
         let start = match self.ends() {
-            None => low,
+            None => round_up(low, sought.unit),
             // What is free before the pieces may have room by now.
-            Some(ends) if low + sought.pages <= ends.first => return None,
+            Some(ends) if has_room(low, ends.first, sought) => return None,
             Some(ends) => ends.last + 1,
         };
         if start & (sought.unit - 1) == 0 && start + sought.pages <= block.pages.last {
@@ -129,19 +129,16 @@ impl Carved {
         })
     }
 
-    /// Where the piece lies that has some pages, if there is one: mostly it is the last one or the first.
+    /// Where the piece lies that has some pages, if there is one: mostly it is the last one.
     #[inline(always)]
     pub(crate) fn place_of(&self, pages: Ends) -> Option<usize>
         requires { (from : ℕ) × (end : ℕ) × FollowOn from self.now.row end }
         ensures { IfSome result (IsAt self.now.row pages) }
     {
         let pieces = self.row.as_slice();
-        let last = pieces.last()?;
-        if last.first <= pages.first {
-            return is_place(pieces, pieces.len() - 1, pages);
-        }
-        if pages.first < pieces.first()?.first {
-            return None;
+        let last = pieces.len().checked_sub(1)?;
+        if is_at(pieces, last, pages) {
+            return Some(last);
         }
         find(pieces, pages)
     }
@@ -166,14 +163,25 @@ impl Carved {
         ensures unchanged { result ≡ false → self.new.row ≡ self.old.row }
         ensures block { self.new.block ≡ self.old.block }
     {
-        let Some(place) = self.place_of(pages) else {
+        let pieces = self.row.as_slice();
+        if pieces.is_empty() {
             return false;
-        };
-        if place == self.row.len() - 1 {
+        }
+        if is_at(pieces, pieces.len() - 1, pages) {
             self.row.lose_last();
             return true;
         }
-        if place == 0 {
+        self.give_back_first(pages)
+    }
+
+    // The same, where it is the first.
+    fn give_back_first(&mut self, pages: Ends) -> bool
+        requires { 0 < length self.old.row }
+        ensures given { result ≡ true → LosesEnd self.old.row self.new.row pages }
+        ensures unchanged { result ≡ false → self.new.row ≡ self.old.row }
+        ensures block { self.new.block ≡ self.old.block }
+    {
+        if is_at(self.row.as_slice(), 0, pages) {
             self.row.lose_first(1);
             return true;
         }
@@ -224,29 +232,61 @@ impl Carved {
     }
 }
 
-// A place, if the piece there has some pages.
+// Whether the piece at a place has some pages.
 #[inline(always)]
-fn is_place(pieces: &[Piece], place: usize, pages: Ends) -> Option<usize>
+fn is_at(pieces: &[Piece], place: usize, pages: Ends) -> bool
+    requires { place < length pieces.now }
+    ensures { IsTrue result → IsAt pieces.now pages place }
+{
+    let piece = pieces[place];
+    piece.first == pages.first && piece.last == pages.last
+}
+
+// Where the piece lies that has some pages, if there is one.
+#[inline(never)]
+fn find(pieces: &[Piece], pages: Ends) -> Option<usize>
+    requires { (from : ℕ) × (end : ℕ) × FollowOn from pieces.now end }
     ensures { IfSome result (IsAt pieces.now pages) }
 {
-    let piece = pieces.get(place)?;
-    if piece.first == pages.first && piece.last == pages.last {
+    if pages.first < pieces.first()?.first || pieces.last()?.first < pages.first {
+        return None;
+    }
+    let place = pieces.partition_point(|piece| piece.last < pages.first);
+    if place < pieces.len() && is_at(pieces, place, pages) {
         return Some(place);
     }
     None
 }
 
-// Where the piece lies that has some pages, if there is one.
-fn find(pieces: &[Piece], pages: Ends) -> Option<usize>
-    requires { (from : ℕ) × (end : ℕ) × FollowOn from pieces.now end }
-    ensures { IfSome result (IsAt pieces.now pages) }
+// Whether so many pages have room between two pages, at a multiple of the unit.
+#[inline(always)]
+fn has_room(low: u64, end: u64, sought: Sought) -> bool
+    requires sought { IsSought sought }
+    requires low { low < NUMBERS_END }
+    ensures room { IsTrue result → (n : ℕ) × (n % sought.unit ≡ 0) × (low ≤ n) × (n + sought.pages ≤ end) }
+    ensures none { result ≡ false → (n : ℕ) → n % sought.unit ≡ 0 → low ≤ n → end < n + sought.pages }
 {
-    let place = pieces.partition_point(|piece| piece.last < pages.first);
-    is_place(pieces, place, pages)
+    low + sought.pages <= end && round_up(low, sought.unit) + sought.pages <= end
 }
 
-/// The piece that a page lies in.
+/// The piece that a page lies in: mostly it is the last one.
+#[inline(always)]
 pub(crate) fn piece_at(pieces: &[Piece], page: u64) -> Option<Piece>
+    requires { (from : ℕ) × (end : ℕ) × FollowOn from pieces.now end }
+    ensures { result ≡ piece_at pieces.now page }
+{
+    let last = pieces.last()?;
+    if last.last < page {
+        return None;
+    }
+    if last.first <= page {
+        return Some(*last);
+    }
+    search(pieces, page)
+}
+
+// The same, where it is looked for.
+fn search(pieces: &[Piece], page: u64) -> Option<Piece>
     requires { (from : ℕ) × (end : ℕ) × FollowOn from pieces.now end }
     ensures { result ≡ piece_at pieces.now page }
 {

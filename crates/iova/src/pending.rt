@@ -8,7 +8,7 @@ ghost use Rattle.iova.specs.Stored.{IsInMind, IsKept, TakesPlace, pieces_of, sho
 ghost use Rattle.iova.specs.Way.{IsHeld};
 ghost use Rattle.slab.specs.Slab.{get};
 
-use crate::before::none_long_before;
+use crate::before::longest_before;
 use crate::beside::Ends;
 use crate::node::{NUMBERS_END, Node};
 use crate::piece::{PageState, Piece};
@@ -72,25 +72,45 @@ pub(crate) fn put_freed(
     }
 }
 
-/// Whether the piece that came free is the first of so many free pages, where free ones begin before it: none of these has so
-/// many, and none touches it.
+/// A piece that came free and is taken again, and a page below which no free piece begins.
+#[derive(Clone, Copy)]
+pub(crate) struct Fit {
+    pub(crate) known: Known,
+    pub(crate) low: u64,
+}
+
+/// A page below which no free piece begins, where the piece that came free is the first of so many free pages: no free one before it has
+/// so many, and none touches it. Where none is free before it at all it is the piece's own page, so that this is found out once.
 #[inline(never)]
-fn is_first(
+fn low_of_first(
     nodes: &Slab<Node>,
     root: Option<usize>,
+    low: u64,
     way: &[Step; MOST_HEIGHT],
     known: Known,
     pages: u64,
-) -> bool
+) -> Option<u64>
     requires kept { IsKept root nodes.now (pieces_of nodes.now root) }
     requires space { (last : ℕ) × IsSpace (stored last root nodes.now) }
+    requires low { NoneFreeBelow low (pieces_of nodes.now root) }
     requires in_mind { IsInMind nodes.now root way.now (InMind.Freed known) }
-    ensures alone { result ≡ true → free_start (pieces_of nodes.now root) known.pages.first ≡ known.pages.first }
-    ensures first { result ≡ true → (p : Piece) → IsIn p (pieces_of nodes.now root) → p.state ≡ PageState.Free
-        → p.first < known.pages.first → p.last + 1 < p.first + pages }
+    ensures alone { IfSome result (λ _. free_start (pieces_of nodes.now root) known.pages.first ≡ known.pages.first) }
+    ensures first { IfSome result (λ _. (p : Piece) → IsIn p (pieces_of nodes.now root) → p.state ≡ PageState.Free
+        → p.first < known.pages.first → p.last + 1 < p.first + pages) }
+    ensures low { IfSome result (λ page. NoneFreeBelow page (pieces_of nodes.now root)) }
 {
     let ends = store::with_free_ends(nodes, root, way, known.held, known.pages);
-    ends.first == known.pages.first && none_long_before(nodes, root, way, known, pages)
+    if ends.first != known.pages.first {
+        return None;
+    }
+    let most = longest_before(nodes, root, way, known);
+    if most >= pages {
+        return None;
+    }
+    if most == 0 {
+        return Some(known.pages.first);
+    }
+    Some(low)
 }
 
 /// The piece that came free, where so many pages that begin at a multiple of the unit are just that piece, and it is the
@@ -104,17 +124,19 @@ pub(crate) fn fit_freed(
     unit: u64,
     way: &[Step; MOST_HEIGHT],
     in_mind: InMind,
-) -> Option<Known>
+) -> Option<Fit>
     requires kept { IsKept root nodes.now (pieces_of nodes.now root) }
     requires space { (last : ℕ) × IsSpace (stored last root nodes.now) }
     requires low { NoneFreeBelow low (pieces_of nodes.now root) }
     requires some_pages { 1 ≤ pages }
     requires unit { (order : ℕ) × (unit ≡ 2 ^ order) }
     requires in_mind { IsInMind nodes.now root way.now in_mind }
-    ensures freed { IfSome result (λ known. in_mind ≡ InMind.Freed known) }
-    ensures pages { IfSome result (λ known. known.pages.last + 1 ≡ known.pages.first + pages) }
-    ensures lowest { IfSome result (λ known. IsLowestFit (shown in_mind (pieces_of nodes.now root)) pages unit known.pages.first) }
+    ensures freed { IfSome result (λ fit. in_mind ≡ InMind.Freed fit.known) }
+    ensures pages { IfSome result (λ fit. fit.known.pages.last + 1 ≡ fit.known.pages.first + pages) }
+    ensures lowest { IfSome result (λ fit.
+        IsLowestFit (shown in_mind (pieces_of nodes.now root)) pages unit fit.known.pages.first) }
     ensures few { IfSome result (λ _. length (pieces_of nodes.now root) ≤ MOST_PIECES_TO_CUT) }
+    ensures low { IfSome result (λ fit. NoneFreeBelow fit.low (pieces_of nodes.now root)) }
 {
     let InMind::Freed(known) = in_mind else {
         return None;
@@ -126,10 +148,11 @@ pub(crate) fn fit_freed(
     {
         return None;
     }
-    if start <= low || is_first(nodes, root, way, known, pages) {
-        return Some(known);
+    if start <= low {
+        return Some(Fit { known, low });
     }
-    None
+    let low = low_of_first(nodes, root, low, way, known, pages)?;
+    Some(Fit { known, low })
 }
 
 /// Whether a page is one of the piece that came free.

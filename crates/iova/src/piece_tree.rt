@@ -109,6 +109,15 @@ impl PieceTree {
         pending::count(&self.nodes, self.root, &self.way, self.in_mind)
     }
 
+    /// How many pieces it has at most: as many as nodes.
+    #[inline(always)]
+    pub(crate) fn most_pieces(&self) -> usize
+        ensures most { length self.now.pieces ≤ result }
+        ensures few { result ≤ MOST_PIECES }
+    {
+        self.nodes.len()
+    }
+
     /// What a page is; `None` exactly where it is past the last one.
     pub(crate) fn state_of(&self, page: Page) -> Option<PageState>
         ensures state { result ≡ state_at self.now.pieces page }
@@ -128,7 +137,7 @@ impl PieceTree {
         ensures few { IfSome result (λ start. IsTooMany self.old.pieces (record { first = start; pages = pages }) → ⊥) }
         ensures unchanged { IfNone result (self.new ≡ self.old) }
     {
-        let known = pending::fit_freed(
+        let fit = pending::fit_freed(
             &self.nodes,
             self.root,
             self.low,
@@ -137,12 +146,13 @@ impl PieceTree {
             &self.way,
             self.in_mind,
         )?;
+        let known = fit.known;
         let taken = Piece {
             first: known.pages.first,
             last: known.pages.last,
             state: PageState::Live,
         };
-        self.low = fits::low_behind(self.low, taken);
+        self.low = fits::low_behind(fit.low, taken);
         self.in_mind = InMind::Judged(known);
         Some(known.pages.first)
     }

@@ -247,10 +247,22 @@ impl Space {
         ensures unchanged { IfNone result (self.new ≡ self.old) }
     {
         let start = self.carved.next_start(sought)?;
-        if self.piece_count() > MOST_PIECES_TO_CUT || !self.carved.carve(start, sought.pages) {
+        if !self.has_few_pieces() || !self.carved.carve(start, sought.pages) {
             return None;
         }
         Some(Page::new(start).unwrap())
+    }
+
+    // Whether there are so few pieces that one can be cut. Most often so many nodes and carved pieces show it, with no look at them.
+    #[inline(always)]
+    fn has_few_pieces(&self) -> bool
+        ensures { IsTrue result ↔ (length self.now.pieces ≤ MOST_PIECES_TO_CUT) }
+    {
+        let most = self.tree.most_pieces() + self.carved.row.len();
+        if most < MOST_PIECES_TO_CUT {
+            return true;
+        }
+        self.piece_count() <= MOST_PIECES_TO_CUT
     }
 
     /// Whether a range can be retired.

@@ -1,27 +1,27 @@
 -- Where a piece of the row lies.
 use Rattle.std.proofs.Common.{◌≡◌, ℕ, zero, suc, ◌+◌, ◌-◌, ◌<◌, List, [], ◌∷◌, ◌++◌, length, get_or, slice_get, Some}
-use Rattle.std.proofs.Common.{refl, ap, sym, ◌∙◌, subst, inl, arith}
+use Rattle.std.proofs.Common.{refl, ap, sym, ◌∙◌, subst, inl, inr, arith, drop, append-nil, length-append}
 use Rattle.std.proofs.Math.Seq.{get_or-append_seam}
 use Rattle.dmatypes.specs.World.{IsIn}
 use Rattle.iova.specs.declared.beside.Ends.{Ends}
 use Rattle.iova.specs.declared.piece.PageState.TheVariants.{Live}
 use Rattle.iova.specs.declared.piece.Piece.{Piece}
-use Rattle.iova.specs.Carved.{FollowOn, IsAt}
+use Rattle.iova.specs.Carved.{FollowOn, IsAt, LosesEnd}
 use Rattle.iova.specs.Way.{pages_as}
 use Rattle.iova.proofs.Among.{in_append_right}
 
 -- a piece that begins and ends with the pages lies at its place
-pub at_place : (row : List Piece) (place : ℕ) (p : Piece) (pages : Ends) → place < length row → p ≡ get_or row place p
+pub at_place : (row : List Piece) (place : ℕ) (p d : Piece) (pages : Ends) → place < length row → p ≡ get_or row place d
     → p.first ≡ pages.first → p.last ≡ pages.last → IsAt row pages place
-at_place [] place p pages l is f g = absurd (omega arith)
-at_place (q ∷ row) zero p pages l is f g =
+at_place [] place p d pages l is f g = absurd (omega arith)
+at_place (q ∷ row) zero p d pages l is f g =
     let first : q.first ≡ pages.first = ap (λ (r : Piece). r.first) (sym is) ∙ f in
     let last : q.last ≡ pages.last = ap (λ (r : Piece). r.last) (sym is) ∙ g in
     let same : q ≡ pages_as pages q.state = ap (λ n. record { first = n; last = q.last; state = q.state }) first
     ∙ ap (λ n. record { first = pages.first; last = n; state = q.state }) last in
     ([], q.state, row, ap (λ r. r ∷ row) same, refl)
-at_place (q ∷ row) (suc place) p pages l is f g =
-    let r = at_place row place p pages (omega arith) is f g in
+at_place (q ∷ row) (suc place) p d pages l is f g =
+    let r = at_place row place p d pages (omega arith) is f g in
     (q ∷ r.0, r.1, r.2, ap (λ l. q ∷ l) r.3, ap suc r.4)
 
 -- and it is live, if the piece at that place is
@@ -57,3 +57,23 @@ follow_got from (r ∷ row) end p q f e g =
 pub ends_alike : (from : ℕ) (row : List Piece) (end other : ℕ) → FollowOn from row end → FollowOn from row other → end ≡ other
 ends_alike from [] end other f g = sym f ∙ g
 ends_alike from (p ∷ row) end other f g = ends_alike (p.last + 1) row end other f.3 g.3
+
+-- ---- the first or the last leaves
+
+no_more : (row : List Piece) → length row ≡ 0 → row ≡ []
+no_more [] e = refl
+no_more (p ∷ row) e = absurd (omega (arith, e))
+
+pub first_lost : (row now : List Piece) (pages : Ends) → IsAt row pages 0 → now ≡ drop 1 row → LosesEnd row now pages
+first_lost row now pages at e =
+    let none : at.0 ≡ [] = no_more at.0 (sym at.4) in
+    let parts : row ≡ pages_as pages at.1 ∷ at.2 = at.3 ∙ ap (λ l. l ++ pages_as pages at.1 ∷ at.2) none in
+    ([], at.1, at.2, parts, inl refl, e ∙ ap (λ l. drop 1 l) parts)
+
+pub last_lost : (row now : List Piece) (pages : Ends) (place : ℕ) → IsAt row pages place → place + 1 ≡ length row
+    → ((before : List Piece) (last : Piece) → row ≡ before ++ last ∷ [] → now ≡ before) → LosesEnd row now pages
+last_lost row now pages place at e left =
+    let none : at.2 ≡ [] = no_more at.2 (omega (arith, e, at.4, ap (λ (l : List Piece). length l) at.3,
+    length-append at.0 (pages_as pages at.1 ∷ at.2))) in
+    let parts : row ≡ at.0 ++ pages_as pages at.1 ∷ [] = at.3 ∙ ap (λ l. at.0 ++ pages_as pages at.1 ∷ l) none in
+    (at.0, at.1, [], parts, inr refl, left at.0 (pages_as pages at.1) parts ∙ sym (append-nil at.0))

@@ -1,10 +1,13 @@
 -- How many pieces there are once some were carved out of a free piece, and that fewer fit too.
 use Rattle.std.proofs.Common.{◌≡◌, ℕ, ◌+◌, ◌≤◌, List, [], ◌∷◌, ◌++◌, length, refl, ap, ◌∙◌, inl, inr, subst, arith, length-append}
+use Rattle.std.proofs.Common.{Option, None, Some, sym}
+use Rattle.iova.specs.declared.carved.Block.{Block}
+use Rattle.iova.specs.Carved.{IsCarved}
 use Rattle.iova.specs.declared.piece.Piece.{Piece}
 use Rattle.iova.specs.declared.space.TheConstants.{MOST_PIECES}
 use Rattle.iova.specs.Carved.{FollowOn, with_pieces}
 use Rattle.iova.specs.Pieces.{IsOrdered}
-use Rattle.iova.specs.Space.{Space}
+use Rattle.iova.specs.Space.{Space, IsSpace}
 use Rattle.iova.specs.Tree.{rest_below}
 use Rattle.iova.proofs.Pieces.{order}
 use Rattle.iova.proofs.Shown.{parted}
@@ -72,4 +75,17 @@ few_less a first last row begin end less from to c low f left n =
       count_most a first last c.space.ordered c.there less from to low f left,
       count_least a first last c.space.ordered c.there row begin end c.low c.follow c.left,
       c.few,
+    )
+
+-- the pieces that are carved are few, and each makes at most one more, and the first of them two
+pub few_carved : (a : Space) (row : List Piece) (known : Option Block) → IsSpace a → IsCarved a.pieces row known
+    → (length (with_pieces row a.pieces) ≤ length a.pieces + length row + 1) × (length row ≤ MOST_PIECES)
+few_carved a row None sp k =
+    subst (λ l. (length (with_pieces l a.pieces) ≤ length a.pieces + length l + 1) × (length l ≤ MOST_PIECES)) (sym k)
+    (omega arith, omega arith)
+few_carved a row (Some block) sp k =
+    let low : block.pages.first ≤ k.from = omega (arith, k.low) in
+    let least = count_least a block.pages.first block.pages.last sp.ordered k.there row k.from k.end low k.follow k.left in (
+      count_most a block.pages.first block.pages.last sp.ordered k.there row k.from k.end low k.follow k.left,
+      omega (arith, least, k.few),
     )

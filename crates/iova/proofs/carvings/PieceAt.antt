@@ -1,5 +1,6 @@
 -- The piece that a page lies in, by where the pieces that end below the page end.
-use Rattle.std.proofs.Common.{◌≡◌, ◌≢◌, ℕ, zero, suc, ◌+◌, ◌<◌, ◌≤◌, nat_lt, true, false, List, [], ◌∷◌, length, get_or, Some, None, IsTrue}
+use Rattle.std.proofs.Common.{◌≡◌, ◌≢◌, ℕ, zero, suc, ◌+◌, ◌<◌, ◌≤◌, nat_lt, true, false, List, [], ◌∷◌, length, get_or, slice_get}
+use Rattle.std.proofs.Common.{Some, None, IsTrue}
 use Rattle.std.proofs.Common.{refl, ap, sym, ltb-true, ltb-false, ◌∙◌, arith}
 use Rattle.std.specs.List.Sorted.{IsPartitionedBy, IsPartitionPoint, IsNonDecreasingBy}
 use Rattle.std.proofs.lemmas.List.Sorted.{IsPartitionedBy-ltb}
@@ -62,6 +63,19 @@ ends_rise from ps o i j d h l = rise from ps i j d o h l
 pub ends_parted : (from : ℕ) (ps : List Piece) (page : ℕ) → IsOrdered from ps → IsPartitionedBy (λ p. nat_lt p.last page) ps
 ends_parted from ps page o = IsPartitionedBy-ltb (λ p. p.last) ps page (ends_rise from ps o)
 
+-- the last piece begins where the pieces begin or behind, and has a page
+last_from : (from : ℕ) (ps : List Piece) (n : ℕ) (q : Piece) → IsOrdered from ps → n + 1 ≡ length ps → slice_get ps n ≡ Some q
+    → (from ≤ q.first) × (q.first ≤ q.last)
+last_from from [] n q o l e = absurd (omega (arith, l))
+last_from from (p ∷ []) zero q o l e =
+    let same : p ≡ q = cc in
+    let f : p.first ≡ q.first = ap (λ (r : Piece). r.first) same in
+    let g : p.last ≡ q.last = ap (λ (r : Piece). r.last) same in
+    (omega (arith, f, o.0), omega (arith, f, g, o.1))
+last_from from (p ∷ r ∷ ps) zero q o l e = absurd (omega (arith, l))
+last_from from (p ∷ ps) (suc n) q o l e =
+    let d = last_from (p.last + 1) ps n q o.3 (omega (arith, l)) e in (omega (arith, d.0, o.0, o.1), d.1)
+
 -- how many end below the page
 abbrev pub EndsPart : List Piece → ℕ → ℕ → Type 0
 EndsPart ps page i = IsPartitionPoint (λ p. nat_lt p.last page ≡ true) (λ p. nat_lt p.last page ≡ false) ps i
@@ -79,3 +93,32 @@ at_point ps page i q e l is h =
 pub none_at_point : (from : ℕ) (ps : List Piece) (page i : ℕ) (d : Piece) → IsOrdered from ps → EndsPart ps page i
     → (i < length ps → page < (get_or ps i d).first) → piece_at ps page ≡ None
 none_at_point from ps page i d o e h = at_gap from ps page i d o (end_below ps page i d e) h
+
+-- ---- by the last piece
+
+pub at_last : (from : ℕ) (ps : List Piece) (page n : ℕ) (q : Piece) → IsOrdered from ps → n + 1 ≡ length ps → slice_get ps n ≡ Some q
+    → q.first ≤ page → page ≤ q.last → piece_at ps page ≡ Some q
+at_last from [] page n q o k e h l = absurd (omega (arith, k))
+at_last from (p ∷ []) page zero q o k e h l =
+    let same : p ≡ q = cc in
+    let f : p.first ≡ q.first = ap (λ (r : Piece). r.first) same in
+    let g : p.last ≡ q.last = ap (λ (r : Piece). r.last) same in
+    at-here p [] page (omega (arith, f, h)) (omega (arith, g, l)) ∙ ap (λ r. Some r) same
+at_last from (p ∷ r ∷ ps) page zero q o k e h l = absurd (omega (arith, k))
+at_last from (p ∷ ps) page (suc n) q o k e h l =
+    let m : n + 1 ≡ length ps = omega (arith, k) in
+    let d = last_from (p.last + 1) ps n q o.3 m e in
+    at-past p ps page (omega (arith, d.0, h)) ∙ at_last (p.last + 1) ps page n q o.3 m e h l
+
+pub none_past_last : (from : ℕ) (ps : List Piece) (page n : ℕ) (q : Piece) → IsOrdered from ps → n + 1 ≡ length ps
+    → slice_get ps n ≡ Some q → q.last < page → piece_at ps page ≡ None
+none_past_last from [] page n q o k e l = at-nil page
+none_past_last from (p ∷ []) page zero q o k e l =
+    let same : p ≡ q = cc in
+    let g : p.last ≡ q.last = ap (λ (r : Piece). r.last) same in
+    at-past p [] page (omega (arith, g, l)) ∙ at-nil page
+none_past_last from (p ∷ r ∷ ps) page zero q o k e l = absurd (omega (arith, k))
+none_past_last from (p ∷ ps) page (suc n) q o k e l =
+    let m : n + 1 ≡ length ps = omega (arith, k) in
+    let d = last_from (p.last + 1) ps n q o.3 m e in
+    at-past p ps page (omega (arith, d.0, d.1, l)) ∙ none_past_last (p.last + 1) ps page n q o.3 m e l

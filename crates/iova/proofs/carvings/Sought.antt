@@ -87,20 +87,20 @@ module _ (a : Space) (row : List Piece) (block : Block) (sp : IsSpace a) (c : Ar
   }
 
   -- else it is right behind the pieces, where too few pages are free before them
-  pub next_lowest : c.from < c.end → (low : ℕ) → IsRoundUp (max block.pages.first sought.floor) sought.unit low
-      → c.from < low + sought.pages
+  pub next_lowest : c.from < c.end
+      → ((n : ℕ) → n % sought.unit ≡ 0 → max block.pages.first sought.floor ≤ n → c.from < n + sought.pages)
       → c.end % sought.unit ≡ 0 → c.end + sought.pages ≤ block.pages.last
       → IsLowestFrom sought.floor (with_pieces row a.pieces) sought.pages sought.unit c.end
-  next_lowest row_some low up less m left = record {
+  next_lowest row_some less m left = record {
     fit = fits c.end m (omega arith) (omega (arith, left));
     above = λ h other f g. elim (order c.end other) [
       | inl k ↦ k
       | inr k ↦
           let b = not_below other f g in
-          let u : low ≤ other = up.2 other f.aligned (omega (arith, b, g)) in
+          let u : c.from < other + sought.pages = less other f.aligned (omega (arith, b, g)) in
           elim (order c.from other) [
             | inl l ↦ absurd (not_in other other f (omega arith) (omega (arith, some)) l k)
-            | inr l ↦ absurd (not_in other c.from f (omega (arith, l)) (omega (arith, less, u)) (omega arith) row_some)
+            | inr l ↦ absurd (not_in other c.from f (omega (arith, l)) u (omega arith) row_some)
           ]
     ];
     below = λ h other f. absurd (omega (arith, h, c.low, more.floor, follow_le c.from row c.end c.follow));

@@ -91,6 +91,13 @@ pub record IsRising (look : Look) (way : List Step) (pages steps depth : ℕ) : 
       → Rising look way pages path depth
   pub few : depth ≤ steps
 
+-- of the whole way all is left
+pub rising-all : (look : Look) (way : List Step) (pages steps : ℕ) → IsRising look way pages steps steps
+rising-all look way pages steps = record {
+  rises = λ path t s a f. record { up = path; there = t; steps = s; above = a; fine = f; short = λ h. h };
+  few = omega arith;
+}
+
 none_left : (way : List Step) (pages depth : ℕ) (up : Above) → AreSteps way depth up → depth ≡ 0 → AreShortBefore pages up
 none_left way pages depth Whole s e = tt
 none_left way pages depth (Before key p r up) s e = absurd (omega (arith, s.1))

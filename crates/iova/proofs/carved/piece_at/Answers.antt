@@ -1,32 +1,33 @@
-use Rattle.std.proofs.Common.{rules, ◌∙◌, sym, ap, arith, nat_lt}
-use Rattle.std.proofs.lemmas.List.Sorted.{IsPartitionPoint-from_clause}
-use Rattle.iova.specs.declared.piece.PageState.TheVariants.{Free}
-use Rattle.iova.proofs.carvings.PieceAt.{at_point, none_at_point, ends_parted, follow_ordered}
+use Rattle.std.proofs.Common.{◌∙◌, ◌-◌, ◌≡◌, List, [], ◌∷◌, None, Some, get_or, length, slice_get, refl, ap, sym, arith}
+use Rattle.std.proofs.lemmas.Option.{slice_get-get_or}
+use Rattle.std.specs.Option.{option_copied}
+use Rattle.iova.specs.declared.piece.Piece.{Piece}
+use Rattle.iova.specs.Search.{piece_at}
+use Rattle.iova.proofs.carvings.PieceAt.{at_last, none_past_last, follow_ordered}
+use Rattle.iova.proofs.searches.Found.{at-nil}
 use Rattle.iova.proofs.carved.piece_at.Goals as goal
 
-pub returns-in_err-piece : goal.returns-in_err-piece
-returns-in_err-piece c =
-    let o = follow_ordered c.requires.0 c.args.pieces.now c.requires.1 c.requires.2 in
-    let parted = IsPartitionPoint-from_clause (λ p. nat_lt p.last c.args.page) c.args.pieces.now c.partition_point-at.result
-    c.partition_point-at.ensures.partitioned (ends_parted c.requires.0 c.args.pieces.now c.args.page o) (λ a r f' k. search rules) in
-    c.from_residual.ensures
-    ∙ sym (none_at_point c.requires.0 c.args.pieces.now c.args.page c.partition_point-at.result
-    (record { first = 0; last = 0; state = Free }) o parted (λ l. let n = c.in_err-piece.ensures.lookup in omega (arith, n, l)))
+-- pieces without a last one are none
+no_last : (ps : List Piece) → slice_get ps (length ps - 1) ≡ None → ps ≡ []
+no_last [] e = refl
+no_last (p ∷ ps) e =
+    let n = length (p ∷ ps) - 1 in
+    let is : Some (get_or (p ∷ ps) n p) ≡ None = sym (slice_get-get_or (p ∷ ps) n p (omega arith)) ∙ e in absurd (cc)
 
-pub returns-then-piece-page : goal.returns-then-piece-page
-returns-then-piece-page c =
-    let o = follow_ordered c.requires.0 c.args.pieces.now c.requires.1 c.requires.2 in
-    let parted = IsPartitionPoint-from_clause (λ p. nat_lt p.last c.args.page) c.args.pieces.now c.partition_point-at.result
-    c.partition_point-at.ensures.partitioned (ends_parted c.requires.0 c.args.pieces.now c.args.page o) (λ a r f' k. search rules) in
-    let item = c.in_ok-piece.ensures.lookup in
-    sym (at_point c.args.pieces.now c.args.page c.partition_point-at.result c.in_ok-piece.piece.now parted item.3.0 item.1
-    c.if-piece-page.true)
+pub returns-in_err-last : goal.returns-in_err-last
+returns-in_err-last c =
+    let none = no_last c.args.pieces.now (sym c.last.ensures.value ∙ ap (λ o. option_copied o) c.in_err-last.was) in
+    c.from_residual.ensures ∙ sym (ap (λ l. piece_at l c.args.page) none ∙ at-nil c.args.page)
 
-pub returns : goal.returns
-returns c =
+pub returns-then-last-page : goal.returns-then-last-page
+returns-then-last-page c =
     let o = follow_ordered c.requires.0 c.args.pieces.now c.requires.1 c.requires.2 in
-    let parted = IsPartitionPoint-from_clause (λ p. nat_lt p.last c.args.page) c.args.pieces.now c.partition_point-at.result
-    c.partition_point-at.ensures.partitioned (ends_parted c.requires.0 c.args.pieces.now c.args.page o) (λ a r f' k. search rules) in
-    let item = c.in_ok-piece.ensures.lookup in
-    sym (none_at_point c.requires.0 c.args.pieces.now c.args.page c.partition_point-at.result c.in_ok-piece.piece.now o parted
-    (λ l. let f = ap (λ p. p.first) item.1 in omega (arith, f, c.if-piece-page.false)))
+    sym (none_past_last c.requires.0 c.args.pieces.now c.args.page (length c.args.pieces.now - 1) c.in_ok-last.last.now o
+    (omega (arith, c.in_ok-last.ensures.item)) (sym c.in_ok-last.ensures.value) c.if-last-page.true)
+
+pub returns-then-last-page-2 : goal.returns-then-last-page-2
+returns-then-last-page-2 c =
+    let o = follow_ordered c.requires.0 c.args.pieces.now c.requires.1 c.requires.2 in
+    sym (at_last c.requires.0 c.args.pieces.now c.args.page (length c.args.pieces.now - 1) c.in_ok-last.last.now o
+    (omega (arith, c.in_ok-last.ensures.item)) (sym c.in_ok-last.ensures.value) c.if-last-page-2.true
+    (omega (arith, c.if-last-page.false)))

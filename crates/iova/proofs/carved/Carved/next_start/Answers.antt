@@ -7,27 +7,19 @@ use Rattle.iova.proofs.carvings.Sought.{digits_zero, first_lowest, is_more, next
 use Rattle.iova.proofs.carved.Carved.next_start.Goals as goal
 use Rattle.iova.proofs.carved.Carved.next_start.Goals.{in-None, in-Some-2}
 
-pub round_up-low-requires-clause-page : goal.round_up-low-requires-clause-page
-round_up-low-requires-clause-page c =
+pub round_up-start-requires-clause-page : goal.round_up-start-requires-clause-page
+round_up-start-requires-clause-page c =
     let a = c.requires.carved.0 in
     let k = carved_in a.pieces c.args.self.now.row c.args.self.now.block c.in_ok-block.block c.in_ok-block.was c.requires.carved.2 in
     let n = block_narrow a c.args.self.now.row c.in_ok-block.block c.requires.carved.1 k in
-    omega (arith, n, c.if-sought-block.false, c.max.ensures)
+    omega (arith, n, c.if-sought-block.false, c.max-low.ensures)
 
-pub overflow_add-low : goal.overflow_add-low
-overflow_add-low c =
+pub has_room-requires-clause-low : goal.has_room-requires-clause-low
+has_room-requires-clause-low c =
     let a = c.requires.carved.0 in
     let k = carved_in a.pieces c.args.self.now.row c.args.self.now.block c.in_ok-block.block c.in_ok-block.was c.requires.carved.2 in
     let n = block_narrow a c.args.self.now.row c.in_ok-block.block c.requires.carved.1 k in
-    omega (
-      arith,
-      n,
-      c.if-sought-block.false,
-      c.max.ensures,
-      c.round_up-low.ensures.near,
-      unit_small c.args.sought c.requires.sought,
-      c.requires.sought.few,
-    )
+    omega (arith, n, c.if-sought-block.false, c.max-low.ensures)
 
 pub overflow_add-start : goal.overflow_add-start
 overflow_add-start c =
@@ -51,8 +43,8 @@ overflow_add-start-then-start-sought-eq0 c =
             w.start-is,
             n,
             c.if-sought-block.false,
-            c.max.ensures,
-            c.round_up-low.ensures.near,
+            c.max-low.ensures,
+            w.round_up-start.ensures.near,
             unit_small c.args.sought c.requires.sought,
             c.requires.sought.few,
           )
@@ -68,13 +60,13 @@ returns-then-start-sought-clause-lowest c a sp k =
     let d = carved_in a.pieces c.args.self.now.row c.args.self.now.block c.in_ok-block.block c.in_ok-block.was k in
     let more = is_more c.args.sought c.in_ok-block.block.sought c.requires.sought d.sought (omega (arith, c.if-sought-block.false))
     (omega (arith, c.if-sought-block-2.false)) (omega (arith, c.if-sought-block-3.false)) in
-    let up : IsRoundUp (max c.in_ok-block.block.pages.first c.args.sought.floor) c.args.sought.unit c.round_up-low.result =
-    subst (λ n. IsRoundUp n c.args.sought.unit c.round_up-low.result) c.max.ensures c.round_up-low.ensures.up in
     elim c.match-ends.branch [
       | in-None w ↦
+          let up : IsRoundUp (max c.in_ok-block.block.pages.first c.args.sought.floor) c.args.sought.unit w.round_up-start.result =
+          subst (λ n. IsRoundUp n c.args.sought.unit w.round_up-start.result) c.max-low.ensures w.round_up-start.ensures.up in
           subst (IsLowestFrom c.args.sought.floor (with_pieces c.args.self.now.row a.pieces) c.args.sought.pages c.args.sought.unit)
           (sym w.start-is)
-          (first_lowest a c.args.self.now.row c.in_ok-block.block sp d c.args.sought more c.requires.sought.some c.round_up-low.result
+          (first_lowest a c.args.self.now.row c.in_ok-block.block sp d c.args.sought more c.requires.sought.some w.round_up-start.result
           w.in-None.ensures.none up (omega (arith, w.start-is, c.if-start-sought.true)))
       | in-Some-2 w ↦
           let f = w.in-Some.ensures.first in
@@ -85,7 +77,8 @@ returns-then-start-sought-clause-lowest c a sp k =
           subst (IsLowestFrom c.args.sought.floor (with_pieces c.args.self.now.row a.pieces) c.args.sought.pages c.args.sought.unit)
           (sym at)
           (next_lowest a c.args.self.now.row c.in_ok-block.block sp d c.args.sought more c.requires.sought.some
-          (some_carved d.from c.args.self.now.row d.end f.0 f.1 f.2 d.follow) c.round_up-low.result up
-          (omega (arith, s.0, w.if-low-sought.false)) (subst (λ n. n % c.args.sought.unit ≡ 0) at z)
+          (some_carved d.from c.args.self.now.row d.end f.0 f.1 f.2 d.follow)
+          (λ n e h. let r = w.has_room.ensures.none w.if-has_room.false n e (omega (arith, h, c.max-low.ensures)) in omega (arith, s.0, r))
+          (subst (λ n. n % c.args.sought.unit ≡ 0) at z)
           (omega (arith, at, c.if-start-sought.true)))
     ]

@@ -8,8 +8,8 @@ use Rattle.iova.proofs.carvings.Carved.{block_narrow, carved_in}
 use Rattle.iova.proofs.carvings.State.{view_space}
 use Rattle.iova.proofs.carvings.Taken.{carves}
 use Rattle.iova.proofs.space.Space.take_behind.Goals as goal
-use Rattle.iova.proofs.space.Space.take_behind.Goals.{then-piece_count-gt-MOST_PIECES_TO_CUT-via-then-piece_count-gt-MOST_PIECES_TO_CUT}
-use Rattle.iova.proofs.space.Space.take_behind.Goals.{then-piece_count-gt-MOST_PIECES_TO_CUT-via-else-piece_count-gt-MOST_PIECES_TO_CUT+then-not-carve}
+use Rattle.iova.proofs.space.Space.take_behind.Goals.{then-not-has_few_pieces-via-then-not-has_few_pieces}
+use Rattle.iova.proofs.space.Space.take_behind.Goals.{then-not-has_few_pieces-via-else-not-has_few_pieces+then-not-carve}
 
 pub returns-in_err-start-clause-space : goal.returns-in_err-start-clause-space
 returns-in_err-start-clause-space c =
@@ -30,19 +30,19 @@ invariant_of-self-else-not-carve c =
     let k = c.self.inside.carved in
     let e = carves c.self.inside.tree c.args.self.now k.row c.carve.new.self.row k.block c.in_ok-start.start c.args.sought.pages
     c.self.invariant.0 c.self.invariant.1 c.self.view_is c.requires.sought.some c.requires.sought.few c.in_ok-start.ensures.place
-    (omega (arith, c.piece_count.ensures.count, c.if-piece_count-gt-MOST_PIECES_TO_CUT.false))
+    (c.has_few_pieces.ensures.0 c.if-not-has_few_pieces.false)
     (c.carve.ensures.carved c.if-not-carve.false) in (
       c.self.invariant.0,
       subst (λ b. IsCarved c.self.inside.tree.pieces c.carve.new.self.row b) (sym c.carve.ensures.block) e.carved,
     )
 
-pub returns-then-piece_count-gt-MOST_PIECES_TO_CUT-clause-space : goal.returns-then-piece_count-gt-MOST_PIECES_TO_CUT-clause-space
-returns-then-piece_count-gt-MOST_PIECES_TO_CUT-clause-space c =
+pub returns-then-not-has_few_pieces-clause-space : goal.returns-then-not-has_few_pieces-clause-space
+returns-then-not-has_few_pieces-clause-space c =
     let k = c.self.inside.carved in
     let v = subst (λ v. IsSpace v) c.self.view_is (view_space c.self.inside.tree k.row k.block c.self.invariant.0 c.self.invariant.1) in
-    elim c.then-piece_count-gt-MOST_PIECES_TO_CUT.branch [
-      | then-piece_count-gt-MOST_PIECES_TO_CUT-via-then-piece_count-gt-MOST_PIECES_TO_CUT w ↦ (v, subst (λ x. IsSpace x) (sym w.self-is) v)
-      | then-piece_count-gt-MOST_PIECES_TO_CUT-via-else-piece_count-gt-MOST_PIECES_TO_CUT+then-not-carve w ↦ (
+    elim c.then-not-has_few_pieces.branch [
+      | then-not-has_few_pieces-via-then-not-has_few_pieces w ↦ (v, subst (λ x. IsSpace x) (sym w.self-is) v)
+      | then-not-has_few_pieces-via-else-not-has_few_pieces+then-not-carve w ↦ (
         v,
         subst (λ x. IsSpace x) (sym w.self-is)
             (subst (λ l. IsSpace (with_carved l c.self.inside.tree)) (sym (w.carve.ensures.unchanged w.if-not-carve.true))
@@ -55,7 +55,7 @@ unwrap-requires c =
     let k = c.self.inside.carved in
     let e = carves c.self.inside.tree c.args.self.now k.row c.carve.new.self.row k.block c.in_ok-start.start c.args.sought.pages
     c.self.invariant.0 c.self.invariant.1 c.self.view_is c.requires.sought.some c.requires.sought.few c.in_ok-start.ensures.place
-    (omega (arith, c.piece_count.ensures.count, c.if-piece_count-gt-MOST_PIECES_TO_CUT.false))
+    (c.has_few_pieces.ensures.0 c.if-not-has_few_pieces.false)
     (c.carve.ensures.carved c.if-not-carve.false) in
     c.new.ensures.some.1 (e.range.members c.in_ok-start.start (omega arith, omega (arith, c.requires.sought.some)))
 
@@ -64,7 +64,7 @@ returns-clause-range c =
     let k = c.self.inside.carved in
     let e = carves c.self.inside.tree c.args.self.now k.row c.carve.new.self.row k.block c.in_ok-start.start c.args.sought.pages
     c.self.invariant.0 c.self.invariant.1 c.self.view_is c.requires.sought.some c.requires.sought.few c.in_ok-start.ensures.place
-    (omega (arith, c.piece_count.ensures.count, c.if-piece_count-gt-MOST_PIECES_TO_CUT.false))
+    (c.has_few_pieces.ensures.0 c.if-not-has_few_pieces.false)
     (c.carve.ensures.carved c.if-not-carve.false) in
     subst (λ n. IsPageRange (record { first = n; pages = c.args.sought.pages }))
     (sym (start_is c.new.result c.unwrap.result c.in_ok-start.start c.unwrap.ensures c.new.ensures.value)) e.range
@@ -74,7 +74,7 @@ returns-clause-taken c =
     let k = c.self.inside.carved in
     let e = carves c.self.inside.tree c.args.self.now k.row c.carve.new.self.row k.block c.in_ok-start.start c.args.sought.pages
     c.self.invariant.0 c.self.invariant.1 c.self.view_is c.requires.sought.some c.requires.sought.few c.in_ok-start.ensures.place
-    (omega (arith, c.piece_count.ensures.count, c.if-piece_count-gt-MOST_PIECES_TO_CUT.false))
+    (c.has_few_pieces.ensures.0 c.if-not-has_few_pieces.false)
     (c.carve.ensures.carved c.if-not-carve.false) in
     subst (λ n. Takes c.args.self.now (with_carved c.carve.new.self.row c.self.inside.tree)
     (record { first = n; pages = c.args.sought.pages }))
@@ -85,6 +85,6 @@ returns-clause-space c =
     let k = c.self.inside.carved in
     let e = carves c.self.inside.tree c.args.self.now k.row c.carve.new.self.row k.block c.in_ok-start.start c.args.sought.pages
     c.self.invariant.0 c.self.invariant.1 c.self.view_is c.requires.sought.some c.requires.sought.few c.in_ok-start.ensures.place
-    (omega (arith, c.piece_count.ensures.count, c.if-piece_count-gt-MOST_PIECES_TO_CUT.false))
+    (c.has_few_pieces.ensures.0 c.if-not-has_few_pieces.false)
     (c.carve.ensures.carved c.if-not-carve.false) in
     e.spaces

@@ -1,0 +1,1 @@
+use Rattle.iova.proofs.carved.Carved.give_back.Goals as goal

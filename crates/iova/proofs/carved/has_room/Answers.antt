@@ -1,0 +1,1 @@
+use Rattle.iova.proofs.carved.has_room.Goals as goal
