@@ -11,16 +11,16 @@ with_entry same most x xs =
     else (if nat_lt (length xs) most then xs ++ x ∷ [] else drop 1 xs ++ x ∷ [])
 
 -- one with one more at its end, which isn't looked for
-unfoldable pub with_last : {A : Type 0} → ℕ → A → List A → List A
-with_last most x xs = if nat_lt (length xs) most then xs ++ x ∷ [] else drop 1 xs ++ x ∷ []
+unfoldable pub with_newest : {A : Type 0} → ℕ → A → List A → List A
+with_newest most x xs = if nat_lt (length xs) most then xs ++ x ∷ [] else drop 1 xs ++ x ∷ []
 
 -- an entry of the list is the same
 unfoldable pub is_there : {A : Type 0} → (A → A → Bool) → A → List A → Bool
 is_there same x xs = list_any (λ y. same y x) xs
 
 -- no entry of the list is the same
-unfoldable pub IsNew : {A : Type 0} → (A → A → Bool) → A → List A → Type 0
-IsNew same x xs = list_any (λ y. same y x) xs ≡ false
+unfoldable pub IsNotAmong : {A : Type 0} → (A → A → Bool) → A → List A → Type 0
+IsNotAmong same x xs = list_any (λ y. same y x) xs ≡ false
 
 -- a test tells whether two are the same
 abbrev pub TellsSame : {A : Type 0} → (A → A → Bool) → Type 0

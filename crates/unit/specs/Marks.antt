@@ -7,8 +7,8 @@ use Rattle.unit.specs.Caches.{CachedLeaf}
 use Rattle.unit.specs.Walking.{hold}
 
 -- the place of a mark of a domain and a number: that of a page, or that of a span, in spans
-abbrev pub place_of : ℕ → ℕ → ℕ
-place_of domain number = (number + 293 * domain) % 2048
+abbrev pub mark_of : ℕ → ℕ → ℕ
+mark_of domain number = (number + 293 * domain) % 2048
 
 -- a place is marked, a bit for each in words of 64
 abbrev pub HasMark : List ℕ → ℕ → Type 0
@@ -16,7 +16,7 @@ HasMark marks place = bit_at (slice_index marks (place / 64)) (place % 64) ≡ 1
 
 -- a page of a domain may have leaves: its place is marked, or that of its span
 abbrev pub MayHold : List ℕ → ℕ → ℕ → Type 0
-MayHold marks domain page = HasMark marks (place_of domain page) ⊎ HasMark marks (place_of domain (page / SPAN_PAGES))
+MayHold marks domain page = HasMark marks (mark_of domain page) ⊎ HasMark marks (mark_of domain (page / SPAN_PAGES))
 
 -- each page of a leaf may have leaves
 pub record IsMarked (marks : List ℕ) (l : CachedLeaf) : Type 0 where

@@ -7,7 +7,7 @@ ghost use Rattle.dmatypes.specs.declared.width.TheConstants.{PAGES_END};
 ghost use Rattle.unit.specs.Caches.{CachedLeaf};
 ghost use Rattle.unit.specs.Filters.{drops_leaf};
 ghost use Rattle.unit.specs.Lists.{Gains, TellsSame, with_entry};
-ghost use Rattle.unit.specs.Marks.{AreMarked, HasMark, IsMarked, place_of};
+ghost use Rattle.unit.specs.Marks.{AreMarked, HasMark, IsMarked, mark_of};
 ghost use Rattle.unit.specs.Walking.{hold};
 
 use crate::entries::CachedLeaf;
@@ -28,7 +28,7 @@ type Marks = [u64; MARKS / 64];
 /// Leaves, oldest first. The places of their pages are marked, so a page whose place isn't marked has none. A mark stays when
 /// its leaf goes; after as many new leaves as there are places for leaves the marks are made anew.
 #[derive(Drop)]
-pub(crate) struct Leaves {
+pub(crate) struct MarkedLeaves {
     list: Recent,
     marks: Marks,
     // How many leaves were marked since the marks were made anew.
@@ -36,7 +36,7 @@ pub(crate) struct Leaves {
 }
 
 // Clauses see the list.
-impl Model for Leaves {
+impl Model for MarkedLeaves {
     ghost use Rattle.std.specs.Prelude.{List};
     ghost use Rattle.dmatypes.specs.World.{IsIn};
     ghost use Rattle.unit.specs.Caches.{CachedLeaf};
@@ -49,12 +49,12 @@ impl Model for Leaves {
     ghost invariant = { λ s. AreMarked s.marks s.list };
 }
 
-impl Leaves {
+impl MarkedLeaves {
     /// None.
-    pub(crate) fn new() -> Leaves
+    pub(crate) fn new() -> MarkedLeaves
         ensures { result ≡ [] }
     {
-        Leaves {
+        MarkedLeaves {
             list: Recent::new(),
             marks: [0; MARKS / 64],
             added: 0,
@@ -129,27 +129,28 @@ impl Leaves {
         self.list.evict(place);
     }
 
-    // Whether a page of a domain may have leaves.
+    // Whether a page of a domain may have leaves. Where the list is short that isn't asked of the marks.
     fn may_hold(&self, domain: DomainId, page: u64) -> bool
         requires { page < PAGES_END }
         ensures { result ≡ false → (l : CachedLeaf) → IsIn l self.now
             → ((l.domain == domain) && hold l.first l.pages page) ≡ false }
     {
-        is_marked(&self.marks, place_of(domain, page))
-            || is_marked(&self.marks, place_of(domain, page / SPAN_PAGES))
+        self.list.is_short()
+            || is_marked(&self.marks, mark_of(domain, page))
+            || is_marked(&self.marks, mark_of(domain, page / SPAN_PAGES))
     }
 }
 
-impl fmt::Debug for Leaves {
+impl fmt::Debug for MarkedLeaves {
     fn fmt<W: fmt::Write>(&self, f: &mut fmt::Formatter<W>) -> fmt::Result {
         fmt::Debug::fmt(&self.list, f)
     }
 }
 
 // The place of a mark of a domain, and of a page or of a span.
-fn place_of(domain: DomainId, number: u64) -> usize
+fn mark_of(domain: DomainId, number: u64) -> usize
     requires { number < PAGES_END }
-    ensures value { result ≡ place_of domain number }
+    ensures value { result ≡ mark_of domain number }
     ensures less { result < MARKS }
 {
     ((number + 293 * domain.number()) % MARKS as u64) as usize
@@ -180,11 +181,11 @@ fn mark(marks: &mut Marks, leaf: &CachedLeaf)
     ensures marked { IsMarked marks.new leaf.now }
 {
     if leaf.pages == 1 {
-        mark_place(marks, place_of(leaf.domain, leaf.first));
+        mark_place(marks, mark_of(leaf.domain, leaf.first));
     } else {
-        mark_place(marks, place_of(leaf.domain, leaf.first / SPAN_PAGES));
+        mark_place(marks, mark_of(leaf.domain, leaf.first / SPAN_PAGES));
         let last = leaf.first + (leaf.pages - 1);
-        mark_place(marks, place_of(leaf.domain, last / SPAN_PAGES));
+        mark_place(marks, mark_of(leaf.domain, last / SPAN_PAGES));
     }
 }
 

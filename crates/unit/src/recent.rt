@@ -1,8 +1,8 @@
 //! A list of the last leaves that loses its first one without moving the others.
 
-ghost use Rattle.std.specs.Prelude.{◌≡◌, ◌<◌, ◌≤◌, [], ◌∷◌, ◌++◌, drop, filter, length, not, remove};
+ghost use Rattle.std.specs.Prelude.{◌≡◌, ◌<◌, ◌≤◌, [], ◌∷◌, ◌++◌, drop, filter, length, not, remove, take};
 ghost use Rattle.unit.specs.Filters.{drops_leaf};
-ghost use Rattle.unit.specs.Lists.{with_last};
+ghost use Rattle.unit.specs.Lists.{with_newest};
 
 use crate::entries::CachedLeaf;
 use crate::filters::Cached;
@@ -14,6 +14,9 @@ use vtdbits::Descriptor;
 
 /// The places for leaves.
 pub(crate) const LEAVES: usize = MOST_CACHED_LEAVES;
+
+// A list of so few leaves is passed over in about the time in which two marks are tested (own).
+const FEW: usize = 4;
 
 // Half as many more, so that new leaves move the others to the front only once for so many of them. A unit is moved where it is made, so
 // more room is more of the stack.
@@ -59,9 +62,15 @@ impl Recent {
         &self.list.as_slice()[self.start..]
     }
 
+    /// Whether it is so short that it is passed over as soon as a mark is tested.
+    #[inline]
+    pub(crate) fn is_short(&self) -> bool {
+        self.list.len() <= FEW
+    }
+
     /// Adds a leaf behind the others; a full list loses its first one.
     pub(crate) fn push(&mut self, leaf: CachedLeaf)
-        ensures { self.new ≡ with_last LEAVES leaf self.old }
+        ensures { self.new ≡ with_newest LEAVES leaf self.old }
     {
         if self.as_slice().len() == LEAVES {
             self.lose_first();
@@ -97,9 +106,8 @@ impl Recent {
         if !self.as_slice().iter().any(|leaf| leaf.goes(*descriptor)) {
             return;
         }
-        move_to_front(&mut self.list, self.start);
-        self.start = 0;
-        self.list.retain(|leaf| !leaf.goes(*descriptor));
+        let kept = keep(&mut self.list.as_mut_slice()[self.start..], descriptor);
+        self.list.truncate(self.start + kept);
     }
 
     /// Forgets the leaf at a place, counted from 0 and from the oldest, if there is one.
@@ -119,12 +127,29 @@ impl fmt::Debug for Recent {
     }
 }
 
-// Leaves those of a list from a place on alone, at its front.
+// Leaves those of a list from a place on alone, at its front. They are moved where they are, through no buffer, which would be more of the
+// stack of each request.
 fn move_to_front(list: &mut ArrayVec<CachedLeaf, ROOM>, start: usize)
     requires { start ≤ length list.old.items }
     ensures { list.new.items ≡ drop start list.old.items }
 {
-    let kept = list.len() - start;
-    list.as_mut_slice().rotate_left(start);
-    list.truncate(kept);
+    let len = list.len();
+    list.as_mut_slice().copy_within(start..len, 0);
+    list.truncate(len - start);
+}
+
+// Moves the leaves that a descriptor doesn't drop to the front, in their order, and counts them.
+fn keep(leaves: &mut [CachedLeaf], descriptor: &Descriptor) -> usize
+    ensures kept { take result leaves.new ≡ filter (λ l. not (drops_leaf descriptor.now l)) leaves.old }
+    ensures few { result ≤ length leaves.old }
+{
+    let mut kept = 0;
+    for place in 0..leaves.len() {
+        let leaf = leaves[place];
+        if !leaf.goes(*descriptor) {
+            leaves[kept] = leaf;
+            kept += 1;
+        }
+    }
+    kept
 }

@@ -10,7 +10,7 @@ ghost use Rattle.unit.specs.Answers.{HasNoContext, IsContextOf, IsLowest, IsRead
 
 use crate::contexts::Contexts;
 use crate::entries::{CachedContext, CachedFault, CachedNonLeaf};
-use crate::leaves::Leaves;
+use crate::leaves::MarkedLeaves;
 use crate::lists::remember;
 use crate::lookups::{first_context, is_absent, lowest_table};
 use crate::recent::LEAVES;
@@ -98,7 +98,7 @@ pub(crate) struct Lookup {
 /// fill, and in Caching Mode that it found the page absent.
 pub(crate) fn translation_of(
     pool: &Pool,
-    leaves: &mut Leaves,
+    leaves: &mut MarkedLeaves,
     tables: &mut ArrayVec<CachedNonLeaf, NON_LEAVES>,
     faults: &mut ArrayVec<CachedFault, FAULTS>,
     lookup: Lookup,

@@ -10,7 +10,7 @@ use crate::contexts::Contexts;
 use crate::entries::{CachedContext, CachedFault, CachedNonLeaf};
 use crate::filters::forget;
 use crate::hit::Hit;
-use crate::leaves::Leaves;
+use crate::leaves::MarkedLeaves;
 use crate::requests::{CONTEXTS, FAULTS, Lookup, context_of, translation_of};
 use crate::telling::tell;
 use crate::walking::NON_LEAVES;
@@ -30,7 +30,7 @@ mod tests;
 /// absent, how many descriptors it did, and in how many steps none waited.
 #[derive(Debug, Drop)]
 pub struct Unit {
-    leaves: Leaves,
+    leaves: MarkedLeaves,
     non_leaves: ArrayVec<CachedNonLeaf, NON_LEAVES>,
     contexts: ArrayVec<CachedContext, CONTEXTS>,
     faults: ArrayVec<CachedFault, FAULTS>,
@@ -70,7 +70,7 @@ impl Unit {
         ensures { result ≡ unit_state nothing 0 0 on }
     {
         Unit {
-            leaves: Leaves::new(),
+            leaves: MarkedLeaves::new(),
             non_leaves: ArrayVec::new(),
             contexts: ArrayVec::new(),
             faults: ArrayVec::new(),

@@ -13,7 +13,7 @@ use Rattle.std.proofs.lemmas.Bool.Decides.{nat_tests}
 use Rattle.dmatypes.specs.World.{IsIn}
 use Rattle.dmatypes.specs.declared.page.TheConstants.{SPAN_PAGES}
 use Rattle.unit.specs.Caches.{CachedLeaf, IsLeaf}
-use Rattle.unit.specs.Marks.{AreMarked, HasMark, IsMarked, MayHold, place_of}
+use Rattle.unit.specs.Marks.{AreMarked, HasMark, IsMarked, MayHold, mark_of}
 use Rattle.unit.specs.Walking.{hold}
 use Rattle.unit.proofs.caches.Found.{both}
 use Rattle.unit.proofs.caches.Known.{both_true}
@@ -28,8 +28,8 @@ pub more_marks : (old new : List ℕ) (l : CachedLeaf) → ((i : ℕ) → HasMar
 more_marks old new l more marked = record { some = marked.some; marked = λ p holds. by_place p (marked.marked p holds) }
   where
     by_place : (p : ℕ) → MayHold old l.domain p → MayHold new l.domain p
-    by_place p (inl page) = inl (more (place_of l.domain p) page)
-    by_place p (inr span) = inr (more (place_of l.domain (p / SPAN_PAGES)) span)
+    by_place p (inl page) = inl (more (mark_of l.domain p) page)
+    by_place p (inr span) = inr (more (mark_of l.domain (p / SPAN_PAGES)) span)
 
 -- where neither place is marked no leaf stands for the page
 pub none_holds : (marks : List ℕ) (xs : List CachedLeaf) (domain page : ℕ) → AreMarked marks xs → (MayHold marks domain page → ⊥)
@@ -75,7 +75,7 @@ more_marked old new x xs ys marked more here gained l there = by_place (gained l
     by_place (inl before) = more_marks old new l more (marked l before)
     by_place (inr is) = subst (IsMarked new) (sym is) here
 
-pub neither : (marks : List ℕ) (domain page a b : ℕ) → a ≡ place_of domain page → b ≡ place_of domain (page / SPAN_PAGES)
+pub neither : (marks : List ℕ) (domain page a b : ℕ) → a ≡ mark_of domain page → b ≡ mark_of domain (page / SPAN_PAGES)
     → (HasMark marks a → ⊥) → (HasMark marks b → ⊥) → MayHold marks domain page → ⊥
 neither marks domain page a b at_page at_span no_page no_span (inl mark) = no_page (subst (HasMark marks) (sym at_page) mark)
 neither marks domain page a b at_page at_span no_page no_span (inr mark) = no_span (subst (HasMark marks) (sym at_span) mark)
@@ -134,8 +134,8 @@ of_a_span l leaf more = elim leaf.pages [ inl one ↦ absurd (more one) | inr sp
 
 -- a leaf of no more pages than a span has lies in the spans where it begins and ends
 pub spans_marked : (marks : List ℕ) (l : CachedLeaf) → 0 < l.pages → l.pages ≤ SPAN_PAGES
-    → HasMark marks (place_of l.domain (l.first / SPAN_PAGES))
-    → HasMark marks (place_of l.domain ((l.first + (l.pages - 1)) / SPAN_PAGES)) → IsMarked marks l
+    → HasMark marks (mark_of l.domain (l.first / SPAN_PAGES))
+    → HasMark marks (mark_of l.domain ((l.first + (l.pages - 1)) / SPAN_PAGES)) → IsMarked marks l
 spans_marked marks l some few at_first at_last = record { some = some; marked = λ p holds. by_span p (within p holds) }
   where
     within : (p : ℕ) → IsTrue (hold l.first l.pages p) → (l.first ≤ p) × (p < l.first + l.pages)
@@ -143,7 +143,7 @@ spans_marked marks l some few at_first at_last = record { some = some; marked = 
 
     by_span : (p : ℕ) → (l.first ≤ p) × (p < l.first + l.pages) → MayHold marks l.domain p
     by_span p in_it = elim (cases_eq (p / SPAN_PAGES) (l.first / SPAN_PAGES)) [
-      | inl same ↦ inr (subst (λ n. HasMark marks (place_of l.domain n)) (sym same) at_first)
+      | inl same ↦ inr (subst (λ n. HasMark marks (mark_of l.domain n)) (sym same) at_first)
       | inr other ↦
-          inr (subst (λ n. HasMark marks (place_of l.domain n)) (omega (arith, other, in_it.0, in_it.1, few)) at_last)
+          inr (subst (λ n. HasMark marks (mark_of l.domain n)) (omega (arith, other, in_it.0, in_it.1, few)) at_last)
     ]

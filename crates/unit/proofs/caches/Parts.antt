@@ -1,5 +1,8 @@
 -- The part of a list from a place on.
-use Rattle.std.proofs.Common.{◌≡◌, ℕ, zero, suc, ◌+◌, List, [], ◌∷◌, drop, remove, refl, ap, ◌∙◌, arith}
+use Rattle.std.proofs.Common.{◌≡◌, ℕ, zero, suc, ◌+◌, ◌≤◌, List, [], ◌∷◌, ◌++◌, append_assoc, drop, take, length, length-take-le, remove, refl, ap, ◌∙◌}
+use Rattle.std.proofs.Common.{arith}
+use Rattle.std.proofs.lemmas.List.{drop-take, take-append-le}
+use lib.Seq.{drop_at, take-take}
 
 remove_nil : {A : Type 0} (xs : List A) (k : ℕ) → xs ≡ [] → [] ≡ remove xs k
 remove_nil [] zero e = refl
@@ -16,3 +19,12 @@ drop_remove {A} (suc n) place [] =
 drop_remove (suc n) place (x ∷ xs) =
     let at : suc n + place ≡ suc (n + place) = omega arith in
     ap (λ (k : ℕ). drop (suc n) (remove (x ∷ xs) k)) at ∙ drop_remove n place xs
+
+-- what a part of a list that is written over ends with, where what lies behind is cut off
+pub written_part : {A : Type 0} (n start kept : ℕ) (xs ys zs rest : List A) → start ≤ length xs → kept ≤ length ys → start + kept ≤ n
+    → drop start (take (start + kept) (take n ((take start xs ++ (ys ++ zs)) ++ rest))) ≡ take kept ys
+written_part n start kept xs ys zs rest within few inside =
+    ap (drop start) (take-take (start + kept) n _ inside) ∙ drop-take start kept _
+    ∙ ap (take kept) (ap (drop start) (append_assoc (take start xs) (ys ++ zs) rest) ∙ drop_at (take start xs) _ start (length-take-le start xs within)
+    ∙ append_assoc ys zs rest)
+    ∙ take-append-le kept ys _ few

@@ -80,7 +80,7 @@ pub(super) fn unit_of(
     contexts: ArrayVec<CachedContext, CONTEXTS>,
     faults: ArrayVec<CachedFault, FAULTS>,
 ) -> Unit {
-    let mut marked = Leaves::new();
+    let mut marked = MarkedLeaves::new();
     for leaf in &leaves {
         marked.remember(*leaf, true, false);
     }

@@ -9,6 +9,6 @@ returns-else-leaf-eq1-clause-marked c =
     let span = of_a_span _ c.leaf.invariant c.if-leaf-eq1.false in
     subst (IsMarked new) c.leaf.view_is
     (spans_marked new _ (omega (arith, span)) (omega (arith, span))
-    (subst (HasMark new) c.place_of-else-leaf-eq1.ensures.value
-    (c.mark_place-else-leaf-eq1-2.ensures.kept c.place_of-else-leaf-eq1.result c.mark_place-else-leaf-eq1.ensures.marked))
-    (subst (HasMark new) c.place_of-else-leaf-eq1-2.ensures.value c.mark_place-else-leaf-eq1-2.ensures.marked))
+    (subst (HasMark new) c.mark_of-else-leaf-eq1.ensures.value
+    (c.mark_place-else-leaf-eq1-2.ensures.kept c.mark_of-else-leaf-eq1.result c.mark_place-else-leaf-eq1.ensures.marked))
+    (subst (HasMark new) c.mark_of-else-leaf-eq1-2.ensures.value c.mark_place-else-leaf-eq1-2.ensures.marked))

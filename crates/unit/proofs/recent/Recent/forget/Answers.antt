@@ -1,11 +1,11 @@
-use Rattle.std.proofs.Common.{◌≡◌, rules, tests, ◌∙◌, ap, sym, Bool, filter, not}
+use Rattle.std.proofs.Common.{◌≡◌, ◌-◌, ◌≤◌, rules, tests, arith, ◌∙◌, ap, sym, Bool, drop, filter, length, length-drop, not, take, take_all}
 use Rattle.std.proofs.lemmas.Iterator.{YieldsList-from_slice}
 use Rattle.std.proofs.lemmas.Iterator.Search.{any_from_yields_List}
 use Rattle.std.specs.List.{list_any}
-use Rattle.arrayvec.proofs.ArrayVecLemmas.{filter-from_retain}
 use Rattle.unit.specs.Caches.{CachedLeaf}
 use Rattle.unit.specs.Filters.{drops_leaf}
 use Rattle.unit.proofs.caches.Kept.{kept_whole}
+use Rattle.unit.proofs.caches.Parts.{written_part}
 use Rattle.unit.proofs.recent.Recent.forget.Goals as goal
 
 pub returns-then-not-any-clause-items : goal.returns-then-not-any-clause-items
@@ -18,7 +18,14 @@ returns-then-not-any-clause-items c =
 
 pub returns-clause-items : goal.returns-clause-items
 returns-clause-items c =
+    let start = c.self.inside.start in
+    let xs = c.as_mut_slice.result.now in
     let p : CachedLeaf → Bool = λ (l : CachedLeaf). not (drops_leaf c.args.descriptor.now l) in
-    let filtered : c.retain.new.self.items ≡ filter p c.move_to_front.new.list.items =
-    filter-from_retain _ p _ (λ x b f' y called. search rules) _ _ c.retain.ensures.filtered in
-    filtered ∙ ap (filter p) (c.move_to_front.ensures ∙ c.self.view_is)
+    let whole : length xs ≡ length c.self.inside.list.items = ap length c.as_mut_slice.ensures.value in
+    let behind : length (drop start xs) ≡ length xs - start = length-drop start xs in
+    let part : take (length xs - start) (drop start xs) ≡ drop start xs = take_all _ _ (omega (arith, behind)) in
+    let few : c.keep-kept.result ≤ length xs - start = omega (arith, c.keep-kept.ensures.few, behind, ap length part) in
+    ap (drop start) c.truncate.ensures.items
+    ∙ written_part (length c.self.inside.list.items) start c.keep-kept.result xs c.keep-kept.new.leaves _ _ (omega (arith, whole, c.self.invariant))
+    (omega (arith, few)) (omega (arith, few, whole, c.self.invariant))
+    ∙ c.keep-kept.ensures.kept ∙ ap (filter p) (part ∙ ap (drop start) c.as_mut_slice.ensures.value ∙ c.self.view_is)

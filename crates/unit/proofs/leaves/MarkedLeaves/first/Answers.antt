@@ -2,7 +2,7 @@ use Rattle.std.proofs.Common.{◌==◌, ◌&&◌, sym}
 use Rattle.unit.specs.Caches.{CachedLeaf}
 use Rattle.unit.specs.Walking.{hold}
 use Rattle.unit.proofs.caches.Marks.{found_none}
-use Rattle.unit.proofs.leaves.Leaves.first.Goals as goal
+use Rattle.unit.proofs.leaves.MarkedLeaves.first.Goals as goal
 
 pub returns-then-not-may_hold : goal.returns-then-not-may_hold
 returns-then-not-may_hold c =

@@ -7,7 +7,7 @@ use Rattle.unit.specs.Walking.{hold}
 use Rattle.unit.proofs.caches.Marks.{fewer_marked, kept_in, outside_page}
 use Rattle.dmatypes.proofs.lists.Filtered.{in_filter}
 use Rattle.vtdbits.specs.declared.descriptor.Descriptor.{Descriptor}
-use Rattle.unit.proofs.leaves.Leaves.forget.Goals as goal
+use Rattle.unit.proofs.leaves.MarkedLeaves.forget.Goals as goal
 
 pub returns-then-not-may_hold-clause-items : goal.returns-then-not-may_hold-clause-items
 returns-then-not-may_hold-clause-items c =

@@ -1,15 +1,15 @@
 use Rattle.std.proofs.Common.{rules, ◌≡◌, true, false, sym, ap, subst, ◌∙◌, arith, Bool, if◌then◌else◌, List, length, ◌≤◌, inl}
 use Rattle.std.proofs.lemmas.Bool.Decides.{nat_tests}
-use Rattle.unit.specs.Lists.{with_entry, with_last}
+use Rattle.unit.specs.Lists.{with_entry, with_newest}
 use Rattle.unit.specs.declared.recent.TheConstants.{LEAVES}
 use Rattle.dmatypes.specs.World.{IsIn}
 use Rattle.unit.specs.Caches.{CachedLeaf}
 use Rattle.unit.proofs.caches.Marks.{more_marked, outside}
 use Rattle.unit.proofs.caches.Members.{of_not}
-use Rattle.unit.proofs.caches.Known.{gained_filled, in_with_last, last_in, new_outside, there_in, with_last_few, with_new, with_there}
+use Rattle.unit.proofs.caches.Known.{gained_filled, in_with_newest, last_in, new_outside, there_in, with_newest_few, with_new, with_there}
 use Rattle.unit.specs.contracts.entries.CachedLeafPartialEq.TheImpl.{ghosts}
-use Rattle.unit.proofs.leaves.Leaves.remember.Goals as goal
-use Rattle.unit.proofs.leaves.Leaves.remember.Goals.{then-is_new, else-is_new}
+use Rattle.unit.proofs.leaves.MarkedLeaves.remember.Goals as goal
+use Rattle.unit.proofs.leaves.MarkedLeaves.remember.Goals.{then-is_new, else-is_new}
 
 -- the derived test tells leaves apart
 same_leaf : (y x : CachedLeaf) → ghosts.eq y x ≡ true → y ≡ x
@@ -35,7 +35,7 @@ pub invariant_of-self : goal.invariant_of-self
 invariant_of-self c =
     more_marked c.self-2.inside.marks c.mark.new.marks c.args.leaf c.self-2.inside.list c.push.new.self
     c.self-2.invariant c.mark.ensures.kept c.mark.ensures.marked
-    (λ l there. in_with_last _ c.args.leaf l c.self-2.inside.list (subst (IsIn l) c.push.ensures there))
+    (λ l there. in_with_newest _ c.args.leaf l c.self-2.inside.list (subst (IsIn l) c.push.ensures there))
 
 pub invariant_of-self-else-self-lt-LEAVES : goal.invariant_of-self-else-self-lt-LEAVES
 invariant_of-self-else-self-lt-LEAVES c = λ l there.
@@ -62,7 +62,7 @@ pub returns-then-self-lt-LEAVES-clause-items : goal.returns-then-self-lt-LEAVES-
 returns-then-self-lt-LEAVES-clause-items c = λ same tells.
     let whole = c.as_slice.ensures.value in
     c.push.ensures
-    ∙ ap (λ (xs : List CachedLeaf). with_last LEAVES c.args.leaf xs) (sym whole)
+    ∙ ap (λ (xs : List CachedLeaf). with_newest LEAVES c.args.leaf xs) (sym whole)
     ∙ with_new _ same LEAVES c.args.leaf c.as_slice.result.now (λ y h. same_leaf y c.args.leaf h) (itself c.args.leaf) tells
     (sym c.is_there.ensures ∙ c.if-is_there.false)
     ∙ ap (λ (xs : List CachedLeaf). with_entry same LEAVES c.args.leaf xs) (whole ∙ c.self-2.view_is)
@@ -71,8 +71,8 @@ returns-then-self-lt-LEAVES-clause-items c = λ same tells.
 pub returns-then-self-lt-LEAVES-clause-gains : goal.returns-then-self-lt-LEAVES-clause-gains
 returns-then-self-lt-LEAVES-clause-gains c = λ y there.
     gained_filled c.args.leaf y c.if-not-fill.false
-    (in_with_last _ c.args.leaf y c.args.self.now
-    (subst (IsIn y) (c.push.ensures ∙ ap (λ (xs : List CachedLeaf). with_last LEAVES c.args.leaf xs) c.self-2.view_is) there))
+    (in_with_newest _ c.args.leaf y c.args.self.now
+    (subst (IsIn y) (c.push.ensures ∙ ap (λ (xs : List CachedLeaf). with_newest LEAVES c.args.leaf xs) c.self-2.view_is) there))
 
 pub returns-then-self-lt-LEAVES-clause-remembered : goal.returns-then-self-lt-LEAVES-clause-remembered
 returns-then-self-lt-LEAVES-clause-remembered c = λ fill.
@@ -81,13 +81,13 @@ returns-then-self-lt-LEAVES-clause-remembered c = λ fill.
 pub returns-then-self-lt-LEAVES-clause-few : goal.returns-then-self-lt-LEAVES-clause-few
 returns-then-self-lt-LEAVES-clause-few c = λ few.
     subst (λ (xs : List CachedLeaf). length xs ≤ LEAVES) (sym c.push.ensures)
-    (with_last_few LEAVES c.args.leaf c.self-2.inside.list (omega arith) (omega (arith, ap length c.self-2.view_is)))
+    (with_newest_few LEAVES c.args.leaf c.self-2.inside.list (omega arith) (omega (arith, ap length c.self-2.view_is)))
 
 pub returns-else-self-lt-LEAVES-clause-items : goal.returns-else-self-lt-LEAVES-clause-items
 returns-else-self-lt-LEAVES-clause-items c = λ same tells.
     let whole = c.as_slice.ensures.value in
     c.push.ensures
-    ∙ ap (λ (xs : List CachedLeaf). with_last LEAVES c.args.leaf xs) (sym whole)
+    ∙ ap (λ (xs : List CachedLeaf). with_newest LEAVES c.args.leaf xs) (sym whole)
     ∙ with_new _ same LEAVES c.args.leaf c.as_slice.result.now (λ y h. same_leaf y c.args.leaf h) (itself c.args.leaf) tells
     (sym c.is_there.ensures ∙ c.if-is_there.false)
     ∙ ap (λ (xs : List CachedLeaf). with_entry same LEAVES c.args.leaf xs) (whole ∙ c.self-2.view_is)
@@ -96,8 +96,8 @@ returns-else-self-lt-LEAVES-clause-items c = λ same tells.
 pub returns-else-self-lt-LEAVES-clause-gains : goal.returns-else-self-lt-LEAVES-clause-gains
 returns-else-self-lt-LEAVES-clause-gains c = λ y there.
     gained_filled c.args.leaf y c.if-not-fill.false
-    (in_with_last _ c.args.leaf y c.args.self.now
-    (subst (IsIn y) (c.push.ensures ∙ ap (λ (xs : List CachedLeaf). with_last LEAVES c.args.leaf xs) c.self-2.view_is) there))
+    (in_with_newest _ c.args.leaf y c.args.self.now
+    (subst (IsIn y) (c.push.ensures ∙ ap (λ (xs : List CachedLeaf). with_newest LEAVES c.args.leaf xs) c.self-2.view_is) there))
 
 pub returns-else-self-lt-LEAVES-clause-remembered : goal.returns-else-self-lt-LEAVES-clause-remembered
 returns-else-self-lt-LEAVES-clause-remembered c = λ fill.
@@ -106,4 +106,4 @@ returns-else-self-lt-LEAVES-clause-remembered c = λ fill.
 pub returns-else-self-lt-LEAVES-clause-few : goal.returns-else-self-lt-LEAVES-clause-few
 returns-else-self-lt-LEAVES-clause-few c = λ few.
     subst (λ (xs : List CachedLeaf). length xs ≤ LEAVES) (sym c.push.ensures)
-    (with_last_few LEAVES c.args.leaf c.self-2.inside.list (omega arith) (omega (arith, ap length c.self-2.view_is)))
+    (with_newest_few LEAVES c.args.leaf c.self-2.inside.list (omega arith) (omega (arith, ap length c.self-2.view_is)))

@@ -2,7 +2,7 @@ use Rattle.std.proofs.Common.{subst}
 use Rattle.dmatypes.specs.World.{IsIn}
 use Rattle.unit.proofs.caches.Marks.{fewer_marked}
 use Rattle.unit.proofs.caches.Members.{in_remove}
-use Rattle.unit.proofs.leaves.Leaves.evict.Goals as goal
+use Rattle.unit.proofs.leaves.MarkedLeaves.evict.Goals as goal
 
 pub invariant_of-self : goal.invariant_of-self
 invariant_of-self c =
