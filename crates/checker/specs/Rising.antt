@@ -6,8 +6,8 @@ use Rattle.checker.specs.declared.run.Run.{Run}
 use Rattle.checker.specs.Runs.{target_of}
 
 -- the run has pages and host frames
-abbrev pub IsSound : Run → Type 0
-IsSound r = (1 ≤ r.pages) × (r.frame + r.pages ≤ FRAMES_END)
+abbrev pub IsSoundRun : Run → Type 0
+IsSoundRun r = (1 ≤ r.pages) × (r.frame + r.pages ≤ FRAMES_END)
 
 -- each run begins where the one before ended or behind, the first at a page or behind
 unfoldable pub is_rising : ℕ → List (ℕ × Run) → Bool
@@ -21,6 +21,6 @@ at_runs [] p = None
 at_runs (e ∷ es) p = if is_within (record { first = e.0; pages = e.1.pages }) p then Some (target_of e.0 e.1 p) else at_runs es p
 
 -- where the last run ends, or a page where there is none
-unfoldable pub end_of : ℕ → List (ℕ × Run) → ℕ
-end_of from [] = from
-end_of from (e ∷ es) = end_of (e.0 + e.1.pages) es
+unfoldable pub runs_end : ℕ → List (ℕ × Run) → ℕ
+runs_end from [] = from
+runs_end from (e ∷ es) = runs_end (e.0 + e.1.pages) es

@@ -45,7 +45,7 @@ pub record HasFirst (now : ℕ → Option Target) (page end start : ℕ) (r : Ru
   pub here : (q : ℕ) → start ≤ q → q < start + r.pages → now q ≡ Some (target_of start r q)
 
 -- that run leaves, where there is one
-abbrev pub Leaves : (ℕ → Option Target) → (ℕ → Option Target) → ℕ → ℕ → Option (ℕ × Run) → Type 0
-Leaves old new page end o =
+abbrev pub RunLeaves : (ℕ → Option Target) → (ℕ → Option Target) → ℕ → ℕ → Option (ℕ × Run) → Type 0
+RunLeaves old new page end o =
     MatchOption o (((q : ℕ) → page ≤ q → q < end → old q ≡ None) × ((p : ℕ) → new p ≡ old p))
     (λ e. HasFirst old page end e.0 e.1 × ((p : ℕ) → new p ≡ without (record { first = e.0; pages = e.1.pages }) old p))

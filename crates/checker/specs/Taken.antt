@@ -2,7 +2,7 @@
 use Rattle.std.specs.Prelude.{ℕ, Option}
 use Rattle.dmatypes.specs.World.{Target}
 use Rattle.checker.specs.declared.taken.Taken.{Taken}
-use Rattle.checker.specs.Rising.{at_runs, end_of}
+use Rattle.checker.specs.Rising.{at_runs, runs_end}
 
 -- what a page was mapped to
 abbrev pub taken_at : Taken → ℕ → Option Target
@@ -10,4 +10,4 @@ taken_at t p = at_runs t.runs.items p
 
 -- where the last of them ends
 abbrev pub taken_end : Taken → ℕ
-taken_end t = end_of 0 t.runs.items
+taken_end t = runs_end 0 t.runs.items

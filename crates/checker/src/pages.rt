@@ -27,7 +27,7 @@ impl Pages {
     ghost use Rattle.dmatypes.specs.World.{placed, restricted, without};
     ghost use Rattle.checker.specs.Pages.{AllAreMappedIn, IsMappedIn, IsUnmappedIn, NoneIsMappedIn, range, runs_of, target_at};
     ghost use Rattle.checker.specs.Taken.{taken_at};
-    ghost use Rattle.checker.specs.Runs.{Holds, IsCutAt, Leaves};
+    ghost use Rattle.checker.specs.Runs.{Holds, IsCutAt, RunLeaves};
 
     /// No page is mapped.
     pub(crate) fn new(alloc: Global) -> Pages
@@ -212,7 +212,7 @@ impl Pages {
         requires order { page ≤ end }
         requires first { IsCutAt (runs_of self.old) page }
         requires end { IsCutAt (runs_of self.old) end }
-        ensures leaves { Leaves (target_at self.old) (target_at self.new) page end result }
+        ensures leaves { RunLeaves (target_at self.old) (target_at self.new) page end result }
         ensures within { IfSome result (λ e. e.0 + e.1.pages ≤ end) }
         ensures next { IfSome result (λ e. IsCutAt (runs_of self.new) (e.0 + e.1.pages)) }
         ensures end { IsCutAt (runs_of self.new) end }
@@ -231,7 +231,7 @@ impl Pages {
         requires order { page ≤ end }
         requires first { IsCutAt (runs_of self.old) page }
         requires end { IsCutAt (runs_of self.old) end }
-        ensures leaves { Leaves (target_at self.old) (target_at self.new) page end result }
+        ensures leaves { RunLeaves (target_at self.old) (target_at self.new) page end result }
         ensures within { IfSome result (λ e. e.0 + e.1.pages ≤ end) }
         ensures next { IfSome result (λ e. IsCutAt (runs_of self.new) (e.0 + e.1.pages)) }
         ensures end { IsCutAt (runs_of self.new) end }

@@ -22,7 +22,7 @@ impl Taken {
     ghost use Rattle.std.specs.Option.{option_or};
     ghost use Rattle.dmatypes.specs.declared.page.TheConstants.{FRAMES_END};
     ghost use Rattle.dmatypes.specs.World.{placed};
-    ghost use Rattle.checker.specs.Rising.{IsSound};
+    ghost use Rattle.checker.specs.Rising.{IsSoundRun};
     ghost use Rattle.checker.specs.Taken.{taken_at, taken_end};
     ghost use Rattle.checker.specs.Runs.{by_run};
 
@@ -64,7 +64,7 @@ impl Taken {
     fn last_run(&self, page: u64) -> Option<(u64, Run)>
         ensures { MatchOption result
             (taken_at self.now page ≡ None)
-            (λ e. (e.0 ≤ page) × IsSound e.1 × (taken_at self.now page ≡ by_run e.0 (Some e.1) page)) }
+            (λ e. (e.0 ≤ page) × IsSoundRun e.1 × (taken_at self.now page ≡ by_run e.0 (Some e.1) page)) }
     {
         let begun = begun_at(self.runs.as_slice(), page);
         if begun == 0 {

@@ -10,13 +10,13 @@ use Rattle.dmatypes.specs.World.{Target, is_within, placed}
 use Rattle.dmatypes.proofs.numbers.Ranges.{within_is, within_not, within_or_not}
 use Rattle.checker.specs.declared.run.Run.{Run}
 use Rattle.checker.specs.Pages.{range}
-use Rattle.checker.specs.Rising.{IsSound, at_runs, end_of, is_rising}
+use Rattle.checker.specs.Rising.{IsSoundRun, at_runs, runs_end, is_rising}
 use Rattle.checker.specs.Runs.{by_run, target_of}
 
 -- each run begins where the one before ended or behind, the first at a page or behind
 unfoldable pub IsRising : ℕ → List (ℕ × Run) → Type 0
 IsRising from [] = Unit {0}
-IsRising from (e ∷ es) = (from ≤ e.0) × IsSound e.1 × IsRising (e.0 + e.1.pages) es
+IsRising from (e ∷ es) = (from ≤ e.0) × IsSoundRun e.1 × IsRising (e.0 + e.1.pages) es
 
 pub rises : (from : ℕ) (es : List (ℕ × Run)) → is_rising from es ≡ true → IsRising from es
 unfolding IsRising is_rising
@@ -44,25 +44,25 @@ to_rise from (e ∷ es) h =
 
 -- ---- a run more
 
-pub rising_push : (from first : ℕ) (r : Run) (es : List (ℕ × Run)) → IsRising from es → end_of from es ≤ first → IsSound r
+pub rising_push : (from first : ℕ) (r : Run) (es : List (ℕ × Run)) → IsRising from es → runs_end from es ≤ first → IsSoundRun r
     → IsRising from (es ++ (first, r) ∷ [])
-unfolding IsRising end_of
+unfolding IsRising runs_end
 rising_push from first r [] h order sound = (order, sound, tt)
 rising_push from first r (e ∷ es) h order sound = (h.0, h.1, rising_push (e.0 + e.1.pages) first r es h.2 order sound)
 
-pub end_push : (from first : ℕ) (r : Run) (es : List (ℕ × Run)) → end_of from (es ++ (first, r) ∷ []) ≡ first + r.pages
-unfolding end_of
+pub end_push : (from first : ℕ) (r : Run) (es : List (ℕ × Run)) → runs_end from (es ++ (first, r) ∷ []) ≡ first + r.pages
+unfolding runs_end
 end_push from first r [] = refl
 end_push from first r (e ∷ es) = end_push (e.0 + e.1.pages) first r es
 
-end_least : (from : ℕ) (es : List (ℕ × Run)) → IsRising from es → from ≤ end_of from es
-unfolding IsRising end_of
+end_least : (from : ℕ) (es : List (ℕ × Run)) → IsRising from es → from ≤ runs_end from es
+unfolding IsRising runs_end
 end_least from [] h = omega arith
 end_least from (e ∷ es) h = omega (arith, h.0, end_least (e.0 + e.1.pages) es h.2)
 
 -- no run is behind the end of the last
-none_behind : (from p : ℕ) (es : List (ℕ × Run)) → IsRising from es → end_of from es ≤ p → at_runs es p ≡ None
-unfolding IsRising end_of at_runs
+none_behind : (from p : ℕ) (es : List (ℕ × Run)) → IsRising from es → runs_end from es ≤ p → at_runs es p ≡ None
+unfolding IsRising runs_end at_runs
 none_behind from p [] h order = refl
 none_behind from p (e ∷ es) h order =
     rw (within_not (range e.0 e.1.pages) p (inr (omega (arith, order, end_least (e.0 + e.1.pages) es h.2))))
@@ -84,7 +84,7 @@ or_none : (o : Option Target) → option_or o None ≡ o
 or_none None = refl
 or_none (Some t) = refl
 
-pub pushed : (from first p : ℕ) (r : Run) (es : List (ℕ × Run)) → IsRising from es → end_of from es ≤ first
+pub pushed : (from first p : ℕ) (r : Run) (es : List (ℕ × Run)) → IsRising from es → runs_end from es ≤ first
     → at_runs (es ++ (first, r) ∷ []) p ≡ option_or (placed (record { frame = r.frame; pages = r.pages } ∷ []) first r.rights p) (at_runs es p)
 pushed from first p r es h order =
     let s = range first r.pages in
@@ -118,7 +118,7 @@ pub parted : (page : ℕ) (es : List (ℕ × Run)) → IsRising 0 es → IsParti
 parted page es h = λ i j d order less is.
     le-leb (get_or es i d).0 page (omega (arith, in_order 0 i j d es h order less, leb-true (get_or es j d).0 page is))
 
-pub sound_at : (from i : ℕ) (d : ℕ × Run) (es : List (ℕ × Run)) → IsRising from es → i < length es → IsSound (get_or es i d).1
+pub sound_at : (from i : ℕ) (d : ℕ × Run) (es : List (ℕ × Run)) → IsRising from es → i < length es → IsSoundRun (get_or es i d).1
 unfolding IsRising
 sound_at from i d [] h less = absurd (omega (arith, less))
 sound_at from zero d (e ∷ es) h less = h.1

@@ -6,7 +6,7 @@ use Rattle.dmatypes.proofs.numbers.Ranges.{within_is, within_not, within_or_not}
 use Rattle.dmatypes.proofs.histories.Maps.{same_or_not}
 use Rattle.checker.specs.declared.run.Run.{Run}
 use Rattle.checker.specs.Pages.{range}
-use Rattle.checker.specs.Runs.{AreApart, Holds, IsCutAt, HasFirst, Leaves, by_runs}
+use Rattle.checker.specs.Runs.{AreApart, Holds, IsCutAt, HasFirst, RunLeaves, by_runs}
 use Rattle.checker.proofs.worlds.Cuts.{beside}
 use Rattle.checker.proofs.worlds.Runs.{HasMore, Runs, held, more_elsewhere, not_held, same_runs, some_apart}
 
@@ -95,7 +95,7 @@ has_first f page end start r a there from below gap = record {
 -- the run at the first page, which is no gap
 pub at_first : (f g : Runs) (page end : ℕ) (r : Run) → AreApart f → f page ≡ Some r → page < end
     → ((p : ℕ) → by_runs g p p ≡ without (range page r.pages) (λ q. by_runs f q q) p)
-    → Leaves (λ p. by_runs f p p) (λ p. by_runs g p p) page end (Some (page, r))
+    → RunLeaves (λ p. by_runs f p p) (λ p. by_runs g p p) page end (Some (page, r))
 at_first f g page end r a there below left = (has_first f page end page r a there (omega arith) below (λ q from less. absurd (omega (arith, from, less))), left)
 
 -- no run was at the page that one was to leave from

@@ -3,7 +3,7 @@ use Rattle.std.specs.Prelude.{nat_le}
 use Rattle.std.specs.List.Sorted.{IsPartitionPoint, IsPartitionedBy}
 use Rattle.std.proofs.lemmas.Bool.{leb-false, leb-true}
 use Rattle.checker.specs.declared.run.Run.{Run}
-use Rattle.checker.specs.Rising.{IsSound, at_runs, is_rising}
+use Rattle.checker.specs.Rising.{IsSoundRun, at_runs, is_rising}
 use Rattle.checker.specs.Runs.{by_run}
 use Rattle.checker.proofs.worlds.Rising.{last_begun, none_begun, parted, rises, sound_at}
 use Rattle.checker.proofs.taken.Taken.last_run.Goals as goal
@@ -19,7 +19,7 @@ none_of es page n h parts zero_is =
     leb-false (get_or es j _).0 page (point.1 j _ (omega (arith, zero_is)) less))
 
 last_of : (es : List (ℕ × Run)) (page n : ℕ) (d : ℕ × Run) → is_rising 0 es ≡ true → Parts es page n → (n ≡ 0 → ⊥) → n ≤ length es
-    → ((get_or es (n - 1) d).0 ≤ page) × IsSound (get_or es (n - 1) d).1
+    → ((get_or es (n - 1) d).0 ≤ page) × IsSoundRun (get_or es (n - 1) d).1
     × (at_runs es page ≡ by_run (get_or es (n - 1) d).0 (Some (get_or es (n - 1) d).1) page)
 last_of es page n d h parts some few =
     let rising = rises 0 es h in
@@ -42,7 +42,7 @@ pub returns : goal.returns
 returns c =
     let es = c.args.self.now.runs.items in
     let begun = c.begun_at-begun.result in
-    subst (λ (e : ℕ × Run). (e.0 ≤ c.args.page) × IsSound e.1 × (at_runs es c.args.page ≡ by_run e.0 (Some e.1) c.args.page))
+    subst (λ (e : ℕ × Run). (e.0 ≤ c.args.page) × IsSoundRun e.1 × (at_runs es c.args.page ≡ by_run e.0 (Some e.1) c.args.page))
     (sym c.index.ensures)
     (last_of es c.args.page begun c.index.result.now c.args.self.now.rising
     (subst (λ xs. Parts xs c.args.page begun) c.as_slice.ensures.value c.begun_at-begun.ensures.begun) c.if-begun-eq0.false
