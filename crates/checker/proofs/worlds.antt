@@ -4,6 +4,7 @@ pub mod Runs
 pub mod Cuts
 pub mod Taken
 pub mod Rising
+pub mod Counted
 pub mod Entries
 pub mod Reached
 pub mod Attached

@@ -6,11 +6,15 @@ use Rattle.dmatypes.specs.Page.{Range, IsWithin}
 use Rattle.dmatypes.specs.World.{Target}
 use Rattle.checker.specs.declared.pages.Pages.{Pages}
 use Rattle.checker.specs.declared.run.Run.{Run}
-use Rattle.checker.specs.Runs.{by_runs}
+use Rattle.checker.specs.Runs.{begun_between, by_runs}
 
 -- the runs by their first pages
 abbrev pub runs_of : Pages → ℕ → Option Run
 runs_of m = tree.get nat_cmp m.runs
+
+-- how many of them begin from a page on and before another
+abbrev pub runs_between : Pages → ℕ → ℕ → ℕ
+runs_between m from end = begun_between from end m.runs.entries
 
 -- what a page is mapped to
 abbrev pub target_at : Pages → ℕ → Option Target

@@ -1,6 +1,9 @@
 -- Pages that are mapped run by run: each run stands at its first page.
-use Rattle.std.specs.Prelude.{◌≡◌, ℕ, zero, suc, ◌+◌, ◌-◌, ◌^◌, ◌<◌, ◌≤◌, nat_lt, Option, Some, None, MatchOption, if◌then◌else◌}
+use Rattle.std.specs.Prelude.{◌≡◌, ℕ, zero, suc, ◌+◌, ◌-◌, ◌^◌, ◌<◌, ◌≤◌, nat_lt, List, length, Option, Some, None, MatchOption, if◌then◌else◌}
+use Rattle.std.specs.BTreeMap.Range.{entries_between}
 use Rattle.std.specs.Option.{option_or}
+use Rattle.std.specs.Ordering.{nat_cmp}
+use Rattle.std.specs.declared.ops.Bound.TheVariants.{Excluded, Included}
 use Rattle.dmatypes.specs.declared.page.TheConstants.{FRAMES_END}
 use Rattle.dmatypes.specs.World.{Target, without}
 use Rattle.checker.specs.declared.run.Run.{Run}
@@ -49,3 +52,7 @@ abbrev pub RunLeaves : (ℕ → Option Target) → (ℕ → Option Target) → �
 RunLeaves old new page end o =
     MatchOption o (((q : ℕ) → page ≤ q → q < end → old q ≡ None) × ((p : ℕ) → new p ≡ old p))
     (λ e. HasFirst old page end e.0 e.1 × ((p : ℕ) → new p ≡ without (record { first = e.0; pages = e.1.pages }) old p))
+
+-- how many runs of a list begin from a page on and before another
+abbrev pub begun_between : ℕ → ℕ → List (ℕ × Run) → ℕ
+begun_between from end es = length (entries_between nat_cmp (Included from) (Excluded end) es)

@@ -1,5 +1,5 @@
 -- What pages were mapped to.
-use Rattle.std.specs.Prelude.{ℕ, Option}
+use Rattle.std.specs.Prelude.{ℕ, ◌-◌, length, vec_capacity, Option}
 use Rattle.dmatypes.specs.World.{Target}
 use Rattle.checker.specs.declared.taken.Taken.{Taken}
 use Rattle.checker.specs.Rising.{at_runs, runs_end}
@@ -11,3 +11,7 @@ taken_at t p = at_runs t.runs.items p
 -- where the last of them ends
 abbrev pub taken_end : Taken → ℕ
 taken_end t = runs_end 0 t.runs.items
+
+-- how many runs more there is room for
+abbrev pub taken_room : Taken → ℕ
+taken_room t = vec_capacity t.runs - length t.runs.items

@@ -19,13 +19,13 @@ pub(crate) struct Pages {
 }
 
 impl Pages {
-    ghost use Rattle.std.specs.Prelude.{◌≡◌, ◌+◌, ◌-◌, ◌<◌, ◌≤◌, ◌^◌, ℕ, [], ◌∷◌, Some, None, IfOk, IfSome, OnOk, MatchOption};
+    ghost use Rattle.std.specs.Prelude.{◌≡◌, ◌+◌, ◌-◌, ◌<◌, ◌≤◌, ◌^◌, ℕ, [], ◌∷◌, Some, None, IfOk, IfSome, OnErr, OnOk, MatchOption};
     ghost use Rattle.std.specs.List.{AllByRecursion};
     ghost use Rattle.std.specs.Option.{option_or};
     ghost use Rattle.dmatypes.specs.declared.page.TheConstants.{FRAMES_END};
     ghost use Rattle.dmatypes.specs.Conditions.{total_pages};
     ghost use Rattle.dmatypes.specs.World.{placed, restricted, without};
-    ghost use Rattle.checker.specs.Pages.{AllAreMappedIn, IsMappedIn, IsUnmappedIn, NoneIsMappedIn, range, runs_of, target_at};
+    ghost use Rattle.checker.specs.Pages.{AllAreMappedIn, IsMappedIn, IsUnmappedIn, NoneIsMappedIn, range, runs_between, runs_of, target_at};
     ghost use Rattle.checker.specs.Taken.{taken_at};
     ghost use Rattle.checker.specs.Runs.{Holds, IsCutAt, RunLeaves};
 
@@ -142,7 +142,8 @@ impl Pages {
     /// The pages of a range are mapped no more.
     pub(crate) fn remove(&mut self, first: u64, pages: u64) -> Result<(), AllocError>
         requires { first + pages < 2 ^ 64 }
-        ensures { OnOk result ((p : ℕ) → target_at self.new p ≡ without (range first pages) (target_at self.old) p) }
+        ensures left { OnOk result ((p : ℕ) → target_at self.new p ≡ without (range first pages) (target_at self.old) p) }
+        ensures kept { OnErr result ((p : ℕ) → target_at self.new p ≡ target_at self.old p) }
     {
         self.part(first, pages)?;
         let end = first + pages;
@@ -163,37 +164,87 @@ impl Pages {
         requires { first + pages < 2 ^ 64 }
         ensures left { OnOk result ((p : ℕ) → target_at self.new p ≡ without (range first pages) (target_at self.old) p) }
         ensures taken { IfOk result (λ t. (p : ℕ) → taken_at t p ≡ restricted (range first pages) (target_at self.old) p) }
+        ensures kept { OnErr result ((p : ℕ) → target_at self.new p ≡ target_at self.old p) }
     {
-        self.part(first, pages)?;
+        match self.run_at(first) {
+            Some(run) if run.pages == pages => self.take_run(alloc, first, run),
+            _ => self.take_runs(alloc, first, pages),
+        }
+    }
+
+    // The same where the range is just one run.
+    fn take_run(&mut self, alloc: Global, first: u64, run: Run) -> Result<Taken, AllocError>
+        requires there { runs_of self.old first ≡ Some run }
+        ensures left { OnOk result ((p : ℕ) → target_at self.new p ≡ without (range first run.pages) (target_at self.old) p) }
+        ensures taken { IfOk result (λ t. (p : ℕ) → taken_at t p ≡ restricted (range first run.pages) (target_at self.old) p) }
+        ensures kept { OnErr result ((p : ℕ) → target_at self.new p ≡ target_at self.old p) }
+    {
+        let mut taken = Taken::with_room(alloc, 1)?;
+        let _ = self.remove_at(first);
+        taken.push(first, run);
+        Ok(taken)
+    }
+
+    // The same where it may be any. The runs are counted, so that all memory for them is asked for before one leaves.
+    fn take_runs(&mut self, alloc: Global, first: u64, pages: u64) -> Result<Taken, AllocError>
+        requires { first + pages < 2 ^ 64 }
+        ensures left { OnOk result ((p : ℕ) → target_at self.new p ≡ without (range first pages) (target_at self.old) p) }
+        ensures taken { IfOk result (λ t. (p : ℕ) → taken_at t p ≡ restricted (range first pages) (target_at self.old) p) }
+        ensures kept { OnErr result ((p : ℕ) → target_at self.new p ≡ target_at self.old p) }
+    {
         let end = first + pages;
-        let mut taken = Taken::with_room(alloc, pages)?;
+        self.cut_ends(first, end)?;
+        let mut taken = Taken::with_room(alloc, self.count_between(first, end))?;
         let mut page = first;
         while let Some((start, run)) = self.pop_run(page, end) {
-            taken.push(start, run)?;
+            taken.push(start, run);
             page = start + run.pages;
         }
         Ok(taken)
+    }
+
+    // How many runs begin from a page on and before another.
+    fn count_between(&self, first: u64, end: u64) -> usize
+        requires { first ≤ end }
+        ensures { result ≡ runs_between self.now first end }
+    {
+        self.runs.range(first..end).count()
     }
 
     // Cuts what crosses the ends of a range, so that all memory for that is asked for before a run leaves. A range that is just one run has
     // nothing to cut.
     fn part(&mut self, first: u64, pages: u64) -> Result<(), AllocError>
         requires { first + pages < 2 ^ 64 }
-        ensures same { OnOk result ((p : ℕ) → target_at self.new p ≡ target_at self.old p) }
+        ensures same { (p : ℕ) → target_at self.new p ≡ target_at self.old p }
         ensures first { OnOk result (IsCutAt (runs_of self.new) first) }
         ensures end { OnOk result (IsCutAt (runs_of self.new) (first + pages)) }
     {
-        match self.runs.get(&first) {
-            Some(run) if run.pages == pages => return Ok(()),
-            _ => {}
+        match self.run_at(first) {
+            Some(run) if run.pages == pages => Ok(()),
+            _ => self.cut_ends(first, first + pages),
         }
+    }
+
+    // The run that begins at a page.
+    fn run_at(&self, page: u64) -> Option<Run>
+        ensures { result ≡ runs_of self.now page }
+    {
+        self.runs.get(&page).copied()
+    }
+
+    // Cuts what crosses one of two pages. No page's target changes, whether or not there is memory.
+    fn cut_ends(&mut self, first: u64, end: u64) -> Result<(), AllocError>
+        ensures same { (p : ℕ) → target_at self.new p ≡ target_at self.old p }
+        ensures first { OnOk result (IsCutAt (runs_of self.new) first) }
+        ensures end { OnOk result (IsCutAt (runs_of self.new) end) }
+    {
         self.cut_at(first)?;
-        self.cut_at(first + pages)
+        self.cut_at(end)
     }
 
     // The run that has pages on both sides of a page's beginning becomes two, where there is one.
     fn cut_at(&mut self, page: u64) -> Result<(), AllocError>
-        ensures same { OnOk result ((p : ℕ) → target_at self.new p ≡ target_at self.old p) }
+        ensures same { (p : ℕ) → target_at self.new p ≡ target_at self.old p }
         ensures here { OnOk result (IsCutAt (runs_of self.new) page) }
         ensures others { OnOk result ((q : ℕ) → IsCutAt (runs_of self.old) q → IsCutAt (runs_of self.new) q) }
     {
@@ -215,6 +266,7 @@ impl Pages {
         ensures leaves { RunLeaves (target_at self.old) (target_at self.new) page end result }
         ensures within { IfSome result (λ e. e.0 + e.1.pages ≤ end) }
         ensures next { IfSome result (λ e. IsCutAt (runs_of self.new) (e.0 + e.1.pages)) }
+        ensures fewer { IfSome result (λ e. runs_between self.new (e.0 + e.1.pages) end + 1 ≤ runs_between self.old page end) }
         ensures end { IsCutAt (runs_of self.new) end }
     {
         if page == end {
@@ -234,6 +286,7 @@ impl Pages {
         ensures leaves { RunLeaves (target_at self.old) (target_at self.new) page end result }
         ensures within { IfSome result (λ e. e.0 + e.1.pages ≤ end) }
         ensures next { IfSome result (λ e. IsCutAt (runs_of self.new) (e.0 + e.1.pages)) }
+        ensures fewer { IfSome result (λ e. runs_between self.new (e.0 + e.1.pages) end + 1 ≤ runs_between self.old page end) }
         ensures end { IsCutAt (runs_of self.new) end }
     {
         let (start, run) = self.first_run_in(page, end)?;
@@ -250,6 +303,9 @@ impl Pages {
         ensures same { runs_of self.old page ≡ None → (p : ℕ) → target_at self.new p ≡ target_at self.old p }
         ensures cuts { (q : ℕ) → IsCutAt (runs_of self.old) q → IsCutAt (runs_of self.new) q }
         ensures end { (r : Run) → runs_of self.old page ≡ Some r → IsCutAt (runs_of self.new) (page + r.pages) }
+        ensures fewer { (r : Run) → runs_of self.old page ≡ Some r → (from next end : ℕ) → from ≤ page → page < next → page < end
+            → runs_between self.new next end + 1 ≤ runs_between self.old from end }
+        ensures as_many { runs_of self.old page ≡ None → (from end : ℕ) → runs_between self.new from end ≡ runs_between self.old from end }
     {
         self.runs.remove(&page)
     }
@@ -259,7 +315,7 @@ impl Pages {
         requires there { runs_of self.old first ≡ Some run }
         requires less { first < page }
         requires below { page < first + run.pages }
-        ensures same { OnOk result ((p : ℕ) → target_at self.new p ≡ target_at self.old p) }
+        ensures same { (p : ℕ) → target_at self.new p ≡ target_at self.old p }
         ensures here { OnOk result (IsCutAt (runs_of self.new) page) }
         ensures others { OnOk result ((q : ℕ) → IsCutAt (runs_of self.old) q → IsCutAt (runs_of self.new) q) }
     {
@@ -274,8 +330,9 @@ impl Pages {
             frame: run.frame,
             rights: run.rights,
         };
-        self.runs.insert(first, front)?;
+        // The rest first: it alone may find no memory, since the run's own entry is there.
         self.runs.insert(page, rest)?;
+        self.runs.insert(first, front)?;
         Ok(())
     }
 

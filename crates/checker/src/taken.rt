@@ -6,7 +6,6 @@ ghost use Rattle.checker.specs.Rising.{is_rising};
 
 use crate::run::Run;
 use crate::target::Target;
-use dmatypes::MOST_SEGMENTS;
 use std::alloc::{AllocError, Global};
 
 /// Runs of pages that left, each with its first page, in the order of their pages. They are made once and never taken from, so that they
@@ -18,34 +17,36 @@ pub(crate) struct Taken {
 }
 
 impl Taken {
-    ghost use Rattle.std.specs.Prelude.{◌≡◌, ◌+◌, ◌≤◌, ℕ, [], ◌∷◌, Some, None, IfOk, OnOk, MatchOption};
+    ghost use Rattle.std.specs.Prelude.{◌≡◌, ◌+◌, ◌≤◌, ℕ, [], ◌∷◌, Some, None, IfOk, MatchOption};
     ghost use Rattle.std.specs.Option.{option_or};
     ghost use Rattle.dmatypes.specs.declared.page.TheConstants.{FRAMES_END};
     ghost use Rattle.dmatypes.specs.World.{placed};
     ghost use Rattle.checker.specs.Rising.{IsSoundRun};
-    ghost use Rattle.checker.specs.Taken.{taken_at, taken_end};
+    ghost use Rattle.checker.specs.Taken.{taken_at, taken_end, taken_room};
     ghost use Rattle.checker.specs.Runs.{by_run};
 
-    /// No page, and room for as many runs as one map can have in so many pages.
-    pub(crate) fn with_room(alloc: Global, pages: u64) -> Result<Taken, AllocError>
+    /// No page, and room for so many runs.
+    pub(crate) fn with_room(alloc: Global, runs: usize) -> Result<Taken, AllocError>
         ensures none { IfOk result (λ t. (p : ℕ) → taken_at t p ≡ None) }
         ensures end { IfOk result (λ t. taken_end t ≡ 0) }
+        ensures room { IfOk result (λ t. taken_room t ≡ runs) }
     {
-        let runs = Vec::with_capacity(alloc, room_for(pages))?;
+        let runs = Vec::with_capacity(alloc, runs)?;
         Ok(Taken { runs })
     }
 
     /// A run that left, behind those before.
-    pub(crate) fn push(&mut self, first: u64, run: Run) -> Result<(), AllocError>
+    pub(crate) fn push(&mut self, first: u64, run: Run)
         requires some { 1 ≤ run.pages }
         requires frames { run.frame + run.pages ≤ FRAMES_END }
         requires order { taken_end self.old ≤ first }
-        ensures pages { OnOk result ((p : ℕ) → taken_at self.new p
-            ≡ option_or (placed (record { frame = run.frame; pages = run.pages } ∷ []) first run.rights p) (taken_at self.old p)) }
-        ensures end { OnOk result (taken_end self.new ≡ first + run.pages) }
+        requires room { 1 ≤ taken_room self.old }
+        ensures pages { (p : ℕ) → taken_at self.new p
+            ≡ option_or (placed (record { frame = run.frame; pages = run.pages } ∷ []) first run.rights p) (taken_at self.old p) }
+        ensures end { taken_end self.new ≡ first + run.pages }
+        ensures room { taken_room self.new + 1 ≡ taken_room self.old }
     {
-        self.runs.push((first, run))?;
-        Ok(())
+        self.runs.push_reserved((first, run));
     }
 
     /// What a page was mapped to.
@@ -81,9 +82,4 @@ fn begun_at(runs: &[(u64, Run)], page: u64) -> usize
         → IsPartitionPoint (λ e. nat_le e.0 page ≡ true) (λ e. nat_le e.0 page ≡ false) runs.now result }
 {
     runs.partition_point(|entry| entry.0 <= page)
-}
-
-// How many runs there is room for at first: no more than pages, and no more than a map has segments.
-fn room_for(pages: u64) -> usize {
-    pages.min(MOST_SEGMENTS as u64) as usize
 }

@@ -156,31 +156,6 @@ cut_apart f g first page r a cut = record {
       ends_before f g first page k j r s t a cut (piece f g first page k r s cut is) (piece f g first page j r t cut there) less;
 }
 
--- the front alone, while the rest isn't there yet
-pub shorter_apart : (f g : Runs) (first page : ℕ) (r : Run) → AreApart f → f first ≡ Some r → first < page → page < first + r.pages
-    → g first ≡ Some (front_of first page r) → ((k : ℕ) → k ≢ first → g k ≡ f k) → AreApart g
-shorter_apart f g first page r a there less below front others =
-    let old : (k : ℕ) (s : Run) → g k ≡ Some s → (t : Run) × (f k ≡ Some t) × (1 ≤ s.pages) × (s.pages ≤ t.pages) × (s.frame ≡ t.frame) =
-    λ k s is. elim (same_or_not k first) [
-      | inl same ↦
-          let one : s ≡ front_of first page r = same_Some s (front_of first page r) (sym is ∙ ap g same ∙ front) in (
-            r,
-            ap f same ∙ there,
-            of_one (λ (x : Run). 1 ≤ x.pages) s (front_of first page r) one (omega (arith, less)),
-            of_one (λ (x : Run). x.pages ≤ r.pages) s (front_of first page r) one (omega (arith, less, below)),
-            ap (λ (x : Run). x.frame) one,
-          )
-      | inr other ↦
-          let was : f k ≡ Some s = sym (others k other) ∙ is in (s, was, a.some k s was, omega arith, refl)
-    ] in
-    record {
-      some = λ k s is. (old k s is).2;
-      ends = λ k s is. let o = old k s is in omega (arith, a.ends k o.0 o.1, o.3);
-      frames = λ k s is. let o = old k s is in omega (arith, a.frames k o.0 o.1, o.3, o.4);
-      apart = λ k j s t is also less_than.
-          let o = old k s is in let p = old j t also in omega (arith, a.apart k j o.0 p.0 o.1 p.1 less_than, o.3);
-    }
-
 -- a page of the run is held by the front or the rest
 in_two : (f g : Runs) (first page p : ℕ) (r : Run) → AreApart g → AreCut f g first page r → Holds first r p
     → by_runs g p p ≡ Some (target_of first r p)

@@ -1,5 +1,5 @@
 -- Runs that are put into a map, or taken out of one.
-use Rattle.std.proofs.Common.{◌≡◌, ◌≢◌, ℕ, ◌+◌, ◌^◌, ◌<◌, ◌≤◌, List, Option, Some, None, sym, subst}
+use Rattle.std.proofs.Common.{◌≡◌, ◌≢◌, ℕ, ◌+◌, ◌^◌, ◌<◌, ◌≤◌, List, Option, Some, None, sym, subst, ◌∙◌}
 use Rattle.std.specs.Prelude.{Result, Ok, Err, OnOk, OnErr}
 use Rattle.std.specs.BTreeMap as tree
 use Rattle.std.specs.BTreeMap.{BTreeMap, IsUnchanged, Updates, is_at}
@@ -21,6 +21,12 @@ pub put_apart : {X E : Type 0} (o : Result X E) (old new : BTreeMap ℕ Run) (fi
     → (Updates nat_cmp old new first (Some r) → AreApart (tree.get nat_cmp new)) → AreApart (tree.get nat_cmp new)
 put_apart (Ok x) old new first r put kept a later = later put
 put_apart (Err e) old new first r put kept a later = unchanged_apart old new kept a
+
+-- there is always memory where the key has an entry
+pub always_put : {X E A : Type 0} (o : Result X E) (old : BTreeMap ℕ Run) (first : ℕ) (r : Run) → OnOk o A
+    → OnErr o (tree.get nat_cmp old first ≡ None) → tree.get nat_cmp old first ≡ Some r → A
+always_put (Ok x) old first r put none there = put
+always_put (Err e) old first r put none there = let clash : None ≡ Some r = sym none ∙ there in absurd cc
 
 -- another key has what it had
 pub other_run : (old new : BTreeMap ℕ Run) (first : ℕ) (o : Option Run) → Updates nat_cmp old new first o → (k : ℕ) → k ≢ first

@@ -1,7 +1,8 @@
 -- Runs that leave one after the other, and what pages are mapped to then.
-use Rattle.std.proofs.Common.{◌≡◌, ◌≢◌, inl, inr, ℕ, ◌-◌, ◌<◌, ◌≤◌, Option, Some, None, sym, ap, ◌∙◌, arith}
+use Rattle.std.proofs.Common.{◌≡◌, ◌≢◌, inl, inr, ℕ, ◌-◌, ◌<◌, ◌≤◌, [], ◌∷◌, Option, Some, None, refl, sym, ap, ◌∙◌, arith}
+use Rattle.std.specs.Option.{option_or}
 use Rattle.std.proofs.lemmas.Bool.{cases_lt}
-use Rattle.dmatypes.specs.World.{Target, restricted, without}
+use Rattle.dmatypes.specs.World.{Target, placed, restricted, without}
 use Rattle.dmatypes.proofs.numbers.Ranges.{within_is, within_not, within_or_not}
 use Rattle.dmatypes.proofs.histories.Maps.{same_or_not}
 use Rattle.checker.specs.declared.run.Run.{Run}
@@ -77,6 +78,17 @@ AreLeft old now first page = (p : ℕ) → now p ≡ without (range first (page 
 
 abbrev pub AreTaken : Targets → Targets → ℕ → ℕ → Type 0
 AreTaken old taken first page = (p : ℕ) → taken p ≡ restricted (range first (page - first)) old p
+
+-- the pages of one run were taken, and no others
+pub one_taken : (f : Runs) (first p : ℕ) (r : Run) → AreApart f → f first ≡ Some r
+    → option_or (placed (record { frame = r.frame; pages = r.pages } ∷ []) first r.rights p) None
+    ≡ restricted (range first r.pages) (λ q. by_runs f q q) p
+one_taken f first p r a there =
+    let s = range first r.pages in
+    elim (within_or_not s p) [
+      | inl inside ↦ rw (within_is s p inside, held f a first p r there inside) refl
+      | inr out ↦ rw (within_not s p out) refl
+    ]
 
 -- ---- the first run
 

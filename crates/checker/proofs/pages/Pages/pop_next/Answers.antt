@@ -1,4 +1,4 @@
-use Rattle.std.proofs.Common.{refl}
+use Rattle.std.proofs.Common.{◌+◌, refl, arith}
 use Rattle.checker.specs.Pages.{runs_of}
 use Rattle.checker.proofs.worlds.Taken.{gap_none, has_first}
 use Rattle.checker.proofs.pages.Pages.pop_next.Goals as goal
@@ -22,3 +22,10 @@ returns-clause-leaves c =
 
 pub returns-clause-end : goal.returns-clause-end
 returns-clause-end c = c.remove_at.ensures.cuts c.args.end c.requires.end
+
+pub returns-clause-fewer : goal.returns-clause-fewer
+returns-clause-fewer c =
+    let found = c.in_ok-start.ensures in
+    let some = c.args.self.now.apart.some c.in_ok-start.start c.in_ok-start.run' found.2 in
+    c.remove_at.ensures.fewer c.in_ok-start.run' found.2 c.args.page (c.in_ok-start.start + c.in_ok-start.run'.pages) c.args.end found.0
+    (omega (arith, some)) found.1

@@ -1,4 +1,4 @@
-use Rattle.std.proofs.Common.{sym, arith}
+use Rattle.std.proofs.Common.{◌+◌, sym, arith}
 use Rattle.checker.specs.Pages.{runs_of}
 use Rattle.checker.proofs.worlds.Taken.{at_first}
 use Rattle.checker.proofs.pages.Pages.pop_run.Goals as goal
@@ -17,3 +17,10 @@ returns-in-Some-clause-leaves c =
 
 pub returns-in-Some-clause-end : goal.returns-in-Some-clause-end
 returns-in-Some-clause-end c = c.in-Some.ensures.cuts c.args.end c.requires.end
+
+pub returns-in-Some-clause-fewer : goal.returns-in-Some-clause-fewer
+returns-in-Some-clause-fewer c =
+    let there = sym c.in-Some.ensures.run in
+    let some = c.args.self.now.apart.some c.args.page c.in-Some.run' there in
+    c.in-Some.ensures.fewer c.in-Some.run' there c.args.page (c.args.page + c.in-Some.run'.pages) c.args.end (omega arith)
+    (omega (arith, some)) (omega (arith, c.requires.order, c.if-page-end.false))

@@ -1,10 +1,18 @@
 use Rattle.std.specs.BTreeMap as tree
 use Rattle.std.specs.Ordering.{nat_cmp}
-use Rattle.std.proofs.Common.{◌+◌, None}
+use Rattle.std.proofs.Common.{◌≡◌, ◌+◌, Option, Some, None, ap, ◌∙◌}
+use Rattle.std.specs.Prelude.{IfNone}
+use Rattle.checker.specs.declared.run.Run.{Run}
+use Rattle.checker.specs.Runs.{begun_between}
 use Rattle.checker.proofs.worlds.Cuts.{end_is_cut, fewer_cut}
+use Rattle.checker.proofs.worlds.Counted.{fewer_between}
 use Rattle.checker.proofs.worlds.Entries.{less_of, other_run}
 use Rattle.checker.proofs.worlds.Taken.{fewer_apart, less_pages, none_less}
 use Rattle.checker.proofs.pages.Pages.remove_at.Goals as goal
+
+where_none : (o : Option Run) (A : Type 0) → o ≡ None → IfNone o A → A
+where_none None A is a = a
+where_none (Some r) A is a = absurd cc
 
 pub invariant_of-self : goal.invariant_of-self
 invariant_of-self c =
@@ -46,3 +54,14 @@ returns-clause-end c = λ r there.
     fewer_cut (tree.get nat_cmp old) (tree.get nat_cmp new) c.args.page (c.args.page + r.pages) c.remove.ensures.updates.1
     (other_run old new c.args.page None c.remove.ensures.updates)
     (end_is_cut (tree.get nat_cmp old) c.args.page r c.args.self.now.apart there)
+
+pub returns-clause-fewer : goal.returns-clause-fewer
+returns-clause-fewer c = λ r there from next end low order high.
+    let new = c.remove.new.self in
+    rw c.remove.ensures.entries (fewer_between from c.args.page next end r c.args.self.now.runs.entries there low order high)
+
+pub returns-clause-as_many : goal.returns-clause-as_many
+returns-clause-as_many c = λ none from end.
+    let old = c.args.self.now.runs.entries in
+    let new = c.remove.new.self.entries in
+    ap (begun_between from end) (where_none c.remove.result (new ≡ old) (c.remove.ensures.value ∙ none) c.remove.ensures.unchanged)

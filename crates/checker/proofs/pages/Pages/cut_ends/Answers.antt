@@ -1,5 +1,5 @@
 use Rattle.std.specs.Prelude.{Result, Ok, Err, OnOk}
-use Rattle.checker.proofs.pages.Pages.part.Goals as goal
+use Rattle.checker.proofs.pages.Pages.cut_ends.Goals as goal
 
 then_so : {X E A B : Type 0} (o : Result X E) → OnOk o A → (A → B) → OnOk o B
 then_so (Ok x) a f = f a

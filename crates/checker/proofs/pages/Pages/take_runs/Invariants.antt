@@ -1,9 +1,9 @@
 use Rattle.std.proofs.Common.{◌-◌, ◌≤◌}
-use Rattle.checker.specs.Pages.{runs_of, target_at}
+use Rattle.checker.specs.Pages.{runs_between, runs_of, target_at}
 use Rattle.checker.specs.Runs.{IsCutAt}
-use Rattle.checker.specs.Taken.{taken_at, taken_end}
+use Rattle.checker.specs.Taken.{taken_at, taken_end, taken_room}
 use Rattle.checker.proofs.worlds.Taken.{AreLeft, AreTaken}
-use Rattle.checker.proofs.pages.Pages.take.Given as goal
+use Rattle.checker.proofs.pages.Pages.take_runs.Given as goal
 
 abbrev pub invariant-loop-start : goal.invariant-loop-start
 invariant-loop-start l = record {
@@ -13,6 +13,7 @@ invariant-loop-start l = record {
   there : IsCutAt (runs_of l.self) l.end;
   taken : AreTaken (target_at l.fn.self) (taken_at l.taken) l.first l.page;
   end : taken_end l.taken ≤ l.page;
+  room : runs_between l.self l.page l.end ≤ taken_room l.taken;
 }
 
 abbrev pub decreases-loop-start : goal.decreases-loop-start
