@@ -38,6 +38,10 @@ OTHER_WAYS = {
 SCRIPT = b"domain strict\nattach 3 1\nmap 1 0x400 512 9 rw\nunmap 1 0x201000 1\ndma 3 0x202000 r look fill\n"
 TRACE = b"domain lazy => domain 1\nmap 1 0x100 1 0 rw => map 0x1000\nunmap 1 0x1000 1 => unmapped 0\n"
 REUSED = b"map 1 0x200 1 0 rw => map 0x1000\n"
+# Segments of maps that lie side by side, each a frame and its pages, whose frames don't follow one another, so that each is a run of its
+# own; as many as an unmap takes in one call; and how many a map has at most.
+SEGMENTS = [(0x100, 2), *[(0x200 + 2 * at, 1) for at in range(31)], (0x300, 2)]
+MOST_SEGMENTS, PAGE_BYTES = 16, 4096
 # An address space of as many KiB is given to a command; and how far they lie apart, from the least one tried on: a page. Past the one
 # in which a program first has room so many more are tried.
 WITHIN = 'ulimit -v "$0" && exec "$@"'
@@ -46,6 +50,21 @@ SPACE_STEP, LEAST_SPACE, MORE_SPACES = 4, 2_000, 20
 NOT_LOADED = 127
 NO_MEMORY = (3, b"no memory\n")
 NO_THREAD = (3, b"no thread\n")
+
+
+def cutting_trace(mode):
+    """A trace whose unmap takes a part of each of the segments: of the first one its second page, of the last one its first. So two
+    runs are cut, and the pages on both sides stay."""
+    lines, page = [f"domain {mode} => domain 1", "attach 3 1 => ok"], 1
+    for at in range(0, len(SEGMENTS), MOST_SEGMENTS):
+        part = SEGMENTS[at:at + MOST_SEGMENTS]
+        listed = " ".join(f"{frame:#x}:{pages}" for frame, pages in part)
+        lines.append(f"maplist 1 0 rw {listed} => map {page * PAGE_BYTES:#x}")
+        page += sum(pages for _, pages in part)
+    lines.append(f"unmap 1 {2 * PAGE_BYTES:#x} {page - 3} => unmapped 0")
+    for stays, frame in ((1, SEGMENTS[0][0]), (page - 1, SEGMENTS[-1][0] + 1)):
+        lines.append(f"dma 3 {stays * PAGE_BYTES:#x} r => host {frame * PAGE_BYTES:#x}")
+    return "".join(f"{it}\n" for it in lines).encode("ascii")
 
 
 class Run:
@@ -107,6 +126,8 @@ CASES = [
     ("report", [VTDM, "report", *SMALL], SCRIPT, writes_nothing),
     ("check of a legal trace", [VTDM, "check"], TRACE, writes_nothing),
     ("check of another", [VTDM, "check"], TRACE + REUSED, writes_nothing),
+    ("check of a strict unmap of cut runs", [VTDM, "check"], cutting_trace("strict"), writes_nothing),
+    ("check of a lazy unmap of cut runs", [VTDM, "check"], cutting_trace("lazy"), writes_nothing),
     ("help", [VTDM, "run", "--help"], b"", writes_nothing),
     ("bad command line", [VTDM, "run", "--frames", "15"], b"", writes_nothing),
     ("storm", STORM, b"", is_no_storm),
