@@ -20,7 +20,7 @@ pub(crate) struct Domain {
 }
 
 impl Domain {
-    ghost use Rattle.std.specs.Prelude.{◌≡◌, ◌↔◌, ◌+◌, ◌<◌, ◌≤◌, ◌^◌, ℕ, [], ◌∷◌, IsTrue, IfOk, OnOk, MatchOption, length, filter, suc};
+    ghost use Rattle.std.specs.Prelude.{◌≡◌, ◌↔◌, ◌+◌, ◌<◌, ◌≤◌, ◌^◌, ℕ, [], ◌∷◌, IsTrue, IfOk, OnErr, OnOk, MatchOption, length, filter, suc};
     ghost use Rattle.std.specs.List.{AllByRecursion, list_any};
     ghost use Rattle.dmatypes.specs.declared.page.TheConstants.{FRAMES_END};
     ghost use Rattle.dmatypes.specs.Conditions.{total_pages};
@@ -28,7 +28,7 @@ impl Domain {
     ghost use Rattle.dmatypes.specs.Step.{IsUnmapAnswer};
     ghost use Rattle.dmatypes.specs.World as world;
     ghost use Rattle.dmatypes.specs.World.{AreFreePages};
-    ghost use Rattle.checker.specs.Pages.{AllAreMappedIn, IsUnmappedIn, range};
+    ghost use Rattle.checker.specs.Pages.{AllAreMappedIn, IsUnmappedIn, range, target_at};
     ghost use Rattle.checker.specs.World.{do_meet, domain_of, retired_of};
 
     /// A domain with no page.
@@ -110,7 +110,8 @@ impl Domain {
 
     /// The pages of the range are unmapped: for good in a strict domain, put off in a lazy one.
     pub(crate) fn unmap(&mut self, alloc: Global, range: PageRange) -> Result<(), AllocError>
-        ensures { OnOk result (domain_of self.new ≡ world.unmapped_by self.old.mode range (domain_of self.old)) }
+        ensures left { OnOk result (domain_of self.new ≡ world.unmapped_by self.old.mode range (domain_of self.old)) }
+        ensures kept { OnErr result ((p : ℕ) → target_at self.new.live p ≡ target_at self.old.live p) }
     {
         match self.mode {
             Mode::Strict => self.unmap_now(range)?,
@@ -121,20 +122,25 @@ impl Domain {
 
     // The pages of the range leave.
     fn unmap_now(&mut self, range: PageRange) -> Result<(), AllocError>
-        ensures { OnOk result (domain_of self.new ≡ world.unmapped range (domain_of self.old)) }
+        ensures left { OnOk result (domain_of self.new ≡ world.unmapped range (domain_of self.old)) }
+        ensures kept { OnErr result ((p : ℕ) → target_at self.new.live p ≡ target_at self.old.live p) }
     {
         self.live.remove(range.first(), range.pages())
     }
 
-    // The pages of the range leave and become the last record, where there is no room behind the others went.
+    // The pages of the range leave and become the last record, where there is no room behind the others went. The record's place is made
+    // before a page leaves.
     fn put_off(&mut self, alloc: Global, range: PageRange) -> Result<(), AllocError>
-        ensures { OnOk result (domain_of self.new ≡ world.put_off range (world.with_room (domain_of self.old))) }
+        ensures last { OnOk result (domain_of self.new ≡ world.put_off range (world.with_room (domain_of self.old))) }
+        ensures kept { OnErr result ((p : ℕ) → target_at self.new.live p ≡ target_at self.old.live p) }
     {
         if self.is_full() {
             self.retired.clear();
         }
+        self.retired.reserve(1)?;
         let targets = self.live.take(alloc, range.first(), range.pages())?;
-        self.retired.push(Record::new(range, self.begun, targets))?;
+        self.retired
+            .push_reserved(Record::new(range, self.begun, targets));
         Ok(())
     }
 

@@ -167,9 +167,11 @@ impl Pages {
         ensures kept { OnErr result ((p : ℕ) → target_at self.new p ≡ target_at self.old p) }
     {
         match self.run_at(first) {
-            Some(run) if run.pages == pages => self.take_run(alloc, first, run),
-            _ => self.take_runs(alloc, first, pages),
+            Some(run) if run.pages == pages => return self.take_run(alloc, first, run),
+            Some(_) => self.cut_at(first + pages)?,
+            None => self.cut_ends(first, first + pages)?,
         }
+        self.take_runs(alloc, first, first + pages)
     }
 
     // The same where the range is just one run.
@@ -185,15 +187,15 @@ impl Pages {
         Ok(taken)
     }
 
-    // The same where it may be any. The runs are counted, so that all memory for them is asked for before one leaves.
-    fn take_runs(&mut self, alloc: Global, first: u64, pages: u64) -> Result<Taken, AllocError>
-        requires { first + pages < 2 ^ 64 }
-        ensures left { OnOk result ((p : ℕ) → target_at self.new p ≡ without (range first pages) (target_at self.old) p) }
-        ensures taken { IfOk result (λ t. (p : ℕ) → taken_at t p ≡ restricted (range first pages) (target_at self.old) p) }
+    // The same between two pages that no run crosses. The runs are counted, so that all memory for them is asked for before one leaves.
+    fn take_runs(&mut self, alloc: Global, first: u64, end: u64) -> Result<Taken, AllocError>
+        requires order { first ≤ end }
+        requires first { IsCutAt (runs_of self.old) first }
+        requires end { IsCutAt (runs_of self.old) end }
+        ensures left { OnOk result ((p : ℕ) → target_at self.new p ≡ without (range first (end - first)) (target_at self.old) p) }
+        ensures taken { IfOk result (λ t. (p : ℕ) → taken_at t p ≡ restricted (range first (end - first)) (target_at self.old) p) }
         ensures kept { OnErr result ((p : ℕ) → target_at self.new p ≡ target_at self.old p) }
     {
-        let end = first + pages;
-        self.cut_ends(first, end)?;
         let mut taken = Taken::with_room(alloc, self.count_between(first, end))?;
         let mut page = first;
         while let Some((start, run)) = self.pop_run(page, end) {
@@ -212,7 +214,7 @@ impl Pages {
     }
 
     // Cuts what crosses the ends of a range, so that all memory for that is asked for before a run leaves. A range that is just one run has
-    // nothing to cut.
+    // nothing to cut, and none is crossed where a run begins.
     fn part(&mut self, first: u64, pages: u64) -> Result<(), AllocError>
         requires { first + pages < 2 ^ 64 }
         ensures same { (p : ℕ) → target_at self.new p ≡ target_at self.old p }
@@ -221,7 +223,8 @@ impl Pages {
     {
         match self.run_at(first) {
             Some(run) if run.pages == pages => Ok(()),
-            _ => self.cut_ends(first, first + pages),
+            Some(_) => self.cut_at(first + pages),
+            None => self.cut_ends(first, first + pages),
         }
     }
 

@@ -1,5 +1,6 @@
 -- Runs that are cut in two.
 use Rattle.std.proofs.Common.{◌≡◌, ◌≢◌, ◌⊎◌, inl, inr, ℕ, ◌+◌, ◌-◌, ◌^◌, ◌<◌, ◌≤◌, Some, None, refl, sym, ap, subst, ◌∙◌, arith}
+use Rattle.std.specs.Prelude.{Result, Ok, Err, OnOk}
 use Rattle.std.proofs.lemmas.Bool.{cases_lt}
 use Rattle.std.proofs.lemmas.Option.{same_Some}
 use Rattle.dmatypes.specs.declared.page.TheConstants.{FRAMES_END}
@@ -75,6 +76,10 @@ end_is_cut f first r a there = λ k s is less.
         | inr behind ↦ absurd (omega (arith, behind, less))
       ]
     ]
+
+-- nor the page where one begins
+pub begin_is_cut : (f : Runs) (first : ℕ) (r : Run) → AreApart f → f first ≡ Some r → IsCutAt f first
+begin_is_cut f first r a there = λ k s is less. a.apart k first s r is there less
 
 -- a page that no run crosses is crossed by none of fewer runs
 pub fewer_cut : (f g : Runs) (first q : ℕ) → g first ≡ None → ((k : ℕ) → k ≢ first → g k ≡ f k) → IsCutAt f q → IsCutAt g q
@@ -222,3 +227,9 @@ here_by f g first page k r s a cut (IsOther other is) less =
 
 pub cut_here : (f g : Runs) (first page : ℕ) (r : Run) → AreApart f → AreCut f g first page r → IsCutAt g page
 cut_here f g first page r a cut = λ k s is less. here_by f g first page k r s a cut (piece f g first page k r s cut is) less
+
+-- ---- where there was memory
+
+pub then_so : {X E A B : Type 0} (o : Result X E) → OnOk o A → (A → B) → OnOk o B
+then_so (Ok x) a f = f a
+then_so (Err e) a f = tt
