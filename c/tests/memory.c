@@ -1,11 +1,16 @@
 /* Memory, by an allocator of this test's own, which the linker puts before malloc, realloc and free (--wrap): creation is refused
- * at each of its requests in turn, nothing leaks, and a million calls of all functions ask for none. */
+ * at each of its requests in turn, nothing leaks, a million calls of all functions ask for none, and the table frames' words stand in
+ * one block, frame after frame. */
 #include "check.h"
 #include "vtdm.h"
 
 #include <stdlib.h>
+#include <string.h>
 
-enum { CALLS = 1000000, LEAST_CALLS = 1000, MOST_LIVE = 1000, TICKETS = 64, LEAST_REQUESTS = 30, MANAGERS = 1000 };
+enum { CALLS = 1000000, LEAST_CALLS = 1000, MOST_LIVE = 1000, TICKETS = 64, LEAST_REQUESTS = 30, MANAGERS = 1000, JUNK = 0xA5 };
+
+/* Words of a table frame. */
+enum { TABLE_WORDS = 512 };
 
 void *__real_malloc(size_t size);
 void *__real_realloc(void *block, size_t size);
@@ -20,6 +25,11 @@ static long asked, refused, held, freed;
 /* How many bytes were asked for. */
 static uint64_t bytes;
 
+/* A length in bytes, and the block of it that was asked for last, which was full of junk then; and how many of it there were. */
+static size_t sought;
+static uint64_t *block_found;
+static int blocks_found;
+
 static bool is_refused(void) {
     return ++asked == refused;
 }
@@ -28,6 +38,10 @@ void *__wrap_malloc(size_t size) {
     void *block = is_refused() ? NULL : __real_malloc(size);
     bytes += size;
     held += block != NULL;
+    if (block && size == sought) {
+        block_found = memset(block, JUNK, size);
+        blocks_found++;
+    }
     return block;
 }
 
@@ -88,6 +102,38 @@ static void create_and_destroy(void) {
         same = same && asked == before && held == 0;
     }
     CHECK(same);
+}
+
+/* Whether each word of the table frames stands at its place in the block, and how many are present. */
+static bool is_in_order(struct vtdm *manager, uint64_t frames, uint64_t *present) {
+    bool same = true;
+    *present = 0;
+    for (uint64_t place = 0; place < frames * TABLE_WORDS; place++) {
+        struct vtdm_answer word = vtdm_table_word(manager, place / TABLE_WORDS, place % TABLE_WORDS);
+        same = same && word.status == VTDM_OK && word.value == block_found[place];
+        *present += word.value != 0;
+    }
+    return same;
+}
+
+/* The words of the table frames are one block, frame after frame, and a creation writes all of it. */
+static void words_in_order(uint64_t frames) {
+    struct vtdm manager = VTDM_INIT;
+    uint64_t present;
+    sought = frames * VTDM_PAGE_BYTES;
+    blocks_found = 0;
+    CHECK(vtdm_create(&manager, frames) == VTDM_OK);
+    sought = 0;
+    if (CHECK(blocks_found == 1)) {
+        CHECK(is_in_order(&manager, frames, &present) && present == 0);
+        ANSWERS(vtdm_domain(&manager, false), VTDM_OK, 1);
+        ANSWERS(vtdm_domain_wide(&manager, true), VTDM_OK, 2);
+        CHECK(vtdm_map(&manager, 1, 0x8000, 1024, 9, VTDM_READ).status == VTDM_OK);
+        CHECK(vtdm_map(&manager, 1, 0x2000, 5, 0, VTDM_READ | VTDM_WRITE).status == VTDM_OK);
+        CHECK(vtdm_map(&manager, 2, 0x3001, 600, 0, VTDM_WRITE).status == VTDM_OK);
+        CHECK(is_in_order(&manager, frames, &present) && present > 600);
+    }
+    vtdm_destroy(&manager);
 }
 
 /* Every function but vtdm_create and vtdm_create_caching. */
@@ -232,6 +278,8 @@ int main(void) {
     count_bytes(VTDM_LEAST_TABLE_FRAMES);
     count_bytes(VTDM_MOST_TABLE_FRAMES);
     create_and_destroy();
+    words_in_order(VTDM_LEAST_TABLE_FRAMES);
+    words_in_order(VTDM_MOST_TABLE_FRAMES);
     calls_ask_for_none();
     return check_end();
 }
