@@ -4,7 +4,7 @@ use Rattle.iova.specs.declared.piece.PageState.{PageState}
 use Rattle.iova.specs.declared.piece.Piece.{Piece}
 use Rattle.iova.specs.declared.piece.PageState.TheVariants.{Free}
 use Rattle.iova.specs.declared.beside.Ends.{Ends}
-use Rattle.iova.specs.declared.carved.Block.{Block}
+use Rattle.iova.specs.declared.carved.Stock.{Stock}
 use Rattle.iova.specs.declared.carved.Sought.{Sought}
 use Rattle.iova.specs.declared.space.TheConstants.{MOST_PIECES}
 use Rattle.dmatypes.specs.declared.limits.TheConstants.{MOST_ORDER}
@@ -21,7 +21,7 @@ with_pieces (p ∷ ps) pieces = with_pieces ps (with_piece p pieces)
 
 -- the space once pieces are put over its own
 abbrev pub with_carved : List Piece → Space → Space
-with_carved row space = record space { pieces = with_pieces row space.pieces }
+with_carved chain space = record space { pieces = with_pieces chain space.pieces }
 
 -- pieces in use from a page on, each right behind the one before it, and the page behind them
 abbrev pub FollowOn : ℕ → List Piece → ℕ → Type 0
@@ -40,26 +40,26 @@ abbrev pub NoneBelow : Sought → ℕ → List Piece → Type 0
 NoneBelow sought page pieces = (start : ℕ) → IsFit pieces sought.pages sought.unit start → sought.floor ≤ start → page ≤ start
 
 -- the pieces lie one behind the other in a free piece, at or above the floor, some of it is left behind them, and there is room for all
-pub record AreCarved (pieces row : List Piece) (block : Block) : Type 0 where
-  pub there : IsIn (pages_as block.pages Free) pieces
-  pub sought : IsSought block.sought
-  pub none : NoneBelow block.sought block.pages.first pieces
+pub record AreCarved (pieces chain : List Piece) (stock : Stock) : Type 0 where
+  pub there : IsIn (pages_as stock.pages Free) pieces
+  pub sought : IsSought stock.sought
+  pub none : NoneBelow stock.sought stock.pages.first pieces
   pub from : ℕ
   pub end : ℕ
-  pub low : max block.pages.first block.sought.floor ≤ from
-  pub follow : FollowOn from row end
-  pub left : end ≤ block.pages.last
-  pub few : length (with_pieces row pieces) ≤ MOST_PIECES
+  pub low : max stock.pages.first stock.sought.floor ≤ from
+  pub follow : FollowOn from chain end
+  pub left : end ≤ stock.pages.last
+  pub few : length (with_pieces chain pieces) ≤ MOST_PIECES
 
 -- so many pages from a start on lie right behind the pieces, and some of the free piece is left behind them
-abbrev pub CanCarve : List Piece → Block → ℕ → ℕ → Type 0
-CanCarve row block start pages =
-    (from : ℕ) × (max block.pages.first block.sought.floor ≤ from) × FollowOn from row start × (start + pages ≤ block.pages.last)
+abbrev pub CanCarve : List Piece → Stock → ℕ → ℕ → Type 0
+CanCarve chain stock start pages =
+    (from : ℕ) × (max stock.pages.first stock.sought.floor ≤ from) × FollowOn from chain start × (start + pages ≤ stock.pages.last)
 
 -- one of the pieces has these pages, with so many before it
 abbrev pub IsAt : List Piece → Ends → ℕ → Type 0
-IsAt row pages place = (before : List Piece) × (state : PageState) × (behind : List Piece)
-    × (row ≡ before ++ pages_as pages state ∷ behind) × (place ≡ length before)
+IsAt chain pages place = (before : List Piece) × (state : PageState) × (behind : List Piece)
+    × (chain ≡ before ++ pages_as pages state ∷ behind) × (place ≡ length before)
 
 -- the piece with these pages, which was the first or the last, is there no more
 abbrev pub LosesEnd : List Piece → List Piece → Ends → Type 0
@@ -67,14 +67,14 @@ LosesEnd old new pages = (before : List Piece) × (state : PageState) × (behind
     × (old ≡ before ++ pages_as pages state ∷ behind) × ((before ≡ []) ⊎ (behind ≡ [])) × (new ≡ before ++ behind)
 
 -- no piece is carved, or these are
-abbrev pub IsCarved : List Piece → List Piece → Option Block → Type 0
-IsCarved pieces row None = row ≡ []
-IsCarved pieces row (Some block) = AreCarved pieces row block
+abbrev pub IsCarved : List Piece → List Piece → Option Stock → Type 0
+IsCarved pieces chain None = chain ≡ []
+IsCarved pieces chain (Some stock) = AreCarved pieces chain stock
 
 -- the pieces where others stand in the place of the one that begins at a page
 abbrev pub in_place_of : ℕ → List Piece → List Piece → List Piece
-in_place_of first row [] = []
-in_place_of first row (p ∷ ps) = if nat_eq p.first first then row ++ ps else p ∷ in_place_of first row ps
+in_place_of first chain [] = []
+in_place_of first chain (p ∷ ps) = if nat_eq p.first first then chain ++ ps else p ∷ in_place_of first chain ps
 
 -- free pages, if there are some
 abbrev pub free_of : Option Ends → List Piece

@@ -12,10 +12,10 @@ ghost use Rattle.iova.specs.Space.{IsFit, IsLowestFrom, IsSpace, IsTooMany, Spac
 ghost use Rattle.iova.specs.Way.{pages_as};
 
 use crate::beside::Ends;
+use crate::chain::Chain;
 use crate::node::NUMBERS_END;
 use crate::piece::{PageState, Piece};
 use crate::piece_tree::PieceTree;
-use crate::row::Row;
 use crate::search::round_up;
 use crate::space::{MOST_PIECES_TO_CUT, TakeError};
 use crate::way::Found;
@@ -31,7 +31,7 @@ pub(crate) struct Sought {
 /// A free piece of the tree that pieces are carved out of: its pages, and what was sought when it was found, or a single page where it is
 /// the lowest free piece. From the floor on, no such pages begin before it.
 #[derive(Clone, Copy)]
-pub(crate) struct Block {
+pub(crate) struct Stock {
     pub(crate) pages: Ends,
     pub(crate) sought: Sought,
 }
@@ -40,8 +40,8 @@ pub(crate) struct Block {
 /// piece, if one is known. The tree has all of them as the free piece (own).
 #[derive(Drop)]
 pub(crate) struct Carved {
-    pub(crate) row: Row,
-    pub(crate) block: Option<Block>,
+    pub(crate) chain: Chain,
+    pub(crate) stock: Option<Stock>,
 }
 
 /// Where the free piece begins, and what is left of it before and behind the pieces that were carved out of it.
@@ -67,12 +67,12 @@ impl Carved {
     /// The pages from the first of the first piece to the last of the last one.
     #[inline(always)]
     pub(crate) fn ends(&self) -> Option<Ends>
-        requires { (from : ℕ) × (end : ℕ) × FollowOn from self.now.row end }
-        ensures some { IfSome result (λ ends. FollowOn ends.first self.now.row (ends.last + 1)) }
-        ensures first { IfSome result (λ _. (p : Piece) × (ps : List Piece) × (self.now.row ≡ p ∷ ps)) }
-        ensures none { IfNone result (self.now.row ≡ []) }
+        requires { (from : ℕ) × (end : ℕ) × FollowOn from self.now.chain end }
+        ensures some { IfSome result (λ ends. FollowOn ends.first self.now.chain (ends.last + 1)) }
+        ensures first { IfSome result (λ _. (p : Piece) × (ps : List Piece) × (self.now.chain ≡ p ∷ ps)) }
+        ensures none { IfNone result (self.now.chain ≡ []) }
     {
-        let pieces = self.row.as_slice();
+        let pieces = self.chain.as_slice();
         let first = pieces.first()?;
         let last = pieces.last()?;
         Some(Ends {
@@ -86,27 +86,27 @@ impl Carved {
     #[inline(always)]
     pub(crate) fn next_start(&self, sought: Sought) -> Option<u64>
         requires sought { IsSought sought }
-        requires carved { (a : Space) × IsSpace a × IsCarved a.pieces self.now.row self.now.block }
-        ensures lowest { (a : Space) → IsSpace a → IsCarved a.pieces self.now.row self.now.block
-            → IfSome result (IsLowestFrom sought.floor (with_pieces self.now.row a.pieces) sought.pages sought.unit) }
-        ensures place { IfSome result (λ start. (block : Block) × (self.now.block ≡ Some block)
-            × CanCarve self.now.row block start sought.pages) }
+        requires carved { (a : Space) × IsSpace a × IsCarved a.pieces self.now.chain self.now.stock }
+        ensures lowest { (a : Space) → IsSpace a → IsCarved a.pieces self.now.chain self.now.stock
+            → IfSome result (IsLowestFrom sought.floor (with_pieces self.now.chain a.pieces) sought.pages sought.unit) }
+        ensures place { IfSome result (λ start. (stock : Stock) × (self.now.stock ≡ Some stock)
+            × CanCarve self.now.chain stock start sought.pages) }
     {
-        let block = self.block?;
-        if sought.floor != block.sought.floor
-            || sought.pages < block.sought.pages
-            || sought.unit < block.sought.unit
+        let stock = self.stock?;
+        if sought.floor != stock.sought.floor
+            || sought.pages < stock.sought.pages
+            || sought.unit < stock.sought.unit
         {
             return None;
         }
-        let low = block.pages.first.max(sought.floor);
+        let low = stock.pages.first.max(sought.floor);
         let start = match self.ends() {
             None => round_up(low, sought.unit),
             // What is free before the pieces may have room by now.
             Some(ends) if has_room(low, ends.first, sought) => return None,
             Some(ends) => ends.last + 1,
         };
-        if start & (sought.unit - 1) == 0 && start + sought.pages <= block.pages.last {
+        if start & (sought.unit - 1) == 0 && start + sought.pages <= stock.pages.last {
             return Some(start);
         }
         None
@@ -118,11 +118,11 @@ impl Carved {
         requires some { 1 ≤ pages }
         requires narrow { start + pages < NUMBERS_END }
         ensures carved { result ≡ true
-            → self.new.row ≡ self.old.row ++ piece_of (record { first = start; pages = pages }) PageState.Live ∷ [] }
-        ensures unchanged { result ≡ false → self.new.row ≡ self.old.row }
-        ensures block { self.new.block ≡ self.old.block }
+            → self.new.chain ≡ self.old.chain ++ piece_of (record { first = start; pages = pages }) PageState.Live ∷ [] }
+        ensures unchanged { result ≡ false → self.new.chain ≡ self.old.chain }
+        ensures stock { self.new.stock ≡ self.old.stock }
     {
-        self.row.push(Piece {
+        self.chain.push(Piece {
             first: start,
             last: start + pages - 1,
             state: PageState::Live,
@@ -132,10 +132,10 @@ impl Carved {
     /// Where the piece lies that has some pages, if there is one: mostly it is the last one.
     #[inline(always)]
     pub(crate) fn place_of(&self, pages: Ends) -> Option<usize>
-        requires { (from : ℕ) × (end : ℕ) × FollowOn from self.now.row end }
-        ensures { IfSome result (IsAt self.now.row pages) }
+        requires { (from : ℕ) × (end : ℕ) × FollowOn from self.now.chain end }
+        ensures { IfSome result (IsAt self.now.chain pages) }
     {
-        let pieces = self.row.as_slice();
+        let pieces = self.chain.as_slice();
         let last = pieces.len().checked_sub(1)?;
         if is_at(pieces, last, pages) {
             return Some(last);
@@ -146,11 +146,11 @@ impl Carved {
     /// Whether a live piece has some pages.
     #[inline(always)]
     pub(crate) fn is_live(&self, pages: Ends) -> bool
-        requires { (from : ℕ) × (end : ℕ) × FollowOn from self.now.row end }
-        ensures { IsTrue result → IsIn (pages_as pages PageState.Live) self.now.row }
+        requires { (from : ℕ) × (end : ℕ) × FollowOn from self.now.chain end }
+        ensures { IsTrue result → IsIn (pages_as pages PageState.Live) self.now.chain }
     {
         match self.place_of(pages) {
-            Some(place) => matches!(self.row.as_slice()[place].state, PageState::Live),
+            Some(place) => matches!(self.chain.as_slice()[place].state, PageState::Live),
             None => false,
         }
     }
@@ -158,17 +158,17 @@ impl Carved {
     /// Lets the piece that has some pages come free, where it is the last one or the first.
     #[inline(always)]
     pub(crate) fn give_back(&mut self, pages: Ends) -> bool
-        requires { (from : ℕ) × (end : ℕ) × FollowOn from self.old.row end }
-        ensures given { result ≡ true → LosesEnd self.old.row self.new.row pages }
-        ensures unchanged { result ≡ false → self.new.row ≡ self.old.row }
-        ensures block { self.new.block ≡ self.old.block }
+        requires { (from : ℕ) × (end : ℕ) × FollowOn from self.old.chain end }
+        ensures given { result ≡ true → LosesEnd self.old.chain self.new.chain pages }
+        ensures unchanged { result ≡ false → self.new.chain ≡ self.old.chain }
+        ensures stock { self.new.stock ≡ self.old.stock }
     {
-        let pieces = self.row.as_slice();
+        let pieces = self.chain.as_slice();
         if pieces.is_empty() {
             return false;
         }
         if is_at(pieces, pieces.len() - 1, pages) {
-            self.row.lose_last();
+            self.chain.lose_last();
             return true;
         }
         self.give_back_first(pages)
@@ -176,13 +176,13 @@ impl Carved {
 
     // The same, where it is the first.
     fn give_back_first(&mut self, pages: Ends) -> bool
-        requires { 0 < length self.old.row }
-        ensures given { result ≡ true → LosesEnd self.old.row self.new.row pages }
-        ensures unchanged { result ≡ false → self.new.row ≡ self.old.row }
-        ensures block { self.new.block ≡ self.old.block }
+        requires { 0 < length self.old.chain }
+        ensures given { result ≡ true → LosesEnd self.old.chain self.new.chain pages }
+        ensures unchanged { result ≡ false → self.new.chain ≡ self.old.chain }
+        ensures stock { self.new.stock ≡ self.old.stock }
     {
-        if is_at(self.row.as_slice(), 0, pages) {
-            self.row.lose_first(1);
+        if is_at(self.chain.as_slice(), 0, pages) {
+            self.chain.lose_first(1);
             return true;
         }
         false
@@ -190,18 +190,18 @@ impl Carved {
 
     /// What the pieces stand in the place of, and what is free before them and behind them.
     pub(crate) fn parts(&self) -> Parts
-        requires { (a : Space) × IsSpace a × IsCarved a.pieces self.now.row self.now.block }
-        ensures none { self.now.row ≡ [] → (result.before ≡ None) × (result.behind ≡ None) }
-        ensures some { (a : Space) (first : Piece) (rest : List Piece) → IsSpace a → IsCarved a.pieces self.now.row self.now.block
-            → self.now.row ≡ first ∷ rest
-            → in_place_of result.first (free_of result.before ++ self.now.row ++ free_of result.behind) a.pieces
-            ≡ with_pieces self.now.row a.pieces }
+        requires { (a : Space) × IsSpace a × IsCarved a.pieces self.now.chain self.now.stock }
+        ensures none { self.now.chain ≡ [] → (result.before ≡ None) × (result.behind ≡ None) }
+        ensures some { (a : Space) (first : Piece) (rest : List Piece) → IsSpace a → IsCarved a.pieces self.now.chain self.now.stock
+            → self.now.chain ≡ first ∷ rest
+            → in_place_of result.first (free_of result.before ++ self.now.chain ++ free_of result.behind) a.pieces
+            ≡ with_pieces self.now.chain a.pieces }
     {
-        match (self.ends(), self.block) {
-            (Some(ends), Some(block)) => Parts {
-                first: block.pages.first,
-                before: between(block.pages.first, ends.first - 1),
-                behind: between(ends.last + 1, block.pages.last),
+        match (self.ends(), self.stock) {
+            (Some(ends), Some(stock)) => Parts {
+                first: stock.pages.first,
+                before: between(stock.pages.first, ends.first - 1),
+                behind: between(ends.last + 1, stock.pages.last),
             },
             _ => Parts {
                 first: 0,
@@ -213,12 +213,12 @@ impl Carved {
 
     /// How many pieces, from the first of them on, have just these pages, if some have.
     pub(crate) fn run_count(&self, pages: Ends) -> Option<usize>
-        ensures first { IfSome result (λ _. (piece : Piece) × (slice_get self.now.row 0 ≡ Some piece) × (piece.first ≡ pages.first)) }
-        ensures last { IfSome result (λ count. (piece : Piece) × (slice_get self.now.row (count - 1) ≡ Some piece)
+        ensures first { IfSome result (λ _. (piece : Piece) × (slice_get self.now.chain 0 ≡ Some piece) × (piece.first ≡ pages.first)) }
+        ensures last { IfSome result (λ count. (piece : Piece) × (slice_get self.now.chain (count - 1) ≡ Some piece)
             × (piece.last ≡ pages.last)) }
-        ensures count { IfSome result (λ count. (0 < count) × (count ≤ length self.now.row)) }
+        ensures count { IfSome result (λ count. (0 < count) × (count ≤ length self.now.chain)) }
     {
-        let pieces = self.row.as_slice();
+        let pieces = self.chain.as_slice();
         let first = pieces.first()?;
         if first.first != pages.first {
             return None;
@@ -300,13 +300,13 @@ fn search(pieces: &[Piece], page: u64) -> Option<Piece>
 
 /// How many pieces more there are than the tree shows.
 pub(crate) fn more(carved: &Carved) -> usize
-    requires { (a : Space) × IsSpace a × IsCarved a.pieces carved.now.row carved.now.block }
-    ensures { (a : Space) → IsSpace a → IsCarved a.pieces carved.now.row carved.now.block
-        → length (with_pieces carved.now.row a.pieces) ≡ length a.pieces + result }
+    requires { (a : Space) × IsSpace a × IsCarved a.pieces carved.now.chain carved.now.stock }
+    ensures { (a : Space) → IsSpace a → IsCarved a.pieces carved.now.chain carved.now.stock
+        → length (with_pieces carved.now.chain a.pieces) ≡ length a.pieces + result }
 {
-    match (carved.row.as_slice().first(), carved.block) {
-        (Some(first), Some(block)) => carved.row.len()
-            + usize::from(block.pages.first < first.first),
+    match (carved.chain.as_slice().first(), carved.stock) {
+        (Some(first), Some(stock)) => carved.chain.len()
+            + usize::from(stock.pages.first < first.first),
         _ => 0,
     }
 }
@@ -314,7 +314,7 @@ pub(crate) fn more(carved: &Carved) -> usize
 // Writes the pieces into the tree.
 fn put_all(tree: &mut PieceTree, pieces: &[Piece])
     requires space { IsSpace tree.old }
-    requires carved { (block : Block) × AreCarved tree.old.pieces pieces.now block }
+    requires carved { (stock : Stock) × AreCarved tree.old.pieces pieces.now stock }
     ensures tree { tree.new ≡ with_carved pieces.now tree.old }
     ensures space { IsSpace tree.new }
 {
@@ -327,32 +327,32 @@ fn put_all(tree: &mut PieceTree, pieces: &[Piece])
 #[inline(never)]
 fn write(tree: &mut PieceTree, carved: &mut Carved)
     requires space { IsSpace tree.old }
-    requires carved { (block : Block) × AreCarved tree.old.pieces carved.old.row block }
-    ensures tree { tree.new ≡ with_carved carved.old.row tree.old }
+    requires carved { (stock : Stock) × AreCarved tree.old.pieces carved.old.chain stock }
+    ensures tree { tree.new ≡ with_carved carved.old.chain tree.old }
     ensures space { IsSpace tree.new }
-    ensures row { carved.new.row ≡ [] }
-    ensures block { carved.new.block ≡ None }
+    ensures chain { carved.new.chain ≡ [] }
+    ensures stock { carved.new.stock ≡ None }
 {
-    put_all(tree, carved.row.as_slice());
-    carved.row.clear();
-    carved.block = None;
+    put_all(tree, carved.chain.as_slice());
+    carved.chain.clear();
+    carved.stock = None;
 }
 
 /// The same, where mostly there is none.
 #[inline(always)]
 pub(crate) fn settle(tree: &mut PieceTree, carved: &mut Carved)
     requires space { IsSpace tree.old }
-    requires carved { IsCarved tree.old.pieces carved.old.row carved.old.block }
-    ensures tree { tree.new ≡ with_carved carved.old.row tree.old }
+    requires carved { IsCarved tree.old.pieces carved.old.chain carved.old.stock }
+    ensures tree { tree.new ≡ with_carved carved.old.chain tree.old }
     ensures space { IsSpace tree.new }
-    ensures row { carved.new.row ≡ [] }
-    ensures block { carved.new.block ≡ None }
+    ensures chain { carved.new.chain ≡ [] }
+    ensures stock { carved.new.stock ≡ None }
 {
-    if carved.row.len() > 0 {
+    if carved.chain.len() > 0 {
         write(tree, carved);
         return;
     }
-    carved.block = None;
+    carved.stock = None;
 }
 
 /// Makes the lowest pages that are sought one live piece, where none is carved: the first of them.
@@ -364,19 +364,19 @@ pub(crate) fn take(
 ) -> Result<u64, TakeError>
     requires sought { IsSought sought }
     requires space { IsSpace tree.old }
-    requires row { carved.old.row ≡ [] }
-    requires block { carved.old.block ≡ None }
+    requires chain { carved.old.chain ≡ [] }
+    requires stock { carved.old.stock ≡ None }
     ensures lowest { IfOk result (IsLowestFrom sought.floor tree.old.pieces sought.pages sought.unit) }
     ensures taken { IfOk result (λ start.
-        Takes tree.old (with_carved carved.new.row tree.new) (record { first = start; pages = sought.pages })) }
+        Takes tree.old (with_carved carved.new.chain tree.new) (record { first = start; pages = sought.pages })) }
     ensures space { IsSpace tree.new }
-    ensures carved { IsCarved tree.new.pieces carved.new.row carved.new.block }
+    ensures carved { IsCarved tree.new.pieces carved.new.chain carved.new.stock }
     ensures no_range { (result ≡ Err TakeError.NoRange)
         ↔ ((start : ℕ) → IsFit tree.old.pieces sought.pages sought.unit start → ⊥) }
     ensures too_many { (result ≡ Err TakeError.TooManyPieces)
         ↔ ((start : ℕ) × IsLowestFrom sought.floor tree.old.pieces sought.pages sought.unit start
         × IsTooMany tree.old.pieces (record { first = start; pages = sought.pages })) }
-    ensures unchanged { OnErr result (with_carved carved.new.row tree.new ≡ tree.old) }
+    ensures unchanged { OnErr result (with_carved carved.new.chain tree.new ≡ tree.old) }
 {
     if sought.floor == 1 {
         if let Some(start) = tree.take_freed(sought.pages, sought.unit) {
@@ -390,19 +390,19 @@ pub(crate) fn take(
 fn take_found(tree: &mut PieceTree, carved: &mut Carved, sought: Sought) -> Result<u64, TakeError>
     requires sought { IsSought sought }
     requires space { IsSpace tree.old }
-    requires row { carved.old.row ≡ [] }
-    requires block { carved.old.block ≡ None }
+    requires chain { carved.old.chain ≡ [] }
+    requires stock { carved.old.stock ≡ None }
     ensures lowest { IfOk result (IsLowestFrom sought.floor tree.old.pieces sought.pages sought.unit) }
     ensures taken { IfOk result (λ start.
-        Takes tree.old (with_carved carved.new.row tree.new) (record { first = start; pages = sought.pages })) }
+        Takes tree.old (with_carved carved.new.chain tree.new) (record { first = start; pages = sought.pages })) }
     ensures space { IsSpace tree.new }
-    ensures carved { IsCarved tree.new.pieces carved.new.row carved.new.block }
+    ensures carved { IsCarved tree.new.pieces carved.new.chain carved.new.stock }
     ensures no_range { (result ≡ Err TakeError.NoRange)
         ↔ ((start : ℕ) → IsFit tree.old.pieces sought.pages sought.unit start → ⊥) }
     ensures too_many { (result ≡ Err TakeError.TooManyPieces)
         ↔ ((start : ℕ) × IsLowestFrom sought.floor tree.old.pieces sought.pages sought.unit start
         × IsTooMany tree.old.pieces (record { first = start; pages = sought.pages })) }
-    ensures unchanged { OnErr result (with_carved carved.new.row tree.new ≡ tree.old) }
+    ensures unchanged { OnErr result (with_carved carved.new.chain tree.new ≡ tree.old) }
 {
     let Some(found) = tree.find(sought) else {
         return Err(TakeError::NoRange);
@@ -437,15 +437,15 @@ fn is_too_many(tree: &PieceTree, sought: Sought, found: Found) -> bool
 fn put_found(tree: &mut PieceTree, carved: &mut Carved, sought: Sought, found: Found)
     requires sought { IsSought sought }
     requires space { IsSpace tree.old }
-    requires row { carved.old.row ≡ [] }
-    requires block { carved.old.block ≡ None }
+    requires chain { carved.old.chain ≡ [] }
+    requires stock { carved.old.stock ≡ None }
     requires lowest { IsLowestFrom sought.floor tree.old.pieces sought.pages sought.unit found.start }
     requires there { IsIn (pages_as found.known.pages PageState.Free) tree.old.pieces }
     requires inside { (found.known.pages.first ≤ found.start) × (found.start + sought.pages ≤ found.known.pages.last + 1) }
     requires few { IsTooMany tree.old.pieces (record { first = found.start; pages = sought.pages }) → ⊥ }
-    ensures taken { Takes tree.old (with_carved carved.new.row tree.new) (record { first = found.start; pages = sought.pages }) }
+    ensures taken { Takes tree.old (with_carved carved.new.chain tree.new) (record { first = found.start; pages = sought.pages }) }
     ensures space { IsSpace tree.new }
-    ensures carved { IsCarved tree.new.pieces carved.new.row carved.new.block }
+    ensures carved { IsCarved tree.new.pieces carved.new.chain carved.new.stock }
 {
     let start = found.start;
     let pages = found.known.pages;
@@ -459,7 +459,7 @@ fn put_found(tree: &mut PieceTree, carved: &mut Carved, sought: Sought, found: F
         return;
     }
     let sought = least_sought(tree, sought, pages.first);
-    carved.block = Some(Block { pages, sought });
+    carved.stock = Some(Stock { pages, sought });
 }
 
 // What of nothing begins before a free piece: any page, where it is known to be the lowest, else what was sought.

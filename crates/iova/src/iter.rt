@@ -13,11 +13,11 @@ use std::marker::Model;
 #[derive(Drop)]
 pub struct Iter<'a> {
     pub(crate) tree: TreeIter<'a>,
-    // What comes in the place of the tree's piece that begins at this page: what is left of it before the row, the row, and what is left
+    // What comes in the place of the tree's piece that begins at this page: what is left of it before the chain, the chain, and what is left
     // behind it.
     pub(crate) first: u64,
     pub(crate) before: Option<Ends>,
-    pub(crate) row: &'a [Piece],
+    pub(crate) chain: &'a [Piece],
     pub(crate) behind: Option<Ends>,
     // Whether the tree's piece was passed.
     pub(crate) passed: bool,
@@ -30,8 +30,8 @@ impl<'a> Model for Iter<'a> {
 
     ghost Value = { List Piece };
 
-    ghost view = { λ it. if it.passed then free_of it.before ++ it.row.now ++ free_of it.behind ++ it.tree
-        else in_place_of it.first (free_of it.before ++ it.row.now ++ free_of it.behind) it.tree };
+    ghost view = { λ it. if it.passed then free_of it.before ++ it.chain.now ++ free_of it.behind ++ it.tree
+        else in_place_of it.first (free_of it.before ++ it.chain.now ++ free_of it.behind) it.tree };
 }
 
 impl<'a> Iterator for Iter<'a> {
@@ -53,8 +53,8 @@ impl<'a> Iterator for Iter<'a> {
             self.before = None;
             return Some(free_piece(ends));
         }
-        if let Some((piece, behind)) = self.row.split_first() {
-            self.row = behind;
+        if let Some((piece, behind)) = self.chain.split_first() {
+            self.chain = behind;
             return Some(*piece);
         }
         if let Some(ends) = self.behind {

@@ -22,6 +22,7 @@
 mod before;
 mod beside;
 mod carved;
+mod chain;
 mod ends;
 mod fits;
 mod grow;
@@ -33,7 +34,6 @@ mod pending;
 mod piece;
 mod piece_tree;
 mod put;
-mod row;
 mod search;
 mod settle;
 mod space;

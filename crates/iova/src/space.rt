@@ -7,11 +7,11 @@ ghost use Rattle.std.specs.Prelude.{◌-◌, IsOk, IsTrue, Ok, Err, vec_capacity
 use crate::beside::Ends;
 use crate::carved;
 use crate::carved::{Carved, Sought};
+use crate::chain::Chain;
 use crate::iter::Iter;
 use crate::node::NUMBERS_END;
 use crate::piece::{PageState, Piece};
 use crate::piece_tree::PieceTree;
-use crate::row::Row;
 use dmatypes::{MOST_PAGES, PAGES_END, Page, PageRange};
 use std::alloc::{AllocError, Global};
 use std::marker::Model;
@@ -74,9 +74,9 @@ impl Model for Space {
 
     ghost Value = { Space };
 
-    ghost view = { λ a. with_carved a.carved.row a.tree };
+    ghost view = { λ a. with_carved a.carved.chain a.tree };
 
-    ghost invariant = { λ a. IsSpace a.tree × IsCarved a.tree.pieces a.carved.row a.carved.block };
+    ghost invariant = { λ a. IsSpace a.tree × IsCarved a.tree.pieces a.carved.chain a.carved.stock };
 }
 
 impl Space {
@@ -99,10 +99,10 @@ impl Space {
         ensures space { IfOk result IsSpace }
     {
         let tree = PieceTree::new(alloc, last)?;
-        let row = Row::new(alloc)?;
+        let chain = Chain::new(alloc)?;
         Ok(Space {
             tree,
-            carved: Carved { row, block: None },
+            carved: Carved { chain, stock: None },
         })
     }
 
@@ -114,8 +114,8 @@ impl Space {
         ensures free { AllFree self.new }
         ensures space { IsSpace self.new }
     {
-        self.carved.row.clear();
-        self.carved.block = None;
+        self.carved.chain.clear();
+        self.carved.stock = None;
         self.tree.reset(last);
     }
 
@@ -124,15 +124,15 @@ impl Space {
         ensures pieces { result ≡ self.now.pieces }
         ensures space { IsSpace self.now }
     {
-        let row = self.carved.row.as_slice();
+        let chain = self.carved.chain.as_slice();
         let parts = self.carved.parts();
         Iter {
             tree: self.tree.pieces(),
             first: parts.first,
             before: parts.before,
-            row,
+            chain,
             behind: parts.behind,
-            passed: row.is_empty(),
+            passed: chain.is_empty(),
         }
     }
 
@@ -149,7 +149,7 @@ impl Space {
         ensures state { result ≡ state_at self.now.pieces page }
         ensures some { IsSome result ↔ (page ≤ self.now.last) }
     {
-        match carved::piece_at(self.carved.row.as_slice(), page.number()) {
+        match carved::piece_at(self.carved.chain.as_slice(), page.number()) {
             Some(piece) => Some(piece.state),
             None => self.tree.state_of(page),
         }
@@ -258,7 +258,7 @@ impl Space {
     fn has_few_pieces(&self) -> bool
         ensures { IsTrue result ↔ (length self.now.pieces ≤ MOST_PIECES_TO_CUT) }
     {
-        let most = self.tree.most_pieces() + self.carved.row.len();
+        let most = self.tree.most_pieces() + self.carved.chain.len();
         if most < MOST_PIECES_TO_CUT {
             return true;
         }
@@ -290,7 +290,7 @@ impl Space {
         ensures none { IfNone result (state_at self.now.pieces page ≢ Some PageState.Live) }
         ensures space { IsSpace self.now }
     {
-        match carved::piece_at(self.carved.row.as_slice(), page) {
+        match carved::piece_at(self.carved.chain.as_slice(), page) {
             Some(piece) => match piece.state {
                 PageState::Live => Some(piece),
                 PageState::Free | PageState::Retired => None,
@@ -361,7 +361,7 @@ impl Space {
     {
         let pages = ends_of(range);
         if let Some(place) = self.carved.place_of(pages) {
-            self.carved.row.retire(place);
+            self.carved.chain.retire(place);
             return;
         }
         carved::settle(&mut self.tree, &mut self.carved);
@@ -379,9 +379,9 @@ impl Space {
         if self.carved.give_back(pages) {
             return;
         }
-        let was_carved = self.carved.row.len() > 0;
+        let was_carved = self.carved.chain.len() > 0;
         carved::settle(&mut self.tree, &mut self.carved);
-        // It was judged in the row, so the tree has not looked for it yet.
+        // It was judged in the chain, so the tree has not looked for it yet.
         if was_carved {
             self.tree.hold_live(pages);
         }
@@ -418,7 +418,7 @@ impl Space {
     {
         let pages = ends_of(range);
         if let Some(count) = self.carved.run_count(pages) {
-            self.carved.row.lose_first(count);
+            self.carved.chain.lose_first(count);
             return;
         }
         carved::settle(&mut self.tree, &mut self.carved);

@@ -1,4 +1,4 @@
--- Where a piece of the row lies.
+-- Where a piece of the chain lies.
 use Rattle.std.proofs.Common.{◌≡◌, ℕ, zero, suc, ◌+◌, ◌-◌, ◌<◌, List, [], ◌∷◌, ◌++◌, length, get_or, slice_get, Some}
 use Rattle.std.proofs.Common.{refl, ap, sym, ◌∙◌, subst, inl, inr, arith, drop, append-nil, length-append}
 use Rattle.std.proofs.Math.Seq.{get_or-append_seam}
@@ -11,69 +11,74 @@ use Rattle.iova.specs.Way.{pages_as}
 use Rattle.iova.proofs.Among.{in_append_right}
 
 -- a piece that begins and ends with the pages lies at its place
-pub at_place : (row : List Piece) (place : ℕ) (p d : Piece) (pages : Ends) → place < length row → p ≡ get_or row place d
-    → p.first ≡ pages.first → p.last ≡ pages.last → IsAt row pages place
+pub at_place : (chain : List Piece) (place : ℕ) (p d : Piece) (pages : Ends) → place < length chain → p ≡ get_or chain place d
+    → p.first ≡ pages.first → p.last ≡ pages.last → IsAt chain pages place
 at_place [] place p d pages l is f g = absurd (omega arith)
-at_place (q ∷ row) zero p d pages l is f g =
+at_place (q ∷ chain) zero p d pages l is f g =
     let first : q.first ≡ pages.first = ap (λ (r : Piece). r.first) (sym is) ∙ f in
     let last : q.last ≡ pages.last = ap (λ (r : Piece). r.last) (sym is) ∙ g in
     let same : q ≡ pages_as pages q.state = ap (λ n. record { first = n; last = q.last; state = q.state }) first
     ∙ ap (λ n. record { first = pages.first; last = n; state = q.state }) last in
-    ([], q.state, row, ap (λ r. r ∷ row) same, refl)
-at_place (q ∷ row) (suc place) p d pages l is f g =
-    let r = at_place row place p d pages (omega arith) is f g in
+    ([], q.state, chain, ap (λ r. r ∷ chain) same, refl)
+at_place (q ∷ chain) (suc place) p d pages l is f g =
+    let r = at_place chain place p d pages (omega arith) is f g in
     (q ∷ r.0, r.1, r.2, ap (λ l. q ∷ l) r.3, ap suc r.4)
 
 -- and it is live, if the piece at that place is
-pub live_there : (row : List Piece) (pages : Ends) (place : ℕ) (d : Piece) → IsAt row pages place
-    → (get_or row place d).state ≡ Live → IsIn (pages_as pages Live) row
-live_there row pages place d at live =
+pub live_there : (chain : List Piece) (pages : Ends) (place : ℕ) (d : Piece) → IsAt chain pages place
+    → (get_or chain place d).state ≡ Live → IsIn (pages_as pages Live) chain
+live_there chain pages place d at live =
     let q : Piece = pages_as pages at.1 in
-    let same : get_or row place d ≡ q = ap (λ l. get_or l place d) at.3 ∙ ap (λ n. get_or (at.0 ++ q ∷ at.2) n d) at.4
+    let same : get_or chain place d ≡ q = ap (λ l. get_or l place d) at.3 ∙ ap (λ n. get_or (at.0 ++ q ∷ at.2) n d) at.4
     ∙ get_or-append_seam at.0 q at.2 d in
     let state : at.1 ≡ Live = ap (λ (r : Piece). r.state) (sym same) ∙ live in
-    subst (λ s. IsIn (pages_as pages s) row) state
+    subst (λ s. IsIn (pages_as pages s) chain) state
     (subst (λ l. IsIn q l) (sym at.3) (in_append_right q at.0 (q ∷ at.2) (inl refl)))
 
 -- pieces that follow on end with the last one
-follow_last : (from : ℕ) (row : List Piece) (end n : ℕ) (q : Piece) → FollowOn from row end → n + 1 ≡ length row
-    → slice_get row n ≡ Some q → FollowOn from row (q.last + 1)
+follow_last : (from : ℕ) (chain : List Piece) (end n : ℕ) (q : Piece) → FollowOn from chain end → n + 1 ≡ length chain
+    → slice_get chain n ≡ Some q → FollowOn from chain (q.last + 1)
 follow_last from [] end n q f l g = absurd (omega (arith, l))
 follow_last from (r ∷ []) end zero q f l g =
     let same : r ≡ q = cc in (f.0, f.1, f.2, ap (λ (x : Piece). x.last + 1) same)
-follow_last from (r ∷ s ∷ row) end zero q f l g = absurd (omega (arith, l))
-follow_last from (r ∷ row) end (suc n) q f l g = (f.0, f.1, f.2, follow_last (r.last + 1) row end n q f.3 (omega (arith, l)) g)
+follow_last from (r ∷ s ∷ chain) end zero q f l g = absurd (omega (arith, l))
+follow_last from (r ∷ chain) end (suc n) q f l g = (f.0, f.1, f.2, follow_last (r.last + 1) chain end n q f.3 (omega (arith, l)) g)
 
 -- from the first of the first piece to the last of the last one
-pub follow_got : (from : ℕ) (row : List Piece) (end : ℕ) (p q : Piece) → FollowOn from row end → slice_get row 0 ≡ Some p
-    → slice_get row (length row - 1) ≡ Some q → FollowOn p.first row (q.last + 1) × (ps : List Piece) × (row ≡ p ∷ ps)
+pub follow_got : (from : ℕ) (chain : List Piece) (end : ℕ) (p q : Piece) → FollowOn from chain end → slice_get chain 0 ≡ Some p
+    → slice_get chain (length chain - 1) ≡ Some q → FollowOn p.first chain (q.last + 1) × (ps : List Piece) × (chain ≡ p ∷ ps)
 follow_got from [] end p q f e g = absurd (cc)
-follow_got from (r ∷ row) end p q f e g =
+follow_got from (r ∷ chain) end p q f e g =
     let same : r ≡ p = cc in
-    let h = follow_last from (r ∷ row) end (length (r ∷ row) - 1) q f (omega arith) g in
-    ((ap (λ (x : Piece). x.first) same, h.1, h.2, h.3), row, ap (λ x. x ∷ row) same)
+    let h = follow_last from (r ∷ chain) end (length (r ∷ chain) - 1) q f (omega arith) g in
+    ((ap (λ (x : Piece). x.first) same, h.1, h.2, h.3), chain, ap (λ x. x ∷ chain) same)
 
 -- from a page on they end with one page
-pub ends_alike : (from : ℕ) (row : List Piece) (end other : ℕ) → FollowOn from row end → FollowOn from row other → end ≡ other
+pub ends_alike : (from : ℕ) (chain : List Piece) (end other : ℕ) → FollowOn from chain end → FollowOn from chain other → end ≡ other
 ends_alike from [] end other f g = sym f ∙ g
-ends_alike from (p ∷ row) end other f g = ends_alike (p.last + 1) row end other f.3 g.3
+ends_alike from (p ∷ chain) end other f g = ends_alike (p.last + 1) chain end other f.3 g.3
 
 -- ---- the first or the last leaves
 
-no_more : (row : List Piece) → length row ≡ 0 → row ≡ []
+no_more : (chain : List Piece) → length chain ≡ 0 → chain ≡ []
 no_more [] e = refl
-no_more (p ∷ row) e = absurd (omega (arith, e))
+no_more (p ∷ chain) e = absurd (omega (arith, e))
 
-pub first_lost : (row now : List Piece) (pages : Ends) → IsAt row pages 0 → now ≡ drop 1 row → LosesEnd row now pages
-first_lost row now pages at e =
+pub first_lost : (chain now : List Piece) (pages : Ends) → IsAt chain pages 0 → now ≡ drop 1 chain → LosesEnd chain now pages
+first_lost chain now pages at e =
     let none : at.0 ≡ [] = no_more at.0 (sym at.4) in
-    let parts : row ≡ pages_as pages at.1 ∷ at.2 = at.3 ∙ ap (λ l. l ++ pages_as pages at.1 ∷ at.2) none in
+    let parts : chain ≡ pages_as pages at.1 ∷ at.2 = at.3 ∙ ap (λ l. l ++ pages_as pages at.1 ∷ at.2) none in
     ([], at.1, at.2, parts, inl refl, e ∙ ap (λ l. drop 1 l) parts)
 
-pub last_lost : (row now : List Piece) (pages : Ends) (place : ℕ) → IsAt row pages place → place + 1 ≡ length row
-    → ((before : List Piece) (last : Piece) → row ≡ before ++ last ∷ [] → now ≡ before) → LosesEnd row now pages
-last_lost row now pages place at e left =
-    let none : at.2 ≡ [] = no_more at.2 (omega (arith, e, at.4, ap (λ (l : List Piece). length l) at.3,
-    length-append at.0 (pages_as pages at.1 ∷ at.2))) in
-    let parts : row ≡ at.0 ++ pages_as pages at.1 ∷ [] = at.3 ∙ ap (λ l. at.0 ++ pages_as pages at.1 ∷ l) none in
+pub last_lost : (chain now : List Piece) (pages : Ends) (place : ℕ) → IsAt chain pages place → place + 1 ≡ length chain
+    → ((before : List Piece) (last : Piece) → chain ≡ before ++ last ∷ [] → now ≡ before) → LosesEnd chain now pages
+last_lost chain now pages place at e left =
+    let none : at.2 ≡ [] = no_more at.2 (omega (
+      arith,
+      e,
+      at.4,
+      ap (λ (l : List Piece). length l) at.3,
+      length-append at.0 (pages_as pages at.1 ∷ at.2),
+    )) in
+    let parts : chain ≡ at.0 ++ pages_as pages at.1 ∷ [] = at.3 ∙ ap (λ l. at.0 ++ pages_as pages at.1 ∷ l) none in
     (at.0, at.1, [], parts, inr refl, left at.0 (pages_as pages at.1) parts ∙ sym (append-nil at.0))

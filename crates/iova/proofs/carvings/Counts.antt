@@ -1,7 +1,7 @@
 -- How many pieces there are once some were carved out of a free piece, and that fewer fit too.
 use Rattle.std.proofs.Common.{◌≡◌, ℕ, ◌+◌, ◌≤◌, List, [], ◌∷◌, ◌++◌, length, refl, ap, ◌∙◌, inl, inr, subst, arith, length-append}
 use Rattle.std.proofs.Common.{Option, None, Some, sym}
-use Rattle.iova.specs.declared.carved.Block.{Block}
+use Rattle.iova.specs.declared.carved.Stock.{Stock}
 use Rattle.iova.specs.Carved.{IsCarved}
 use Rattle.iova.specs.declared.piece.Piece.{Piece}
 use Rattle.iova.specs.declared.space.TheConstants.{MOST_PIECES}
@@ -12,7 +12,7 @@ use Rattle.iova.specs.Tree.{rest_below}
 use Rattle.iova.proofs.Pieces.{order}
 use Rattle.iova.proofs.Shown.{parted}
 use Rattle.iova.proofs.parts.Added.{rest_below-none, rest_below-some}
-use Rattle.iova.proofs.carvings.InPlace.{free_piece, row_is}
+use Rattle.iova.proofs.carvings.InPlace.{free_piece, chain_is}
 use Rattle.iova.proofs.carvings.State.{Carving}
 
 -- at most one piece is left before them
@@ -40,7 +40,7 @@ module _ (a : Space) (first last : ℕ) (ordered : IsOrdered 1 a.pieces)
       let zs = xs ++ rest_below e.first (free_piece first last) in
       let o = subst (λ l. IsOrdered 1 l) was ordered in
       let is = ap (λ l. with_pieces (e ∷ es) l) was
-      ∙ row_is xs first last ys e es end o (omega (arith, low, f.0)) (refl, f.1, f.2, f.3) left in
+      ∙ chain_is xs first last ys e es end o (omega (arith, low, f.0)) (refl, f.1, f.2, f.3) left in
       omega (
         arith,
         ap (λ (l : List Piece). length l) is,
@@ -52,40 +52,40 @@ module _ (a : Space) (first last : ℕ) (ordered : IsOrdered 1 a.pieces)
       )
 
   -- each piece makes at most one more, and the first of them two
-  pub count_most : (row : List Piece) (begin end : ℕ) → first ≤ begin → FollowOn begin row end → end ≤ last
-      → length (with_pieces row a.pieces) ≤ length a.pieces + length row + 1
+  pub count_most : (chain : List Piece) (begin end : ℕ) → first ≤ begin → FollowOn begin chain end → end ≤ last
+      → length (with_pieces chain a.pieces) ≤ length a.pieces + length chain + 1
   count_most [] begin end low f left = omega arith
   count_most (e ∷ es) begin end low f left =
       omega (arith, counted e es begin end low f left, rest_few e.first (free_piece first last))
 
   -- and at least one more
-  pub count_least : (row : List Piece) (begin end : ℕ) → first ≤ begin → FollowOn begin row end → end ≤ last
-      → length a.pieces + length row ≤ length (with_pieces row a.pieces)
+  pub count_least : (chain : List Piece) (begin end : ℕ) → first ≤ begin → FollowOn begin chain end → end ≤ last
+      → length a.pieces + length chain ≤ length (with_pieces chain a.pieces)
   count_least [] begin end low f left = omega arith
   count_least (e ∷ es) begin end low f left = omega (arith, counted e es begin end low f left)
 
 -- where one piece less is carved, they fit
-pub few_less : (a : Space) (first last : ℕ) (row : List Piece) (begin end : ℕ) (less : List Piece) (from to : ℕ)
-    → Carving a first last row begin end → first ≤ from → FollowOn from less to → to ≤ last → length less + 1 ≤ length row
+pub few_less : (a : Space) (first last : ℕ) (chain : List Piece) (begin end : ℕ) (less : List Piece) (from to : ℕ)
+    → Carving a first last chain begin end → first ≤ from → FollowOn from less to → to ≤ last → length less + 1 ≤ length chain
     → length (with_pieces less a.pieces) ≤ MOST_PIECES
-few_less a first last row begin end less from to c low f left n =
+few_less a first last chain begin end less from to c low f left n =
     omega (
       arith,
       n,
       count_most a first last c.space.ordered c.there less from to low f left,
-      count_least a first last c.space.ordered c.there row begin end c.low c.follow c.left,
+      count_least a first last c.space.ordered c.there chain begin end c.low c.follow c.left,
       c.few,
     )
 
 -- the pieces that are carved are few, and each makes at most one more, and the first of them two
-pub few_carved : (a : Space) (row : List Piece) (known : Option Block) → IsSpace a → IsCarved a.pieces row known
-    → (length (with_pieces row a.pieces) ≤ length a.pieces + length row + 1) × (length row ≤ MOST_PIECES)
-few_carved a row None sp k =
+pub few_carved : (a : Space) (chain : List Piece) (known : Option Stock) → IsSpace a → IsCarved a.pieces chain known
+    → (length (with_pieces chain a.pieces) ≤ length a.pieces + length chain + 1) × (length chain ≤ MOST_PIECES)
+few_carved a chain None sp k =
     subst (λ l. (length (with_pieces l a.pieces) ≤ length a.pieces + length l + 1) × (length l ≤ MOST_PIECES)) (sym k)
     (omega arith, omega arith)
-few_carved a row (Some block) sp k =
-    let low : block.pages.first ≤ k.from = omega (arith, k.low) in
-    let least = count_least a block.pages.first block.pages.last sp.ordered k.there row k.from k.end low k.follow k.left in (
-      count_most a block.pages.first block.pages.last sp.ordered k.there row k.from k.end low k.follow k.left,
+few_carved a chain (Some stock) sp k =
+    let low : stock.pages.first ≤ k.from = omega (arith, k.low) in
+    let least = count_least a stock.pages.first stock.pages.last sp.ordered k.there chain k.from k.end low k.follow k.left in (
+      count_most a stock.pages.first stock.pages.last sp.ordered k.there chain k.from k.end low k.follow k.left,
       omega (arith, least, k.few),
     )

@@ -4,7 +4,7 @@ use Rattle.std.proofs.Common.{Option, None, Some, append-nil, length-append}
 use Rattle.dmatypes.specs.Page.{Range}
 use Rattle.dmatypes.specs.World.{IsIn}
 use Rattle.iova.specs.declared.beside.Ends.{Ends}
-use Rattle.iova.specs.declared.carved.Block.{Block}
+use Rattle.iova.specs.declared.carved.Stock.{Stock}
 use Rattle.iova.specs.declared.piece.PageState.{PageState}
 use Rattle.iova.specs.declared.piece.PageState.TheVariants.{Live}
 use Rattle.iova.specs.declared.piece.Piece.{Piece}
@@ -20,7 +20,7 @@ use Rattle.iova.proofs.searches.Holding.{may_whole}
 use Rattle.iova.proofs.carvings.Counts.{few_less}
 use Rattle.iova.proofs.carvings.GivenBack.{given_back}
 use Rattle.iova.proofs.carvings.InPlace.{follow_le, follow_parts}
-use Rattle.iova.proofs.carvings.State.{Carving, carved_space, carving, follow_in, row_there, same_state}
+use Rattle.iova.proofs.carvings.State.{Carving, carved_space, carving, follow_in, chain_there, same_state}
 
 -- the pages of a range as a piece
 pub as_piece : (pages : Ends) (range : Range) (s : PageState) → pages.first ≡ range.first → pages.last ≡ range.first + range.pages - 1
@@ -29,30 +29,30 @@ as_piece pages range s f l =
     ap (λ n. record { first = n; last = pages.last; state = s }) f ∙ ap (λ n. record { first = range.first; last = n; state = s }) l
 
 -- a piece that was carved, with those before it and behind it
-module _ (a : Space) (sp : IsSpace a) (block : Block) (before : List Piece) (pages : Ends) (st : PageState) (behind : List Piece)
-    (c : AreCarved a.pieces (before ++ pages_as pages st ∷ behind) block) (range : Range) (first : pages.first ≡ range.first)
+module _ (a : Space) (sp : IsSpace a) (stock : Stock) (before : List Piece) (pages : Ends) (st : PageState) (behind : List Piece)
+    (c : AreCarved a.pieces (before ++ pages_as pages st ∷ behind) stock) (range : Range) (first : pages.first ≡ range.first)
     (last : pages.last ≡ range.first + range.pages - 1) (some : 1 ≤ range.pages) where
   abbrev e : Piece
   e = pages_as pages st
 
-  abbrev row : List Piece
-  row = before ++ pages_as pages st ∷ behind
+  abbrev chain : List Piece
+  chain = before ++ pages_as pages st ∷ behind
 
   abbrev view : Space
   view = with_carved (before ++ pages_as pages st ∷ behind) a
 
-  abbrev can : Carving a block.pages.first block.pages.last (before ++ pages_as pages st ∷ behind) c.from c.end
-  can = carving a (before ++ pages_as pages st ∷ behind) block sp c
+  abbrev can : Carving a stock.pages.first stock.pages.last (before ++ pages_as pages st ∷ behind) c.from c.end
+  can = carving a (before ++ pages_as pages st ∷ behind) stock sp c
 
   pub viewed : IsSpace (with_carved (before ++ pages_as pages st ∷ behind) a)
-  viewed = carved_space a block.pages.first block.pages.last row c.from c.end can
+  viewed = carved_space a stock.pages.first stock.pages.last chain c.from c.end can
 
   is_piece : pages_as pages st ≡ piece_of range st
   is_piece = as_piece pages range st first last
 
   pub one_there : IsIn (piece_of range st) (with_pieces (before ++ pages_as pages st ∷ behind) a.pieces)
   one_there = subst (λ p. IsIn p view.pieces) is_piece
-      (row_there a block.pages.first block.pages.last row c.from c.end can e (in_append_right e before (e ∷ behind) (inl refl)))
+      (chain_there a stock.pages.first stock.pages.last chain c.from c.end can e (in_append_right e before (e ∷ behind) (inl refl)))
 
   -- the piece with these pages is that one
   pub one_is : (s : PageState) → IsIn (piece_of range s) (with_pieces (before ++ pages_as pages st ∷ behind) a.pieces) → s ≡ st
@@ -98,7 +98,7 @@ module _ (a : Space) (sp : IsSpace a) (block : Block) (before : List Piece) (pag
   )
 
   module _ (side : (before ≡ []) ⊎ (behind ≡ [])) where
-    pub less : AreCarved a.pieces (before ++ behind) block
+    pub less : AreCarved a.pieces (before ++ behind) stock
     less =
         let o = others side in
         record {
@@ -110,7 +110,7 @@ module _ (a : Space) (sp : IsSpace a) (block : Block) (before : List Piece) (pag
           low = omega (arith, c.low, o.2);
           follow = o.3;
           left = omega (arith, c.left, o.4);
-          few = few_less a block.pages.first block.pages.last row c.from c.end (before ++ behind) o.0 o.1 can
+          few = few_less a stock.pages.first stock.pages.last chain c.from c.end (before ++ behind) o.0 o.1 can
               (omega (arith, can.low, o.2)) o.3 (omega (arith, c.left, o.4))
               (omega (arith, length-append before behind, length-append before (e ∷ behind)));
         }
@@ -143,8 +143,8 @@ module _ (a : Space) (sp : IsSpace a) (block : Block) (before : List Piece) (pag
         ≡ with_pieces (before ++ behind) a.pieces
     back =
         let n = follow_le (pages.last + 1) behind c.end follow_here.3 in
-        given_back a block.pages.first block.pages.last row (before ++ behind) c.from c.end less.from less.end can
-        (carving a (before ++ behind) block sp less) range st some
+        given_back a stock.pages.first stock.pages.last chain (before ++ behind) c.from c.end less.from less.end can
+        (carving a (before ++ behind) stock sp less) range st some
         (omega (arith, can.low, follow_le c.from before mid follow_before, follow_here.0, first))
         (omega (arith, n, c.left, last, some)) (one_run (piece_of range st) view.pieces one_there) kept lost
 
@@ -164,9 +164,9 @@ module _ (a : Space) (sp : IsSpace a) (block : Block) (before : List Piece) (pag
         (with_carved (before ++ behind) a)
         (subst (λ t. with_carved (before ++ behind) a ≡ record view { pieces = with_free (piece_of range t) view.pieces }) l new_is)
 
--- what a space is once a piece at an end of the row has come free
-pub record EndFreed (a old : Space) (now : List Piece) (block : Option Block) (range : Range) : Type 0 where
-  pub carved : IsCarved a.pieces now block
+-- what a space is once a piece at an end of the chain has come free
+pub record EndFreed (a old : Space) (now : List Piece) (stock : Option Stock) (range : Range) : Type 0 where
+  pub carved : IsCarved a.pieces now stock
   pub spaces : IsSpace old × IsSpace (with_carved now a)
   pub freed : (s : PageState) → IsIn (piece_of range s) old.pieces → Frees old (with_carved now a) range s
   pub freed_live : MayRetire old.pieces range → FreesLive old (with_carved now a) range
@@ -175,33 +175,33 @@ pub not_empty : (before : List Piece) (e : Piece) (behind : List Piece) → [] �
 not_empty [] e behind h = cc
 not_empty (x ∷ before) e behind h = cc
 
-pub end_freed_in : (a old : Space) (row now : List Piece) (block : Option Block) (pages : Ends) (range : Range) → IsSpace a
-    → IsCarved a.pieces row block → with_carved row a ≡ old → LosesEnd row now pages → pages.first ≡ range.first
-    → pages.last ≡ range.first + range.pages - 1 → 1 ≤ range.pages → EndFreed a old now block range
-end_freed_in a old row now None pages range sp k was w first last some = absurd (not_empty w.0 (pages_as pages w.1) w.2 (sym k ∙ w.3))
-end_freed_in a old row now (Some block) pages range sp k was w first last some =
-    let c : AreCarved a.pieces (w.0 ++ pages_as pages w.1 ∷ w.2) block = subst (λ l. AreCarved a.pieces l block) w.3 k in
+pub end_freed_in : (a old : Space) (chain now : List Piece) (stock : Option Stock) (pages : Ends) (range : Range) → IsSpace a
+    → IsCarved a.pieces chain stock → with_carved chain a ≡ old → LosesEnd chain now pages → pages.first ≡ range.first
+    → pages.last ≡ range.first + range.pages - 1 → 1 ≤ range.pages → EndFreed a old now stock range
+end_freed_in a old chain now None pages range sp k was w first last some = absurd (not_empty w.0 (pages_as pages w.1) w.2 (sym k ∙ w.3))
+end_freed_in a old chain now (Some stock) pages range sp k was w first last some =
+    let c : AreCarved a.pieces (w.0 ++ pages_as pages w.1 ∷ w.2) stock = subst (λ l. AreCarved a.pieces l stock) w.3 k in
     let is : with_carved (w.0 ++ pages_as pages w.1 ∷ w.2) a ≡ old = ap (λ l. with_carved l a) (sym w.3) ∙ was in
-    let rest = less a sp block w.0 pages w.1 w.2 c range first last some w.4 in
-    subst (λ v. EndFreed a v now (Some block) range) is
-    (subst (λ l. EndFreed a (with_carved (w.0 ++ pages_as pages w.1 ∷ w.2) a) l (Some block) range) (sym w.5) (record {
+    let rest = less a sp stock w.0 pages w.1 w.2 c range first last some w.4 in
+    subst (λ v. EndFreed a v now (Some stock) range) is
+    (subst (λ l. EndFreed a (with_carved (w.0 ++ pages_as pages w.1 ∷ w.2) a) l (Some stock) range) (sym w.5) (record {
       carved = rest;
       spaces = (
-        viewed a sp block w.0 pages w.1 w.2 c range first last some,
-        carved_space a block.pages.first block.pages.last (w.0 ++ w.2) rest.from rest.end (carving a (w.0 ++ w.2) block sp rest),
+        viewed a sp stock w.0 pages w.1 w.2 c range first last some,
+        carved_space a stock.pages.first stock.pages.last (w.0 ++ w.2) rest.from rest.end (carving a (w.0 ++ w.2) stock sp rest),
       );
-      freed = end_freed a sp block w.0 pages w.1 w.2 c range first last some w.4;
-      freed_live = end_freed_live a sp block w.0 pages w.1 w.2 c range first last some w.4;
+      freed = end_freed a sp stock w.0 pages w.1 w.2 c range first last some w.4;
+      freed_live = end_freed_live a sp stock w.0 pages w.1 w.2 c range first last some w.4;
     }))
 
--- a live piece of the row may be retired
-pub live_may : (a old : Space) (row : List Piece) (block : Option Block) (pages : Ends) (range : Range) → IsSpace a
-    → IsCarved a.pieces row block → with_carved row a ≡ old → IsIn (pages_as pages Live) row → pages.first ≡ range.first
+-- a live piece of the chain may be retired
+pub live_may : (a old : Space) (chain : List Piece) (stock : Option Stock) (pages : Ends) (range : Range) → IsSpace a
+    → IsCarved a.pieces chain stock → with_carved chain a ≡ old → IsIn (pages_as pages Live) chain → pages.first ≡ range.first
     → pages.last ≡ range.first + range.pages - 1 → 1 ≤ range.pages → MayRetire old.pieces range
-live_may a old row None pages range sp k was m first last some = absurd (subst (λ l. IsIn (pages_as pages Live) l) k m)
-live_may a old row (Some block) pages range sp k was m first last some =
-    let can = carving a row block sp k in
+live_may a old chain None pages range sp k was m first last some = absurd (subst (λ l. IsIn (pages_as pages Live) l) k m)
+live_may a old chain (Some stock) pages range sp k was m first last some =
+    let can = carving a chain stock sp k in
     subst (λ (v : Space). MayRetire v.pieces range) was
-    (may_whole range (with_pieces row a.pieces) (carved_space a block.pages.first block.pages.last row k.from k.end can).ordered some
-    (subst (λ p. IsIn p (with_pieces row a.pieces)) (as_piece pages range Live first last)
-    (row_there a block.pages.first block.pages.last row k.from k.end can (pages_as pages Live) m)))
+    (may_whole range (with_pieces chain a.pieces) (carved_space a stock.pages.first stock.pages.last chain k.from k.end can).ordered some
+    (subst (λ p. IsIn p (with_pieces chain a.pieces)) (as_piece pages range Live first last)
+    (chain_there a stock.pages.first stock.pages.last chain k.from k.end can (pages_as pages Live) m)))

@@ -4,7 +4,7 @@ use Rattle.std.proofs.Common.{append-nil, append_assoc, length-append}
 use Rattle.iova.specs.declared.piece.PageState.{PageState}
 use Rattle.iova.specs.declared.piece.PageState.TheVariants.{Free, Live, Retired}
 use Rattle.iova.specs.declared.piece.Piece.{Piece}
-use Rattle.iova.specs.declared.carved.Block.{Block}
+use Rattle.iova.specs.declared.carved.Stock.{Stock}
 use Rattle.iova.specs.Carved.{AreCarved, FollowOn, with_pieces}
 use Rattle.iova.specs.Pieces.{IsOrdered, is_free, part_above, with_piece}
 use Rattle.iova.specs.Space.{Space, IsSpace}
@@ -21,7 +21,7 @@ free_piece first last = record { first = first; last = last; state = Free }
 
 -- ---- pieces that follow on one another
 
-pub follow_le : (from : ℕ) (row : List Piece) (end : ℕ) → FollowOn from row end → from ≤ end
+pub follow_le : (from : ℕ) (chain : List Piece) (end : ℕ) → FollowOn from chain end → from ≤ end
 follow_le from [] end f = omega (arith, f)
 follow_le from (e ∷ es) end f = omega (arith, f.0, f.1, follow_le (e.last + 1) es end f.3)
 
@@ -72,9 +72,9 @@ module _ (xs : List Piece) (first last : ℕ) (ys : List Piece) (e : Piece) (o :
 -- ---- all of them
 
 -- where they begin with the free piece
-pub front_is : (xs : List Piece) (from last : ℕ) (ys row : List Piece) (end : ℕ) → IsOrdered 1 (xs ++ free_piece from last ∷ ys)
-    → FollowOn from row end → end ≤ last
-    → with_pieces row (xs ++ free_piece from last ∷ ys) ≡ xs ++ (row ++ free_piece end last ∷ ys)
+pub front_is : (xs : List Piece) (from last : ℕ) (ys chain : List Piece) (end : ℕ) → IsOrdered 1 (xs ++ free_piece from last ∷ ys)
+    → FollowOn from chain end → end ≤ last
+    → with_pieces chain (xs ++ free_piece from last ∷ ys) ≡ xs ++ (chain ++ free_piece end last ∷ ys)
 front_is xs from last ys [] end o f left = ap (λ n. xs ++ free_piece n last ∷ ys) f
 front_is xs from last ys (e ∷ es) end o f left =
     let m : Piece = free_piece from last in
@@ -89,11 +89,11 @@ front_is xs from last ys (e ∷ es) end o f left =
     ∙ append_assoc xs (e ∷ []) (es ++ free_piece end last ∷ ys)
 
 -- where they begin in it
-pub row_is : (xs : List Piece) (first last : ℕ) (ys : List Piece) (e : Piece) (es : List Piece) (end : ℕ)
+pub chain_is : (xs : List Piece) (first last : ℕ) (ys : List Piece) (e : Piece) (es : List Piece) (end : ℕ)
     → IsOrdered 1 (xs ++ free_piece first last ∷ ys) → first ≤ e.first → FollowOn e.first (e ∷ es) end → end ≤ last
     → with_pieces (e ∷ es) (xs ++ free_piece first last ∷ ys)
     ≡ (xs ++ rest_below e.first (free_piece first last)) ++ (e ∷ es ++ free_piece end last ∷ ys)
-row_is xs first last ys e es end o low f left =
+chain_is xs first last ys e es end o low f left =
     let m : Piece = free_piece first last in
     let zs : List Piece = xs ++ rest_below e.first m in
     let less : e.last < last = omega (arith, follow_le (e.last + 1) es end f.3, left) in
@@ -105,19 +105,19 @@ row_is xs first last ys e es end o low f left =
 
 -- ---- in a space
 
-module _ (a : Space) (e : Piece) (es : List Piece) (block : Block) (sp : IsSpace a) (c : AreCarved a.pieces (e ∷ es) block) where
+module _ (a : Space) (e : Piece) (es : List Piece) (stock : Stock) (sp : IsSpace a) (c : AreCarved a.pieces (e ∷ es) stock) where
   abbrev pub whole : Piece
-  whole = free_piece block.pages.first block.pages.last
+  whole = free_piece stock.pages.first stock.pages.last
 
   -- the pieces before the free piece and behind it
   abbrev pub before : List Piece
-  before = (parted (free_piece block.pages.first block.pages.last) a.pieces c.there).0
+  before = (parted (free_piece stock.pages.first stock.pages.last) a.pieces c.there).0
 
   abbrev pub behind : List Piece
-  behind = (parted (free_piece block.pages.first block.pages.last) a.pieces c.there).1
+  behind = (parted (free_piece stock.pages.first stock.pages.last) a.pieces c.there).1
 
   pub was : a.pieces ≡ before ++ whole ∷ behind
-  was = (parted (free_piece block.pages.first block.pages.last) a.pieces c.there).2
+  was = (parted (free_piece stock.pages.first stock.pages.last) a.pieces c.there).2
 
   pub was_ordered : IsOrdered 1 (before ++ whole ∷ behind)
   was_ordered = subst (λ l. IsOrdered 1 l) was sp.ordered
@@ -126,29 +126,29 @@ module _ (a : Space) (e : Piece) (es : List Piece) (block : Block) (sp : IsSpace
   begins = sym c.follow.0
 
   pub is_row : with_pieces (e ∷ es) a.pieces
-      ≡ (before ++ rest_below e.first whole) ++ (e ∷ es ++ free_piece c.end block.pages.last ∷ behind)
+      ≡ (before ++ rest_below e.first whole) ++ (e ∷ es ++ free_piece c.end stock.pages.last ∷ behind)
   is_row =
       ap (λ l. with_pieces (e ∷ es) l) was
-      ∙ row_is before block.pages.first block.pages.last behind e es c.end was_ordered (omega (arith, c.low, begins))
+      ∙ chain_is before stock.pages.first stock.pages.last behind e es c.end was_ordered (omega (arith, c.low, begins))
       (subst (λ n. FollowOn n (e ∷ es) c.end) begins c.follow) c.left
 
   -- how many there are
-  pub row_count : length (with_pieces (e ∷ es) a.pieces)
+  pub chain_count : length (with_pieces (e ∷ es) a.pieces)
       ≡ length a.pieces + length (e ∷ es) + length (rest_below e.first whole)
-  row_count =
+  chain_count =
       omega (
         arith,
         ap (λ (l : List Piece). length l) is_row,
         ap (λ (l : List Piece). length l) was,
-        length-append (before ++ rest_below e.first whole) (e ∷ es ++ free_piece c.end block.pages.last ∷ behind),
+        length-append (before ++ rest_below e.first whole) (e ∷ es ++ free_piece c.end stock.pages.last ∷ behind),
         length-append before (rest_below e.first whole),
-        length-append (e ∷ es) (free_piece c.end block.pages.last ∷ behind),
+        length-append (e ∷ es) (free_piece c.end stock.pages.last ∷ behind),
         length-append before (whole ∷ behind),
       )
 
-  pub count_is : (gap : ℕ) → (block.pages.first < e.first → gap ≡ 1) → (e.first ≤ block.pages.first → gap ≡ 0)
+  pub count_is : (gap : ℕ) → (stock.pages.first < e.first → gap ≡ 1) → (e.first ≤ stock.pages.first → gap ≡ 0)
       → length (with_pieces (e ∷ es) a.pieces) ≡ length a.pieces + (length (e ∷ es) + gap)
-  count_is gap f g = elim (order e.first block.pages.first) [
-    | inl h ↦ let z = ap (λ (l : List Piece). length l) (rest_below-none e.first whole h) in omega (arith, z, row_count, g h)
-    | inr h ↦ let z = ap (λ (l : List Piece). length l) (rest_below-some e.first whole h) in omega (arith, z, row_count, f h)
+  count_is gap f g = elim (order e.first stock.pages.first) [
+    | inl h ↦ let z = ap (λ (l : List Piece). length l) (rest_below-none e.first whole h) in omega (arith, z, chain_count, g h)
+    | inr h ↦ let z = ap (λ (l : List Piece). length l) (rest_below-some e.first whole h) in omega (arith, z, chain_count, f h)
   ]

@@ -1,9 +1,9 @@
--- The pieces of a tree, with the row and what is left of the free piece in the place of that.
+-- The pieces of a tree, with the chain and what is left of the free piece in the place of that.
 use Rattle.std.proofs.Common.{◌≡◌, ℕ, ◌+◌, ◌-◌, ◌<◌, ◌≤◌, List, [], ◌∷◌, ◌++◌, Option, Some, None, IfSome, IfNone, ap, sym, ◌∙◌, arith}
 use Rattle.std.proofs.Common.{append_assoc}
 use Rattle.std.proofs.lemmas.Bool.Decides.{nat_tests}
 use Rattle.iova.specs.declared.beside.Ends.{Ends}
-use Rattle.iova.specs.declared.carved.Block.{Block}
+use Rattle.iova.specs.declared.carved.Stock.{Stock}
 use Rattle.iova.specs.declared.piece.PageState.TheVariants.{Free}
 use Rattle.iova.specs.declared.piece.Piece.{Piece}
 use Rattle.iova.specs.Carved.{AreCarved, free_of, in_place_of, with_pieces}
@@ -14,19 +14,19 @@ use Rattle.iova.proofs.parts.Added.{rest_below-none, rest_below-some}
 use Rattle.iova.proofs.parts.Parts.{first_from}
 use Rattle.iova.proofs.carvings.InPlace.{before, behind, free_piece, is_row, was, was_ordered}
 
-other : (p : Piece) (first : ℕ) (row ps : List Piece) → p.first < first → in_place_of first row (p ∷ ps) ≡ p ∷ in_place_of first row ps
-other p first row ps h = grind (arith, nat_tests, h)
+other : (p : Piece) (first : ℕ) (chain ps : List Piece) → p.first < first → in_place_of first chain (p ∷ ps) ≡ p ∷ in_place_of first chain ps
+other p first chain ps h = grind (arith, nat_tests, h)
 
-here : (first last : ℕ) (row ps : List Piece) → in_place_of first row (free_piece first last ∷ ps) ≡ row ++ ps
-here first last row ps = grind (arith, nat_tests)
+here : (first last : ℕ) (chain ps : List Piece) → in_place_of first chain (free_piece first last ∷ ps) ≡ chain ++ ps
+here first last chain ps = grind (arith, nat_tests)
 
-placed : (n first last : ℕ) (row xs ys : List Piece) → IsOrdered n (xs ++ free_piece first last ∷ ys)
-    → in_place_of first row (xs ++ free_piece first last ∷ ys) ≡ xs ++ (row ++ ys)
-placed n first last row [] ys o = here first last row ys
-placed n first last row (x ∷ xs) ys o =
+placed : (n first last : ℕ) (chain xs ys : List Piece) → IsOrdered n (xs ++ free_piece first last ∷ ys)
+    → in_place_of first chain (xs ++ free_piece first last ∷ ys) ≡ xs ++ (chain ++ ys)
+placed n first last chain [] ys o = here first last chain ys
+placed n first last chain (x ∷ xs) ys o =
     let b = first_from (x.last + 1) xs (free_piece first last) ys o.3 in
-    other x first row (xs ++ free_piece first last ∷ ys) (omega (arith, b, o.1))
-    ∙ ap (λ l. x ∷ l) (placed (x.last + 1) first last row xs ys o.3)
+    other x first chain (xs ++ free_piece first last ∷ ys) (omega (arith, b, o.1))
+    ∙ ap (λ l. x ∷ l) (placed (x.last + 1) first last chain xs ys o.3)
 
 -- the free pages from a first to a last one
 abbrev pub Between : ℕ → ℕ → Option Ends → Type 0
@@ -47,23 +47,23 @@ free_behind first last (Some ends) some b =
     ap (λ n. record { first = n; last = ends.last; state = Free } ∷ []) b.0.0
     ∙ ap (λ n. record { first = first; last = n; state = Free } ∷ []) b.0.1
 
-pub all_placed : (a : Space) (e : Piece) (es : List Piece) (block : Block) (sp : IsSpace a) (c : AreCarved a.pieces (e ∷ es) block)
-    (low high : Option Ends) → 1 ≤ e.first → Between block.pages.first (e.first - 1) low → Between c.end block.pages.last high
-    → in_place_of block.pages.first (free_of low ++ (e ∷ es) ++ free_of high) a.pieces ≡ with_pieces (e ∷ es) a.pieces
-all_placed a e es block sp c low high some b h =
-    let first = block.pages.first in
-    let last = block.pages.last in
-    let row : List Piece = e ∷ es in
-    let xs = before a e es block sp c in
-    let ys = behind a e es block sp c in
+pub all_placed : (a : Space) (e : Piece) (es : List Piece) (stock : Stock) (sp : IsSpace a) (c : AreCarved a.pieces (e ∷ es) stock)
+    (low high : Option Ends) → 1 ≤ e.first → Between stock.pages.first (e.first - 1) low → Between c.end stock.pages.last high
+    → in_place_of stock.pages.first (free_of low ++ (e ∷ es) ++ free_of high) a.pieces ≡ with_pieces (e ∷ es) a.pieces
+all_placed a e es stock sp c low high some b h =
+    let first = stock.pages.first in
+    let last = stock.pages.last in
+    let chain : List Piece = e ∷ es in
+    let xs = before a e es stock sp c in
+    let ys = behind a e es stock sp c in
     let rest : List Piece = rest_below e.first (free_piece first last) in
     let left : List Piece = free_piece c.end last ∷ [] in
-    let all : List Piece = free_of low ++ row ++ free_of high in
-    let is : all ≡ rest ++ row ++ left = ap (λ l. l ++ row ++ free_of high) (free_below first last e.first low some b)
-    ∙ ap (λ l. rest ++ row ++ l) (free_behind c.end last high c.left h) in
-    let apart : xs ++ ((rest ++ row ++ left) ++ ys) ≡ (xs ++ rest) ++ (row ++ free_piece c.end last ∷ ys) = simp append_assoc in
-    ap (λ l. in_place_of first all l) (was a e es block sp c)
-    ∙ placed 1 first last all xs ys (was_ordered a e es block sp c)
+    let all : List Piece = free_of low ++ chain ++ free_of high in
+    let is : all ≡ rest ++ chain ++ left = ap (λ l. l ++ chain ++ free_of high) (free_below first last e.first low some b)
+    ∙ ap (λ l. rest ++ chain ++ l) (free_behind c.end last high c.left h) in
+    let apart : xs ++ ((rest ++ chain ++ left) ++ ys) ≡ (xs ++ rest) ++ (chain ++ free_piece c.end last ∷ ys) = simp append_assoc in
+    ap (λ l. in_place_of first all l) (was a e es stock sp c)
+    ∙ placed 1 first last all xs ys (was_ordered a e es stock sp c)
     ∙ ap (λ l. xs ++ (l ++ ys)) is
     ∙ apart
-    ∙ sym (is_row a e es block sp c)
+    ∙ sym (is_row a e es stock sp c)

@@ -5,7 +5,7 @@ use Rattle.std.proofs.Common.{bit_and}
 use Rattle.std.proofs.lemmas.Nat.{and_mask}
 use Rattle.std.proofs.Math.Nat.{zero-mod}
 use Rattle.std.proofs.Math.Pow.{mod-mod-pow, pow_mono}
-use Rattle.iova.specs.declared.carved.Block.{Block}
+use Rattle.iova.specs.declared.carved.Stock.{Stock}
 use Rattle.iova.specs.declared.carved.Sought.{Sought}
 use Rattle.iova.specs.declared.piece.PageState.TheVariants.{Free}
 use Rattle.iova.specs.declared.piece.Piece.{Piece}
@@ -15,7 +15,7 @@ use Rattle.iova.specs.Search.{IsRoundUp}
 use Rattle.iova.specs.Space.{Space, IsFit, IsLowestFrom, IsSpace}
 use Rattle.iova.proofs.Pieces.{order}
 use Rattle.iova.proofs.carvings.InPlace.{follow_le}
-use Rattle.iova.proofs.carvings.State.{Carving, carving, follow_at, follow_in, free_was, left_free, row_state, same_state}
+use Rattle.iova.proofs.carvings.State.{Carving, carving, follow_at, follow_in, free_was, left_free, chain_state, same_state}
 
 -- a multiple of a power of two is one of each lower power
 power_less : (a b n : ℕ) → 2 ^ a ≤ 2 ^ b → n % (2 ^ b) ≡ 0 → n % (2 ^ a) ≡ 0
@@ -35,51 +35,51 @@ pub record IsMore (sought was : Sought) : Type 0 where
   pub pages : was.pages ≤ sought.pages
   pub aligned : (n : ℕ) → n % sought.unit ≡ 0 → n % was.unit ≡ 0
 
-module _ (a : Space) (row : List Piece) (block : Block) (sp : IsSpace a) (c : AreCarved a.pieces row block) (sought : Sought)
-    (more : IsMore sought block.sought) (some : 1 ≤ sought.pages) where
-  abbrev can : Carving a block.pages.first block.pages.last row c.from c.end
-  can = carving a row block sp c
+module _ (a : Space) (chain : List Piece) (stock : Stock) (sp : IsSpace a) (c : AreCarved a.pieces chain stock) (sought : Sought)
+    (more : IsMore sought stock.sought) (some : 1 ≤ sought.pages) where
+  abbrev can : Carving a stock.pages.first stock.pages.last chain c.from c.end
+  can = carving a chain stock sp c
 
   -- it doesn't begin before the free piece
-  not_below : (other : ℕ) → IsFit (with_pieces row a.pieces) sought.pages sought.unit other → sought.floor ≤ other
-      → block.pages.first ≤ other
+  not_below : (other : ℕ) → IsFit (with_pieces chain a.pieces) sought.pages sought.unit other → sought.floor ≤ other
+      → stock.pages.first ≤ other
   not_below other f h =
       c.none other (record {
         aligned = more.aligned other f.aligned;
         free = λ page w.
-            free_was a block.pages.first block.pages.last row c.from c.end can page
+            free_was a stock.pages.first stock.pages.last chain c.from c.end can page
             (f.free page (w.0, omega (arith, w.1, more.pages)));
       }) (omega (arith, h, more.floor))
 
   -- nor in a page of the pieces
-  not_in : (other page : ℕ) → IsFit (with_pieces row a.pieces) sought.pages sought.unit other → other ≤ page
+  not_in : (other page : ℕ) → IsFit (with_pieces chain a.pieces) sought.pages sought.unit other → other ≤ page
       → page < other + sought.pages → c.from ≤ page → page < c.end → ⊥
   not_in other page f h l begins ends =
-      let r = follow_at c.from row c.end c.follow page begins ends in
-      let g = follow_in c.from row c.end c.follow r.0 r.1 in
+      let r = follow_at c.from chain c.end c.follow page begins ends in
+      let g = follow_in c.from chain c.end c.follow r.0 r.1 in
       g.3 (same_state r.0.state Free
-      (sym (row_state a block.pages.first block.pages.last row c.from c.end can r.0 r.1 page r.2) ∙ f.free page (h, l)))
+      (sym (chain_state a stock.pages.first stock.pages.last chain c.from c.end can r.0 r.1 page r.2) ∙ f.free page (h, l)))
 
-  fits : (start : ℕ) → start % sought.unit ≡ 0 → c.end ≤ start → start + sought.pages ≤ block.pages.last + 1
-      → IsFit (with_pieces row a.pieces) sought.pages sought.unit start
+  fits : (start : ℕ) → start % sought.unit ≡ 0 → c.end ≤ start → start + sought.pages ≤ stock.pages.last + 1
+      → IsFit (with_pieces chain a.pieces) sought.pages sought.unit start
   fits start m h l = record {
     aligned = m;
     free = λ page w.
-        left_free a block.pages.first block.pages.last row c.from c.end can page
-        (omega (arith, w.0, h, can.low, follow_le c.from row c.end c.follow))
+        left_free a stock.pages.first stock.pages.last chain c.from c.end can page
+        (omega (arith, w.0, h, can.low, follow_le c.from chain c.end c.follow))
         (omega (arith, w.1, l)) (inr (omega (arith, w.0, h)));
   }
 
-  all_free : row ≡ [] → (page : ℕ) → block.pages.first ≤ page → page ≤ block.pages.last
-      → state_at (with_pieces row a.pieces) page ≡ Some Free
+  all_free : chain ≡ [] → (page : ℕ) → stock.pages.first ≤ page → page ≤ stock.pages.last
+      → state_at (with_pieces chain a.pieces) page ≡ Some Free
   all_free none page h l =
       let e : c.from ≡ c.end = subst (λ r. FollowOn c.from r c.end) none c.follow in
-      left_free a block.pages.first block.pages.last row c.from c.end can page h l
+      left_free a stock.pages.first stock.pages.last chain c.from c.end can page h l
       (elim (order c.end page) [ inl k ↦ inr k | inr k ↦ inl (omega (arith, e, k)) ])
 
   -- where nothing is carved, it is the first multiple in the free piece
-  pub first_lowest : (start : ℕ) → row ≡ [] → IsRoundUp (max block.pages.first sought.floor) sought.unit start
-      → start + sought.pages ≤ block.pages.last → IsLowestFrom sought.floor (with_pieces row a.pieces) sought.pages sought.unit start
+  pub first_lowest : (start : ℕ) → chain ≡ [] → IsRoundUp (max stock.pages.first sought.floor) sought.unit start
+      → start + sought.pages ≤ stock.pages.last → IsLowestFrom sought.floor (with_pieces chain a.pieces) sought.pages sought.unit start
   first_lowest start none up left = record {
     fit = record { aligned = up.0; free = λ page w. all_free none page (omega (arith, w.0, up.1)) (omega (arith, w.1, left)) };
     above = λ h other f g. up.2 other f.aligned (omega (arith, not_below other f g, g));
@@ -88,10 +88,10 @@ module _ (a : Space) (row : List Piece) (block : Block) (sp : IsSpace a) (c : Ar
 
   -- else it is right behind the pieces, where too few pages are free before them
   pub next_lowest : c.from < c.end
-      → ((n : ℕ) → n % sought.unit ≡ 0 → max block.pages.first sought.floor ≤ n → c.from < n + sought.pages)
-      → c.end % sought.unit ≡ 0 → c.end + sought.pages ≤ block.pages.last
-      → IsLowestFrom sought.floor (with_pieces row a.pieces) sought.pages sought.unit c.end
-  next_lowest row_some less m left = record {
+      → ((n : ℕ) → n % sought.unit ≡ 0 → max stock.pages.first sought.floor ≤ n → c.from < n + sought.pages)
+      → c.end % sought.unit ≡ 0 → c.end + sought.pages ≤ stock.pages.last
+      → IsLowestFrom sought.floor (with_pieces chain a.pieces) sought.pages sought.unit c.end
+  next_lowest chain_some less m left = record {
     fit = fits c.end m (omega arith) (omega (arith, left));
     above = λ h other f g. elim (order c.end other) [
       | inl k ↦ k
@@ -100,10 +100,10 @@ module _ (a : Space) (row : List Piece) (block : Block) (sp : IsSpace a) (c : Ar
           let u : c.from < other + sought.pages = less other f.aligned (omega (arith, b, g)) in
           elim (order c.from other) [
             | inl l ↦ absurd (not_in other other f (omega arith) (omega (arith, some)) l k)
-            | inr l ↦ absurd (not_in other c.from f (omega (arith, l)) u (omega arith) row_some)
+            | inr l ↦ absurd (not_in other c.from f (omega (arith, l)) u (omega arith) chain_some)
           ]
     ];
-    below = λ h other f. absurd (omega (arith, h, c.low, more.floor, follow_le c.from row c.end c.follow));
+    below = λ h other f. absurd (omega (arith, h, c.low, more.floor, follow_le c.from chain c.end c.follow));
   }
 
 -- a larger power of two is a multiple of a smaller one
@@ -127,8 +127,8 @@ unit_small sought s =
     (omega (arith, z, s.power.2), omega (arith, m, s.power.2))
 
 -- where some pieces were carved
-pub some_carved : (from : ℕ) (row : List Piece) (end : ℕ) (p : Piece) (ps : List Piece) → row ≡ p ∷ ps → FollowOn from row end → from < end
-some_carved from row end p ps e f =
+pub some_carved : (from : ℕ) (chain : List Piece) (end : ℕ) (p : Piece) (ps : List Piece) → chain ≡ p ∷ ps → FollowOn from chain end → from < end
+some_carved from chain end p ps e f =
     let g = subst (λ l. FollowOn from l end) e f in omega (arith, g.0, g.1, follow_le (p.last + 1) ps end g.3)
 
 -- a multiple, by its last digits

@@ -3,7 +3,7 @@ use Rattle.std.proofs.Common.{◌≡◌, ◌≢◌, ℕ, ◌+◌, ◌<◌, ◌�
 use Rattle.std.proofs.Common.{inr, subst, arith}
 use Rattle.std.proofs.Common.{length-append}
 use Rattle.dmatypes.specs.World.{IsIn}
-use Rattle.iova.specs.declared.carved.Block.{Block}
+use Rattle.iova.specs.declared.carved.Stock.{Stock}
 use Rattle.iova.specs.declared.piece.PageState.{PageState}
 use Rattle.iova.specs.declared.piece.PageState.TheVariants.{Free}
 use Rattle.iova.specs.declared.piece.Piece.{Piece}
@@ -17,20 +17,20 @@ use Rattle.iova.proofs.Among.{in_append_right, in_le, in_one, in_state, is_apart
 use Rattle.iova.proofs.Among.{put_piece}
 use Rattle.iova.proofs.Keep.{is_some, space_put}
 use Rattle.iova.proofs.Shown.{parted}
-use Rattle.iova.proofs.carvings.InPlace.{busy, follow_le, free_piece, one_is, row_is}
+use Rattle.iova.proofs.carvings.InPlace.{busy, follow_le, free_piece, one_is, chain_is}
 
 -- pieces can be carved out of a free piece of a space, from a page on
-pub record Carving (a : Space) (first last : ℕ) (row : List Piece) (begin end : ℕ) : Type 0 where
+pub record Carving (a : Space) (first last : ℕ) (chain : List Piece) (begin end : ℕ) : Type 0 where
   pub space : IsSpace a
   pub there : IsIn (free_piece first last) a.pieces
   pub low : first ≤ begin
-  pub follow : FollowOn begin row end
+  pub follow : FollowOn begin chain end
   pub left : end ≤ last
-  pub few : length (with_pieces row a.pieces) ≤ MOST_PIECES
+  pub few : length (with_pieces chain a.pieces) ≤ MOST_PIECES
 
-pub carving : (a : Space) (row : List Piece) (block : Block) → IsSpace a → (c : AreCarved a.pieces row block)
-    → Carving a block.pages.first block.pages.last row c.from c.end
-carving a row block sp c = record {
+pub carving : (a : Space) (chain : List Piece) (stock : Stock) → IsSpace a → (c : AreCarved a.pieces chain stock)
+    → Carving a stock.pages.first stock.pages.last chain c.from c.end
+carving a chain stock sp c = record {
   space = sp;
   there = c.there;
   low = omega (arith, c.low);
@@ -72,7 +72,7 @@ module _ (a : Space) (first last : ℕ) (e : Piece) (es : List Piece) (begin end
   all : with_pieces (e ∷ es) a.pieces ≡ zs ++ (e ∷ es ++ free_piece end last ∷ ys)
   all =
       ap (λ l. with_pieces (e ∷ es) l) was
-      ∙ row_is xs first last ys e es end o e_low (refl, c.follow.1, c.follow.2, c.follow.3) c.left
+      ∙ chain_is xs first last ys e es end o e_low (refl, c.follow.1, c.follow.2, c.follow.3) c.left
 
   -- there are no more than once all are carved
   fewer : length (with_piece e a.pieces) ≤ MOST_PIECES
@@ -113,15 +113,15 @@ same_state s t e = cc
 
 -- ---- all of them
 
-pub carved_space : (a : Space) (first last : ℕ) (row : List Piece) (begin end : ℕ) → Carving a first last row begin end
-    → IsSpace (with_carved row a)
+pub carved_space : (a : Space) (first last : ℕ) (chain : List Piece) (begin end : ℕ) → Carving a first last chain begin end
+    → IsSpace (with_carved chain a)
 carved_space a first last [] begin end c = c.space
 carved_space a first last (e ∷ es) begin end c =
     carved_space (now a first last e es begin end c) (e.last + 1) last es (e.last + 1) end (next a first last e es begin end c)
 
 -- a page that none of them has lies as before
-pub untouched : (a : Space) (first last : ℕ) (row : List Piece) (begin end : ℕ) → Carving a first last row begin end → (page : ℕ)
-    → ((q : Piece) → IsIn q row → Holds q page → ⊥) → state_at (with_pieces row a.pieces) page ≡ state_at a.pieces page
+pub untouched : (a : Space) (first last : ℕ) (chain : List Piece) (begin end : ℕ) → Carving a first last chain begin end → (page : ℕ)
+    → ((q : Piece) → IsIn q chain → Holds q page → ⊥) → state_at (with_pieces chain a.pieces) page ≡ state_at a.pieces page
 untouched a first last [] begin end c page h = refl
 untouched a first last (e ∷ es) begin end c page h =
     untouched (now a first last e es begin end c) (e.last + 1) last es (e.last + 1) end (next a first last e es begin end c) page
@@ -135,8 +135,8 @@ untouched a first last (e ∷ es) begin end c page h =
     ]
 
 -- pieces that lie before them or behind them stay
-pub apart_stays : (a : Space) (first last : ℕ) (row : List Piece) (begin end : ℕ) → Carving a first last row begin end → (q : Piece)
-    → IsIn q a.pieces → (q.last < begin) ⊎ (end ≤ q.first) → IsIn q (with_pieces row a.pieces)
+pub apart_stays : (a : Space) (first last : ℕ) (chain : List Piece) (begin end : ℕ) → Carving a first last chain begin end → (q : Piece)
+    → IsIn q a.pieces → (q.last < begin) ⊎ (end ≤ q.first) → IsIn q (with_pieces chain a.pieces)
 apart_stays a first last [] begin end c q m h = m
 apart_stays a first last (e ∷ es) begin end c q m h =
     let le = follow_le (e.last + 1) es end c.follow.3 in
@@ -151,31 +151,31 @@ apart_stays a first last (e ∷ es) begin end c q m h =
     ]
 
 -- so do all that are in use
-pub used_stays : (a : Space) (first last : ℕ) (row : List Piece) (begin end : ℕ) → Carving a first last row begin end → (q : Piece)
-    → IsIn q a.pieces → q.state ≢ Free → IsIn q (with_pieces row a.pieces)
-used_stays a first last row begin end c q m n =
+pub used_stays : (a : Space) (first last : ℕ) (chain : List Piece) (begin end : ℕ) → Carving a first last chain begin end → (q : Piece)
+    → IsIn q a.pieces → q.state ≢ Free → IsIn q (with_pieces chain a.pieces)
+used_stays a first last chain begin end c q m n =
     let w = in_le 1 q a.pieces c.space.ordered m in
     let v = in_le 1 (free_piece first last) a.pieces c.space.ordered c.there in
     let none : (page : ℕ) → Holds q page → first ≤ page → page ≤ last → ⊥ = λ page h x y.
     let e = in_one 1 q (free_piece first last) a.pieces page c.space.ordered m c.there h (x, y) in
     n (ap (λ (r : Piece). r.state) e) in
-    apart_stays a first last row begin end c q m
+    apart_stays a first last chain begin end c q m
     (elim (is_apart q first last w.1 v.1 none) [ inl h ↦ inl (omega (arith, h, c.low)) | inr h ↦ inr (omega (arith, h, c.left)) ])
 
 -- those that are carved are there
-pub row_there : (a : Space) (first last : ℕ) (row : List Piece) (begin end : ℕ) → Carving a first last row begin end → (q : Piece)
-    → IsIn q row → IsIn q (with_pieces row a.pieces)
-row_there a first last [] begin end c q m = absurd m
-row_there a first last (e ∷ es) begin end c q m = elim m [
+pub chain_there : (a : Space) (first last : ℕ) (chain : List Piece) (begin end : ℕ) → Carving a first last chain begin end → (q : Piece)
+    → IsIn q chain → IsIn q (with_pieces chain a.pieces)
+chain_there a first last [] begin end c q m = absurd m
+chain_there a first last (e ∷ es) begin end c q m = elim m [
   | inl x ↦ subst (λ r. IsIn r (with_pieces (e ∷ es) a.pieces)) (sym x)
       (apart_stays (now a first last e es begin end c) (e.last + 1) last es (e.last + 1) end (next a first last e es begin end c) e
       (put_piece e.first e.last e.state a.pieces) (inl (omega arith)))
-  | inr x ↦ row_there (now a first last e es begin end c) (e.last + 1) last es (e.last + 1) end (next a first last e es begin end c) q x
+  | inr x ↦ chain_there (now a first last e es begin end c) (e.last + 1) last es (e.last + 1) end (next a first last e es begin end c) q x
 ]
 
 -- what is in use is what was, and those that are carved
-pub used_only : (a : Space) (first last : ℕ) (row : List Piece) (begin end : ℕ) → Carving a first last row begin end → (q : Piece)
-    → q.state ≢ Free → IsIn q (with_pieces row a.pieces) → IsIn q row ⊎ IsIn q a.pieces
+pub used_only : (a : Space) (first last : ℕ) (chain : List Piece) (begin end : ℕ) → Carving a first last chain begin end → (q : Piece)
+    → q.state ≢ Free → IsIn q (with_pieces chain a.pieces) → IsIn q chain ⊎ IsIn q a.pieces
 used_only a first last [] begin end c q n m = inr m
 used_only a first last (e ∷ es) begin end c q n m =
     elim (used_only (now a first last e es begin end c) (e.last + 1) last es (e.last + 1) end (next a first last e es begin end c) q n m) [
@@ -202,7 +202,7 @@ used_only a first last (e ∷ es) begin end c q n m =
 
 -- ---- where they follow on one another
 
-pub follow_in : (from : ℕ) (row : List Piece) (end : ℕ) → FollowOn from row end → (q : Piece) → IsIn q row
+pub follow_in : (from : ℕ) (chain : List Piece) (end : ℕ) → FollowOn from chain end → (q : Piece) → IsIn q chain
     → (from ≤ q.first) × (q.first ≤ q.last) × (q.last < end) × (q.state ≢ Free)
 follow_in from [] end f q m = absurd m
 follow_in from (e ∷ es) end f q m = elim m [
@@ -212,8 +212,8 @@ follow_in from (e ∷ es) end f q m = elim m [
 ]
 
 -- each page from the first to the last lies in one
-pub follow_at : (from : ℕ) (row : List Piece) (end : ℕ) → FollowOn from row end → (page : ℕ) → from ≤ page → page < end
-    → (q : Piece) × IsIn q row × Holds q page
+pub follow_at : (from : ℕ) (chain : List Piece) (end : ℕ) → FollowOn from chain end → (page : ℕ) → from ≤ page → page < end
+    → (q : Piece) × IsIn q chain × Holds q page
 follow_at from [] end f page h l = absurd (omega (arith, f, h, l))
 follow_at from (e ∷ es) end f page h l = elim (order page e.last) [
   | inl k ↦ (e, inl refl, (omega (arith, f.0, h), k))
@@ -221,47 +221,47 @@ follow_at from (e ∷ es) end f page h l = elim (order page e.last) [
 ]
 
 -- a page of one of them is in its state
-pub row_state : (a : Space) (first last : ℕ) (row : List Piece) (begin end : ℕ) → Carving a first last row begin end → (q : Piece)
-    → IsIn q row → (page : ℕ) → Holds q page → state_at (with_pieces row a.pieces) page ≡ Some q.state
-row_state a first last row begin end c q m page h =
-    in_state 1 q (with_pieces row a.pieces) page (carved_space a first last row begin end c).ordered
-    (row_there a first last row begin end c q m) h.0 h.1
+pub chain_state : (a : Space) (first last : ℕ) (chain : List Piece) (begin end : ℕ) → Carving a first last chain begin end → (q : Piece)
+    → IsIn q chain → (page : ℕ) → Holds q page → state_at (with_pieces chain a.pieces) page ≡ Some q.state
+chain_state a first last chain begin end c q m page h =
+    in_state 1 q (with_pieces chain a.pieces) page (carved_space a first last chain begin end c).ordered
+    (chain_there a first last chain begin end c q m) h.0 h.1
 
 -- the other pages of the free piece are free
-pub left_free : (a : Space) (first last : ℕ) (row : List Piece) (begin end : ℕ) → Carving a first last row begin end → (page : ℕ)
-    → first ≤ page → page ≤ last → (page < begin) ⊎ (end ≤ page) → state_at (with_pieces row a.pieces) page ≡ Some Free
-left_free a first last row begin end c page h l out =
-    untouched a first last row begin end c page
+pub left_free : (a : Space) (first last : ℕ) (chain : List Piece) (begin end : ℕ) → Carving a first last chain begin end → (page : ℕ)
+    → first ≤ page → page ≤ last → (page < begin) ⊎ (end ≤ page) → state_at (with_pieces chain a.pieces) page ≡ Some Free
+left_free a first last chain begin end c page h l out =
+    untouched a first last chain begin end c page
     (λ q m k.
-    let f = follow_in begin row end c.follow q m in
+    let f = follow_in begin chain end c.follow q m in
     elim out [ inl x ↦ omega (arith, x, f.0, k.0) | inr x ↦ omega (arith, x, f.2, k.1) ])
     ∙ in_state 1 (free_piece first last) a.pieces page c.space.ordered c.there h l
 
 -- and no page is free now that wasn't
-pub free_was : (a : Space) (first last : ℕ) (row : List Piece) (begin end : ℕ) → Carving a first last row begin end → (page : ℕ)
-    → state_at (with_pieces row a.pieces) page ≡ Some Free → state_at a.pieces page ≡ Some Free
-free_was a first last row begin end c page e = elim (order begin page) [
-  | inr h ↦ sym (untouched a first last row begin end c page
-      (λ q m k. let f = follow_in begin row end c.follow q m in omega (arith, h, f.0, k.0))) ∙ e
+pub free_was : (a : Space) (first last : ℕ) (chain : List Piece) (begin end : ℕ) → Carving a first last chain begin end → (page : ℕ)
+    → state_at (with_pieces chain a.pieces) page ≡ Some Free → state_at a.pieces page ≡ Some Free
+free_was a first last chain begin end c page e = elim (order begin page) [
+  | inr h ↦ sym (untouched a first last chain begin end c page
+      (λ q m k. let f = follow_in begin chain end c.follow q m in omega (arith, h, f.0, k.0))) ∙ e
   | inl h ↦ elim (order end page) [
-    | inl l ↦ sym (untouched a first last row begin end c page
-        (λ q m k. let f = follow_in begin row end c.follow q m in omega (arith, l, f.2, k.1))) ∙ e
+    | inl l ↦ sym (untouched a first last chain begin end c page
+        (λ q m k. let f = follow_in begin chain end c.follow q m in omega (arith, l, f.2, k.1))) ∙ e
     | inr l ↦
-        let r = follow_at begin row end c.follow page h l in
-        let f = follow_in begin row end c.follow r.0 r.1 in
-        absurd (f.3 (same_state r.0.state Free (sym (row_state a first last row begin end c r.0 r.1 page r.2) ∙ e)))
+        let r = follow_at begin chain end c.follow page h l in
+        let f = follow_in begin chain end c.follow r.0 r.1 in
+        absurd (f.3 (same_state r.0.state Free (sym (chain_state a first last chain begin end c r.0 r.1 page r.2) ∙ e)))
   ]
 ]
 
 -- ---- as a space keeps them
 
 -- with what is carved it is a space
-pub view_space : (a : Space) (row : List Piece) (block : Option Block) → IsSpace a → IsCarved a.pieces row block
-    → IsSpace (with_carved row a)
-view_space a row None sp k = subst (λ l. IsSpace (with_carved l a)) (sym k) sp
-view_space a row (Some block) sp k = carved_space a block.pages.first block.pages.last row k.from k.end (carving a row block sp k)
+pub view_space : (a : Space) (chain : List Piece) (stock : Option Stock) → IsSpace a → IsCarved a.pieces chain stock
+    → IsSpace (with_carved chain a)
+view_space a chain None sp k = subst (λ l. IsSpace (with_carved l a)) (sym k) sp
+view_space a chain (Some stock) sp k = carved_space a stock.pages.first stock.pages.last chain k.from k.end (carving a chain stock sp k)
 
 -- the pieces follow on one another
-pub follows : (pieces row : List Piece) (block : Option Block) → IsCarved pieces row block → (from : ℕ) × (end : ℕ) × FollowOn from row end
-follows pieces row None k = (0, 0, subst (λ l. FollowOn 0 l 0) (sym k) refl)
-follows pieces row (Some block) k = (k.from, k.end, k.follow)
+pub follows : (pieces chain : List Piece) (stock : Option Stock) → IsCarved pieces chain stock → (from : ℕ) × (end : ℕ) × FollowOn from chain end
+follows pieces chain None k = (0, 0, subst (λ l. FollowOn 0 l 0) (sym k) refl)
+follows pieces chain (Some stock) k = (k.from, k.end, k.follow)

@@ -5,7 +5,7 @@ use Rattle.dmatypes.specs.Page.{IsPageRange, Range}
 use Rattle.dmatypes.specs.World.{IsIn}
 use Rattle.dmatypes.specs.declared.page.TheConstants.{MOST_PAGES}
 use Rattle.iova.specs.declared.beside.Ends.{Ends}
-use Rattle.iova.specs.declared.carved.Block.{Block}
+use Rattle.iova.specs.declared.carved.Stock.{Stock}
 use Rattle.iova.specs.declared.carved.Sought.{Sought}
 use Rattle.iova.specs.declared.piece.PageState.TheVariants.{Free, Live}
 use Rattle.iova.specs.declared.piece.Piece.{Piece}
@@ -28,38 +28,38 @@ pub with_last : (es : List Piece) (e : Piece) (ps : List Piece) → with_pieces 
 with_last [] e ps = refl
 with_last (x ∷ es) e ps = with_last es e (with_piece x ps)
 
-module _ (a : Space) (sp : IsSpace a) (row : List Piece) (block : Block) (c : AreCarved a.pieces row block) (start pages : ℕ)
-    (some : 1 ≤ pages) (p : CanCarve row block start pages) where
+module _ (a : Space) (sp : IsSpace a) (chain : List Piece) (stock : Stock) (c : AreCarved a.pieces chain stock) (start pages : ℕ)
+    (some : 1 ≤ pages) (p : CanCarve chain stock start pages) where
   abbrev range : Range
   range = record { first = start; pages = pages }
 
   abbrev e : Piece
   e = piece_of (record { first = start; pages = pages }) Live
 
-  viewed : IsSpace (with_carved row a)
-  viewed = carved_space a block.pages.first block.pages.last row c.from c.end (carving a row block sp c)
+  viewed : IsSpace (with_carved chain a)
+  viewed = carved_space a stock.pages.first stock.pages.last chain c.from c.end (carving a chain stock sp c)
 
   -- the pages are free
-  pub all_free : AllIn Free (record { first = start; pages = pages }) (with_pieces row a.pieces)
+  pub all_free : AllIn Free (record { first = start; pages = pages }) (with_pieces chain a.pieces)
   all_free page w =
-      untouched a block.pages.first block.pages.last row c.from c.end (carving a row block sp c) page
-      (λ q m h. let f = follow_in p.0 row start p.2 q m in omega (arith, f.2, h.1, w.0))
-      ∙ in_state 1 (free_piece block.pages.first block.pages.last) a.pieces page sp.ordered c.there
-      (omega (arith, w.0, p.1, follow_le p.0 row start p.2)) (omega (arith, w.1, p.3))
+      untouched a stock.pages.first stock.pages.last chain c.from c.end (carving a chain stock sp c) page
+      (λ q m h. let f = follow_in p.0 chain start p.2 q m in omega (arith, f.2, h.1, w.0))
+      ∙ in_state 1 (free_piece stock.pages.first stock.pages.last) a.pieces page sp.ordered c.there
+      (omega (arith, w.0, p.1, follow_le p.0 chain start p.2)) (omega (arith, w.1, p.3))
 
   pub carved_range : pages ≤ MOST_PAGES → IsPageRange (record { first = start; pages = pages })
-  carved_range few = page_range (with_carved row a) range Free viewed some few all_free
+  carved_range few = page_range (with_carved chain a) range Free viewed some few all_free
 
-  is : with_carved (row ++ e ∷ []) a ≡ record (with_carved row a) { pieces = with_piece e (with_pieces row a.pieces) }
-  is = ap (λ (l : List Piece). record a { pieces = l }) (with_last row e a.pieces)
+  is : with_carved (chain ++ e ∷ []) a ≡ record (with_carved chain a) { pieces = with_piece e (with_pieces chain a.pieces) }
+  is = ap (λ (l : List Piece). record a { pieces = l }) (with_last chain e a.pieces)
 
-  pub carved_takes : Takes (with_carved row a) (with_carved (row ++ piece_of (record { first = start; pages = pages }) Live ∷ []) a)
+  pub carved_takes : Takes (with_carved chain a) (with_carved (chain ++ piece_of (record { first = start; pages = pages }) Live ∷ []) a)
       (record { first = start; pages = pages })
-  carved_takes = takes (with_carved row a) (with_carved (row ++ e ∷ []) a) range viewed some all_free is
+  carved_takes = takes (with_carved chain a) (with_carved (chain ++ e ∷ []) a) range viewed some all_free is
 
   -- and it is carved then
-  pub carved_more : (IsTooMany (with_pieces row a.pieces) (record { first = start; pages = pages }) → ⊥)
-      → AreCarved a.pieces (row ++ piece_of (record { first = start; pages = pages }) Live ∷ []) block
+  pub carved_more : (IsTooMany (with_pieces chain a.pieces) (record { first = start; pages = pages }) → ⊥)
+      → AreCarved a.pieces (chain ++ piece_of (record { first = start; pages = pages }) Live ∷ []) stock
   carved_more n = record {
     there = c.there;
     sought = c.sought;
@@ -67,11 +67,11 @@ module _ (a : Space) (sp : IsSpace a) (row : List Piece) (block : Block) (c : Ar
     from = p.0;
     end = start + pages;
     low = p.1;
-    follow = follow_both p.0 row (e ∷ []) start (start + pages) p.2
+    follow = follow_both p.0 chain (e ∷ []) start (start + pages) p.2
         (refl, omega (arith, some), (λ h. absurd (cc)), omega (arith, some));
     left = p.3;
-    few = subst (λ l. length l ≤ MOST_PIECES) (sym (with_last row e a.pieces))
-        (space_taken (with_carved row a) range viewed some all_free n).few;
+    few = subst (λ l. length l ≤ MOST_PIECES) (sym (with_last chain e a.pieces))
+        (space_taken (with_carved chain a) range viewed some all_free n).few;
   }
 
 -- a free piece that was found, of which nothing is carved yet
@@ -102,31 +102,31 @@ none_before_lowest ps page floor o low start fit h =
     omega (arith, low q.0 q.1 q.3, q.2.0)
 
 -- what a space is once pages were carved
-pub record Carves (a old : Space) (now : List Piece) (block : Option Block) (start pages : ℕ) : Type 0 where
-  pub carved : IsCarved a.pieces now block
+pub record Carves (a old : Space) (now : List Piece) (stock : Option Stock) (start pages : ℕ) : Type 0 where
+  pub carved : IsCarved a.pieces now stock
   pub spaces : IsSpace old × IsSpace (with_carved now a)
   pub range : IsPageRange (record { first = start; pages = pages })
   pub taken : Takes old (with_carved now a) (record { first = start; pages = pages })
 
-pub carves : (a old : Space) (row now : List Piece) (known : Option Block) (start pages : ℕ) → IsSpace a → IsCarved a.pieces row known
-    → with_carved row a ≡ old → 1 ≤ pages → pages ≤ MOST_PAGES
-    → (block : Block) × (known ≡ Some block) × CanCarve row block start pages → length old.pieces ≤ MOST_PIECES_TO_CUT
-    → now ≡ row ++ piece_of (record { first = start; pages = pages }) Live ∷ [] → Carves a old now known start pages
-carves a old row now known start pages sp k was some few p room set =
-    let block = p.0 in
-    let c = carved_in a.pieces row known block p.1 k in
-    let is : Carves a (with_carved row a) (row ++ piece_of (record { first = start; pages = pages }) Live ∷ []) (Some block) start pages =
-    let more = carved_more a sp row block c start pages some p.2
+pub carves : (a old : Space) (chain now : List Piece) (known : Option Stock) (start pages : ℕ) → IsSpace a → IsCarved a.pieces chain known
+    → with_carved chain a ≡ old → 1 ≤ pages → pages ≤ MOST_PAGES
+    → (stock : Stock) × (known ≡ Some stock) × CanCarve chain stock start pages → length old.pieces ≤ MOST_PIECES_TO_CUT
+    → now ≡ chain ++ piece_of (record { first = start; pages = pages }) Live ∷ [] → Carves a old now known start pages
+carves a old chain now known start pages sp k was some few p room set =
+    let stock = p.0 in
+    let c = carved_in a.pieces chain known stock p.1 k in
+    let is : Carves a (with_carved chain a) (chain ++ piece_of (record { first = start; pages = pages }) Live ∷ []) (Some stock) start pages =
+    let more = carved_more a sp chain stock c start pages some p.2
     (λ t. let n = ap (λ (v : Space). length v.pieces) was in omega (arith, t.1, n, room)) in
     record {
       carved = more;
       spaces = (
-        view_space a row (Some block) sp c,
-        view_space a (row ++ piece_of (record { first = start; pages = pages }) Live ∷ []) (Some block) sp more,
+        view_space a chain (Some stock) sp c,
+        view_space a (chain ++ piece_of (record { first = start; pages = pages }) Live ∷ []) (Some stock) sp more,
       );
-      range = carved_range a sp row block c start pages some p.2 few;
-      taken = carved_takes a sp row block c start pages some p.2;
+      range = carved_range a sp chain stock c start pages some p.2 few;
+      taken = carved_takes a sp chain stock c start pages some p.2;
     } in
     subst (λ v. Carves a v now known start pages) was
-    (subst (λ b. Carves a (with_carved row a) now b start pages) (sym p.1)
-    (subst (λ l. Carves a (with_carved row a) l (Some block) start pages) (sym set) is))
+    (subst (λ b. Carves a (with_carved chain a) now b start pages) (sym p.1)
+    (subst (λ l. Carves a (with_carved chain a) l (Some stock) start pages) (sym set) is))

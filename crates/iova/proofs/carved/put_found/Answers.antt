@@ -1,6 +1,6 @@
 use Rattle.std.proofs.Common.{◌≡◌, ◌≤◌, ◌∙◌, ◌∷◌, ◌++◌, [], ap, sym, subst, arith}
 use Rattle.dmatypes.specs.Page.{Range}
-use Rattle.iova.specs.declared.carved.Block.{Block}
+use Rattle.iova.specs.declared.carved.Stock.{Stock}
 use Rattle.iova.specs.declared.piece.PageState.TheVariants.{Live}
 use Rattle.iova.specs.Carved.{AreCarved, with_carved}
 use Rattle.iova.specs.Changes.{Takes}
@@ -21,11 +21,11 @@ put-requires-clause-space c =
 pub returns-then-start-sought-clause-taken : goal.returns-then-start-sought-clause-taken
 returns-then-start-sought-clause-taken c =
     let range : Range = record { first = c.args.found.start; pages = c.args.sought.pages } in
-    let none : c.then-start-sought.carved.row ≡ [] = elim c.then-start-sought.branch [
-      | then-start-sought-via-then-start-sought w ↦ ap (λ k. k.row) w.carved-is ∙ c.requires.row
-      | then-start-sought-via-else-start-sought+then-is_last w ↦ ap (λ k. k.row) w.carved-is ∙ c.requires.row
+    let none : c.then-start-sought.carved.chain ≡ [] = elim c.then-start-sought.branch [
+      | then-start-sought-via-then-start-sought w ↦ ap (λ k. k.chain) w.carved-is ∙ c.requires.chain
+      | then-start-sought-via-else-start-sought+then-is_last w ↦ ap (λ k. k.chain) w.carved-is ∙ c.requires.chain
       | then-start-sought-via-else-start-sought+else-is_last+then-not-carve w ↦
-          ap (λ k. k.row) w.carved-is ∙ w.carve.ensures.unchanged w.if-not-carve.true ∙ c.requires.row
+          ap (λ k. k.chain) w.carved-is ∙ w.carve.ensures.unchanged w.if-not-carve.true ∙ c.requires.chain
     ] in
     subst (λ l. Takes c.args.tree.now (with_carved l c.put.new.self) range) (sym none)
     (takes c.args.tree.now c.put.new.self range c.requires.space c.requires.sought.some c.requires.lowest.fit.free c.put.ensures.is)
@@ -41,31 +41,31 @@ returns-clause-taken c =
     let a : Space = c.args.tree.now in
     let f = c.args.found in
     let least = c.least_sought-sought.ensures in
-    let block : Block = record { pages = f.known.pages; sought = c.least_sought-sought.result } in
+    let stock : Stock = record { pages = f.known.pages; sought = c.least_sought-sought.result } in
     let above : c.least_sought-sought.result.floor ≤ f.start = omega (arith, least.floor, c.if-start-sought.false) in
     let free = uncarved a c.requires.space f.known.pages c.least_sought-sought.result least.sought f.start c.args.sought.pages
     c.requires.there least.none above c.requires.inside.0 c.if-is_last.false in
     let can = can_carve a c.requires.space f.known.pages c.least_sought-sought.result least.sought f.start c.args.sought.pages
     c.requires.there least.none above c.requires.inside.0 c.if-is_last.false in
-    let is : c.carve.new.self.row ≡ piece_of (record { first = f.start; pages = c.args.sought.pages }) Live ∷ [] =
+    let is : c.carve.new.self.chain ≡ piece_of (record { first = f.start; pages = c.args.sought.pages }) Live ∷ [] =
     c.carve.ensures.carved c.if-not-carve.false
-    ∙ ap (λ l. l ++ piece_of (record { first = f.start; pages = c.args.sought.pages }) Live ∷ []) c.requires.row in
+    ∙ ap (λ l. l ++ piece_of (record { first = f.start; pages = c.args.sought.pages }) Live ∷ []) c.requires.chain in
     subst (λ l. Takes a (with_carved l a) (record { first = f.start; pages = c.args.sought.pages })) (sym is)
-    (carved_takes a c.requires.space [] block free f.start c.args.sought.pages c.requires.sought.some can)
+    (carved_takes a c.requires.space [] stock free f.start c.args.sought.pages c.requires.sought.some can)
 
 pub returns-clause-carved : goal.returns-clause-carved
 returns-clause-carved c =
     let a : Space = c.args.tree.now in
     let f = c.args.found in
     let least = c.least_sought-sought.ensures in
-    let block : Block = record { pages = f.known.pages; sought = c.least_sought-sought.result } in
+    let stock : Stock = record { pages = f.known.pages; sought = c.least_sought-sought.result } in
     let above : c.least_sought-sought.result.floor ≤ f.start = omega (arith, least.floor, c.if-start-sought.false) in
     let free = uncarved a c.requires.space f.known.pages c.least_sought-sought.result least.sought f.start c.args.sought.pages
     c.requires.there least.none above c.requires.inside.0 c.if-is_last.false in
     let can = can_carve a c.requires.space f.known.pages c.least_sought-sought.result least.sought f.start c.args.sought.pages
     c.requires.there least.none above c.requires.inside.0 c.if-is_last.false in
-    let is : c.carve.new.self.row ≡ piece_of (record { first = f.start; pages = c.args.sought.pages }) Live ∷ [] =
+    let is : c.carve.new.self.chain ≡ piece_of (record { first = f.start; pages = c.args.sought.pages }) Live ∷ [] =
     c.carve.ensures.carved c.if-not-carve.false
-    ∙ ap (λ l. l ++ piece_of (record { first = f.start; pages = c.args.sought.pages }) Live ∷ []) c.requires.row in
-    subst (λ l. AreCarved a.pieces l block) (sym is)
-    (carved_more a c.requires.space [] block free f.start c.args.sought.pages c.requires.sought.some can c.requires.few)
+    ∙ ap (λ l. l ++ piece_of (record { first = f.start; pages = c.args.sought.pages }) Live ∷ []) c.requires.chain in
+    subst (λ l. AreCarved a.pieces l stock) (sym is)
+    (carved_more a c.requires.space [] stock free f.start c.args.sought.pages c.requires.sought.some can c.requires.few)

@@ -7,5 +7,5 @@ use Rattle.iova.proofs.carved.Carved.is_live.Goals as goal
 pub returns-in-Live : goal.returns-in-Live
 returns-in-Live c h =
     let d : Piece = record { first = 0; last = 0; state = Free } in
-    live_there c.args.self.now.row c.args.pages c.in-Some.place d c.in-Some.ensures
+    live_there c.args.self.now.chain c.args.pages c.in-Some.place d c.in-Some.ensures
     (ap (λ l. (get_or l c.in-Some.place d).state) (sym c.as_slice.ensures) ∙ c.in-Live.is)

@@ -6,17 +6,17 @@ use Rattle.iova.proofs.space.Space.free_live.Goals as goal
 pub invariant_of-self : goal.invariant_of-self
 invariant_of-self c =
     let k = c.self.inside.carved in
-    let e = end_freed_in c.self.inside.tree c.args.self.now k.row c.give_back.new.self.row k.block c.ends_of-pages.result c.args.range
+    let e = end_freed_in c.self.inside.tree c.args.self.now k.chain c.give_back.new.self.chain k.stock c.ends_of-pages.result c.args.range
     c.self.invariant.0 c.self.invariant.1 c.self.view_is (c.give_back.ensures.given c.if-give_back.true) c.ends_of-pages.ensures.first
     c.ends_of-pages.ensures.last c.ends_of-pages.ensures.range.some in (
       c.self.invariant.0,
-      subst (λ b. IsCarved c.self.inside.tree.pieces c.give_back.new.self.row b) (sym c.give_back.ensures.block) e.carved,
+      subst (λ b. IsCarved c.self.inside.tree.pieces c.give_back.new.self.chain b) (sym c.give_back.ensures.stock) e.carved,
     )
 
 pub returns-then-give_back-clause-freed : goal.returns-then-give_back-clause-freed
 returns-then-give_back-clause-freed c =
     let k = c.self.inside.carved in
-    let e = end_freed_in c.self.inside.tree c.args.self.now k.row c.give_back.new.self.row k.block c.ends_of-pages.result c.args.range
+    let e = end_freed_in c.self.inside.tree c.args.self.now k.chain c.give_back.new.self.chain k.stock c.ends_of-pages.result c.args.range
     c.self.invariant.0 c.self.invariant.1 c.self.view_is (c.give_back.ensures.given c.if-give_back.true) c.ends_of-pages.ensures.first
     c.ends_of-pages.ensures.last c.ends_of-pages.ensures.range.some in
     e.freed_live c.requires
@@ -24,7 +24,7 @@ returns-then-give_back-clause-freed c =
 pub returns-then-give_back-clause-space : goal.returns-then-give_back-clause-space
 returns-then-give_back-clause-space c =
     let k = c.self.inside.carved in
-    let e = end_freed_in c.self.inside.tree c.args.self.now k.row c.give_back.new.self.row k.block c.ends_of-pages.result c.args.range
+    let e = end_freed_in c.self.inside.tree c.args.self.now k.chain c.give_back.new.self.chain k.stock c.ends_of-pages.result c.args.range
     c.self.invariant.0 c.self.invariant.1 c.self.view_is (c.give_back.ensures.given c.if-give_back.true) c.ends_of-pages.ensures.first
     c.ends_of-pages.ensures.last c.ends_of-pages.ensures.range.some in
     e.spaces

@@ -10,7 +10,7 @@ use Rattle.iova.proofs.space.Space.judge.Goals as goal
 pub returns-then-is_live-clause-ok : goal.returns-then-is_live-clause-ok
 returns-then-is_live-clause-ok c =
     let k = c.self.inside.carved in
-    let may = live_may c.self.inside.tree c.args.self.now k.row k.block c.ends_of-pages.result c.args.range c.self.invariant.0
+    let may = live_may c.self.inside.tree c.args.self.now k.chain k.stock c.ends_of-pages.result c.args.range c.self.invariant.0
     c.self.invariant.1 c.self.view_is (c.is_live.ensures c.if-is_live.true) c.ends_of-pages.ensures.first c.ends_of-pages.ensures.last
     c.ends_of-pages.ensures.range.some in
     ((λ e. may), (λ m. refl))
@@ -18,7 +18,7 @@ returns-then-is_live-clause-ok c =
 pub returns-then-is_live-clause-not_live : goal.returns-then-is_live-clause-not_live
 returns-then-is_live-clause-not_live c =
     let k = c.self.inside.carved in
-    let may = live_may c.self.inside.tree c.args.self.now k.row k.block c.ends_of-pages.result c.args.range c.self.invariant.0
+    let may = live_may c.self.inside.tree c.args.self.now k.chain k.stock c.ends_of-pages.result c.args.range c.self.invariant.0
     c.self.invariant.1 c.self.view_is (c.is_live.ensures c.if-is_live.true) c.ends_of-pages.ensures.first c.ends_of-pages.ensures.last
     c.ends_of-pages.ensures.range.some in
     ((λ e. absurd (cc)), (λ h. absurd (h.2 (may.live h.0 h.1))))
@@ -26,7 +26,7 @@ returns-then-is_live-clause-not_live c =
 pub returns-then-is_live-clause-too_many : goal.returns-then-is_live-clause-too_many
 returns-then-is_live-clause-too_many c =
     let k = c.self.inside.carved in
-    let may = live_may c.self.inside.tree c.args.self.now k.row k.block c.ends_of-pages.result c.args.range c.self.invariant.0
+    let may = live_may c.self.inside.tree c.args.self.now k.chain k.stock c.ends_of-pages.result c.args.range c.self.invariant.0
     c.self.invariant.1 c.self.view_is (c.is_live.ensures c.if-is_live.true) c.ends_of-pages.ensures.first c.ends_of-pages.ensures.last
     c.ends_of-pages.ensures.range.some in
     ((λ e. absurd (cc)), (λ h. absurd (may.room h.1)))

@@ -8,38 +8,38 @@ use Rattle.iova.specs.Space.{Space, IsSpace}
 use Rattle.iova.proofs.carvings.State.{view_space}
 use Rattle.iova.proofs.space.Space.pieces.Goals as goal
 
--- the tree's piece counts as passed where there is no row, and what comes is the tree's pieces
+-- the tree's piece counts as passed where there is no chain, and what comes is the tree's pieces
 abbrev coming : ℕ → Option Ends → List Piece → Option Ends → List Piece → Bool → List Piece
-coming block before row behind pieces passed =
-    if passed then free_of before ++ row ++ free_of behind ++ pieces
-    else in_place_of block (free_of before ++ row ++ free_of behind) pieces
+coming stock before chain behind pieces passed =
+    if passed then free_of before ++ chain ++ free_of behind ++ pieces
+    else in_place_of stock (free_of before ++ chain ++ free_of behind) pieces
 
-all_come : (block : ℕ) (before : Option Ends) (row : List Piece) (behind : Option Ends) (pieces : List Piece)
-    → (row ≡ [] → (before ≡ None) × (behind ≡ None))
-    → ((first : Piece) (rest : List Piece) → row ≡ first ∷ rest
-    → in_place_of block (free_of before ++ row ++ free_of behind) pieces ≡ with_pieces row pieces)
-    → coming block before row behind pieces (length row == 0) ≡ with_pieces row pieces
-all_come block before [] behind pieces f g =
+all_come : (stock : ℕ) (before : Option Ends) (chain : List Piece) (behind : Option Ends) (pieces : List Piece)
+    → (chain ≡ [] → (before ≡ None) × (behind ≡ None))
+    → ((first : Piece) (rest : List Piece) → chain ≡ first ∷ rest
+    → in_place_of stock (free_of before ++ chain ++ free_of behind) pieces ≡ with_pieces chain pieces)
+    → coming stock before chain behind pieces (length chain == 0) ≡ with_pieces chain pieces
+all_come stock before [] behind pieces f g =
     let e = f refl in
-    ap (λ o. coming block o [] behind pieces true) e.0 ∙ ap (λ o. coming block None [] o pieces true) e.1
-all_come block before (p ∷ ps) behind pieces f g =
+    ap (λ o. coming stock o [] behind pieces true) e.0 ∙ ap (λ o. coming stock None [] o pieces true) e.1
+all_come stock before (p ∷ ps) behind pieces f g =
     let not : length (p ∷ ps) == 0 ≡ false = grind (arith, nat_tests) in
-    ap (coming block before (p ∷ ps) behind pieces) not ∙ g p ps refl
+    ap (coming stock before (p ∷ ps) behind pieces) not ∙ g p ps refl
 
 pub returns-clause-pieces : goal.returns-clause-pieces
 returns-clause-pieces c =
     let a = c.self.inside.tree in
     let parts = c.parts-parts.result in
-    let row = c.as_slice-row.result.now in
-    let is = c.as_slice-row.ensures in
-    ap (coming parts.first parts.before row parts.behind c.pieces.result) c.is_empty.ensures
-    ∙ ap (λ l. coming parts.first parts.before row parts.behind l (length row == 0)) c.pieces.ensures.pieces
+    let chain = c.as_slice-chain.result.now in
+    let is = c.as_slice-chain.ensures in
+    ap (coming parts.first parts.before chain parts.behind c.pieces.result) c.is_empty.ensures
+    ∙ ap (λ l. coming parts.first parts.before chain parts.behind l (length chain == 0)) c.pieces.ensures.pieces
     ∙ ap (λ (l : List Piece). coming parts.first parts.before l parts.behind a.pieces (length l == 0)) is
-    ∙ all_come parts.first parts.before c.self.inside.carved.row parts.behind a.pieces c.parts-parts.ensures.none
+    ∙ all_come parts.first parts.before c.self.inside.carved.chain parts.behind a.pieces c.parts-parts.ensures.none
     (λ first rest e. c.parts-parts.ensures.some a first rest c.self.invariant.0 c.self.invariant.1 e)
     ∙ ap (λ (v : Space). v.pieces) c.self.view_is
 
 pub returns-clause-space : goal.returns-clause-space
 returns-clause-space c =
-    subst (λ v. IsSpace v) c.self.view_is (view_space c.self.inside.tree c.self.inside.carved.row c.self.inside.carved.block
+    subst (λ v. IsSpace v) c.self.view_is (view_space c.self.inside.tree c.self.inside.carved.chain c.self.inside.carved.stock
     c.self.invariant.0 c.self.invariant.1)

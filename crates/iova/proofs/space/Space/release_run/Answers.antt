@@ -9,7 +9,7 @@ use Rattle.iova.proofs.space.Space.release_run.Goals as goal
 pub invariant_of-self : goal.invariant_of-self
 invariant_of-self c =
     let k = c.self.inside.carved in
-    let left = run_left c.self.inside.tree c.args.self.now k.row c.lose_first.new.self k.block c.ends_of-pages.result c.in-Some.count
+    let left = run_left c.self.inside.tree c.args.self.now k.chain c.lose_first.new.self k.stock c.ends_of-pages.result c.in-Some.count
     c.args.range c.self.invariant.0 c.self.invariant.1 c.self.view_is c.lose_first.ensures c.ends_of-pages.ensures.first
     c.ends_of-pages.ensures.last c.ends_of-pages.ensures.range.some c.in-Some.ensures.count.0 c.in-Some.ensures.first
     c.in-Some.ensures.last c.requires in
@@ -18,7 +18,7 @@ invariant_of-self c =
 pub returns-in-Some-clause-freed : goal.returns-in-Some-clause-freed
 returns-in-Some-clause-freed c =
     let k = c.self.inside.carved in
-    let left = run_left c.self.inside.tree c.args.self.now k.row c.lose_first.new.self k.block c.ends_of-pages.result c.in-Some.count
+    let left = run_left c.self.inside.tree c.args.self.now k.chain c.lose_first.new.self k.stock c.ends_of-pages.result c.in-Some.count
     c.args.range c.self.invariant.0 c.self.invariant.1 c.self.view_is c.lose_first.ensures c.ends_of-pages.ensures.first
     c.ends_of-pages.ensures.last c.ends_of-pages.ensures.range.some c.in-Some.ensures.count.0 c.in-Some.ensures.first
     c.in-Some.ensures.last c.requires in
@@ -27,7 +27,7 @@ returns-in-Some-clause-freed c =
 pub returns-in-Some-clause-retirable : goal.returns-in-Some-clause-retirable
 returns-in-Some-clause-retirable c =
     let k = c.self.inside.carved in
-    let left = run_left c.self.inside.tree c.args.self.now k.row c.lose_first.new.self k.block c.ends_of-pages.result c.in-Some.count
+    let left = run_left c.self.inside.tree c.args.self.now k.chain c.lose_first.new.self k.stock c.ends_of-pages.result c.in-Some.count
     c.args.range c.self.invariant.0 c.self.invariant.1 c.self.view_is c.lose_first.ensures c.ends_of-pages.ensures.first
     c.ends_of-pages.ensures.last c.ends_of-pages.ensures.range.some c.in-Some.ensures.count.0 c.in-Some.ensures.first
     c.in-Some.ensures.last c.requires in
@@ -36,7 +36,7 @@ returns-in-Some-clause-retirable c =
 pub returns-in-Some-clause-space : goal.returns-in-Some-clause-space
 returns-in-Some-clause-space c =
     let k = c.self.inside.carved in
-    let left = run_left c.self.inside.tree c.args.self.now k.row c.lose_first.new.self k.block c.ends_of-pages.result c.in-Some.count
+    let left = run_left c.self.inside.tree c.args.self.now k.chain c.lose_first.new.self k.stock c.ends_of-pages.result c.in-Some.count
     c.args.range c.self.invariant.0 c.self.invariant.1 c.self.view_is c.lose_first.ensures c.ends_of-pages.ensures.first
     c.ends_of-pages.ensures.last c.ends_of-pages.ensures.range.some c.in-Some.ensures.count.0 c.in-Some.ensures.first
     c.in-Some.ensures.last c.requires in
@@ -50,5 +50,5 @@ release_run-requires c =
 pub returns-clause-retirable : goal.returns-clause-retirable
 returns-clause-retirable c other may =
     let was : c.settle.new.tree ≡ c.args.self.now = c.settle.ensures.tree ∙ c.self.view_is in
-    subst (λ l. MayRetire (with_carved l c.release_run.new.self).pieces other) (sym c.settle.ensures.row)
+    subst (λ l. MayRetire (with_carved l c.release_run.new.self).pieces other) (sym c.settle.ensures.chain)
     (c.release_run.ensures.retirable other (subst (λ (v : Space). MayRetire v.pieces other) (sym was) may))

@@ -21,5 +21,5 @@ returns-clause-range c =
 pub returns-clause-space : goal.returns-clause-space
 returns-clause-space c = (
   c.take_behind.ensures.space.0,
-  view_space c.take.new.tree c.take.new.carved.row c.take.new.carved.block c.take.ensures.space c.take.ensures.carved,
+  view_space c.take.new.tree c.take.new.carved.chain c.take.new.carved.stock c.take.ensures.space c.take.ensures.carved,
 )

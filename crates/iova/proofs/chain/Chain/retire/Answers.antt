@@ -6,7 +6,7 @@ use Rattle.iova.specs.declared.piece.PageState.{PageState}
 use Rattle.iova.specs.declared.piece.PageState.TheVariants.{Retired}
 use Rattle.iova.specs.declared.piece.Piece.{Piece}
 use Rattle.iova.specs.Way.{pages_as}
-use Rattle.iova.proofs.row.Row.retire.Goals as goal
+use Rattle.iova.proofs.chain.Chain.retire.Goals as goal
 
 -- the piece at a place behind the first few is made retired
 retired : (all : List Piece) (begin place : ℕ) (p : Piece) (before : List Piece) (pages : Ends) (state : PageState) (behind : List Piece)

@@ -1,4 +1,4 @@
-//! Pieces in a row, of which the first and the last ones can leave.
+//! Pieces in a chain, of which the first and the last ones can leave.
 
 ghost use Rattle.std.specs.Prelude.{◌≡◌, List, ℕ, [], ◌∷◌, ◌++◌, ◌+◌, ◌-◌, ◌≤◌, ◌<◌, Some, drop, length, slice_get, slice_set};
 ghost use Rattle.std.specs.Prelude.{IfSome, IfNone, IfOk, true, false};
@@ -11,37 +11,37 @@ use crate::piece::{PageState, Piece};
 use std::alloc::{AllocError, Global};
 use std::marker::Model;
 
-/// How many pieces a row has room for (own): as many as a lazy domain retires before it has to flush, and what is taken just before
+/// How many pieces a chain has room for (own): as many as a lazy domain retires before it has to flush, and what is taken just before
 /// that.
-pub(crate) const MOST_IN_ROW: usize = 272;
+pub(crate) const MOST_IN_CHAIN: usize = 272;
 
 /// Pieces, seen as their list.
 #[derive(Drop)]
-pub(crate) struct Row {
+pub(crate) struct Chain {
     // Those that left at the front, up to `begin`, and behind them the pieces.
     pieces: Vec<Piece>,
     begin: usize,
 }
 
-impl Model for Row {
+impl Model for Chain {
     ghost use Rattle.std.specs.Prelude.{List, ◌≤◌, drop, length, vec_capacity};
     ghost use Rattle.iova.specs.declared.piece.Piece.{Piece};
-    ghost use Rattle.iova.specs.declared.row.TheConstants.{MOST_IN_ROW};
+    ghost use Rattle.iova.specs.declared.chain.TheConstants.{MOST_IN_CHAIN};
 
     ghost Value = { List Piece };
 
     ghost view = { λ r. drop r.begin r.pieces.items };
 
-    ghost invariant = { λ r. (r.begin ≤ length r.pieces.items) × (MOST_IN_ROW ≤ vec_capacity r.pieces) };
+    ghost invariant = { λ r. (r.begin ≤ length r.pieces.items) × (MOST_IN_CHAIN ≤ vec_capacity r.pieces) };
 }
 
-impl Row {
+impl Chain {
     /// None, and the memory for all.
-    pub(crate) fn new(alloc: Global) -> Result<Row, AllocError>
-        ensures { IfOk result (λ row. row ≡ []) }
+    pub(crate) fn new(alloc: Global) -> Result<Chain, AllocError>
+        ensures { IfOk result (λ chain. chain ≡ []) }
     {
-        let pieces = Vec::with_capacity(alloc, MOST_IN_ROW)?;
-        Ok(Row { pieces, begin: 0 })
+        let pieces = Vec::with_capacity(alloc, MOST_IN_CHAIN)?;
+        Ok(Chain { pieces, begin: 0 })
     }
 
     /// The pieces.
@@ -63,7 +63,7 @@ impl Row {
         ensures pushed { result ≡ true → self.new ≡ self.old ++ piece ∷ [] }
         ensures unchanged { result ≡ false → self.new ≡ self.old }
     {
-        if self.pieces.len() >= MOST_IN_ROW {
+        if self.pieces.len() >= MOST_IN_CHAIN {
             return false;
         }
         self.pieces.push_reserved(piece);
