@@ -15,7 +15,8 @@ use vtdbits::{DeviceNumber, DomainId, LargeTranslation, Translation};
 pub(crate) struct CachedLeaf {
     pub(crate) domain: DomainId,
     pub(crate) first: u64,
-    pub(crate) pages: u64,
+    // As narrow as they can be, here and in a table's level: a unit is moved where it is made, and stands on the stack meanwhile.
+    pub(crate) pages: u16,
     pub(crate) frame: Frame,
     pub(crate) rights: Rights,
 }
@@ -57,7 +58,7 @@ impl CachedLeaf {
         CachedLeaf {
             domain,
             first: page - page % SPAN_PAGES,
-            pages: SPAN_PAGES,
+            pages: SPAN_PAGES as u16,
             frame: to.frame(),
             rights: to.rights(),
         }
@@ -67,7 +68,7 @@ impl CachedLeaf {
     pub(crate) fn holds(&self, domain: DomainId, page: u64) -> bool
         ensures { result ≡ ((self.now.domain == domain) && hold self.now.first self.now.pages page) }
     {
-        self.domain == domain && self.first <= page && page < self.first + self.pages
+        self.domain == domain && self.first <= page && page - self.first < u64::from(self.pages)
     }
 
     /// What it states of a page that it stands for.
@@ -99,7 +100,7 @@ pub(crate) struct CachedNonLeaf {
     pub(crate) domain: DomainId,
     pub(crate) first: u64,
     pub(crate) pages: u64,
-    pub(crate) level: u64,
+    pub(crate) level: u8,
     pub(crate) frame: Frame,
 }
 
@@ -128,7 +129,7 @@ impl CachedNonLeaf {
             domain,
             first: page - page % pages,
             pages,
-            level,
+            level: level as u8,
             frame,
         }
     }
@@ -144,7 +145,7 @@ impl CachedNonLeaf {
     pub(crate) fn is_at(&self, level: u64) -> bool
         ensures { result ≡ (self.now.level == level) }
     {
-        self.level == level
+        u64::from(self.level) == level
     }
 }
 

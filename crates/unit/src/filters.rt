@@ -31,7 +31,7 @@ impl Cached for CachedLeaf {
             Descriptor::IotlbGlobal => true,
             Descriptor::IotlbDomain(domain) => self.domain == domain,
             Descriptor::IotlbPages { domain, block, .. } => {
-                self.domain == domain && lie_in(block, self.first, self.pages)
+                self.domain == domain && lie_in(block, self.first, u64::from(self.pages))
             }
             _ => false,
         }

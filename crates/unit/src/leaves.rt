@@ -184,7 +184,7 @@ fn mark(marks: &mut Marks, leaf: &CachedLeaf)
         mark_place(marks, mark_of(leaf.domain, leaf.first));
     } else {
         mark_place(marks, mark_of(leaf.domain, leaf.first / SPAN_PAGES));
-        let last = leaf.first + (leaf.pages - 1);
+        let last = leaf.first + (u64::from(leaf.pages) - 1);
         mark_place(marks, mark_of(leaf.domain, last / SPAN_PAGES));
     }
 }

@@ -18,9 +18,9 @@ pub(crate) const LEAVES: usize = MOST_CACHED_LEAVES;
 // A list of so few leaves is passed over in about the time in which two marks are tested (own).
 const FEW: usize = 4;
 
-// Half as many more, so that new leaves move the others to the front only once for so many of them. A unit is moved where it is made, so
+// A quarter more, so that new leaves move the others to the front only once for so many of them. A unit is moved where it is made, so
 // more room is more of the stack.
-const ROOM: usize = LEAVES + LEAVES / 2;
+const ROOM: usize = LEAVES + LEAVES / 4;
 
 /// Leaves, oldest first.
 #[derive(Drop)]

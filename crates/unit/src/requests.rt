@@ -154,7 +154,7 @@ fn start_of(cached: &[CachedNonLeaf], context: CachedContext, page: u64, look: b
 {
     if look {
         if let Some(table) = lowest_table(cached, context.domain, page, context.width.levels()) {
-            return (table.level, table.frame);
+            return (u64::from(table.level), table.frame);
         }
     }
     (context.width.levels(), context.root)

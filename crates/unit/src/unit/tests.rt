@@ -167,13 +167,13 @@ pub(super) fn assert_remembered(
         unit.leaves
             .as_slice()
             .iter()
-            .map(|leaf| (leaf.first, leaf.pages))
+            .map(|leaf| (leaf.first, u64::from(leaf.pages)))
             .eq(leaves.iter().copied())
     );
     assert!(rt;
         unit.non_leaves
             .iter()
-            .map(|table| (table.first, table.level))
+            .map(|table| (table.first, u64::from(table.level)))
             .eq(tables.iter().copied())
     );
     assert!(rt;
