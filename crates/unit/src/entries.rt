@@ -5,19 +5,21 @@ ghost use Rattle.unit.specs.Caches.{leaf};
 ghost use Rattle.unit.specs.Walking.{hold, met_non_leaf, stated_by};
 
 use dmatypes::{Frame, PAGES_END, Rights, SPAN_PAGES, Width};
+use std::fmt;
 use std::marker::Model;
 use tables::span_of;
 use vtdbits::{DeviceNumber, DomainId, LargeTranslation, Translation};
 
 /// A leaf that a walk met: the pages that it stands for, and what they are mapped to, one frame after the
 /// other.
-#[derive(Clone, Copy, Debug, PartialEq, Eq)]
+// Its fields are as narrow as they can be, as a table's level is, and stand as they take the least room: a unit is moved where it is made,
+// and stands on the stack meanwhile.
+#[derive(Clone, Copy, PartialEq, Eq)]
 pub(crate) struct CachedLeaf {
     pub(crate) domain: DomainId,
     pub(crate) first: u64,
-    // As narrow as they can be, here and in a table's level: a unit is moved where it is made, and stands on the stack meanwhile.
-    pub(crate) pages: u16,
     pub(crate) frame: Frame,
+    pub(crate) pages: u16,
     pub(crate) rights: Rights,
 }
 
@@ -78,6 +80,18 @@ impl CachedLeaf {
     {
         let frame = self.frame.number() + (page - self.first);
         Translation::new(Frame::new(frame).unwrap(), self.rights)
+    }
+}
+
+impl fmt::Debug for CachedLeaf {
+    fn fmt<W: fmt::Write>(&self, f: &mut fmt::Formatter<W>) -> fmt::Result {
+        f.debug_struct("CachedLeaf")
+            .field("domain", &self.domain)
+            .field("first", &self.first)
+            .field("pages", &self.pages)
+            .field("frame", &self.frame)
+            .field("rights", &self.rights)
+            .finish()
     }
 }
 
