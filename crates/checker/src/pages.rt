@@ -188,6 +188,7 @@ impl Pages {
     }
 
     // The same between two pages that no run crosses. The runs are counted, so that all memory for them is asked for before one leaves.
+    #[inline(never)]
     fn take_runs(&mut self, alloc: Global, first: u64, end: u64) -> Result<Taken, AllocError>
         requires order { first ≤ end }
         requires first { IsCutAt (runs_of self.old) first }
@@ -281,7 +282,8 @@ impl Pages {
         }
     }
 
-    // The same where none begins at the first page.
+    // The same where none begins at the first page. Its room on the stack is not taken where one does.
+    #[inline(never)]
     fn pop_next(&mut self, page: u64, end: u64) -> Option<(u64, Run)>
         requires order { page ≤ end }
         requires first { IsCutAt (runs_of self.old) page }
