@@ -149,7 +149,19 @@ impl Carved {
         requires { (from : ℕ) × (end : ℕ) × FollowOn from self.now.chain end }
         ensures { IsTrue result → IsIn (pages_as pages PageState.Live) self.now.chain }
     {
-        match self.place_of(pages) {
+        match self.chain.last_state(pages) {
+            Some(state) => matches!(state, PageState::Live),
+            None => !self.chain.is_empty() && self.is_live_before(pages),
+        }
+    }
+
+    // The same, where it is looked for.
+    #[inline(never)]
+    fn is_live_before(&self, pages: Ends) -> bool
+        requires { (from : ℕ) × (end : ℕ) × FollowOn from self.now.chain end }
+        ensures { IsTrue result → IsIn (pages_as pages PageState.Live) self.now.chain }
+    {
+        match find(self.chain.as_slice(), pages) {
             Some(place) => matches!(self.chain.as_slice()[place].state, PageState::Live),
             None => false,
         }
@@ -163,15 +175,11 @@ impl Carved {
         ensures unchanged { result ≡ false → self.new.chain ≡ self.old.chain }
         ensures stock { self.new.stock ≡ self.old.stock }
     {
-        let pieces = self.chain.as_slice();
-        if pieces.is_empty() {
-            return false;
-        }
-        if is_at(pieces, pieces.len() - 1, pages) {
+        if self.chain.last_state(pages).is_some() {
             self.chain.lose_last();
             return true;
         }
-        self.give_back_first(pages)
+        !self.chain.is_empty() && self.give_back_first(pages)
     }
 
     // The same, where it is the first.

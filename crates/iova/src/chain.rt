@@ -1,7 +1,7 @@
 //! Pieces in a chain, of which the first and the last ones can leave.
 
 ghost use Rattle.std.specs.Prelude.{◌≡◌, List, ℕ, [], ◌∷◌, ◌++◌, ◌+◌, ◌-◌, ◌≤◌, ◌<◌, Some, drop, length, slice_get, slice_set};
-ghost use Rattle.std.specs.Prelude.{IfSome, IfNone, IfOk, true, false};
+ghost use Rattle.std.specs.Prelude.{◌↔◌, IfSome, IfNone, IfOk, IsTrue, true, false};
 ghost use Rattle.iova.specs.Carved.{FollowOn};
 ghost use Rattle.iova.specs.Search.{piece_at};
 ghost use Rattle.iova.specs.Way.{pages_as};
@@ -18,13 +18,13 @@ pub(crate) const MOST_IN_CHAIN: usize = 272;
 /// Pieces, seen as their list.
 #[derive(Drop)]
 pub(crate) struct Chain {
-    // Those that left at the front, up to `begin`, and behind them the pieces.
+    // Those that left at the front, up to `begin`, and behind them the pieces. Where all have left, none of them is kept.
     pieces: Vec<Piece>,
     begin: usize,
 }
 
 impl Model for Chain {
-    ghost use Rattle.std.specs.Prelude.{List, ◌≤◌, drop, length, vec_capacity};
+    ghost use Rattle.std.specs.Prelude.{List, ◌≡◌, ◌≤◌, drop, length, vec_capacity};
     ghost use Rattle.iova.specs.declared.piece.Piece.{Piece};
     ghost use Rattle.iova.specs.declared.chain.TheConstants.{MOST_IN_CHAIN};
 
@@ -32,7 +32,8 @@ impl Model for Chain {
 
     ghost view = { λ r. drop r.begin r.pieces.items };
 
-    ghost invariant = { λ r. (r.begin ≤ length r.pieces.items) × (MOST_IN_CHAIN ≤ vec_capacity r.pieces) };
+    ghost invariant = { λ r. (r.begin ≤ length r.pieces.items) × (MOST_IN_CHAIN ≤ vec_capacity r.pieces)
+        × (r.begin ≡ length r.pieces.items → length r.pieces.items ≡ 0) };
 }
 
 impl Chain {
@@ -49,6 +50,26 @@ impl Chain {
         ensures { result.now ≡ self.now }
     {
         &self.pieces.as_slice()[self.begin..]
+    }
+
+    /// Whether there is none.
+    #[inline(always)]
+    pub(crate) fn is_empty(&self) -> bool
+        ensures { IsTrue result ↔ (self.now ≡ []) }
+    {
+        self.pieces.is_empty()
+    }
+
+    /// The state of the last one, if it has some pages.
+    #[inline(always)]
+    pub(crate) fn last_state(&self, pages: Ends) -> Option<PageState>
+        ensures { IfSome result (λ state. (before : List Piece) × (self.now ≡ before ++ pages_as pages state ∷ [])) }
+    {
+        let piece = self.pieces.last()?;
+        if piece.first == pages.first && piece.last == pages.last {
+            return Some(piece.state);
+        }
+        None
     }
 
     /// How many there are.
@@ -76,8 +97,9 @@ impl Chain {
         ensures { (before : List Piece) (last : Piece) → self.old ≡ before ++ last ∷ [] → self.new ≡ before }
     {
         let _ = self.pieces.pop();
-        if self.len() == 0 {
-            self.clear();
+        if self.pieces.len() == self.begin {
+            self.pieces.clear();
+            self.begin = 0;
         }
     }
 
@@ -87,8 +109,9 @@ impl Chain {
         ensures { self.new ≡ drop count self.old }
     {
         self.begin += count;
-        if self.len() == 0 {
-            self.clear();
+        if self.pieces.len() == self.begin {
+            self.pieces.clear();
+            self.begin = 0;
         }
     }
 

@@ -1,11 +1,11 @@
-use Rattle.std.proofs.Common.{ap, sym, ◌∙◌, get_or}
-use Rattle.iova.specs.declared.piece.PageState.TheVariants.{Free}
-use Rattle.iova.specs.declared.piece.Piece.{Piece}
-use Rattle.iova.proofs.carvings.At.{live_there}
+use Rattle.std.proofs.Common.{◌∷◌, [], inl, refl, sym, subst}
+use Rattle.dmatypes.specs.World.{IsIn}
+use Rattle.iova.specs.Way.{pages_as}
+use Rattle.iova.proofs.Among.{in_append_right}
 use Rattle.iova.proofs.carved.Carved.is_live.Goals as goal
 
 pub returns-in-Live : goal.returns-in-Live
-returns-in-Live c h =
-    let d : Piece = record { first = 0; last = 0; state = Free } in
-    live_there c.args.self.now.chain c.args.pages c.in-Some.place d c.in-Some.ensures
-    (ap (λ l. (get_or l c.in-Some.place d).state) (sym c.as_slice.ensures) ∙ c.in-Live.is)
+returns-in-Live c t =
+    let q = pages_as c.args.pages c.in-Some.state in
+    subst (λ s. IsIn (pages_as c.args.pages s) c.args.self.now.chain) c.in-Live.is
+    (subst (λ l. IsIn q l) (sym c.in-Some.ensures.1) (in_append_right q c.in-Some.ensures.0 (q ∷ []) (inl refl)))

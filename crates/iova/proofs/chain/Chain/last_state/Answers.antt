@@ -1,0 +1,1 @@
+use Rattle.iova.proofs.chain.Chain.last_state.Goals as goal
