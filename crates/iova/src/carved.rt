@@ -135,12 +135,13 @@ impl Carved {
         requires { (from : ℕ) × (end : ℕ) × FollowOn from self.now.chain end }
         ensures { IfSome result (IsAt self.now.chain pages) }
     {
-        let pieces = self.chain.as_slice();
-        let last = pieces.len().checked_sub(1)?;
-        if is_at(pieces, last, pages) {
-            return Some(last);
+        if let Some(_) = self.chain.last_state(pages) {
+            return Some(self.chain.len() - 1);
         }
-        find(pieces, pages)
+        if self.chain.is_empty() {
+            return None;
+        }
+        find(self.chain.as_slice(), pages)
     }
 
     /// Whether a live piece has some pages.
@@ -356,11 +357,13 @@ pub(crate) fn settle(tree: &mut PieceTree, carved: &mut Carved)
     ensures chain { carved.new.chain ≡ [] }
     ensures stock { carved.new.stock ≡ None }
 {
-    if carved.chain.len() > 0 {
+    if !carved.chain.is_empty() {
         write(tree, carved);
         return;
     }
-    carved.stock = None;
+    if carved.stock.is_some() {
+        carved.stock = None;
+    }
 }
 
 /// Makes the lowest pages that are sought one live piece, where none is carved: the first of them.

@@ -379,7 +379,7 @@ impl Space {
         if self.carved.give_back(pages) {
             return;
         }
-        let was_carved = self.carved.chain.len() > 0;
+        let was_carved = !self.carved.chain.is_empty();
         carved::settle(&mut self.tree, &mut self.carved);
         // It was judged in the chain, so the tree has not looked for it yet.
         if was_carved {
