@@ -25,6 +25,8 @@ use vtdbits::Descriptor;
 mod request_tests;
 #[cfg(test)]
 mod tests;
+#[cfg(test)]
+mod text_tests;
 
 /// A unit: what it remembers of contexts, tables, leaves and absent pages, oldest first, whether it may remember that a page is
 /// absent, how many descriptors it did, and in how many steps none waited.
