@@ -74,6 +74,9 @@ impl MarkedLeaves {
         requires { page < PAGES_END }
         ensures { result ≡ find (λ l. (l.domain == domain) && hold l.first l.pages page) self.now }
     {
+        if let Some(few) = self.list.few() {
+            return first_leaf(few, domain, page);
+        }
         if !self.may_hold(domain, page) {
             return None;
         }
@@ -135,7 +138,7 @@ impl MarkedLeaves {
         ensures { result ≡ false → (l : CachedLeaf) → IsIn l self.now
             → ((l.domain == domain) && hold l.first l.pages page) ≡ false }
     {
-        self.list.is_short()
+        self.list.few().is_some()
             || is_marked(&self.marks, mark_of(domain, page))
             || is_marked(&self.marks, mark_of(domain, page / SPAN_PAGES))
     }

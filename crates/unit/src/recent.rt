@@ -1,6 +1,6 @@
 //! A list of the last leaves that loses its first one without moving the others.
 
-ghost use Rattle.std.specs.Prelude.{◌≡◌, ◌<◌, ◌≤◌, [], ◌∷◌, ◌++◌, drop, filter, length, not, remove, take};
+ghost use Rattle.std.specs.Prelude.{◌≡◌, ◌<◌, ◌≤◌, [], ◌∷◌, ◌++◌, IfSome, drop, filter, length, not, remove, take};
 ghost use Rattle.unit.specs.Filters.{drops_leaf};
 ghost use Rattle.unit.specs.Lists.{with_newest};
 
@@ -34,13 +34,15 @@ pub(crate) struct Recent {
 impl Model for Recent {
     ghost use Rattle.std.specs.Prelude.{List, ◌≡◌, ◌+◌, ◌≤◌, drop, length};
     ghost use Rattle.unit.specs.Caches.{CachedLeaf};
-    ghost use Rattle.unit.specs.declared.recent.TheConstants.{LEAVES};
+    ghost use Rattle.unit.specs.declared.recent.TheConstants.{FEW, LEAVES};
 
     ghost Value = { List CachedLeaf };
 
     ghost view = { λ r. drop r.start r.list.items };
 
-    ghost invariant = { λ r. (r.start ≤ length r.list.items) × (length r.list.items ≤ r.start + LEAVES) };
+    // Where few places are taken none is that of a lost one.
+    ghost invariant = { λ r. (r.start ≤ length r.list.items) × (length r.list.items ≤ r.start + LEAVES)
+        × (length r.list.items ≤ FEW → r.start ≡ 0) };
 }
 
 impl Recent {
@@ -62,10 +64,16 @@ impl Recent {
         &self.list.as_slice()[self.start..]
     }
 
-    /// Whether it is so short that it is passed over as soon as a mark is tested.
+    /// The leaves, where they are so few that they are passed over as soon as a mark is tested.
     #[inline]
-    pub(crate) fn is_short(&self) -> bool {
-        self.list.len() <= FEW
+    pub(crate) fn few(&self) -> Option<&[CachedLeaf]>
+        ensures value { IfSome result (λ leaves. leaves.now ≡ self.now) }
+    {
+        if self.list.len() <= FEW {
+            Some(self.list.as_slice())
+        } else {
+            None
+        }
     }
 
     /// Adds a leaf behind the others; a full list loses its first one.
@@ -108,6 +116,7 @@ impl Recent {
         }
         let kept = keep(&mut self.list.as_mut_slice()[self.start..], descriptor);
         self.list.truncate(self.start + kept);
+        self.start = settle(&mut self.list, self.start);
     }
 
     /// Forgets the leaf at a place, counted from 0 and from the oldest, if there is one.
@@ -117,6 +126,7 @@ impl Recent {
     {
         if place < self.list.len() - self.start {
             self.list.remove(self.start + place);
+            self.start = settle(&mut self.list, self.start);
         }
     }
 }
@@ -136,6 +146,20 @@ fn move_to_front(list: &mut ArrayVec<CachedLeaf, ROOM>, start: usize)
     let len = list.len();
     list.as_mut_slice().copy_within(start..len, 0);
     list.truncate(len - start);
+}
+
+// Moves the leaves from a place on to the front where few places are taken, and answers where they begin then.
+fn settle(list: &mut ArrayVec<CachedLeaf, ROOM>, start: usize) -> usize
+    requires { start ≤ length list.old.items }
+    ensures items { drop result list.new.items ≡ drop start list.old.items }
+    ensures within { result ≤ length list.new.items }
+    ensures few { length list.new.items ≤ FEW → result ≡ 0 }
+{
+    if list.len() > FEW {
+        return start;
+    }
+    move_to_front(list, start);
+    0
 }
 
 // Moves the leaves that a descriptor doesn't drop to the front, in their order, and counts them.

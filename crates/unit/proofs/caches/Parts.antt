@@ -1,5 +1,5 @@
 -- The part of a list from a place on.
-use Rattle.std.proofs.Common.{◌≡◌, ℕ, zero, suc, ◌+◌, ◌≤◌, List, [], ◌∷◌, ◌++◌, append_assoc, drop, take, length, length-take-le, remove, refl, ap, ◌∙◌}
+use Rattle.std.proofs.Common.{◌≡◌, ℕ, zero, suc, ◌+◌, ◌≤◌, List, [], ◌∷◌, ◌++◌, append_assoc, drop, take, length, length-drop, length-take-le, remove, refl, ap, ◌∙◌}
 use Rattle.std.proofs.Common.{arith}
 use Rattle.std.proofs.lemmas.List.{drop-take, take-append-le}
 use lib.Seq.{drop_at, take-take}
@@ -28,3 +28,8 @@ written_part n start kept xs ys zs rest within few inside =
     ∙ ap (take kept) (ap (drop start) (append_assoc (take start xs) (ys ++ zs) rest) ∙ drop_at (take start xs) _ start (length-take-le start xs within)
     ∙ append_assoc ys zs rest)
     ∙ take-append-le kept ys _ few
+
+-- a part that stays the same is no longer, wherever it begins
+pub still_few : {A : Type 0} (m n most : ℕ) (xs ys : List A) → drop m xs ≡ drop n ys → m ≤ length xs → length ys ≤ n + most
+    → length xs ≤ m + most
+still_few m n most xs ys same within few = omega (arith, ap length same, length-drop m xs, length-drop n ys)
