@@ -66,6 +66,8 @@ pub(crate) enum Shown {
 
 impl Iommu {
     /// No device is attached, nothing waits, and the unit remembers nothing. It has Caching Mode or not.
+    // Never inlined: the room on the stack in which its parts are moved is given back when it returns.
+    #[inline(never)]
     pub(crate) fn new(caching: bool) -> Iommu
         ensures { result ≡ record {
           contexts = replicate DEVICES ContextEntry.Absent;

@@ -95,6 +95,8 @@ impl State {
 
     /// The same, with Caching Mode (bit 7 of the capability register) where `on` says so: then the unit may also remember that
     /// a page is absent, and a map has it forget that before it answers.
+    // Never inlined: whoever makes a state would have room on the stack for each of its moves.
+    #[inline(never)]
     pub fn with_caching(alloc: Global, frames: u64, on: bool) -> Result<State, AllocError>
         requires some { LEAST_TABLE_FRAMES ≤ frames }
         requires few { frames ≤ MOST_TABLE_FRAMES }

@@ -2,6 +2,8 @@
 
 ghost use Rattle.std.specs.Prelude.{◌≡◌, ◌+◌, ◌<◌, ◌≤◌, ◌↔◌, ◌++◌, ◌∷◌, [], length, IsErr, IfOk, OnOk, OnErr, All, sum_by, vec_len};
 ghost use Rattle.dmatypes.specs.History.{event};
+ghost use Rattle.dmatypes.specs.declared.limits.TheConstants.{LEAST_TABLE_FRAMES, MOST_TABLE_FRAMES};
+ghost use Rattle.engine.specs.State.{IsNew};
 ghost use Rattle.engine.specs.Steps.{Does};
 ghost use mathlib.Core.List.{IsPrefix};
 ghost use Rattle.dmatypes.specs.History.{after};
@@ -100,11 +102,10 @@ impl<B: Owner> Book<B> {
         let kept = Vec::with_capacity(alloc, config.calls() as usize)?;
         let epoch = Epoch::new(alloc, config, part)?;
         let shares = cut(alloc, whole, passes)?;
-        let state = State::with_caching(alloc, config.frames(), config.is_caching())?;
-        let boxed = Box::new(alloc, state)?;
+        let state = new_state(alloc, config.frames(), config.is_caching())?;
         Ok((
             Book {
-                state: boxed,
+                state,
                 kept,
                 handed: 0,
                 end: config.calls(),
@@ -332,4 +333,15 @@ impl<B: Owner> Book<B> {
         *calls += 1;
         Ok((before + 1, reply))
     }
+}
+
+// A new state in a place of its own. Never inlined: the room on the stack in which it is moved is given back when it returns.
+#[inline(never)]
+fn new_state(alloc: Global, frames: u64, caching: bool) -> Result<Box<State>, AllocError>
+    requires some { LEAST_TABLE_FRAMES ≤ frames }
+    requires few { frames ≤ MOST_TABLE_FRAMES }
+    ensures { IfOk result (λ state. IsNew frames caching state.value) }
+{
+    let state = State::with_caching(alloc, frames, caching)?;
+    Ok(Box::new(alloc, state)?)
 }

@@ -68,6 +68,8 @@ impl Unit {
     }
 
     /// A unit that remembers nothing and has made no step. With Caching Mode on it may also remember that a page is absent.
+    // Never inlined: the room on the stack in which its parts are moved is given back when it returns.
+    #[inline(never)]
     pub fn with_caching(on: bool) -> Unit
         ensures { result ≡ unit_state nothing 0 0 on }
     {
