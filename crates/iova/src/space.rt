@@ -273,6 +273,9 @@ impl Space {
         ensures too_many { (result ≡ Err RetireError.TooManyPieces)
             ↔ (AllIn PageState.Live range self.now.pieces × IsTooMany self.now.pieces range) }
     {
+        if self.carved.is_live(ends_of(range)) {
+            return Ok(());
+        }
         let first = range.first();
         let pages = range.pages();
         if self.not_live(first, pages).is_some() {
