@@ -115,6 +115,9 @@ impl MarkedLeaves {
         ensures items { self.new ≡ filter (λ l. not (drops_leaf descriptor.now l)) self.old }
         ensures few { length self.new ≤ length self.old }
     {
+        if self.list.is_empty() {
+            return;
+        }
         if let Descriptor::IotlbPages { domain, block, .. } = *descriptor {
             // A leaf that lies in a block of one page is of that page.
             if block.order() == 0 && !self.may_hold(domain, block.first()) {

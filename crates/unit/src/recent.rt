@@ -1,6 +1,6 @@
 //! A list of the last leaves that loses its first one without moving the others.
 
-ghost use Rattle.std.specs.Prelude.{◌≡◌, ◌<◌, ◌≤◌, [], ◌∷◌, ◌++◌, IfSome, drop, filter, length, not, remove, take};
+ghost use Rattle.std.specs.Prelude.{◌≡◌, ◌<◌, ◌≤◌, [], ◌∷◌, ◌++◌, IfSome, IsTrue, drop, filter, length, not, remove, take};
 ghost use Rattle.unit.specs.Filters.{drops_leaf};
 ghost use Rattle.unit.specs.Lists.{with_newest};
 
@@ -74,6 +74,14 @@ impl Recent {
         } else {
             None
         }
+    }
+
+    /// Whether no place is taken. Then there is no leaf.
+    #[inline]
+    pub(crate) fn is_empty(&self) -> bool
+        ensures { IsTrue result → self.now ≡ [] }
+    {
+        self.list.is_empty()
     }
 
     /// Adds a leaf behind the others; a full list loses its first one.

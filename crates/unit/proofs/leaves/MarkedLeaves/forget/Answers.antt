@@ -20,6 +20,6 @@ returns-then-not-may_hold-clause-items c =
 
 pub invariant_of-self : goal.invariant_of-self
 invariant_of-self c =
-    fewer_marked c.self-2.inside.marks c.self-2.inside.list c.forget.new.self c.self-2.invariant (λ l there.
-    (in_filter (λ (k : CachedLeaf). not (drops_leaf c.args.descriptor.now k)) l c.self-2.inside.list
+    fewer_marked c.self.inside.marks c.self.inside.list c.forget.new.self c.self.invariant (λ l there.
+    (in_filter (λ (k : CachedLeaf). not (drops_leaf c.args.descriptor.now k)) l c.self.inside.list
     (subst (IsIn l) c.forget.ensures.items there)).0)
