@@ -131,8 +131,9 @@ impl<B: Owner> Manager<B> {
             ports,
             passes,
         } = seed;
-        let (book, shares, epoch) = Book::<B>::new(alloc, config, blank, handing, desk, passes)?;
+        // The book comes last: where one has to be given up again, there is room on the stack for its state.
         let ports = owned(alloc, ports)?;
+        let (book, shares, epoch) = Book::<B>::new(alloc, config, blank, handing, desk, passes)?;
         Ok(Made {
             manager: Manager {
                 book: Mutex::new(book),
