@@ -4,6 +4,8 @@ r"""Runs the examples by the built program, and compares all that it writes with
 Each examples/NAME.script is run, and what is written compared with NAME.output; it is traced, and the trace is found legal; and what
 `vtdm report` writes is compared with NAME.report, and what `vtdm report --iova` writes with NAME.iova, where there are such files.
 
+Each script is run, each trace checked and a small storm made a second time, with no more of the stack than README says that they need.
+
 Each examples/traces/NAME.trace is checked, and what is written compared with NAME.checked: the status is 0 where that says `legal`, and
 else 4. What the converter makes of NAME.perf is to be NAME.trace.
 
@@ -18,6 +20,7 @@ the text N times. The last line of this script is `N passed, M failed`."""
 
 import os
 import re
+import resource
 import subprocess
 import sys
 
@@ -31,6 +34,10 @@ VTDM = f"{TOP}/crates/vtdm/out/vtdm"
 SCRIPT = b"domain strict\ndomain lazy\n"
 COLUMNS = 80
 SECONDS = 60
+# The most of the stack that a command needs, in KiB (README.md, Limits), and a small storm with its first words.
+STACK = {"run": 84, "storm": 72, "check": 36}
+STORM = ["storm", "--drivers=1", "--devices=1", "--calls=10"]
+STORMED = b"storm drivers 1 devices 1 calls 10 events "
 # The endings of what is stored of a script, and the command that writes it.
 COMMANDS = {"output": ["run"], "report": ["report"], "iova": ["report", "--iova"]}
 # The endings of the stored texts, and what they are.
@@ -97,6 +104,28 @@ def faults_of_traces():
         yield f"{TRACES}/{name}.trace", fault_of_trace(name)
     for name in names_of(TRACES, ".perf"):
         yield f"{TRACES}/{name}.perf", fault_of_conversion(name)
+
+
+def on_little_stack(words, given):
+    """What a command writes, and its status, with no more of the stack than it needs, and with no environment, which lies on it too."""
+    most = STACK[words[0]] * 1024
+    ran = subprocess.run([VTDM, *words], input=given, capture_output=True, timeout=SECONDS, env={},
+                         preexec_fn=lambda: resource.setrlimit(resource.RLIMIT_STACK, (most, most)))
+    return ran.stdout, ran.stderr, ran.returncode
+
+
+def faults_of_stack():
+    """Each script, each trace and a storm on little stack, and why it fails."""
+    for name in names_of(EXAMPLES, ".script"):
+        wanted = bytes_of(f"{EXAMPLES}/{name}.output")
+        wrote, said, status = on_little_stack(["run"], bytes_of(f"{EXAMPLES}/{name}.script"))
+        yield f"{EXAMPLES}/{name}.script, on little stack", None if (wrote, status) == (wanted, 0) else f"status {status}, {said!r}"
+    for name in names_of(TRACES, ".trace"):
+        wrote, said, status = on_little_stack(["check"], bytes_of(f"{TRACES}/{name}.trace"))
+        fault = None if wrote == bytes_of(f"{TRACES}/{name}.checked") else f"status {status}, {said!r}"
+        yield f"{TRACES}/{name}.trace, on little stack", fault
+    wrote, said, status = on_little_stack(STORM, b"")
+    yield "a storm on little stack", None if wrote.startswith(STORMED) and status == 0 else f"status {status}, {said!r}"
 
 
 def unescaped(found):
@@ -181,7 +210,7 @@ def main():
     if sys.argv[1:] == ["--store"]:
         store()
     passed = failed = 0
-    for path, fault in [*faults_of_scripts(), *faults_of_traces(), *faults_of_words()]:
+    for path, fault in [*faults_of_scripts(), *faults_of_traces(), *faults_of_stack(), *faults_of_words()]:
         passed, failed = passed + (fault is None), failed + (fault is not None)
         if fault:
             print(f"{os.path.relpath(path, TOP)}: {fault}")
