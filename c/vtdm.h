@@ -47,7 +47,7 @@
  *
  * MEMORY. vtdm_create and vtdm_create_caching take all that a manager ever needs, about 1.6 MiB and VTDM_PAGE_BYTES more for each
  * table frame; vtdm_destroy gives it back, and no other function asks for any. The words of the table frames are one block of it,
- * asked for by one malloc of VTDM_PAGE_BYTES for each frame and written whole before a creation returns: those of frame F begin
+ * asked for by one malloc of VTDM_PAGE_BYTES times the frames and written whole before a creation returns: those of frame F begin
  * F * VTDM_PAGE_BYTES bytes behind those of frame 0, where the block begins. So an allocator that puts this block where a unit walks
  * lets the unit walk the tables in place. That is how the code is and stays; no contract speaks of where words lie.
  *
