@@ -131,7 +131,7 @@ impl Carved {
 
     /// Where the piece lies that has some pages, if there is one: mostly it is the last one.
     #[inline(always)]
-    pub(crate) fn place_of(&self, pages: Ends) -> Option<usize>
+    pub(crate) fn position_of(&self, pages: Ends) -> Option<usize>
         requires { (from : ℕ) × (end : ℕ) × FollowOn from self.now.chain end }
         ensures { IfSome result (IsAt self.now.chain pages) }
     {
@@ -251,13 +251,13 @@ fn is_at(pieces: &[Piece], place: usize, pages: Ends) -> bool
     piece.first == pages.first && piece.last == pages.last
 }
 
-// Where the piece lies that has some pages, if there is one.
+// Where the piece lies that has some pages, if one before the last does.
 #[inline(never)]
 fn find(pieces: &[Piece], pages: Ends) -> Option<usize>
     requires { (from : ℕ) × (end : ℕ) × FollowOn from pieces.now end }
     ensures { IfSome result (IsAt pieces.now pages) }
 {
-    if pages.first < pieces.first()?.first || pieces.last()?.first < pages.first {
+    if pages.first < pieces.first()?.first || pieces.last()?.first <= pages.first {
         return None;
     }
     let place = pieces.partition_point(|piece| piece.last < pages.first);

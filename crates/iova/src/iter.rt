@@ -13,8 +13,8 @@ use std::marker::Model;
 #[derive(Drop)]
 pub struct Iter<'a> {
     pub(crate) tree: TreeIter<'a>,
-    // What comes in the place of the tree's piece that begins at this page: what is left of it before the chain, the chain, and what is left
-    // behind it.
+    // What comes in the place of the tree's piece that begins at this page: what is left of it before the chain, the chain, and
+    // what is left behind it.
     pub(crate) first: u64,
     pub(crate) before: Option<Ends>,
     pub(crate) chain: &'a [Piece],

@@ -46,7 +46,7 @@ impl Model for PieceTree {
 impl PieceTree {
     ghost use Rattle.dmatypes.specs.Page.{IsPageRange, Range};
     ghost use Rattle.dmatypes.specs.World.{IsIn};
-    ghost use Rattle.iova.specs.Pieces.{Holds, IsRun, NoneFreeBelow, piece_of, state_at, with_piece};
+    ghost use Rattle.iova.specs.Pieces.{Holds, IsRun, NoneFreeBelow, piece_of, state_at, with_free, with_piece};
     ghost use Rattle.iova.specs.Way.{pages_as};
     ghost use Rattle.iova.specs.Space.{Space, AllFree, IsFit, IsLowestFit, IsLowestFrom, IsSpace, IsTooMany, MayRetire, new_space};
     ghost use Rattle.iova.specs.Carved.{IsSought};
@@ -273,8 +273,7 @@ impl PieceTree {
                 return;
             }
         }
-        self.retire(range);
-        self.free(range);
+        self.put_free(pages);
     }
 
     /// Puts a piece in use over free pages.
@@ -307,6 +306,18 @@ impl PieceTree {
     {
         let first = range.first();
         let last = first + range.pages() - 1;
+        self.put_free(Ends { first, last });
+    }
+
+    // Makes pages free, as one piece with the free ones that they touch.
+    fn put_free(&mut self, pages: Ends)
+        requires some { pages.first ≤ pages.last }
+        requires narrow { pages.last < NUMBERS_END }
+        requires space { IsSpace self.old
+            → IsSpace (record self.old { pieces = with_free (pages_as pages PageState.Free) self.old.pieces }) }
+        ensures is { self.new ≡ record self.old { pieces = with_free (pages_as pages PageState.Free) self.old.pieces } }
+        ensures space { IsSpace self.old × IsSpace self.new }
+    {
         pending::put_freed(
             &mut self.nodes,
             &mut self.root,
@@ -315,7 +326,7 @@ impl PieceTree {
             &mut self.in_mind,
         );
         self.in_mind = InMind::Nothing;
-        let whole = store::with_free_around(&self.nodes, self.root, Ends { first, last });
+        let whole = store::with_free_around(&self.nodes, self.root, pages);
         self.low = self.low.min(whole.first);
         let piece = Piece {
             first: whole.first,

@@ -363,7 +363,7 @@ impl Space {
         ensures space { IsSpace self.old × IsSpace self.new }
     {
         let pages = ends_of(range);
-        if let Some(place) = self.carved.place_of(pages) {
+        if let Some(place) = self.carved.position_of(pages) {
             self.carved.chain.retire(place);
             return;
         }

@@ -160,8 +160,7 @@ module _ (a : Space) (sp : IsSpace a) (stock : Stock) (before : List Piece) (pag
         → FreesLive (with_carved (before ++ pages_as pages st ∷ behind) a) (with_carved (before ++ behind) a) range
     end_freed_live may =
         let l = one_live may in
-        frees_live view range viewed some (subst (λ t. IsIn (piece_of range t) view.pieces) l one_there)
-        (with_carved (before ++ behind) a)
+        frees_live view range viewed some may (with_carved (before ++ behind) a)
         (subst (λ t. with_carved (before ++ behind) a ≡ record view { pieces = with_free (piece_of range t) view.pieces }) l new_is)
 
 -- what a space is once a piece at an end of the chain has come free

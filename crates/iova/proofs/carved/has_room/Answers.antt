@@ -1,1 +1,0 @@
-use Rattle.iova.proofs.carved.has_room.Goals as goal

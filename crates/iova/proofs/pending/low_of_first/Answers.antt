@@ -1,4 +1,4 @@
-use Rattle.std.proofs.Common.{◌≤◌, inl, inr, arith}
+use Rattle.std.proofs.Common.{inl, inr, arith}
 use Rattle.iova.specs.Stored.{pieces_of}
 use Rattle.iova.proofs.Among.{in_le}
 use Rattle.iova.proofs.Pieces.{order}

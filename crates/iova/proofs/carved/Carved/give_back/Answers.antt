@@ -1,1 +1,0 @@
-use Rattle.iova.proofs.carved.Carved.give_back.Goals as goal

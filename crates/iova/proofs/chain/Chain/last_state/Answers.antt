@@ -1,1 +1,0 @@
-use Rattle.iova.proofs.chain.Chain.last_state.Goals as goal
