@@ -1,5 +1,6 @@
 /* What calls through vtdm.h cost: nanoseconds of a round, the least and the median of nine turns, each on a manager of its own.
- * `measure ROUNDS [NAME]` measures all lines, or the one of that name alone, so that a profiler sees nothing else. */
+ * `measure ROUNDS [NAME]` measures all lines, or the one of that name alone, so that a profiler sees nothing else: the difference of two
+ * counts of instructions is of nine times as many rounds as they differ by. */
 #define _POSIX_C_SOURCE 200809L
 #include "vtdm.h"
 
@@ -49,33 +50,110 @@ static void refused(struct vtdm *manager, uint64_t at, uint64_t rounds) {
         must(vtdm_drop(manager, 0).status == VTDM_NO_DOMAIN);
 }
 
-/* A line: its name, whether its domain is lazy, whether one page is mapped and remembered before, and its rounds. */
+/* Ranges that are live: so many, each of so many pages or of 1 to 16 of them, and which of them ends next. */
+struct crowd {
+    unsigned live, pages;
+    bool own_order;  /* each begins at a multiple of the next power of two */
+    bool nearly;     /* three in ten rounds one of the 32 oldest ends in the place of the oldest */
+    bool reached;    /* a device reaches each once, by a request that looks and fills */
+};
+
+enum { MOST_LIVE = 256, MOST_PAGES = 16, OLDEST = 32 };
+
+struct range {
+    uint64_t at;
+    unsigned pages;
+};
+
+/* The next of a fixed sequence of numbers, below an end. */
+static unsigned below(uint64_t *seed, unsigned end) {
+    *seed = *seed * 6364136223846793005 + 1442695040888963407;
+    return (unsigned)(*seed >> 33) % end;
+}
+
+static unsigned order_of(unsigned pages) {
+    unsigned order = 0;
+    while ((1u << order) < pages)
+        order++;
+    return order;
+}
+
+static struct range mapped(struct vtdm *manager, const struct crowd *crowd, uint64_t *seed) {
+    unsigned pages = crowd->pages != 0 ? crowd->pages : 1 + below(seed, MOST_PAGES);
+    struct vtdm_answer made =
+        vtdm_map(manager, 1, 0x1001, pages, crowd->own_order ? order_of(pages) : 0, VTDM_READ | VTDM_WRITE);
+    must(made.status == VTDM_OK);
+    if (crowd->reached)
+        must(vtdm_dma(manager, DEVICE, made.value, false, true, true).status == VTDM_OK);
+    return (struct range){made.value, pages};
+}
+
+/* Maps all that is live, and then unmaps one and maps another, again and again: the seconds of these rounds. */
+static double crowded(struct vtdm *manager, const struct crowd *crowd, uint64_t rounds) {
+    struct range ranges[MOST_LIVE];
+    uint64_t seed = 1;
+    for (unsigned i = 0; i < crowd->live; i++)
+        ranges[i] = mapped(manager, crowd, &seed);
+    double start = now();
+    for (uint64_t i = 0; i < rounds; i++) {
+        struct range *oldest = &ranges[i % crowd->live];
+        if (crowd->nearly && below(&seed, 10) < 3) {
+            struct range *other = &ranges[(i + below(&seed, OLDEST)) % crowd->live], range = *oldest;
+            *oldest = *other;
+            *other = range;
+        }
+        must(vtdm_unmap(manager, 1, oldest->at, oldest->pages).status == VTDM_OK);
+        *oldest = mapped(manager, crowd, &seed);
+    }
+    return now() - start;
+}
+
+/* A line: its name, how its domain is, what is mapped before, and its rounds, by one call or among ranges that are live. */
 static const struct line {
     const char *name;
-    bool lazy, mapped;
+    bool lazy, wide, mapped;
     void (*run)(struct vtdm *manager, uint64_t at, uint64_t rounds);
+    struct crowd crowd;
 } lines[] = {
-    {"map and unmap 1 page", false, false, pair},
-    {"map and unmap lazily, 256 a flush", true, false, pair},
-    {"dma answered by the caches", false, true, cached},
-    {"dma answered by a walk", false, true, walked},
-    {"a call that is refused", false, false, refused},
+    {.name = "map and unmap 1 page", .run = pair},
+    {.name = "map and unmap 1 page, 48 bits", .wide = true, .run = pair},
+    {.name = "map and unmap lazily, 256 a flush", .lazy = true, .run = pair},
+    {.name = "dma answered by the caches", .mapped = true, .run = cached},
+    {.name = "dma answered by a walk", .mapped = true, .run = walked},
+    {.name = "a call that is refused", .run = refused},
+    {.name = "40 ranges of 1 to 16 pages", .crowd = {.live = 40}},
+    {.name = "256 ranges of 1 to 16 pages", .crowd = {.live = 256, .nearly = true}},
+    {.name = "256 ranges of 1 to 16 pages, reached", .crowd = {.live = 256, .nearly = true, .reached = true}},
+    {.name = "256 ranges of 1 to 16 pages, aligned", .crowd = {.live = 256, .own_order = true, .nearly = true}},
+    {.name = "256 pages", .crowd = {.live = 256, .pages = 1, .nearly = true}},
+    {.name = "40 pages, 48 bits", .wide = true, .crowd = {.live = 40, .pages = 1}},
+    {.name = "256 pages, 48 bits", .wide = true, .crowd = {.live = 256, .pages = 1, .nearly = true}},
+    {.name = "256 pages, 48 bits, reached", .wide = true, .crowd = {.live = 256, .pages = 1, .nearly = true, .reached = true}},
+    {.name = "256 ranges of 16 pages, aligned, 48 bits",
+     .wide = true,
+     .crowd = {.live = 256, .pages = 16, .own_order = true, .nearly = true}},
 };
 
 static double turn(const struct line *line, uint64_t rounds) {
     struct vtdm manager = VTDM_INIT;
     uint64_t at = 0;
-    must(vtdm_create(&manager, TABLE_FRAMES) == VTDM_OK && vtdm_domain(&manager, line->lazy).value == 1);
+    must(vtdm_create(&manager, TABLE_FRAMES) == VTDM_OK);
+    must((line->wide ? vtdm_domain_wide(&manager, line->lazy) : vtdm_domain(&manager, line->lazy)).value == 1);
     must(vtdm_attach(&manager, DEVICE, 1).status == VTDM_OK);
     if (line->mapped) {
         at = vtdm_map(&manager, 1, 0x1001, 1, 0, VTDM_READ).value;
         must(vtdm_dma(&manager, DEVICE, at, false, true, true).status == VTDM_OK);
     }
-    double start = now();
-    line->run(&manager, at, rounds);
-    double spent = (now() - start) / (double)rounds;
+    double spent;
+    if (line->run != NULL) {
+        double start = now();
+        line->run(&manager, at, rounds);
+        spent = now() - start;
+    } else {
+        spent = crowded(&manager, &line->crowd, rounds);
+    }
     vtdm_destroy(&manager);
-    return spent;
+    return spent / (double)rounds;
 }
 
 static int compare(const void *a, const void *b) {
