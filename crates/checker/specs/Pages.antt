@@ -1,4 +1,4 @@
--- What pages are mapped to.
+-- What pages are mapped to. The last run that begins at a page or before, and holds it, says what the page is mapped to.
 use Rattle.std.specs.Prelude.{◌≡◌, ℕ, Option, None, IsNone, IsSome}
 use Rattle.std.specs.Ordering.{nat_cmp}
 use Rattle.std.specs.BTreeMap as tree

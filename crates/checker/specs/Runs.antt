@@ -1,4 +1,5 @@
--- Pages that are mapped run by run: each run stands at its first page.
+-- Pages that are mapped run by run: each run stands at its first page. The pages of a run are mapped to frames that follow one another,
+-- with the same rights.
 use Rattle.std.specs.Prelude.{◌≡◌, ℕ, zero, suc, ◌+◌, ◌-◌, ◌^◌, ◌<◌, ◌≤◌, nat_lt, List, length, Option, Some, None, MatchOption, if◌then◌else◌}
 use Rattle.std.specs.BTreeMap.Range.{entries_between}
 use Rattle.std.specs.Option.{option_or}

@@ -1,4 +1,5 @@
--- What pages were mapped to.
+-- What the pages of a record were mapped to. A record keeps them as runs in the order of their pages (`is_rising`), and the first run that
+-- holds a page says what it was mapped to.
 use Rattle.std.specs.Prelude.{ℕ, ◌-◌, length, vec_capacity, Option}
 use Rattle.dmatypes.specs.World.{Target}
 use Rattle.checker.specs.declared.taken.Taken.{Taken}

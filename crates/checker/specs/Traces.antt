@@ -1,4 +1,4 @@
--- What a line of a trace says: an event, as `CALL => REPLY`.
+-- What a line of a trace says: an event, as `CALL => REPLY`. A line has at most 600 bytes (own), its newline left out.
 use Rattle.std.specs.Prelude.{◌≡◌, ℕ, zero, suc, List, length, nat_le, ◌&&◌, ◌++◌, Bool, true, false, IsTrue, Option, Some, None, nat_eq}
 use Rattle.std.specs.Prelude.{◌==◌, if◌then◌else◌, codes, take, drop}
 use Rattle.std.specs.Cmp.Lexicographic.{pointwise}

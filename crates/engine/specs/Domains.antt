@@ -1,4 +1,5 @@
--- Domains, how one is found by its id, and what a call of a domain works on.
+-- Domains, how one is found by its id, and what a call of a domain works on. A record has the range of an unmap, its mark, what the unmap
+-- cut from the tree, and the number of the last wait that was sent when it was made.
 use Rattle.std.specs.Prelude.{ℕ, ◌-◌, ◌<◌, ◌==◌, List, [], Option, None, slice_get, if◌then◌else◌, sum_by}
 use Rattle.std.specs.Option.{option_flatten}
 use Rattle.dmatypes.specs.declared.call.Mode.{Mode}

@@ -1,4 +1,5 @@
--- How a map finds its place in a domain, and what it makes of the domain and of the table frames.
+-- How a map finds its place in a domain, and what it makes of the domain and of the table frames. The floor of a domain of 39 bits is page
+-- 1, that of one of 48 bits page 2^27.
 use Rattle.std.specs.Prelude.{◌≡◌, ℕ, ◌+◌, ◌^◌, ◌<◌, List, [], Some, None, length}
 use Rattle.dmatypes.specs.declared.call.Segment.{Segment}
 use Rattle.dmatypes.specs.declared.refusal.Refusal.{Refusal}

@@ -1,5 +1,5 @@
--- What the parts of the state ask of their callers before pages end, are released, or the unit is run. Whoever reads
--- what the state does needs none of it: each state has it.
+-- What the parts of the state ask of their callers before pages end, are released, or the unit is run. Whoever reads what the state does
+-- needs none of it: each state has it. A flush goes from the last record on, and releases those at once that it finds to be of one range.
 use Rattle.std.specs.Prelude.{◌≡◌, ◌≢◌, ℕ, ◌+◌, ◌-◌, ◌%◌, ◌^◌, ◌<◌, ◌≤◌, ◌⊎◌, List, [], ◌∷◌, ◌++◌, length, None, Some, IsSome, IsTrue}
 use Rattle.dmatypes.specs.Block.{Holds, IsAligned}
 use Rattle.dmatypes.specs.Page.{Range, IsWithin, levels}
@@ -91,11 +91,11 @@ IsOfIotlb (ContextDomain domain) = ⊥
 IsOfIotlb (ContextDevice domain device) = ⊥
 IsOfIotlb (Wait number) = ⊥
 
--- the number of the last wait that is done: as many were sent behind it as the status is behind the last one's
+-- the number of the last wait that is done: as many were sent after it as the status is short of the last one's, modulo 2^32
 abbrev pub last_done : Iommu → ℕ
 last_done x = x.sent - (status_of x.sent + 2 ^ 32 - x.ring.status) % 2 ^ 32
 
--- the descriptor and right behind it the wait of this number were taken, and the wait is done
+-- the descriptor and right after it the wait of this number were taken, and the wait is done
 pub record IsDone (x : Iommu) (d : Descriptor) (number : ℕ) : Type 0 where
   pub later : List Descriptor
   pub earlier : List Descriptor

@@ -1,4 +1,7 @@
--- What contracts see of the state.
+-- What contracts see of the state. A ticket has, besides its domain and number, the number of the wait that was sent for it. The IOMMU
+-- (`Iommu`) is the row of context entries, the ring, the unit, the number of the last wait that was sent, and what was shown (`Shown`) of a
+-- domain then. That is the root of its tree, and for a map its range. For an unmap it is besides the range of the one record, for a flush
+-- how many records could be released, and for both how many table frames were free.
 use Rattle.std.specs.Prelude.{◌≢◌, ◌==◌, ◌&&◌, ◌++◌, ◌∷◌, Bool, filter, not}
 use Rattle.std.specs.Prelude.{◌≡◌, ℕ, ◌+◌, ◌-◌, ◌/◌, ◌<◌, ◌≤◌, List, [], replicate, IsSome, IsSomeAnd, Option, None, Some, length, slice_get}
 use Rattle.std.specs.Prelude.{slice_set, Result, Ok, Err, IfOk, IsTrue}

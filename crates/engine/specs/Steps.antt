@@ -1,4 +1,5 @@
--- What a method of the state does, and which states a history follows.
+-- What a method of the state does, and which states a history follows. The conditions that the model leaves open, and what becomes of the
+-- state, stand in State.antt.
 use Rattle.std.specs.Prelude.{◌≡◌, ℕ, ◌+◌, Bool, List, [], ◌∷◌}
 use Rattle.dmatypes.specs.declared.call.Call.{Call}
 use Rattle.dmatypes.specs.declared.reply.Reply.{Reply}

@@ -1,4 +1,7 @@
--- Pieces that are carved out of a free piece, and that the tree doesn't show yet.
+-- Pieces that are carved out of a free piece, and that the tree doesn't show yet. That free piece is their stock, and the tree still has it
+-- whole. Of something that was sought it is known that nothing begins from its floor on and before the stock. It is what the stock was
+-- found for, or one page. With the pieces put over those of the tree, that is what the space is. As a list, the pieces and what is left on
+-- both sides of them stand in the place of the stock (`in_place_of`).
 use Rattle.std.specs.Prelude.{ℕ, ◌≡◌, ◌≢◌, ◌+◌, ◌^◌, ◌≤◌, ◌⊎◌, max, List, [], ◌∷◌, ◌++◌, nat_eq, if◌then◌else◌, length, Option, Some, None}
 use Rattle.iova.specs.declared.piece.PageState.{PageState}
 use Rattle.iova.specs.declared.piece.Piece.{Piece}

@@ -1,4 +1,5 @@
--- A space as it is kept.
+-- A space as it is kept. A piece that came free since may still stand in the tree as live: the space shows it as free, and as one with the
+-- free pieces that it touches.
 use Rattle.std.specs.Prelude.{ℕ, zero, suc, ◌≡◌, ◌<◌, ◌≤◌, ◌⊎◌, List, [], ◌∷◌, ◌++◌, length, Option, Some, None, IfSome}
 use Rattle.slab.specs.Slab.{Slab, get, slab_len}
 use Rattle.iova.specs.declared.piece.Piece.{Piece}

@@ -1,4 +1,5 @@
--- Pieces in a balanced tree: nodes of a slab, named by their keys.
+-- Pieces in a balanced tree: nodes of a slab, named by their keys. The pieces before a node's own lie on its left, and those after it in
+-- the order of pages on its right. Each node has the height of the tree from it down, and the greatest length of a free piece in it.
 use Rattle.std.specs.Prelude.{ℕ, ◌≡◌, ◌≢◌, ◌+◌, ◌-◌, ◌≤◌, ◌<◌, ◌==◌, nat_lt, max, if◌then◌else◌, List, [], ◌∷◌, ◌++◌, length, Option}
 use Rattle.std.specs.Prelude.{Some, None, IsSome}
 use Rattle.slab.specs.Slab.{Slab, get, slab_len}

@@ -1,4 +1,4 @@
--- Ways down a tree: what lies above a place in it.
+-- Ways down a tree: what lies above a place in it. A way is the steps from the root down to a node, and `Above` is what lies beside them.
 use Rattle.std.specs.Prelude.{ℕ, ◌≡◌, ◌+◌, ◌-◌, ◌<◌, ◌≤◌, Bool, true, false, List, ◌∷◌, ◌++◌, Option, Some, None, IfSome}
 use Rattle.std.specs.Prelude.{IsSome, slice_index_or}
 use Rattle.slab.specs.Slab.{Slab, get}

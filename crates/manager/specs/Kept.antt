@@ -1,4 +1,5 @@
--- What a book keeps, and what contracts see of managers, seeds and shares.
+-- What a book keeps, and what contracts see of managers, seeds and shares. An owner's room is how many calls are kept at one time, and its
+-- most how many there may be in all.
 use Rattle.std.specs.Prelude.{◌≡◌, ◌+◌, ◌≤◌, ◌++◌, ◌∷◌, [], ℕ, All, Bool, List, drop, length, min}
 use mathlib.Core.List.{IsPrefix}
 use Rattle.dmatypes.specs.declared.call.Call.{Call}

@@ -1,4 +1,5 @@
--- What the calls of a port do: relations between the port before a call and after it, and the answer.
+-- What the calls of a port do: relations between the port before a call and after it, and the answer. That a list is a front of another is
+-- mathlib's `IsPrefix`.
 use Rattle.std.specs.Prelude.{◌≡◌, ℕ, List, [], ◌∷◌, ◌++◌, length, slice_index, Option, IfSome, IfNone}
 use mathlib.Core.List.{IsPrefix}
 use Rattle.dmatypes.specs.declared.call.Access.{Access}

@@ -1,4 +1,4 @@
--- The rule of the table, and what whoever makes a step learns by it.
+-- The rule of the table, and what whoever makes a step learns by it. The rule is what holds of the table between any two steps.
 use Rattle.std.specs.Prelude.{◌≡◌, ℕ, suc, ◌+◌, ◌<◌, ◌≤◌, ◌⊎◌, Bool, true, false, List, [], ◌∷◌, ◌++◌, length, slice_index, slice_set}
 use Rattle.std.specs.Prelude.{replicate}
 use mathlib.Core.Option.{some}

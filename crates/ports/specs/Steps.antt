@@ -1,5 +1,9 @@
--- The steps of ports, passes and the desk, and what runs of them lead to. Places up to ROW_WORDS are the words of the rows,
--- SLOTS for each device, and the place behind them is the counter.
+-- The steps of ports, passes and the desk, and what runs of them lead to. Places up to ROW_WORDS are the words of the rows, SLOTS for each
+-- device, and the place behind them is the counter. A port that loads a word has then seen the history, and so has a port or a pass that
+-- loads the counter. The contract of `whole_run` (src/laws.rt) says what holds of all runs from the empty state. The last history is legal,
+-- and begins with what each caller had seen at any point (`legal`, `seen`). Each word that a port loaded is lawful for its device after the
+-- history of that point, which the port has then seen (`lawful`, `learnt`). The points of one caller's loads are fronts of one another, in
+-- its order (`ordered`).
 use Rattle.std.specs.Prelude.{◌≡◌, ℕ, ◌+◌, ◌*◌, ◌%◌, ◌<◌, List, [], ◌∷◌, ◌++◌, length, replicate, slice_index, slice_index_or, slice_set}
 use Rattle.std.specs.Prelude.{◌==◌, if◌then◌else◌, flat_map, fold}
 use Rattle.dmatypes.specs.declared.reply.Event.{Event}

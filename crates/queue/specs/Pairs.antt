@@ -1,4 +1,6 @@
--- A ring of descriptors in the pairs of words of one page.
+-- A ring of descriptors in the pairs of words of one page. The page has 256 pairs. Those from the head up to the tail wait. The others are
+-- free. From the one before the head back to the tail they hold what was taken, up to the first pair that spells none. So one more that is
+-- submitted may overwrite the oldest of these.
 use Rattle.std.specs.Prelude.{◌≡◌, ℕ, ◌+◌, ◌-◌, ◌%◌, ◌<◌, List, [], ◌∷◌, ◌++◌, length, take, drop, reverse, All, Option, None, Some, IsSome}
 use Rattle.std.specs.List.{filter_map}
 use Rattle.vtdbits.specs.declared.descriptor.Descriptor.{Descriptor}

@@ -1,5 +1,8 @@
 -- What a unit that isn't ours may have cached of a domain: entries that a walk met, in the memory of one moment or while a call was
--- written. No list of the simulated unit is asked.
+-- written. No list of the simulated unit is asked. A walk that begins at a cached table is one from the root that read the levels above
+-- when that was cached. The laws take for granted four things that a unit has to do. It caches only what a walk met. It uses an entry for
+-- its own domain alone. A descriptor is done only when no walk that began before it will still cache or use what it names. A wait is done
+-- only when all descriptors before it are.
 use Rattle.std.specs.Prelude.{◌≡◌, ◌⊎◌, ℕ, ◌<◌, IsTrue, List, [], ◌∷◌, false, length, Some, slice_get}
 use Rattle.dmatypes.specs.declared.limits.TheConstants.{MOST_DOMAINS}
 use Rattle.dmatypes.specs.declared.reply.Event.{Event}

@@ -1,4 +1,5 @@
--- What a report reads and writes.
+-- What a report reads and writes. A report is of the history and the state that a script's calls lead to. It ends as the script did, at a
+-- failed write, or for want of memory.
 use Rattle.std.specs.Prelude.{◌≡◌, ◌↔◌, ◌⊎◌, ℕ, Bool, true, IsErrOf, List, [], ◌++◌, length, Option, Result, Ok, Err}
 use Rattle.dmatypes.specs.declared.call.Call.{Call}
 use Rattle.manager.specs.Kept.{Book}

@@ -1,5 +1,5 @@
--- Lines that say something, out of the bytes of a reader. A text of what a line says is a function: what the line says, its newline
--- left out, where it says anything.
+-- Lines that say something, out of the bytes of a reader. A text of what a line says is a function: what the line says, its newline left
+-- out, where it says anything. It is `says` of a script's lines and `event_said` of a trace's. Of bytes that aren't known nothing is said.
 use Rattle.std.specs.Prelude.{◌≡◌, ◌≢◌, ℕ, ◌+◌, ◌-◌, ◌^◌, ◌≤◌, min, List, [], ◌∷◌, ◌++◌, length, Option, Some, None}
 use Rattle.streams.specs.Bytes.{IsUnbroken}
 
@@ -47,7 +47,7 @@ pub record ReadToBadLine {A : Type 0} (said : List ℕ → Option A) (most : ℕ
     -- the count stops at the greatest u64
     pub place : number ≡ min (length items + 1) (2 ^ 64 - 1)
 
--- what was read behind the whole lines is less than a line
+-- what was read after the whole lines is less than a line
 pub record ReadToFailure {A : Type 0} (said : List ℕ → Option A) (most : ℕ) (input left : List ℕ) (items : List A) : Type 0 where
   pub taken : List ℕ
   pub parts : input ≡ taken ++ left

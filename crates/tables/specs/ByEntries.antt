@@ -1,5 +1,6 @@
--- How many tables are lacking where pages are to be mapped, counted entry by entry down the tree. The pages
--- go from a first one up to another, and a test says where a large leaf begins at a page.
+-- How many tables are lacking where pages are to be mapped, counted entry by entry down the tree. The pages go from a first one up to
+-- another, and a test says where a large leaf begins at a page. Where no page is mapped yet and all lie in one span of the tree,
+-- `tables_lacking` is proved to be the same number.
 use Rattle.std.specs.Prelude.{ℕ, zero, suc, ◌+◌, ◌*◌, Bool, ◌==◌, ◌&&◌, nat_lt, if◌then◌else◌}
 use Rattle.tables.specs.declared.entries.TheConstants.{TABLE_ENTRIES}
 use Rattle.vtdbits.specs.declared.entry.SsEntry.{SsEntry}

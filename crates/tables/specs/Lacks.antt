@@ -1,4 +1,5 @@
--- How many free frames a map or an unmap takes.
+-- How many free frames a map or an unmap takes. A map lacks a table for each span that its pages meet and that has none, but for none under
+-- a leaf of 2 MiB. An unmap splits each leaf of 2 MiB that it meets and doesn't cover.
 use Rattle.std.specs.Prelude.{ℕ, ◌+◌, ◌-◌, ◌*◌, ◌/◌, Bool, ◌==◌, ◌&&◌, nat_le, if◌then◌else◌, is_some, List}
 use Rattle.dmatypes.specs.declared.page.TheConstants.{SPAN_PAGES}
 use Rattle.dmatypes.specs.Conditions.{total_pages}

@@ -1,4 +1,5 @@
--- Trees of tables, and walks through them. A memory gives the entry at a level, a table and an index.
+-- Trees of tables, and walks through them. A memory gives the entry at a level, a table and an index. What the leaf on a page's way states
+-- is the meaning of a tree. A root states pages of its tree's width alone: a walk for one beyond would read the entry of another.
 use Rattle.std.specs.Prelude.{◌≡◌, ℕ, zero, suc, ◌+◌, ◌*◌, ◌/◌, ◌%◌, ◌<◌, ◌≤◌, Bool, false, ◌==◌, nat_lt, if◌then◌else◌, Option, Some, None}
 use Rattle.tables.specs.declared.entries.TheConstants.{TABLE_ENTRIES}
 use Rattle.dmatypes.specs.Page.{levels, pages_end}

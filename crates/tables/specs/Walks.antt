@@ -1,4 +1,5 @@
--- What a root means, as a relation between a page, a frame and rights (second-stage paging).
+-- What a root means, as a relation between a page, a frame and rights (second-stage paging). It says of the words what `states` says of a
+-- memory, and both are proved to be one relation.
 use Rattle.std.specs.Prelude.{◌≡◌, ℕ, zero, suc, ◌+◌, ◌%◌, ◌⊎◌}
 use Rattle.dmatypes.specs.declared.page.TheConstants.{SPAN_PAGES}
 use Rattle.vtdbits.specs.Entry.{Spells}

@@ -1,4 +1,6 @@
--- What a request may be answered, and what may be remembered of it.
+-- What a request may be answered, and what may be remembered of it. With a look cached entries may serve, and without one none does. Only
+-- what was used is remembered, and only with a fill: the context, the leaf that the walk met, and the tables that it passed, each for all
+-- the pages that it stands for. With Caching Mode so is a page that the walk found absent.
 use Rattle.std.specs.Prelude.{◌≡◌, ◌≢◌, ℕ, ◌≤◌, ◌⊎◌, ◌&&◌, Bool, IsTrue, List, Option, Some, None, Result, Ok, Err, slice_get}
 use Rattle.dmatypes.specs.Allows.{fault_of, host_of}
 use Rattle.dmatypes.specs.Page.{IsBeyond, levels, page_of}

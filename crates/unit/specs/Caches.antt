@@ -1,4 +1,5 @@
--- What the unit remembers.
+-- What the unit remembers. These are leaves that walks met, tables that they passed, contexts, and with Caching Mode pages that they found
+-- absent, which are called faults. There are at most 64 leaves, 32 tables, 16 contexts and 64 faults (own).
 use Rattle.std.specs.Prelude.{◌≡◌, ℕ, ◌*◌, ◌%◌, ◌<◌, ◌≤◌, ◌⊎◌, Bool, List, [], length, remove}
 use Rattle.dmatypes.specs.Rights.{AreRights}
 use Rattle.dmatypes.specs.declared.call.Cache.{Cache}

@@ -1,4 +1,6 @@
--- What a descriptor makes the unit forget (IOTLB and context-cache invalidation).
+-- What a descriptor makes the unit forget (IOTLB and context-cache invalidation). A global descriptor is of all domains, and a
+-- domain-selective one of its own. The tests of pages and blocks, `lie_in` and `meet`, are proved to say that the block holds each of the
+-- pages (`Holds`) or one of them (`Meets`).
 use Rattle.std.specs.Prelude.{ℕ, ◌+◌, ◌^◌, ◌==◌, ◌&&◌, nat_le, nat_lt, Bool, true, false, not, List, [], ◌∷◌, filter}
 use Rattle.dmatypes.specs.Page.{Range, IsWithin}
 use Rattle.dmatypes.specs.Block.{Block, IsInBlock}

@@ -1,4 +1,4 @@
--- The row of contexts as words.
+-- The row of contexts as words. `Contexts` is seen as the list of the entries that its 16 pairs of words spell.
 use Rattle.std.specs.Prelude.{◌≡◌, List, length, All, IsSome, unwrap_or}
 use Rattle.vtdbits.specs.Context.{context_of}
 use Rattle.vtdbits.specs.declared.words.Words.{Words}

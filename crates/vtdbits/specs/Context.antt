@@ -1,4 +1,4 @@
--- Spellings of context entries.
+-- Spellings of context entries. A spelling is a sum of fields times powers of two in each of two words, and any other pair spells nothing.
 use Rattle.std.specs.Prelude.{◌≡◌, ℕ, ◌+◌, ◌*◌, ◌/◌, ◌%◌, ◌^◌, ◌==◌, ◌&&◌, nat_lt, Bool, if◌then◌else◌, Option, Some, None}
 use Rattle.dmatypes.specs.Page.{IsFrame}
 use Rattle.dmatypes.specs.declared.page.TheConstants.{FRAMES_END}

@@ -1,4 +1,4 @@
--- Spellings of descriptors.
+-- Spellings of descriptors. A spelling is a sum of fields times powers of two in each of two words, and any other pair spells nothing.
 use Rattle.std.specs.Prelude.{◌≡◌, ℕ, ◌+◌, ◌-◌, ◌*◌, ◌/◌, ◌%◌, ◌^◌, ◌<◌, ◌==◌, ◌&&◌, nat_le, nat_lt, Bool, if◌then◌else◌, Option, Some}
 use Rattle.std.specs.Prelude.{None}
 use Rattle.dmatypes.specs.Block.{Block, block}

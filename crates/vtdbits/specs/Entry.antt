@@ -1,4 +1,4 @@
--- Spellings of second-stage entries.
+-- Spellings of second-stage entries. A spelling is a sum of fields times powers of two, and any other word spells nothing.
 use Rattle.std.specs.Prelude.{◌≡◌, ℕ, ◌+◌, ◌-◌, ◌*◌, ◌/◌, ◌%◌, ◌^◌, ◌≤◌, ◌==◌, ◌&&◌, nat_le, nat_lt, if◌then◌else◌, Option, Some, None}
 use Rattle.std.specs.Prelude.{unwrap_or}
 use Rattle.dmatypes.specs.Page.{IsFrame}

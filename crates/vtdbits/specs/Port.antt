@@ -1,4 +1,4 @@
--- Spellings of port words.
+-- Spellings of port words. A spelling is a sum of fields times powers of two, and any other word spells nothing. A word that is 0 is empty.
 use Rattle.std.specs.Prelude.{◌≡◌, ◌⊎◌, ℕ, ◌+◌, ◌*◌, ◌/◌, ◌%◌, ◌^◌, ◌&&◌, nat_le, if◌then◌else◌, Option, Some, None}
 use Rattle.dmatypes.specs.declared.call.Access.{Access}
 use Rattle.dmatypes.specs.Page.{IsPage, page_of}

@@ -1,4 +1,4 @@
--- The table of exit statuses.
+-- The table of exit statuses, by how the program ends.
 use Rattle.std.specs.Prelude.{ℕ, Result, Ok, Err}
 use Rattle.script.specs.declared.error.RunError.{RunError}
 use Rattle.script.specs.declared.error.RunError.TheVariants.{BadLine, Read, Write, NoMemory}

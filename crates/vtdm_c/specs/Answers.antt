@@ -1,4 +1,4 @@
--- The answers that say replies, and what C's numbers name.
+-- The answers that say replies, and what C's numbers name. The status of a fault is its number and 32 more.
 use Rattle.std.specs.Prelude.{ℕ, ◌+◌, ◌==◌, if◌then◌else◌, Bool, true, false, Option, None, Some}
 use Rattle.dmatypes.specs.declared.call.Mode.{Mode}
 use Rattle.dmatypes.specs.declared.call.Mode.TheVariants.{Strict, Lazy}

@@ -1,4 +1,4 @@
--- What a call of C's does to the manager at a handle.
+-- What a call of C's does to the manager at a handle. A state answers at most 2^56 calls.
 use Rattle.std.specs.Prelude.{◌≡◌, ◌<◌, ◌≤◌, ◌⊎◌, Bool, ℕ, List, length, Option, None, Some, IsNone, IsSome}
 use Rattle.dmatypes.specs.declared.call.Cache.{Cache}
 use Rattle.dmatypes.specs.declared.call.Call.{Call}

@@ -1,4 +1,5 @@
--- What readers tell C.
+-- What readers tell C. They find totals, a device's domain, a domain's totals, devices, mode, width and root, a word of a table frame, and
+-- the words of a context entry.
 use Rattle.std.specs.Prelude.{◌≡◌, ◌↔◌, ◌<◌, ◌≤◌, ℕ, Option, None, Some, slice_get}
 use Rattle.std.specs.Int.{bit_at}
 use Rattle.dmatypes.specs.declared.call.Mode.{Mode}
