@@ -137,9 +137,9 @@ record_shown root range free = Some (OneRecord root range free)
 abbrev pub status_of : ℕ → ℕ
 status_of number = number % 2 ^ 32
 
--- what waited, then the descriptor, then a wait were taken, in this order, and nothing else was; the unit has done as many
--- as were taken, each in a step of its own, with no other step, in at most `MOST_STEPS`; the row of context entries and the
--- unit's mode stay. This was shown of a domain when it was sent
+-- what waited, then the descriptor, then a wait were taken, in this order, and nothing else was. The unit has done as many as were
+-- taken, each in a step of its own, with no other step, in at most `MOST_STEPS`. The row of context entries and the unit's mode stay.
+-- This was shown of a domain when it was sent
 pub record Invalidates (old : Iommu) (d : Descriptor) (seen : Option Shown) (new : Iommu) : Type 0 where
   pub number : new.sent ≡ old.sent + 1
   pub done : new.ring ≡ ring_of [] (status_of new.sent) (taken_after (old.ring.waiting ++ d ∷ Wait (status_of new.sent) ∷ [])

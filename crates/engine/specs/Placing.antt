@@ -72,9 +72,8 @@ pub record Placement : Type 0 where
 abbrev pub range_of : Placement → Range
 range_of at = record { first = at.first; pages = total_pages at.segments }
 
--- the pages of the segments are live where the domain serves them, and the domain's tree maps them,
--- one segment after the other; the table frames that it took were free, and its words spell entries still. Nothing else of the
--- domain changes
+-- the pages of the segments are live where the domain serves them, and the domain's tree maps them, one segment after the other. The
+-- table frames that it took were free, and its words spell entries still. Nothing else of the domain changes
 pub record Places (pool : Pool) (old : Domain) (at : Placement) (pool' : Pool) (new : Domain) : Type 0 where
   pub taken : IsTaken old (total_pages at.segments) at.order at.first
   pub takes : Takes old.space new.space (range_of at)

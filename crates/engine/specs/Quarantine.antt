@@ -65,9 +65,8 @@ unfoldable pub AllApart : List Retired → Type 0
 AllApart [] = Unit {0}
 AllApart (r ∷ rs) = ((q : Retired) → IsIn q rs → AreApart r.range q.range) × AllApart rs
 
--- a page of the whole space lies in a free, live or retired piece exactly where it is free, live or in a record;
--- the retired pieces are the records' ranges, no two of which have a page in common, and each record says what
--- was mapped at its pages
+-- a page of the whole space lies in a free, live or retired piece exactly where it is free, live or in a record. The retired pieces are
+-- the records' ranges, no two of which have a page in common. Each record says what was mapped at its pages
 pub record PartsPages (space : Space) (v : world.Domain) : Type 0 where
   pub is_space : IsSpace space
   pub whole : space.last ≡ pages_end v.width - 1
@@ -98,8 +97,8 @@ MirrorsIfAny words (Some h) (Some v) = Mirrors words h v
 abbrev pub InDomain : State → World → ℕ → (Domain → world.Domain → Type 0) → Type 0
 InDomain m w d P = (h : Domain) × (v : world.Domain) × (domain_at m.domains d ≡ Some h) × (w.domains d ≡ Some v) × P h v
 
--- leaf: every page of a cached leaf is live or retired in its domain, with the frame and the rights that the leaf
--- states; in a strict domain the leaf is one entry of its tree
+-- leaf: every page of a cached leaf is live or retired in its domain, with the frame and the rights that the leaf states. In a strict
+-- domain the leaf is one entry of its tree
 pub record IsLawfulLeaf (words : List ℕ) (l : CachedLeaf) (h : Domain) (v : world.Domain) : Type 0 where
   pub stated : (p : ℕ) → l.first ≤ p → p < l.first + l.pages → IsLive v p (stated_by p l) ⊎ IsRetired v p (stated_by p l)
   pub entry : v.mode ≡ Strict → IsLeafAt (memory words) (levels h.width) h.root l.first l.pages l.frame l.rights

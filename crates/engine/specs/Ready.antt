@@ -102,9 +102,9 @@ pub record IsDone (x : Iommu) (d : Descriptor) (number : ℕ) : Type 0 where
   pub taken : x.ring.taken ≡ later ++ Wait (status_of number) ∷ d ∷ earlier
   pub reached : number ≤ last_done x
 
--- once it is done, the unit can translate no page of the record for the domain any more, nor walk a table that was cut
--- with it: it names all of the domain, or an aligned block that holds its range, of at least 512 pages where a leaf of
--- 2 MiB was split, and with the invalidation hint only where no table was cut and no leaf was split
+-- once it is done, the unit can translate no page of the record for the domain any more, nor walk a table that was cut with it. It names
+-- all of the domain, or an aligned block that holds the record's range, of at least 512 pages where a leaf of 2 MiB was split. The
+-- invalidation hint is set only where no table was cut and no leaf was split
 abbrev pub Covers : ℕ → Record → Descriptor → Type 0
 Covers domain r IotlbGlobal = Unit {0}
 Covers domain r (IotlbDomain named) = named ≡ domain

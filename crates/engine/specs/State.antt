@@ -92,11 +92,11 @@ IsExactMap m domain segments order reply = Unit {0}
 abbrev pub IsLowestUnused : State → ℕ → Type 0
 IsLowestUnused m d = (domain_at m.domains d ≡ None) × ((e : ℕ) → 1 ≤ e → e < d → IsSome (domain_at m.domains e))
 
--- what the model leaves open: a new domain gets the lowest unused id, and is refused for its root exactly where no frame is
--- free; a map, which takes the start at which its domain serves it, is refused for its pieces exactly where the range there
--- cuts a piece and there are more than 1,022, and else for its frames exactly where more tables are lacking than frames are
--- free; an unmap likewise, for its frames where more leaves of 2 MiB are to be split; a step of the unit finds nothing exactly
--- where nothing waits, and a reap is answered that it is pending exactly where the ticket's wait isn't done
+-- what the model leaves open. A new domain gets the lowest unused id, and is refused for its root exactly where no frame is free. A map
+-- takes the start at which its domain serves it. It is refused for its pieces exactly where the range there cuts a piece and there are
+-- more than 1,022, and else for its frames exactly where more tables are lacking than frames are free. So is an unmap, for its frames
+-- where more leaves of 2 MiB are to be split. A step of the unit finds nothing exactly where nothing waits. A reap is answered that it
+-- is pending exactly where the ticket's wait isn't done
 unfoldable pub Exact : State → Call → Reply → Type 0
 Exact m (calls.Domain mode width) (Made d) = (0 < length m.pool.free) × IsLowestUnused m d
 Exact m (calls.Domain mode width) (Refused refusals.NoFrames) = length m.pool.free ≡ 0
@@ -151,12 +151,12 @@ BecomesMapped m domain at t =
 abbrev pub parts_in : State → Domain → Parts
 parts_in m domain = parts_of m.pool domain m.iommu
 
--- what becomes of the state: a new domain has a whole space and an empty tree, an attached device its entry, and a
--- detached one none; a map, a drop, a flush and an unmap change their domain, the table frames and the IOMMU, an unmap as it ends
--- its range by the domain's mode; a request and an eviction what the unit remembers, and with a fill a context and a leaf
--- that state a request's answer are remembered then; a begun flush sends its descriptor and its wait, and opens its ticket; a
--- step of the unit does the oldest descriptor; a reap releases the records of its domain that were there when its flush was
--- begun, and closes its ticket; nothing else changes, but for the count of calls
+-- what becomes of the state. A new domain has a whole space and an empty tree, an attached device its entry, and a detached one none. A
+-- map, a drop, a flush and an unmap change their domain, the table frames and the IOMMU, an unmap as it ends its range by the domain's
+-- mode. A request and an eviction change what the unit remembers, and with a fill a context and a leaf that state a request's answer are
+-- remembered then. A begun flush sends its descriptor and its wait, and opens its ticket. A step of the unit does the oldest descriptor.
+-- A reap releases the records of its domain that were there when its flush was begun, and closes its ticket. Nothing else changes, but
+-- for the count of calls
 unfoldable pub Becomes : State → Call → Reply → State → Type 0
 Becomes m (calls.Domain mode width) (Made d) t =
     (root : ℕ) × TakesRoot m.pool t.pool root

@@ -28,10 +28,10 @@ AllAreMade m = (h : Domain) → IsIn (Some h) m.domains → AreMadeBefore (m.iom
 abbrev pub AllAreBegun : State → Type 0
 AllAreBegun m = (h : Domain) → IsIn (Some h) m.domains → h.begun ≤ m.iommu.sent
 
--- it is a state of some world, with places for domains 1 to 15, the entries of devices 0 to 15 and this number of table frames;
--- only descriptors of tickets wait between calls; no more waits were sent than calls made, and no more steps of the unit made
--- and left to make than three for each: two descriptors are sent by a call at most, and one step finds none; the next wait is
--- sent after all records of all domains were made
+-- it is a state of some world, with places for domains 1 to 15, the entries of devices 0 to 15 and this number of table frames. Only
+-- descriptors of tickets wait between calls. No more waits were sent than calls made. No more steps of the unit were made and are left
+-- to make than three for each call: two descriptors are sent by a call at most, and one step finds none. No more flushes of a domain
+-- were begun than waits sent. The next wait is sent after all records of all domains were made
 pub record IsWhole (frames : ℕ) (m : State) : Type 0 where
   pub of_world : IsOfSomeWorld m
   pub places : length m.domains ≡ MOST_DOMAINS

@@ -101,8 +101,8 @@ pub record IsKnown (nodes : Slab Node) (root : Option ℕ) (way : List Step) (st
   pub there : IsIn (pages_as known.pages state) (pieces_of nodes root)
   pub held : IsHeld (get nodes) root way known.held known.pages
 
--- the piece that is kept in mind is there: the live one, the free one below which no free piece begins, the one that came free, which
--- the tree has as live, or a free one that pages are to be taken from
+-- the piece that is kept in mind is there. It is the live one, or the free one below which no free piece begins. Or it is the one that
+-- came free, which the tree has as live, or a free one that pages are to be taken from
 abbrev pub IsInMind : Slab Node → Option ℕ → List Step → InMind → Type 0
 IsInMind nodes root way Nothing = Unit {0}
 IsInMind nodes root way (Judged known) = IsKnown nodes root way Live known

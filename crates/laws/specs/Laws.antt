@@ -8,9 +8,9 @@ use Rattle.dmatypes.specs.Page.{page_of}
 use Rattle.dmatypes.specs.History.{IsLegal}
 use Rattle.laws.specs.Events.{Drops, Gives, IsAttached, IsOfMode, IsReleased, Lasts, Maps, Occurs, TakesAway, Unmaps, reaching}
 
--- A device reaches only frames that a map put into the domain that it is attached to, with a right that the map gave: of
--- each request that was answered a host address, the device was attached to a domain, and a map of this domain gives that
--- address. The domain wasn't ended since the map; and in a strict domain the page wasn't unmapped since.
+-- A device reaches only frames that a map put into the domain that it is attached to, with a right that the map gave. Of each request
+-- that was answered a host address, the device was attached to a domain, and a map of this domain gives that address. The domain wasn't
+-- ended since the map; and in a strict domain the page wasn't unmapped since.
 abbrev pub DevicesReachOnlyWhatIsMapped : Type 0
 DevicesReachOnlyWhatIsMapped =
     (frames : ℕ) (before rest : List Event) (device address : ℕ) (access : Access) (whim : Whim) (host : ℕ)
@@ -20,8 +20,8 @@ DevicesReachOnlyWhatIsMapped =
     × (IsOfMode modes.Strict domain before
     → Lasts (Gives domain address access host) (TakesAway domain (page_of address)) before)
 
--- After a strict unmap answered, no request of any device reaches those frames by those pages until a map puts them there
--- again: where one is answered a host address, a map after the unmap gives that address.
+-- After a strict unmap answered, no request of any device reaches those frames by those pages until a map puts them there again. Where
+-- one is answered a host address, a map after the unmap gives that address.
 abbrev pub StrictUnmapsEndReach : Type 0
 StrictUnmapsEndReach =
     (frames : ℕ) (before between rest : List Event) (unmap : Event) (domain device address : ℕ) (access : Access) (whim : Whim)

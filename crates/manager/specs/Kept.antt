@@ -88,10 +88,10 @@ pub record IsNamedBy (seed : Seed) (name parts shares room frames : ℕ) (mode :
   pub most_is : seed.most ≡ most
   pub handing_is : seed.handing ≡ handing
 
--- the history is legal, the state is one of the world after it, with all places for domains and devices and nothing
--- that waits in the ring but descriptors of tickets, the history follows states from a new one of this mode (whether the unit has
--- Caching Mode) to this one, no more of it is kept than there is room for, nothing was handed on where there is room for all, and the
--- state has counted its calls; every word that was last stored in the rows is lawful after the history
+-- the history is legal. The state is one of the world after it, with all places for domains and devices and nothing that waits in the
+-- ring but descriptors of tickets, and has counted its calls. The history follows states from a new one of this mode (whether the unit
+-- has Caching Mode) to this one. No more of it is kept than there is room for, and nothing was handed on where there is room for all.
+-- Every word that was last stored in the rows is lawful after the history
 pub record IsKept (frames room : ℕ) (mode : Bool) (most : ℕ) (a : Book) : Type 0 where
   pub legal : IsLegal frames a.history
   pub quarantine : Quarantine a.state (after frames a.history)

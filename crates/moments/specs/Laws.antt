@@ -20,7 +20,7 @@ MapsAreOldOrNew =
     → IsOldOrNew old.words new.words reached width root page
 
 -- Whatever words of an unmap have reached memory when a walk reads them, each level at its own moment, each page is found as before the
--- unmap or as after it, if only a table that takes the place of a leaf of 2 MiB is written before the word that names it.
+-- unmap or as after it. That asks only that a table that takes the place of a leaf of 2 MiB is written before the word that names it.
 abbrev pub UnmapsAreOldOrNew : Type 0
 UnmapsAreOldOrNew =
     (old new : Pool) (width : Width) (root : ℕ) (range : Range) (cut : List ℕ) (reached : Reached) (page : ℕ)
@@ -28,8 +28,8 @@ UnmapsAreOldOrNew =
     → IsFilledFirst old.words new.words reached
     → IsOldOrNew old.words new.words reached width root page
 
--- Where the words of the tree spell its entries before the call and after it, as they do in every tree of a state, each word that a walk
--- reads meanwhile spells what the walk sees there: so a unit that reads more into words than entries finds no more by it.
+-- Say that the words of the tree spell its entries before the call and after it, as they do in every tree of a state. Then each word
+-- that a walk reads meanwhile spells what the walk sees there. So a unit that reads more into words than entries finds no more by it.
 abbrev pub WordsReadAreSpelled : Type 0
 WordsReadAreSpelled =
     (old new : Pool) (width : Width) (root : ℕ) (range : Range) (says : ℕ → Option Target) (cut : List ℕ) (reached : Reached) (page : ℕ)
@@ -48,9 +48,9 @@ OneOrderSuffices =
     → GoesDown moment
     → IsFilledFirst old new (reached_by order moment)
 
--- And this one order matters: where a table took the place of a leaf of 2 MiB, and the word that names it reaches memory before the words
--- of the table, a walk finds nothing at a page of that leaf, though it was there before the unmap and, where it isn't of the range, is
--- there after it.
+-- And this one order matters. Say that a table took the place of a leaf of 2 MiB, and the word that names it reaches memory before the
+-- words of the table. Then a walk finds nothing at a page of that leaf, though it was there before the unmap. Where the page isn't of
+-- the range, it is there after the unmap too.
 abbrev pub OneOrderMatters : Type 0
 OneOrderMatters =
     (old new : Pool) (width : Width) (root : ℕ) (range : Range) (cut : List ℕ) (table below page : ℕ) (leaf : Target)

@@ -56,7 +56,7 @@ word_read old new reached level table index = if reached level table index then 
 unfoldable pub meanwhile : List ℕ → List ℕ → Reached → Memory
 meanwhile old new reached level table index = look level (word_read old new reached level table index)
 
--- a table that takes the place of a leaf of 2 MiB is written before the word that names it: where that word has reached memory when the
+-- a table that takes the place of a leaf of 2 MiB is written before the word that names it. Where that word has reached memory when the
 -- walk reads it, so has each word of the table that isn't as before when the walk reads that
 abbrev pub IsFilledFirst : List ℕ → List ℕ → Reached → Type 0
 IsFilledFirst old new reached =
@@ -115,8 +115,8 @@ reached_by order moment level frame index = is_written (take (moment level) orde
 abbrev pub GoesDown : (ℕ → ℕ) → Type 0
 GoesDown moment = (l : ℕ) → moment (suc l) ≤ moment l
 
--- however many of the words were written: where one that names a table in the place of a leaf of 2 MiB is among them, so is each word of
--- that table that isn't as before
+-- however many of the words were written, those of a table that takes the place of a leaf of 2 MiB come before the word that names it.
+-- Where that word is among them, so is each word of that table that isn't as before
 abbrev pub FillsFirst : List ℕ → List ℕ → List Place → Type 0
 FillsFirst old new order =
     (written table index below k : ℕ) (leaf : Target) → index < TABLE_ENTRIES → k < TABLE_ENTRIES

@@ -19,9 +19,8 @@ abbrev pub TakesAway : Mode → ℕ → Type 0
 TakesAway modes.Strict released = Unit {0}
 TakesAway modes.Lazy released = released ≡ MOST_RECORDS
 
--- at this call and this reply the row of the device is cleared: at a detach it is the device's; at an unmap that takes
--- pages away, at a flush, and at a reap that isn't pending those of all devices attached to the domain; else none, nor at a
--- refused call
+-- at this call and this reply the row of the device is cleared. At a detach it is the device's. At an unmap that takes pages away, at a
+-- flush, and at a reap that isn't pending those of all devices attached to the domain are. Else none is, nor at a refused call
 unfoldable pub IsCleared : World → Call → Reply → ℕ → Type 0
 IsCleared w (calls.Detach device) Done other = other ≡ device
 IsCleared w (calls.Unmap domain address pages) (Unmapped released) other =

@@ -42,8 +42,8 @@ pub record IsHit (frames : ℕ) (port port' : Port) (address : ℕ) (access : Ac
   pub legal : IsLegal frames port'.seen
   pub allowed : IfSome host (λ answered. Allows (after frames port'.seen) port.device address access (Host answered))
 
--- A port loads the counter: its value is the length of a legal history, which begins with all that the port had seen and is
--- what it has then seen, and to which a run of steps has led
+-- A port loads the counter. Its value is the length of a legal history, to which a run of steps has led. That begins with all that the
+-- port had seen, and is what it has then seen
 pub record IsCount (frames : ℕ) (port port' : Port) (count : ℕ) : Type 0 where
   pub did : port'.did ≡ port.did ++ Loaded counter count ∷ []
   pub begins : IsPrefix port.seen port'.seen

@@ -61,8 +61,8 @@ one_more v = desk_view v.frames v.mine.seen v.mine.did v.last (suc v.made) v.gue
 
 -- ---- the rule
 
--- What is true of the table: the steps that were made, where they have led to, the word that the desk last stored at each
--- place, the desk's seat, how many callers were made, and where each one is: at which seat, and whether as the desk's guest
+-- What is true of the table. These are the steps that were made, where they have led to, and the word that the desk last stored at each
+-- place. So are the desk's seat, how many callers were made, and where each one is: at which seat, and whether as the desk's guest
 pub record Truth : Type 0 where
   pub steps : List PortStep
   pub core : Core
@@ -99,10 +99,9 @@ module _ (legal : List Event → Type 0) (lawful : List Event → ℕ → ℕ �
     pub leads : led_to passes t.steps ≡ t.core
     pub last : last_stored t.steps ≡ t.last
 
-  -- The steps of ports, passes and the desk have led here, and no others: the row words are those of the run, and so is
-  -- what callers have seen, what each of them did, and what the desk last stored at each place. The counter is the length of
-  -- the desk's history, which is legal; every row word is 0 or the one that the desk last stored there; and every one of
-  -- these is lawful after the history
+  -- The steps of ports, passes and the desk have led here, and no others. The row words are those of the run, and so is what callers
+  -- have seen, what each of them did, and what the desk last stored at each place. The counter is the length of the desk's history,
+  -- which is legal. Every row word is 0 or the one that the desk last stored there, and every one of these is lawful after the history
   pub record IsKept (passes : ℕ) (s : Table) : Type 0 where
     pub truth : Truth
     pub reached : IsReached passes truth

@@ -113,8 +113,8 @@ abbrev pub last_stored : List PortStep → List ℕ
 last_stored steps = fold stored_after (replicate ROW_WORDS 0) steps
 
 module _ (legal : List Event → Type 0) (lawful : List Event → ℕ → ℕ → Type 0) where
-  -- a port loads the word that stands there; the desk stores a lawful word; the history with the event is legal, and
-  -- every word stays lawful after it; the answer of the counter is the length of the history
+  -- a port loads the word that stands there, and the desk stores a lawful word. The history with the event is legal, and every word
+  -- stays lawful after it. The answer of the counter is the length of the history
   abbrev pub IsPortStep : Core → PortStep → Type 0
   IsPortStep c (loads_word port slot word) = (port < DEVICES) × (slot < SLOTS) × (word ≡ word_at c port slot)
   IsPortStep c (empties_word port slot) = (port < DEVICES) × (slot < SLOTS)

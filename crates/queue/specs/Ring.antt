@@ -3,8 +3,8 @@ use Rattle.std.specs.Prelude.{ℕ, ◌-◌, List, [], ◌∷◌, ◌++◌, lengt
 use Rattle.queue.specs.declared.ring.TheConstants.Ring.{CAPACITY}
 use Rattle.vtdbits.specs.declared.descriptor.Descriptor.{Descriptor}
 
--- the descriptors that wait, oldest first; the status: what the last wait that was done wrote; and what was taken out of
--- the ring, the last one first, as far as its page still holds it
+-- the descriptors that wait, oldest first. The status is what the last wait that was done wrote. What was taken out of the ring comes
+-- the last one first, as far as its page still holds it
 pub record Ring : Type 0 where
   pub waiting : List Descriptor
   pub status : ℕ

@@ -27,9 +27,9 @@ use Rattle.quiet.specs.Quiet.{IsPassedAmong, IsPassedDuring, IsSound, IsTableCac
 
 -- ---- any call
 
--- Whatever words of a call have reached memory when a walk reads them, each level at its own moment, each page of each domain that is there
--- before and after the call is found as before it or as after it, if only a table that takes the place of a leaf of 2 MiB is written
--- before the word that names it.
+-- Whatever words of a call have reached memory when a walk reads them, each level at its own moment, each page is found as before the
+-- call or as after it. So it is in each domain that is there before and after the call. That asks only that a table that takes the place
+-- of a leaf of 2 MiB is written before the word that names it.
 abbrev pub CallsAreOldOrNew : Type 0
 CallsAreOldOrNew =
     (m t : State) (call : Call) (reply : Reply) (domain : ℕ) (h h' : Domain) (reached : Reached) (page : ℕ)
@@ -59,8 +59,8 @@ CallsReadSpelledWords =
     → page < pages_end h.width
     → ReadsSpelled m.pool.words t.pool.words reached h.width h.root page
 
--- So a leaf that is cached while a call is written is an entry of the tree before the call or after it, and a table that is cached then
--- is in its place before the call or after it.
+-- So a leaf that is cached while a call is written is an entry of the tree before the call or after it. A table that is cached then is
+-- in its place before the call or after it.
 abbrev pub CachedDuringIsOldOrNew : Type 0
 CachedDuringIsOldOrNew =
     (m t : State) (call : Call) (reply : Reply) (domain : ℕ) (h h' : Domain)
@@ -71,9 +71,9 @@ CachedDuringIsOldOrNew =
     → ((leaf : CachedLeaf) → IsMetDuring m t h leaf → IsEntry m.pool.words h leaf ⊎ IsEntry t.pool.words h leaf)
     × ((table : CachedNonLeaf) → IsPassedDuring m t h table → IsInPlace m.pool.words h table ⊎ IsInPlace t.pool.words h table)
 
--- From call to call, what a unit has cached of a domain's tree stays of it: a leaf that was an entry before a call or was cached during it
--- is an entry after it, and a table in its place likewise, but for an unmap in the domain that is done. So the laws of strict unmaps,
--- which begin with such leaves and tables and end with such, speak of all that a unit has ever cached of a strict domain.
+-- From call to call, what a unit has cached of a domain's tree stays of it, but for an unmap in the domain that is done. A leaf that was
+-- an entry before a call or was cached during it is an entry after it, and a table in its place likewise. The laws of strict unmaps
+-- begin with such leaves and tables and end with such. So they speak of all that a unit has ever cached of a strict domain.
 abbrev pub CachesStay : Type 0
 CachesStay =
     (m t : State) (call : Call) (reply : Reply) (domain : ℕ) (h h' : Domain)
@@ -87,8 +87,8 @@ CachesStay =
 
 -- ---- strict domains
 
--- Once a strict unmap's descriptor is done, no leaf of the domain holds an unmapped page, which was cached before the call or during it
--- and which the descriptor leaves: each such leaf is an entry of the tree that is left.
+-- Once a strict unmap's descriptor is done, no leaf of the domain that was cached before the call or during it, and that the descriptor
+-- leaves, holds an unmapped page. Each such leaf is an entry of the tree that is left.
 abbrev pub StrictUnmapsForgetPages : Type 0
 StrictUnmapsForgetPages =
     (m t : State) (domain address pages released : ℕ) (h : Domain) (d : Descriptor) (leaf : CachedLeaf)
@@ -102,8 +102,8 @@ StrictUnmapsForgetPages =
     → drops_leaf d leaf ≡ false
     → IsEntry t.pool.words h leaf × (HoldsPageOf leaf (range_at address pages) → ⊥)
 
--- Nor is a table of the domain one that was cut: each that was cached before the call or during it, and that the descriptor leaves, is in
--- its place in the tree that is left, and no free frame.
+-- Nor is a table of the domain one that was cut. Each that was cached before the call or during it, and that the descriptor leaves, is
+-- in its place in the tree that is left, and no free frame.
 abbrev pub StrictUnmapsForgetTables : Type 0
 StrictUnmapsForgetTables =
     (m t : State) (domain address pages released : ℕ) (h : Domain) (d : Descriptor) (table : CachedNonLeaf)
@@ -119,8 +119,8 @@ StrictUnmapsForgetTables =
 
 -- ---- lazy domains
 
--- Once a flush's descriptor is done, nothing of the domain that is cached then or is cached later in the call holds a page of a record or
--- a table that was cut with one: whatever was cached, of which nothing is asked, the descriptor leaves none of the domain.
+-- Once a flush's descriptor is done, nothing of the domain that is cached then or is cached later in the call holds a page of a record
+-- or a table that was cut with one. Whatever was cached, of which nothing is asked, the descriptor leaves none of the domain.
 abbrev pub FlushesForget : Type 0
 FlushesForget =
     (m t : State) (domain released : ℕ) (h : Domain) (d : Descriptor) (r : Record)
@@ -132,8 +132,8 @@ FlushesForget =
     → ((leaf : CachedLeaf) → leaf.domain ≡ domain → IsCachedSince m t h d leaf → HoldsPageOf leaf r.range → ⊥)
     × ((table : CachedNonLeaf) → table.domain ≡ domain → IsTableCachedSince m t h d table → occurs table.frame r.cut.frames ≡ 0)
 
--- The same of an unmap that finds the list of records full and flushes first; its own words are written after the flush, and may make a
--- table of a frame that came free, so a cached table is in its place before the call or after it.
+-- The same of an unmap that finds the list of records full and flushes first. Its own words are written after the flush, and may make a
+-- table of a frame that came free. So a cached table is in its place before the call or after it.
 abbrev pub FullListsForget : Type 0
 FullListsForget =
     (m t : State) (domain address pages released : ℕ) (h : Domain) (d : Descriptor) (r : Record)
@@ -148,10 +148,10 @@ FullListsForget =
     × ((table : CachedNonLeaf) → table.domain ≡ domain → IsTableCachedSince m t h d table
     → IsInPlace m.pool.words h table ⊎ IsInPlace t.pool.words h table)
 
--- A flush of this number was begun, and its descriptor is done in a state; from there on calls are made, and then a reap of that number
--- releases a record. Nothing of the domain that was cached when the descriptor was done, or was cached in the course of those calls or in
--- the reap, holds a page of the record or is a table that was cut with it. Meanwhile the domain isn't dropped, as the model refuses while
--- the ticket is open.
+-- A flush of this number was begun, and its descriptor is done in a state. From there on calls are made, and then a reap of that number
+-- releases a record. Say that something of the domain was cached when the descriptor was done, in the course of those calls, or in the
+-- reap. Then it holds no page of the record, and is no table that was cut with it. Meanwhile the domain isn't dropped, as the model
+-- refuses while the ticket is open.
 abbrev pub ReapsForget : Type 0
 ReapsForget =
     (s m t : State) (events : List Event) (domain number released : ℕ) (k h : Domain) (r : Record)

@@ -33,8 +33,8 @@ pub record Size : Type 0 where
 abbrev pub call_of : Event → Call
 call_of e = e.call
 
--- where these calls lead: a legal history of the first of them, as many as there is room for, which follows states from a new one of
--- that mode to this one by what the state's methods do
+-- where these calls lead: a legal history of the first of them, as many as there is room for. It follows states from a new one of that
+-- mode to this one by what the state's methods do
 pub record Outcome (size : Size) (calls : List Call) : Type 0 where
   pub history : List Event
   pub state : State

@@ -18,8 +18,8 @@ IsWhole (Err errors.Write) = ⊥
 IsWhole (Err errors.NoMemory) = ⊥
 IsWhole end = Unit {0}
 
--- the trace of a script, whole, tells a legal history, all of it, and is found legal where it is read to its end, with as many events,
--- by a check of as many table frames
+-- the trace of a script, whole, tells a legal history, all of it. A check of as many table frames finds it legal, where it is read to
+-- its end, with as many events
 abbrev pub TraceIsFoundLegal : Type 0
 TraceIsFoundLegal =
     (size : Size) (input left traced : List ℕ) (end : Result (Unit {0}) RunError) (rest : List ℕ) (found : Result Judgement CheckError)

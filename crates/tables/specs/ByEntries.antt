@@ -26,8 +26,8 @@ entry_below (Table c) row = row c
 entry_below (Leaf t) row = Absent
 entry_below (LargeLeaf t) row = Absent
 
--- what an entry lacks whose span of the level begins at a page: nothing where the pages don't meet the
--- span, else its own table of the level, and what the 512 entries of that table lack
+-- what an entry lacks whose span of the level begins at a page. It is nothing where the pages don't meet the span, else its own table of
+-- the level, and what the 512 entries of that table lack
 unfoldable pub entry_lacks : Memory → ℕ → SsEntry → (ℕ → Bool) → ℕ → ℕ → ℕ → ℕ
 entry_lacks m zero e large from to first = 0
 entry_lacks m (suc l) e large from to first =

@@ -5,8 +5,8 @@ use Rattle.vtdbits.specs.Entry.{Spells}
 use Rattle.vtdbits.specs.declared.entry.SsEntry.TheVariants.{Table}
 use Rattle.tables.specs.Pool.{word, memory}
 
--- each word of a table of the level spells the entry that a walk sees there, so that it is 0 where there is none; and so does
--- each word of the tables that these name
+-- each word of a table of the level spells the entry that a walk sees there, so that it is 0 where there is none. So does each word of
+-- the tables that these name
 unfoldable pub AreSpelled : List ℕ → ℕ → ℕ → Type 0
 AreSpelled words zero table = Unit {0}
 AreSpelled words (suc l) table = (k : ℕ) → k < TABLE_ENTRIES

@@ -16,9 +16,9 @@ use Rattle.traces.specs.Findings.{IsFinding}
 abbrev pub line_behind : List Event → ℕ
 line_behind events = min (length events + 1) (2 ^ 64 - 1)
 
--- what was there to read and what of it is left: the whole of it is the trace of a legal history; or that of a legal history and of an
--- event that is no step after it; or what stands behind that of a legal history is no line of a trace, or can't be read; or memory
--- lacked, to judge an event behind those of a legal history or to tell what stands against it
+-- what was there to read and what of it is left. The whole of it is the trace of a legal history, or that of a legal history and of an
+-- event that is no step after it. Or what follows the trace of a legal history is no line of a trace, or can't be read. Or memory
+-- lacked, to judge an event after those of a legal history or to tell what stands against it
 abbrev pub Checked : ℕ → (input left : List ℕ) → Result Judgement CheckError → Type 0
 Checked frames input left (Ok (Legal events)) = (history : List Event) × IsLegal frames history
     × ReadToEnd event_said input left history × (events + 1 ≡ line_behind history)

@@ -10,8 +10,8 @@ use Rattle.dmatypes.specs.declared.width.Width.{Width}
 use Rattle.dmatypes.specs.declared.width.TheConstants.{PAGES_END}
 use Rattle.dmatypes.specs.declared.call.Cache.TheVariants as kinds
 
--- a leaf that a walk met: the domain, the pages from a first one on that it stands for, and what they are
--- mapped to: the frames from one on, one after the other, and the rights
+-- a leaf that a walk met: the domain, the pages from a first one on that it stands for, and what they are mapped to. That is the frames
+-- from one on, one after the other, and the rights
 pub record CachedLeaf : Type 0 where
   pub domain : ℕ
   pub first : ℕ

@@ -1,5 +1,5 @@
--- Marks of what is remembered (own). A page of a domain has a place among 2,048, and so has its span. A page that a remembered leaf stands for
--- has one of its two places marked. Marks may stand where no leaf does.
+-- Marks of what is remembered (own). A page of a domain has a place among 2,048, and so has its span. A page that a remembered leaf
+-- stands for has one of its two places marked. Marks may stand where no leaf does.
 use Rattle.std.specs.Prelude.{◌≡◌, ℕ, ◌+◌, ◌*◌, ◌/◌, ◌%◌, ◌<◌, ◌⊎◌, IsTrue, List, slice_index}
 use Rattle.std.specs.Int.{bit_at}
 use Rattle.dmatypes.specs.declared.page.TheConstants.{SPAN_PAGES}

@@ -46,8 +46,8 @@ abbrev pub Reads : {A : Type 0} → A → (State → A → Type 0) → Option Se
 Reads absent Finds None answer after = (answer ≡ absent) × (after ≡ None)
 Reads absent Finds (Some s) answer after = Finds s.state answer × (after ≡ Some s)
 
--- a manager is made where there is none and the number of its table frames is one, unless memory is lacking: it is new, its unit has
--- Caching Mode or not as was asked, and it is a state of the empty world
+-- a manager is made where there is none and the number of its table frames is one that it can have, unless memory is lacking. It is new,
+-- its unit has Caching Mode or not as was asked, and it is a state of the empty world
 pub record Makes (frames : ℕ) (caching : Bool) (status : ℕ) (after : Option Session) : Type 0 where
   pub bad : (frames < LEAST_TABLE_FRAMES) ⊎ (MOST_TABLE_FRAMES < frames) → (status ≡ BAD_FRAMES) × (after ≡ None)
   pub good : LEAST_TABLE_FRAMES ≤ frames → frames ≤ MOST_TABLE_FRAMES
