@@ -434,7 +434,7 @@ fn is_too_many(tree: &PieceTree, sought: Sought, found: Found) -> bool
     requires inside { (found.known.pages.first ≤ found.start) × (found.start + sought.pages ≤ found.known.pages.last + 1) }
     ensures { IsTrue result ↔ IsTooMany tree.now.pieces (record { first = found.start; pages = sought.pages }) }
 {
-    if tree.piece_count() <= MOST_PIECES_TO_CUT {
+    if tree.most_pieces() <= MOST_PIECES_TO_CUT || tree.piece_count() <= MOST_PIECES_TO_CUT {
         return false;
     }
     let pages = found.known.pages;
@@ -460,8 +460,9 @@ fn put_found(tree: &mut PieceTree, carved: &mut Carved, sought: Sought, found: F
 {
     let start = found.start;
     let pages = found.known.pages;
-    let is_last = pages.last < start + sought.pages;
-    if start < sought.floor || is_last || !carved.carve(start, sought.pages) {
+    // Where no more of the same length fit behind them, what is taken next mostly lies elsewhere: the tree shows them at once then.
+    let is_short = pages.last - start < 2 * sought.pages;
+    if start < sought.floor || is_short || !carved.carve(start, sought.pages) {
         tree.put(Piece {
             first: start,
             last: start + sought.pages - 1,

@@ -277,6 +277,7 @@ impl PieceTree {
     }
 
     /// Puts a piece in use over free pages.
+    #[inline(always)]
     pub(crate) fn put(&mut self, piece: Piece)
         requires some { piece.first ≤ piece.last }
         requires in_use { piece.state ≢ PageState.Free }

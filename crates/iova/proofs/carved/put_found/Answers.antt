@@ -10,8 +10,8 @@ use Rattle.iova.proofs.Taken.{space_taken, takes}
 use Rattle.iova.proofs.carvings.Taken.{can_carve, carved_more, carved_takes, uncarved}
 use Rattle.iova.proofs.carved.put_found.Goals as goal
 use Rattle.iova.proofs.carved.put_found.Goals.{then-start-sought-via-then-start-sought}
-use Rattle.iova.proofs.carved.put_found.Goals.{then-start-sought-via-else-start-sought+then-is_last}
-use Rattle.iova.proofs.carved.put_found.Goals.{then-start-sought-via-else-start-sought+else-is_last+then-not-carve}
+use Rattle.iova.proofs.carved.put_found.Goals.{then-start-sought-via-else-start-sought+then-is_short}
+use Rattle.iova.proofs.carved.put_found.Goals.{then-start-sought-via-else-start-sought+else-is_short+then-not-carve}
 
 pub put-requires-clause-space : goal.put-requires-clause-space
 put-requires-clause-space c =
@@ -23,8 +23,8 @@ returns-then-start-sought-clause-taken c =
     let range : Range = record { first = c.args.found.start; pages = c.args.sought.pages } in
     let none : c.then-start-sought.carved.chain ≡ [] = elim c.then-start-sought.branch [
       | then-start-sought-via-then-start-sought w ↦ ap (λ k. k.chain) w.carved-is ∙ c.requires.chain
-      | then-start-sought-via-else-start-sought+then-is_last w ↦ ap (λ k. k.chain) w.carved-is ∙ c.requires.chain
-      | then-start-sought-via-else-start-sought+else-is_last+then-not-carve w ↦
+      | then-start-sought-via-else-start-sought+then-is_short w ↦ ap (λ k. k.chain) w.carved-is ∙ c.requires.chain
+      | then-start-sought-via-else-start-sought+else-is_short+then-not-carve w ↦
           ap (λ k. k.chain) w.carved-is ∙ w.carve.ensures.unchanged w.if-not-carve.true ∙ c.requires.chain
     ] in
     subst (λ l. Takes c.args.tree.now (with_carved l c.put.new.self) range) (sym none)
@@ -44,9 +44,9 @@ returns-clause-taken c =
     let stock : Stock = record { pages = f.known.pages; sought = c.least_sought-sought.result } in
     let above : c.least_sought-sought.result.floor ≤ f.start = omega (arith, least.floor, c.if-start-sought.false) in
     let free = uncarved a c.requires.space f.known.pages c.least_sought-sought.result least.sought f.start c.args.sought.pages
-    c.requires.there least.none above c.requires.inside.0 c.if-is_last.false in
+    c.requires.there least.none above c.requires.inside.0 (omega (arith, c.if-is_short.false, c.requires.sought.some)) in
     let can = can_carve a c.requires.space f.known.pages c.least_sought-sought.result least.sought f.start c.args.sought.pages
-    c.requires.there least.none above c.requires.inside.0 c.if-is_last.false in
+    c.requires.there least.none above c.requires.inside.0 (omega (arith, c.if-is_short.false, c.requires.sought.some)) in
     let is : c.carve.new.self.chain ≡ piece_of (record { first = f.start; pages = c.args.sought.pages }) Live ∷ [] =
     c.carve.ensures.carved c.if-not-carve.false
     ∙ ap (λ l. l ++ piece_of (record { first = f.start; pages = c.args.sought.pages }) Live ∷ []) c.requires.chain in
@@ -61,9 +61,9 @@ returns-clause-carved c =
     let stock : Stock = record { pages = f.known.pages; sought = c.least_sought-sought.result } in
     let above : c.least_sought-sought.result.floor ≤ f.start = omega (arith, least.floor, c.if-start-sought.false) in
     let free = uncarved a c.requires.space f.known.pages c.least_sought-sought.result least.sought f.start c.args.sought.pages
-    c.requires.there least.none above c.requires.inside.0 c.if-is_last.false in
+    c.requires.there least.none above c.requires.inside.0 (omega (arith, c.if-is_short.false, c.requires.sought.some)) in
     let can = can_carve a c.requires.space f.known.pages c.least_sought-sought.result least.sought f.start c.args.sought.pages
-    c.requires.there least.none above c.requires.inside.0 c.if-is_last.false in
+    c.requires.there least.none above c.requires.inside.0 (omega (arith, c.if-is_short.false, c.requires.sought.some)) in
     let is : c.carve.new.self.chain ≡ piece_of (record { first = f.start; pages = c.args.sought.pages }) Live ∷ [] =
     c.carve.ensures.carved c.if-not-carve.false
     ∙ ap (λ l. l ++ piece_of (record { first = f.start; pages = c.args.sought.pages }) Live ∷ []) c.requires.chain in
