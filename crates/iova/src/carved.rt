@@ -460,7 +460,8 @@ fn put_found(tree: &mut PieceTree, carved: &mut Carved, sought: Sought, found: F
 {
     let start = found.start;
     let pages = found.known.pages;
-    // Where no more of the same length fit behind them, what is taken next mostly lies elsewhere: the tree shows them at once then.
+    // Where the same length doesn't fit behind them, with a page to spare, what is taken next mostly lies elsewhere: then the tree shows
+    // them at once.
     let is_short = pages.last - start < 2 * sought.pages;
     if start < sought.floor || is_short || !carved.carve(start, sought.pages) {
         tree.put(Piece {

@@ -369,7 +369,7 @@ pub(crate) fn with_free_ends(
     with_free_by(nodes, root, way, held, pages)
 }
 
-/// The same for a run of pieces, to which no way leads.
+/// The same for any pages, to which no way leads.
 pub(crate) fn with_free_around(nodes: &Slab<Node>, root: Option<usize>, pages: Ends) -> Ends
     requires kept { IsKept root nodes.now (pieces_of nodes.now root) }
     requires ordered { IsOrdered 1 (pieces_of nodes.now root) }

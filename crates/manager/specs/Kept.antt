@@ -16,7 +16,7 @@ use Rattle.ports.specs.Seen.{Rows}
 use Rattle.ports.specs.Steps.{AreLawful}
 
 -- what contracts see of a book: its history, its state, the word that its desk last stored at each place of the rows, and how many
--- of the first events were handed on. It keeps those behind them
+-- of the first events were handed on. It keeps those after them
 pub record Book : Type 0 where
   pub history : List Event
   pub state : State

@@ -1,5 +1,5 @@
 -- Which rows are cleared at a call. A step leaves each lawful word lawful, but in these rows: that is the contract of `keeps`
--- (src/laws.rt). A lazy domain empties its list at 256 records.
+-- (src/laws.rt). An unmap that finds 256 records in a lazy domain empties its list.
 use Rattle.std.specs.Prelude.{◌≡◌, ℕ, Some, IsSomeAnd}
 use Rattle.dmatypes.specs.declared.call.Call.{Call}
 use Rattle.dmatypes.specs.declared.call.Call.TheVariants as calls

@@ -20,7 +20,7 @@ pairs_between head tail page = window head ((tail + PAIRS - head) % PAIRS) page
 abbrev pub waiting_in : ℕ → ℕ → List Words → List Descriptor
 waiting_in head tail page = filter_map descriptor_of (pairs_between head tail page)
 
--- the pairs that are free, from the tail up to the head around the page's end, the one behind the head first
+-- the pairs that are free, from the tail up to the head around the page's end, the one before the head first
 abbrev pub free_pairs : ℕ → ℕ → List Words → List Words
 free_pairs head tail page = reverse (window tail (PAIRS - (tail + PAIRS - head) % PAIRS) page)
 
