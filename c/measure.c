@@ -88,7 +88,7 @@ static struct range mapped(struct vtdm *manager, const struct crowd *crowd, uint
     return (struct range){made.value, pages};
 }
 
-/* Maps all that is live, and then unmaps one and maps another, again and again: the seconds of these rounds. */
+/* Maps all that is live, and then unmaps one and maps another, again and again: the nanoseconds of these rounds. */
 static double crowded(struct vtdm *manager, const struct crowd *crowd, uint64_t rounds) {
     struct range ranges[MOST_LIVE];
     uint64_t seed = 1;
@@ -108,28 +108,34 @@ static double crowded(struct vtdm *manager, const struct crowd *crowd, uint64_t 
     return now() - start;
 }
 
-/* A line: its name, how its domain is, what is mapped before, and its rounds, by one call or among ranges that are live. */
+/* A line: its name, how its domain is, what is mapped before (a page that is remembered, or a page behind a hole of so many), and its
+ * rounds, by `run` or among ranges that are live. */
 static const struct line {
     const char *name;
     bool lazy, wide, mapped;
+    unsigned hole;
     void (*run)(struct vtdm *manager, uint64_t at, uint64_t rounds);
     struct crowd crowd;
 } lines[] = {
     {.name = "map and unmap 1 page", .run = pair},
     {.name = "map and unmap 1 page, 48 bits", .wide = true, .run = pair},
+    {.name = "map and unmap 1 page, in a hole of 2", .hole = 2, .run = pair},
+    {.name = "map and unmap 1 page, in a hole of 2, 48 bits", .wide = true, .hole = 2, .run = pair},
     {.name = "map and unmap lazily, 256 a flush", .lazy = true, .run = pair},
     {.name = "dma answered by the caches", .mapped = true, .run = cached},
     {.name = "dma answered by a walk", .mapped = true, .run = walked},
     {.name = "a call that is refused", .run = refused},
-    {.name = "40 ranges of 1 to 16 pages", .crowd = {.live = 40}},
-    {.name = "256 ranges of 1 to 16 pages", .crowd = {.live = 256, .nearly = true}},
-    {.name = "256 ranges of 1 to 16 pages, reached", .crowd = {.live = 256, .nearly = true, .reached = true}},
-    {.name = "256 ranges of 1 to 16 pages, aligned", .crowd = {.live = 256, .own_order = true, .nearly = true}},
-    {.name = "256 pages", .crowd = {.live = 256, .pages = 1, .nearly = true}},
-    {.name = "40 pages, 48 bits", .wide = true, .crowd = {.live = 40, .pages = 1}},
-    {.name = "256 pages, 48 bits", .wide = true, .crowd = {.live = 256, .pages = 1, .nearly = true}},
-    {.name = "256 pages, 48 bits, reached", .wide = true, .crowd = {.live = 256, .pages = 1, .nearly = true, .reached = true}},
-    {.name = "256 ranges of 16 pages, aligned, 48 bits",
+    {.name = "the oldest of 40 of 1 to 16 pages", .crowd = {.live = 40}},
+    {.name = "nearly the oldest of 256 of 1 to 16 pages", .crowd = {.live = 256, .nearly = true}},
+    {.name = "nearly the oldest of 256 of 1 to 16 pages, reached", .crowd = {.live = 256, .nearly = true, .reached = true}},
+    {.name = "nearly the oldest of 256 of 1 to 16 pages, aligned", .crowd = {.live = 256, .own_order = true, .nearly = true}},
+    {.name = "nearly the oldest of 256 of 1 page", .crowd = {.live = 256, .pages = 1, .nearly = true}},
+    {.name = "the oldest of 40 of 1 page, 48 bits", .wide = true, .crowd = {.live = 40, .pages = 1}},
+    {.name = "nearly the oldest of 256 of 1 page, 48 bits", .wide = true, .crowd = {.live = 256, .pages = 1, .nearly = true}},
+    {.name = "nearly the oldest of 256 of 1 page, 48 bits, reached",
+     .wide = true,
+     .crowd = {.live = 256, .pages = 1, .nearly = true, .reached = true}},
+    {.name = "nearly the oldest of 256 of 16 pages, aligned, 48 bits",
      .wide = true,
      .crowd = {.live = 256, .pages = 16, .own_order = true, .nearly = true}},
 };
@@ -140,6 +146,11 @@ static double turn(const struct line *line, uint64_t rounds) {
     must(vtdm_create(&manager, TABLE_FRAMES) == VTDM_OK);
     must((line->wide ? vtdm_domain_wide(&manager, line->lazy) : vtdm_domain(&manager, line->lazy)).value == 1);
     must(vtdm_attach(&manager, DEVICE, 1).status == VTDM_OK);
+    if (line->hole != 0) {
+        uint64_t hole = vtdm_map(&manager, 1, 0x1001, line->hole, 0, VTDM_READ).value;
+        must(vtdm_map(&manager, 1, 0x1001, 1, 0, VTDM_READ).status == VTDM_OK);
+        must(vtdm_unmap(&manager, 1, hole, line->hole).status == VTDM_OK);
+    }
     if (line->mapped) {
         at = vtdm_map(&manager, 1, 0x1001, 1, 0, VTDM_READ).value;
         must(vtdm_dma(&manager, DEVICE, at, false, true, true).status == VTDM_OK);
@@ -165,7 +176,7 @@ int main(int argc, char **argv) {
     uint64_t rounds = argc > 1 ? strtoull(argv[1], NULL, 10) : 100000;
     if (rounds == 0)
         rounds = 1;
-    printf("%-40s %9s %11s\n", "nanoseconds a round", "least", "median");
+    printf("%-56s %9s %11s\n", "nanoseconds a round", "least", "median");
     for (size_t i = 0; i < sizeof lines / sizeof lines[0]; i++) {
         double turns[TURNS];
         if (argc > 2 && strcmp(argv[2], lines[i].name) != 0)
@@ -173,7 +184,7 @@ int main(int argc, char **argv) {
         for (int k = 0; k < TURNS; k++)
             turns[k] = turn(&lines[i], rounds);
         qsort(turns, TURNS, sizeof turns[0], compare);
-        printf("%-40s %9.1f %11.1f\n", lines[i].name, turns[0], turns[TURNS / 2]);
+        printf("%-56s %9.1f %11.1f\n", lines[i].name, turns[0], turns[TURNS / 2]);
     }
     return 0;
 }
