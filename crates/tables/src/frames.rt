@@ -11,6 +11,7 @@ ghost use Rattle.tables.specs.Pool.{word, occurs, IsZeroed, IsWrite, KeepsOtherW
 use crate::entries::{TABLE_ENTRIES, leaf_word};
 use dmatypes::{FRAMES_END, Frame, Rights};
 use std::alloc::{AllocError, Global};
+use std::fmt;
 use std::marker::Model;
 use vtdbits::SsEntry;
 
@@ -210,6 +211,16 @@ impl Pool {
         }
         self.slots[self.free..end].copy_from_slice(frames);
         self.free = end;
+    }
+}
+
+// How many frames there are and are free, and none of their words.
+impl fmt::Debug for Pool {
+    fn fmt<W: fmt::Write>(&self, f: &mut fmt::Formatter<W>) -> fmt::Result {
+        f.debug_struct("Pool")
+            .field("frames", &self.frames())
+            .field("free", &self.free_count())
+            .finish()
     }
 }
 

@@ -1,5 +1,6 @@
 -- What is said by a number of levels, said of a tree of that many: of a map and of an unmap.
-use Rattle.std.proofs.Common.{◌≡◌, ℕ, ◌+◌, ◌-◌, ◌/◌, ◌<◌, ◌≤◌, ◌⊎◌, ◌↔◌, Bool, true, false, List, Option, None, Some, arith, subst, sym, ◌∙◌}
+use Rattle.std.proofs.Common.{◌≡◌, ℕ, ◌+◌, ◌-◌, ◌/◌, ◌<◌, ◌≤◌, ◌⊎◌, ◌↔◌, Bool, true, false, List, Option, None, Some, arith, subst}
+use Rattle.std.proofs.Common.{sym, ◌∙◌}
 use Rattle.std.specs.Prelude.{OnOk, OnErr, Result, IsTrue}
 use Rattle.dmatypes.specs.Page.{Fits, IsPageRange, IsWithin, Range, levels}
 use Rattle.dmatypes.specs.declared.page.TheConstants.{SPAN_PAGES}
@@ -30,7 +31,8 @@ some_at width level e = omega (arith, e, some_levels width)
 
 -- ---- a map, done or refused
 
-pub mapped_leaves : {A E : Type 0} (old new : Pool) (width : Width) (r : Range) (says : ℕ → Option Target) (level root : ℕ) (result : Result A E)
+pub mapped_leaves : {A E : Type 0} (old new : Pool) (width : Width) (r : Range) (says : ℕ → Option Target) (level root : ℕ)
+    (result : Result A E)
     → level ≡ levels width → IsPageRange r → Fits r width
     → ((p : ℕ) → r.first ≤ p → p < r.first + r.pages → states (memory old.words) (levels width) root p ≡ None)
     → OnOk result (MapsPages old new level root r.first (r.first + r.pages) says) → OnErr result (new ≡ old)
@@ -43,7 +45,8 @@ mapped_leaves old new width r says level root result e range fits absent maps sa
     (λ same first pages frame rights leaf.
     subst (λ (p : Pool). IsLeafAt (memory p.words) level root first pages frame rights) (sym same) leaf))
 
-pub mapped_tables : {A E : Type 0} (old new : Pool) (width : Width) (r : Range) (says : ℕ → Option Target) (level root : ℕ) (result : Result A E)
+pub mapped_tables : {A E : Type 0} (old new : Pool) (width : Width) (r : Range) (says : ℕ → Option Target) (level root : ℕ)
+    (result : Result A E)
     → level ≡ levels width → OnOk result (MapsPages old new level root r.first (r.first + r.pages) says) → OnErr result (new ≡ old)
     → KeepsTables old new (levels width) root
 mapped_tables old new width r says level root result e maps same =

@@ -12,7 +12,8 @@ range_of start segments = record { first = start; pages = total_pages segments }
 
 pub map_segments-requires-clause-one_span : goal.map_segments-requires-clause-one_span
 map_segments-requires-clause-one_span c =
-    rw c.number-first.ensures.value (in_root c.args.self.now.width (range_of c.args.start c.args.segments.now) 3 (sym (ap levels c.in-W39.is)) c.requires.range c.requires.fits).1
+    rw c.number-first.ensures.value (in_root c.args.self.now.width (range_of c.args.start c.args.segments.now) 3
+    (sym (ap levels c.in-W39.is)) c.requires.range c.requires.fits).1
 
 pub returns-in-W39-clause-leaves : goal.returns-in-W39-clause-leaves
 returns-in-W39-clause-leaves c =
@@ -34,7 +35,8 @@ returns-in-W39-clause-others c =
 
 pub map_segments-requires-in-W48-clause-one_span : goal.map_segments-requires-in-W48-clause-one_span
 map_segments-requires-in-W48-clause-one_span c =
-    rw c.number-first.ensures.value (in_root c.args.self.now.width (range_of c.args.start c.args.segments.now) 4 (sym (ap levels c.in-W48.is)) c.requires.range c.requires.fits).1
+    rw c.number-first.ensures.value (in_root c.args.self.now.width (range_of c.args.start c.args.segments.now) 4
+    (sym (ap levels c.in-W48.is)) c.requires.range c.requires.fits).1
 
 pub returns-in-W48-clause-leaves : goal.returns-in-W48-clause-leaves
 returns-in-W48-clause-leaves c =
@@ -47,7 +49,8 @@ pub returns-in-W48-clause-tables : goal.returns-in-W48-clause-tables
 returns-in-W48-clause-tables c =
     mapped_tables c.args.pool.now c.map_segments-in-W48.new.pool c.args.self.now.width (range_of c.args.start c.args.segments.now)
     (placed c.args.segments.now c.args.start (bits_of c.args.rights)) 4 c.args.self.now.root c.map_segments-in-W48.result
-    (sym (ap levels c.in-W48.is)) (rw c.number-first.ensures.value at c.map_segments-in-W48.ensures.maps) c.map_segments-in-W48.ensures.unchanged
+    (sym (ap levels c.in-W48.is)) (rw c.number-first.ensures.value at c.map_segments-in-W48.ensures.maps)
+    c.map_segments-in-W48.ensures.unchanged
 
 pub returns-in-W48-clause-others : goal.returns-in-W48-clause-others
 returns-in-W48-clause-others c =

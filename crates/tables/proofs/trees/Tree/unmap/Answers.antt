@@ -15,13 +15,15 @@ returns-in-W39-clause-whole c =
 
 pub returns-in-W39-clause-leaves : goal.returns-in-W39-clause-leaves
 returns-in-W39-clause-leaves c =
-    ended_leaves c.args.pool.now c.unmap_pieces.new.pool c.args.self.now.width c.args.range 3 c.args.self.now.root c.unmap_pieces.result.frames
+    ended_leaves c.args.pool.now c.unmap_pieces.new.pool c.args.self.now.width c.args.range 3
+    c.args.self.now.root c.unmap_pieces.result.frames
     (sym (ap levels c.in-W39.is)) c.first-from.ensures.range c.requires.fits
     (rw (c.first-from.ensures.value, c.pages.ensures.value) at c.unmap_pieces.ensures.unmaps)
 
 pub returns-in-W39-clause-tables : goal.returns-in-W39-clause-tables
 returns-in-W39-clause-tables c =
-    ended_tables c.args.pool.now c.unmap_pieces.new.pool c.args.self.now.width c.args.range 3 c.args.self.now.root c.unmap_pieces.result.frames
+    ended_tables c.args.pool.now c.unmap_pieces.new.pool c.args.self.now.width c.args.range 3
+    c.args.self.now.root c.unmap_pieces.result.frames
     (sym (ap levels c.in-W39.is)) c.first-from.ensures.range c.requires.fits
     (rw (c.first-from.ensures.value, c.pages.ensures.value) at c.unmap_pieces.ensures.unmaps)
 
@@ -42,17 +44,20 @@ returns-in-W48-clause-whole c =
 
 pub returns-in-W48-clause-leaves : goal.returns-in-W48-clause-leaves
 returns-in-W48-clause-leaves c =
-    ended_leaves c.args.pool.now c.unmap_pieces-in-W48.new.pool c.args.self.now.width c.args.range 4 c.args.self.now.root c.unmap_pieces-in-W48.result.frames
+    ended_leaves c.args.pool.now c.unmap_pieces-in-W48.new.pool c.args.self.now.width c.args.range 4
+    c.args.self.now.root c.unmap_pieces-in-W48.result.frames
     (sym (ap levels c.in-W48.is)) c.first-from.ensures.range c.requires.fits
     (rw (c.first-from.ensures.value, c.pages.ensures.value) at c.unmap_pieces-in-W48.ensures.unmaps)
 
 pub returns-in-W48-clause-tables : goal.returns-in-W48-clause-tables
 returns-in-W48-clause-tables c =
-    ended_tables c.args.pool.now c.unmap_pieces-in-W48.new.pool c.args.self.now.width c.args.range 4 c.args.self.now.root c.unmap_pieces-in-W48.result.frames
+    ended_tables c.args.pool.now c.unmap_pieces-in-W48.new.pool c.args.self.now.width c.args.range 4
+    c.args.self.now.root c.unmap_pieces-in-W48.result.frames
     (sym (ap levels c.in-W48.is)) c.first-from.ensures.range c.requires.fits
     (rw (c.first-from.ensures.value, c.pages.ensures.value) at c.unmap_pieces-in-W48.ensures.unmaps)
 
 pub returns-in-W48-clause-others : goal.returns-in-W48-clause-others
 returns-in-W48-clause-others c =
-    others_stay c.args.pool.now c.unmap_pieces-in-W48.new.pool c.args.self.now.width 4 c.args.self.now.root c.unmap_pieces-in-W48.result.frames
+    others_stay c.args.pool.now c.unmap_pieces-in-W48.new.pool c.args.self.now.width 4
+    c.args.self.now.root c.unmap_pieces-in-W48.result.frames
     (sym (ap levels c.in-W48.is)) c.requires.tree c.unmap_pieces-in-W48.ensures.moves
