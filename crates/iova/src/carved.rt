@@ -332,9 +332,9 @@ fn put_all(tree: &mut PieceTree, pieces: &[Piece])
     }
 }
 
-// Writes all pieces into the tree, and forgets the free piece.
+// Hands all pieces over to the tree, and forgets the free piece.
 #[inline(never)]
-fn write(tree: &mut PieceTree, carved: &mut Carved)
+fn hand_over_pieces(tree: &mut PieceTree, carved: &mut Carved)
     requires space { IsSpace tree.old }
     requires carved { (stock : Stock) × AreCarved tree.old.pieces carved.old.chain stock }
     ensures tree { tree.new ≡ with_carved carved.old.chain tree.old }
@@ -349,7 +349,7 @@ fn write(tree: &mut PieceTree, carved: &mut Carved)
 
 /// The same, where mostly there is none.
 #[inline(always)]
-pub(crate) fn settle(tree: &mut PieceTree, carved: &mut Carved)
+pub(crate) fn hand_over(tree: &mut PieceTree, carved: &mut Carved)
     requires space { IsSpace tree.old }
     requires carved { IsCarved tree.old.pieces carved.old.chain carved.old.stock }
     ensures tree { tree.new ≡ with_carved carved.old.chain tree.old }
@@ -358,7 +358,7 @@ pub(crate) fn settle(tree: &mut PieceTree, carved: &mut Carved)
     ensures stock { carved.new.stock ≡ None }
 {
     if !carved.chain.is_empty() {
-        write(tree, carved);
+        hand_over_pieces(tree, carved);
         return;
     }
     if carved.stock.is_some() {

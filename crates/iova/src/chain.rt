@@ -96,7 +96,7 @@ impl Chain {
         requires { 0 < length self.old }
         ensures { (before : List Piece) (last : Piece) → self.old ≡ before ++ last ∷ [] → self.new ≡ before }
     {
-        let _ = self.pieces.pop();
+        self.pieces.pop().unwrap();
         if self.pieces.len() == self.begin {
             self.pieces.clear();
             self.begin = 0;

@@ -34,6 +34,7 @@ mod pending;
 mod piece;
 mod piece_tree;
 mod put;
+mod refusals;
 mod search;
 mod settle;
 mod space;

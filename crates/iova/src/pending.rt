@@ -13,7 +13,7 @@ use crate::beside::Ends;
 use crate::node::{NUMBERS_END, Node};
 use crate::piece::{PageState, Piece};
 use crate::space::MOST_PIECES_TO_CUT;
-use crate::store::{Freed, free};
+use crate::store::{WithFree, free};
 use crate::way::{InMind, Known, MOST_HEIGHT, Step};
 use crate::{look, store};
 use slab::Slab;
@@ -26,7 +26,7 @@ fn write(
     low: u64,
     way: &[Step; MOST_HEIGHT],
     known: Known,
-) -> Freed
+) -> WithFree
     requires kept { IsKept root nodes.old (pieces_of nodes.old root) }
     requires space { (last : ℕ) × IsSpace (stored last root nodes.old) }
     requires low { NoneFreeBelow low (pieces_of nodes.old root) }

@@ -101,6 +101,13 @@ impl PieceTree {
         }
     }
 
+    /// Its last page.
+    pub(crate) fn last(&self) -> u64
+        ensures { result ≡ self.now.last }
+    {
+        self.last
+    }
+
     /// How many pieces it has.
     pub(crate) fn piece_count(&self) -> usize
         ensures count { result ≡ length self.now.pieces }

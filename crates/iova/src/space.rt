@@ -8,12 +8,13 @@ use crate::beside::Ends;
 use crate::carved;
 use crate::carved::{Carved, Sought};
 use crate::chain::Chain;
-use crate::iter::Iter;
+use crate::iter::{Coming, Iter};
 use crate::node::NUMBERS_END;
 use crate::piece::{PageState, Piece};
 use crate::piece_tree::PieceTree;
 use dmatypes::{MOST_PAGES, PAGES_END, Page, PageRange};
 use std::alloc::{AllocError, Global};
+use std::fmt;
 use std::marker::Model;
 use thiserror::Error;
 
@@ -126,13 +127,17 @@ impl Space {
     {
         let chain = self.carved.chain.as_slice();
         let parts = self.carved.parts();
-        Iter {
+        let coming = Coming {
             tree: self.tree.pieces(),
             first: parts.first,
             before: parts.before,
             chain,
             behind: parts.behind,
             passed: chain.is_empty(),
+        };
+        Iter {
+            coming,
+            left: self.piece_count(),
         }
     }
 
@@ -230,7 +235,7 @@ impl Space {
         if let Some(start) = self.take_behind(sought) {
             return Ok(start);
         }
-        carved::settle(&mut self.tree, &mut self.carved);
+        carved::hand_over(&mut self.tree, &mut self.carved);
         let start = carved::take(&mut self.tree, &mut self.carved, sought)?;
         Ok(Page::new(start).unwrap())
     }
@@ -348,7 +353,7 @@ impl Space {
         if self.carved.is_live(pages) {
             return Ok(());
         }
-        carved::settle(&mut self.tree, &mut self.carved);
+        carved::hand_over(&mut self.tree, &mut self.carved);
         if self.tree.hold_live(pages) {
             return Ok(());
         }
@@ -367,7 +372,7 @@ impl Space {
             self.carved.chain.retire(place);
             return;
         }
-        carved::settle(&mut self.tree, &mut self.carved);
+        carved::hand_over(&mut self.tree, &mut self.carved);
         self.tree.retire(range);
     }
 
@@ -383,7 +388,7 @@ impl Space {
             return;
         }
         let was_carved = !self.carved.chain.is_empty();
-        carved::settle(&mut self.tree, &mut self.carved);
+        carved::hand_over(&mut self.tree, &mut self.carved);
         // It was judged in the chain, so the tree has not looked for it yet.
         if was_carved {
             self.tree.hold_live(pages);
@@ -424,7 +429,7 @@ impl Space {
             self.carved.chain.lose_first(count);
             return;
         }
-        carved::settle(&mut self.tree, &mut self.carved);
+        carved::hand_over(&mut self.tree, &mut self.carved);
         self.tree.release_run(range);
     }
 
@@ -440,7 +445,17 @@ impl Space {
         if self.carved.give_back(pages) {
             return;
         }
-        carved::settle(&mut self.tree, &mut self.carved);
+        carved::hand_over(&mut self.tree, &mut self.carved);
         self.tree.free(range);
+    }
+}
+
+// Its last page and how many pieces it has, and none of them.
+impl fmt::Debug for Space {
+    fn fmt<W: fmt::Write>(&self, f: &mut fmt::Formatter<W>) -> fmt::Result {
+        f.debug_struct("Space")
+            .field("last", &self.tree.last())
+            .field("pieces", &self.piece_count())
+            .finish()
     }
 }

@@ -164,7 +164,7 @@ struct SetFree {
 /// What is there once a piece is free: the root, a page below which no free piece begins, and the free piece, where it
 /// is the lowest and the way still leads to it.
 #[derive(Clone, Copy)]
-pub(crate) struct Freed {
+pub(crate) struct WithFree {
     pub(crate) root: Option<usize>,
     pub(crate) low: u64,
     pub(crate) in_mind: InMind,
@@ -241,7 +241,7 @@ pub(crate) fn free(
     pages: Ends,
     way: &[Step; MOST_HEIGHT],
     held: Held,
-) -> Freed
+) -> WithFree
     requires kept { IsKept root nodes.old (pieces_of nodes.old root) }
     requires ordered { IsOrdered 1 (pieces_of nodes.old root) }
     requires few { length (with_free (pages_as pages PageState.Free) (pieces_of nodes.old root)) ≤ MOST_PIECES }
@@ -257,7 +257,7 @@ pub(crate) fn free(
     let root = set.root;
     let low = set.low;
     if !set.is_lowest {
-        return Freed {
+        return WithFree {
             root,
             low,
             in_mind: InMind::Nothing,
@@ -271,13 +271,13 @@ pub(crate) fn free(
             last: nodes[key].piece.last,
         };
         let held = Held { key, depth };
-        return Freed {
+        return WithFree {
             root,
             low,
             in_mind: InMind::Lowest(Known { pages, held }),
         };
     }
-    Freed {
+    WithFree {
         root,
         low,
         in_mind: InMind::Lowest(Known { pages, held }),

@@ -15,7 +15,8 @@ use Rattle.iova.proofs.carvings.State.{carving, chain_there, untouched, used_sta
 use Rattle.iova.proofs.parts.Filled.{its_state, state_is}
 use Rattle.iova.proofs.searches.CutAt.{at_in}
 
-none_holds : (from : ℕ) (chain : List Piece) (end page : ℕ) → FollowOn from chain end → piece_at chain page ≡ None → (q : Piece) → IsIn q chain
+none_holds : (from : ℕ) (chain : List Piece) (end page : ℕ) → FollowOn from chain end → piece_at chain page ≡ None
+    → (q : Piece) → IsIn q chain
     → Holds q page → ⊥
 none_holds from chain end page f e q m h =
     none_some chain page q.state (sym (state_is chain page) ∙ ap its_state e)

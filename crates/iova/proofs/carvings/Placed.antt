@@ -14,7 +14,8 @@ use Rattle.iova.proofs.parts.Added.{rest_below-none, rest_below-some}
 use Rattle.iova.proofs.parts.Parts.{first_from}
 use Rattle.iova.proofs.carvings.InPlace.{before, behind, free_piece, is_row, was, was_ordered}
 
-other : (p : Piece) (first : ℕ) (chain ps : List Piece) → p.first < first → in_place_of first chain (p ∷ ps) ≡ p ∷ in_place_of first chain ps
+other : (p : Piece) (first : ℕ) (chain ps : List Piece) → p.first < first
+    → in_place_of first chain (p ∷ ps) ≡ p ∷ in_place_of first chain ps
 other p first chain ps h = grind (arith, nat_tests, h)
 
 here : (first last : ℕ) (chain ps : List Piece) → in_place_of first chain (free_piece first last ∷ ps) ≡ chain ++ ps

@@ -127,7 +127,8 @@ unit_small sought s =
     (omega (arith, z, s.power.2), omega (arith, m, s.power.2))
 
 -- where some pieces were carved
-pub some_carved : (from : ℕ) (chain : List Piece) (end : ℕ) (p : Piece) (ps : List Piece) → chain ≡ p ∷ ps → FollowOn from chain end → from < end
+pub some_carved : (from : ℕ) (chain : List Piece) (end : ℕ) (p : Piece) (ps : List Piece) → chain ≡ p ∷ ps
+    → FollowOn from chain end → from < end
 some_carved from chain end p ps e f =
     let g = subst (λ l. FollowOn from l end) e f in omega (arith, g.0, g.1, follow_le (p.last + 1) ps end g.3)
 

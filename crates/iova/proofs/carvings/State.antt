@@ -262,6 +262,7 @@ view_space a chain None sp k = subst (λ l. IsSpace (with_carved l a)) (sym k) s
 view_space a chain (Some stock) sp k = carved_space a stock.pages.first stock.pages.last chain k.from k.end (carving a chain stock sp k)
 
 -- the pieces follow on one another
-pub follows : (pieces chain : List Piece) (stock : Option Stock) → IsCarved pieces chain stock → (from : ℕ) × (end : ℕ) × FollowOn from chain end
+pub follows : (pieces chain : List Piece) (stock : Option Stock) → IsCarved pieces chain stock
+    → (from : ℕ) × (end : ℕ) × FollowOn from chain end
 follows pieces chain None k = (0, 0, subst (λ l. FollowOn 0 l 0) (sym k) refl)
 follows pieces chain (Some stock) k = (k.from, k.end, k.follow)

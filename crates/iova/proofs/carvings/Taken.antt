@@ -115,7 +115,8 @@ pub carves : (a old : Space) (chain now : List Piece) (known : Option Stock) (st
 carves a old chain now known start pages sp k was some few p room set =
     let stock = p.0 in
     let c = carved_in a.pieces chain known stock p.1 k in
-    let is : Carves a (with_carved chain a) (chain ++ piece_of (record { first = start; pages = pages }) Live ∷ []) (Some stock) start pages =
+    let is : Carves a (with_carved chain a) (chain ++ piece_of (record { first = start; pages = pages }) Live ∷ [])
+    (Some stock) start pages =
     let more = carved_more a sp chain stock c start pages some p.2
     (λ t. let n = ap (λ (v : Space). length v.pieces) was in omega (arith, t.1, n, room)) in
     record {

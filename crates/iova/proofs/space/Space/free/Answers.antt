@@ -36,8 +36,8 @@ returns-then-give_back-clause-space c =
 
 pub returns-clause-freed : goal.returns-clause-freed
 returns-clause-freed c state i =
-    let was : c.settle.new.tree ≡ c.args.self.now = c.settle.ensures.tree
+    let was : c.hand_over.new.tree ≡ c.args.self.now = c.hand_over.ensures.tree
     ∙ ap (λ l. with_carved l c.self.inside.tree) (c.give_back.ensures.unchanged c.if-give_back.false) ∙ c.self.view_is in
-    subst (λ v. Frees v (with_carved c.settle.new.carved.chain c.free.new.self) c.args.range state) was
-    (subst (λ l. Frees c.settle.new.tree (with_carved l c.free.new.self) c.args.range state) (sym c.settle.ensures.chain)
+    subst (λ v. Frees v (with_carved c.hand_over.new.carved.chain c.free.new.self) c.args.range state) was
+    (subst (λ l. Frees c.hand_over.new.tree (with_carved l c.free.new.self) c.args.range state) (sym c.hand_over.ensures.chain)
     (c.free.ensures.freed state (subst (λ (v : Space). IsIn (piece_of c.args.range state) v.pieces) (sym was) i)))

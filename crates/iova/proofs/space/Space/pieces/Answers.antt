@@ -1,9 +1,10 @@
 use Rattle.std.proofs.Common.{◌≡◌, ℕ, List, [], ◌∷◌, ◌++◌, ◌==◌, Bool, true, false, if◌then◌else◌, Option, None, length}
-use Rattle.std.proofs.Common.{◌∙◌, refl, ap, subst, arith}
+use Rattle.std.proofs.Common.{◌∙◌, refl, ap, subst, sym, arith}
 use Rattle.std.proofs.lemmas.Bool.Decides.{nat_tests}
 use Rattle.iova.specs.declared.beside.Ends.{Ends}
+use Rattle.iova.specs.declared.carved.Parts.{Parts}
 use Rattle.iova.specs.declared.piece.Piece.{Piece}
-use Rattle.iova.specs.Carved.{free_of, in_place_of, with_pieces}
+use Rattle.iova.specs.Carved.{free_of, in_place_of, with_carved, with_pieces}
 use Rattle.iova.specs.Space.{Space, IsSpace}
 use Rattle.iova.proofs.carvings.State.{view_space}
 use Rattle.iova.proofs.space.Space.pieces.Goals as goal
@@ -26,18 +27,34 @@ all_come stock before (p ∷ ps) behind pieces f g =
     let not : length (p ∷ ps) == 0 ≡ false = grind (arith, nat_tests) in
     ap (coming stock before (p ∷ ps) behind pieces) not ∙ g p ps refl
 
+-- so it is all pieces of the space
+are_all : (a now : Space) (parts : Parts) (chain l pieces : List Piece) (passed : Bool) → passed ≡ (length chain == 0) → pieces ≡ a.pieces
+    → chain ≡ l → (l ≡ [] → (parts.before ≡ None) × (parts.behind ≡ None))
+    → ((first : Piece) (rest : List Piece) → l ≡ first ∷ rest
+    → in_place_of parts.first (free_of parts.before ++ l ++ free_of parts.behind) a.pieces ≡ with_pieces l a.pieces)
+    → with_carved l a ≡ now → coming parts.first parts.before chain parts.behind pieces passed ≡ now.pieces
+are_all a now parts chain l pieces passed none tree is f g view =
+    ap (coming parts.first parts.before chain parts.behind pieces) none
+    ∙ ap (λ (ps : List Piece). coming parts.first parts.before chain parts.behind ps (length chain == 0)) tree
+    ∙ ap (λ (ps : List Piece). coming parts.first parts.before ps parts.behind a.pieces (length ps == 0)) is
+    ∙ all_come parts.first parts.before l parts.behind a.pieces f g
+    ∙ ap (λ (v : Space). v.pieces) view
+
 pub returns-clause-pieces : goal.returns-clause-pieces
 returns-clause-pieces c =
     let a = c.self.inside.tree in
-    let parts = c.parts-parts.result in
-    let chain = c.as_slice-chain.result.now in
-    let is = c.as_slice-chain.ensures in
-    ap (coming parts.first parts.before chain parts.behind c.pieces.result) c.is_empty.ensures
-    ∙ ap (λ l. coming parts.first parts.before chain parts.behind l (length chain == 0)) c.pieces.ensures.pieces
-    ∙ ap (λ (l : List Piece). coming parts.first parts.before l parts.behind a.pieces (length l == 0)) is
-    ∙ all_come parts.first parts.before c.self.inside.carved.chain parts.behind a.pieces c.parts-parts.ensures.none
-    (λ first rest e. c.parts-parts.ensures.some a first rest c.self.invariant.0 c.self.invariant.1 e)
-    ∙ ap (λ (v : Space). v.pieces) c.self.view_is
+    are_all a _ c.parts-parts.result c.as_slice-chain.result.now c.self.inside.carved.chain c.pieces.result c.is_empty.result
+    c.is_empty.ensures c.pieces.ensures.pieces c.as_slice-chain.ensures c.parts-parts.ensures.none
+    (λ first rest e. c.parts-parts.ensures.some a first rest c.self.invariant.0 c.self.invariant.1 e) c.self.view_is
+
+-- as many are left as there are pieces
+pub invariant_of-result : goal.invariant_of-result
+invariant_of-result c =
+    let a = c.self.inside.tree in
+    c.piece_count.ensures.count
+    ∙ sym (ap (λ (ps : List Piece). length ps) (are_all a _ c.parts-parts.result c.as_slice-chain.result.now c.self.inside.carved.chain
+    c.pieces.result c.is_empty.result c.is_empty.ensures c.pieces.ensures.pieces c.as_slice-chain.ensures c.parts-parts.ensures.none
+    (λ first rest e. c.parts-parts.ensures.some a first rest c.self.invariant.0 c.self.invariant.1 e) c.self.view_is))
 
 pub returns-clause-space : goal.returns-clause-space
 returns-clause-space c =

@@ -44,11 +44,11 @@ returns-in-Some-clause-space c =
 
 pub release_run-requires : goal.release_run-requires
 release_run-requires c =
-    let was : c.settle.new.tree ≡ c.args.self.now = c.settle.ensures.tree ∙ c.self.view_is in
+    let was : c.hand_over.new.tree ≡ c.args.self.now = c.hand_over.ensures.tree ∙ c.self.view_is in
     subst (λ (v : Space). IsRun (piece_of c.args.range Retired) v.pieces) (sym was) c.requires
 
 pub returns-clause-retirable : goal.returns-clause-retirable
 returns-clause-retirable c other may =
-    let was : c.settle.new.tree ≡ c.args.self.now = c.settle.ensures.tree ∙ c.self.view_is in
-    subst (λ l. MayRetire (with_carved l c.release_run.new.self).pieces other) (sym c.settle.ensures.chain)
+    let was : c.hand_over.new.tree ≡ c.args.self.now = c.hand_over.ensures.tree ∙ c.self.view_is in
+    subst (λ l. MayRetire (with_carved l c.release_run.new.self).pieces other) (sym c.hand_over.ensures.chain)
     (c.release_run.ensures.retirable other (subst (λ (v : Space). MayRetire v.pieces other) (sym was) may))
