@@ -3,7 +3,8 @@
 -- domain then. That is the root of its tree, and for a map its range. For an unmap it is besides the range of the one record, for a flush
 -- how many records could be released, and for both how many table frames were free.
 use Rattle.std.specs.Prelude.{◌≢◌, ◌==◌, ◌&&◌, ◌++◌, ◌∷◌, Bool, filter, not}
-use Rattle.std.specs.Prelude.{◌≡◌, ℕ, ◌+◌, ◌-◌, ◌/◌, ◌<◌, ◌≤◌, List, [], replicate, IsSome, IsSomeAnd, Option, None, Some, length, slice_get}
+use Rattle.std.specs.Prelude.{◌≡◌, ℕ, ◌+◌, ◌-◌, ◌/◌, ◌<◌, ◌≤◌, List, [], replicate, IsSome, IsSomeAnd, Option, None, Some, length}
+use Rattle.std.specs.Prelude.{slice_get}
 use Rattle.std.specs.Prelude.{slice_set, Result, Ok, Err, IfOk, IsTrue}
 use Rattle.dmatypes.specs.declared.call.Call.{Call}
 use Rattle.dmatypes.specs.declared.call.Call.TheVariants as calls

@@ -1,5 +1,5 @@
--- Tickets: flushes that were begun, how far each is, and what the unit has forgotten by then. A begun flush puts its ticket behind the others
--- (`Becomes`), so they stand in the order in which they were begun.
+-- Tickets: flushes that were begun, how far each is, and what the unit has forgotten by then. A begun flush puts its ticket behind the
+-- others (`Becomes`), so they stand in the order in which they were begun.
 use Rattle.std.specs.Prelude.{◌≡◌, ℕ, ◌+◌, ◌<◌, ◌≤◌, List, [], ◌∷◌, ◌++◌, length, map, Option, Some}
 use Rattle.dmatypes.specs.Page.{IsWithin}
 use Rattle.dmatypes.specs.World.{IsIn}

@@ -25,7 +25,7 @@ use crate::room::Room;
 use crate::ticket::Ticket;
 use crate::wanted::Wanted;
 use dmatypes::{Frame, MOST_RECORDS, Mode, Page, PageRange, Refusal, Segment, Width};
-use iova::{RetireError, Space, TakeError};
+use iova::Space;
 use std::marker::Model;
 use tables::{NoFrames, Pool, Tree};
 use vtdbits::DomainId;
@@ -128,11 +128,7 @@ impl Domain {
         ensures quiet { OnErr result (iommu.new ≡ iommu.old) }
     {
         let floor = floor_of(self.width());
-        let start = match self.space.take_from(floor, wanted.pages, wanted.order) {
-            Ok(start) => start,
-            Err(TakeError::NoRange) => return Err(Refusal::NoRange),
-            Err(TakeError::TooManyPieces) => return Err(Refusal::TooManyPieces),
-        };
+        let start = self.space.take_from(floor, wanted.pages, wanted.order)?;
         if let Err(NoFrames) = self.tree.map_list(pool, start, segments, wanted.rights) {
             self.space.undo_take(range_from(start, wanted.pages));
             return Err(Refusal::NoFrames);
@@ -280,7 +276,7 @@ impl Domain {
         requires { length self.old.records < MOST_RECORDS }
         ensures { self.new ≡ record self.old { records = self.old.records ++ retired ∷ [] } }
     {
-        let _ = self.records.push(retired);
+        self.records.push_reserved(retired);
     }
 
     // Whether a range may end: `NotLive` where a page of it isn't live, else `TooManyPieces` where the address space would
@@ -292,15 +288,9 @@ impl Domain {
         ensures judged { IsJudgedEnd pool.now self.old range result }
         ensures same { self.new ≡ self.old }
     {
-        match self.space.judge(range) {
-            Ok(()) => {}
-            Err(RetireError::NotLive) => return Err(Refusal::NotLive),
-            Err(RetireError::TooManyPieces) => return Err(Refusal::TooManyPieces),
-        }
-        match self.tree.may_unmap(pool, range) {
-            Ok(()) => Ok(()),
-            Err(NoFrames) => Err(Refusal::NoFrames),
-        }
+        self.space.judge(range)?;
+        self.tree.may_unmap(pool, range)?;
+        Ok(())
     }
 
     // Unmaps a range of live pages in the tree, and answers its record. It is made once the tree states none of the pages: no

@@ -210,8 +210,10 @@ impl Iommu {
     {
         self.sent += 1;
         self.shown = None;
-        let _ = self.ring.submit(Descriptor::IotlbDomain(domain));
-        let _ = self.ring.submit(Descriptor::Wait(status_of(self.sent)));
+        self.ring.submit(Descriptor::IotlbDomain(domain)).unwrap();
+        self.ring
+            .submit(Descriptor::Wait(status_of(self.sent)))
+            .unwrap();
         self.sent
     }
 
@@ -274,8 +276,8 @@ fn work_off(ring: &mut Ring, unit: &mut Unit, status: u32, descriptor: Descripto
     ensures each { unit.new.done ≡ unit.old.done + (length ring.old.waiting + 2) }
     ensures caching { unit.new.caching ≡ unit.old.caching }
 {
-    let _ = ring.submit(descriptor);
-    let _ = ring.submit(Descriptor::Wait(status));
+    ring.submit(descriptor).unwrap();
+    ring.submit(Descriptor::Wait(status)).unwrap();
     while ring.status() != status {
         unit.step(ring);
     }

@@ -13,7 +13,7 @@
 //! assert_eq!(rt; state.flush(1), Ok(1));
 //! ```
 //!
-//! A caller owes that fewer than 2^56 calls were made of the state (`CALLS_END`). crates/bench/src/driver.rt counts them beside it.
+//! A caller owes that fewer than 2^56 calls were made of the state (`CALLS_END`). `State::calls` tells how many were.
 #![tactic(auto)]
 
 mod domain;

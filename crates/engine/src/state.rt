@@ -29,8 +29,9 @@ use dmatypes::{
     PageRange, Refusal, Reply, Segment, WINDOW_FIRST, WINDOW_LAST, Whim, Width,
 };
 use std::alloc::{AllocError, Global};
+use std::fmt;
 use std::marker::Model;
-use tables::{NoFrames, Pool, Tree};
+use tables::{Pool, Tree};
 use unit::{Contexts, Hit};
 use vtdbits::{ContextEntry, DeviceNumber, DomainId};
 
@@ -139,10 +140,7 @@ impl State {
         let Some(index) = first_vacant(self.domains.as_slice()) else {
             return Err(Refusal::TooManyDomains);
         };
-        let tree = match Tree::new(&mut self.pool, width) {
-            Ok(tree) => tree,
-            Err(NoFrames) => return Err(Refusal::NoFrames),
-        };
+        let tree = Tree::new(&mut self.pool, width)?;
         let room = self.rooms.pop().unwrap();
         self.domains[index] = Some(Domain::new(mode, tree, room));
         Ok(index as u64 + 1)
@@ -215,7 +213,7 @@ impl State {
             return Err(Refusal::NoDomain);
         };
         let room = domain.close(&mut self.pool, &mut self.iommu, id);
-        let _ = self.rooms.push(room);
+        self.rooms.push_reserved(room);
         Ok(())
     }
 
@@ -272,14 +270,8 @@ impl State {
         let Some(domain) = &mut self.domains[place_of(id)] else {
             return Err(Refusal::NoDomain);
         };
-        let wanted = match judge(self.pool.frames(), segments, order, rights) {
-            Ok(wanted) => wanted,
-            Err(refusal) => return Err(refusal),
-        };
-        let first = match domain.map(&mut self.pool, &mut self.iommu, id, segments, wanted) {
-            Ok(first) => first,
-            Err(refusal) => return Err(refusal),
-        };
+        let wanted = judge(self.pool.frames(), segments, order, rights)?;
+        let first = domain.map(&mut self.pool, &mut self.iommu, id, segments, wanted)?;
         Ok(PAGE_BYTES * first)
     }
 
@@ -367,6 +359,21 @@ impl State {
     {
         // What a type keeps is known where something of its value is read.
         let _ = &self.calls;
+    }
+}
+
+// How many domains there are, and how many calls were made.
+impl fmt::Debug for State {
+    fn fmt<W: fmt::Write>(&self, f: &mut fmt::Formatter<W>) -> fmt::Result {
+        let domains = self
+            .domains
+            .iter()
+            .filter(|domain| domain.is_some())
+            .count();
+        f.debug_struct("State")
+            .field("domains", &domains)
+            .field("calls", &self.calls)
+            .finish()
     }
 }
 

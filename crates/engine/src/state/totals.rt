@@ -32,6 +32,13 @@ pub struct DomainTotals {
 }
 
 impl State {
+    /// How many calls were made, the refused ones too. It changes nothing, and isn't counted as a call.
+    pub fn calls(&self) -> u64
+        ensures { result ≡ self.now.calls }
+    {
+        self.calls
+    }
+
     /// What is free, used, held, open and waiting, over all domains. It changes nothing, and isn't counted as a call.
     pub fn totals(&self) -> Totals
         ensures { result ≡ totals_of self.now }

@@ -27,8 +27,16 @@ returns c device =
       | inl there ↦ c.loop-device.invariant.0 device (omega (arith, there, c.loop-device-test.false))
       | inr past ↦
           let none : attached (slice_get c.args.self.now.iommu.contexts device) ≡ None =
-          rw (← c.self.view_is) (ap attached (slice_get_past c.self.inside.iommu.contexts device (omega (arith, past, c.self.invariant.0.devices)))) in (
-            λ set. absurd (omega (arith, set, past, c.loop-device-test.false, c.loop-device.invariant.1 device (omega (arith, past, c.loop-device.auto.device-end)))),
+          rw (← c.self.view_is) (ap attached
+          (slice_get_past c.self.inside.iommu.contexts device (omega (arith, past, c.self.invariant.0.devices)))) in (
+            λ set. absurd (omega (
+              arith,
+              set,
+              past,
+              c.loop-device-test.false,
+              c.loop-device.invariant.1 device
+                  (omega (arith, past, c.loop-device.auto.device-end)),
+            )),
             λ there. absurd (none-some _ (sym none ∙ there)),
           )
     ]

@@ -7,6 +7,7 @@ use Rattle.engine.specs.Domains.{Domain, new_domain}
 use Rattle.engine.specs.State.{State}
 use Rattle.engine.specs.Steps.{Does}
 use Rattle.std.proofs.lemmas.List.{length-set}
+use Rattle.std.proofs.lemmas.Result.{err_from_is_err_and}
 use Rattle.engine.proofs.domains.OneChanged.{at_place, count_set, some_room}
 use Rattle.engine.proofs.domains.Made.{IsEmptyTree, no_id, no_root, makes}
 use Rattle.engine.proofs.states.Refused.{whole_quiet}
@@ -19,25 +20,27 @@ returns-in_default c =
 
 -- ---- no frame is free
 
-abbrev refused : goal.In-Err → State
+abbrev refused : goal.After-from_residual → State
 refused c = record (the_view c.self.inside) {
   pool = c.new.new.pool;
   calls = c.self.inside.calls + 1;
 }
 
-refuses : (c : goal.In-Err) → Does (the_view c.self.inside) (calls.Domain c.args.mode c.args.width) (Refused refusals.NoFrames) (refused c)
+refuses : (c : goal.After-from_residual)
+    → Does (the_view c.self.inside) (calls.Domain c.args.mode c.args.width) (Refused refusals.NoFrames) (refused c)
 refuses c =
     let vacant = rw c.as_slice.ensures.value at c.in-Some.ensures.vacant in
     no_root (the_view c.self.inside) (refused c) c.args.mode c.args.width c.in-Some.index
-    (ap (λ pool. record (the_view c.self.inside) { pool = pool; calls = c.self.inside.calls + 1 }) c.in-Err.ensures.unchanged)
+    (ap (λ pool. record (the_view c.self.inside) { pool = pool; calls = c.self.inside.calls + 1 }) c.in_err-tree.ensures.unchanged)
     c.self.invariant.0.places vacant.0 (at_place c.self.inside.domains.items (c.in-Some.index + 1) c.in-Some.index None refl vacant.1)
-    (c.in-Err.ensures.refused.0 refl)
+    (c.in_err-tree.ensures.refused.0 refl)
 
-pub returns-in-Err : goal.returns-in-Err
-returns-in-Err c = rw (← c.self.view_is) (refuses c)
+pub returns-in_err-tree : goal.returns-in_err-tree
+returns-in_err-tree c =
+    let p = err_from_is_err_and c.from_residual.result c.from_residual.ensures.1 in rw (p.1, p.2, ← c.self.view_is) (refuses c)
 
-pub invariant_of-self-in-Err : goal.invariant_of-self-in-Err
-invariant_of-self-in-Err c = (
+pub invariant_of-self-in_err-tree : goal.invariant_of-self-in_err-tree
+invariant_of-self-in_err-tree c = (
   whole_quiet (the_view c.self.inside) (refused c) (calls.Domain c.args.mode c.args.width) (Refused refusals.NoFrames)
       c.self.invariant.0
       (refuses c) refl refl refl refl refl,
@@ -63,23 +66,24 @@ does : (c : goal.Joined-index_mut) → Does (the_view c.self.inside) (calls.Doma
     (after c)
 does c =
     let vacant = rw c.as_slice.ensures.value at c.in-Some.ensures.vacant in
-    let grown : IsEmptyTree c.self.inside.pool c.new.new.pool c.args.width c.in-Ok.tree.root =
+    let grown : IsEmptyTree c.self.inside.pool c.new.new.pool c.args.width c.in_ok-tree.tree.root =
     record {
       roots =
           record {
-            free = c.in-Ok.ensures.free;
-            count = c.in-Ok.ensures.count;
-            words = c.in-Ok.ensures.words;
-            frames = c.in-Ok.ensures.size;
+            free = c.in_ok-tree.ensures.free;
+            count = c.in_ok-tree.ensures.count;
+            words = c.in_ok-tree.ensures.words;
+            frames = c.in_ok-tree.ensures.size;
           };
-      empty = c.in-Ok.ensures.empty;
-      spelled = c.in-Ok.ensures.spelled;
-      frames = c.in-Ok.ensures.frames;
-      pool = c.in-Ok.ensures.pool;
+      empty = c.in_ok-tree.ensures.empty;
+      spelled = c.in_ok-tree.ensures.spelled;
+      frames = c.in_ok-tree.ensures.frames;
+      pool = c.in_ok-tree.ensures.pool;
     } in
-    let new : c.new-2.result ≡ new_domain c.args.mode c.args.width c.in-Ok.tree.root =
-    c.new-2.ensures.new ∙ ap (λ n. new_domain c.args.mode n c.in-Ok.tree.root) c.in-Ok.ensures.width in
-    makes (the_view c.self.inside) (after c) c.args.mode c.args.width c.in-Some.index c.in-Ok.tree.root c.self.invariant.0.places vacant.0
+    let new : c.new-2.result ≡ new_domain c.args.mode c.args.width c.in_ok-tree.tree.root =
+    c.new-2.ensures.new ∙ ap (λ n. new_domain c.args.mode n c.in_ok-tree.tree.root) c.in_ok-tree.ensures.width in
+    makes (the_view c.self.inside) (after c) c.args.mode c.args.width c.in-Some.index c.in_ok-tree.tree.root
+    c.self.invariant.0.places vacant.0
     (at_place c.self.inside.domains.items (c.in-Some.index + 1) c.in-Some.index None refl vacant.1)
     (rw c.as_slice.ensures.value at c.in-Some.ensures.first) grown
     (rw new at c.new-2.ensures.space) (rw new at c.new-2.ensures.free)

@@ -1,4 +1,3 @@
-use Rattle.std.specs.Prelude.{IsOk}
 use Rattle.std.proofs.Common.{◌∙◌, ℕ, ◌≡◌, List, [], ◌∷◌, None, Some, ap, arith, inl, inr, map, refl, slice_get, sym}
 use Rattle.dmatypes.specs.declared.call.Call.TheVariants as calls
 use Rattle.dmatypes.specs.declared.reply.Reply.TheVariants.{Done}
@@ -60,12 +59,12 @@ close-room-requires-clause-made c =
     (sym c.in-Some-take.ensures.value) in
     c.self.invariant.0.made c.in-Some-take.domain (domain_in _ c.args.domain c.in-Some-take.domain found.there)
 
-found_by : (c : goal.Joined-push) → Finds (the_view c.self.inside) c.args.domain c.place_of.result (Some c.in-Some-take.domain)
+found_by : (c : goal.After-push_reserved) → Finds (the_view c.self.inside) c.args.domain c.place_of.result (Some c.in-Some-take.domain)
 found_by c =
     finds c.self.invariant.0 c.in-Some.ensures.value c.place_of.ensures.place c.place_of.ensures.low c.index_mut.ensures.value
     (sym c.in-Some-take.ensures.value)
 
-did : (c : goal.Joined-push) → Did (the_view c.self.inside) (calls.Drop c.args.domain) Done
+did : (c : goal.After-push_reserved) → Did (the_view c.self.inside) (calls.Drop c.args.domain) Done
     (changed (the_view c.self.inside) c.place_of.result c.close-room.new.pool None c.close-room.new.iommu)
 did c =
     let found = found_by c in
@@ -79,16 +78,22 @@ did c =
     drop_did (the_view c.self.inside) c.args.domain c.place_of.result c.in-Some-take.domain c.close-room.new.pool
     c.close-room.new.iommu c.self.invariant.0 found.less found.id found.there nobody untold closes
 
+pub push_reserved-requires : goal.push_reserved-requires
+push_reserved-requires c =
+    let found =
+    finds c.self.invariant.0 c.in-Some.ensures.value c.place_of.ensures.place c.place_of.ensures.low c.index_mut.ensures.value
+    (sym c.in-Some-take.ensures.value) in
+    let fewer = count_set c.self.inside.domains.items c.place_of.result (Some c.in-Some-take.domain) None found.at in
+    omega (arith, fewer, c.self.invariant.1.count, c.self.invariant.1.roomy)
+
 pub invariant_of-self-2 : goal.invariant_of-self-2
 invariant_of-self-2 c =
     let fewer = count_set c.self.inside.domains.items c.place_of.result (Some c.in-Some-take.domain) None (found_by c).at in
-    let pushed : IsOk c.push.result = c.push.ensures.succeeds (omega (arith, fewer, c.self.invariant.1.count, c.self.invariant.1.roomy)) in
-    let more = rw pushed at c.push.ensures.len in
     rw c.take.ensures.after (
       (did c).whole,
       record {
-        count = omega (arith, fewer, c.self.invariant.1.count, more);
-        roomy = omega (arith, c.self.invariant.1.roomy, c.push.ensures.capacity);
+        count = omega (arith, fewer, c.self.invariant.1.count, c.push_reserved.ensures.len);
+        roomy = omega (arith, c.self.invariant.1.roomy, c.push_reserved.ensures.capacity);
       },
     )
 
