@@ -50,10 +50,7 @@ pub fn next_line<R: Source, W: Sink, const MOST: usize>(
             Taken::Long => return Ok(LineEnd::Long),
             Taken::More => {}
         }
-        match writer.flush() {
-            Ok(()) => {}
-            Err(Failed) => return Err(StreamError::Write),
-        }
+        writer.flush().map_err(|_| StreamError::Write)?;
         match reader.fill() {
             Ok(true) => {}
             Ok(false) if line.is_empty() => return Ok(LineEnd::Nothing),

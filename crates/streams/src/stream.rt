@@ -1,6 +1,7 @@
 //! A reader or a writer that works in blocks, and remembers whether it has failed.
 
-ghost use Rattle.std.specs.Prelude.{◌≡◌, ◌≢◌, ◌≤◌, ◌<◌, ◌+◌, ◌++◌, ◌∷◌, [], true, false, length, take, drop, OnOk, OnErr, IfSome, IfNone, is_err, is_ok, if◌then◌else◌};
+ghost use Rattle.std.specs.Prelude.{◌≡◌, ◌≢◌, ◌≤◌, ◌<◌, ◌+◌, ◌++◌, ◌∷◌, [], true, false, length, take, drop, OnOk, OnErr, IfSome};
+ghost use Rattle.std.specs.Prelude.{IfNone, is_err, is_ok, if◌then◌else◌};
 ghost use Rattle.std.specs.Io.KnownBytes.{Appends, Consumes, IsAtEnd};
 ghost use Rattle.streams.specs.Bytes.{EndsLine, Filled, IsUnbroken, Sent, SentFront, TakesLine};
 
@@ -157,10 +158,7 @@ impl<W: Sink> Stream<W> {
         let Err(Full) = self.block.append(text) else {
             return Ok(());
         };
-        match self.flush() {
-            Ok(()) => {}
-            Err(failed) => return Err(failed),
-        }
+        self.flush()?;
         self.block.refill(text);
         Ok(())
     }
@@ -177,9 +175,7 @@ impl<W: Sink> Stream<W> {
             self.old.block text.now) }
         ensures failed { W.has_failed self.new.wrapped ≡ is_err result }
     {
-        match self.put(text) {
-            Ok(()) => self.flush(),
-            Err(failed) => Err(failed),
-        }
+        self.put(text)?;
+        self.flush()
     }
 }

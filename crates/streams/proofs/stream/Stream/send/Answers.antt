@@ -6,11 +6,13 @@ always : {A E : Type 0} (r : Result A E) (P : Type 0) → P → OnErr r P
 always (Ok a) P p = tt
 always (Err e) P p = p
 
-pub returns-in-Ok-clause-front : goal.returns-in-Ok-clause-front
-returns-in-Ok-clause-front g c =
+pub returns-clause-front : goal.returns-clause-front
+returns-clause-front g c =
     always c.flush.result _ (front_with _ _ c.args.self.now.block c.flush.new.self.block c.args.text.now
-    (sent_on _ _ _ c.args.self.now.block c.put.new.self.block c.flush.new.self.block c.args.text.now c.in-Ok.ensures.sent
+    (sent_on _ _ _ c.args.self.now.block c.put.new.self.block c.flush.new.self.block c.args.text.now c.in_ok-put.ensures.sent
     c.flush.ensures.sent))
 
-pub returns-in-Err-clause-front : goal.returns-in-Err-clause-front
-returns-in-Err-clause-front g c = front_without _ _ c.args.self.now.block c.put.new.self.block c.args.text.now c.in-Err.ensures.sent
+pub returns-in_err-put-clause-front : goal.returns-in_err-put-clause-front
+returns-in_err-put-clause-front g c =
+    always c.from_residual.result _
+    (front_without _ _ c.args.self.now.block c.put.new.self.block c.args.text.now c.in_err-put.ensures.sent)

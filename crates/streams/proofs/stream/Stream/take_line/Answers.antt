@@ -1,4 +1,5 @@
-use Rattle.std.proofs.Common.{◌≡◌, ◌+◌, ◌-◌, ◌++◌, ◌⊎◌, List, ℕ, take, refl, subst, sym, ap, ◌∙◌, drop, length, length-append, arith, inl, inr}
+use Rattle.std.proofs.Common.{◌≡◌, ◌+◌, ◌-◌, ◌++◌, ◌⊎◌, List, ℕ, take, refl, subst, sym, ap, ◌∙◌, drop, length, length-append}
+use Rattle.std.proofs.Common.{arith, inl, inr}
 use Rattle.std.proofs.lemmas.List.{length-take-le}
 use Rattle.streams.specs.Bytes.{TakesLine}
 use Rattle.streams.specs.declared.stream.Taken.{Taken}
@@ -30,7 +31,8 @@ returns-in-Newline g c =
         full,
       );
       bytes = subst
-          (λ (b : List ℕ). TakesLine g.row.MOST b c.advance.new.self c.args.line.now.items c.move_to.new.line.items c.line_end-count.result.1)
+          (λ (b : List ℕ). TakesLine g.row.MOST b c.advance.new.self c.args.line.now.items c.move_to.new.line.items
+          c.line_end-count.result.1)
           c.as_slice.ensures
           (ended g.row.MOST (g.row.MOST - c.len.result) count c.as_slice.result.now c.advance.new.self
           c.args.line.now.items c.move_to.new.line.items c.line_end-count.result.1 c.line_end-count.ensures.end
