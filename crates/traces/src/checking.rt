@@ -8,7 +8,7 @@ use crate::error::CheckError;
 use crate::finding::Finding;
 use arrayvec::ArrayVec;
 use checker::{Checker, LONGEST_TRACE_LINE, parse_event};
-use std::alloc::{AllocError, Global};
+use std::alloc::Global;
 use std::io::Read;
 use std::sync::Wait;
 use streams::{Counted, LineEnd, NoSink, Source, Stream, StreamError, next_line};
@@ -72,16 +72,11 @@ fn check_lines<T: Wait, R: Source>(
         let Some(event) = parse_event(line.as_slice()) else {
             return Err(CheckError::BadLine(number));
         };
-        match checker.judge(&event.call, event.reply) {
-            Ok(true) => number = number.saturating_add(1),
-            Ok(false) => {
-                return match Finding::of(&checker, alloc, number, event) {
-                    Ok(finding) => Ok(Judgement::Illegal(finding)),
-                    Err(AllocError) => Err(CheckError::NoMemory),
-                };
-            }
-            Err(AllocError) => return Err(CheckError::NoMemory),
+        if !checker.judge(&event.call, event.reply)? {
+            let finding = Finding::of(&checker, alloc, number, event)?;
+            return Ok(Judgement::Illegal(finding));
         }
+        number = number.saturating_add(1);
     }
     unreachable!()
 }
