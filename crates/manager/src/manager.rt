@@ -21,6 +21,8 @@ use std::alloc::{AllocError, Global};
 use std::marker::{Model, PhantomData};
 use std::sync::{Mutex, MutexGuard, Wait};
 
+mod debug;
+
 /// A book under its lock.
 #[derive(Drop)]
 pub struct Manager<B: Owner> {
