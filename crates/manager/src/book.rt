@@ -239,6 +239,7 @@ impl<B: Owner> Book<B> {
         ensures none { length self.old.history < end_of B.room B.most self.old → (self.new ≡ self.old) × (epoch.new ≡ epoch.old) }
         ensures handed { length self.old.history ≡ end_of B.room B.most self.old → B.room < B.most
             → (epoch.new ≡ record { first = self.old.handed; events = kept_events self.old }) × (mine.new.seen ≡ self.old.history) }
+        ensures all_kept { B.most ≡ B.room → (self.new ≡ self.old) × (epoch.new ≡ epoch.old) × (mine.new ≡ mine.old) }
         ensures seen { IsPrefix mine.old.seen mine.new.seen × (mine.new.calls ≡ mine.old.calls) }
         ensures same { (self.new.history ≡ self.old.history) × (self.new.state ≡ self.old.state) × (self.new.last ≡ self.old.last) }
         ensures kept { IsKept B.frames B.room B.mode B.most self.new }
