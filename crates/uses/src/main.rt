@@ -46,17 +46,19 @@ fn two_drivers<B: Owner + Send + Sync, R: Threads + Wait + Sync, W: Write>(
         || map_page(rt, &manager, &rows, one),
         || map_page(rt, &manager, &rows, two),
     );
-    for mut port in made.ports.into_iter().take(1) {
-        // The device asks its port, which takes no lock, and where that can't answer, the unit, under the lock.
-        if port.hit(&rows, 0x1000, Access::Read).0.is_none() {
-            call(rt, &manager, &rows, &mut mine, b"dma 0 0x1000 r look fill");
-        }
-        let (host, _) = port.hit(&rows, 0x1000, Access::Read);
-        writeln!(output, "hit without the lock: {:#x}", host.unwrap_or(0))?;
-        // Behind an unmap, the port never again answers by that page once it has checked in.
-        call(rt, &manager, &rows, &mut mine, b"unmap 1 0x1000 1");
-        manager.check_in(rt, &rows, &mut mine, &mut port);
+    // The ports are those of devices 0 to 15, in order.
+    let Some(mut port) = made.ports.into_iter().next() else {
+        return Ok(());
+    };
+    // The device asks its port, which takes no lock, and where that can't answer, the unit, under the lock.
+    if port.hit(&rows, 0x1000, Access::Read).0.is_none() {
+        call(rt, &manager, &rows, &mut mine, b"dma 0 0x1000 r look fill");
     }
+    let (host, _) = port.hit(&rows, 0x1000, Access::Read);
+    writeln!(output, "hit without the lock: {:#x}", host.unwrap_or(0))?;
+    // Behind an unmap, the port never again answers by that page once it has checked in.
+    call(rt, &manager, &rows, &mut mine, b"unmap 1 0x1000 1");
+    manager.check_in(rt, &rows, &mut mine, &mut port);
     for share in [one, two, mine] {
         shares.push(share)?;
     }
