@@ -1,4 +1,5 @@
 pub mod Above
+pub mod Aligned
 pub mod Fit
 pub mod Found
 pub mod FromFloor

@@ -16,7 +16,7 @@ use crate::carved::Sought;
 use crate::links::longest;
 use crate::node::{NUMBERS_END, Node};
 use crate::piece::{PageState, Piece};
-use crate::search::{first_above, first_free, lowest_fit};
+use crate::search::{first_above, first_free, lowest_fit, round_up};
 use crate::way::{Found, Held, InMind, Known, MOST_HEIGHT, Spot, Step, walk};
 use slab::Slab;
 
@@ -143,8 +143,14 @@ fn first_fit(
         let spot = first_free(nodes, root, sought.pages, way)?;
         return Some(spot.start);
     }
-    if sought.unit == 1 {
-        return first_above(nodes, root, floor, sought.pages, way);
+    // From the first page on what came free last was tried before.
+    if sought.unit != 1 && floor <= 1 {
+        return lowest_fit(nodes, root, floor, sought.pages, sought.unit);
+    }
+    // Where all pieces were taken at one order, the first pages that are enough are aligned as well.
+    let start = first_above(nodes, root, floor, sought.pages, way)?;
+    if round_up(start, sought.unit) == start {
+        return Some(start);
     }
     lowest_fit(nodes, root, floor, sought.pages, sought.unit)
 }
