@@ -15,9 +15,9 @@
 #![tactic(auto)]
 
 mod answering;
+mod drawing;
 mod error;
 pub mod laws;
-mod map;
 mod memory;
 mod running;
 

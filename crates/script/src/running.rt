@@ -8,8 +8,8 @@ ghost use Rattle.script.specs.Run.{IsAllSent, RanKnown};
 ghost use Rattle.script.specs.declared.answering.Replies.TheVariants.{Traced, Written};
 
 use crate::answering::{Replies, answer_lines};
+use crate::drawing::send_drawing;
 use crate::error::RunError;
-use crate::map::send_map;
 use manager::{Config, Made, Manager, Owner, Report, Seed};
 use std::alloc::{AllocError, Global};
 use std::io::{Read, Write};
@@ -263,7 +263,7 @@ fn work_on<B: Owner, T: Wait, R: Source, W: Sink>(
         Output::Map(mut text) => {
             book.write_report(&mut text);
             let end = send_report(writer, &text, end);
-            send_map(writer, book.state(), end)
+            send_drawing(writer, book.state(), end)
         }
     }
 }

@@ -37,10 +37,10 @@ returns-in-Answers-clause-written g c =
 pub returns-clause-written : goal.returns-clause-written
 returns-clause-written g c =
     map_known _ c.args.output c.replies_for.result _ _ _ _ _ _ _ _ _ c.answer_lines-end.new.writer.block
-    c.send_report-end.new.writer.block c.send_map.new.writer.block c.answer_lines-end.new.book c.answer_lines-end.result
-    c.send_report-end.result c.send_map.result c.in-Map.is c.replies_for.ensures c.answer_lines-end.ensures.written
+    c.send_report-end.new.writer.block c.send_drawing.new.writer.block c.answer_lines-end.new.book c.answer_lines-end.result
+    c.send_report-end.result c.send_drawing.result c.in-Map.is c.replies_for.ensures c.answer_lines-end.ensures.written
     c.answer_lines-end.ensures.all_sent (λ e. c.answer_lines-end.ensures.memory (rw e refl))
-    (rw c.write_report-in-Map.ensures at c.send_report-end.ensures.sent) c.send_map.ensures.sent
+    (rw c.write_report-in-Map.ensures at c.send_report-end.ensures.sent) c.send_drawing.ensures.sent
 
 pub returns-in-Report-clause-written : goal.returns-in-Report-clause-written
 returns-in-Report-clause-written g c =

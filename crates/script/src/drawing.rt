@@ -1,4 +1,4 @@
-//! The map of a manager's address spaces: which runs of their pages are live, retired and free, and the retired records.
+//! Draws a manager's address spaces: which runs of their pages are live, retired and free, and the retired records.
 
 ghost use Rattle.std.specs.Prelude.{◌≡◌, ◌↔◌, ◌⊎◌, ℕ, List, [], Err, true, false, is_err, IsErrOf, OnOk};
 ghost use Rattle.streams.specs.Bytes.{PutsSome};
@@ -18,8 +18,8 @@ const LINE_BYTES: usize = 101;
 
 type Line = ArrayString<LINE_BYTES>;
 
-/// Writes the map at the end of a report. Nothing follows a write that failed.
-pub(crate) fn send_map<W: Sink>(
+/// Draws the address spaces at the end of a report. Nothing follows a write that failed.
+pub(crate) fn send_drawing<W: Sink>(
     writer: &mut Stream<W>,
     state: &State,
     end: Result<(), RunError>,
@@ -39,7 +39,7 @@ pub(crate) fn send_map<W: Sink>(
     }
 }
 
-// The map is written, to its last byte.
+// The drawing is written, to its last byte.
 #[tactic(auto, using(streams::proofs::Known::puts_nothing, streams::proofs::Known::puts_more))]
 fn draw<W: Sink>(writer: &mut Stream<W>, state: &State) -> Result<(), Failed>
     requires { W.has_failed writer.old.wrapped ≡ false }

@@ -1,6 +1,6 @@
 use Rattle.std.proofs.Common.{rules}
 use Rattle.streams.proofs.Known.{puts_more}
-use Rattle.script.proofs.map.put_runs.Goals as goal
+use Rattle.script.proofs.drawing.put_runs.Goals as goal
 
 pub loop-piece-preserved : goal.loop-piece-preserved
 loop-piece-preserved g c = record {

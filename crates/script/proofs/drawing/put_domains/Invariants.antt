@@ -1,6 +1,6 @@
 use Rattle.std.proofs.Common.{◌≡◌, false}
 use Rattle.streams.specs.Bytes.{PutsSome}
-use Rattle.script.proofs.map.put_domains.Given as goal
+use Rattle.script.proofs.drawing.put_domains.Given as goal
 
 -- some text was put so far, and no write has failed
 abbrev pub invariant-loop-index : goal.invariant-loop-index

@@ -1,10 +1,10 @@
 use Rattle.std.proofs.Common.{◌≡◌, false}
 use Rattle.streams.specs.Bytes.{PutsSome}
-use Rattle.script.proofs.map.put_runs.Given as goal
+use Rattle.script.proofs.drawing.put_records.Given as goal
 
 -- some text was put so far, and no write has failed
-abbrev pub invariant-loop-piece : goal.invariant-loop-piece
-invariant-loop-piece g l = record {
+abbrev pub invariant-loop-index : goal.invariant-loop-index
+invariant-loop-index g l = record {
   put : PutsSome (g.W.Sink.contents l.fn.writer.wrapped) (g.W.Sink.contents l.writer.wrapped) l.fn.writer.block l.writer.block;
   unfailed : g.W.Sink.has_failed l.writer.wrapped ≡ false;
 }

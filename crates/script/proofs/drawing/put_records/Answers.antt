@@ -1,6 +1,6 @@
 use Rattle.std.proofs.Common.{rules}
 use Rattle.streams.proofs.Known.{puts_more}
-use Rattle.script.proofs.map.put_records.Goals as goal
+use Rattle.script.proofs.drawing.put_records.Goals as goal
 
 pub returns-in_err-put_line-clause-put : goal.returns-in_err-put_line-clause-put
 returns-in_err-put_line-clause-put g c = puts_more _ _ _ _ _ _ c.loop-index.invariant.put c.put_line.ensures.put
