@@ -143,11 +143,12 @@ fn first_fit(
         let spot = first_free(nodes, root, sought.pages, way)?;
         return Some(spot.start);
     }
-    // From the first page on what came free last was tried before.
-    if sought.unit != 1 && floor <= 1 {
+    // Without a floor (1) what came free last was tried before; of all pages (0) is sought only where none are enough from the floor on.
+    // And what lies behind pages whose number is no multiple of the unit begins askew mostly.
+    if floor <= 1 || sought.pages & (sought.unit - 1) != 0 {
         return lowest_fit(nodes, root, floor, sought.pages, sought.unit);
     }
-    // Where all pieces were taken at one order, the first pages that are enough are aligned as well.
+    // Where the floor and all lengths taken are multiples of the unit, the first pages that are enough begin at one as well.
     let start = first_above(nodes, root, floor, sought.pages, way)?;
     if round_up(start, sought.unit) == start {
         return Some(start);

@@ -1,4 +1,4 @@
--- The first pages that are enough, where they begin at a multiple of the unit: no others that do begin before them.
+-- The first pages that are enough: where they begin at a multiple of the unit, they are the first of those that do.
 use Rattle.std.proofs.Common.{◌≡◌, ℕ, ◌%◌, List, [], ◌∷◌}
 use Rattle.std.specs.List.{AllByRecursion}
 use Rattle.iova.specs.declared.piece.Piece.{Piece}
@@ -12,6 +12,7 @@ none_aligned floor pages unit [] n = tt
 none_aligned floor pages unit (p ∷ ps) n =
     (λ free t a b c. n.0 free t a (one_divides t) c, none_aligned floor pages unit ps n.1)
 
+-- what is found anywhere is found at a multiple, where it begins at one
 pub found_aligned : (floor pages unit : ℕ) (ps : List Piece) (start : ℕ) → start % unit ≡ 0 → IsFound floor pages 1 ps start
     → IsFound floor pages unit ps start
 found_aligned floor pages unit ps start multiple f = record {
