@@ -18,6 +18,7 @@ mod full;
 mod handing_on;
 mod hits;
 mod quiet_thread;
+mod shown;
 mod unit_thread;
 
 // The seed of a manager of this size.

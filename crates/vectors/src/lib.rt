@@ -1,7 +1,7 @@
 //! Tests alone, by public calls: vectors of numbers, texts and bit layouts (`dmatypes`, `vtdbits`), takes of device addresses
-//! (`iova`), a tree (`tables`), a full ring (`queue`), hits without the lock (`ports`), and judged traces (`checker`) (own). They
-//! stand apart from the crates they test, for the check of a crate's tests proves the whole crate once more. `rt try --test` runs
-//! them unproved.
+//! (`iova`), a tree (`tables`), what is shown of a space and a pool, a full ring (`queue`), hits without the lock (`ports`), and judged
+//! traces (`checker`) (own). They stand apart from the crates they test, for the check of a crate's tests proves the whole crate once
+//! more. `rt try --test` runs them unproved.
 #![tactic(auto)]
 
 #[cfg(test)]
@@ -14,6 +14,8 @@ mod layouts;
 mod lines;
 #[cfg(test)]
 mod ring;
+#[cfg(test)]
+mod shown;
 #[cfg(test)]
 mod texts;
 #[cfg(test)]
