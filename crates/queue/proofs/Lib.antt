@@ -1,3 +1,4 @@
 pub mod Windows
 pub mod Waiting
 pub mod Taken
+pub mod Submitted

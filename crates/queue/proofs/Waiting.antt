@@ -14,7 +14,7 @@ use Rattle.queue.proofs.Windows.{length-window, window-none, window_set, window_
 abbrev pub IsSpelled : Words → Type 0
 IsSpelled w = IsSome (descriptor_of w)
 
-some_of : {Y : Type 0} (r : Option Y) → IsSome r → (y : Y) × (r ≡ Some y)
+pub some_of : {Y : Type 0} (r : Option Y) → IsSome r → (y : Y) × (r ≡ Some y)
 some_of None h = absurd (cc)
 some_of (Some y) h = (y, refl)
 

@@ -1,5 +1,5 @@
 -- What the callers of a ring see.
-use Rattle.std.specs.Prelude.{ℕ, ◌-◌, List, [], ◌∷◌, ◌++◌, length, take}
+use Rattle.std.specs.Prelude.{ℕ, ◌-◌, List, [], ◌∷◌, ◌++◌, length, take, reverse}
 use Rattle.queue.specs.declared.ring.TheConstants.Ring.{CAPACITY}
 use Rattle.vtdbits.specs.declared.descriptor.Descriptor.{Descriptor}
 
@@ -9,6 +9,11 @@ pub record Ring : Type 0 where
   pub waiting : List Descriptor
   pub status : ℕ
   pub taken : List Descriptor
+
+-- the descriptors that were submitted last, the last one first: those that wait, and then what was taken, as far as the page still
+-- holds it
+abbrev pub submitted_in : Ring → List Descriptor
+submitted_in q = reverse q.waiting ++ q.taken
 
 abbrev pub ring_of : List Descriptor → ℕ → List Descriptor → Ring
 ring_of waiting status taken = record { waiting = waiting; status = status; taken = taken }

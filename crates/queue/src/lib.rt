@@ -9,6 +9,7 @@
 //! assert!(rt; ring.submit(Descriptor::IotlbGlobal).is_ok());
 //! assert!(rt; ring.submit(Descriptor::Wait(7)).is_ok());
 //! assert_eq!(rt; ring.pending(), 2);
+//! assert!(rt; ring.submitted(1).is_some_and(|d| d == Descriptor::IotlbGlobal));
 //!
 //! // The unit's side: the oldest comes first, and a wait's number becomes the status.
 //! assert!(rt; ring.fetch().is_some_and(|d| d == Descriptor::IotlbGlobal));

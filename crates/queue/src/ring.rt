@@ -1,7 +1,7 @@
 //! The ring and its status.
 
-ghost use Rattle.std.specs.Prelude.{◌≡◌, ◌+◌, ◌%◌, ◌<◌, ◌≤◌, ◌↔◌, [], ◌∷◌, length, IsTrue, IsErr, IfSome, IfNone, OnOk, OnErr};
-ghost use Rattle.queue.specs.Ring.{ring_of, with_last};
+ghost use Rattle.std.specs.Prelude.{◌≡◌, ◌+◌, ◌%◌, ◌<◌, ◌≤◌, ◌↔◌, [], ◌∷◌, length, slice_get, IsTrue, IsErr, IfSome, IfNone, OnOk, OnErr};
+ghost use Rattle.queue.specs.Ring.{ring_of, submitted_in, with_last};
 
 use crate::error::RingFull;
 use std::marker::Model;
@@ -83,6 +83,22 @@ impl Ring {
             unreachable!()
         };
         Some(descriptor)
+    }
+
+    /// The descriptor that was submitted last where `back` is 0, the one before it where it is 1, and so on: those that wait,
+    /// and then those that were taken. `None` where the page doesn't hold it any more.
+    pub fn submitted(&self, back: u64) -> Option<Descriptor>
+        ensures { result ≡ slice_get (submitted_in self.now) back }
+    {
+        let last = self.tail + PAIRS - 1;
+        if back >= PAIRS as u64 {
+            return None;
+        }
+        // Nothing is told behind a pair that spells none, so each pair on the way is tested.
+        for newer in 0..back as usize {
+            Descriptor::decode(self.page[(last - newer) % PAIRS])?;
+        }
+        Descriptor::decode(self.page[(last - back as usize) % PAIRS])
     }
 
     /// How many descriptors wait.
