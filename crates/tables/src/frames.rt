@@ -104,6 +104,16 @@ impl Pool {
         self.words[(frame.number() * TABLE_ENTRIES + index) as usize]
     }
 
+    /// The 512 words of a frame of the pool, index 0 first. They lie one after the other.
+    pub fn words_of(&self, frame: Frame) -> &[u64]
+        requires { frame < self.now.frames }
+        ensures length { length result.now ≡ TABLE_ENTRIES }
+        ensures words { (k : ℕ) → k < TABLE_ENTRIES → slice_index result.now k ≡ word self.now.words frame k }
+    {
+        let start = (frame.number() * TABLE_ENTRIES) as usize;
+        &self.words[start..start + TABLE_ENTRIES as usize]
+    }
+
     /// Sets a word of a frame that isn't free.
     pub(crate) fn write(&mut self, frame: Frame, index: u64, value: u64)
         requires frame { frame < self.old.frames }
