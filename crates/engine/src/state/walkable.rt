@@ -1,17 +1,18 @@
 //! What is read by whoever lays the tables out in a memory that a unit walks. None of it changes anything, or is counted as a
 //! call.
 
-ghost use Rattle.std.specs.Prelude.{◌≡◌, ◌<◌, ◌↔◌, IfSome, IsSome};
+ghost use Rattle.std.specs.Prelude.{◌≡◌, ℕ, ◌<◌, ◌↔◌, length, slice_get, slice_index, IfSome, IsSome};
 ghost use Rattle.dmatypes.specs.declared.limits.TheConstants.{DEVICES};
 ghost use Rattle.engine.specs.Domains.{domain_at};
 ghost use Rattle.engine.specs.Walkable.{SpellsContext, root_of};
+ghost use Rattle.queue.specs.Ring.{submitted_in};
 ghost use Rattle.tables.specs.Pool.{word};
 ghost use Rattle.tables.specs.declared.entries.TheConstants.{TABLE_ENTRIES};
 
 use super::{State, place_of};
 use dmatypes::{DEVICES, Frame};
 use tables::TABLE_ENTRIES;
-use vtdbits::{DomainId, Words};
+use vtdbits::{Descriptor, DomainId, Words};
 
 impl State {
     /// The frame of the root table of a domain; `None` exactly where there is no such domain.
@@ -38,6 +39,22 @@ impl State {
         Some(self.pool.read(Frame::new(frame)?, index))
     }
 
+    /// The 512 words of a table frame, index 0 first: second-stage entries where the frame is of a tree. `None` exactly where
+    /// there is no such table frame.
+    pub fn table_words(&self, frame: u64) -> Option<&[u64]>
+        ensures length { IfSome result (λ found. length found.now ≡ TABLE_ENTRIES) }
+        ensures words { IfSome result (λ found.
+            (k : ℕ) → k < TABLE_ENTRIES → slice_index found.now k ≡ word self.now.pool.words frame k) }
+        ensures some { IsSome result ↔ (frame < self.now.pool.frames) }
+    {
+        if frame >= self.pool.frames() {
+            return None;
+        }
+        // A pool has few frames, which is known where its free ones are counted: so the number is a frame's.
+        let _ = self.pool.free_count();
+        Some(self.pool.words_of(Frame::new(frame)?))
+    }
+
     /// The two words of a device's entry in the row of contexts; `None` exactly where there is no such device.
     pub fn context_words(&self, device: u64) -> Option<Words>
         ensures words { IfSome result (SpellsContext self.now device) }
@@ -48,5 +65,21 @@ impl State {
             return None;
         }
         Some(contexts.get(device).encode())
+    }
+
+    /// The descriptor that was sent last where `back` is 0, the one before it where it is 1, and so on. `None` where the ring
+    /// doesn't hold it any more.
+    pub fn sent(&self, back: u64) -> Option<Descriptor>
+        ensures { result ≡ slice_get (submitted_in self.now.iommu.ring) back }
+    {
+        self.iommu.ring.submitted(back)
+    }
+
+    /// How many waits were sent, which is the number of the last one: 0 before the first. A wait writes its number's low 32 bits
+    /// as the status.
+    pub fn waits(&self) -> u64
+        ensures { result ≡ self.now.iommu.sent }
+    {
+        self.iommu.sent()
     }
 }
