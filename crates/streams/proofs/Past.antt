@@ -2,8 +2,8 @@
 use Rattle.std.proofs.Common.{◌≡◌, ℕ, zero, suc, ◌+◌, ◌≤◌, ◌<◌, List, [], ◌∷◌, ◌++◌, length, take, drop, refl, sym, ap, subst, ◌∙◌, arith}
 use Rattle.std.proofs.lemmas.List.{length-append, length-take-le}
 use Rattle.streams.specs.Bytes.{EndsLine, IsUnbroken, TakesLine}
-use Rattle.streams.specs.declared.stream.Taken.{Taken}
-use Rattle.streams.specs.declared.stream.Taken.TheVariants as parts
+use Rattle.streams.specs.declared.stream.LineScan.{LineScan}
+use Rattle.streams.specs.declared.stream.LineScan.TheVariants as parts
 
 pub unbroken_within : (bytes : List ℕ) (k i : ℕ) → k ≤ i → IsUnbroken (take i bytes) → IsUnbroken (take k bytes)
 unbroken_within bytes zero i within whole = tt
@@ -33,7 +33,7 @@ drop_more (suc k) [] = refl
 drop_more (suc k) (b ∷ bytes) = drop_more k bytes
 
 -- so many bytes, and the one behind them
-pub ended : (most room count : ℕ) (block rest line longer : List ℕ) (taken : Taken) → EndsLine block room count taken
+pub ended : (most room count : ℕ) (block rest line longer : List ℕ) (taken : LineScan) → EndsLine block room count taken
     → (taken ≡ parts.More → ⊥) → count ≤ length block → longer ≡ line ++ take count block → rest ≡ drop 1 (drop count block)
     → length line + room ≡ most → TakesLine most block rest line longer taken
 ended most room count block rest line longer parts.Newline end more within is left full = (

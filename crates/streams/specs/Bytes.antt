@@ -2,8 +2,8 @@
 use Rattle.std.specs.Prelude.{◌≡◌, ◌≢◌, ◌<◌, ◌+◌, take, drop, ℕ, Bool, true, false, length, List, [], ◌∷◌, ◌++◌, Option, Result, Ok, Err}
 use Rattle.std.specs.List.{AllByRecursion}
 use Rattle.std.specs.Io.KnownBytes.{Appends, Consumes, IsAtEnd}
-use Rattle.streams.specs.declared.stream.Taken.{Taken}
-use Rattle.streams.specs.declared.stream.Taken.TheVariants as parts
+use Rattle.streams.specs.declared.stream.LineScan.{LineScan}
+use Rattle.streams.specs.declared.stream.LineScan.TheVariants as parts
 use Rattle.streams.specs.declared.error.StreamError.{StreamError}
 use Rattle.streams.specs.declared.error.StreamError.TheVariants as errors
 use Rattle.streams.specs.declared.line.LineEnd.{LineEnd}
@@ -21,7 +21,7 @@ Filled old new block (Err e) = Consumes old new [] × (block ≡ [])
 
 -- bytes of the block were moved to the line: up to a newline, or all of them, or up to a byte for which
 -- a line of at most so many bytes has no room
-abbrev pub TakesLine : ℕ → List ℕ → List ℕ → List ℕ → List ℕ → Taken → Type 0
+abbrev pub TakesLine : ℕ → List ℕ → List ℕ → List ℕ → List ℕ → LineScan → Type 0
 TakesLine most block rest line longer parts.Newline =
     (more : List ℕ) × (longer ≡ line ++ more) × (block ≡ more ++ 10 ∷ rest) × IsUnbroken more
 TakesLine most block rest line longer parts.More = (longer ≡ line ++ block) × (rest ≡ []) × IsUnbroken block
@@ -31,7 +31,7 @@ TakesLine most block rest line longer parts.Long =
 
 -- where a line with so much room ends in these bytes: at the newline behind so many, or at the last of them, or before one for which
 -- there is no room
-abbrev pub EndsLine : List ℕ → ℕ → ℕ → Taken → Type 0
+abbrev pub EndsLine : List ℕ → ℕ → ℕ → LineScan → Type 0
 EndsLine bytes room count parts.Newline = (bytes ≡ take count bytes ++ 10 ∷ drop (count + 1) bytes) × IsUnbroken (take count bytes)
 EndsLine bytes room count parts.More = (count ≡ length bytes) × IsUnbroken bytes
 EndsLine bytes room count parts.Long = (count ≡ room) × (room < length bytes) × IsUnbroken (take (room + 1) bytes)

@@ -6,7 +6,7 @@ ghost use Rattle.streams.specs.Bytes.{IsAnswered, ReadLine, Sent};
 
 use crate::ends::{Failed, Sink, Source};
 use crate::error::StreamError;
-use crate::stream::{Stream, Taken};
+use crate::stream::{LineScan, Stream};
 use arrayvec::ArrayVec;
 
 /// How a line ended.
@@ -46,9 +46,9 @@ pub fn next_line<R: Source, W: Sink, const MOST: usize>(
     line.clear();
     'reading: loop {
         match reader.take_line(line) {
-            Taken::Newline => return Ok(LineEnd::Newline),
-            Taken::Long => return Ok(LineEnd::Long),
-            Taken::More => {}
+            LineScan::Newline => return Ok(LineEnd::Newline),
+            LineScan::Long => return Ok(LineEnd::Long),
+            LineScan::More => {}
         }
         writer.flush().map_err(|_| StreamError::Write)?;
         match reader.fill() {

@@ -23,7 +23,7 @@ pub type Counted<T> = Stream<Wrapped<T>>;
 
 /// How far a line was found in a block.
 #[derive(Clone, Copy, Debug, PartialEq, Eq)]
-pub(crate) enum Taken {
+pub(crate) enum LineScan {
     /// To its newline.
     Newline,
     /// To the block's end.
@@ -90,7 +90,7 @@ impl<R: Source> Stream<R> {
     }
 
     /// Moves bytes of the block to the line's end, up to a newline, which is left out.
-    pub(crate) fn take_line<const MOST: usize>(&mut self, line: &mut ArrayVec<u8, MOST>) -> Taken
+    pub(crate) fn take_line<const MOST: usize>(&mut self, line: &mut ArrayVec<u8, MOST>) -> LineScan
         requires { length line.old.items ≤ MOST }
         ensures few { length line.new.items ≤ MOST }
         ensures bytes { TakesLine MOST self.old.block self.new.block line.old.items line.new.items result }
@@ -99,8 +99,8 @@ impl<R: Source> Stream<R> {
         let (count, taken) = line_end(self.block.as_slice(), MOST - line.len());
         self.block.move_to(line, count);
         match taken {
-            Taken::Newline | Taken::Long => self.block.advance(1),
-            Taken::More => {}
+            LineScan::Newline | LineScan::Long => self.block.advance(1),
+            LineScan::More => {}
         }
         taken
     }
@@ -108,14 +108,14 @@ impl<R: Source> Stream<R> {
 
 // How many bytes go to a line that has room for so many more, and how far it then is found.
 #[tactic(auto, using(crate::proofs::Past::unbroken_within, crate::proofs::Past::unbroken_front))]
-fn line_end(bytes: &[u8], room: usize) -> (usize, Taken)
+fn line_end(bytes: &[u8], room: usize) -> (usize, LineScan)
     ensures within { (result.0 ≤ room) × (result.0 ≤ length bytes.now) }
     ensures end { EndsLine bytes.now room result.0 result.1 }
 {
     match first_newline(bytes) {
-        Some(end) if end <= room => (end, Taken::Newline),
-        None if bytes.len() <= room => (bytes.len(), Taken::More),
-        _ => (room, Taken::Long),
+        Some(end) if end <= room => (end, LineScan::Newline),
+        None if bytes.len() <= room => (bytes.len(), LineScan::More),
+        _ => (room, LineScan::Long),
     }
 }
 

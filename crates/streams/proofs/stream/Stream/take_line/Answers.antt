@@ -2,12 +2,12 @@ use Rattle.std.proofs.Common.{◌≡◌, ◌+◌, ◌-◌, ◌++◌, ◌⊎◌, 
 use Rattle.std.proofs.Common.{arith, inl, inr}
 use Rattle.std.proofs.lemmas.List.{length-take-le}
 use Rattle.streams.specs.Bytes.{TakesLine}
-use Rattle.streams.specs.declared.stream.Taken.{Taken}
-use Rattle.streams.specs.declared.stream.Taken.TheVariants as parts
+use Rattle.streams.specs.declared.stream.LineScan.{LineScan}
+use Rattle.streams.specs.declared.stream.LineScan.TheVariants as parts
 use Rattle.streams.proofs.Past.{ended}
 use Rattle.streams.proofs.stream.Stream.take_line.Goals as goal
 
-not_more : (taken : Taken) → (taken ≡ parts.Newline) ⊎ (taken ≡ parts.Long) → taken ≡ parts.More → ⊥
+not_more : (taken : LineScan) → (taken ≡ parts.Newline) ⊎ (taken ≡ parts.Long) → taken ≡ parts.More → ⊥
 not_more parts.Newline is e = cc
 not_more parts.Long is e = cc
 not_more parts.More (inl e) more = cc
