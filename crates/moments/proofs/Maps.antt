@@ -5,7 +5,7 @@ use Rattle.std.proofs.lemmas.Option.{none-some, same_Some}
 use Rattle.dmatypes.specs.World.{Target}
 use Rattle.vtdbits.specs.declared.entry.SsEntry.{SsEntry}
 use Rattle.vtdbits.specs.declared.entry.SsEntry.TheVariants.{Absent, Table, Leaf, LargeLeaf}
-use Rattle.tables.specs.Tree.{Memory, Found, index_in, leaf_from, table_from, span, stated, states}
+use Rattle.tables.specs.Tree.{Memory, LeafEntry, index_in, leaf_from, table_from, span, stated, states}
 use Rattle.tables.specs.Pool.{Pool, memory}
 use Rattle.tables.specs.Changes.{MapsPages}
 use Rattle.tables.proofs.walks.Near.{smaller}
@@ -15,7 +15,7 @@ use Rattle.tables.proofs.walks.Words.{zeroed_bare}
 use Rattle.moments.specs.Moments.{AreFreeZeroed}
 use Rattle.moments.proofs.Between.{IsBetween, down}
 
-pub nothing_stated : (p : ℕ) (o : Option Found) → stated p o ≡ None → o ≡ None
+pub nothing_stated : (p : ℕ) (o : Option LeafEntry) → stated p o ≡ None → o ≡ None
 nothing_stated p None h = refl
 nothing_stated p (Some x) h = absurd (none-some _ (sym h))
 
@@ -46,7 +46,7 @@ Onward old new now level root page l =
     → Result old new now level root page l c
 
 -- a leaf that was on the page's way is there, and so the way goes no deeper
-no_leaf : (old new : Pool) (now : Memory) (level root from to page : ℕ) (says : ℕ → Option Target) (l c : ℕ) (x : Found)
+no_leaf : (old new : Pool) (now : Memory) (level root from to page : ℕ) (says : ℕ → Option Target) (l c : ℕ) (x : LeafEntry)
     → Mapping old new now level root from to page says → leaf_from (memory old.words) level root page ≡ Some x → x.size ≡ l
     → leaf_from (memory new.words) l c page ≡ leaf_from (memory new.words) level root page → ⊥
 no_leaf old new now level root from to page says l c x g there size n =

@@ -4,7 +4,7 @@ use Rattle.std.proofs.lemmas.Option.{none-some}
 use Rattle.dmatypes.specs.Page.{levels, pages_end}
 use Rattle.dmatypes.specs.declared.width.Width.{Width}
 use Rattle.tables.specs.Pool.{memory}
-use Rattle.tables.specs.Tree.{Found, IsLeafAt, IsTableAt, Memory, index_in, leaf_from, span, table_from, uses}
+use Rattle.tables.specs.Tree.{LeafEntry, IsLeafAt, IsTableAt, Memory, index_in, leaf_from, span, table_from, uses}
 use Rattle.tables.proofs.pools.Kept.{span-levels}
 use Rattle.tables.proofs.walks.Agreeing.{root_used, under}
 use Rattle.tables.proofs.walks.Near.{near_leaf, near_table, span_pos}
@@ -23,7 +23,7 @@ use Rattle.quiet.specs.Quiet.{IsEntry, IsInPlace}
 use Rattle.quiet.proofs.Every.{calls_old_or_new}
 
 -- the leaf on a page's way is an entry of the tree
-met_entry : (words : List ℕ) (width : Width) (root p : ℕ) (y : Found) → p < pages_end width
+met_entry : (words : List ℕ) (width : Width) (root p : ℕ) (y : LeafEntry) → p < pages_end width
     → leaf_from (memory words) (levels width) root p ≡ Some y
     → IsLeafAt (memory words) (levels width) root (p - p % span y.size) (span y.size) y.frame y.rights
 met_entry words width root p y low there = (
@@ -49,7 +49,7 @@ passed_entry words width root p l f low some below there = (
   λ q above high. near_table (memory words) (levels width) root p q l f (one_span p q (span l) (span_pos l) above high) there,
 )
 
-pub met_at : (words : List ℕ) (h : Domain) (leaf : CachedLeaf) (page : ℕ) (x : Found) → page < pages_end h.width
+pub met_at : (words : List ℕ) (h : Domain) (leaf : CachedLeaf) (page : ℕ) (x : LeafEntry) → page < pages_end h.width
     → leaf ≡ met_leaf leaf.domain page x → leaf_from (memory words) (levels h.width) h.root page ≡ Some x → IsEntry words h leaf
 met_at words h leaf page x small is there =
     subst (λ (k : CachedLeaf). IsEntry words h k) (sym is) (met_entry words h.width h.root page x small there)

@@ -1,3 +1,3 @@
 pub mod OnePage
-pub mod ByPieces
+pub mod ByExtents
 pub mod ByEntries

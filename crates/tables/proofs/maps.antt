@@ -1,8 +1,8 @@
 pub mod Mapped
-pub mod Grown
+pub mod AddedTable
 pub mod Runs
 pub mod Large
-pub mod LargePieces
+pub mod LargeExtents
 pub mod Descending
 pub mod Placed
 pub mod TablesMade

@@ -4,7 +4,7 @@ use Rattle.std.specs.Prelude.{◌≡◌, ℕ, ◌+◌, ◌*◌, ◌/◌, ◌<◌
 use Rattle.dmatypes.specs.declared.page.TheConstants.{SPAN_PAGES}
 use Rattle.tables.specs.declared.entries.TheConstants.{TABLE_ENTRIES}
 use Rattle.dmatypes.specs.World.{Target}
-use Rattle.tables.specs.Tree.{Found, IsLeafAt, IsTableAt, span, leaf_from, table_from, states, uses}
+use Rattle.tables.specs.Tree.{LeafEntry, IsLeafAt, IsTableAt, span, leaf_from, table_from, states, uses}
 use Rattle.tables.specs.Pool.{Pool, word, memory, occurs, IsZeroed, IsTree}
 use Rattle.tables.specs.Spelled.{AreSpelled}
 
@@ -60,7 +60,7 @@ pub record UnmapsPages (old new : Pool) (level table from to : ℕ) (cut : List 
   pub elsewhere : (p : ℕ) → p / span level ≡ from / span level → IsOutside from to p
       → states (memory new.words) level table p ≡ states (memory old.words) level table p
   -- a leaf entry stays that states none of the pages
-  pub leaves : (p : ℕ) (x : Found) → p / span level ≡ from / span level
+  pub leaves : (p : ℕ) (x : LeafEntry) → p / span level ≡ from / span level
       → leaf_from (memory old.words) level table p ≡ Some x → MeetsNone x.size from to p
       → leaf_from (memory new.words) level table p ≡ Some x
   -- a table stays in its place, or was cut: it is of level 1 and the pages cover its span

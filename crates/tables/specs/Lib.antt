@@ -8,4 +8,4 @@ pub mod Changes
 pub mod Segments
 pub mod Lacks
 pub mod ByEntries
-pub mod Pieces
+pub mod Extents

@@ -24,12 +24,12 @@ index_in l p = p / span l % TABLE_ENTRIES
 -- ---- walks
 
 -- a leaf that a walk met: the level of the tables that its entry could name, its frame and its rights
-pub record Found : Type 0 where
+pub record LeafEntry : Type 0 where
   pub size : ℕ
   pub frame : ℕ
   pub rights : ℕ
 
-abbrev pub leaf_of : SsEntry → ℕ → (ℕ → Option Found) → Option Found
+abbrev pub leaf_of : SsEntry → ℕ → (ℕ → Option LeafEntry) → Option LeafEntry
 leaf_of Absent l below = None
 leaf_of (Table c) l below = below c
 leaf_of (Leaf t) l below = Some (record { size = l; frame = t.frame; rights = t.rights })
@@ -42,7 +42,7 @@ table_of (Leaf t) below = None
 table_of (LargeLeaf t) below = None
 
 -- the leaf on a page's way from a table of the level
-unfoldable pub leaf_from : Memory → ℕ → ℕ → ℕ → Option Found
+unfoldable pub leaf_from : Memory → ℕ → ℕ → ℕ → Option LeafEntry
 leaf_from m zero t p = None
 leaf_from m (suc l) t p = leaf_of (m (suc l) t (index_in l p)) l (λ c. leaf_from m l c p)
 
@@ -53,7 +53,7 @@ table_from m (suc l) t p w =
     if w == suc l then Some t else table_of (m (suc l) t (index_in l p)) (λ c. table_from m l c p w)
 
 -- what a leaf states of a page
-abbrev pub stated : ℕ → Option Found → Option Target
+abbrev pub stated : ℕ → Option LeafEntry → Option Target
 stated p None = None
 stated p (Some x) = Some (target (x.frame + p % span x.size) x.rights)
 
@@ -66,7 +66,7 @@ abbrev pub root_states : Memory → Width → ℕ → ℕ → Option Target
 root_states m width root p = if nat_lt p (pages_end width) then states m (levels width) root p else None
 
 -- a leaf that stands for more than one page
-abbrev pub is_large_leaf : Option Found → Bool
+abbrev pub is_large_leaf : Option LeafEntry → Bool
 is_large_leaf None = false
 is_large_leaf (Some x) = nat_lt 0 x.size
 

@@ -1,7 +1,7 @@
 //! What an unmap took out of a tree.
 
 ghost use Rattle.std.specs.Prelude.{◌≡◌, ◌+◌, ◌≤◌, [], ◌++◌, ◌||◌, false, length};
-ghost use Rattle.tables.specs.Pieces.{cut_of, was_split};
+ghost use Rattle.tables.specs.Extents.{cut_of, was_split};
 
 use crate::unmapping::Cleared;
 use dmatypes::{Frame, MOST_PAGES, SPAN_PAGES};
@@ -45,7 +45,7 @@ impl Cut {
         }
     }
 
-    // Notes what became of a piece.
+    // Notes what became of an extent.
     pub(crate) fn note(&mut self, cleared: Cleared)
         requires { length self.old.frames + length (cut_of cleared) ≤ MOST_TABLES }
         ensures frames { self.new.frames ≡ self.old.frames ++ cut_of cleared }

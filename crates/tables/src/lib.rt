@@ -25,10 +25,10 @@
 mod cut;
 mod entries;
 mod error;
+mod extent;
 mod frames;
 pub mod laws;
 mod mapping;
-mod piece;
 mod segments;
 mod trees;
 mod unmapping;

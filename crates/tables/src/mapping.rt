@@ -10,36 +10,36 @@ ghost use Rattle.tables.specs.Pool.{memory, occurs, IsPool, IsTree, IsZeroed};
 ghost use Rattle.tables.specs.Changes.{TakesAndGivesFrames, KeepsSpellings, MapsPages, MakesTables};
 ghost use Rattle.tables.specs.Segments.{is_large_at, AreSegments};
 ghost use Rattle.tables.specs.Lacks.{lacks_table, tables_lacking, tables_lacking_at, frames_to_map, sum_spans};
-ghost use Rattle.tables.specs.Pieces.{piece_states, is_large, WritesEntries, leaf_at};
+ghost use Rattle.tables.specs.Extents.{extent_states, is_large, WritesEntries, leaf_at};
 
 use crate::entries::{TABLE_ENTRIES, entry, index_of, span_of, table_at};
 use crate::error::NoFrames;
+use crate::extent::Extent;
 use crate::frames::Pool;
-use crate::piece::Piece;
 use crate::segments::{Passed, is_large_at};
 use dmatypes::{Frame, MOST_LEVELS, PAGES_END, Rights, SPAN_PAGES, Segment};
 use vtdbits::{LargeTranslation, SsEntry};
 
-/// Writes the leaves of a piece in a table of level 1.
-pub(crate) fn write_run(pool: &mut Pool, table: Frame, piece: Piece)
+/// Writes the leaves of an extent in a table of level 1.
+pub(crate) fn write_run(pool: &mut Pool, table: Frame, extent: Extent)
     requires table { table < pool.old.frames }
     requires taken { occurs table pool.old.free ≡ 0 }
-    ensures run { WritesEntries pool.old.words pool.new.words table piece.from piece.to (leaf_at piece) }
+    ensures run { WritesEntries pool.old.words pool.new.words table extent.from extent.to (leaf_at extent) }
     ensures free { pool.new.free ≡ pool.old.free }
     ensures frames { pool.new.frames ≡ pool.old.frames }
     ensures pool { IsPool pool.new }
 {
     pool.write_leaves(
         table,
-        piece.from % SPAN_PAGES,
-        piece.to - piece.from,
-        piece.frame,
-        piece.rights,
+        extent.from % SPAN_PAGES,
+        extent.to - extent.from,
+        extent.frame,
+        extent.rights,
     );
 }
 
 /// A new table under an absent entry.
-fn grow(pool: &mut Pool, level: u64, table: Frame, index: u64) -> Frame
+fn add_table(pool: &mut Pool, level: u64, table: Frame, index: u64) -> Frame
     requires low { 2 ≤ level }
     requires high { level ≤ MOST_LEVELS }
     requires tree { IsTree pool.old level table }
@@ -61,61 +61,61 @@ fn grow(pool: &mut Pool, level: u64, table: Frame, index: u64) -> Frame
     below
 }
 
-/// Maps a piece: one walk down, with the tables that it lacks, and one run of words or one leaf of 512 pages.
+/// Maps an extent: one walk down, with the tables that it lacks, and one run of words or one leaf of 512 pages.
 #[inline(always)]
-pub(crate) fn map_piece(pool: &mut Pool, level: u64, table: Frame, piece: &Piece)
+pub(crate) fn map_extent(pool: &mut Pool, level: u64, table: Frame, extent: &Extent)
     requires low { 1 ≤ level }
     requires high { level ≤ MOST_LEVELS }
     requires tree { IsTree pool.old level table }
-    requires absent { (p : ℕ) → piece.now.from ≤ p → p < piece.now.to → leaf_from (memory pool.old.words) level table p ≡ None }
-    requires room { tables_lacking_at (memory pool.old.words) level table (is_large piece.now) piece.now.from ≤ length pool.old.free }
+    requires absent { (p : ℕ) → extent.now.from ≤ p → p < extent.now.to → leaf_from (memory pool.old.words) level table p ≡ None }
+    requires room { tables_lacking_at (memory pool.old.words) level table (is_large extent.now) extent.now.from ≤ length pool.old.free }
     ensures moves { TakesAndGivesFrames pool.old pool.new level table [] }
     ensures spelled { KeepsSpellings pool.old pool.new level table }
-    ensures maps { MapsPages pool.old pool.new level table piece.now.from piece.now.to (piece_states piece.now) }
-    ensures made { (w : ℕ) → 1 ≤ w → w < level → (w ≡ 1 → is_large piece.now ≡ false)
-        → IsSome (table_from (memory pool.new.words) level table piece.now.from w) }
-    ensures spared { 1 < level → is_large piece.now ≡ true
-        → table_from (memory pool.new.words) level table piece.now.from 1
-        ≡ table_from (memory pool.old.words) level table piece.now.from 1 }
-    ensures count { length pool.new.free + tables_lacking_at (memory pool.old.words) level table (is_large piece.now) piece.now.from
+    ensures maps { MapsPages pool.old pool.new level table extent.now.from extent.now.to (extent_states extent.now) }
+    ensures made { (w : ℕ) → 1 ≤ w → w < level → (w ≡ 1 → is_large extent.now ≡ false)
+        → IsSome (table_from (memory pool.new.words) level table extent.now.from w) }
+    ensures spared { 1 < level → is_large extent.now ≡ true
+        → table_from (memory pool.new.words) level table extent.now.from 1
+        ≡ table_from (memory pool.old.words) level table extent.now.from 1 }
+    ensures count { length pool.new.free + tables_lacking_at (memory pool.old.words) level table (is_large extent.now) extent.now.from
         ≡ length pool.old.free }
     ensures pool { IsPool pool.new }
 {
     if level == 1 {
         // By value into what writes the pool: a loop would read the fields anew behind each write.
-        write_run(pool, table, *piece);
+        write_run(pool, table, *extent);
         return;
     }
-    let index = index_of(level, piece.from);
+    let index = index_of(level, extent.from);
     match entry(pool, level, table, index) {
-        SsEntry::Table(below) => map_piece(pool, level - 1, below, piece),
+        SsEntry::Table(below) => map_extent(pool, level - 1, below, extent),
         SsEntry::Absent => {
-            if level == 2 && piece.is_large() {
-                write_large(pool, table, index, piece);
+            if level == 2 && extent.is_large() {
+                write_large(pool, table, index, extent);
             } else {
-                let below = grow(pool, level, table, index);
-                map_piece(pool, level - 1, below, piece);
+                let below = add_table(pool, level, table, index);
+                map_extent(pool, level - 1, below, extent);
             }
         }
         SsEntry::Leaf(_) | SsEntry::LargeLeaf(_) => unreachable!(),
     }
 }
 
-/// Writes a piece as one leaf of 512 pages in a table of level 2.
-fn write_large(pool: &mut Pool, table: Frame, index: u64, piece: &Piece)
+/// Writes an extent as one leaf of 512 pages in a table of level 2.
+fn write_large(pool: &mut Pool, table: Frame, index: u64, extent: &Extent)
     requires tree { IsTree pool.old 2 table }
-    requires index { index ≡ index_in 1 piece.now.from }
+    requires index { index ≡ index_in 1 extent.now.from }
     requires absent { memory pool.old.words 2 table index ≡ SsEntry.Absent }
-    requires large { is_large piece.now ≡ true }
+    requires large { is_large extent.now ≡ true }
     ensures moves { TakesAndGivesFrames pool.old pool.new 2 table [] }
     ensures spelled { KeepsSpellings pool.old pool.new 2 table }
-    ensures maps { MapsPages pool.old pool.new 2 table piece.now.from piece.now.to (piece_states piece.now) }
+    ensures maps { MapsPages pool.old pool.new 2 table extent.now.from extent.now.to (extent_states extent.now) }
     ensures tables { (p w : ℕ) → table_from (memory pool.new.words) 2 table p w ≡ table_from (memory pool.old.words) 2 table p w }
     ensures free { pool.new.free ≡ pool.old.free }
     ensures pool { IsPool pool.new }
 {
-    let frame = Frame::new(piece.frame).unwrap();
-    let leaf = LargeTranslation::new(frame, piece.rights);
+    let frame = Frame::new(extent.frame).unwrap();
+    let leaf = LargeTranslation::new(frame, extent.rights);
     pool.write(table, index, SsEntry::LargeLeaf(leaf).encode());
 }
 
@@ -220,7 +220,7 @@ fn most_lacking(level: u64, first: u64, end: u64) -> u64
 
 /// Maps pages to segments, where no frame is lacking.
 #[inline(always)]
-fn map_pieces(
+fn map_extents(
     pool: &mut Pool,
     level: u64,
     root: Frame,
@@ -251,9 +251,9 @@ fn map_pieces(
         count: 0,
         start: first,
     };
-    while let Some(piece) = Piece::at(segments, first, &mut passed, place, rights) {
-        map_piece(pool, level, root, &piece);
-        place = piece.to;
+    while let Some(extent) = Extent::at(segments, first, &mut passed, place, rights) {
+        map_extent(pool, level, root, &extent);
+        place = extent.to;
     }
 }
 
@@ -296,6 +296,6 @@ pub(crate) fn map_segments(
     {
         return Err(NoFrames);
     }
-    map_pieces(pool, level, root, segments, first, rights);
+    map_extents(pool, level, root, segments, first, rights);
     Ok(())
 }

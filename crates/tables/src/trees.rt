@@ -7,7 +7,7 @@ ghost use Rattle.dmatypes.specs.Page.{Fits, IsPageRange, IsWithin, levels};
 ghost use Rattle.dmatypes.specs.Rights.{AreRights, bits_of};
 ghost use Rattle.dmatypes.specs.World.{placed};
 ghost use Rattle.vtdbits.specs.Translation.{target};
-ghost use Rattle.tables.specs.Tree.{one_if_same, root_states, span, states, leaf_from, table_from, uses, IsLeafAt, IsTableAt, Found};
+ghost use Rattle.tables.specs.Tree.{one_if_same, root_states, span, states, leaf_from, table_from, uses, IsLeafAt, IsTableAt, LeafEntry};
 ghost use Rattle.tables.specs.Pool.{word, memory, occurs, IsPool, IsTree};
 ghost use Rattle.tables.specs.Changes.{TakesAndGivesFrames, MapsPages, MakesTables, UnmapsPages, KeepsLeaves, KeepsTables, KeepsOthers};
 ghost use Rattle.tables.specs.Changes.{KeepsSpellings};
@@ -20,7 +20,7 @@ use crate::entries::{TABLE_ENTRIES, find};
 use crate::error::NoFrames;
 use crate::frames::Pool;
 use crate::mapping::map_segments;
-use crate::unmapping::{leaves_splitting, release, spans_met, unmap_pieces};
+use crate::unmapping::{leaves_splitting, release, spans_met, unmap_extents};
 use dmatypes::{FRAMES_END, Frame, Page, PageRange, Rights, SPAN_PAGES, Segment, Width};
 
 // How many levels a tree has, by its width: constants, so that the way down is written out for each.
@@ -220,7 +220,7 @@ impl Tree {
             result.frames }
         ensures split { IsTrue result.split
             ↔ (0 < leaves_splitting (memory pool.old.words) (levels self.old.width) self.old.root range.first (range.first + range.pages)) }
-        ensures whole { (p : ℕ) (x : Found) → IsWithin range p → result.split ≡ false
+        ensures whole { (p : ℕ) (x : LeafEntry) → IsWithin range p → result.split ≡ false
             → leaf_from (memory pool.old.words) (levels self.old.width) self.old.root p ≡ Some x
             → (q : ℕ) → q / span x.size ≡ p / span x.size → IsWithin range q }
         ensures count { length pool.new.free
@@ -240,8 +240,8 @@ impl Tree {
         let from = range.first();
         let to = from + range.pages();
         match self.width {
-            Width::W39 => unmap_pieces(pool, NARROW, self.root, from, to),
-            Width::W48 => unmap_pieces(pool, WIDE, self.root, from, to),
+            Width::W39 => unmap_extents(pool, NARROW, self.root, from, to),
+            Width::W48 => unmap_extents(pool, WIDE, self.root, from, to),
         }
     }
 

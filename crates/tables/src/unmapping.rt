@@ -9,17 +9,17 @@ ghost use Rattle.vtdbits.specs.Translation.{target};
 ghost use Rattle.tables.specs.Changes.{TakesAndGivesFrames, KeepsSpellings, UnmapsPages};
 ghost use Rattle.tables.specs.Lacks.{splits_leaf, leaves_splitting};
 ghost use Rattle.tables.specs.Under.{IsSplit, used_at};
-ghost use Rattle.tables.specs.Pieces.{WritesEntries, cut_of, was_split, piece_splits};
+ghost use Rattle.tables.specs.Extents.{WritesEntries, cut_of, was_split, extent_splits};
 
 use crate::cut::Cut;
 use crate::entries::{TABLE_ENTRIES, entry, index_of, is_in_large_leaf};
+use crate::extent::Extent;
 use crate::frames::Pool;
 use crate::mapping::write_run;
-use crate::piece::Piece;
 use dmatypes::{Frame, MOST_LEVELS, MOST_PAGES, PAGES_END, SPAN_PAGES};
 use vtdbits::{LargeTranslation, SsEntry};
 
-/// What became of a piece that was unmapped.
+/// What became of an extent that was unmapped.
 #[derive(Clone, Copy)]
 pub enum Cleared {
     /// Its entries are absent.
@@ -64,13 +64,13 @@ fn split(pool: &mut Pool, table: Frame, page: u64, leaf: LargeTranslation) -> Fr
 {
     let below = pool.take();
     let from = page / SPAN_PAGES * SPAN_PAGES;
-    let piece = Piece {
+    let extent = Extent {
         from,
         to: from + SPAN_PAGES,
         frame: leaf.frame().number(),
         rights: leaf.rights(),
     };
-    write_run(pool, below, piece);
+    write_run(pool, below, extent);
     link(pool, table, page, below, leaf);
     below
 }
@@ -91,19 +91,19 @@ fn link(pool: &mut Pool, table: Frame, page: u64, below: Frame, leaf: LargeTrans
     pool.write(table, index_of(2, page), SsEntry::Table(below).encode());
 }
 
-/// Unmaps a piece in a table of level 2.
+/// Unmaps an extent in a table of level 2.
 fn clear_span(pool: &mut Pool, table: Frame, from: u64, to: u64) -> Cleared
     requires tree { IsTree pool.old 2 table }
     requires some { from < to }
     requires one_span { from / SPAN_PAGES ≡ (to - 1) / SPAN_PAGES }
     requires within { to ≤ PAGES_END }
     requires there { (p : ℕ) → from ≤ p → p < to → IsSome (leaf_from (memory pool.old.words) 2 table p) }
-    requires room { piece_splits (memory pool.old.words) 2 table from to ≤ length pool.old.free }
+    requires room { extent_splits (memory pool.old.words) 2 table from to ≤ length pool.old.free }
     ensures moves { TakesAndGivesFrames pool.old pool.new 2 table (cut_of result) }
     ensures spelled { KeepsSpellings pool.old pool.new 2 table }
     ensures unmaps { UnmapsPages pool.old pool.new 2 table from to (cut_of result) }
-    ensures split { (if was_split result then 1 else 0) ≡ piece_splits (memory pool.old.words) 2 table from to }
-    ensures count { length pool.new.free + piece_splits (memory pool.old.words) 2 table from to ≡ length pool.old.free }
+    ensures split { (if was_split result then 1 else 0) ≡ extent_splits (memory pool.old.words) 2 table from to }
+    ensures count { length pool.new.free + extent_splits (memory pool.old.words) 2 table from to ≡ length pool.old.free }
     ensures cut { SPAN_PAGES * length (cut_of result) ≤ to - from }
     ensures pool { IsPool pool.new }
 {
@@ -131,9 +131,9 @@ fn clear_span(pool: &mut Pool, table: Frame, from: u64, to: u64) -> Cleared
     }
 }
 
-/// Unmaps a piece: one walk down, and one run of words or one leaf of 512 pages.
+/// Unmaps an extent: one walk down, and one run of words or one leaf of 512 pages.
 #[inline(always)]
-fn clear_piece(pool: &mut Pool, level: u64, table: Frame, from: u64, to: u64) -> Cleared
+fn clear_extent(pool: &mut Pool, level: u64, table: Frame, from: u64, to: u64) -> Cleared
     requires low { 2 ≤ level }
     requires high { level ≤ MOST_LEVELS }
     requires tree { IsTree pool.old level table }
@@ -141,12 +141,12 @@ fn clear_piece(pool: &mut Pool, level: u64, table: Frame, from: u64, to: u64) ->
     requires one_span { from / SPAN_PAGES ≡ (to - 1) / SPAN_PAGES }
     requires within { to ≤ PAGES_END }
     requires there { (p : ℕ) → from ≤ p → p < to → IsSome (leaf_from (memory pool.old.words) level table p) }
-    requires room { piece_splits (memory pool.old.words) level table from to ≤ length pool.old.free }
+    requires room { extent_splits (memory pool.old.words) level table from to ≤ length pool.old.free }
     ensures moves { TakesAndGivesFrames pool.old pool.new level table (cut_of result) }
     ensures spelled { KeepsSpellings pool.old pool.new level table }
     ensures unmaps { UnmapsPages pool.old pool.new level table from to (cut_of result) }
-    ensures split { (if was_split result then 1 else 0) ≡ piece_splits (memory pool.old.words) level table from to }
-    ensures count { length pool.new.free + piece_splits (memory pool.old.words) level table from to ≡ length pool.old.free }
+    ensures split { (if was_split result then 1 else 0) ≡ extent_splits (memory pool.old.words) level table from to }
+    ensures count { length pool.new.free + extent_splits (memory pool.old.words) level table from to ≡ length pool.old.free }
     ensures cut { SPAN_PAGES * length (cut_of result) ≤ to - from }
     ensures pool { IsPool pool.new }
 {
@@ -154,14 +154,14 @@ fn clear_piece(pool: &mut Pool, level: u64, table: Frame, from: u64, to: u64) ->
         return clear_span(pool, table, from, to);
     }
     match entry(pool, level, table, index_of(level, from)) {
-        SsEntry::Table(below) => clear_piece(pool, level - 1, below, from, to),
+        SsEntry::Table(below) => clear_extent(pool, level - 1, below, from, to),
         SsEntry::Absent | SsEntry::Leaf(_) | SsEntry::LargeLeaf(_) => unreachable!(),
     }
 }
 
 /// Unmaps pages that are there, where no frame is lacking.
 #[inline(always)]
-pub(crate) fn unmap_pieces(pool: &mut Pool, level: u64, root: Frame, from: u64, to: u64) -> Cut
+pub(crate) fn unmap_extents(pool: &mut Pool, level: u64, root: Frame, from: u64, to: u64) -> Cut
     requires low { 2 ≤ level }
     requires high { level ≤ MOST_LEVELS }
     requires tree { IsTree pool.old level root }
@@ -182,7 +182,7 @@ pub(crate) fn unmap_pieces(pool: &mut Pool, level: u64, root: Frame, from: u64, 
     let mut place = from;
     while place < to {
         let next = to.min((place / SPAN_PAGES + 1) * SPAN_PAGES);
-        let cleared = clear_piece(pool, level, root, place, next);
+        let cleared = clear_extent(pool, level, root, place, next);
         cut.note(cleared);
         place = next;
     }

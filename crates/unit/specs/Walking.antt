@@ -2,7 +2,7 @@
 use Rattle.std.specs.Prelude.{◌≡◌, ℕ, ◌+◌, ◌-◌, ◌%◌, ◌<◌, ◌&&◌, nat_le, nat_lt, Bool, Option, Some, None}
 use Rattle.dmatypes.specs.World.{Target}
 use Rattle.vtdbits.specs.Translation.{target}
-use Rattle.tables.specs.Tree.{Memory, Found, span, table_from}
+use Rattle.tables.specs.Tree.{Memory, LeafEntry, span, table_from}
 use Rattle.unit.specs.Caches.{CachedLeaf, CachedNonLeaf, leaf, non_leaf}
 
 -- a number of pages from a first one on hold the page
@@ -10,14 +10,14 @@ abbrev pub hold : ℕ → ℕ → ℕ → Bool
 hold first pages page = nat_le first page && nat_lt page (first + pages)
 
 -- the leaf on a page's way, for all the pages that it stands for
-abbrev pub met_leaf : ℕ → ℕ → Found → CachedLeaf
+abbrev pub met_leaf : ℕ → ℕ → LeafEntry → CachedLeaf
 met_leaf domain page x = leaf domain (page - page % span x.size) (span x.size) x.frame x.rights
 
 -- the table of a level on that way, for all the pages of its span
 abbrev pub met_non_leaf : ℕ → ℕ → ℕ → ℕ → CachedNonLeaf
 met_non_leaf domain page level frame = non_leaf domain (page - page % span level) (span level) level frame
 
-abbrev pub met : ℕ → ℕ → Option Found → Option CachedLeaf
+abbrev pub met : ℕ → ℕ → Option LeafEntry → Option CachedLeaf
 met domain page None = None
 met domain page (Some x) = Some (met_leaf domain page x)
 

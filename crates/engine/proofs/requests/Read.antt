@@ -17,7 +17,7 @@ use Rattle.tables.proofs.walks.Sizes.{leaf_size}
 use Rattle.tables.proofs.walks.Onward.{deeper, leaf_on, leaf_zeroed, table_on, table_zeroed}
 use Rattle.tables.proofs.walks.Words.{zeroed_bare}
 use Rattle.tables.specs.Pool.{memory, IsZeroed}
-use Rattle.tables.specs.Tree.{Found, IsLeafAt, leaf_from, span, stated, states, table_from}
+use Rattle.tables.specs.Tree.{LeafEntry, IsLeafAt, leaf_from, span, stated, states, table_from}
 use Rattle.unit.proofs.caches.Members.{met_is}
 use Rattle.unit.specs.Answers.{IsStart}
 use Rattle.unit.specs.Caches.{CachedContext, CachedLeaf, CachedNonLeaf}
@@ -133,7 +133,7 @@ module _ (words : List ℕ) (h : Domain) (v : world.Domain) (mirrors : Mirrors w
   -- ---- what a walk met
 
   -- the leaf on a page's way is an entry of the tree
-  met_entry : (p : ℕ) (y : Found) → p < pages_end h.width → leaf_from (memory words) (levels h.width) h.root p ≡ Some y
+  met_entry : (p : ℕ) (y : LeafEntry) → p < pages_end h.width → leaf_from (memory words) (levels h.width) h.root p ≡ Some y
       → IsLeafAt (memory words) (levels h.width) h.root (p - p % span y.size) (span y.size) y.frame y.rights
   met_entry p y low there = (
     y.size,
@@ -148,7 +148,7 @@ module _ (words : List ℕ) (h : Domain) (v : world.Domain) (mirrors : Mirrors w
   )
 
   -- and each of its pages is live, as the leaf states it
-  pub met_stated : (p q : ℕ) (y : Found) → p < pages_end h.width → leaf_from (memory words) (levels h.width) h.root p ≡ Some y
+  pub met_stated : (p q : ℕ) (y : LeafEntry) → p < pages_end h.width → leaf_from (memory words) (levels h.width) h.root p ≡ Some y
       → p - p % span y.size ≤ q
       → q < p - p % span y.size + span y.size → v.live q ≡ Some (target (y.frame + (q - (p - p % span y.size))) y.rights)
   met_stated p q y low there above below =
@@ -161,7 +161,7 @@ module _ (words : List ℕ) (h : Domain) (v : world.Domain) (mirrors : Mirrors w
       ∙ ap (stated q) met
       ∙ ap (λ n. Some (target (y.frame + n) y.rights)) rest
 
-  met_lawful : (domain p : ℕ) (y : Found) → p < pages_end h.width → leaf_from (memory words) (levels h.width) h.root p ≡ Some y
+  met_lawful : (domain p : ℕ) (y : LeafEntry) → p < pages_end h.width → leaf_from (memory words) (levels h.width) h.root p ≡ Some y
       → IsLawfulLeaf words (met_leaf domain p y) h v
   met_lawful domain p y low there = record {
     stated = λ q above below. inl (met_stated p q y low there above below);

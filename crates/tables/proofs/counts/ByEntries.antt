@@ -10,7 +10,7 @@ use Rattle.dmatypes.specs.declared.page.TheConstants.{SPAN_PAGES}
 use Rattle.tables.specs.declared.entries.TheConstants.{TABLE_ENTRIES}
 use Rattle.vtdbits.specs.declared.entry.SsEntry.{SsEntry}
 use Rattle.vtdbits.specs.declared.entry.SsEntry.TheVariants.{Absent, Table, Leaf, LargeLeaf}
-use Rattle.tables.specs.Tree.{Memory, Found, span, index_in, leaf_of, table_of, leaf_from, table_from, stated, states, sum_below}
+use Rattle.tables.specs.Tree.{Memory, LeafEntry, span, index_in, leaf_of, table_of, leaf_from, table_from, stated, states, sum_below}
 use Rattle.tables.specs.Lacks.{lacks_table, tables_lacking, sum_spans}
 use Rattle.tables.specs.ByEntries.{is_met, own_lack, entry_below, entry_lacks}
 use Rattle.tables.proofs.sums.Firsts.{sum_below_same, sum_below-suc, sum_below-zero, sum_below-none}
@@ -18,7 +18,7 @@ use Rattle.tables.proofs.walks.Near.{span_pos}
 use Rattle.tables.proofs.walks.Steps.{span-suc, span-zero, leaf-suc, table_top, table_under, div_span-suc}
 use Rattle.tables.proofs.counts.OnePage.{lacking_by, lacking_is}
 use Rattle.tables.proofs.sums.OverSpans.{one_more_mul}
-use Rattle.tables.proofs.counts.ByPieces.{lacks-is}
+use Rattle.tables.proofs.counts.ByExtents.{lacks-is}
 use Rattle.tables.proofs.sums.Blocks.{is_met-yes, met_spans, met_spans_same, met_one, among_spans}
 use Rattle.tables.proofs.sums.Blocks.{unmet_spans, span_in, spans_below, sum_below_swap}
 
@@ -246,7 +246,7 @@ by_levels m (suc l) e large from to q some clear =
 -- ---- from the root
 
 -- a page of which nothing is stated has no leaf
-unstated : (p : ℕ) (o : Option Found) → stated p o ≡ None → o ≡ None
+unstated : (p : ℕ) (o : Option LeafEntry) → stated p o ≡ None → o ≡ None
 unstated p None h = refl
 unstated p (Some x) h = absurd (none-some _ (sym h))
 

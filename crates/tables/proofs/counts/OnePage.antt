@@ -78,9 +78,9 @@ one_more (suc l) large h =
     sum_below-suc (λ v. lacking_by None (v + 1) large) (suc l) ∙ ap (λ k. sum_below (λ v. lacking_by None (v + 1) large) (suc l) + k) last
 
 -- a new table is one of them
-pub lacks_at-grown : (m n : Memory) (l t c : ℕ) (large : Bool) (p : ℕ) → m (suc (suc l)) t (index_in (suc l) p) ≡ Absent → IsBare n c
+pub lacks_at-added : (m n : Memory) (l t c : ℕ) (large : Bool) (p : ℕ) → m (suc (suc l)) t (index_in (suc l) p) ≡ Absent → IsBare n c
     → (l ≡ 0 → large ≡ false) → tables_lacking_at m (suc (suc l)) t large p ≡ tables_lacking_at n (suc l) c large p + 1
-lacks_at-grown m n l t c large p is bare h =
+lacks_at-added m n l t c large p is bare h =
     absent_at m (suc l) t large p is ∙ one_more l large h ∙ ap (λ k. k + 1) (sym (bare_at n l c large p bare))
 
 none_large : absent_lacks true 1 ≡ 0

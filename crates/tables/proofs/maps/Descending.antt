@@ -1,4 +1,4 @@
--- A piece mapped through the table under its entry.
+-- An extent mapped through the table under its entry.
 use Rattle.std.proofs.Common.{◌≡◌, ◌≢◌, ℕ, zero, suc, ◌+◌, ◌-◌, ◌/◌, ◌<◌, ◌≤◌, ⊎_elim, Bool, false, IsSome, Option, Some, None, [], refl}
 use Rattle.std.proofs.Common.{sym, ap, subst, ◌∙◌, arith}
 use Rattle.std.proofs.lemmas.Option.{none-some}
@@ -7,7 +7,7 @@ use Rattle.tables.specs.declared.entries.TheConstants.{TABLE_ENTRIES}
 use Rattle.dmatypes.specs.World.{Target}
 use Rattle.vtdbits.specs.declared.entry.SsEntry.{SsEntry}
 use Rattle.vtdbits.specs.declared.entry.SsEntry.TheVariants.{Absent, Table}
-use Rattle.tables.specs.Tree.{Memory, Found, span, index_in, leaf_of, leaf_from, table_from}
+use Rattle.tables.specs.Tree.{Memory, LeafEntry, span, index_in, leaf_of, leaf_from, table_from}
 use Rattle.tables.specs.Pool.{Pool, memory, IsTree}
 use Rattle.tables.specs.Changes.{TakesAndGivesFrames, MapsPages}
 use Rattle.tables.specs.Lacks.{tables_lacking_at}
@@ -16,12 +16,12 @@ use Rattle.tables.proofs.unmaps.UnderEntry.{under_moves, below_under}
 use Rattle.tables.proofs.walks.Steps.{leaf_under, table_under, table_top, same_or_not, same_index, div_span_one}
 use Rattle.tables.proofs.walks.Near.{near_at}
 use Rattle.tables.proofs.walks.Levels.{leaf_level, table_level}
-use Rattle.tables.proofs.counts.OnePage.{lacks_some, lacks_at-table, lacks_at-grown}
+use Rattle.tables.proofs.counts.OnePage.{lacks_some, lacks_at-table, lacks_at-added}
 use Rattle.tables.proofs.walks.Onward.{IsBare, table_zeroed}
 
--- the pages of a piece are in one span of each level
-pub piece_span : (l from to p : ℕ) → 1 ≤ l → from / SPAN_PAGES ≡ (to - 1) / SPAN_PAGES → from ≤ p → p < to → p / span l ≡ from / span l
-piece_span l from to p some one low high =
+-- the pages of an extent are in one span of each level
+pub extent_span : (l from to p : ℕ) → 1 ≤ l → from / SPAN_PAGES ≡ (to - 1) / SPAN_PAGES → from ≤ p → p < to → p / span l ≡ from / span l
+extent_span l from to p some one low high =
     near_at 1 l p from some (div_span_one p ∙ (let e : p / SPAN_PAGES ≡ from / SPAN_PAGES = omega arith in e) ∙ sym (div_span_one from))
 
 -- a map through the table under an entry is one of the table
@@ -39,7 +39,7 @@ map_through old new level l t i c from to says up some one =
     (λ tree a is names moves maps.
     let both = below_under old new l t i c [] tree a names moves in (
       under_moves old new l t i [] tree a both.0,
-      maps_up old new l t i c from to says tree a is names (λ p low high. piece_span l from to p some one low high) moves maps,
+      maps_up old new l t i c from to says tree a is names (λ p low high. extent_span l from to p some one low high) moves maps,
       both.1,
     ))
 
@@ -50,7 +50,7 @@ absent_below m level l t i c from to p up some one is names low high =
     subst (λ n. m n t i ≡ Table c → leaf_from m n t p ≡ leaf_from m l c p) (sym up)
     (λ names.
     leaf_under m l t p (Table c)
-    (ap (λ j. m (suc l) t j) (same_index l p from (piece_span l from to p some one low high) ∙ sym is) ∙ names)) names
+    (ap (λ j. m (suc l) t j) (same_index l p from (extent_span l from to p some one low high) ∙ sym is) ∙ names)) names
 
 -- the tables made on the way
 pub made_through : (m : Memory) (level l t i c from : ℕ) (large : Bool) → level ≡ suc l → i ≡ index_in l from → m level t i ≡ Table c
@@ -82,10 +82,10 @@ count_through m level l t i c from large up some is names =
     (λ names. lacks_at-table m (l - 1) t c large from (ap (λ j. m (suc (suc (l - 1))) t j) (sym is) ∙ names)) names)
     up is
 
-pub count_grown : (m n : Memory) (level l t i c from : ℕ) (large : Bool) → level ≡ suc l → 1 ≤ l → i ≡ index_in l from
+pub count_added : (m n : Memory) (level l t i c from : ℕ) (large : Bool) → level ≡ suc l → 1 ≤ l → i ≡ index_in l from
     → m level t i ≡ Absent → n level t i ≡ Table c → IsBare n c → (l ≡ 1 → large ≡ false)
     → tables_lacking_at m level t large from ≡ tables_lacking_at n level t large from + 1
-count_grown m n level l t i c from large up some is absent names bare ok =
+count_added m n level l t i c from large up some is absent names bare ok =
     subst (λ k.
     level ≡ suc k → i ≡ index_in k from → (k ≡ 1 → large ≡ false)
     → tables_lacking_at m level t large from ≡ tables_lacking_at n level t large from + 1)
@@ -93,7 +93,7 @@ count_grown m n level l t i c from large up some is absent names bare ok =
     (λ up is ok.
     subst (λ v. m v t i ≡ Absent → n v t i ≡ Table c → tables_lacking_at m v t large from ≡ tables_lacking_at n v t large from + 1)
     (sym up) (λ absent names.
-    lacks_at-grown m n (l - 1) t c large from (ap (λ j. m (suc (suc (l - 1))) t j) (sym is) ∙ absent) bare (λ z. ok (omega arith))
+    lacks_at-added m n (l - 1) t c large from (ap (λ j. m (suc (suc (l - 1))) t j) (sym is) ∙ absent) bare (λ z. ok (omega arith))
     ∙ ap (λ k. k + 1) (sym (lacks_at-table n (l - 1) t c large from (ap (λ j. n (suc (suc (l - 1))) t j) (sym is) ∙ names)))) absent
     names) up is ok
 
@@ -109,7 +109,7 @@ count_absent m level l t i from large up some is absent ok =
 
 -- a leaf stands in no way of a page that is absent
 pub no_leaf : (m : Memory) (level l t i p : ℕ) (e : SsEntry) → level ≡ suc l → i ≡ index_in l p → m level t i ≡ e
-    → ((below : ℕ → Option Found) → (x : Found) × (leaf_of e l below ≡ Some x)) → leaf_from m level t p ≡ None → ⊥
+    → ((below : ℕ → Option LeafEntry) → (x : LeafEntry) × (leaf_of e l below ≡ Some x)) → leaf_from m level t p ≡ None → ⊥
 no_leaf m level l t i p e up is at leaf none =
     let found = leaf (λ c. leaf_from m l c p) in
     none-some found.0 (sym none ∙ leaf_level m l t p level e up (ap (λ j. m level t j) (sym is) ∙ at) ∙ found.1)
@@ -127,10 +127,10 @@ spared_through m n level l t i c from up some is was now below =
     own k e = ap (λ v. table_from k v c from 1) e ∙ table_top k 0 c from 1 refl
 
 -- and none through a new table
-pub spared_grown : (m mid n : Memory) (level l t i c from : ℕ) → level ≡ suc l → 1 < l → i ≡ index_in l from → m level t i ≡ Absent
+pub spared_added : (m mid n : Memory) (level l t i c from : ℕ) → level ≡ suc l → 1 < l → i ≡ index_in l from → m level t i ≡ Absent
     → n level t i ≡ Table c → IsBare mid c → table_from n l c from 1 ≡ table_from mid l c from 1
     → table_from n level t from 1 ≡ table_from m level t from 1
-spared_grown m mid n level l t i c from up some is was now bare below =
+spared_added m mid n level l t i c from up some is was now bare below =
     table_level n l t from 1 level (Table c) up (λ e. omega arith) (ap (λ j. n level t j) (sym is) ∙ now)
     ∙ below ∙ table_zeroed mid l c from 1 bare some
     ∙ sym (table_level m l t from 1 level Absent up (λ e. omega arith) (ap (λ j. m level t j) (sym is) ∙ was))

@@ -10,7 +10,7 @@ use Rattle.vtdbits.specs.declared.entry.SsEntry.TheVariants.{Absent, Table, Leaf
 use Rattle.tables.specs.Tree.{Memory, index_in, leaf_of, table_of, leaf_from, table_from, stated, one_if_same}
 use Rattle.tables.specs.Pool.{Pool, word, memory, occurs, KeepsOtherWords}
 use Rattle.tables.specs.Changes.{TakesAndGivesFrames, MapsPages, IsOutside}
-use Rattle.tables.specs.Pieces.{WritesEntries}
+use Rattle.tables.specs.Extents.{WritesEntries}
 use Rattle.tables.proofs.sums.OneFrame.{one_if_same-self}
 use Rattle.tables.proofs.walks.Words.{same_entry, memory_at}
 use Rattle.tables.proofs.walks.Levels.{stated_small}

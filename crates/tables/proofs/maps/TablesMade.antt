@@ -1,4 +1,4 @@
--- Where a map made tables, piece by piece.
+-- Where a map made tables, extent by extent.
 use Rattle.std.proofs.Common.{◌≡◌, ℕ, ◌*◌, ◌/◌, ◌%◌, ◌<◌, ◌≤◌, ⊎_elim, Bool, true, false, IsSome, Option, Some, None, refl, sym, ap, subst}
 use Rattle.std.proofs.Common.{◌∙◌, arith}
 use Rattle.std.proofs.lemmas.Bool.{cases_lt}
@@ -7,7 +7,7 @@ use Rattle.dmatypes.specs.World.{Target}
 use Rattle.tables.specs.Tree.{Memory, span, table_from}
 use Rattle.tables.specs.Pool.{Pool, memory}
 use Rattle.tables.specs.Changes.{MapsPages, MakesTables}
-use Rattle.tables.proofs.counts.ByPieces.{Placed, near_same, piece_near}
+use Rattle.tables.proofs.counts.ByExtents.{Placed, near_same, extent_near}
 use Rattle.tables.proofs.walks.Steps.{div_span_one}
 
 true_false : true ≡ false → ⊥
@@ -24,7 +24,7 @@ some_stays : (m n : Memory) (level t p w : ℕ) → ((c : ℕ) → table_from m 
 some_stays m n level t p w stays None e h = cc
 some_stays m n level t p w stays (Some c) e h = subst (λ (o : Option ℕ). IsSome o) (sym (stays c e)) refl
 
--- one piece more
+-- one extent more
 pub makes_then : (old cur new : Pool) (level t first from to : ℕ) (says says' : ℕ → Option Target) (large : ℕ → Bool) (b : Bool)
     → first ≤ from → ((p : ℕ) → first ≤ p → p < to → p / span level ≡ first / span level) → MakesTables old cur level t first from large
     → MapsPages old cur level t first from says → Placed cur new level t from to says' b → large (from / SPAN_PAGES * SPAN_PAGES) ≡ b
@@ -39,7 +39,7 @@ makes_then old cur new level t first from to says says' large b le wide makes ma
       (table_from (memory cur.words) level t p w) refl (makes.made p w low before some lower ok))
       (λ (after : from ≤ p).
       subst (λ (o : Option ℕ). IsSome o)
-      (sym (near_same (memory new.words) level t from p w (sym (piece_near w from to p some x.one after high))))
+      (sym (near_same (memory new.words) level t from p w (sym (extent_near w from to p some x.one after high))))
       (x.made w some lower (λ e. sym flag ∙ here p after high ∙ ok e))) (cases_lt p from);
   spared = λ p low high deep big.
       ⊎_elim
@@ -48,7 +48,7 @@ makes_then old cur new level t first from to says says' large b le wide makes ma
       ∙ makes.spared p low before deep big)
       (λ (after : from ≤ p).
       let is : b ≡ true = sym flag ∙ here p after high ∙ big in
-      let near : from / span 1 ≡ p / span 1 = sym (piece_near 1 from to p (omega arith) x.one after high) in
+      let near : from / span 1 ≡ p / span 1 = sym (extent_near 1 from to p (omega arith) x.one after high) in
       near_same (memory new.words) level t from p 1 near
       ∙ spared deep is
       ∙ maps.clear from 1 (wide from le x.some) (λ q q_low q_high e. early q q_high is e)

@@ -7,7 +7,7 @@ use Rattle.dmatypes.specs.declared.page.TheConstants.{SPAN_PAGES}
 use Rattle.dmatypes.specs.declared.width.Width.{Width}
 use Rattle.dmatypes.proofs.numbers.Ranges.{HasEnds, end_of_fit, to_ends}
 use Rattle.dmatypes.specs.World.{Target}
-use Rattle.tables.specs.Tree.{Found, IsLeafAt, IsTableAt, leaf_from, span, states}
+use Rattle.tables.specs.Tree.{LeafEntry, IsLeafAt, IsTableAt, leaf_from, span, states}
 use Rattle.tables.specs.Pool.{Pool, memory, occurs, IsTree}
 use Rattle.tables.specs.Changes.{KeepsLeaves, KeepsOthers, KeepsTables, MapsPages, TakesAndGivesFrames, UnmapsPages}
 use Rattle.tables.specs.Lacks.{leaves_splitting}
@@ -69,7 +69,7 @@ zero_or_more n h = omega arith
 
 pub ended_whole : (old : Pool) (width : Width) (r : Range) (level root : ℕ) (split : Bool) → level ≡ levels width
     → (IsTrue split ↔ (0 < leaves_splitting (memory old.words) level root r.first (r.first + r.pages)))
-    → (p : ℕ) (x : Found) → IsWithin r p → split ≡ false → leaf_from (memory old.words) (levels width) root p ≡ Some x
+    → (p : ℕ) (x : LeafEntry) → IsWithin r p → split ≡ false → leaf_from (memory old.words) (levels width) root p ≡ Some x
     → (q : ℕ) → q / span x.size ≡ p / span x.size → IsWithin r q
 ended_whole old width r level root split e says p x within unset leaf =
     unmap_whole old level root r.first (r.first + r.pages)

@@ -10,7 +10,7 @@ use Rattle.dmatypes.specs.declared.width.Width.{Width}
 use Rattle.dmatypes.specs.declared.width.Width.TheVariants.{W39, W48}
 use Rattle.tables.specs.declared.entries.TheConstants.{TABLE_ENTRIES}
 use Rattle.dmatypes.specs.World.{Target}
-use Rattle.tables.specs.Tree.{Memory, Found, span, leaf_from, stated, states, uses, IsLeafAt, IsTableAt}
+use Rattle.tables.specs.Tree.{Memory, LeafEntry, span, leaf_from, stated, states, uses, IsLeafAt, IsTableAt}
 use Rattle.tables.specs.Pool.{Pool, word, memory, occurs, IsTree}
 use Rattle.tables.specs.Changes.{TakesAndGivesFrames, MapsPages, IsApart, TreeStays}
 use Rattle.tables.proofs.walks.Agreeing.{AgreeAt, to_agree, leaf_agrees, table_agrees, uses_agree}
@@ -38,7 +38,7 @@ pub leaf_inside : (level j first p : ℕ) → 1 ≤ level → j < 2 → first % 
 leaf_inside level j first p some lt aligned low high =
     near_at j level p first (omega arith) (div_within first p (span j) (span_pos j) aligned low high)
 
-pub stated_none : (p : ℕ) (x : Option Found) → stated p x ≡ None → x ≡ None
+pub stated_none : (p : ℕ) (x : Option LeafEntry) → stated p x ≡ None → x ≡ None
 stated_none p None h = refl
 stated_none p (Some x) h = cc
 

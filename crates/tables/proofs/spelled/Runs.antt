@@ -11,7 +11,7 @@ use Rattle.vtdbits.specs.declared.entry.SsEntry.TheVariants.{Absent, Leaf}
 use Rattle.tables.specs.Under.{IsSplit}
 use Rattle.tables.specs.Pool.{Pool, word, memory, IsTree}
 use Rattle.tables.specs.Changes.{KeepsSpellings}
-use Rattle.tables.specs.Pieces.{WritesEntries}
+use Rattle.tables.specs.Extents.{WritesEntries}
 use Rattle.tables.specs.Spelled.{AreSpelled}
 use Rattle.tables.proofs.spelled.Stays.{IsSpelledAt, to_spelled, spelled_at, nothing_below, entry_stays, seen_spelled}
 use Rattle.tables.proofs.spelled.UnderEntry.{table_spelled}

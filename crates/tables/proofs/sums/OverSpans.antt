@@ -73,7 +73,7 @@ last_span from to n number pos some past end =
 pub one_more_mul : (q n : ℕ) → (q + 1) * n ≡ q * n + n
 one_more_mul q n = omega (arith, add-mul q 1 n)
 
--- where a piece in one span ends, or the next begins
+-- where an extent in one span ends, or the next begins
 pub next_span : (from next n : ℕ) → 0 < n → from < next → from / n ≡ (next - 1) / n → (next / n ≡ from / n) ⊎ (next / n ≡ from / n + 1)
 next_span from next n pos some one =
     let q : ℕ = (next - 1) / n in
@@ -91,7 +91,7 @@ next_span from next n pos some one =
     ∙ div-mul-add ((next - 1) / n + 1) n 0 pos ∙ ap (λ (x : ℕ). x + 1) (sym one)))
     (cases_lt ((next - 1) % n + 1) n)
 
--- one piece of pages less: the sum falls by what its span had, if the other spans stay and its own has nothing more
+-- one extent of pages less: the sum falls by what its span had, if the other spans stay and its own has nothing more
 pub step_spans : (g h : ℕ → ℕ) (w from next to : ℕ) → 0 < span w → from < next → next ≤ to → from / span w ≡ (next - 1) / span w
     → ((k : ℕ) → from / span w < k → k ≤ (to - 1) / span w → h (k * span w) ≡ g (k * span w))
     → (next / span w ≡ from / span w → h (from / span w * span w) ≡ 0)
@@ -118,7 +118,7 @@ step_spans g h w from next to pos some le one same none =
     omega arith)
     (next_span from next n pos some one)
 
--- nothing is left behind the last piece
+-- nothing is left behind the last extent
 pub ended_spans : (h : ℕ → ℕ) (w from next : ℕ) → 0 < span w → from < next → from / span w ≡ (next - 1) / span w
     → (next / span w ≡ from / span w → h (from / span w * span w) ≡ 0) → sum_spans h w next next ≡ 0
 ended_spans h w from next pos some one none =
@@ -218,7 +218,7 @@ splitting_else m level t from to p out = ap (λ b. cond b 0 (cond (is_large_leaf
 
 -- ---- the leaves that are split up to a page
 
--- as pieces end at edges of spans, those of the spans that have begun
+-- as extents end at edges of spans, those of the spans that have begun
 pub split_so_far : Pool → ℕ → ℕ → ℕ → ℕ → ℕ → ℕ
 split_so_far pool level root from to place =
     cond (eqb place from) 0 (so_far (splitting_at pool level root from to) SPAN_PAGES from ((place - 1) / SPAN_PAGES + 1))

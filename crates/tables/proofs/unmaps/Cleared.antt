@@ -1,4 +1,4 @@
--- A piece unmapped in a table of level 2.
+-- An extent unmapped in a table of level 2.
 use Rattle.std.proofs.Common.{◌≡◌, ◌≢◌, ℕ, ◌+◌, ◌-◌, ◌/◌, ◌%◌, ◌<◌, ◌≤◌, inl, inr, ⊎_elim, Some, None, List, [], ◌∷◌, refl, sym, ap, subst}
 use Rattle.std.proofs.Common.{◌∙◌, arith}
 use Rattle.std.proofs.lemmas.Bool.{cases_lt}
@@ -10,10 +10,10 @@ use Rattle.dmatypes.specs.World.{Target}
 use Rattle.vtdbits.specs.declared.entry.SsEntry.{SsEntry}
 use Rattle.vtdbits.specs.declared.entry.SsEntry.TheVariants.{Absent, Table, LargeLeaf}
 use Rattle.tables.specs.Under.{ChangesUnder}
-use Rattle.tables.specs.Tree.{Memory, Found, span, index_in, leaf_from, table_from, stated, one_if_same}
+use Rattle.tables.specs.Tree.{Memory, LeafEntry, span, index_in, leaf_from, table_from, stated, one_if_same}
 use Rattle.tables.specs.Pool.{Pool, memory, occurs, IsTree, IsWrite}
 use Rattle.tables.specs.Changes.{TakesAndGivesFrames, UnmapsPages, IsOutside, IsCovered}
-use Rattle.tables.specs.Pieces.{WritesEntries}
+use Rattle.tables.specs.Extents.{WritesEntries}
 use Rattle.tables.proofs.unmaps.UnderEntry.{under_moves, below_under, other_leaf}
 use Rattle.tables.proofs.maps.Large.{under_written, no_table_at, same_tables}
 use Rattle.tables.proofs.maps.Runs.{run_leaf, run_rest, run_moves, table_one}
@@ -133,10 +133,10 @@ large_gone old new t i from value x tree a is even wrote free frames was now =
       },
     )
   where
-    large_size : (m : Memory) (t p : ℕ) (x : Target) (y : Found) → m 2 t (index_in 1 p) ≡ LargeLeaf x → leaf_from m 2 t p ≡ Some y
+    large_size : (m : Memory) (t p : ℕ) (x : Target) (y : LeafEntry) → m 2 t (index_in 1 p) ≡ LargeLeaf x → leaf_from m 2 t p ≡ Some y
         → y.size ≡ 1
     large_size m t p x y e h =
-        sym (ap (λ (z : Found). z.size)
+        sym (ap (λ (z : LeafEntry). z.size)
         (same_Some (record { size = 1; frame = x.frame; rights = x.rights }) y (sym (leaf_under m 1 t p (LargeLeaf x) e) ∙ h)))
 
     at_covered : (from p i : ℕ) → i ≡ index_in 1 from → p / span 2 ≡ from / span 2 → from % SPAN_PAGES ≡ 0

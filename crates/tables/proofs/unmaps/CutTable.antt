@@ -9,7 +9,7 @@ use Rattle.tables.specs.Under.{ChangesUnder, used_by_entry}
 use Rattle.tables.specs.Tree.{Memory, span, index_in, table_from, stated, uses, one_if_same, entry_uses}
 use Rattle.tables.specs.Pool.{Pool, word, memory, occurs, IsTree, IsZeroed, IsWrite}
 use Rattle.tables.specs.Changes.{TakesAndGivesFrames, UnmapsPages, IsOutside, IsCovered}
-use Rattle.tables.specs.Pieces.{WritesEntries}
+use Rattle.tables.specs.Extents.{WritesEntries}
 use Rattle.tables.proofs.sums.OneFrame.{one_if_same-self, one_if_same_is}
 use Rattle.tables.proofs.unmaps.UnderEntry.{under_moves, other_leaf, other_table, root_apart}
 use Rattle.tables.proofs.maps.Runs.{no_table}

@@ -6,7 +6,7 @@ use Rattle.std.proofs.lemmas.Nat.{div-add-mod'}
 use Rattle.std.proofs.lemmas.Bool.{cases_lt}
 use Rattle.std.proofs.lemmas.Bool.Decides.{nat_tests}
 use Rattle.dmatypes.specs.declared.page.TheConstants.{SPAN_PAGES}
-use Rattle.tables.specs.Tree.{Found, span, leaf_from, table_from, is_large_leaf, IsLeafAt, IsTableAt}
+use Rattle.tables.specs.Tree.{LeafEntry, span, leaf_from, table_from, is_large_leaf, IsLeafAt, IsTableAt}
 use Rattle.tables.specs.Pool.{Pool, memory, occurs}
 use Rattle.tables.specs.Changes.{UnmapsPages}
 use Rattle.tables.specs.Lacks.{splits_leaf, leaves_splitting}
@@ -84,8 +84,8 @@ unmap_tables old new height root from to cut within un first level table at =
     (un.tables first level table (same_root height first from at.3 within) start)
 
 -- where none is split, the pages cover each leaf entry that they meet
-pub unmap_whole : (old : Pool) (level root from to : ℕ) → leaves_splitting (memory old.words) level root from to ≡ 0 → (p : ℕ) (x : Found)
-    → from ≤ p
+pub unmap_whole : (old : Pool) (level root from to : ℕ) → leaves_splitting (memory old.words) level root from to ≡ 0
+    → (p : ℕ) (x : LeafEntry) → from ≤ p
     → p < to → leaf_from (memory old.words) level root p ≡ Some x → (q : ℕ) → q / span x.size ≡ p / span x.size → (from ≤ q) × (q < to)
 unmap_whole old level root from to none p x low high leaf q near = by_size (cases_lt 0 x.size)
   where

@@ -11,10 +11,10 @@ use Rattle.vtdbits.specs.Translation.{target}
 use Rattle.vtdbits.specs.declared.entry.SsEntry.{SsEntry}
 use Rattle.vtdbits.specs.declared.entry.SsEntry.TheVariants.{Table, Leaf, LargeLeaf}
 use Rattle.tables.specs.Under.{IsSplit, ChangesUnder, used_by_entry}
-use Rattle.tables.specs.Tree.{Memory, Found, span, index_in, leaf_from, stated, states, uses, one_if_same, entry_uses, is_large_leaf}
+use Rattle.tables.specs.Tree.{Memory, LeafEntry, span, index_in, leaf_from, stated, states, uses, one_if_same, entry_uses, is_large_leaf}
 use Rattle.tables.specs.Pool.{Pool, word, memory, occurs, IsTree, IsWrite}
 use Rattle.tables.specs.Changes.{TakesAndGivesFrames, UnmapsPages}
-use Rattle.tables.specs.Pieces.{WritesEntries, piece_splits}
+use Rattle.tables.specs.Extents.{WritesEntries, extent_splits}
 use Rattle.tables.proofs.sums.OneFrame.{one_if_same-self}
 use Rattle.tables.proofs.walks.Levels.{stated_small, stated_large}
 use Rattle.tables.proofs.maps.Mapped.{moves_then}
@@ -142,7 +142,7 @@ split_unmaps old mid new t i from to c x tree a is s some short moves un =
             ⊎_elim
             (λ e.
             let size : y.size ≡ 1 =
-            sym (ap (λ (z : Found). z.size) (same_Some (record { size = 1; frame = x.frame; rights = x.rights }) y
+            sym (ap (λ (z : LeafEntry). z.size) (same_Some (record { size = 1; frame = x.frame; rights = x.rights }) y
             (sym (leaf_under m 1 t p (LargeLeaf x) (old_at p e)) ∙ h))) in
             absurd (far from (omega arith) some (subst (λ v. p / span v ≡ from / span v) (sym size) (span_of p wide e))))
             (λ ne. un.leaves p y wide (other_leaf old mid 1 t i p [] tree a s.under ne ∙ h) far)
@@ -191,39 +191,39 @@ split_unmaps old mid new t i from to c x tree a is s some short moves un =
       },
     )
 
--- ---- how many leaves are split for a piece
+-- ---- how many leaves are split for an extent
 
-pub leaves_splitting_whole : (m : Memory) (level t from to : ℕ) → SPAN_PAGES ≤ to - from → piece_splits m level t from to ≡ 0
-unfolding piece_splits
+pub leaves_splitting_whole : (m : Memory) (level t from to : ℕ) → SPAN_PAGES ≤ to - from → extent_splits m level t from to ≡ 0
+unfolding extent_splits
 leaves_splitting_whole m level t from to h =
     let yes : nat_le SPAN_PAGES (to - from) ≡ true = grind (arith, nat_tests) in
     ap (λ b. cond b 0 (cond (is_large_leaf (leaf_from m level t from)) 1 0)) yes
 
 pub leaves_splitting_part : (m : Memory) (level t from to : ℕ) → to - from < SPAN_PAGES
-    → piece_splits m level t from to ≡ cond (is_large_leaf (leaf_from m level t from)) 1 0
-unfolding piece_splits
+    → extent_splits m level t from to ≡ cond (is_large_leaf (leaf_from m level t from)) 1 0
+unfolding extent_splits
 leaves_splitting_part m level t from to h =
     let no : nat_le SPAN_PAGES (to - from) ≡ false = grind (arith, nat_tests) in
     ap (λ b. cond b 0 (cond (is_large_leaf (leaf_from m level t from)) 1 0)) no
 
-small_leaf : (m : Memory) (c p : ℕ) (o : Option Found) → leaf_from m 1 c p ≡ o → is_large_leaf o ≡ false
+small_leaf : (m : Memory) (c p : ℕ) (o : Option LeafEntry) → leaf_from m 1 c p ≡ o → is_large_leaf o ≡ false
 small_leaf m c p None e = refl
 small_leaf m c p (Some x) e = let lt : x.size < 1 = smaller m 1 c p x e in grind (arith, nat_tests)
 
 pub leaves_splitting_table : (m : Memory) (t from to c : ℕ) → to - from < SPAN_PAGES → m 2 t (index_in 1 from) ≡ Table c
-    → piece_splits m 2 t from to ≡ 0
+    → extent_splits m 2 t from to ≡ 0
 leaves_splitting_table m t from to c short is =
     leaves_splitting_part m 2 t from to short
     ∙ ap (λ o. cond (is_large_leaf o) 1 0) (leaf_under m 1 t from (Table c) is)
     ∙ ap (λ b. cond b 1 0) (small_leaf m c from (leaf_from m 1 c from) refl)
 
 pub leaves_splitting_large : (m : Memory) (t from to : ℕ) (x : Target) → to - from < SPAN_PAGES → m 2 t (index_in 1 from) ≡ LargeLeaf x
-    → piece_splits m 2 t from to ≡ 1
+    → extent_splits m 2 t from to ≡ 1
 leaves_splitting_large m t from to x short is =
     leaves_splitting_part m 2 t from to short ∙ ap (λ o. cond (is_large_leaf o) 1 0) (leaf_under m 1 t from (LargeLeaf x) is)
 
 -- and it is the same seen from above
 pub leaves_splitting_below : (m : Memory) (level level' t t' from to : ℕ) → leaf_from m level t from ≡ leaf_from m level' t' from
-    → piece_splits m level t from to ≡ piece_splits m level' t' from to
-unfolding piece_splits
+    → extent_splits m level t from to ≡ extent_splits m level' t' from to
+unfolding extent_splits
 leaves_splitting_below m level level' t t' from to e = ap (λ o. cond (nat_le SPAN_PAGES (to - from)) 0 (cond (is_large_leaf o) 1 0)) e

@@ -178,7 +178,7 @@ unmaps_then a b c level t from mid to cut more lo hi edge tree one moves moves' 
     apart_spans from mid to p q all low high e =
         let same : p / SPAN_PAGES ≡ q / SPAN_PAGES = sym (div_span_one p) ∙ e ∙ div_span_one q in omega (arith, all.0)
 
--- an unmap of a piece through the table under an entry, at a level one above
+-- an unmap of an extent through the table under an entry, at a level one above
 pub unmap_through : (old new : Pool) (level l t i c from to : ℕ) (cut : List ℕ) → level ≡ suc l → 1 < l → from < to
     → from / SPAN_PAGES ≡ (to - 1) / SPAN_PAGES → IsTree old level t → i < TABLE_ENTRIES → i ≡ index_in l from
     → memory old.words level t i ≡ Table c → TakesAndGivesFrames old new l c cut → UnmapsPages old new l c from to cut

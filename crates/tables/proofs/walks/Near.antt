@@ -8,7 +8,7 @@ use Rattle.tables.specs.declared.entries.TheConstants.{TABLE_ENTRIES}
 use Rattle.tables.proofs.walks.Onward.{deeper}
 use Rattle.vtdbits.specs.declared.entry.SsEntry.{SsEntry}
 use Rattle.vtdbits.specs.declared.entry.SsEntry.TheVariants.{Absent, Table, Leaf, LargeLeaf}
-use Rattle.tables.specs.Tree.{Memory, Found, span, index_in, leaf_of, table_of, leaf_from, table_from}
+use Rattle.tables.specs.Tree.{Memory, LeafEntry, span, index_in, leaf_of, table_of, leaf_from, table_from}
 
 pub span_pos : (l : ℕ) → 0 < span l
 unfolding span
@@ -47,20 +47,20 @@ near_at j (suc l) p q le e =
     ⊎_elim (λ (same : j ≡ suc l). subst (λ i. p / span i ≡ q / span i) same e)
     (λ (lt : j < suc l). wider l p q (near_at j l p q (omega arith) e)) (eq-or-lt_of_le le)
 
-size_of : (m : Memory) (l p : ℕ) (x : Found) (e : SsEntry) → ((t : ℕ) → leaf_from m l t p ≡ Some x → x.size < l)
+size_of : (m : Memory) (l p : ℕ) (x : LeafEntry) (e : SsEntry) → ((t : ℕ) → leaf_from m l t p ≡ Some x → x.size < l)
     → leaf_of e l (λ c. leaf_from m l c p) ≡ Some x → x.size ≤ l
 size_of m l p x Absent go h = absurd (none-some x h)
 size_of m l p x (Table t) go h = let k : x.size < l = go t h in omega arith
-size_of m l p x (Leaf s) go h = let k : l ≡ x.size = ap (λ (y : Found). y.size) (same_Some _ x h) in omega arith
-size_of m l p x (LargeLeaf s) go h = let k : l ≡ x.size = ap (λ (y : Found). y.size) (same_Some _ x h) in omega arith
+size_of m l p x (Leaf s) go h = let k : l ≡ x.size = ap (λ (y : LeafEntry). y.size) (same_Some _ x h) in omega arith
+size_of m l p x (LargeLeaf s) go h = let k : l ≡ x.size = ap (λ (y : LeafEntry). y.size) (same_Some _ x h) in omega arith
 
-pub smaller : (m : Memory) (l t p : ℕ) (x : Found) → leaf_from m l t p ≡ Some x → x.size < l
+pub smaller : (m : Memory) (l t p : ℕ) (x : LeafEntry) → leaf_from m l t p ≡ Some x → x.size < l
 unfolding leaf_from
 smaller m zero t p x h = absurd (none-some x h)
 smaller m (suc l) t p x h =
     let k : x.size ≤ l = size_of m l p x (m (suc l) t (index_in l p)) (λ t' h'. smaller m l t' p x h') h in omega arith
 
-near_by : (m : Memory) (l p q : ℕ) (x : Found) (e : SsEntry) → ((t : ℕ) → leaf_from m l t p ≡ Some x → leaf_from m l t q ≡ Some x)
+near_by : (m : Memory) (l p q : ℕ) (x : LeafEntry) (e : SsEntry) → ((t : ℕ) → leaf_from m l t p ≡ Some x → leaf_from m l t q ≡ Some x)
     → leaf_of e l (λ c. leaf_from m l c p) ≡ Some x → leaf_of e l (λ c. leaf_from m l c q) ≡ Some x
 near_by m l p q x Absent go h = h
 near_by m l p q x (Table t) go h = go t h
@@ -68,7 +68,7 @@ near_by m l p q x (Leaf s) go h = h
 near_by m l p q x (LargeLeaf s) go h = h
 
 -- the pages of a leaf's span meet that leaf
-pub near_leaf : (m : Memory) (l t p q : ℕ) (x : Found) → p / span x.size ≡ q / span x.size → leaf_from m l t p ≡ Some x
+pub near_leaf : (m : Memory) (l t p q : ℕ) (x : LeafEntry) → p / span x.size ≡ q / span x.size → leaf_from m l t p ≡ Some x
     → leaf_from m l t q ≡ Some x
 unfolding leaf_from
 near_leaf m zero t p q x e h = h

@@ -9,46 +9,46 @@ use Rattle.vtdbits.specs.Entry.{look}
 use Rattle.vtdbits.proofs.Entries.{leaf_looked, large_leaf_looked}
 use Rattle.vtdbits.specs.declared.entry.SsEntry.{SsEntry}
 use Rattle.vtdbits.specs.declared.entry.SsEntry.TheVariants.{Absent, Table, Leaf, LargeLeaf}
-use Rattle.tables.specs.Tree.{Found, span, index_in, leaf_of, leaf_from, is_large_leaf}
+use Rattle.tables.specs.Tree.{LeafEntry, span, index_in, leaf_of, leaf_from, is_large_leaf}
 use Rattle.tables.specs.Pool.{Pool, word, memory}
 use Rattle.tables.specs.Changes.{UnmapsPages}
 use Rattle.tables.specs.Lacks.{splits_leaf}
-use Rattle.tables.specs.Pieces.{piece_splits}
+use Rattle.tables.specs.Extents.{extent_splits}
 use Rattle.tables.proofs.walks.Near.{near_leaf, near_at}
 use Rattle.tables.proofs.walks.Steps.{leaf-suc, leaf-zero, div_span_one}
 use Rattle.tables.proofs.sums.OverSpans.{splitting_covered, splitting_else}
 use Rattle.tables.proofs.unmaps.SplitLeaf.{leaves_splitting_whole, leaves_splitting_part}
 use Rattle.tables.proofs.walks.Words.{memory_at}
 
-size_by : (words : List ℕ) (l t p : ℕ) (x : Found) (e : SsEntry) → look (suc l) (word words t (index_in l p)) ≡ e
+size_by : (words : List ℕ) (l t p : ℕ) (x : LeafEntry) (e : SsEntry) → look (suc l) (word words t (index_in l p)) ≡ e
     → ((c : ℕ) → leaf_from (memory words) l c p ≡ Some x → x.size < 2) → leaf_of e l (λ c. leaf_from (memory words) l c p) ≡ Some x
     → x.size < 2
 size_by words l t p x Absent is below h = absurd (none-some x h)
 size_by words l t p x (Table c) is below h = below c h
 size_by words l t p x (Leaf y) is below h =
     let s = leaf_looked (suc l) (word words t (index_in l p)) y is in
-    let size : l ≡ x.size = ap (λ (z : Found). z.size) (same_Some (record { size = l; frame = y.frame; rights = y.rights }) x h) in
+    let size : l ≡ x.size = ap (λ (z : LeafEntry). z.size) (same_Some (record { size = l; frame = y.frame; rights = y.rights }) x h) in
     omega (arith, s.0)
 size_by words l t p x (LargeLeaf y) is below h =
     let s = large_leaf_looked (suc l) (word words t (index_in l p)) y is in
-    let size : l ≡ x.size = ap (λ (z : Found). z.size) (same_Some (record { size = l; frame = y.frame; rights = y.rights }) x h) in
+    let size : l ≡ x.size = ap (λ (z : LeafEntry). z.size) (same_Some (record { size = l; frame = y.frame; rights = y.rights }) x h) in
     omega (arith, s.0)
 
 -- no walk meets a leaf of more than 512 pages
-pub leaf_size : (words : List ℕ) (l t p : ℕ) (x : Found) → leaf_from (memory words) l t p ≡ Some x → x.size < 2
+pub leaf_size : (words : List ℕ) (l t p : ℕ) (x : LeafEntry) → leaf_from (memory words) l t p ≡ Some x → x.size < 2
 leaf_size words zero t p x h = absurd (none-some x (sym (leaf-zero (memory words) t p) ∙ h))
 leaf_size words (suc l) t p x h =
     size_by words l t p x (look (suc l) (word words t (index_in l p))) refl (λ c k. leaf_size words l c p x k)
     (ap (λ e. leaf_of e l (λ c. leaf_from (memory words) l c p)) (sym (memory_at words (suc l) t (index_in l p)))
     ∙ sym (leaf-suc (memory words) l t p) ∙ h)
 
-large_is : (x : Found) → 0 < x.size → is_large_leaf (Some x) ≡ true
+large_is : (x : LeafEntry) → 0 < x.size → is_large_leaf (Some x) ≡ true
 large_is x h = grind (arith, nat_tests)
 
-large_not : (x : Found) → x.size ≤ 0 → is_large_leaf (Some x) ≡ false
+large_not : (x : LeafEntry) → x.size ≤ 0 → is_large_leaf (Some x) ≡ false
 large_not x h = grind (arith, nat_tests)
 
-one_large : (words : List ℕ) (l t p q : ℕ) (o : Option Found) → p / span 1 ≡ q / span 1 → leaf_from (memory words) l t p ≡ o
+one_large : (words : List ℕ) (l t p q : ℕ) (o : Option LeafEntry) → p / span 1 ≡ q / span 1 → leaf_from (memory words) l t p ≡ o
     → is_large_leaf o ≡ true → is_large_leaf (leaf_from (memory words) l t q) ≡ true
 one_large words l t p q None near h large = cc
 one_large words l t p q (Some x) near h large =
@@ -73,7 +73,7 @@ pub leaf_ahead : (old cur : Pool) (level root from place : ℕ) (cut : List ℕ)
     → leaf_from (memory cur.words) level root place ≡ leaf_from (memory old.words) level root place
 leaf_ahead old cur level root from place cut un edge wide there = by_leaf (leaf_from (memory old.words) level root place) refl there
   where
-    far : (x : Found) → x.size < 2 → (q : ℕ) → from ≤ q → q < place → place / span x.size ≡ q / span x.size → ⊥
+    far : (x : LeafEntry) → x.size < 2 → (q : ℕ) → from ≤ q → q < place → place / span x.size ≡ q / span x.size → ⊥
     far x size q low high e =
         ⊎_elim
         (λ (even : place % SPAN_PAGES ≡ 0).
@@ -83,18 +83,18 @@ leaf_ahead old cur level root from place cut un edge wide there = by_leaf (leaf_
         (λ (here : place ≡ from). omega arith)
         edge
 
-    by_leaf : (o : Option Found) → leaf_from (memory old.words) level root place ≡ o → IsSome o
+    by_leaf : (o : Option LeafEntry) → leaf_from (memory old.words) level root place ≡ o → IsSome o
         → leaf_from (memory cur.words) level root place ≡ o
     by_leaf None e h = cc
     by_leaf (Some x) e h = un.leaves place x wide e (far x (leaf_size old.words level root place x e))
 
--- what a piece splits is what its span splits of the whole
-pub piece_is : (old cur : Pool) (level root from to place next : ℕ) → from ≤ place → place < next → next ≤ to
+-- what an extent splits is what its span splits of the whole
+pub extent_is : (old cur : Pool) (level root from to place next : ℕ) → from ≤ place → place < next → next ≤ to
     → place / SPAN_PAGES ≡ (next - 1) / SPAN_PAGES → ((place % SPAN_PAGES ≡ 0) ⊎ (place ≡ from)) → ((next % SPAN_PAGES ≡ 0) ⊎ (next ≡ to))
     → leaf_from (memory cur.words) level root place ≡ leaf_from (memory old.words) level root place
-    → piece_splits (memory cur.words) level root place next
+    → extent_splits (memory cur.words) level root place next
     ≡ splits_leaf (memory old.words) level root from to (place / SPAN_PAGES * SPAN_PAGES)
-piece_is old cur level root from to place next low some high one edge end same =
+extent_is old cur level root from to place next low some high one edge end same =
     ⊎_elim
     (λ (part : next - place < SPAN_PAGES).
     leaves_splitting_part (memory cur.words) level root place next part

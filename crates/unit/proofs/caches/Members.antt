@@ -7,7 +7,7 @@ use Rattle.dmatypes.proofs.lists.Filtered.{in_filter}
 use Rattle.dmatypes.specs.declared.call.Cache.{Cache}
 use Rattle.dmatypes.specs.declared.call.Cache.TheVariants as kinds
 use Rattle.vtdbits.specs.declared.descriptor.Descriptor.{Descriptor}
-use Rattle.tables.specs.Tree.{Found}
+use Rattle.tables.specs.Tree.{LeafEntry}
 use Rattle.unit.specs.Caches.{CachedLeaf, CachedNonLeaf, CachedContext, CachedFault, Caches, without}
 use Rattle.unit.specs.Filters.{drops_leaf, drops_non_leaf, drops_context, drops_fault, left_by}
 use Rattle.unit.specs.Walking.{met, met_leaf}
@@ -75,7 +75,7 @@ without_fault kinds.Fault place c f h = in_remove f c.faults place h
 -- ---- requests
 
 -- a leaf that a walk met is that of the entry on the page's way
-pub met_is : (domain page : ℕ) (r : Option Found) (l : CachedLeaf) → met domain page r ≡ Some l
-    → (x : Found) × (r ≡ Some x) × (l ≡ met_leaf domain page x)
+pub met_is : (domain page : ℕ) (r : Option LeafEntry) (l : CachedLeaf) → met domain page r ≡ Some l
+    → (x : LeafEntry) × (r ≡ Some x) × (l ≡ met_leaf domain page x)
 met_is domain page None l e = absurd (cc)
 met_is domain page (Some x) l e = (x, refl, sym (same_Some (met_leaf domain page x) l e))

@@ -9,7 +9,7 @@ use Rattle.dmatypes.specs.World.{IsIn, Target}
 use Rattle.vtdbits.specs.Translation.{target}
 use Rattle.std.proofs.lemmas.Bool.Decides.{nat_tests}
 use Rattle.tables.proofs.walks.Near.{span_pos}
-use Rattle.tables.specs.Tree.{Memory, Found, span, leaf_from, stated, states}
+use Rattle.tables.specs.Tree.{Memory, LeafEntry, span, leaf_from, stated, states}
 use Rattle.unit.specs.Caches.{CachedLeaf, CachedNonLeaf, CachedContext, CachedFault, fault}
 use Rattle.unit.proofs.caches.Found.{both}
 use Rattle.unit.proofs.caches.Remembered.{any_in}
@@ -17,25 +17,25 @@ use Rattle.unit.specs.Lists.{Gains}
 use Rattle.unit.specs.Walking.{hold, met, met_leaf, stated_by, IsPassed}
 use Rattle.unit.specs.Answers.{Entries, IsStart, IsRead, entries}
 
-met_none : (d p : ℕ) (r : Option Found) → None ≡ met d p r → None ≡ stated p r
+met_none : (d p : ℕ) (r : Option LeafEntry) → None ≡ met d p r → None ≡ stated p r
 met_none d p None e = refl
 met_none d p (Some x) e = absurd (cc)
 
 behind : (p s : ℕ) → p - (p - p % s) ≡ p % s
 behind p s = let low = mod-le p s in omega arith
 
-met_some : (d p : ℕ) (r : Option Found) (l : CachedLeaf) → Some l ≡ met d p r → Some (stated_by p l) ≡ stated p r
+met_some : (d p : ℕ) (r : Option LeafEntry) (l : CachedLeaf) → Some l ≡ met d p r → Some (stated_by p l) ≡ stated p r
 met_some d p None l e = absurd (cc)
 met_some d p (Some x) l e =
     let same : l ≡ met_leaf d p x = same_Some l (met_leaf d p x) e in
     ap (λ (k : CachedLeaf). Some (stated_by p k)) same ∙ ap (λ (n : ℕ). Some (target (x.frame + n) x.rights)) (behind p (span x.size))
 
 -- the leaf that a walk met is of the domain and holds the page
-pub met_domain : (d p : ℕ) (r : Option Found) (l : CachedLeaf) → Some l ≡ met d p r → l.domain ≡ d
+pub met_domain : (d p : ℕ) (r : Option LeafEntry) (l : CachedLeaf) → Some l ≡ met d p r → l.domain ≡ d
 met_domain d p None l e = absurd (cc)
 met_domain d p (Some x) l e = ap (λ (k : CachedLeaf). k.domain) (same_Some l (met_leaf d p x) e)
 
-pub met_holds : (d p : ℕ) (r : Option Found) (l : CachedLeaf) → Some l ≡ met d p r → IsTrue (hold l.first l.pages p)
+pub met_holds : (d p : ℕ) (r : Option LeafEntry) (l : CachedLeaf) → Some l ≡ met d p r → IsTrue (hold l.first l.pages p)
 met_holds d p None l e = absurd (cc)
 met_holds d p (Some x) l e =
     let within : p % span x.size < span x.size = mod-lt p (span_pos x.size) in

@@ -6,11 +6,11 @@ use Rattle.vtdbits.specs.Translation.{target}
 use Rattle.vtdbits.specs.declared.entry.SsEntry.TheVariants.{LargeLeaf}
 use Rattle.dmatypes.specs.Rights.{bits_of}
 use Rattle.tables.specs.Changes.{TakesAndGivesFrames, KeepsSpellings, MapsPages}
-use Rattle.tables.specs.Pieces.{piece_states}
+use Rattle.tables.specs.Extents.{extent_states}
 use Rattle.tables.specs.Tree.{table_from}
 use Rattle.tables.specs.Pool.{memory}
 use Rattle.tables.proofs.maps.Large.{large_maps}
-use Rattle.tables.proofs.maps.LargePieces.{large_from}
+use Rattle.tables.proofs.maps.LargeExtents.{large_from}
 use Rattle.tables.proofs.unmaps.UnderEntry.{root_in, root_taken}
 use Rattle.tables.proofs.walks.Words.{memory_at}
 use Rattle.tables.proofs.walks.Onward.{index_lt}
@@ -26,28 +26,28 @@ write-requires-clause-taken c = root_taken c.args.pool.now 1 c.args.table c.requ
 -- what the one word that was written changed
 written : (c : After-write)
     → TakesAndGivesFrames c.args.pool.now c.write.new.self 2 c.args.table []
-    × MapsPages c.args.pool.now c.write.new.self 2 c.args.table c.args.piece.now.from c.args.piece.now.to (piece_states c.args.piece.now)
-    × ((p w : ℕ)
+    × MapsPages c.args.pool.now c.write.new.self 2 c.args.table c.args.extent.now.from c.args.extent.now.to
+    (extent_states c.args.extent.now) × ((p w : ℕ)
     → table_from (memory c.write.new.self.words) 2 c.args.table p w ≡ table_from (memory c.args.pool.now.words) 2 c.args.table p w)
     × KeepsSpellings c.args.pool.now c.write.new.self 2 c.args.table
 written c =
-    let whole = large_from c.args.piece.now c.requires.large in
-    let named : c.unwrap-frame.result ≡ c.args.piece.now.frame = (rw c.unwrap-frame.ensures at c.new.ensures.value) in
-    let leaf : c.new-leaf.result ≡ target c.args.piece.now.frame (bits_of c.args.piece.now.rights) =
-    c.new-leaf.ensures ∙ ap (λ f. target f (bits_of c.args.piece.now.rights)) named in
+    let whole = large_from c.args.extent.now c.requires.large in
+    let named : c.unwrap-frame.result ≡ c.args.extent.now.frame = (rw c.unwrap-frame.ensures at c.new.ensures.value) in
+    let leaf : c.new-leaf.result ≡ target c.args.extent.now.frame (bits_of c.args.extent.now.rights) =
+    c.new-leaf.ensures ∙ ap (λ f. target f (bits_of c.args.extent.now.rights)) named in
     let names : memory c.write.new.self.words 2 c.args.table c.args.index
-    ≡ LargeLeaf (target c.args.piece.now.frame (bits_of c.args.piece.now.rights)) =
+    ≡ LargeLeaf (target c.args.extent.now.frame (bits_of c.args.extent.now.rights)) =
     memory_at c.write.new.self.words 2 c.args.table c.args.index ∙ ap (look 2) c.write.ensures.wrote.0 ∙ c.encode.ensures.looked 2 refl
     ∙ ap LargeLeaf leaf in
-    let inside : c.args.index < TABLE_ENTRIES = omega (arith, index_lt 1 c.args.piece.now.from, c.requires.index) in
+    let inside : c.args.index < TABLE_ENTRIES = omega (arith, index_lt 1 c.args.extent.now.from, c.requires.index) in
     let all =
-    large_maps c.args.pool.now c.write.new.self c.args.table c.args.index c.args.piece.now.from c.args.piece.now.frame
-    (bits_of c.args.piece.now.rights) c.encode.result c.requires.tree inside c.requires.index whole.0 c.write.ensures.wrote
+    large_maps c.args.pool.now c.write.new.self c.args.table c.args.index c.args.extent.now.from c.args.extent.now.frame
+    (bits_of c.args.extent.now.rights) c.encode.result c.requires.tree inside c.requires.index whole.0 c.write.ensures.wrote
     c.write.ensures.free c.write.ensures.frames c.requires.absent names in
-    let end : c.args.piece.now.from + SPAN_PAGES ≡ c.args.piece.now.to = omega (arith, whole.1, c.args.piece.now.some) in (
+    let end : c.args.extent.now.from + SPAN_PAGES ≡ c.args.extent.now.to = omega (arith, whole.1, c.args.extent.now.some) in (
       all.0,
-      subst (λ to. MapsPages c.args.pool.now c.write.new.self 2 c.args.table c.args.piece.now.from to (piece_states c.args.piece.now)) end
-          all.1,
+      subst (λ to. MapsPages c.args.pool.now c.write.new.self 2 c.args.table c.args.extent.now.from to (extent_states c.args.extent.now))
+          end all.1,
       all.2,
       all.3,
     )

@@ -14,8 +14,8 @@ use Rattle.tables.proofs.walks.Steps.{leaf_under}
 use Rattle.vtdbits.specs.Entry.{MayStandAt}
 use Rattle.tables.specs.Tree.{leaf_from}
 use Rattle.std.proofs.Common.{Option, Some, None, IsSome, inl, inr}
-use Rattle.tables.specs.Pieces.{WritesEntries}
-use Rattle.tables.specs.Tree.{Found}
+use Rattle.tables.specs.Extents.{WritesEntries}
+use Rattle.tables.specs.Tree.{LeafEntry}
 use Rattle.tables.proofs.unmaps.Cleared.{run_through, large_gone}
 use Rattle.tables.proofs.unmaps.CutTable.{table_cut, under_cut}
 use Rattle.tables.proofs.maps.Large.{under_written}
@@ -288,7 +288,7 @@ returns-else-is_whole-clause-count c =
     )
 
 -- the pages are there
-not_there : (o : Option Found) → o ≡ None → IsSome o → ⊥
+not_there : (o : Option LeafEntry) → o ≡ None → IsSome o → ⊥
 not_there None e h = cc
 not_there (Some x) e h = cc
 

@@ -21,12 +21,12 @@ no_word : (t i f k : ℕ) → (f ≡ t → k ≡ i → ⊥) → f ≢ t ⊎ (k �
 no_word t i f k h = ⊎_elim (λ same. inr (λ e. h same e)) (λ ne. inl ne) (same_or_not f t)
 
 -- a table of nothing, in a frame that was free
-pub under_grown : (old new : Pool) (l t i c : ℕ) → IsTree old (suc (suc l)) t → i < TABLE_ENTRIES
+pub under_added : (old new : Pool) (l t i c : ℕ) → IsTree old (suc (suc l)) t → i < TABLE_ENTRIES
     → memory old.words (suc (suc l)) t i ≡ Absent → memory new.words (suc (suc l)) t i ≡ Table c
     → ((f : ℕ) → occurs f new.free + one_if_same c f ≡ occurs f old.free) → IsBare (memory new.words) c
     → ((f k : ℕ) → k < TABLE_ENTRIES → (f ≡ t → k ≡ i → ⊥) → word new.words f k ≡ word old.words f k) → new.frames ≡ old.frames
     → ChangesUnder old new (suc l) t i []
-under_grown old new l t i c tree a absent names free bare rest frames =
+under_added old new l t i c tree a absent names free bare rest frames =
     let m : Memory = memory old.words in
     let n : Memory = memory new.words in
     record {
@@ -41,17 +41,17 @@ under_grown old new l t i c tree a absent names free bare rest frames =
       frames = frames;
     }
 
--- the facts of a grown table: nothing that is stated changes
-pub record IsGrown (old new : Pool) (l t i c : ℕ) : Type 0 where
+-- the facts of an added table: nothing that is stated changes
+pub record IsAdded (old new : Pool) (l t i c : ℕ) : Type 0 where
   pub under : ChangesUnder old new l t i []
   pub absent : memory old.words (suc l) t i ≡ Absent
   pub names : memory new.words (suc l) t i ≡ Table c
   pub bare : IsBare (memory new.words) c
   pub free : 0 < occurs c old.free
 
-pub grown_leaf : (old new : Pool) (l t i c p : ℕ) → IsTree old (suc l) t → i < TABLE_ENTRIES → IsGrown old new l t i c
+pub added_leaf : (old new : Pool) (l t i c p : ℕ) → IsTree old (suc l) t → i < TABLE_ENTRIES → IsAdded old new l t i c
     → leaf_from (memory new.words) (suc l) t p ≡ leaf_from (memory old.words) (suc l) t p
-grown_leaf old new l t i c p tree a g =
+added_leaf old new l t i c p tree a g =
     let m : Memory = memory old.words in
     let n : Memory = memory new.words in
     ⊎_elim
@@ -70,10 +70,10 @@ new_table n l c p w x bare h =
     (cases_lt w (suc l)))
     (same_or_not w (suc l))
 
-pub grown_maps : (old new : Pool) (l t i c from to : ℕ) → IsTree old (suc (suc l)) t → i < TABLE_ENTRIES → from < to
-    → index_in (suc l) from ≡ i → IsGrown old new (suc l) t i c
+pub added_maps : (old new : Pool) (l t i c from to : ℕ) → IsTree old (suc (suc l)) t → i < TABLE_ENTRIES → from < to
+    → index_in (suc l) from ≡ i → IsAdded old new (suc l) t i c
     → MapsPages old new (suc (suc l)) t from to (states (memory old.words) (suc (suc l)) t)
-grown_maps old new l t i c from to tree a some is g =
+added_maps old new l t i c from to tree a some is g =
     let m : Memory = memory old.words in
     let n : Memory = memory new.words in
     let here_old : (p : ℕ) → index_in (suc l) p ≡ i → m (suc (suc l)) t (index_in (suc l) p) ≡ Absent =
@@ -81,8 +81,8 @@ grown_maps old new l t i c from to tree a some is g =
     let here_new : (p : ℕ) → index_in (suc l) p ≡ i → n (suc (suc l)) t (index_in (suc l) p) ≡ Table c =
     λ p e. ap (λ j. n (suc (suc l)) t j) e ∙ g.names in
     record {
-      mapped = λ p low high. ap (stated p) (grown_leaf old new (suc l) t i c p tree a g);
-      elsewhere = λ p wide out. grown_leaf old new (suc l) t i c p tree a g;
+      mapped = λ p low high. ap (stated p) (added_leaf old new (suc l) t i c p tree a g);
+      elsewhere = λ p wide out. added_leaf old new (suc l) t i c p tree a g;
       tables = λ p w x h.
           ⊎_elim
           (λ e. ⊎_elim
@@ -122,7 +122,7 @@ grown_maps old new l t i c from to tree a some is g =
     }
 
 -- what the making of a table is
-pub record Grows (old new : Pool) (level l t i c : ℕ) : Type 0 where
+pub record AddsTable (old new : Pool) (level l t i c : ℕ) : Type 0 where
   pub moves : TakesAndGivesFrames old new level t []
   pub maps : (from to : ℕ) → from < to → index_in l from ≡ i → MapsPages old new level t from to (states (memory old.words) level t)
   pub leaves : (p : ℕ) → leaf_from (memory new.words) level t p ≡ leaf_from (memory old.words) level t p
@@ -130,12 +130,12 @@ pub record Grows (old new : Pool) (level l t i c : ℕ) : Type 0 where
   pub zeroed : IsZeroed new.words c
   pub spelled : KeepsSpellings old new level t
 
-grows_two : (old mid new : Pool) (l t i c value : ℕ) → IsTree old (suc (suc l)) t → i < TABLE_ENTRIES
+adds_two : (old mid new : Pool) (l t i c value : ℕ) → IsTree old (suc (suc l)) t → i < TABLE_ENTRIES
     → memory old.words (suc (suc l)) t i ≡ Absent → look (suc (suc l)) value ≡ Table c
     → ((f : ℕ) → occurs f mid.free + one_if_same c f ≡ occurs f old.free) → IsZeroed mid.words c → mid.words ≡ old.words
     → mid.frames ≡ old.frames
-    → IsWrite mid.words new.words t i value → new.free ≡ mid.free → new.frames ≡ mid.frames → Grows old new (suc (suc l)) (suc l) t i c
-grows_two old mid new l t i c value tree a absent reads free zeroed same_words same_frames wrote same_free frames =
+    → IsWrite mid.words new.words t i value → new.free ≡ mid.free → new.frames ≡ mid.frames → AddsTable old new (suc (suc l)) (suc l) t i c
+adds_two old mid new l t i c value tree a absent reads free zeroed same_words same_frames wrote same_free frames =
     let n : Memory = memory new.words in
     let c_free : 0 < occurs c old.free = omega (arith, free c, one_if_same-self c) in
     let apart : c ≡ t → ⊥ =
@@ -151,25 +151,25 @@ grows_two old mid new l t i c value tree a absent reads free zeroed same_words s
     λ f k k_in ne. wrote.1 f k k_in ne ∙ ap (λ ws. word ws f k) same_words in
     let bare : IsBare n c = zeroed_bare new.words c zeroed_now in
     let u : ChangesUnder old new (suc l) t i [] =
-    under_grown old new l t i c tree a absent names free_now bare rest (frames ∙ same_frames) in
-    let g : IsGrown old new (suc l) t i c = record { under = u; absent = absent; names = names; bare = bare; free = c_free } in
+    under_added old new l t i c tree a absent names free_now bare rest (frames ∙ same_frames) in
+    let g : IsAdded old new (suc l) t i c = record { under = u; absent = absent; names = names; bare = bare; free = c_free } in
     record {
       moves = under_moves old new (suc l) t i [] tree a u;
-      maps = λ from to some is. grown_maps old new l t i c from to tree a some is g;
-      leaves = λ p. grown_leaf old new (suc l) t i c p tree a g;
+      maps = λ from to some is. added_maps old new l t i c from to tree a some is g;
+      leaves = λ p. added_leaf old new (suc l) t i c p tree a g;
       names = names;
       zeroed = zeroed_now;
       spelled = table_spelled old new (suc l) t i c [] tree a u names (λ _. zeroed_spelled new.words (suc l) c zeroed_now);
     }
 
-pub grows : (old mid new : Pool) (level l t i c value : ℕ) → level ≡ suc (suc l) → IsTree old level t → i < TABLE_ENTRIES
+pub adds_table : (old mid new : Pool) (level l t i c value : ℕ) → level ≡ suc (suc l) → IsTree old level t → i < TABLE_ENTRIES
     → memory old.words level t i ≡ Absent → look level value ≡ Table c → ((f : ℕ) → occurs f mid.free + one_if_same c f ≡ occurs f old.free)
     → IsZeroed mid.words c → mid.words ≡ old.words → mid.frames ≡ old.frames → IsWrite mid.words new.words t i value → new.free ≡ mid.free
-    → new.frames ≡ mid.frames → Grows old new level (suc l) t i c
-grows old mid new level l t i c value up =
+    → new.frames ≡ mid.frames → AddsTable old new level (suc l) t i c
+adds_table old mid new level l t i c value up =
     subst (λ n. IsTree old n t → i < TABLE_ENTRIES → memory old.words n t i ≡ Absent
     → look n value ≡ Table c → ((f : ℕ) → occurs f mid.free + one_if_same c f ≡ occurs f old.free) → IsZeroed mid.words c
     → mid.words ≡ old.words
     → mid.frames ≡ old.frames
-    → IsWrite mid.words new.words t i value → new.free ≡ mid.free → new.frames ≡ mid.frames → Grows old new n (suc l) t i c) (sym up)
-    (grows_two old mid new l t i c value)
+    → IsWrite mid.words new.words t i value → new.free ≡ mid.free → new.frames ≡ mid.frames → AddsTable old new n (suc l) t i c) (sym up)
+    (adds_two old mid new l t i c value)

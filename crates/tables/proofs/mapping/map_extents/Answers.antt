@@ -5,21 +5,21 @@ use Rattle.dmatypes.specs.Conditions.{total_pages}
 use Rattle.dmatypes.specs.Rights.{bits_of}
 use Rattle.dmatypes.specs.World.{placed}
 use Rattle.dmatypes.specs.declared.call.Segment.{Segment}
-use Rattle.tables.specs.declared.piece.Piece.{Piece}
+use Rattle.tables.specs.declared.extent.Extent.{Extent}
 use Rattle.tables.specs.Tree.{span}
 use Rattle.tables.specs.Pool.{memory}
 use Rattle.tables.specs.Changes.{MapsPages, MakesTables}
 use Rattle.tables.specs.Segments.{is_large_at}
 use Rattle.tables.specs.Lacks.{tables_lacking}
-use Rattle.tables.specs.Pieces.{piece_states, is_large}
-use Rattle.tables.proofs.counts.ByPieces.{Placed, lacks_least, lacks_step, lacks_ended}
-use Rattle.tables.proofs.maps.LargePieces.{small_piece, short_piece}
+use Rattle.tables.specs.Extents.{extent_states, is_large}
+use Rattle.tables.proofs.counts.ByExtents.{Placed, lacks_least, lacks_step, lacks_ended}
+use Rattle.tables.proofs.maps.LargeExtents.{small_extent, short_extent}
 use Rattle.tables.proofs.maps.TablesMade.{no_makes, makes_then}
 use Rattle.tables.proofs.maps.Mapped.{no_moves, no_maps, moves_then, maps_then, maps_said}
 use Rattle.tables.proofs.walks.Near.{span_pos}
 use Rattle.tables.proofs.sums.OverSpans.{div_mono}
 use Rattle.tables.proofs.maps.Placed.{none_passed, not_large, rest_below, still_passed}
-use Rattle.tables.proofs.mapping.map_pieces.Goals as goal
+use Rattle.tables.proofs.mapping.map_extents.Goals as goal
 
 -- the pages are in one span of the root
 in_span : (l from to p : ℕ) → 0 < to → from / span l ≡ (from + to - 1) / span l → from ≤ p → p < from + to → p / span l ≡ from / span l
@@ -28,23 +28,23 @@ in_span l from to p some one low high =
     let before : p / span l ≤ (from + to - 1) / span l = div_mono p (from + to - 1) (span l) (span_pos l) (omega arith) in
     omega arith
 
--- where a large leaf begins, a piece can be one
-flag : (segments : List Segment) (first place : ℕ) (x : Piece) → x.from ≡ place → is_large x ≡ is_large_at segments first place
+-- where a large leaf begins, an extent can be one
+flag : (segments : List Segment) (first place : ℕ) (x : Extent) → x.from ≡ place → is_large x ≡ is_large_at segments first place
     → (0 < place % SPAN_PAGES → is_large_at segments first (SPAN_PAGES * (place / SPAN_PAGES)) ≡ false)
     → is_large_at segments first (x.from / SPAN_PAGES * SPAN_PAGES) ≡ is_large x
 flag segments first place x at large inner =
     ⊎_elim
     (λ (inside : 0 < place % SPAN_PAGES).
     let start : x.from / SPAN_PAGES * SPAN_PAGES ≡ SPAN_PAGES * (place / SPAN_PAGES) = omega arith in
-    let small : is_large x ≡ false = small_piece x (omega arith) in
+    let small : is_large x ≡ false = small_extent x (omega arith) in
     ap (is_large_at segments first) start ∙ inner inside ∙ sym small)
     (λ (edge : place % SPAN_PAGES ≤ 0).
     let start : x.from / SPAN_PAGES * SPAN_PAGES ≡ place = omega arith in
     ap (is_large_at segments first) start ∙ sym large)
     (cases_lt 0 (place % SPAN_PAGES))
 
-pub loop-piece-init : goal.loop-piece-init
-loop-piece-init c = record {
+pub loop-extent-init : goal.loop-extent-init
+loop-extent-init c = record {
   low = omega arith;
   high = omega arith;
   moves = no_moves c.args.pool.now c.args.level c.args.root;
@@ -61,35 +61,35 @@ loop-piece-init c = record {
   makes = no_makes c.args.pool.now c.args.level c.args.root c.args.first (is_large_at c.args.segments.now c.args.first);
 }
 
-pub map_piece-requires-clause-absent : goal.map_piece-requires-clause-absent
-map_piece-requires-clause-absent c p low high =
-    let from : c.loop-piece.place ≤ p = omega (arith, c.in-Some.ensures.page) in
+pub map_extent-requires-clause-absent : goal.map_extent-requires-clause-absent
+map_extent-requires-clause-absent c p low high =
+    let from : c.loop-extent.place ≤ p = omega (arith, c.in-Some.ensures.page) in
     let to : p < c.args.first + total_pages c.args.segments.now = omega (arith, c.in-Some.ensures.within) in
-    let start : c.args.first ≤ p = omega (arith, c.loop-piece.invariant.low) in
-    c.loop-piece.invariant.maps.elsewhere p
+    let start : c.args.first ≤ p = omega (arith, c.loop-extent.invariant.low) in
+    c.loop-extent.invariant.maps.elsewhere p
     (in_span c.args.level c.args.first (total_pages c.args.segments.now) p c.requires.some c.requires.one_span start to) (inr from)
     ∙ c.requires.absent p start to
 
-pub map_piece-requires-clause-room : goal.map_piece-requires-clause-room
-map_piece-requires-clause-room c =
+pub map_extent-requires-clause-room : goal.map_extent-requires-clause-room
+map_extent-requires-clause-room c =
     let end = c.args.first + total_pages c.args.segments.now in
     let least =
-    lacks_least (memory c.loop-piece.pool.words) c.args.level c.args.root (is_large_at c.args.segments.now c.args.first)
-    (is_large c.in-Some.piece) c.in-Some.piece.from (c.args.first + total_pages c.args.segments.now)
-    (omega (arith, c.in-Some.piece.some, c.in-Some.ensures.within))
-    (flag c.args.segments.now c.args.first c.loop-piece.place c.in-Some.piece c.in-Some.ensures.page c.in-Some.ensures.large
-    c.loop-piece.invariant.inner) in
+    lacks_least (memory c.loop-extent.pool.words) c.args.level c.args.root (is_large_at c.args.segments.now c.args.first)
+    (is_large c.in-Some.extent) c.in-Some.extent.from (c.args.first + total_pages c.args.segments.now)
+    (omega (arith, c.in-Some.extent.some, c.in-Some.ensures.within))
+    (flag c.args.segments.now c.args.first c.loop-extent.place c.in-Some.extent c.in-Some.ensures.page c.in-Some.ensures.large
+    c.loop-extent.invariant.inner) in
     let moved =
     ap (λ q.
-    tables_lacking (memory c.loop-piece.pool.words) c.args.level c.args.root (is_large_at c.args.segments.now c.args.first) q
+    tables_lacking (memory c.loop-extent.pool.words) c.args.level c.args.root (is_large_at c.args.segments.now c.args.first) q
     (c.args.first + total_pages c.args.segments.now)) c.in-Some.ensures.page in
-    omega (arith, least, moved, c.loop-piece.invariant.count, c.requires.room)
+    omega (arith, least, moved, c.loop-extent.invariant.count, c.requires.room)
 
-pub loop-piece-preserved : goal.loop-piece-preserved
-loop-piece-preserved c =
-    let x = c.in-Some.piece in
-    let cur = c.loop-piece.pool in
-    let new = c.map_piece.new.pool in
+pub loop-extent-preserved : goal.loop-extent-preserved
+loop-extent-preserved c =
+    let x = c.in-Some.extent in
+    let cur = c.loop-extent.pool in
+    let new = c.map_extent.new.pool in
     let end : ℕ = c.args.first + total_pages c.args.segments.now in
     let large = is_large_at c.args.segments.now c.args.first in
     let at = c.in-Some.ensures.page in
@@ -97,55 +97,55 @@ loop-piece-preserved c =
     let wide : (p : ℕ) → c.args.first ≤ p → p < c.args.first + total_pages c.args.segments.now
     → p / span c.args.level ≡ c.args.first / span c.args.level =
     λ p low high. in_span c.args.level c.args.first (total_pages c.args.segments.now) p c.requires.some c.requires.one_span low high in
-    let far : c.in-Some.piece.to ≤ c.args.first + total_pages c.args.segments.now = c.in-Some.ensures.within in
-    let near : c.args.first ≤ c.in-Some.piece.from = omega (arith, at, c.loop-piece.invariant.low) in
-    let some : c.in-Some.piece.from < c.in-Some.piece.to = c.in-Some.piece.some in
-    let before : MapsPages c.args.pool.now c.loop-piece.pool c.args.level c.args.root c.args.first c.in-Some.piece.from
+    let far : c.in-Some.extent.to ≤ c.args.first + total_pages c.args.segments.now = c.in-Some.ensures.within in
+    let near : c.args.first ≤ c.in-Some.extent.from = omega (arith, at, c.loop-extent.invariant.low) in
+    let some : c.in-Some.extent.from < c.in-Some.extent.to = c.in-Some.extent.some in
+    let before : MapsPages c.args.pool.now c.loop-extent.pool c.args.level c.args.root c.args.first c.in-Some.extent.from
     (placed c.args.segments.now c.args.first (bits_of c.args.rights)) =
     subst (λ q.
-    MapsPages c.args.pool.now c.loop-piece.pool c.args.level c.args.root c.args.first q
+    MapsPages c.args.pool.now c.loop-extent.pool c.args.level c.args.root c.args.first q
     (placed c.args.segments.now c.args.first (bits_of c.args.rights)))
-    (sym at) c.loop-piece.invariant.maps in
-    let made : MakesTables c.args.pool.now c.loop-piece.pool c.args.level c.args.root c.args.first c.in-Some.piece.from
+    (sym at) c.loop-extent.invariant.maps in
+    let made : MakesTables c.args.pool.now c.loop-extent.pool c.args.level c.args.root c.args.first c.in-Some.extent.from
     (is_large_at c.args.segments.now c.args.first) =
     subst (λ q.
-    MakesTables c.args.pool.now c.loop-piece.pool c.args.level c.args.root c.args.first q
+    MakesTables c.args.pool.now c.loop-extent.pool c.args.level c.args.root c.args.first q
     (is_large_at c.args.segments.now c.args.first))
-    (sym at) c.loop-piece.invariant.makes in
-    let here : Placed c.loop-piece.pool c.map_piece.new.pool c.args.level c.args.root c.in-Some.piece.from c.in-Some.piece.to
-    (piece_states c.in-Some.piece) (is_large c.in-Some.piece) =
+    (sym at) c.loop-extent.invariant.makes in
+    let here : Placed c.loop-extent.pool c.map_extent.new.pool c.args.level c.args.root c.in-Some.extent.from c.in-Some.extent.to
+    (extent_states c.in-Some.extent) (is_large c.in-Some.extent) =
     record {
-      maps = c.map_piece.ensures.maps;
-      made = c.map_piece.ensures.made;
-      some = c.in-Some.piece.some;
-      one = c.in-Some.piece.one_span;
-      short = λ inside. short_piece c.in-Some.piece inside;
+      maps = c.map_extent.ensures.maps;
+      made = c.map_extent.ensures.made;
+      some = c.in-Some.extent.some;
+      one = c.in-Some.extent.one_span;
+      short = λ inside. short_extent c.in-Some.extent inside;
     } in
-    let step = lacks_step cur new c.args.level c.args.root x.from x.to end (piece_states x) large (is_large x) here far
+    let step = lacks_step cur new c.args.level c.args.root x.from x.to end (extent_states x) large (is_large x) here far
     (λ p low high. wide p (omega arith) high ∙ sym (wide x.from near (omega arith)))
-    (flag c.args.segments.now c.args.first c.loop-piece.place c.in-Some.piece c.in-Some.ensures.page c.in-Some.ensures.large
-    c.loop-piece.invariant.inner) in
+    (flag c.args.segments.now c.args.first c.loop-extent.place c.in-Some.extent c.in-Some.ensures.page c.in-Some.ensures.large
+    c.loop-extent.invariant.inner) in
     let moved = ap (λ q. tables_lacking (memory cur.words) c.args.level c.args.root large q end) at in
     record {
       low = omega arith;
       high = far;
-      moves = moves_then c.args.pool.now cur new c.args.level c.args.root [] [] c.loop-piece.invariant.moves c.map_piece.ensures.moves;
-      spelled = λ s. c.map_piece.ensures.spelled (c.loop-piece.invariant.spelled s);
+      moves = moves_then c.args.pool.now cur new c.args.level c.args.root [] [] c.loop-extent.invariant.moves c.map_extent.ensures.moves;
+      spelled = λ s. c.map_extent.ensures.spelled (c.loop-extent.invariant.spelled s);
       maps =
           maps_then c.args.pool.now cur new c.args.level c.args.root c.args.first x.from x.to says_it near some
-          (λ p low high. wide p low (omega arith)) c.loop-piece.invariant.moves before
-          (maps_said cur new c.args.level c.args.root x.from x.to (piece_states x) says_it
-          (λ p low high. sym (c.in-Some.ensures.placed p (omega (arith, at, low)) high)) c.map_piece.ensures.maps);
-      count = omega (arith, step, moved, c.map_piece.ensures.count, c.loop-piece.invariant.count);
+          (λ p low high. wide p low (omega arith)) c.loop-extent.invariant.moves before
+          (maps_said cur new c.args.level c.args.root x.from x.to (extent_states x) says_it
+          (λ p low high. sym (c.in-Some.ensures.placed p (omega (arith, at, low)) high)) c.map_extent.ensures.maps);
+      count = omega (arith, step, moved, c.map_extent.ensures.count, c.loop-extent.invariant.count);
       inner = c.in-Some.ensures.inner;
-      ended = λ e. lacks_ended cur new c.args.level c.args.root x.from x.to (piece_states x) large (is_large x) here;
-      pool = λ _. c.map_piece.ensures.pool;
+      ended = λ e. lacks_ended cur new c.args.level c.args.root x.from x.to (extent_states x) large (is_large x) here;
+      pool = λ _. c.map_extent.ensures.pool;
       passed =
-          still_passed c.args.segments.now c.args.first c.loop-piece.place x.to _ (omega (arith, at, some)) c.in-Some.ensures.passed;
+          still_passed c.args.segments.now c.args.first c.loop-extent.place x.to _ (omega (arith, at, some)) c.in-Some.ensures.passed;
       makes =
-          makes_then c.args.pool.now cur new c.args.level c.args.root c.args.first x.from x.to says_it (piece_states x) large (is_large x)
+          makes_then c.args.pool.now cur new c.args.level c.args.root c.args.first x.from x.to says_it (extent_states x) large (is_large x)
           near (λ p low high. wide p low (omega arith)) made before here
-          (flag c.args.segments.now c.args.first c.loop-piece.place c.in-Some.piece c.in-Some.ensures.page c.in-Some.ensures.large
-          c.loop-piece.invariant.inner)
-          (λ inside. small_piece x inside) c.map_piece.ensures.spared;
+          (flag c.args.segments.now c.args.first c.loop-extent.place c.in-Some.extent c.in-Some.ensures.page c.in-Some.ensures.large
+          c.loop-extent.invariant.inner)
+          (λ inside. small_extent x inside) c.map_extent.ensures.spared;
     }

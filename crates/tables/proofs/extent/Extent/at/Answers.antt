@@ -1,13 +1,13 @@
 use Rattle.std.proofs.Common.{◌+◌, ◌≤◌, Option, sym, subst, arith, IfNone}
 use Rattle.dmatypes.specs.Conditions.{total_pages}
 use Rattle.dmatypes.specs.Rights.{bits_of}
-use Rattle.tables.specs.declared.piece.Piece.{Piece}
+use Rattle.tables.specs.declared.extent.Extent.{Extent}
 use Rattle.tables.proofs.maps.Placed.{rest_ended, rest_bounds, rest_onward, placed_at, inner_small, HasRest}
-use Rattle.tables.proofs.piece.Piece.at.Goals as goal
+use Rattle.tables.proofs.extent.Extent.at.Goals as goal
 
 pub returns-in_err-rest-clause-none : goal.returns-in_err-rest-clause-none
 returns-in_err-rest-clause-none c =
-    subst (λ (o : Option Piece). IfNone o (c.args.first + total_pages c.args.segments.now ≤ c.args.page)) (sym c.from_residual.ensures)
+    subst (λ (o : Option Extent). IfNone o (c.args.first + total_pages c.args.segments.now ≤ c.args.page)) (sym c.from_residual.ensures)
     (rest_ended c.args.segments.now c.args.first c.args.page c.requires.after (sym c.in_err-rest.ensures.rest))
 
 pub overflow_add-page : goal.overflow_add-page

@@ -1,4 +1,4 @@
--- How many tables are lacking, piece by piece.
+-- How many tables are lacking, extent by extent.
 use Rattle.std.proofs.Common.{◌≡◌, ◌≢◌, ℕ, zero, suc, ◌+◌, ◌-◌, ◌*◌, ◌/◌, ◌%◌, ◌<◌, ◌≤◌, ⊎_elim, Bool, false, cond, eqb, ◌&&◌, is_some}
 use Rattle.std.proofs.Common.{IsSome, Option, Some, None, refl, sym, ap, subst, ◌∙◌, arith}
 use Rattle.std.proofs.Math.Nat.{div-mul-le_self, mul-le-mul_right, lt-div-mul-add}
@@ -90,9 +90,9 @@ lacks_least m level t large b from to some flag =
     )) in
     omega (arith, lacks-is m level t large from to, lacks_at-is m level t b from, each)
 
--- ---- one piece
+-- ---- one extent
 
--- a piece was mapped, with the tables that it lacked
+-- an extent was mapped, with the tables that it lacked
 pub record Placed (old new : Pool) (level t from next : ℕ) (says : ℕ → Option Target) (b : Bool) : Type 0 where
   pub maps : MapsPages old new level t from next says
   pub made : (w : ℕ) → 1 ≤ w → w < level → (w ≡ 1 → b ≡ false) → IsSome (table_from (memory new.words) level t from w)
@@ -100,9 +100,9 @@ pub record Placed (old new : Pool) (level t from next : ℕ) (says : ℕ → Opt
   pub one : from / SPAN_PAGES ≡ (next - 1) / SPAN_PAGES
   pub short : 0 < next % SPAN_PAGES → b ≡ false
 
-pub piece_near : (w from next q : ℕ) → 1 ≤ w → from / SPAN_PAGES ≡ (next - 1) / SPAN_PAGES → from ≤ q → q < next
+pub extent_near : (w from next q : ℕ) → 1 ≤ w → from / SPAN_PAGES ≡ (next - 1) / SPAN_PAGES → from ≤ q → q < next
     → q / span w ≡ from / span w
-piece_near w from next q some one low high =
+extent_near w from next q some one low high =
     near_at 1 w q from some (div_span_one q ∙ (let e : q / SPAN_PAGES ≡ from / SPAN_PAGES = omega arith in e) ∙ sym (div_span_one from))
 
 none_left : (old new : Pool) (level t from next : ℕ) (says : ℕ → Option Target) (large : ℕ → Bool) (b : Bool) (w : ℕ) → 1 ≤ w → w < level
@@ -134,7 +134,7 @@ same_behind old new level t from next to says large b w k some x wide inside low
     lacking_same (memory old.words) (memory new.words) level level t t (large (k * span w)) w (k * span w) (k * span w)
     (x.maps.clear (k * span w) w (wide (k * span w) start end)
     (λ q q_low q_high e.
-    let at : k ≡ from / span w = sym (span_first k w) ∙ e ∙ piece_near w from next q some x.one q_low q_high in omega arith))
+    let at : k ≡ from / span w = sym (span_first k w) ∙ e ∙ extent_near w from next q some x.one q_low q_high in omega arith))
   where
     mul_mono : (a b n : ℕ) → a ≤ b → a * n ≤ b * n
     mul_mono a b n le = mul-le-mul_right n le
@@ -157,7 +157,7 @@ lacks_step old new level t from next to says large b x le wide flag =
     λ v v_in.
     let step =
     step_spans (g v) (h v) (v + 1) from next to (span_pos (v + 1)) x.some le
-    (sym (piece_near (v + 1) from next (next - 1) (omega arith) x.one (omega (arith, x.some)) (omega (arith, x.some))))
+    (sym (extent_near (v + 1) from next (next - 1) (omega arith) x.one (omega (arith, x.some)) (omega (arith, x.some))))
     (λ k low high.
     same_behind old new level t from next to says large b (v + 1) k (omega arith) x wide (omega (arith, x.some)) low high)
     (λ stay. none_left old new level t from next says large b (v + 1) (omega arith) (omega arith) x stay) in
@@ -175,5 +175,5 @@ lacks_ended old new level t from next says large b x =
     lacks-is (memory new.words) level t large next next
     ∙ sum_below-none (λ v. sum_spans (λ p. lacks_table (memory new.words) level t (large p) (v + 1) p) (v + 1) next next) (level - 1)
     (λ v v_in. ended_spans (λ p. lacks_table (memory new.words) level t (large p) (v + 1) p) (v + 1) from next (span_pos (v + 1)) x.some
-    (sym (piece_near (v + 1) from next (next - 1) (omega arith) x.one (omega (arith, x.some)) (omega (arith, x.some))))
+    (sym (extent_near (v + 1) from next (next - 1) (omega arith) x.one (omega (arith, x.some)) (omega (arith, x.some))))
     (λ stay. none_left old new level t from next says large b (v + 1) (omega arith) (omega arith) x stay))

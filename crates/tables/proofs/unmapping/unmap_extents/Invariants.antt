@@ -3,7 +3,7 @@ use Rattle.dmatypes.specs.declared.page.TheConstants.{SPAN_PAGES}
 use Rattle.tables.specs.Pool.{IsPool}
 use Rattle.tables.specs.Changes.{TakesAndGivesFrames, KeepsSpellings, UnmapsPages}
 use Rattle.tables.proofs.sums.OverSpans.{split_so_far}
-use Rattle.tables.proofs.unmapping.unmap_pieces.Given as goal
+use Rattle.tables.proofs.unmapping.unmap_extents.Given as goal
 
 abbrev pub invariant-loop-place : goal.invariant-loop-place
 invariant-loop-place l = record {

@@ -7,10 +7,10 @@ use Rattle.tables.specs.Pool.{memory, IsPool}
 use Rattle.tables.specs.Changes.{TakesAndGivesFrames, KeepsSpellings, MapsPages, MakesTables}
 use Rattle.tables.specs.Segments.{ArePassed, is_large_at}
 use Rattle.tables.specs.Lacks.{tables_lacking, frames_to_map}
-use Rattle.tables.proofs.mapping.map_pieces.Given as goal
+use Rattle.tables.proofs.mapping.map_extents.Given as goal
 
-abbrev pub invariant-loop-piece : goal.invariant-loop-piece
-invariant-loop-piece l = record {
+abbrev pub invariant-loop-extent : goal.invariant-loop-extent
+invariant-loop-extent l = record {
   low : l.first ≤ l.place;
   high : l.place ≤ l.first + total_pages l.segments;
   moves : TakesAndGivesFrames l.initial.pool l.pool l.level l.root [];
@@ -27,5 +27,5 @@ invariant-loop-piece l = record {
   makes : MakesTables l.initial.pool l.pool l.level l.root l.first l.place (is_large_at l.segments l.first);
 }
 
-abbrev pub decreases-loop-piece : goal.decreases-loop-piece
-decreases-loop-piece l = l.first + total_pages l.segments - l.place
+abbrev pub decreases-loop-extent : goal.decreases-loop-extent
+decreases-loop-extent l = l.first + total_pages l.segments - l.place

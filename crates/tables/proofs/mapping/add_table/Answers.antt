@@ -1,9 +1,9 @@
 use Rattle.std.proofs.Common.{◌≡◌, ◌-◌, suc, sym, subst, arith}
 use Rattle.tables.specs.Tree.{index_in}
-use Rattle.tables.proofs.maps.Grown.{Grows, grows}
+use Rattle.tables.proofs.maps.AddedTable.{AddsTable, adds_table}
 use Rattle.tables.proofs.walks.Levels.{root_in_level, root_taken_level}
-use Rattle.tables.proofs.mapping.grow.Goals as goal
-use Rattle.tables.proofs.mapping.grow.Goals.{After-write}
+use Rattle.tables.proofs.mapping.add_table.Goals as goal
+use Rattle.tables.proofs.mapping.add_table.Goals.{After-write}
 
 pub write-requires-clause-frame : goal.write-requires-clause-frame
 write-requires-clause-frame c =
@@ -21,30 +21,30 @@ write-requires-clause-taken c =
       c.take-below.ensures.free c.args.table,
     )
 
-grown : (c : After-write)
-    → Grows c.args.pool.now c.write.new.self c.args.level (suc (c.args.level - 2)) c.args.table c.args.index c.take-below.result
-grown c =
-    grows c.args.pool.now c.take-below.new.self c.write.new.self c.args.level (c.args.level - 2) c.args.table c.args.index
+added : (c : After-write)
+    → AddsTable c.args.pool.now c.write.new.self c.args.level (suc (c.args.level - 2)) c.args.table c.args.index c.take-below.result
+added c =
+    adds_table c.args.pool.now c.take-below.new.self c.write.new.self c.args.level (c.args.level - 2) c.args.table c.args.index
     c.take-below.result c.encode.result (omega arith) c.requires.tree c.requires.index c.requires.absent
     (c.encode.ensures.looked c.args.level (c.requires.low, c.requires.high)) c.take-below.ensures.free c.take-below.ensures.zeroed
     c.take-below.ensures.words c.take-below.ensures.frames c.write.ensures.wrote c.write.ensures.free c.write.ensures.frames
 
 pub returns-clause-moves : goal.returns-clause-moves
-returns-clause-moves c = (grown (goal.at.returns-clause-moves c).After-write).moves
+returns-clause-moves c = (added (goal.at.returns-clause-moves c).After-write).moves
 
 pub returns-clause-leaves : goal.returns-clause-leaves
-returns-clause-leaves c = (grown (goal.at.returns-clause-leaves c).After-write).leaves
+returns-clause-leaves c = (added (goal.at.returns-clause-leaves c).After-write).leaves
 
 pub returns-clause-names : goal.returns-clause-names
-returns-clause-names c = (grown (goal.at.returns-clause-names c).After-write).names
+returns-clause-names c = (added (goal.at.returns-clause-names c).After-write).names
 
 pub returns-clause-zeroed : goal.returns-clause-zeroed
-returns-clause-zeroed c = (grown (goal.at.returns-clause-zeroed c).After-write).zeroed
+returns-clause-zeroed c = (added (goal.at.returns-clause-zeroed c).After-write).zeroed
 
 pub returns-clause-maps : goal.returns-clause-maps
 returns-clause-maps c from to some is =
     let below : suc (c.args.level - 2) ≡ c.args.level - 1 = omega arith in
-    (grown (goal.at.returns-clause-maps c).After-write).maps from to some (subst (λ l. index_in l from ≡ c.args.index) (sym below) is)
+    (added (goal.at.returns-clause-maps c).After-write).maps from to some (subst (λ l. index_in l from ≡ c.args.index) (sym below) is)
 
 pub returns-clause-spelled : goal.returns-clause-spelled
-returns-clause-spelled c = (grown (goal.at.returns-clause-spelled c).After-write).spelled
+returns-clause-spelled c = (added (goal.at.returns-clause-spelled c).After-write).spelled

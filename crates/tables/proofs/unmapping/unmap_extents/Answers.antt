@@ -2,18 +2,18 @@ use Rattle.std.proofs.Common.{◌≡◌, ℕ, ◌+◌, ◌-◌, ◌*◌, ◌/◌
 use Rattle.std.proofs.Common.{Some, None, IsSome, ◌++◌, length, length-append, refl, sym, ap, subst, ◌∙◌, arith}
 use Rattle.std.proofs.lemmas.Bool.{cases_lt}
 use Rattle.dmatypes.specs.declared.page.TheConstants.{SPAN_PAGES}
-use Rattle.tables.specs.Tree.{Found, span, leaf_from, stated}
+use Rattle.tables.specs.Tree.{LeafEntry, span, leaf_from, stated}
 use Rattle.tables.specs.Pool.{memory}
 use Rattle.tables.specs.Changes.{TakesAndGivesFrames, UnmapsPages}
 use Rattle.tables.specs.Lacks.{leaves_splitting, splits_leaf}
-use Rattle.tables.specs.Pieces.{cut_of, piece_splits, was_split}
+use Rattle.tables.specs.Extents.{cut_of, extent_splits, was_split}
 use Rattle.tables.proofs.maps.Mapped.{no_moves, moves_then}
 use Rattle.tables.proofs.walks.Near.{span_pos}
-use Rattle.tables.proofs.walks.Sizes.{leaf_ahead, piece_is}
+use Rattle.tables.proofs.walks.Sizes.{leaf_ahead, extent_is}
 use Rattle.tables.proofs.sums.OverSpans.{div_mono, split_so_far, split_so_far-start, split_so_far-step, split_so_far-end, split_so_far-most}
 use Rattle.tables.proofs.unmaps.Unmapped.{no_unmaps, unmaps_then}
-use Rattle.tables.proofs.unmapping.unmap_pieces.Goals as goal
-use Rattle.tables.proofs.unmapping.unmap_pieces.Goals.{After-min-next}
+use Rattle.tables.proofs.unmapping.unmap_extents.Goals as goal
+use Rattle.tables.proofs.unmapping.unmap_extents.Goals.{After-min-next}
 
 -- the pages are in one span of the root
 wide : (l from to p : ℕ) → from / span l ≡ (to - 1) / span l → from ≤ p → p < to → p / span l ≡ from / span l
@@ -22,7 +22,7 @@ wide l from to p one low high =
     let before : p / span l ≤ (to - 1) / span l = div_mono p (to - 1) (span l) (span_pos l) (omega arith) in
     omega arith
 
--- where a piece begins
+-- where an extent begins
 edge_of : (place from to : ℕ) → place < to → (place % SPAN_PAGES ≡ 0) ⊎ ((place ≡ from) ⊎ (place ≡ to))
     → (place % SPAN_PAGES ≡ 0) ⊎ (place ≡ from)
 edge_of place from to lt (inl h) = inl h
@@ -48,14 +48,14 @@ true_false : true ≡ false → ⊥
 true_false e = cc
 
 -- a split more
-splits_on : (old was new : Bool) (before piece here after : ℕ) → new ≡ (old || was) → after ≡ before + here → cond was 1 0 ≡ piece
-    → piece ≡ here → (old ≡ true → 0 < before) → (old ≡ false → before ≡ 0) → (new ≡ true → 0 < after) × (new ≡ false → after ≡ 0)
-splits_on true was new before piece here after e sum is same some_if none_if =
+splits_on : (old was new : Bool) (before extent here after : ℕ) → new ≡ (old || was) → after ≡ before + here → cond was 1 0 ≡ extent
+    → extent ≡ here → (old ≡ true → 0 < before) → (old ≡ false → before ≡ 0) → (new ≡ true → 0 < after) × (new ≡ false → after ≡ 0)
+splits_on true was new before extent here after e sum is same some_if none_if =
     let some : 0 < before = some_if refl in
     ((λ h. omega arith), (λ h. absurd (true_false (sym e ∙ h))))
-splits_on false true new before piece here after e sum is same some_if none_if =
+splits_on false true new before extent here after e sum is same some_if none_if =
     ((λ h. omega arith), (λ h. absurd (true_false (sym e ∙ h))))
-splits_on false false new before piece here after e sum is same some_if none_if =
+splits_on false false new before extent here after e sum is same some_if none_if =
     let none : before ≡ 0 = none_if refl in
     ((λ h. absurd (true_false (sym h ∙ e))), (λ h. omega arith))
 
@@ -79,13 +79,13 @@ loop-place-init c = record {
 }
 
 -- what was there is there yet
-still : (p : ℕ) (x y : Option Found) → stated p x ≡ stated p y → IsSome y → IsSome x
+still : (p : ℕ) (x y : Option LeafEntry) → stated p x ≡ stated p y → IsSome y → IsSome x
 still p None None e h = h
 still p None (Some y) e h = cc
 still p (Some x) y e h = refl
 
-pub clear_piece-cleared-requires-clause-there : goal.clear_piece-cleared-requires-clause-there
-clear_piece-cleared-requires-clause-there c p low high =
+pub clear_extent-cleared-requires-clause-there : goal.clear_extent-cleared-requires-clause-there
+clear_extent-cleared-requires-clause-there c p low high =
     let start : c.args.from ≤ p = omega (arith, low, c.loop-place.invariant.low) in
     let end : p < c.args.to =
     omega (arith, high, (one_of c.loop-place.place c.args.to c.min-next.result c.min-next.ensures c.loop-place-test.true).1) in
@@ -94,13 +94,13 @@ clear_piece-cleared-requires-clause-there c p low high =
     (c.loop-place.invariant.unmaps.elsewhere p (wide c.args.level c.args.from c.args.to p c.requires.one_span start end) (inr low))
     (c.requires.there p start end)
 
--- what the piece splits is what its span splits of the whole
+-- what the extent splits is what its span splits of the whole
 its_splits : (c : After-min-next)
-    → piece_splits (memory c.loop-place.pool.words) c.args.level c.args.root c.loop-place.place c.min-next.result
+    → extent_splits (memory c.loop-place.pool.words) c.args.level c.args.root c.loop-place.place c.min-next.result
     ≡ splits_leaf (memory c.args.pool.now.words) c.args.level c.args.root c.args.from c.args.to
     (c.loop-place.place / SPAN_PAGES * SPAN_PAGES)
 its_splits c =
-    piece_is c.args.pool.now c.loop-place.pool c.args.level c.args.root c.args.from c.args.to c.loop-place.place c.min-next.result
+    extent_is c.args.pool.now c.loop-place.pool c.args.level c.args.root c.args.from c.args.to c.loop-place.place c.min-next.result
     c.loop-place.invariant.low (one_of c.loop-place.place c.args.to c.min-next.result c.min-next.ensures c.loop-place-test.true).0
     (one_of c.loop-place.place c.args.to c.min-next.result c.min-next.ensures c.loop-place-test.true).1
     (one_of c.loop-place.place c.args.to c.min-next.result c.min-next.ensures c.loop-place-test.true).2
@@ -125,10 +125,10 @@ added c =
     (one_of c.loop-place.place c.args.to c.min-next.result c.min-next.ensures c.loop-place-test.true).2
     (edge_of c.loop-place.place c.args.from c.args.to c.loop-place-test.true c.loop-place.invariant.edge)
 
-pub clear_piece-cleared-requires-clause-room : goal.clear_piece-cleared-requires-clause-room
-clear_piece-cleared-requires-clause-room c =
-    let is = its_splits (goal.at.clear_piece-cleared-requires-clause-room c).After-min-next in
-    let step = added (goal.at.clear_piece-cleared-requires-clause-room c).After-min-next in
+pub clear_extent-cleared-requires-clause-room : goal.clear_extent-cleared-requires-clause-room
+clear_extent-cleared-requires-clause-room c =
+    let is = its_splits (goal.at.clear_extent-cleared-requires-clause-room c).After-min-next in
+    let step = added (goal.at.clear_extent-cleared-requires-clause-room c).After-min-next in
     let most =
     split_so_far-most c.args.pool.now c.args.level c.args.root c.args.from c.args.to c.min-next.result
     (omega (
@@ -142,17 +142,17 @@ clear_piece-cleared-requires-clause-room c =
 pub loop-place-preserved : goal.loop-place-preserved
 loop-place-preserved c =
     let cur = c.loop-place.pool in
-    let new = c.clear_piece-cleared.new.pool in
+    let new = c.clear_extent-cleared.new.pool in
     let next = c.min-next.result in
     let cut = c.loop-place.cut.frames in
-    let more = cut_of c.clear_piece-cleared.result in
+    let more = cut_of c.clear_extent-cleared.result in
     let one = (one_of c.loop-place.place c.args.to c.min-next.result c.min-next.ensures c.loop-place-test.true) in
-    let joined : c.note.new.self.frames ≡ c.loop-place.cut.frames ++ cut_of c.clear_piece-cleared.result = c.note.ensures.frames in
+    let joined : c.note.new.self.frames ≡ c.loop-place.cut.frames ++ cut_of c.clear_extent-cleared.result = c.note.ensures.frames in
     let is = its_splits (goal.at.loop-place-preserved c).After-min-next in
     let step = added (goal.at.loop-place-preserved c).After-min-next in
     let split =
-    splits_on c.loop-place.cut.split (was_split c.clear_piece-cleared.result) c.note.new.self.split _ _ _ _ c.note.ensures.split step
-    c.clear_piece-cleared.ensures.split is c.loop-place.invariant.split c.loop-place.invariant.none in
+    splits_on c.loop-place.cut.split (was_split c.clear_extent-cleared.result) c.note.new.self.split _ _ _ _ c.note.ensures.split step
+    c.clear_extent-cleared.ensures.split is c.loop-place.invariant.split c.loop-place.invariant.none in
     record {
       low = omega (arith, one.0, c.loop-place.invariant.low);
       high = one.1;
@@ -160,29 +160,29 @@ loop-place-preserved c =
       moves =
           subst (λ xs. TakesAndGivesFrames c.args.pool.now new c.args.level c.args.root xs) (sym joined)
           (moves_then c.args.pool.now cur new c.args.level c.args.root cut more c.loop-place.invariant.moves
-          c.clear_piece-cleared.ensures.moves);
-      spelled = λ s. c.clear_piece-cleared.ensures.spelled (c.loop-place.invariant.spelled s);
+          c.clear_extent-cleared.ensures.moves);
+      spelled = λ s. c.clear_extent-cleared.ensures.spelled (c.loop-place.invariant.spelled s);
       unmaps = subst (λ xs. UnmapsPages c.args.pool.now new c.args.level c.args.root c.args.from next xs) (sym joined)
           (unmaps_then c.args.pool.now cur new c.args.level c.args.root c.args.from c.loop-place.place next cut more
           c.loop-place.invariant.low one.0
           (edge_of c.loop-place.place c.args.from c.args.to c.loop-place-test.true c.loop-place.invariant.edge) c.requires.tree
           (λ p low high. wide c.args.level c.args.from c.args.to p c.requires.one_span low (omega (arith, high, one.1)))
-          c.loop-place.invariant.moves c.clear_piece-cleared.ensures.moves c.loop-place.invariant.unmaps
-          c.clear_piece-cleared.ensures.unmaps);
+          c.loop-place.invariant.moves c.clear_extent-cleared.ensures.moves c.loop-place.invariant.unmaps
+          c.clear_extent-cleared.ensures.unmaps);
       room =
           omega (
             arith,
             ap length joined,
             length-append cut more,
             c.loop-place.invariant.room,
-            c.clear_piece-cleared.ensures.cut,
+            c.clear_extent-cleared.ensures.cut,
             c.loop-place.invariant.low,
             one.0,
           );
-      count = omega (arith, c.loop-place.invariant.count, c.clear_piece-cleared.ensures.count, step, is);
+      count = omega (arith, c.loop-place.invariant.count, c.clear_extent-cleared.ensures.count, step, is);
       split = split.0;
       none = split.1;
-      pool = λ _. c.clear_piece-cleared.ensures.pool;
+      pool = λ _. c.clear_extent-cleared.ensures.pool;
     }
 
 pub returns-clause-count : goal.returns-clause-count
