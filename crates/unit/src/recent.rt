@@ -124,7 +124,7 @@ impl Recent {
         }
         let kept = keep(&mut self.list.as_mut_slice()[self.start..], descriptor);
         self.list.truncate(self.start + kept);
-        self.start = settle(&mut self.list, self.start);
+        self.start = compact_if_few(&mut self.list, self.start);
     }
 
     /// Forgets the leaf at a place, counted from 0 and from the oldest, if there is one.
@@ -134,7 +134,7 @@ impl Recent {
     {
         if place < self.list.len() - self.start {
             self.list.remove(self.start + place);
-            self.start = settle(&mut self.list, self.start);
+            self.start = compact_if_few(&mut self.list, self.start);
         }
     }
 }
@@ -157,7 +157,7 @@ fn move_to_front(list: &mut ArrayVec<CachedLeaf, ROOM>, start: usize)
 }
 
 // Moves the leaves from a place on to the front where few places are taken, and answers where they begin then.
-fn settle(list: &mut ArrayVec<CachedLeaf, ROOM>, start: usize) -> usize
+fn compact_if_few(list: &mut ArrayVec<CachedLeaf, ROOM>, start: usize) -> usize
     requires { start ≤ length list.old.items }
     ensures items { drop result list.new.items ≡ drop start list.old.items }
     ensures within { result ≤ length list.new.items }

@@ -26,7 +26,7 @@ returns-clause-items c =
     let behind : length (drop start xs) ≡ length xs - start = length-drop start xs in
     let part : take (length xs - start) (drop start xs) ≡ drop start xs = take_all _ _ (omega (arith, behind)) in
     let few : c.keep-kept.result ≤ length xs - start = omega (arith, c.keep-kept.ensures.few, behind, ap length part) in
-    c.settle-self-inside.ensures.items ∙ ap (drop start) c.truncate.ensures.items
+    c.compact_if_few-self-inside.ensures.items ∙ ap (drop start) c.truncate.ensures.items
     ∙ written_part (length c.self.inside.list.items) start c.keep-kept.result xs c.keep-kept.new.leaves _ _ (omega (arith, whole, c.self.invariant))
     (omega (arith, few)) (omega (arith, few, whole, c.self.invariant))
     ∙ c.keep-kept.ensures.kept ∙ ap (filter p) (part ∙ ap (drop start) c.as_mut_slice.ensures.value ∙ c.self.view_is)
@@ -35,8 +35,9 @@ pub invariant_of-self : goal.invariant_of-self
 invariant_of-self c =
     let few : length c.truncate.new.self.items ≤ c.self.inside.start + LEAVES =
     omega (arith, c.truncate.ensures.len, ap length c.as_mut_slice.ensures.value, c.self.invariant) in (
-      c.settle-self-inside.ensures.within,
-      still_few c.settle-self-inside.result c.self.inside.start LEAVES c.settle-self-inside.new.list.items c.truncate.new.self.items
-          c.settle-self-inside.ensures.items c.settle-self-inside.ensures.within few,
-      c.settle-self-inside.ensures.few,
+      c.compact_if_few-self-inside.ensures.within,
+      still_few c.compact_if_few-self-inside.result c.self.inside.start LEAVES
+          c.compact_if_few-self-inside.new.list.items c.truncate.new.self.items
+          c.compact_if_few-self-inside.ensures.items c.compact_if_few-self-inside.ensures.within few,
+      c.compact_if_few-self-inside.ensures.few,
     )
