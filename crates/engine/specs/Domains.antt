@@ -44,10 +44,10 @@ abbrev pub AreMadeBefore : ℕ → List Record → Type 0
 AreMadeBefore number records = (r : Record) → IsIn r records → IsMadeBefore number r
 
 -- what a call of a domain works on: the table frames, the domain, and the IOMMU
-pub record Parts : Type 0 where
+pub record Operands : Type 0 where
   pub pool : Pool
   pub domain : Domain
   pub iommu : Iommu
 
-abbrev pub parts_of : Pool → Domain → Iommu → Parts
-parts_of pool domain iommu = record { pool = pool; domain = domain; iommu = iommu }
+abbrev pub operands_of : Pool → Domain → Iommu → Operands
+operands_of pool domain iommu = record { pool = pool; domain = domain; iommu = iommu }

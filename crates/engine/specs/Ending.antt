@@ -34,7 +34,7 @@ use Rattle.engine.specs.declared.record.Record.{Record}
 use Rattle.engine.specs.declared.iommu.Iommu.{Iommu}
 use Rattle.engine.specs.declared.iommu.Shown.{Shown}
 use Rattle.engine.specs.declared.iommu.Shown.TheVariants.{Mapped, OneRecord, Records}
-use Rattle.engine.specs.Domains.{Domain, Parts, held_in}
+use Rattle.engine.specs.Domains.{Domain, Operands, held_in}
 
 -- ---- in the tree and the address space
 
@@ -210,7 +210,7 @@ pub record ReleasesAll (pool : Pool) (space : Space) (records : List Record) (po
 -- ---- an unmap, whole
 
 -- strict: the range is retired and unmapped, the descriptor for it is sent and done, and what was cut is released
-pub record UnmapsStrictly (old : Parts) (id : ℕ) (range : Range) (new : Parts) : Type 0 where
+pub record UnmapsStrictly (old : Operands) (id : ℕ) (range : Range) (new : Operands) : Type 0 where
   pub retired : Record
   pub of_range : retired.range ≡ range
   pub descriptor : Descriptor
@@ -225,7 +225,7 @@ pub record UnmapsStrictly (old : Parts) (id : ℕ) (range : Range) (new : Parts)
 
 -- all that is remembered of the domain is invalidated, with its tree and all its records shown; these are released, and
 -- none is left
-pub record Flushes (old : Parts) (id : ℕ) (new : Parts) : Type 0 where
+pub record Flushes (old : Operands) (id : ℕ) (new : Operands) : Type 0 where
   pub invalidates : Invalidates old.iommu (IotlbDomain id) (domain_shown old.pool old.domain) new.iommu
   pub releases : ReleasesAll old.pool old.domain.space old.domain.records new.pool new.domain.space
   pub same : new.domain ≡ record old.domain { space = new.domain.space; records = [] }
@@ -250,29 +250,29 @@ pub record Destroys (pool : Pool) (width : Width) (root : ℕ) (pool' : Pool) : 
   pub is_pool : IsPool pool'
 
 -- a domain ends: all records are flushed, and then its tree goes
-pub record Closes (old : Parts) (id : ℕ) (pool' : Pool) (iommu' : Iommu) : Type 0 where
-  pub flushed : Parts
+pub record Closes (old : Operands) (id : ℕ) (pool' : Pool) (iommu' : Iommu) : Type 0 where
+  pub flushed : Operands
   pub flushes : Flushes old id flushed
   pub destroys : Destroys flushed.pool flushed.domain.width flushed.domain.root pool'
   pub quiet : iommu' ≡ flushed.iommu
 
 -- there is room for one more record: with fewer than `MOST_RECORDS` nothing changes, else all are flushed
-pub record HasRoom (old : Parts) (released : ℕ) (new : Parts) : Type 0 where
+pub record HasRoom (old : Operands) (released : ℕ) (new : Operands) : Type 0 where
   pub some : length old.domain.records ≢ MOST_RECORDS
   pub none : released ≡ 0
   pub same : new ≡ old
 
-pub record Empties (old : Parts) (id released : ℕ) (new : Parts) : Type 0 where
+pub record Empties (old : Operands) (id released : ℕ) (new : Operands) : Type 0 where
   pub full : length old.domain.records ≡ MOST_RECORDS
   pub all : released ≡ MOST_RECORDS
   pub flushes : Flushes old id new
 
-abbrev pub MakesRoom : Parts → ℕ → ℕ → Parts → Type 0
+abbrev pub MakesRoom : Operands → ℕ → ℕ → Operands → Type 0
 MakesRoom old id released new = HasRoom old released new ⊎ Empties old id released new
 
 -- lazy: where there is room for a record, the range is retired and unmapped, and its record is the last
-pub record PutsOff (old : Parts) (id : ℕ) (range : Range) (released : ℕ) (new : Parts) : Type 0 where
-  pub roomy : Parts
+pub record PutsOff (old : Operands) (id : ℕ) (range : Range) (released : ℕ) (new : Operands) : Type 0 where
+  pub roomy : Operands
   pub room : MakesRoom old id released roomy
   pub retired : Record
   pub of_range : retired.range ≡ range
@@ -287,11 +287,11 @@ ByMode Strict P Q = P
 ByMode Lazy P Q = Q
 
 -- by the mode of the domain
-abbrev pub EndsBy : Parts → ℕ → Range → ℕ → Parts → Type 0
+abbrev pub EndsBy : Operands → ℕ → Range → ℕ → Operands → Type 0
 EndsBy old id range released new =
     ByMode old.domain.mode ((released ≡ 0) × UnmapsStrictly old id range new) (PutsOff old id range released new)
 
 -- what is answered, and what the table frames, the domain and the IOMMU are then
-abbrev pub IsUnmapped : Parts → ℕ → Range → Result ℕ Refusal → Parts → Type 0
+abbrev pub IsUnmapped : Operands → ℕ → Range → Result ℕ Refusal → Operands → Type 0
 IsUnmapped old id range (Ok released) new = IsJudgedEnd old.pool old.domain range (Ok tt) × EndsBy old id range released new
 IsUnmapped old id range (Err refusal) new = (new ≡ old) × IsJudgedEnd old.pool old.domain range (Err refusal)

@@ -36,7 +36,7 @@ use Rattle.engine.specs.declared.iommu.Iommu.{Iommu}
 use Rattle.engine.specs.declared.ticket.Ticket.{Ticket}
 use Rattle.engine.specs.Ending.{Begins, Closes, EndsBy, Flushes, Invalidates, IsJudgedEnd, Reaps, SendsForMap}
 use Rattle.engine.specs.Ready.{last_done}
-use Rattle.engine.specs.Domains.{Domain, Parts, domain_at, new_domain, parts_of}
+use Rattle.engine.specs.Domains.{Domain, Operands, domain_at, new_domain, operands_of}
 use Rattle.engine.specs.Placing.{IsCrowded, IsShort, IsTaken, Placement, Places, frames_taken, range_of}
 
 -- the table frames, domains 1 to 15, the row of context entries with the ring and the unit, the flushes that were begun and
@@ -149,8 +149,8 @@ BecomesMapped m domain at t =
     × (t ≡ with_domain m domain (Some new) t)
 
 -- the parts of the state that a call of this domain works on
-abbrev pub parts_in : State → Domain → Parts
-parts_in m domain = parts_of m.pool domain m.iommu
+abbrev pub operands_in : State → Domain → Operands
+operands_in m domain = operands_of m.pool domain m.iommu
 
 -- what becomes of the state. A new domain has a whole space and an empty tree, an attached device its entry, and a detached one none. A
 -- map, a drop, a flush and an unmap change their domain, the table frames and the IOMMU, an unmap as it ends its range by the domain's
@@ -170,7 +170,7 @@ Becomes m (calls.Attach device domain) Done t =
     })
 Becomes m (calls.Drop domain) Done t =
     (old : Domain) × (domain_at m.domains domain ≡ Some old)
-    × Closes (parts_in m old) domain t.pool t.iommu × (t ≡ with_domain m domain None t)
+    × Closes (operands_in m old) domain t.pool t.iommu × (t ≡ with_domain m domain None t)
 Becomes m (calls.Detach device) Done t =
     (domain : ℕ) × (root : ℕ) × (width : Width) × (slice_get m.iommu.contexts device ≡ Some (Present root width domain))
     × Invalidates (record m.iommu { contexts = slice_set m.iommu.contexts device Absent }) (ContextDevice domain device) None t.iommu
@@ -182,10 +182,10 @@ Becomes m (calls.MapList domain order rights segments) (Mapped address) t =
     BecomesMapped m domain (record { segments = segments.items; order = order; rights = rights; first = address / PAGE_BYTES }) t
 Becomes m (calls.Flush domain) (Flushed released) t =
     (old : Domain) × (new : Domain) × (domain_at m.domains domain ≡ Some old)
-    × Flushes (parts_in m old) domain (parts_in t new) × (t ≡ with_domain m domain (Some new) t)
+    × Flushes (operands_in m old) domain (operands_in t new) × (t ≡ with_domain m domain (Some new) t)
 Becomes m (calls.Unmap domain address pages) (Unmapped released) t =
     (old : Domain) × (new : Domain) × (domain_at m.domains domain ≡ Some old)
-    × EndsBy (parts_in m old) domain (range_at address pages) released (parts_in t new)
+    × EndsBy (operands_in m old) domain (range_at address pages) released (operands_in t new)
     × (t ≡ with_domain m domain (Some new) t)
 Becomes m (calls.Dma device address access whim) (Refused refusal) t = t ≡ record m { calls = m.calls + 1 }
 Becomes m (calls.Dma device address access whim) reply t =

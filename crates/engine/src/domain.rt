@@ -9,7 +9,7 @@ ghost use Rattle.dmatypes.specs.declared.width.TheConstants.{PAGES_END};
 ghost use Rattle.iova.specs.Space.{AllFree, IsSpace, MayRetire};
 ghost use Rattle.tables.specs.Pool.{IsTree};
 ghost use Rattle.vtdbits.specs.declared.descriptor.Descriptor.TheVariants.{IotlbDomain};
-ghost use Rattle.engine.specs.Domains.{AreMadeBefore, new_domain, parts_of};
+ghost use Rattle.engine.specs.Domains.{AreMadeBefore, new_domain, operands_of};
 ghost use Rattle.engine.specs.Ending.{Closes, Destroys, Flushes, IsJudgedEnd, IsUnmapped, MakesRoom, PutsOff, Releases, ReleasesAll};
 ghost use Rattle.engine.specs.Ending.{FreesEnded, Reaps, RetiresAndUnmaps, SendsForMap, UnmapsAlone, UnmapsStrictly, was_before};
 ghost use Rattle.engine.specs.State.{begins};
@@ -153,7 +153,7 @@ impl Domain {
         requires can { CanUnmap pool.old self.old }
         requires made { AreMadeBefore (iommu.old.sent + 1) self.old.records }
         requires ready { IsReady iommu.old }
-        ensures { IsUnmapped (parts_of pool.old self.old iommu.old) id range result (parts_of pool.new self.new iommu.new) }
+        ensures { IsUnmapped (operands_of pool.old self.old iommu.old) id range result (operands_of pool.new self.new iommu.new) }
     {
         self.may_end(pool, range)?;
         match self.mode {
@@ -171,7 +171,7 @@ impl Domain {
         requires can { CanCut pool.old self.old }
         requires may { IsJudgedEnd pool.old self.old range (Ok tt) }
         requires ready { IsReady iommu.old }
-        ensures { UnmapsStrictly (parts_of pool.old self.old iommu.old) id range (parts_of pool.new self.new iommu.new) }
+        ensures { UnmapsStrictly (operands_of pool.old self.old iommu.old) id range (operands_of pool.new self.new iommu.new) }
     {
         let ended = self.cut(pool, iommu, range);
         iommu.invalidate_pages(id, &ended, pool, &self.tree, &self.space);
@@ -191,7 +191,7 @@ impl Domain {
         requires may { IsJudgedEnd pool.old self.old range (Ok tt) }
         requires made { AreMadeBefore (iommu.old.sent + 1) self.old.records }
         requires ready { IsReady iommu.old }
-        ensures { PutsOff (parts_of pool.old self.old iommu.old) id range result (parts_of pool.new self.new iommu.new) }
+        ensures { PutsOff (operands_of pool.old self.old iommu.old) id range result (operands_of pool.new self.new iommu.new) }
     {
         let released = self.make_room(pool, iommu, id);
         let last = self.end(pool, iommu, range);
@@ -204,7 +204,7 @@ impl Domain {
         requires can { CanUnmap pool.old self.old }
         requires made { AreMadeBefore (iommu.old.sent + 1) self.old.records }
         requires ready { IsReady iommu.old }
-        ensures room { MakesRoom (parts_of pool.old self.old iommu.old) id result (parts_of pool.new self.new iommu.new) }
+        ensures room { MakesRoom (operands_of pool.old self.old iommu.old) id result (operands_of pool.new self.new iommu.new) }
         ensures fewer { length self.new.records < MOST_RECORDS }
     {
         if (self.records.len() as u64) < MOST_RECORDS {
@@ -219,7 +219,7 @@ impl Domain {
         requires can { CanUnmap pool.old self.old }
         requires made { AreMadeBefore (iommu.old.sent + 1) self.old.records }
         requires ready { IsReady iommu.old }
-        ensures flushes { Flushes (parts_of pool.old self.old iommu.old) id (parts_of pool.new self.new iommu.new) }
+        ensures flushes { Flushes (operands_of pool.old self.old iommu.old) id (operands_of pool.new self.new iommu.new) }
         ensures count { result ≡ length self.old.records }
     {
         let released = self.records.len() as u64;
@@ -261,7 +261,7 @@ impl Domain {
         requires can { CanUnmap pool.old self }
         requires made { AreMadeBefore (iommu.old.sent + 1) self.records }
         requires ready { IsReady iommu.old }
-        ensures { Closes (parts_of pool.old self iommu.old) id pool.new iommu.new }
+        ensures { Closes (operands_of pool.old self iommu.old) id pool.new iommu.new }
     {
         self.flush(pool, iommu, id);
         destroy(self.tree, pool, iommu, id);

@@ -21,10 +21,10 @@ use Rattle.tables.specs.Pool.{Pool, memory, occurs, word}
 use Rattle.moments.specs.Moments.{AreFreeZeroed, IsUnmap}
 use Rattle.iova.specs.Space.{IsSpace}
 use Rattle.engine.specs.declared.record.Record.{Record}
-use Rattle.engine.specs.Domains.{Domain, Parts, domain_at, held_in}
+use Rattle.engine.specs.Domains.{Domain, Operands, domain_at, held_in}
 use Rattle.engine.specs.Ending.{ByMode, Closes, MakesRoom, PutsOff, RetiresAndUnmaps, UnmapsStrictly}
 use Rattle.engine.specs.Placing.{Placement, Places, range_of}
-use Rattle.engine.specs.State.{State, parts_in}
+use Rattle.engine.specs.State.{State, operands_in}
 use Rattle.engine.specs.Steps.{Does}
 use Rattle.engine.proofs.domains.OneChanged.{both_there, domain_low}
 use Rattle.engine.proofs.frames.Owners.{apart_of}
@@ -148,8 +148,8 @@ module _ (m t : State) (d : ℕ) (h : Domain) (whole : IsSound m) (there : domai
 
     -- as the mode of its domain ends it
     pub ended : {P : Type 0} (e released : ℕ) (k new : Domain) → domain_at m.domains e ≡ Some k → (d ≡ e → P) → (mode : Mode)
-        → ByMode mode ((released ≡ 0) × UnmapsStrictly (parts_in m k) e range (parts_in t new))
-        (PutsOff (parts_in m k) e range released (parts_in t new)) → Changed P
+        → ByMode mode ((released ≡ 0) × UnmapsStrictly (operands_in m k) e range (operands_in t new))
+        (PutsOff (operands_in m k) e range released (operands_in t new)) → Changed P
     ended e released k new here by Strict does =
         let u = does.1 in
         cut_tree e k here m.pool u.pool_between k u.between u.retired refl (sym u.releases.words) refl refl (λ f. omega arith) free_zeroed
@@ -157,13 +157,13 @@ module _ (m t : State) (d : ℕ) (h : Domain) (whole : IsSound m) (there : domai
         here).2.pieces.is_space u.retires by
     ended {P} e released k new here by Lazy does = by_room does.roomy does.room does.retires
       where
-        by_room : (roomy : Parts) → MakesRoom (parts_in m k) e released roomy
+        by_room : (roomy : Operands) → MakesRoom (operands_in m k) e released roomy
             → RetiresAndUnmaps roomy.pool roomy.domain does.retired t.pool does.between → Changed P
         by_room roomy (inl has) retires =
             cut_tree e k here m.pool t.pool k does.between does.retired refl refl refl refl (λ f. omega arith) free_zeroed does.of_range
             refl (both_there m.pool.words (domain_at m.domains e) (whole.of_world.0.domains e) k (whole.of_world.1.domains e)
             here).2.pieces.is_space
-            (subst (λ (y : Parts). RetiresAndUnmaps y.pool y.domain does.retired t.pool does.between) has.same retires) by
+            (subst (λ (y : Operands). RetiresAndUnmaps y.pool y.domain does.retired t.pool does.between) has.same retires) by
         by_room roomy (inr empties) retires =
             let f = empties.flushes in
             cut_tree e k here roomy.pool t.pool roomy.domain does.between does.retired f.releases.words refl
@@ -172,7 +172,7 @@ module _ (m t : State) (d : ℕ) (h : Domain) (whole : IsSound m) (there : domai
 
   -- ---- a drop of another domain
 
-  pub other_dropped : {P : Type 0} (e : ℕ) (k : Domain) → domain_at m.domains e ≡ Some k → d ≢ e → Closes (parts_in m k) e t.pool t.iommu
+  pub other_dropped : {P : Type 0} (e : ℕ) (k : Domain) → domain_at m.domains e ≡ Some k → d ≢ e → Closes (operands_in m k) e t.pool t.iommu
       → Changed P
   other_dropped e k here ne closes = inl (λ f i some inside.
       closes.destroys.words f i inside (gone f some) ∙ ap (λ ws. word ws f i) closes.flushes.releases.words)

@@ -28,7 +28,7 @@ use Rattle.engine.specs.declared.iommu.Iommu.{Iommu}
 use Rattle.engine.specs.Domains.{Domain, domain_at}
 use Rattle.engine.specs.Ending.{Closes, Invalidates, IsSentForMap, SendsForMap, domain_shown}
 use Rattle.engine.specs.Placing.{Placement, range_of}
-use Rattle.engine.specs.State.{Becomes, BecomesMapped, State, parts_in}
+use Rattle.engine.specs.State.{Becomes, BecomesMapped, State, operands_in}
 use Rattle.moments.specs.Moments.{IsOldOrAbsent}
 use Rattle.moments.proofs.Walks.{destroys_old_or_absent}
 use Rattle.quiet.specs.Laws.{DetachesForget, DropsAreOldOrAbsent, DropsForget, MapsForgetFaults, MapsOfOneForgetFaults}
@@ -39,7 +39,7 @@ use Rattle.quiet.proofs.Sent.{sent_last}
 -- ---- a drop
 
 abbrev Closed : State → State → ℕ → Type 0
-Closed m t d = (old : Domain) × Closes (parts_in m old) d t.pool t.iommu
+Closed m t d = (old : Domain) × Closes (operands_in m old) d t.pool t.iommu
 
 closes : (m t : State) (d : ℕ) → Becomes m (calls.Drop d) Done t → Closed m t d
 unfolding Becomes
@@ -74,10 +74,10 @@ drops_forget m t d x whole does last =
     )
 
 closes_own : (m t : State) (d : ℕ) (h : Domain) → Becomes m (calls.Drop d) Done t → domain_at m.domains d ≡ Some h
-    → Closes (parts_in m h) d t.pool t.iommu
+    → Closes (operands_in m h) d t.pool t.iommu
 unfolding Becomes
 closes_own m t d h (old, here, does, is) there =
-    subst (λ (y : Domain). Closes (parts_in m y) d t.pool t.iommu) (same_Some old h (sym here ∙ there)) does
+    subst (λ (y : Domain). Closes (operands_in m y) d t.pool t.iommu) (same_Some old h (sym here ∙ there)) does
 
 pub drops_old_or_absent : DropsAreOldOrAbsent
 drops_old_or_absent m t d h reached page does there =

@@ -22,10 +22,10 @@ use Rattle.engine.proofs.flushes.OneByOne.{dropped_leaf, dropped_table}
 use Rattle.engine.proofs.requests.Read.{hold_high, hold_low}
 use Rattle.engine.specs.declared.iommu.Iommu.{Iommu}
 use Rattle.engine.specs.declared.record.Record.{Record}
-use Rattle.engine.specs.Domains.{Domain, Parts, domain_at}
+use Rattle.engine.specs.Domains.{Domain, Operands, domain_at}
 use Rattle.engine.specs.Ending.{ByMode, Empties, EndsBy, Flushes, Invalidates, MakesRoom, PutsOff, UnmapsStrictly}
 use Rattle.engine.specs.Ending.{domain_shown}
-use Rattle.engine.specs.State.{Becomes, State, parts_in}
+use Rattle.engine.specs.State.{Becomes, State, operands_in}
 use Rattle.engine.specs.Steps.{Does}
 use Rattle.quiet.specs.Laws.{FlushesForget, FullListsForget}
 use Rattle.quiet.specs.Quiet.{HoldsPageOf, IsEntry, IsInPlace, IsSound}
@@ -38,7 +38,7 @@ use Rattle.quiet.proofs.WhatIsMet.{cached_during}
 -- ---- a flush
 
 abbrev Flushed' : State → State → ℕ → Domain → Type 0
-Flushed' m t d h = (new : Domain) × Flushes (parts_in m h) d (parts_in t new) × (domain_at t.domains d ≡ Some new)
+Flushed' m t d h = (new : Domain) × Flushes (operands_in m h) d (operands_in t new) × (domain_at t.domains d ≡ Some new)
 
 flushes : (m t : State) (d released : ℕ) (h : Domain) → IsSound m → Becomes m (calls.Flush d) (Flushed released) t
     → domain_at m.domains d ≡ Some h → Flushed' m t d h
@@ -46,7 +46,7 @@ unfolding Becomes
 flushes m t d released h whole (k, new, here, does, is) there =
     let own : k ≡ h = same_Some k h (sym here ∙ there) in (
       new,
-      subst (λ (x : Domain). Flushes (parts_in m x) d (parts_in t new)) own does,
+      subst (λ (x : Domain). Flushes (operands_in m x) d (operands_in t new)) own does,
       domain_then m t d h new whole there (ap (λ (x : State). x.domains) is),
     )
 
@@ -86,16 +86,16 @@ flushes_forget m t d released h x r whole does there last inside =
 
 abbrev PutOff : State → State → ℕ → Range → ℕ → Domain → Type 0
 PutOff m t d range released h =
-    (new : Domain) × (p : PutsOff (parts_in m h) d range released (parts_in t new)) × Empties (parts_in m h) d released p.roomy
+    (new : Domain) × (p : PutsOff (operands_in m h) d range released (operands_in t new)) × Empties (operands_in m h) d released p.roomy
     × (domain_at t.domains d ≡ Some new)
 
 by_lazy : (m t : State) (d released : ℕ) (range : Range) (h new : Domain) (mode : Mode) → mode ≡ Lazy
-    → ByMode mode ((released ≡ 0) × UnmapsStrictly (parts_in m h) d range (parts_in t new))
-    (PutsOff (parts_in m h) d range released (parts_in t new)) → PutsOff (parts_in m h) d range released (parts_in t new)
+    → ByMode mode ((released ≡ 0) × UnmapsStrictly (operands_in m h) d range (operands_in t new))
+    (PutsOff (operands_in m h) d range released (operands_in t new)) → PutsOff (operands_in m h) d range released (operands_in t new)
 by_lazy m t d released range h new Lazy is does = does
 by_lazy m t d released range h new Strict is does = absurd cc
 
-emptied : (old new : Parts) (d released : ℕ) → released ≢ 0 → MakesRoom old d released new → Empties old d released new
+emptied : (old new : Operands) (d released : ℕ) → released ≢ 0 → MakesRoom old d released new → Empties old d released new
 emptied old new d released some (inl has) = absurd (some has.none)
 emptied old new d released some (inr empties) = empties
 
@@ -106,16 +106,17 @@ unfolding Becomes
 put_off m t d address pages released h whole (k, new, here, ends, is) there lazy some =
     let own : k ≡ h = same_Some k h (sym here ∙ there) in
     let p = by_lazy m t d released (range_at address pages) h new h.mode lazy
-    (subst (λ (x : Domain). EndsBy (parts_in m x) d (range_at address pages) released (parts_in t new)) own ends) in (
+    (subst (λ (x : Domain). EndsBy (operands_in m x) d (range_at address pages) released (operands_in t new)) own ends) in (
       new,
       p,
-      emptied (parts_in m h) p.roomy d released some p.room,
+      emptied (operands_in m h) p.roomy d released some p.room,
       domain_then m t d h new whole there (ap (λ (x : State). x.domains) is),
     )
 
 module _ (m t : State) (d address pages released : ℕ) (h : Domain) (whole : IsSound m)
     (does : Does m (calls.Unmap d address pages) (Unmapped released) t) (there : domain_at m.domains d ≡ Some h) (new : Domain)
-    (p : PutsOff (parts_in m h) d (range_at address pages) released (parts_in t new)) (e : Empties (parts_in m h) d released p.roomy)
+    (p : PutsOff (operands_in m h) d (range_at address pages) released (operands_in t new))
+    (e : Empties (operands_in m h) d released p.roomy)
     (r : Record) (inside : IsIn r h.records) where
   unmap : IsUnmap p.roomy.pool t.pool h.width h.root p.retired.range p.retired.cut.frames
   unmap =

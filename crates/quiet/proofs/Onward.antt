@@ -21,9 +21,9 @@ use Rattle.engine.proofs.domains.OneChanged.{both_there, domain_low, domain_set}
 use Rattle.engine.proofs.lists.Membership.{in_either}
 use Rattle.engine.proofs.lists.Places.{not_none}
 use Rattle.engine.specs.declared.record.Record.{Record}
-use Rattle.engine.specs.Domains.{Domain, Parts, domain_at}
+use Rattle.engine.specs.Domains.{Domain, Operands, domain_at}
 use Rattle.engine.specs.Ending.{ByMode, MakesRoom, PutsOff, UnmapsStrictly, was_before}
-use Rattle.engine.specs.State.{Becomes, State, begins, parts_in}
+use Rattle.engine.specs.State.{Becomes, State, begins, operands_in}
 use Rattle.engine.specs.Steps.{Does}
 use Rattle.quiet.specs.Quiet.{IsSound}
 
@@ -51,10 +51,10 @@ emptied h h' root width begun none =
 
 -- ---- an unmap
 
-module _ (old new : Parts) (id released : ℕ) (range : Range) where
-  room_made : (roomy : Parts) → MakesRoom old id released roomy → Onward old.domain roomy.domain
+module _ (old new : Operands) (id released : ℕ) (range : Range) where
+  room_made : (roomy : Operands) → MakesRoom old id released roomy → Onward old.domain roomy.domain
   room_made roomy (inl has) =
-      let same = ap (λ (p : Parts). p.domain) has.same in
+      let same = ap (λ (p : Operands). p.domain) has.same in
       but_space old.domain roomy.domain (ap (λ (y : Domain). y.root) same) (ap (λ (y : Domain). y.width) same)
       (ap (λ (y : Domain). y.begun) same) (ap (λ (y : Domain). y.records) same)
   room_made roomy (inr empties) =
@@ -183,7 +183,7 @@ onward m t d h sound there (calls.Flush e) (Flushed released) does (k, new, here
 onward m t d h sound there (calls.Flush e) _ does is stays = same m t d h sound there (ap (λ (x : State). x.domains) is)
 onward m t d h sound there (calls.Unmap e address pages) (Unmapped released) does (k, new, here, ends, is) stays =
     one m t d h sound there e k new here (ap (λ (x : State). x.domains) is)
-    (ended (parts_in m k) (parts_in t new) e released (range_at address pages) k.mode ends)
+    (ended (operands_in m k) (operands_in t new) e released (range_at address pages) k.mode ends)
 onward m t d h sound there (calls.Unmap e address pages) _ does is stays = same m t d h sound there (ap (λ (x : State). x.domains) is)
 onward m t d h sound there (calls.Dma device address access whim) (Refused refusal) does is stays =
     same m t d h sound there (ap (λ (x : State). x.domains) is)

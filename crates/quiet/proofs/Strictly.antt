@@ -20,7 +20,7 @@ use Rattle.engine.proofs.frames.Owners.{tree_of}
 use Rattle.engine.proofs.requests.Read.{hold_high, hold_low}
 use Rattle.engine.specs.Domains.{Domain, domain_at}
 use Rattle.engine.specs.Ending.{ByMode, EndsBy, PutsOff, UnmapsStrictly}
-use Rattle.engine.specs.State.{Becomes, State, parts_in}
+use Rattle.engine.specs.State.{Becomes, State, operands_in}
 use Rattle.engine.specs.Steps.{Does}
 use Rattle.quiet.specs.Laws.{StrictUnmapsForgetPages, StrictUnmapsForgetTables}
 use Rattle.quiet.specs.Quiet.{HoldsPageOf, IsDoneLast, IsEntry, IsInPlace, IsSound}
@@ -30,11 +30,11 @@ use Rattle.quiet.proofs.Sent.{sent_last}
 use Rattle.quiet.proofs.WhatIsMet.{cached_during, used_on}
 
 abbrev Strictly : State → State → ℕ → Range → Domain → Type 0
-Strictly m t d range h = (new : Domain) × UnmapsStrictly (parts_in m h) d range (parts_in t new) × (domain_at t.domains d ≡ Some new)
+Strictly m t d range h = (new : Domain) × UnmapsStrictly (operands_in m h) d range (operands_in t new) × (domain_at t.domains d ≡ Some new)
 
 by_mode : (m t : State) (d released : ℕ) (range : Range) (h new : Domain) (mode : Mode) → mode ≡ Strict
-    → ByMode mode ((released ≡ 0) × UnmapsStrictly (parts_in m h) d range (parts_in t new))
-    (PutsOff (parts_in m h) d range released (parts_in t new)) → UnmapsStrictly (parts_in m h) d range (parts_in t new)
+    → ByMode mode ((released ≡ 0) × UnmapsStrictly (operands_in m h) d range (operands_in t new))
+    (PutsOff (operands_in m h) d range released (operands_in t new)) → UnmapsStrictly (operands_in m h) d range (operands_in t new)
 by_mode m t d released range h new Strict is does = does.1
 by_mode m t d released range h new Lazy is does = absurd cc
 
@@ -46,13 +46,13 @@ strictly m t d address pages released h whole (k, new, here, ends, is) there str
     let own : k ≡ h = same_Some k h (sym here ∙ there) in (
       new,
       by_mode m t d released (range_at address pages) h new h.mode strict
-          (subst (λ (x : Domain). EndsBy (parts_in m x) d (range_at address pages) released (parts_in t new)) own ends),
+          (subst (λ (x : Domain). EndsBy (operands_in m x) d (range_at address pages) released (operands_in t new)) own ends),
       domain_then m t d h new whole there (ap (λ (x : State). x.domains) is),
     )
 
 module _ (m t : State) (d address pages released : ℕ) (h : Domain) (whole : IsSound m)
     (does : Does m (calls.Unmap d address pages) (Unmapped released) t) (there : domain_at m.domains d ≡ Some h) (x : Descriptor)
-    (last : IsDoneLast t x) (new : Domain) (u : UnmapsStrictly (parts_in m h) d (range_at address pages) (parts_in t new))
+    (last : IsDoneLast t x) (new : Domain) (u : UnmapsStrictly (operands_in m h) d (range_at address pages) (operands_in t new))
     (then : domain_at t.domains d ≡ Some new) where
   is_sent : x ≡ u.descriptor
   is_sent = sent_last m.iommu t.iommu u.descriptor x _ last.0 last.1 u.invalidates last.2

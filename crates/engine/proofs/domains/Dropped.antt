@@ -7,7 +7,7 @@ use Rattle.vtdbits.specs.declared.descriptor.Descriptor.TheVariants.{IotlbDomain
 use Rattle.engine.specs.Ending.{Closes, Destroys, Invalidates, domain_shown, status_of}
 use Rattle.engine.specs.declared.iommu.Iommu.{Iommu}
 use Rattle.engine.specs.Domains.{Domain, domain_at}
-use Rattle.engine.specs.State.{State, parts_in}
+use Rattle.engine.specs.State.{State, operands_in}
 use Rattle.engine.specs.Quarantine.{Quarantine}
 use Rattle.engine.proofs.domains.Closed.{domain_gone}
 use Rattle.engine.proofs.unmaps.FullList.{put_twice, same_domains}
@@ -21,7 +21,7 @@ use Rattle.dmatypes.specs.declared.limits.TheConstants.{MOST_DOMAINS}
 module _ (m t : State) (w : World) (i : ℕ) (h : Domain) (v : world.Domain) (q : Quarantine m w) (many : length m.domains ≡ MOST_DOMAINS)
     (less : i < length m.domains)
     (there : domain_at m.domains (i + 1) ≡ Some h) (here : w.domains (i + 1) ≡ Some v) (nobody : (x : ℕ) → w.devices x ≡ Some (i + 1) → ⊥)
-    (closes : Closes (parts_in m h) (i + 1) t.pool t.iommu) (domains : t.domains ≡ slice_set m.domains i None)
+    (closes : Closes (operands_in m h) (i + 1) t.pool t.iommu) (domains : t.domains ≡ slice_set m.domains i None)
     (tickets : t.tickets ≡ m.tickets) where
   -- the domain and the state once the records went
   abbrev emptied : Domain

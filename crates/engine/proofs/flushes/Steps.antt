@@ -18,8 +18,8 @@ use Rattle.tables.specs.Pool.{Pool}
 use Rattle.vtdbits.specs.declared.descriptor.Descriptor.TheVariants.{IotlbDomain, Wait}
 use Rattle.engine.specs.declared.iommu.Iommu.{Iommu}
 use Rattle.engine.specs.Ending.{Closes, Flushes, Invalidates, left_by_all, domain_shown, status_of}
-use Rattle.engine.specs.Domains.{Domain, domain_at, parts_of}
-use Rattle.engine.specs.State.{Becomes, Exact, State, parts_in}
+use Rattle.engine.specs.Domains.{Domain, domain_at, operands_of}
+use Rattle.engine.specs.State.{Becomes, Exact, State, operands_in}
 use Rattle.engine.specs.Quarantine.{IsOfSomeWorld, Quarantine, ticket_there}
 use Rattle.vtdbits.specs.Context.{attached}
 use Rattle.engine.specs.declared.ticket.Ticket.{Ticket}
@@ -125,7 +125,7 @@ module _ (m : State) (domain i : ℕ) (h : Domain) (pool : Pool) (x : Iommu) (wh
       refl invalidates
 
   module _ (new : Domain) (released : ℕ) (count : released ≡ length h.records)
-      (flushes : Flushes (parts_in m h) domain (parts_of pool new x)) where
+      (flushes : Flushes (operands_in m h) domain (operands_of pool new x)) where
     abbrev after_flush : State
     after_flush = changed m i pool (Some new) x
 
@@ -155,7 +155,7 @@ module _ (m : State) (domain i : ℕ) (h : Domain) (pool : Pool) (x : Iommu) (wh
     flush_did = record { does = flush_does; whole = sends (Some new) flush_does flushes.invalidates }
 
   module _ (nobody : (v : ℕ) → attached (slice_get m.iommu.contexts v) ≡ Some domain → ⊥)
-      (untold : (x : Ticket) → IsIn x m.tickets → x.domain ≡ domain → ⊥) (closes : Closes (parts_in m h) domain pool x)
+      (untold : (x : Ticket) → IsIn x m.tickets → x.domain ≡ domain → ⊥) (closes : Closes (operands_in m h) domain pool x)
     where
       abbrev after_drop : State
       after_drop = changed m i pool None x
@@ -166,7 +166,7 @@ module _ (m : State) (domain i : ℕ) (h : Domain) (pool : Pool) (x : Iommu) (wh
         steps = λ w q.
             let v = both_there m.pool.words (domain_at m.domains domain) (w.domains domain) h (q.domains domain) there in
             let there' : w.domains (i + 1) ≡ Some v.0 = sym (ap w.domains id) ∙ v.1 in
-            let closes' : Closes (parts_in m h) (i + 1) pool x = rw id at closes in
+            let closes' : Closes (operands_in m h) (i + 1) pool x = rw id at closes in
             let alone : (k : ℕ) → w.devices k ≡ Some domain → ⊥ = (λ k to. nobody k (sym (q.contexts.devices k) ∙ to)) in
             let alone' : (k : ℕ) → w.devices k ≡ Some (i + 1) → ⊥ = rw id at alone in (
               (

@@ -13,9 +13,9 @@ use Rattle.dmatypes.specs.declared.reply.Reply.TheVariants.{Made, Done, Mapped, 
 use Rattle.dmatypes.specs.Page.{Range}
 use Rattle.engine.specs.declared.iommu.Iommu.{Iommu}
 use Rattle.engine.specs.declared.record.Record.{Record}
-use Rattle.engine.specs.Domains.{AreMadeBefore, Domain, Parts, domain_at}
+use Rattle.engine.specs.Domains.{AreMadeBefore, Domain, Operands, domain_at}
 use Rattle.engine.specs.Ending.{ByMode, MakesRoom, PutsOff, UnmapsStrictly, was_before}
-use Rattle.engine.specs.State.{Becomes, State, begins, parts_in}
+use Rattle.engine.specs.State.{Becomes, State, begins, operands_in}
 use Rattle.engine.specs.Whole.{AllAreBegun, AllAreMade}
 use Rattle.engine.proofs.domains.OneChanged.{domain_of_place}
 use Rattle.engine.proofs.lists.Membership.{in_either, in_set}
@@ -43,9 +43,9 @@ records_of None = []
 records_of (Some h) = h.records
 
 -- those of a domain after an unmap
-module _ (old : Parts) (id released : ℕ) (range : Range) (new : Parts) (later : old.iommu.sent ≤ new.iommu.sent)
+module _ (old : Operands) (id released : ℕ) (range : Range) (new : Operands) (later : old.iommu.sent ≤ new.iommu.sent)
     (made : AreMadeBefore (new.iommu.sent + 1) old.domain.records) where
-  roomy_made : (roomy : Parts) → MakesRoom old id released roomy → AreMadeBefore (new.iommu.sent + 1) roomy.domain.records
+  roomy_made : (roomy : Operands) → MakesRoom old id released roomy → AreMadeBefore (new.iommu.sent + 1) roomy.domain.records
   roomy_made roomy (inl has) = rw has.same made
   roomy_made roomy (inr empties) = none_made (new.iommu.sent + 1) roomy.domain.records (ap (λ (h : Domain). h.records) empties.flushes.same)
 
@@ -126,7 +126,8 @@ made_kept m t (calls.Flush domain) (Flushed released) (h, new, there, flushes, i
 made_kept m t (calls.Flush domain) _ is later made = same_made m t later made (ap (λ (x : State). x.domains) is)
 made_kept m t (calls.Unmap domain address pages) (Unmapped released) (h, new, there, ends, is) later made =
     one_made m t later made (domain - 1) (Some new) (ap (λ (x : State). x.domains) is)
-    (ended_made (parts_in m h) domain released _ (parts_in t new) later (still_made m t later made h (domain_in m.domains domain h there))
+    (ended_made (operands_in m h) domain released _ (operands_in t new) later (still_made m t later made h
+    (domain_in m.domains domain h there))
     h.mode ends)
 made_kept m t (calls.Unmap domain address pages) _ is later made = same_made m t later made (ap (λ (x : State). x.domains) is)
 made_kept m t (calls.Dma device address access whim) (Refused refusal) is later made =
@@ -148,14 +149,14 @@ made_kept m t (calls.Evict kind place) _ is later made = same_made m t later mad
 
 -- ---- the flushes that were begun
 
-ended_begun : (old : Parts) (id released : ℕ) (range : Range) (new : Parts) (mode : Mode)
+ended_begun : (old : Operands) (id released : ℕ) (range : Range) (new : Operands) (mode : Mode)
     → ByMode mode ((released ≡ 0) × UnmapsStrictly old id range new) (PutsOff old id range released new)
     → new.domain.begun ≡ old.domain.begun
 ended_begun old id released range new Strict does =
     ap (λ (h : Domain). h.begun) does.1.same ∙ ap (λ (h : Domain). h.begun) does.1.retires.same
 ended_begun old id released range new Lazy does =
     ap (λ (h : Domain). h.begun) does.last ∙ ap (λ (h : Domain). h.begun) does.retires.same ∙ elim does.room [
-      | inl has ↦ ap (λ (p : Parts). p.domain.begun) has.same
+      | inl has ↦ ap (λ (p : Operands). p.domain.begun) has.same
       | inr empties ↦ ap (λ (h : Domain). h.begun) empties.flushes.same
     ]
 
@@ -209,7 +210,7 @@ begun_kept m t (calls.Flush domain) (Flushed released) (h, new, there, flushes, 
 begun_kept m t (calls.Flush domain) _ is later begun = same_begun m t later begun (ap (λ (x : State). x.domains) is)
 begun_kept m t (calls.Unmap domain address pages) (Unmapped released) (h, new, there, ends, is) later begun =
     there_begun m t later begun (domain - 1) domain h new (ap (λ (x : State). x.domains) is) there
-    (let same = ended_begun (parts_in m h) domain released _ (parts_in t new) h.mode ends in omega (arith, same))
+    (let same = ended_begun (operands_in m h) domain released _ (operands_in t new) h.mode ends in omega (arith, same))
 begun_kept m t (calls.Unmap domain address pages) _ is later begun = same_begun m t later begun (ap (λ (x : State). x.domains) is)
 begun_kept m t (calls.Begin domain) (Reply.Ticket other number) (h, there, new, id, begins_is, is) later begun =
     let was = begun h (domain_in m.domains domain h there) in

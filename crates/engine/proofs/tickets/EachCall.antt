@@ -23,9 +23,9 @@ use Rattle.unit.proofs.caches.Members.{without_leaf, without_non_leaf, without_c
 use Rattle.vtdbits.specs.declared.descriptor.Descriptor.TheVariants.{ContextDevice, IotlbDomain, Wait}
 use Rattle.engine.specs.declared.iommu.Iommu.{Iommu}
 use Rattle.engine.specs.declared.record.Record.{Record}
-use Rattle.engine.specs.Domains.{Domain, Parts, domain_at}
+use Rattle.engine.specs.Domains.{Domain, Operands, domain_at}
 use Rattle.engine.specs.Ending.{ByMode, Invalidates, MakesRoom, PutsOff, SendsForMap, UnmapsStrictly, domain_shown, status_of, was_before}
-use Rattle.engine.specs.State.{Becomes, Exact, State, begins, parts_in}
+use Rattle.engine.specs.State.{Becomes, Exact, State, begins, operands_in}
 use Rattle.engine.specs.Quarantine.{Quarantine, ticket_there}
 use Rattle.engine.specs.Tickets.{KeepsTickets}
 use Rattle.engine.proofs.caches.Purged.{IsFewer}
@@ -41,13 +41,14 @@ use Rattle.engine.proofs.tickets.UnitStep.{tickets_stepped}
 
 -- ---- a domain after an unmap
 
-module _ (old : Parts) (id released : ℕ) (range : Range) (new : Parts) where
-  roomy_begun : (roomy : Parts) → MakesRoom old id released roomy → roomy.domain.begun ≡ old.domain.begun
-  roomy_begun roomy (inl has) = ap (λ (p : Parts). p.domain.begun) has.same
+module _ (old : Operands) (id released : ℕ) (range : Range) (new : Operands) where
+  roomy_begun : (roomy : Operands) → MakesRoom old id released roomy → roomy.domain.begun ≡ old.domain.begun
+  roomy_begun roomy (inl has) = ap (λ (p : Operands). p.domain.begun) has.same
   roomy_begun roomy (inr empties) = ap (λ (h : Domain). h.begun) empties.flushes.same
 
-  roomy_fewer : (roomy : Parts) → MakesRoom old id released roomy → (r : Record) → IsIn r roomy.domain.records → IsIn r old.domain.records
-  roomy_fewer roomy (inl has) r inside = subst (λ (p : Parts). IsIn r p.domain.records) has.same inside
+  roomy_fewer : (roomy : Operands) → MakesRoom old id released roomy → (r : Record) → IsIn r roomy.domain.records
+      → IsIn r old.domain.records
+  roomy_fewer roomy (inl has) r inside = subst (λ (p : Operands). IsIn r p.domain.records) has.same inside
   roomy_fewer roomy (inr empties) r inside = absurd (subst (λ (h : Domain). IsIn r h.records) empties.flushes.same inside)
 
   unmap_ages : (mode : Mode) → ByMode mode ((released ≡ 0) × UnmapsStrictly old id range new) (PutsOff old id range released new)
@@ -113,12 +114,12 @@ module _ (m t : State) (w : World) (q : Quarantine m w) (many : length m.domains
       (subst (IsIn (ticket_there x)) (sym q.tickets) (in_mapped ticket_there x m.tickets inside)) this)) h there
 
   unmap_tickets : (domain released : ℕ) (range : Range) (h new : Domain) → t.tickets ≡ m.tickets → AgeAll m t → (mode : Mode)
-      → ByMode mode ((released ≡ 0) × UnmapsStrictly (parts_in m h) domain range (parts_in t new))
-      (PutsOff (parts_in m h) domain range released (parts_in t new)) → KeepsTickets t
+      → ByMode mode ((released ≡ 0) × UnmapsStrictly (operands_in m h) domain range (operands_in t new))
+      (PutsOff (operands_in m h) domain range released (operands_in t new)) → KeepsTickets t
   unmap_tickets domain released range h new tickets ages Strict does =
       tickets_done m t k m.iommu.contexts does.1.descriptor does.1.invalidates ages tickets
   unmap_tickets domain released range h new tickets ages Lazy does = elim does.room [
-    | inl has ↦ calm (does.quiet ∙ ap (λ (p : Parts). p.iommu) has.same) tickets ages
+    | inl has ↦ calm (does.quiet ∙ ap (λ (p : Operands). p.iommu) has.same) tickets ages
     | inr empties ↦
         tickets_done m t k m.iommu.contexts (IotlbDomain domain)
         (subst (λ (y : Iommu). Invalidates m.iommu (IotlbDomain domain) (domain_shown m.pool h) y) (sym does.quiet)
@@ -172,7 +173,7 @@ module _ (m t : State) (w : World) (q : Quarantine m w) (many : length m.domains
   tickets_kept (calls.Unmap domain address pages) (Unmapped released) step (h, new, there, ends, is) =
       unmap_tickets domain released (range_at address pages) h new (ap (λ (x : State). x.tickets) is)
       (one_ages m t domain h new many there (ap (λ (x : State). x.domains) is)
-      (unmap_ages (parts_in m h) domain released (range_at address pages) (parts_in t new) h.mode ends)) h.mode ends
+      (unmap_ages (operands_in m h) domain released (range_at address pages) (operands_in t new) h.mode ends)) h.mode ends
   tickets_kept (calls.Unmap domain address pages) _ step is = only_counted is
   tickets_kept (calls.Begin domain) (Reply.Ticket other number) step (h, there, new, id, sends, is) =
       let one : t.iommu.sent ≡ m.iommu.sent + 1 = ap (λ (x : Iommu). x.sent) sends in

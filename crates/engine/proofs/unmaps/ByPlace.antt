@@ -17,8 +17,8 @@ use Rattle.vtdbits.specs.declared.descriptor.Descriptor.{Descriptor}
 use Rattle.vtdbits.specs.declared.descriptor.Descriptor.TheVariants.{IotlbDomain}
 use Rattle.engine.specs.Ending.{ByMode, Invalidates, IsJudgedEnd, IsUnmapped, MakesRoom, PutsOff, RetiresAndUnmaps, UnmapsStrictly}
 use Rattle.engine.specs.Ending.{domain_shown, record_shown, status_of}
-use Rattle.engine.specs.Domains.{Domain, Parts, domain_at, parts_of}
-use Rattle.engine.specs.State.{Becomes, Exact, State, parts_in, unmapped_reply}
+use Rattle.engine.specs.Domains.{Domain, Operands, domain_at, operands_of}
+use Rattle.engine.specs.State.{Becomes, Exact, State, operands_in, unmapped_reply}
 use Rattle.engine.specs.Steps.{Does, Steps}
 use Rattle.engine.specs.Whole.{IsWhole}
 use Rattle.engine.proofs.lists.Places.{set_again}
@@ -64,13 +64,13 @@ judged m domain address pages h _ there whole fits other = absurd other
 unmap_refused : (m : State) (domain address pages i : ℕ) (h new : Domain) (pool : Pool) (x : Iommu) (refusal : Refusal)
     → slice_get m.domains i ≡ Some (Some h) → domain_at m.domains domain ≡ Some h → address % PAGE_BYTES ≡ 0
     → IsPageRange (range_at address pages) × Fits (range_at address pages) h.width
-    → IsUnmapped (parts_in m h) domain (range_at address pages) (Err refusal) (parts_of pool new x)
+    → IsUnmapped (operands_in m h) domain (range_at address pages) (Err refusal) (operands_of pool new x)
     → Does m (calls.Unmap domain address pages) (Refused refusal) (changed m i pool (Some new) x)
 unmap_refused m domain address pages i h new pool x refusal at there whole fits ended =
     rw same (judged m domain address pages h refusal there whole fits ended.1)
   where
     same : changed m i pool (Some new) x ≡ counted m
-    same = ap (λ (p : Parts). changed m i p.pool (Some p.domain) p.iommu) ended.0
+    same = ap (λ (p : Operands). changed m i p.pool (Some p.domain) p.iommu) ended.0
         ∙ ap (λ (ds : List (Option Domain)). record m { domains = ds; calls = m.calls + 1 }) (set_again m.domains i (Some h) at)
 
 -- ---- done
@@ -82,13 +82,13 @@ module _ (m : State) (address pages i released : ℕ) (h new : Domain) (pool : P
   abbrev after : State
   after = changed m i pool (Some new) x
 
-  abbrev old_parts : Parts
-  old_parts = parts_in m h
+  abbrev old_operands : Operands
+  old_operands = operands_in m h
 
-  abbrev new_parts : Parts
-  new_parts = parts_of pool new x
+  abbrev new_operands : Operands
+  new_operands = operands_of pool new x
 
-  strictly : h.mode ≡ Strict → released ≡ 0 → UnmapsStrictly old_parts (i + 1) (range_at address pages) new_parts
+  strictly : h.mode ≡ Strict → released ≡ 0 → UnmapsStrictly old_operands (i + 1) (range_at address pages) new_operands
       → Steps m (calls.Unmap (i + 1) address pages) (Unmapped released) after
   strictly strict none does =
       rw none (strict_steps m after i address pages h does.between does.retired many less there whole fits does.of_range
@@ -98,12 +98,13 @@ module _ (m : State) (address pages i released : ℕ) (h new : Domain) (pool : P
       (does.same ∙ ap (λ (d : Domain). record d { space = new.space }) does.retires.same)))
 
   lazily : h.mode ≡ Lazy → IsJudgedEnd m.pool h (range_at address pages) (Ok tt)
-      → (does : PutsOff old_parts (i + 1) (range_at address pages) released new_parts) → MakesRoom old_parts (i + 1) released does.roomy
+      → (does : PutsOff old_operands (i + 1) (range_at address pages) released new_operands)
+      → MakesRoom old_operands (i + 1) released does.roomy
       → Steps m (calls.Unmap (i + 1) address pages) (Unmapped released) after
   lazily lazy may does (inl has) =
       let retires : RetiresAndUnmaps m.pool h does.retired pool does.between =
-      subst (λ (p : Parts). RetiresAndUnmaps p.pool p.domain does.retired pool does.between) has.same does.retires in
-      let quiet : x ≡ m.iommu = does.quiet ∙ ap (λ (p : Parts). p.iommu) has.same in
+      subst (λ (p : Operands). RetiresAndUnmaps p.pool p.domain does.retired pool does.between) has.same does.retires in
+      let quiet : x ≡ m.iommu = does.quiet ∙ ap (λ (p : Operands). p.iommu) has.same in
       rw has.none (room_steps m after i address pages h does.between does.retired many less there whole fits does.of_range
       (ap (λ (y : Iommu). y.contexts) quiet) refl lazy has.some retires (ap (λ (y : Iommu). y.unit) quiet)
       (ap (λ (d : Domain). slice_set m.domains i (Some d))
@@ -123,13 +124,13 @@ module _ (m : State) (address pages i released : ℕ) (h new : Domain) (pool : P
       (does.last ∙ ap (λ (d : Domain). record d { records = d.records ++ does.retired ∷ [] }) retires.same)))
 
   by_mode : (mode : Mode) → h.mode ≡ mode → IsJudgedEnd m.pool h (range_at address pages) (Ok tt)
-      → ByMode mode ((released ≡ 0) × UnmapsStrictly old_parts (i + 1) (range_at address pages) new_parts)
-      (PutsOff old_parts (i + 1) (range_at address pages) released new_parts)
+      → ByMode mode ((released ≡ 0) × UnmapsStrictly old_operands (i + 1) (range_at address pages) new_operands)
+      (PutsOff old_operands (i + 1) (range_at address pages) released new_operands)
       → Steps m (calls.Unmap (i + 1) address pages) (Unmapped released) after
   by_mode Strict strict may does = strictly strict does.0 does.1
   by_mode Lazy lazy may does = lazily lazy may does does.room
 
-  unmap_done : IsUnmapped old_parts (i + 1) (range_at address pages) (Ok released) new_parts
+  unmap_done : IsUnmapped old_operands (i + 1) (range_at address pages) (Ok released) new_operands
       → Does m (calls.Unmap (i + 1) address pages) (Unmapped released) after
   unfolding Exact Becomes
   unmap_done does = record {
@@ -140,13 +141,13 @@ module _ (m : State) (address pages i released : ℕ) (h new : Domain) (pool : P
   }
 
   -- what the type of a state keeps
-  quiet_or_sent : (mode : Mode) → ByMode mode ((released ≡ 0) × UnmapsStrictly old_parts (i + 1) (range_at address pages) new_parts)
-      (PutsOff old_parts (i + 1) (range_at address pages) released new_parts)
+  quiet_or_sent : (mode : Mode) → ByMode mode ((released ≡ 0) × UnmapsStrictly old_operands (i + 1) (range_at address pages) new_operands)
+      (PutsOff old_operands (i + 1) (range_at address pages) released new_operands)
       → (x ≡ m.iommu) ⊎ ((d : Descriptor) × (seen : Option Shown) × Invalidates m.iommu d seen x)
   quiet_or_sent Strict does =
       inr (does.1.descriptor, record_shown h.root (range_at address pages) (length does.1.pool_between.free), does.1.invalidates)
   quiet_or_sent Lazy does = elim does.room [
-    | inl has ↦ inl (does.quiet ∙ ap (λ (p : Parts). p.iommu) has.same)
+    | inl has ↦ inl (does.quiet ∙ ap (λ (p : Operands). p.iommu) has.same)
     | inr empties ↦
         inr (
           IotlbDomain (i + 1),
@@ -156,7 +157,7 @@ module _ (m : State) (address pages i released : ℕ) (h new : Domain) (pool : P
         )
   ]
 
-  unmap_whole : IsWhole m.pool.frames m → IsUnmapped old_parts (i + 1) (range_at address pages) (Ok released) new_parts
+  unmap_whole : IsWhole m.pool.frames m → IsUnmapped old_operands (i + 1) (range_at address pages) (Ok released) new_operands
       → IsWhole pool.frames after
   unmap_whole is does = elim (quiet_or_sent h.mode does.1) [
     | inl quiet ↦
@@ -178,18 +179,18 @@ pub unmap_answered : (m : State) (domain address pages i : ℕ) (h new : Domain)
     (answer : Result ℕ Refusal) → IsWhole m.pool.frames m → i < length m.domains → domain ≡ i + 1 → slice_get m.domains i ≡ Some (Some h)
     → domain_at m.domains domain ≡ Some h → address % PAGE_BYTES ≡ 0 → IsPageRange (range_at address pages)
     × Fits (range_at address pages) h.width
-    → IsUnmapped (parts_in m h) domain (range_at address pages) answer (parts_of pool new x)
+    → IsUnmapped (operands_in m h) domain (range_at address pages) answer (operands_of pool new x)
     → AnswersUnmap m domain address pages answer (changed m i pool (Some new) x)
 unmap_answered m domain address pages i h new pool x (Ok released) is less id at there whole fits ended =
     let there' : domain_at m.domains (i + 1) ≡ Some h = rw id at there in
-    let ended' : IsUnmapped (parts_in m h) (i + 1) (range_at address pages) (Ok released) (parts_of pool new x) = rw id at ended in
+    let ended' : IsUnmapped (operands_in m h) (i + 1) (range_at address pages) (Ok released) (operands_of pool new x) = rw id at ended in
     record {
       does = rw id (unmap_done m address pages i released h new pool x is.places less there' whole fits ended');
       whole = unmap_whole m address pages i released h new pool x is.places less there' whole fits is ended';
     }
 unmap_answered m domain address pages i h new pool x (Err refusal) is less id at there whole fits ended =
     let does = unmap_refused m domain address pages i h new pool x refusal at there whole fits ended in
-    let quiet : x ≡ m.iommu = ap (λ (p : Parts). p.iommu) ended.0 in
+    let quiet : x ≡ m.iommu = ap (λ (p : Operands). p.iommu) ended.0 in
     record {
       does = does;
       whole =

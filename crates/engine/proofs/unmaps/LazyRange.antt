@@ -1,13 +1,13 @@
 -- A lazy unmap: once there is room for its record, its range may still end.
 use Rattle.std.proofs.Common.{ℕ, inl, inr, [], Ok, subst, sym, ◌≤◌, length}
 use Rattle.dmatypes.specs.Page.{Range}
-use Rattle.engine.specs.Domains.{Domain, Parts}
+use Rattle.engine.specs.Domains.{Domain, Operands}
 use Rattle.engine.specs.Ending.{IsJudgedEnd, MakesRoom, leaves_split}
 use Rattle.engine.specs.Ready.{CanCut, CanUnmap}
 use Rattle.engine.proofs.flushes.MayRelease.{split_room}
 
 -- a range that may end before may end then
-pub still_ends : (old new : Parts) (id released : ℕ) (range : Range) → CanUnmap old.pool old.domain
+pub still_ends : (old new : Operands) (id released : ℕ) (range : Range) → CanUnmap old.pool old.domain
     → IsJudgedEnd old.pool old.domain range (Ok tt) → MakesRoom old id released new
     → CanCut new.pool new.domain × IsJudgedEnd new.pool new.domain range (Ok tt)
 still_ends old new id released range can may (inl has) = rw has.same (can.cut, may)

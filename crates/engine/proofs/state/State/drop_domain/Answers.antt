@@ -6,7 +6,7 @@ use Rattle.dmatypes.specs.World.{IsIn}
 use Rattle.engine.specs.declared.ticket.Ticket.{Ticket}
 use Rattle.engine.specs.contracts.state.State.{the_view}
 use Rattle.engine.specs.Ending.{Closes}
-use Rattle.engine.specs.State.{parts_in}
+use Rattle.engine.specs.State.{operands_in}
 use Rattle.engine.specs.Domains.{domain_at}
 use Rattle.engine.specs.Quarantine.{ticket_there}
 use Rattle.vtdbits.specs.Context.{attached}
@@ -70,7 +70,7 @@ did c =
     let found = found_by c in
     let nobody : (v : ℕ) → attached (slice_get c.self.inside.iommu.contexts v) ≡ Some c.args.domain → ⊥ =
     rw (← c.in-Some.ensures.value) (c.if-is_attached.ensures.none refl) in
-    let closes : Closes (parts_in (the_view c.self.inside) c.in-Some-take.domain) c.args.domain c.close-room.new.pool
+    let closes : Closes (operands_in (the_view c.self.inside) c.in-Some-take.domain) c.args.domain c.close-room.new.pool
     c.close-room.new.iommu =
     rw (← c.in-Some.ensures.value) c.close-room.ensures in
     let untold : (x : Ticket) → IsIn x c.self.inside.tickets.items → x.domain ≡ c.args.domain → ⊥ =

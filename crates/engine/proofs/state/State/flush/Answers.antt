@@ -2,9 +2,9 @@ use Rattle.std.proofs.Common.{Some, refl}
 use Rattle.dmatypes.specs.declared.call.Call.TheVariants as calls
 use Rattle.dmatypes.specs.declared.reply.Reply.TheVariants.{Flushed}
 use Rattle.engine.specs.contracts.state.State.{the_view}
-use Rattle.engine.specs.Domains.{parts_of}
+use Rattle.engine.specs.Domains.{operands_of}
 use Rattle.engine.specs.Ending.{Flushes}
-use Rattle.engine.specs.State.{parts_in}
+use Rattle.engine.specs.State.{operands_in}
 use Rattle.engine.proofs.domains.OneChanged.{no_id_no_domain}
 use Rattle.engine.proofs.domains.Found.{Finds, finds, keeps_found, keeps_rooms, put_back}
 use Rattle.engine.proofs.flushes.Steps.{Did, flush_did, flush_no_domain}
@@ -58,8 +58,8 @@ did : (c : goal.After-self-2-1) → Did (the_view c.self.inside) (calls.Flush c.
     (changed (the_view c.self.inside) c.place_of.result c.flush.new.pool (Some c.flush.new.self) c.flush.new.iommu)
 did c =
     let found = found_by c in
-    let flushes : Flushes (parts_in (the_view c.self.inside) c.in-Some-index_mut.domain) c.args.domain
-    (parts_of c.flush.new.pool c.flush.new.self c.flush.new.iommu) =
+    let flushes : Flushes (operands_in (the_view c.self.inside) c.in-Some-index_mut.domain) c.args.domain
+    (operands_of c.flush.new.pool c.flush.new.self c.flush.new.iommu) =
     rw (← c.in-Some.ensures.value) c.flush.ensures.flushes in
     flush_did (the_view c.self.inside) c.args.domain c.place_of.result c.in-Some-index_mut.domain c.flush.new.pool
     c.flush.new.iommu c.self.invariant.0 found.less found.id found.there c.flush.new.self c.flush.result c.flush.ensures.count flushes

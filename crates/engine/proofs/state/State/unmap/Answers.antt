@@ -2,9 +2,9 @@ use Rattle.std.proofs.Common.{subst, Some, refl, sym}
 use Rattle.dmatypes.specs.Conditions.{IsBadUnmap}
 use Rattle.dmatypes.specs.Page.{Fits, Range, range_at}
 use Rattle.engine.specs.contracts.state.State.{the_view}
-use Rattle.engine.specs.Domains.{parts_of}
+use Rattle.engine.specs.Domains.{operands_of}
 use Rattle.engine.specs.Ending.{IsUnmapped}
-use Rattle.engine.specs.State.{State, parts_in}
+use Rattle.engine.specs.State.{State, operands_in}
 use Rattle.engine.proofs.domains.OneChanged.{no_id_no_domain}
 use Rattle.engine.proofs.domains.Found.{Finds, finds, keeps_found, keeps_rooms, put_back}
 use Rattle.engine.proofs.flushes.MayRelease.{can_unmap}
@@ -81,8 +81,8 @@ answered : (c : goal.After-self-2-1)
 answered c =
     let found = found_by c in
     let range = c.in-Some-range_at.ensures.some in
-    let ended : IsUnmapped (parts_in (the_view c.self.inside) c.in-Some-index_mut.domain) c.args.domain
-    (range_at c.args.address c.args.pages) c.unmap.result (parts_of c.unmap.new.pool c.unmap.new.self c.unmap.new.iommu) =
+    let ended : IsUnmapped (operands_in (the_view c.self.inside) c.in-Some-index_mut.domain) c.args.domain
+    (range_at c.args.address c.args.pages) c.unmap.result (operands_of c.unmap.new.pool c.unmap.new.self c.unmap.new.iommu) =
     rw (← c.in-Some.ensures.value, ← range.1) c.unmap.ensures in
     unmap_answered (the_view c.self.inside) c.args.domain c.args.address c.args.pages c.place_of.result
     c.in-Some-index_mut.domain c.unmap.new.self c.unmap.new.pool c.unmap.new.iommu c.unmap.result c.self.invariant.0 found.less found.id
