@@ -70,5 +70,5 @@ goes_missing old new level root from to cut page table below leaf zeroed unmaps 
     bare : memory old.words 1 below (index_in 0 page) ≡ Absent
     bare =
         ⊎_elim (λ before. absurd (none-some below (sym none ∙ before)))
-        (λ free. zeroed_bare old.words below (zeroed below free) 1 (index_in 0 page) (index_lt 0 page))
+        (λ free. zeroed_bare old.words below (zeroed below free.1) 1 (index_in 0 page) (index_lt 0 page))
         (unmaps.taken page 1 below near (down (memory new.words) level root page 1 table below (omega arith) stays is))

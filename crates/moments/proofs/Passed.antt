@@ -87,7 +87,7 @@ module _ (old new : Pool) (now : Memory) (level root from to page : ℕ) (zeroed
 
     standing : (l t : ℕ) → After l t → Stood l t
     standing l t at =
-        ⊎_elim (λ before. inl before) (λ free. inr (zeroed_bare old.words t (zeroed t free), at)) (unmaps.taken page l t near at)
+        ⊎_elim (λ before. inl before) (λ free. inr (zeroed_bare old.words t (zeroed t free.1), at)) (unmaps.taken page l t near at)
 
     here_too : (l t w c : ℕ) → w ≡ l → t ≡ c → Stood l t → Before w c ⊎ After w c
     here_too l t w c at same (inl before) = inl (rw at (rw (← same) before))

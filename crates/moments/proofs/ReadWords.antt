@@ -104,7 +104,7 @@ module _ (old new : Pool) (width : Width) (root page : ℕ) (reached : Reached) 
             (unmap.unmaps.tables page (suc l) t same was))
         | inr is ↦ read l t
             (⊎_elim (λ was. old_on l t was)
-            (λ free. zero_spelled old.words (suc l) t (index_in l page) (unmap.zeroed t free (index_in l page) (index_lt l page)))
+            (λ free. zero_spelled old.words (suc l) t (index_in l page) (unmap.zeroed t free.1 (index_in l page) (index_lt l page)))
             (unmap.unmaps.taken page (suc l) t same is))
             (new_on l t is)
       ]

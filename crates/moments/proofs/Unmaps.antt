@@ -114,14 +114,14 @@ new_table : (old new : Pool) (now : Memory) (level root from to page : ℕ) (cut
 new_table old new now level root from to page cut l t c g go n Absent at was read is there =
     let none : leaf_from (memory old.words) level root page ≡ None =
     sym (leaf_on (memory old.words) level root page (suc (suc l)) t at) ∙ leaf_under (memory old.words) (suc l) t page Absent was in
-    go c n (λ _. ⊎_elim (λ before. inl before) (λ free. inr (zeroed_bare old.words c (g.zeroed c free), inl none, there))
+    go c n (λ _. ⊎_elim (λ before. inl before) (λ free. inr (zeroed_bare old.words c (g.zeroed c free.1), inl none, there))
     (g.unmaps.taken page (suc l) c g.near there))
 new_table old new now level root from to page cut l t c g go n (Table d) at was read is there =
     let before : table_from (memory old.words) level root page (suc l) ≡ Some d =
     down (memory old.words) level root page (suc l) t d (omega arith) at was in
     go c n (λ _. ⊎_elim
     (λ same. inl (before ∙ same ∙ there))
-    (λ bare. ⊎_elim (λ stood. inl stood) (λ free. inr (zeroed_bare old.words c (g.zeroed c free), inr bare.2, there))
+    (λ bare. ⊎_elim (λ stood. inl stood) (λ free. inr (zeroed_bare old.words c (g.zeroed c free.1), inr bare.2, there))
     (g.unmaps.taken page (suc l) c g.near there))
     (⊎_elim (λ on. inl (sym on)) (λ bare. inr bare) (on_way old new now level root from to page cut (suc l) d g before)))
 new_table old new now level root from to page cut l t c g go n (Leaf x) at was read is there =
@@ -166,7 +166,7 @@ new_entry old new now level root from to page cut (suc l) t (Table c) g go n sto
     (λ bare.
     let there : table_from (memory new.words) level root page (suc l) ≡ Some c =
     down (memory new.words) level root page (suc l) t c (omega arith) bare.2 is in
-    go c n' (λ _. ⊎_elim (λ stood'. inl stood') (λ free. inr (zeroed_bare old.words c (g.zeroed c free), bare.1, there))
+    go c n' (λ _. ⊎_elim (λ stood'. inl stood') (λ free. inr (zeroed_bare old.words c (g.zeroed c free.1), bare.1, there))
     (g.unmaps.taken page (suc l) c g.near there)))
     stood in
     elim below

@@ -68,10 +68,10 @@ pub record UnmapsPages (old new : Pool) (level table from to : ℕ) (cut : List 
       → table_from (memory old.words) level table p w ≡ Some c
       → (table_from (memory new.words) level table p w ≡ Some c)
       ⊎ ((w ≡ 1) × IsCovered from to p × (0 < occurs c cut))
-  -- a new one, of a split, was free
+  -- a new one, of a split, is of level 1 and was free
   pub taken : (p w c : ℕ) → p / span level ≡ from / span level
       → table_from (memory new.words) level table p w ≡ Some c
-      → (table_from (memory old.words) level table p w ≡ Some c) ⊎ (0 < occurs c old.free)
+      → (table_from (memory old.words) level table p w ≡ Some c) ⊎ ((w ≡ 1) × (0 < occurs c old.free))
   -- and its span meets the pages
   pub clear : (p w : ℕ) → p / span level ≡ from / span level → MeetsNone w from to p
       → table_from (memory new.words) level table p w ≡ table_from (memory old.words) level table p w

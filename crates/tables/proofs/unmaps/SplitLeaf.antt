@@ -163,13 +163,13 @@ split_unmaps old mid new t i from to c x tree a is s some short moves un =
             (λ (lower : w ≢ 2). ⊎_elim
             (λ (one : w ≡ 1).
             let same : c ≡ z = same_Some c z (sym (table_under d 1 t p w (Table c) lower (mid_at p e) ∙ table_top d 0 c p w one) ∙ there) in
-            inr (subst (λ y. 0 < occurs y old.free) same s.free))
+            inr (one, subst (λ y. 0 < occurs y old.free) same s.free))
             (λ (ne : w ≢ 1). absurd (none-some z (sym (table_under d 1 t p w (Table c) lower (mid_at p e) ∙ no_table d c p w ne) ∙ there)))
             (same_or_not w 1))
             (same_or_not w 2))
             (λ ne. inl (sym (other_table old mid 1 t i p w [] tree a s.under ne) ∙ there))
             (same_or_not (index_in 1 p) i))
-            (λ free. inr (omega (arith, free, first.fewer z)))
+            (λ free. inr (free.0, omega (arith, free.1, first.fewer z)))
             (un.taken p w z wide h);
         clear = λ p w wide far.
             un.clear p w wide far

@@ -55,7 +55,7 @@ unmaps_up old new l t i c from to cut tree a is some names one covers moves deep
       taken = λ p w x wide h.
           ⊎_elim
           (λ e.
-          table_either n m l t c p w x ((table_from m (suc l) t p w ≡ Some x) ⊎ (0 < occurs x old.free)) (here_new p e) (here_old p e) h
+          table_either n m l t c p w x ((table_from m (suc l) t p w ≡ Some x) ⊎ ((w ≡ 1) × (0 < occurs x old.free))) (here_new p e) (here_old p e) h
           (λ k. inl k) (λ k up. ⊎_elim (λ there. inl (sym up ∙ there)) (λ free. inr free) (un.taken p w x (near p wide e) k)))
           (λ ne. inl (sym (other_table old new l t i p w cut tree a u ne) ∙ h)) (same_or_not (index_in l p) i);
       clear = λ p w wide far.
@@ -142,7 +142,7 @@ unmaps_then a b c level t from mid to cut more lo hi edge tree one moves moves' 
           (λ gone. inr (gone.0, (gone.1.0, omega (arith, gone.1.1)), omega (arith, joins z, gone.2))) (x.tables p w z wide h);
       taken =
           λ p w z wide h.
-          ⊎_elim (λ k. x.taken p w z wide k) (λ free. inr (omega (arith, free, moves.fewer z))) (y.taken p w z (wide ∙ shift) h);
+          ⊎_elim (λ k. x.taken p w z wide k) (λ free. inr (free.0, omega (arith, free.1, moves.fewer z))) (y.taken p w z (wide ∙ shift) h);
       clear = λ p w wide far.
           let both = far_both w p far in
           y.clear p w (wide ∙ shift) both.1 ∙ x.clear p w wide both.0;
