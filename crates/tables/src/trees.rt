@@ -16,7 +16,7 @@ ghost use Rattle.tables.specs.Segments.{AreSegments, is_large_at, one_segment};
 ghost use Rattle.tables.specs.Lacks.{frames_to_map, leaves_splitting};
 
 use crate::cut::Cut;
-use crate::entries::{TABLE_ENTRIES, find};
+use crate::entries::{TABLE_ENTRIES, find, table_at};
 use crate::error::NoFrames;
 use crate::frames::Pool;
 use crate::mapping::map_segments;
@@ -92,6 +92,15 @@ impl Tree {
             Width::W48 => find(pool, WIDE, self.root, page.number()),
         };
         to.map(|to| (to.frame(), to.rights()))
+    }
+
+    /// The table of a level, 1 for the lowest, on a page's way from the root; nothing where the way ends above that level.
+    pub fn table_at(&self, pool: &Pool, page: u64, level: u64) -> Option<Frame>
+        requires tree { IsTree pool.now (levels self.now.width) self.now.root }
+        requires level { 1 ≤ level }
+        ensures { result ≡ table_from (memory pool.now.words) (levels self.now.width) self.now.root page level }
+    {
+        table_at(pool, self.width.levels(), self.root, page, level)
     }
 
     /// Maps the pages of a range, which are absent, to as many host frames from one on.

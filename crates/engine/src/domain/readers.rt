@@ -1,15 +1,20 @@
 //! What a report says of one domain, and what is read to draw it.
 
 ghost use Rattle.std.specs.Prelude.{◌≡◌, ◌*◌, ◌<◌, ◌≤◌, ◌^◌, All, length, slice_get};
+ghost use Rattle.dmatypes.specs.Page.{levels};
 ghost use Rattle.dmatypes.specs.declared.limits.TheConstants.{MOST_RECORDS};
 ghost use Rattle.iova.specs.Pieces.{IsOrdered};
 ghost use Rattle.engine.specs.Spaces.{shown_of};
 ghost use Rattle.engine.specs.Totals.{held_by, live_pages, totals_of_domain};
+ghost use Rattle.tables.specs.Pool.{IsTree, memory};
+ghost use Rattle.tables.specs.Tree.{table_from};
 
 use super::Domain;
 use crate::record::Record;
 use crate::state::{DomainTotals, RetiredRecord};
+use dmatypes::Frame;
 use iova::{Iter, PageState};
+use tables::Pool;
 
 impl Domain {
     /// What the domain has.
@@ -40,6 +45,15 @@ impl Domain {
             range: record.range,
             mark: record.mark,
         })
+    }
+
+    /// The table of a level, 1 for the lowest, on a page's way down its tree; nothing where the way ends above that level.
+    pub(crate) fn table_at(&self, pool: &Pool, page: u64, level: u64) -> Option<Frame>
+        requires tree { IsTree pool.now (levels self.now.width) self.now.root }
+        requires level { 1 ≤ level }
+        ensures { result ≡ table_from (memory pool.now.words) (levels self.now.width) self.now.root page level }
+    {
+        self.tree.table_at(pool, page, level)
     }
 
     /// How many table frames the retired records hold: at most 8 each.

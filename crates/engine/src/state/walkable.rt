@@ -1,10 +1,10 @@
 //! What is read by whoever lays the tables out in a memory that a unit walks. None of it changes anything, or is counted as a
 //! call.
 
-ghost use Rattle.std.specs.Prelude.{◌≡◌, ℕ, ◌<◌, ◌↔◌, length, slice_get, slice_index, IfSome, IsSome};
-ghost use Rattle.dmatypes.specs.declared.limits.TheConstants.{DEVICES};
+ghost use Rattle.std.specs.Prelude.{◌≡◌, ℕ, ◌<◌, ◌≤◌, ◌↔◌, length, slice_get, slice_index, IfSome, IsSome};
+ghost use Rattle.dmatypes.specs.declared.limits.TheConstants.{DEVICES, MOST_TABLE_FRAMES};
 ghost use Rattle.engine.specs.Domains.{domain_at};
-ghost use Rattle.engine.specs.Walkable.{SpellsContext, root_of};
+ghost use Rattle.engine.specs.Walkable.{SpellsContext, root_of, table_at};
 ghost use Rattle.queue.specs.Ring.{submitted_in};
 ghost use Rattle.tables.specs.Pool.{word};
 ghost use Rattle.tables.specs.declared.entries.TheConstants.{TABLE_ENTRIES};
@@ -23,6 +23,30 @@ impl State {
         let id = DomainId::new(id)?;
         let domain = domains[place_of(id)].as_ref()?;
         Some(domain.root())
+    }
+
+    /// The table of a level, 1 for the lowest, on a page's way down the tree of a domain; `None` exactly where there is no such
+    /// domain, or the way ends above that level.
+    pub fn table_at(&self, id: u64, page: u64, level: u64) -> Option<Frame>
+        requires { 1 ≤ level }
+        ensures { result ≡ table_at self.now.pool (domain_at self.now.domains id) page level }
+    {
+        let domains = &self.domains;
+        let id = DomainId::new(id)?;
+        let Some(domain) = &domains[place_of(id)] else {
+            return None;
+        };
+        domain.table_at(&self.pool, page, level)
+    }
+
+    /// How many table frames there are.
+    pub fn table_frames(&self) -> u64
+        ensures count { result ≡ self.now.pool.frames }
+        ensures few { result ≤ MOST_TABLE_FRAMES }
+    {
+        // A pool has few frames, which is known where its free ones are counted.
+        let _ = self.pool.free_count();
+        self.pool.frames()
     }
 
     /// The word of a table frame at an index, 0 to 511: a second-stage entry where the frame is of a tree. `None` exactly
