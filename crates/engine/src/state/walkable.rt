@@ -1,5 +1,5 @@
-//! What is read by whoever lays the tables out in a memory that a unit walks. None of it changes anything, or is counted as a
-//! call.
+//! What is read by whoever brings the tables and the descriptors to a unit that isn't the state's own. None of it changes
+//! anything, or is counted as a call.
 
 ghost use Rattle.std.specs.Prelude.{◌≡◌, ℕ, ◌<◌, ◌≤◌, ◌↔◌, length, slice_get, slice_index, IfSome, IsSome};
 ghost use Rattle.dmatypes.specs.declared.limits.TheConstants.{DEVICES, MOST_TABLE_FRAMES};
