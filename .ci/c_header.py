@@ -16,14 +16,16 @@ REFUSALS = "dmatypes/src/refusal.rt"
 ANSWERS = "vtdm_c/src/answer.rt"
 # A refusal that only a manager with a history has.
 NOT_FOR_C = {"HistoryFull"}
-# Types that C lays out, beside their struct in the header; what stands for a type of an argument or a member.
+# Types that C lays out, beside their struct in the header; what stands for a slice's pointer, and for a type of an argument or a member.
 STRUCTS = {
     "Answer": "vtdm_answer",
     "Totals": "vtdm_totals_answer",
     "DomainTotals": "vtdm_domain_totals_answer",
     "Context": "vtdm_context_answer",
+    "Sent": "vtdm_sent_answer",
     "Segment": "vtdm_segment",
 }
+SLICES = {"&[Segment]": "const struct vtdm_segment *", "&mut [u64]": "uint64_t *"}
 TYPES = {
     "u64": "uint64_t",
     "bool": "bool",
@@ -153,8 +155,8 @@ def parameters(text):
     """An export's parameters, as C has them: the allocator is the library's own, and a slice is a pointer and a count."""
     found = []
     for name, kind in re.findall(r"(\w+): ([^,]+?)(?:,|$)", " ".join(text.split())):
-        if kind == "&[Segment]":
-            found += [("const struct vtdm_segment *", name), ("size_t", "count")]
+        if kind in SLICES:
+            found += [(SLICES[kind], name), ("size_t", "count")]
         elif kind != "Global":
             found.append((TYPES.get(kind, kind), "manager" if kind == "&mut Handle" else name))
     return found

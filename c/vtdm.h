@@ -39,7 +39,8 @@
  *    out of the struct and puts it back at its end. Any thread may call. Two managers share nothing, and need no common lock.
  *  - A pointer to a `struct vtdm` is not null and is aligned, since a call reads it at once. `segments` is not null and is aligned
  *    even where `count` is 0, and `count` segments can be read there, also where they are more than VTDM_MOST_SEGMENTS and are
- *    refused. A call writes no segment, and keeps no pointer.
+ *    refused. A call writes no segment, and keeps no pointer. `to` of vtdm_words is not null and is aligned in the same way, `count`
+ *    words can be written there, and the struct is none of them.
  *  - malloc, realloc and free are one allocator, since each takes blocks of the others, and align blocks as C asks.
  *  - No call from a signal handler, since it may have come while another call had the manager. For the same reason no call in the
  *    child of a fork of a process with several threads.
@@ -49,7 +50,8 @@
  * table frame; vtdm_destroy gives it back, and no other function asks for any. The words of the table frames are one block of it,
  * asked for by one malloc of VTDM_PAGE_BYTES times the frames and written whole before a creation returns: those of frame F begin
  * F * VTDM_PAGE_BYTES bytes behind those of frame 0, where the block begins. So an allocator that puts this block where a unit walks
- * lets the unit walk the tables in place. That is how the code is and stays; no contract speaks of where words lie.
+ * lets the unit walk the tables in place. A contract says that the words of one frame lie one after the other; how the frames lie is
+ * how the code is and stays.
  *
  * IT DOES NOT WEAR OUT. A manager answers VTDM_CALLS_END calls, 2^56, and VTDM_SPENT to each further one, since its counts have 64
  * bits. Nobody gets there: at a billion calls a second it takes more than two years. Readers are not counted.
@@ -144,8 +146,9 @@ enum vtdm_status {
     VTDM_NO_MEMORY = 68,     /* vtdm_create, vtdm_create_caching: malloc or realloc gave none, what was taken is freed */
     VTDM_MANY_SEGMENTS = 69, /* vtdm_map_list: more than VTDM_MOST_SEGMENTS segments */
     VTDM_PENDING = 70,       /* vtdm_reap: the unit has not done the ticket's invalidation wait descriptor */
-    VTDM_NO_WORD = 71,       /* vtdm_table_word: there is no such table frame, or no such index */
-    VTDM_BAD_CACHE = 72      /* vtdm_evict: the number is not in enum vtdm_cache */
+    VTDM_NO_WORD = 71,       /* vtdm_table_word, vtdm_words: there is no such table frame, or no such index */
+    VTDM_BAD_CACHE = 72,     /* vtdm_evict: the number is not in enum vtdm_cache */
+    VTDM_NO_DESCRIPTOR = 73  /* vtdm_sent: none was sent so long ago, or the queue holds it no more */
 };
 
 /* What a device may do with a page: one of these, or both by `|`. */
@@ -285,9 +288,23 @@ struct vtdm_answer vtdm_mode_of(struct vtdm *manager, uint64_t domain);
 /* The bits of a domain's device addresses: 39 or 48. VTDM_NO_DOMAIN. */
 struct vtdm_answer vtdm_width_of(struct vtdm *manager, uint64_t domain);
 
-/* ---- The words that a unit walks. With these readers the tables can be laid out in a memory that an emulated or a real unit
- * reads: word I of table frame F at host address F * VTDM_PAGE_BYTES + 8 * I. No call tells which words it has written: lay out
- * anew what may have changed, and have that unit invalidate what it cached, before memory that it could reach is used again. */
+/* ---- A unit of your own, emulated or real. These readers tell what it reads: the tables, word I of table frame F at host address
+ * F * VTDM_PAGE_BYTES + 8 * I; the context entries; and the descriptors for its queue. Around each call:
+ *  1. Take your lock.
+ *  2. Make the call.
+ *  3. Bring the words that it changed to the unit's memory: vtdm_words, vtdm_context. No call tells which words it has written, so
+ *     compare them with those in that memory. Store each word at once, the words of a table before the word that names it, and of a
+ *     context entry the low word last, or first where its bit 0 goes.
+ *  4. A barrier: these words are in memory before what follows.
+ *  5. Put the descriptors that the call has sent into the unit's queue, oldest first: vtdm_sent, vtdm_waits.
+ *  6. Wait until the unit has written the status of the last of them.
+ *  7. Release the lock. Now what the call took away may be used for something else, and not before.
+ * Where vtdm_unmap answers another value than 0 it has flushed first, and may have used a table frame that came free: do 5 and 6
+ * before 3. After vtdm_begin leave 6 out, and do it before vtdm_reap, with a vtdm_unit for each descriptor that your unit has done.
+ * What is proved of a unit that does what the VT-d specification says (crates/moments, crates/quiet): while words are brought, it finds
+ * each page as before the call or as after it. After 6 it has nothing cached of what the call took away.
+ * One thing more is yours. A detach sends the descriptor of the context alone. A unit that finds cached translations by the device, and
+ * not by the domain, is to be given an IOTLB invalidate descriptor of that domain too. */
 
 /* The number of the table frame that is the root of a domain. VTDM_NO_DOMAIN. */
 struct vtdm_answer vtdm_root_of(struct vtdm *manager, uint64_t domain);
@@ -296,6 +313,10 @@ struct vtdm_answer vtdm_root_of(struct vtdm *manager, uint64_t domain);
  * the right to read, bit 1 the right to write, bit 7 says that it is a leaf of 2 MiB, and bits 12 and up are the frame of the next
  * table or of the first page. The words of a frame that no table uses mean nothing. VTDM_NO_WORD. */
 struct vtdm_answer vtdm_table_word(struct vtdm *manager, uint64_t frame, uint64_t index);
+
+/* Copies `count` words of a table frame from index `first` on to `to`: up to all 512, and none where `count` is 0. Each is what
+ * vtdm_table_word answers. Where they aren't all of the frame, or there is no such frame, it writes nothing and answers VTDM_NO_WORD. */
+uint64_t vtdm_words(struct vtdm *manager, uint64_t frame, uint64_t first, uint64_t *to, size_t count);
 
 /* The two words of the context entry of a device, in legacy mode: both 0 where it is attached to no domain; else bit 0 of the low
  * word is set and its bits 12 and up are the root's frame, and the high word has the address width (AGAW) in bits 0 to 2 (1: 39
@@ -306,6 +327,22 @@ struct vtdm_context_answer {
     uint64_t high;
 };
 struct vtdm_context_answer vtdm_context(struct vtdm *manager, uint64_t device);
+
+/* The two words of a descriptor that was sent, as the VT-d specification lays them out: of the last one where `back` is 0, of the one
+ * before it where it is 1, and so on. The queue holds the last 256. A wait is an invalidation wait descriptor: its low word has
+ * 5 in bits 0 to 3 and the status that it writes in bits 32 to 63. Its high word is the address to which the unit writes the status. That
+ * is 2^36, behind all host frames: put an address of your own in its place. VTDM_NO_DESCRIPTOR. */
+struct vtdm_sent_answer {
+    uint64_t status;
+    uint64_t low;
+    uint64_t high;
+};
+struct vtdm_sent_answer vtdm_sent(struct vtdm *manager, uint64_t back);
+
+/* How many waits were sent: the number of the last one, 0 before the first. The status that a wait writes is the low 32 bits of its
+ * number. Each wait follows one other descriptor. So where this was A before a call and is B after it, the call has sent 2 * (B - A)
+ * descriptors, and the oldest of them is vtdm_sent(manager, 2 * (B - A) - 1). */
+struct vtdm_answer vtdm_waits(struct vtdm *manager);
 
 #ifdef __cplusplus
 }

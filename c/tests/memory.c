@@ -139,12 +139,14 @@ static void words_in_order(uint64_t frames) {
 /* Every function but vtdm_create and vtdm_create_caching. */
 enum function {
     DOMAIN, DOMAIN_WIDE, DROP, ATTACH, DETACH, MAP, MAP_LIST, UNMAP, FLUSH, BEGIN, UNIT, REAP, DMA, EVICT,
-    TOTALS, DOMAIN_TOTALS, DOMAIN_OF, DEVICES_OF, MODE_OF, WIDTH_OF, ROOT_OF, TABLE_WORD, CONTEXT, DESTROY, FUNCTIONS
+    TOTALS, DOMAIN_TOTALS, DOMAIN_OF, DEVICES_OF, MODE_OF, WIDTH_OF, ROOT_OF, TABLE_WORD, WORDS,
+    CONTEXT, SENT, WAITS, DESTROY, FUNCTIONS
 };
 
 static const char *const names[FUNCTIONS] = {
     "domain", "domain_wide", "drop", "attach", "detach", "map", "map_list", "unmap", "flush", "begin", "unit", "reap", "dma", "evict",
-    "totals", "domain_totals", "domain_of", "devices_of", "mode_of", "width_of", "root_of", "table_word", "context", "destroy",
+    "totals", "domain_totals", "domain_of", "devices_of", "mode_of", "width_of", "root_of", "table_word", "words",
+    "context", "sent", "waits", "destroy",
 };
 
 /* How often each function was called, and how often it answered VTDM_OK. */
@@ -214,6 +216,11 @@ static uint64_t request(struct vtdm *manager) {
     return vtdm_dma(manager, pick(17), address, pick(2), pick(2), pick(2)).status;
 }
 
+static uint64_t words(struct vtdm *manager) {
+    uint64_t to[TABLE_WORDS];
+    return vtdm_words(manager, pick(4100), pick(400), to, pick(TABLE_WORDS));
+}
+
 static uint64_t call(struct vtdm *manager, enum function function) {
     switch (function) {
     case DOMAIN: return vtdm_domain(manager, pick(2)).status;
@@ -238,7 +245,10 @@ static uint64_t call(struct vtdm *manager, enum function function) {
     case WIDTH_OF: return vtdm_width_of(manager, any_domain()).status;
     case ROOT_OF: return vtdm_root_of(manager, any_domain()).status;
     case TABLE_WORD: return vtdm_table_word(manager, pick(4100), pick(520)).status;
+    case WORDS: return words(manager);
     case CONTEXT: return vtdm_context(manager, pick(17)).status;
+    case SENT: return vtdm_sent(manager, pick(260)).status;
+    case WAITS: return vtdm_waits(manager).status;
     default: break;
     }
     struct vtdm none = VTDM_INIT;

@@ -5,6 +5,9 @@
 
 enum { MANY_SEGMENTS = VTDM_MOST_SEGMENTS + 1 };
 
+/* Words of a table frame, what stands where nothing is written, and how many descriptors the queue holds. */
+enum { TABLE_WORDS = 512, JUNK = 0xA5, HELD = 256 };
+
 static void check_absent(struct vtdm *manager) {
     struct vtdm_segment segments[MANY_SEGMENTS] = {{0x100, 1}};
     ANSWERS(vtdm_domain(manager, true), VTDM_ABSENT, 0);
@@ -32,6 +35,10 @@ static void check_absent(struct vtdm *manager) {
     CHECK(vtdm_totals(manager).status == VTDM_ABSENT);
     CHECK(vtdm_domain_totals(manager, 1).status == VTDM_ABSENT);
     CHECK(vtdm_context(manager, 0).status == VTDM_ABSENT);
+    CHECK(vtdm_sent(manager, 0).status == VTDM_ABSENT);
+    ANSWERS(vtdm_waits(manager), VTDM_ABSENT, 0);
+    uint64_t words[] = {JUNK};
+    CHECK(vtdm_words(manager, 0, 0, words, 1) == VTDM_ABSENT && words[0] == JUNK);
 }
 
 static void check_limits(struct vtdm *manager) {
@@ -221,6 +228,64 @@ static void check_readers(struct vtdm *manager) {
     CHECK(one.status == VTDM_OK && one.mode == VTDM_STRICT && one.live == 16 && one.retired == 0 && one.pieces == 3);
 }
 
+/* Words of a table frame at once are those that are read alone, as many as are asked for; where some of them lack, none is written. */
+static void check_words(struct vtdm *manager) {
+    static const struct { uint64_t frame, first; size_t count; } bad[] = {
+        {64, 0, 1}, {64, 0, 0}, {UINT64_MAX, 0, 1}, {0, 512, 1}, {0, 511, 2},
+        {0, 513, 0}, {0, 0, 513}, {0, UINT64_MAX, 1}, {0, UINT64_MAX, 0},
+    };
+    uint64_t root = vtdm_root_of(manager, 1).value, words[TABLE_WORDS + 1] = {0};
+    CHECK(vtdm_words(manager, root, 0, words, TABLE_WORDS) == VTDM_OK && words[0] != 0);
+    for (uint64_t index = 0; index < TABLE_WORDS; index++)
+        ANSWERS(vtdm_table_word(manager, root, index), VTDM_OK, words[index]);
+    words[2] = JUNK;
+    CHECK(vtdm_words(manager, root, 0, words + 1, 1) == VTDM_OK && words[1] == words[0] && words[2] == JUNK);
+    CHECK(vtdm_words(manager, 63, 511, words, 1) == VTDM_OK);
+    CHECK(vtdm_words(manager, 0, 512, words, 0) == VTDM_OK);
+    for (size_t i = 0; i < sizeof bad / sizeof bad[0]; i++) {
+        words[0] = words[TABLE_WORDS] = JUNK;
+        CHECK(vtdm_words(manager, bad[i].frame, bad[i].first, words, bad[i].count) == VTDM_NO_WORD);
+        CHECK(words[0] == JUNK && words[TABLE_WORDS] == JUNK);
+    }
+}
+
+static bool sent_is(struct vtdm *manager, uint64_t back, uint64_t low, uint64_t high) {
+    struct vtdm_sent_answer sent = vtdm_sent(manager, back);
+    return sent.status == VTDM_OK && sent.low == low && sent.high == high;
+}
+
+/* The wait of a number, by the specification's bits. */
+static bool is_wait(struct vtdm *manager, uint64_t back, uint64_t number) {
+    return sent_is(manager, back, number << 32 | 0x25, UINT64_C(1) << 36);
+}
+
+/* What was sent, from the last one back: none at first and by a map; then a strict unmap's, a detach's, and what still waits. Of many
+ * the queue holds the last ones. */
+static void check_sent(void) {
+    struct vtdm manager = VTDM_INIT;
+    CHECK(vtdm_create(&manager, 64) == VTDM_OK);
+    ANSWERS(vtdm_domain(&manager, false), VTDM_OK, 1);
+    ANSWERS(vtdm_attach(&manager, 3, 1), VTDM_OK, 0);
+    ANSWERS(vtdm_map(&manager, 1, 0x100, 4, 2, VTDM_READ), VTDM_OK, 0x4000);
+    ANSWERS(vtdm_waits(&manager), VTDM_OK, 0);
+    CHECK(vtdm_sent(&manager, 0).status == VTDM_NO_DESCRIPTOR && vtdm_sent(&manager, UINT64_MAX).status == VTDM_NO_DESCRIPTOR);
+    ANSWERS(vtdm_unmap(&manager, 1, 0x6000, 2), VTDM_OK, 0);
+    ANSWERS(vtdm_waits(&manager), VTDM_OK, 1);
+    CHECK(is_wait(&manager, 0, 1) && sent_is(&manager, 1, 0x100f2, 0x6041));
+    ANSWERS(vtdm_detach(&manager, 3), VTDM_OK, 0);
+    CHECK(is_wait(&manager, 0, 2) && sent_is(&manager, 1, UINT64_C(24) << 32 | 0x10031, 0) && is_wait(&manager, 2, 1));
+    ANSWERS(vtdm_begin(&manager, 1), VTDM_OK, 1);
+    ANSWERS(vtdm_waits(&manager), VTDM_OK, 3);
+    CHECK(is_wait(&manager, 0, 3) && sent_is(&manager, 1, 0x100e2, 0) && is_wait(&manager, 2, 2) && is_wait(&manager, 4, 1));
+    CHECK(sent_is(&manager, 5, 0x100f2, 0x6041) && vtdm_sent(&manager, 6).status == VTDM_NO_DESCRIPTOR);
+    for (uint64_t waits = 4; waits <= 2 * HELD; waits++)
+        ANSWERS(vtdm_flush(&manager, 1), VTDM_OK, 0);
+    for (uint64_t back = 0; back < HELD; back += 2)
+        CHECK(is_wait(&manager, back, 2 * HELD - back / 2) && sent_is(&manager, back + 1, 0x100e2, 0));
+    CHECK(vtdm_sent(&manager, HELD).status == VTDM_NO_DESCRIPTOR);
+    vtdm_destroy(&manager);
+}
+
 /* The struct is as at its beginning. */
 static bool is_empty(const struct vtdm *manager) {
     return manager->at == NULL && !manager->live;
@@ -246,6 +311,8 @@ int main(void) {
     check_caches();
     check_limits(&manager);
     check_readers(&manager);
+    check_words(&manager);
+    check_sent();
     CHECK(vtdm_totals(&other).free == 4096);
     vtdm_destroy(&manager);
     CHECK(is_empty(&manager));

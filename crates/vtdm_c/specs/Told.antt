@@ -1,6 +1,6 @@
--- What readers tell C. They find totals, a device's domain, a domain's totals, devices, mode, width and root, a word of a table frame, and
--- the words of a context entry.
-use Rattle.std.specs.Prelude.{◌≡◌, ◌↔◌, ◌<◌, ◌≤◌, ℕ, Option, None, Some, slice_get}
+-- What readers tell C. They find totals, a device's domain, a domain's totals, devices, mode, width and root, a word of a table frame or
+-- several, the words of a context entry and of a descriptor that was sent, and how many waits were sent.
+use Rattle.std.specs.Prelude.{◌≡◌, ◌↔◌, ◌+◌, ◌<◌, ◌≤◌, ℕ, List, length, Option, None, Some, slice_get, slice_index}
 use Rattle.std.specs.Int.{bit_at}
 use Rattle.dmatypes.specs.declared.call.Mode.{Mode}
 use Rattle.dmatypes.specs.declared.call.Mode.TheVariants.{Lazy, Strict}
@@ -11,7 +11,10 @@ use Rattle.engine.specs.declared.state.totals.DomainTotals as engine
 use Rattle.engine.specs.declared.state.totals.Totals as state
 use Rattle.engine.specs.Domains.{Domain, domain_at}
 use Rattle.engine.specs.Hits.{mode_of, width_of}
+use Rattle.queue.specs.Ring.{submitted_in}
 use Rattle.vtdbits.specs.Context.{attached}
+use Rattle.vtdbits.specs.Descriptor.{Spells}
+use Rattle.vtdbits.specs.declared.descriptor.Descriptor.{Descriptor}
 use Rattle.engine.specs.State.{State}
 use Rattle.engine.specs.Totals.{domain_totals_of, totals_of}
 use Rattle.engine.specs.Walkable.{SpellsContext, root_of}
@@ -20,9 +23,10 @@ use Rattle.tables.specs.declared.entries.TheConstants.{TABLE_ENTRIES}
 use Rattle.vtdbits.specs.declared.words.Words.{Words}
 use Rattle.vtdm_c.specs.Answers.{found, lone, told}
 use Rattle.vtdm_c.specs.declared.answer.Answer.{Answer}
-use Rattle.vtdm_c.specs.declared.answer.TheConstants.Answer.{NO_DEVICE, NO_DOMAIN, NO_WORD, NOT_ATTACHED, OK}
+use Rattle.vtdm_c.specs.declared.answer.TheConstants.Answer.{NO_DESCRIPTOR, NO_DEVICE, NO_DOMAIN, NO_WORD, NOT_ATTACHED, OK}
 use Rattle.vtdm_c.specs.declared.told.Context.{Context}
 use Rattle.vtdm_c.specs.declared.told.DomainTotals.{DomainTotals}
+use Rattle.vtdm_c.specs.declared.told.Sent.{Sent}
 use Rattle.vtdm_c.specs.declared.told.Totals.{Totals}
 
 -- ---- a status with no numbers, and numbers with status 0
@@ -56,6 +60,12 @@ no_context status = record { status = status; low = 0; high = 0 }
 
 abbrev pub context_told : Words → Context
 context_told words = record { status = OK; low = words.low; high = words.high }
+
+abbrev pub no_sent : ℕ → Sent
+no_sent status = record { status = status; low = 0; high = 0 }
+
+abbrev pub sent_told : Words → Sent
+sent_told words = record { status = OK; low = words.low; high = words.high }
 
 -- ---- what each reader finds in a state
 
@@ -108,3 +118,24 @@ pub record FindsWord (frame index : ℕ) (m : State) (answer : Answer) : Type 0 
 pub record FindsContext (device : ℕ) (m : State) (answer : Context) : Type 0 where
   pub words : device < DEVICES → (w : Words) × (answer ≡ context_told w) × SpellsContext m device w
   pub none : DEVICES ≤ device → answer ≡ no_context NO_DEVICE
+
+-- the words of a frame of the pool from an index on, as many as there is room for; where they aren't all of the frame, what was there stays
+pub record FindsWords (frame first : ℕ) (old new : List ℕ) (m : State) (status : ℕ) : Type 0 where
+  pub there : frame < m.pool.frames → first + length old ≤ TABLE_ENTRIES → status ≡ OK
+  pub room : length new ≡ length old
+  pub words : status ≡ OK → (k : ℕ) → k < length old → slice_index new k ≡ word m.pool.words frame (first + k)
+  pub no_frame : m.pool.frames ≤ frame → (status ≡ NO_WORD) × (new ≡ old)
+  pub no_index : TABLE_ENTRIES < first + length old → (status ≡ NO_WORD) × (new ≡ old)
+
+-- the words of a descriptor that may be there
+abbrev pub AreOf : Option Descriptor → Sent → Type 0
+AreOf None answer = answer ≡ no_sent NO_DESCRIPTOR
+AreOf (Some d) answer = (w : Words) × (answer ≡ sent_told w) × Spells w d
+
+-- those of the descriptor that was sent last, but for so many after it
+abbrev pub FindsSent : ℕ → State → Sent → Type 0
+FindsSent back m answer = AreOf (slice_get (submitted_in m.iommu.ring) back) answer
+
+-- the number of the last wait that was sent
+abbrev pub FindsWaits : State → Answer → Type 0
+FindsWaits m answer = answer ≡ told m.iommu.sent

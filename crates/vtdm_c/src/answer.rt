@@ -43,10 +43,12 @@ impl Answer {
     pub const MANY_SEGMENTS: u64 = 69;
     /// The ticket's wait isn't done.
     pub const PENDING: u64 = 70;
-    /// There is no such table frame, or no such index in one.
+    /// There is no such table frame, or no such index in one, or a span ends behind its last.
     pub const NO_WORD: u64 = 71;
     /// The number is of no cache.
     pub const BAD_CACHE: u64 = 72;
+    /// The ring doesn't hold a descriptor that was sent so long ago, or none was.
+    pub const NO_DESCRIPTOR: u64 = 73;
 
     /// A status with no number.
     pub(crate) fn lone(status: u64) -> Answer

@@ -33,4 +33,4 @@ pub use answer::Answer;
 pub use handle::Handle;
 pub use segments::Segment;
 pub use slot::Slot;
-pub use told::{Context, DomainTotals, Totals};
+pub use told::{Context, DomainTotals, Sent, Totals};

@@ -1,15 +1,16 @@
 //! What is read of a manager. None of it changes anything, or is counted as a call.
 
-ghost use Rattle.std.specs.Prelude.{◌≡◌};
+ghost use Rattle.std.specs.Prelude.{◌≡◌, ◌≢◌};
 ghost use Rattle.vtdm_c.specs.Answers.{lone};
 ghost use Rattle.vtdm_c.specs.Called.{Reads};
-ghost use Rattle.vtdm_c.specs.Told.{FindsContext, FindsDevices, FindsDomainOf, FindsDomainTotals, FindsMode, FindsRoot, FindsTotals};
-ghost use Rattle.vtdm_c.specs.Told.{FindsWidth, FindsWord, no_context, no_domain_totals, no_totals};
-ghost use Rattle.vtdm_c.specs.declared.answer.TheConstants.Answer.{ABSENT};
+ghost use Rattle.vtdm_c.specs.Told.{FindsContext, FindsDevices, FindsDomainOf, FindsDomainTotals, FindsMode, FindsRoot, FindsSent};
+ghost use Rattle.vtdm_c.specs.Told.{FindsTotals, FindsWaits, FindsWidth, FindsWord, FindsWords};
+ghost use Rattle.vtdm_c.specs.Told.{no_context, no_domain_totals, no_sent, no_totals};
+ghost use Rattle.vtdm_c.specs.declared.answer.TheConstants.Answer.{ABSENT, OK};
 
 use crate::answer::Answer;
 use crate::handle::Handle;
-use crate::told::{Context, DomainTotals, Totals};
+use crate::told::{Context, DomainTotals, Sent, Totals};
 use std::alloc::Global;
 
 /// How many table frames are free, used by trees and held by retired records, and how many tickets are open and descriptors
@@ -135,6 +136,52 @@ pub extern "C" fn vtdm_context(alloc: Global, handle: &mut Handle, device: u64) 
         return Context::none(Answer::ABSENT);
     };
     let answer = session.context(device);
+    handle.put(session);
+    answer
+}
+
+/// Copies words of a table frame, from an index on, as many as there is room for. Where the status isn't 0, nothing is copied.
+#[unsafe(no_mangle)]
+pub extern "C" fn vtdm_words(
+    alloc: Global,
+    handle: &mut Handle,
+    frame: u64,
+    first: u64,
+    to: &mut [u64],
+) -> u64
+    ensures reads { Reads ABSENT (FindsWords frame first to.old to.new) handle.old.slot.held result handle.new.slot.held }
+    ensures kept { result ≢ OK → to.new ≡ to.old }
+{
+    let Some(session) = handle.take(alloc) else {
+        return Answer::ABSENT;
+    };
+    let status = session.words(frame, first, to);
+    handle.put(session);
+    status
+}
+
+/// The two words of a descriptor that was sent: the last one where `back` is 0, the one before it where it is 1, and so on.
+#[unsafe(no_mangle)]
+pub extern "C" fn vtdm_sent(alloc: Global, handle: &mut Handle, back: u64) -> Sent
+    ensures { Reads (no_sent ABSENT) (FindsSent back) handle.old.slot.held result handle.new.slot.held }
+{
+    let Some(session) = handle.take(alloc) else {
+        return Sent::none(Answer::ABSENT);
+    };
+    let answer = session.sent(back);
+    handle.put(session);
+    answer
+}
+
+/// How many waits were sent, which is the number of the last one.
+#[unsafe(no_mangle)]
+pub extern "C" fn vtdm_waits(alloc: Global, handle: &mut Handle) -> Answer
+    ensures { Reads (lone ABSENT) FindsWaits handle.old.slot.held result handle.new.slot.held }
+{
+    let Some(session) = handle.take(alloc) else {
+        return Answer::lone(Answer::ABSENT);
+    };
+    let answer = session.waits();
     handle.put(session);
     answer
 }

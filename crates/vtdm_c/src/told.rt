@@ -1,8 +1,8 @@
 //! What readers answer to C, where it is more than one number.
 
 ghost use Rattle.std.specs.Prelude.{◌≡◌};
-ghost use Rattle.vtdm_c.specs.Told.{context_told, domain_totals_told, no_context, no_domain_totals, no_totals, number_of_mode};
-ghost use Rattle.vtdm_c.specs.Told.{bits_of_width, totals_told};
+ghost use Rattle.vtdm_c.specs.Told.{context_told, domain_totals_told, no_context, no_domain_totals, no_sent, no_totals};
+ghost use Rattle.vtdm_c.specs.Told.{bits_of_width, number_of_mode, sent_told, totals_told};
 
 use crate::answer::Answer;
 use dmatypes::{Mode, Width};
@@ -37,6 +37,15 @@ pub struct DomainTotals {
 #[repr(C)]
 #[derive(Clone, Copy, Debug, PartialEq, Eq)]
 pub struct Context {
+    pub status: u64,
+    pub low: u64,
+    pub high: u64,
+}
+
+/// A status, and where it is 0 the two words of a descriptor that was sent.
+#[repr(C)]
+#[derive(Clone, Copy, Debug, PartialEq, Eq)]
+pub struct Sent {
     pub status: u64,
     pub low: u64,
     pub high: u64,
@@ -120,6 +129,30 @@ impl Context {
         ensures { result ≡ context_told words }
     {
         Context {
+            status: Answer::OK,
+            low: words.low,
+            high: words.high,
+        }
+    }
+}
+
+impl Sent {
+    /// A status with no words.
+    pub(crate) fn none(status: u64) -> Sent
+        ensures { result ≡ no_sent status }
+    {
+        Sent {
+            status,
+            low: 0,
+            high: 0,
+        }
+    }
+
+    /// These words.
+    pub(crate) fn of(words: Words) -> Sent
+        ensures { result ≡ sent_told words }
+    {
+        Sent {
             status: Answer::OK,
             low: words.low,
             high: words.high,

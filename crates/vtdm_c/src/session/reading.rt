@@ -1,12 +1,13 @@
 //! What is read of a session.
 
-ghost use Rattle.vtdm_c.specs.Told.{FindsContext, FindsDevices, FindsDomainOf, FindsDomainTotals, FindsMode, FindsRoot, FindsTotals};
-ghost use Rattle.vtdm_c.specs.Told.{FindsWidth, FindsWord};
+ghost use Rattle.vtdm_c.specs.Told.{FindsContext, FindsDevices, FindsDomainOf, FindsDomainTotals, FindsMode, FindsRoot, FindsSent};
+ghost use Rattle.vtdm_c.specs.Told.{FindsTotals, FindsWaits, FindsWidth, FindsWord, FindsWords};
 
 use super::Session;
 use crate::answer::Answer;
-use crate::told::{Context, DomainTotals, Totals, bits_of_width, number_of_mode};
+use crate::told::{Context, DomainTotals, Sent, Totals, bits_of_width, number_of_mode};
 use dmatypes::DEVICES;
+use tables::TABLE_ENTRIES;
 
 impl Session {
     pub(crate) fn totals(&self) -> Totals
@@ -79,5 +80,36 @@ impl Session {
             Some(words) => Context::of(words),
             None => Context::none(Answer::NO_DEVICE),
         }
+    }
+
+    /// Copies words of a table frame, from an index on, as many as there is room for. Its answer is a status; where that isn't 0,
+    /// nothing is copied.
+    pub(crate) fn words(&self, frame: u64, first: u64, to: &mut [u64]) -> u64
+        ensures { FindsWords frame first to.old to.new self.now.state result }
+    {
+        let Some(words) = self.state.table_words(frame) else {
+            return Answer::NO_WORD;
+        };
+        if first > TABLE_ENTRIES || to.len() as u64 > TABLE_ENTRIES - first {
+            return Answer::NO_WORD;
+        }
+        let start = first as usize;
+        to.copy_from_slice(&words[start..start + to.len()]);
+        Answer::OK
+    }
+
+    pub(crate) fn sent(&self, back: u64) -> Sent
+        ensures { FindsSent back self.now.state result }
+    {
+        match self.state.sent(back) {
+            Some(descriptor) => Sent::of(descriptor.encode()),
+            None => Sent::none(Answer::NO_DESCRIPTOR),
+        }
+    }
+
+    pub(crate) fn waits(&self) -> Answer
+        ensures { FindsWaits self.now.state result }
+    {
+        Answer::told(self.state.waits())
     }
 }
