@@ -29,6 +29,7 @@ STRUCTS = {
     "TotalsAnswer": "vtdm_totals_answer",
     "DomainTotalsAnswer": "vtdm_domain_totals_answer",
     "ContextAnswer": "vtdm_context_answer",
+    "SentAnswer": "vtdm_sent_answer",
 }
 TYPES = {
     "u64": "uint64_t",
@@ -39,6 +40,7 @@ TYPES = {
     "*mut c_void": "void *",
     "&mut Handle": "struct vtdm *",
     "*const Segment": "const struct vtdm_segment *",
+    "*mut u64": "uint64_t *",
     "": "void",
     **{rust: f"struct {c}" for rust, c in STRUCTS.items()},
 }
@@ -66,7 +68,7 @@ def functions():
     for safe, name, given, answer in re.findall(r"(safe )?fn (vtdm_\w+)\(([^)]*)\)(?: -> (\w+))?;", text):
         pairs = [it.split(": ") for it in " ".join(given.split()).rstrip(",").split(", ")]
         found[name] = (TYPES.get(answer, answer), [(TYPES.get(kind.rstrip(","), kind), each) for each, kind in pairs])
-        if safe and "*const" in given:
+        if safe and re.search(r"\*(const|mut) ", given):
             return f"{name} takes a pointer, and is declared safe"
     calls = "".join(rust(os.path.basename(it)[:-3]) for it in glob.glob(f"{CRATE}/src/*.rs"))
     unused = [it for it in found if len(re.findall(rf"\b{it}\(", calls)) < 2]

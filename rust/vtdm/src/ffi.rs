@@ -1,6 +1,6 @@
 //! The functions of the C library, as its header `vtdm.h` declares them. This is the only module with `unsafe`.
 //!
-//! Types stand for what the header has C owe, so that all functions but one are safe to call.
+//! Types stand for what the header has C owe, so that all functions but two are safe to call.
 
 use crate::numbers::Segment;
 use std::ffi::c_void;
@@ -57,6 +57,14 @@ pub(crate) struct DomainTotalsAnswer {
 /// `struct vtdm_context_answer`.
 #[repr(C)]
 pub(crate) struct ContextAnswer {
+    pub(crate) status: u64,
+    pub(crate) low: u64,
+    pub(crate) high: u64,
+}
+
+/// `struct vtdm_sent_answer`.
+#[repr(C)]
+pub(crate) struct SentAnswer {
     pub(crate) status: u64,
     pub(crate) low: u64,
     pub(crate) high: u64,
@@ -123,7 +131,10 @@ unsafe extern "C" {
     pub(crate) safe fn vtdm_width_of(manager: &mut Handle, domain: u64) -> Answer;
     pub(crate) safe fn vtdm_root_of(manager: &mut Handle, domain: u64) -> Answer;
     pub(crate) safe fn vtdm_table_word(manager: &mut Handle, frame: u64, index: u64) -> Answer;
+    fn vtdm_words(manager: &mut Handle, frame: u64, first: u64, to: *mut u64, count: usize) -> u64;
     pub(crate) safe fn vtdm_context(manager: &mut Handle, device: u64) -> ContextAnswer;
+    pub(crate) safe fn vtdm_sent(manager: &mut Handle, back: u64) -> SentAnswer;
+    pub(crate) safe fn vtdm_waits(manager: &mut Handle) -> Answer;
 }
 
 /// `vtdm_map_list` of a slice.
@@ -137,4 +148,11 @@ pub(crate) fn map_list(
     // SAFETY: the address of a slice is not null and is aligned, also where the slice is empty, and as many segments as it has can be
     // read there. `Segment` is laid out as `struct vtdm_segment`. The call writes none, and keeps no pointer.
     unsafe { vtdm_map_list(manager, domain, order, rights, segments.as_ptr(), segments.len()) }
+}
+
+/// `vtdm_words` into a slice.
+pub(crate) fn words(manager: &mut Handle, frame: u64, first: u64, to: &mut [u64]) -> u64 {
+    // SAFETY: the address of a slice is not null and is aligned, also where the slice is empty, and as many words as it has can be
+    // written there. It is borrowed alone, so the handle is none of them. The call keeps no pointer.
+    unsafe { vtdm_words(manager, frame, first, to.as_mut_ptr(), to.len()) }
 }

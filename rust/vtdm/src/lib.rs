@@ -92,7 +92,8 @@ mod refused;
 mod rights;
 
 pub use choices::{
-    Access, Cache, Context, DomainTotals, Mode, Progress, Reaped, Totals, Unmapped, Whim, Width,
+    Access, Cache, Context, Descriptor, DomainTotals, Mode, Progress, Reaped, Totals, Unmapped,
+    Whim, Width,
 };
 pub use manager::Manager;
 pub use numbers::{

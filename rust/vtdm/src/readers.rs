@@ -1,6 +1,6 @@
 //! What is read of a manager.
 
-use crate::choices::{Context, DomainTotals, Mode, Totals, Width};
+use crate::choices::{Context, Descriptor, DomainTotals, Mode, Totals, Width};
 use crate::ffi;
 use crate::manager::{Manager, check};
 use crate::numbers::{Device, Devices, Domain, Frame};
@@ -115,9 +115,23 @@ impl Manager {
     }
 }
 
-/// The words that a unit walks. With these readers the tables can be laid out in a memory that an emulated or a real unit reads: word I
-/// of table frame F at host address F × 4096 + 8 × I. No call tells which words it has written: lay out anew what may have changed, and
-/// have that unit invalidate what it cached, before memory that it could reach is used again.
+/// For a unit of your own, emulated or real. These readers tell what it reads: the tables, word I of table frame F at host address
+/// F × 4096 + 8 × I; the context entries; and the descriptors for its queue. Around each call:
+///
+/// 1. Take your lock.
+/// 2. Make the call.
+/// 3. Bring the words that it changed to the unit's memory: [`Manager::words`], [`Manager::context`]. No call tells which words it has
+///    written, so compare them with those in that memory. Store each word at once, the words of a table before the word that names it,
+///    and of a context entry the low word last, or first where its bit 0 goes.
+/// 4. A barrier: these words are in memory before what follows.
+/// 5. Put the descriptors that the call has sent into the unit's queue, oldest first: [`Manager::sent`], [`Manager::waits`].
+/// 6. Wait until the unit has written the status of the last of them.
+/// 7. Release the lock. Now what the call took away may be used for something else, and not before.
+///
+/// Where an unmap answers that ranges were released it has flushed first, and may have used a table frame that came free: do 5 and 6
+/// before 3. After [`Manager::begin`] leave 6 out, and do it before [`Manager::reap`], with a [`Manager::unit`] for each
+/// descriptor that your unit has done. A detach sends the descriptor of the context alone. A unit that finds cached translations by the
+/// device, and not by the domain, is to be given an IOTLB invalidate descriptor of that domain too.
 impl Manager {
     /// The table frame that is the root of a domain.
     ///
@@ -150,6 +164,28 @@ impl Manager {
         self.read(|handle| ffi::vtdm_table_word(handle, frame.get(), index)).value()
     }
 
+    /// Copies words of a table frame from an index on, as many as `to` has room for: up to all 512. Each is what
+    /// [`Manager::table_word`] answers. Where they aren't all of the frame nothing is copied.
+    ///
+    /// # Errors
+    ///
+    /// [`Refused::NoWord`].
+    ///
+    /// ```
+    /// # use vtdm::{Manager, Mode, Order, Refused, Rights, Width};
+    /// # let mut manager = Manager::new(64)?;
+    /// let domain = manager.domain(Mode::Strict, Width::W39)?;
+    /// manager.map(domain, 0x100.into(), 1.into(), Order::PAGE, Rights::READ)?;
+    /// let root = manager.root_of(domain)?;
+    /// let mut words = [0; 512];
+    /// manager.words(root, 0, &mut words)?;
+    /// assert_eq!(words.first().copied(), Some(manager.table_word(root, 0)?));
+    /// # Ok::<(), Refused>(())
+    /// ```
+    pub fn words(&self, frame: Frame, first: u64, to: &mut [u64]) -> Result<(), Refused> {
+        check(self.read(|handle| ffi::words(handle, frame.get(), first, to)))
+    }
+
     /// The two words of the context entry of a device. [`Manager::root_of`] shows it.
     ///
     /// # Errors
@@ -159,5 +195,42 @@ impl Manager {
         let answer = self.read(|handle| ffi::vtdm_context(handle, device.get()));
         check(answer.status)?;
         Ok(Context { low: answer.low, high: answer.high })
+    }
+
+    /// A descriptor that was sent: the last one where `back` is 0, the one before it where it is 1, and so on. The queue holds the last
+    /// 256.
+    ///
+    /// # Errors
+    ///
+    /// [`Refused::NoDescriptor`].
+    ///
+    /// ```
+    /// # use vtdm::{Manager, Mode, Refused, Width};
+    /// # let mut manager = Manager::new(64)?;
+    /// let domain = manager.domain(Mode::Strict, Width::W39)?;
+    /// let before = manager.waits()?;
+    /// manager.flush(domain)?;
+    /// let count = 2 * (manager.waits()? - before);
+    /// for back in (0..count).rev() {
+    ///     let descriptor = manager.sent(back)?; // for the queue of a unit of your own, oldest first
+    ///     assert_eq!(descriptor.low & 15, if back == 0 { 5 } else { 2 }); // a wait behind an IOTLB invalidate descriptor
+    /// }
+    /// # Ok::<(), Refused>(())
+    /// ```
+    pub fn sent(&self, back: u64) -> Result<Descriptor, Refused> {
+        let answer = self.read(|handle| ffi::vtdm_sent(handle, back));
+        check(answer.status)?;
+        Ok(Descriptor { low: answer.low, high: answer.high })
+    }
+
+    /// How many waits were sent: the number of the last one, 0 before the first. The status that a wait writes is the low 32 bits of
+    /// its number. Each wait follows one other descriptor, so a call before which this was A, and is B after it, has sent 2 × (B - A)
+    /// descriptors. [`Manager::sent`] shows it.
+    ///
+    /// # Errors
+    ///
+    /// None of its own.
+    pub fn waits(&self) -> Result<u64, Refused> {
+        self.read(|handle| ffi::vtdm_waits(handle)).value()
     }
 }

@@ -76,10 +76,12 @@ pub enum Refused {
     /// The unit has not done the ticket's wait. [`Manager::reap`](crate::Manager::reap) answers it as
     /// [`Reaped::Pending`](crate::Reaped::Pending), and no call of this crate as a refusal.
     Pending = 70,
-    /// There is no such table frame, or no such index.
+    /// There is no such table frame, or no such index, or a span of words ends behind its last.
     NoWord = 71,
     /// There is no such cache. No call of this crate is answered so: a [`Cache`](crate::Cache) is one.
     BadCache = 72,
+    /// No descriptor was sent so long ago, or the queue holds it no more.
+    NoDescriptor = 73,
 
     /// The library answered a number that this crate doesn't know: it was made from another header.
     Unknown = u64::MAX,
@@ -87,7 +89,7 @@ pub enum Refused {
 
 impl Refused {
     /// All that the header names.
-    pub const ALL: [Refused; 27] = [
+    pub const ALL: [Refused; 28] = [
         Refused::NoDomain,
         Refused::NoDevice,
         Refused::Busy,
@@ -115,6 +117,7 @@ impl Refused {
         Refused::Pending,
         Refused::NoWord,
         Refused::BadCache,
+        Refused::NoDescriptor,
     ];
 
     /// Its number in `enum vtdm_status` of the header.
@@ -177,6 +180,7 @@ impl Refused {
             Refused::Pending => "the ticket is pending",
             Refused::NoWord => "no such table word",
             Refused::BadCache => "no such cache",
+            Refused::NoDescriptor => "no such descriptor",
             Refused::Unknown => "a number of another header",
         }
     }

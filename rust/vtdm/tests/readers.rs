@@ -2,8 +2,8 @@
 
 use vtdm::limits::PAGE_BYTES;
 use vtdm::{
-    Access, Address, Device, Devices, Domain, Frame, HostAddress, Manager, Mode, Order, Pages,
-    Refused, Rights, Whim, Width,
+    Access, Address, Descriptor, Device, Devices, Domain, Frame, HostAddress, Manager, Mode, Order,
+    Pages, Refused, Rights, Whim, Width,
 };
 
 /// The bit of a leaf of 2 MiB.
@@ -124,4 +124,40 @@ fn a_domain_that_there_is_not_has_nothing() {
     assert_eq!(manager.domain_totals(domain), Err(Refused::NoDomain));
     assert_eq!(manager.table_word(Frame::new(0), 512), Err(Refused::NoWord));
     assert!(manager.table_word(Frame::new(63), 511).is_ok());
+}
+
+#[test]
+fn words_at_once_are_those_read_alone() {
+    let mut manager = Manager::new(64).unwrap();
+    let domain = manager.domain(Mode::Strict, Width::W48).unwrap();
+    manager.map(domain, 0x101.into(), 3.into(), Order::PAGE, Rights::BOTH).unwrap();
+    let root = manager.root_of(domain).unwrap();
+    let mut words = [0; 512];
+    manager.words(root, 0, &mut words).unwrap();
+    assert!(words.iter().any(|it| *it != 0));
+    assert!((0..512).map(|it| manager.table_word(root, it)).eq(words.map(Ok)));
+    let mut few = [7; 2];
+    manager.words(root, 510, &mut few).unwrap();
+    assert_eq!(few, words[510..]);
+    few = [7; 2];
+    assert_eq!(manager.words(root, 511, &mut few), Err(Refused::NoWord));
+    assert_eq!(manager.words(Frame::new(64), 0, &mut few), Err(Refused::NoWord));
+    assert_eq!(few, [7; 2]);
+    assert_eq!(manager.words(root, 512, &mut []), Ok(()));
+}
+
+#[test]
+fn what_was_sent_is_told_from_the_last_one_back() {
+    let mut manager = Manager::new(64).unwrap();
+    assert_eq!((manager.waits(), manager.sent(0)), (Ok(0), Err(Refused::NoDescriptor)));
+    let domain = manager.domain(Mode::Strict, Width::W39).unwrap();
+    let at = manager.map(domain, 0x100.into(), 1.into(), Order::PAGE, Rights::READ).unwrap();
+    let _ = manager.unmap(domain, at, Pages::new(1)).unwrap();
+    let _ticket = manager.begin(domain).unwrap();
+    assert_eq!(manager.waits(), Ok(2));
+    let wait = |number: u64| Descriptor { low: number << 32 | 0x25, high: 1 << 36 };
+    let of_pages = Descriptor { low: 0x100f2, high: at.get() | 1 << 6 };
+    let sent = [wait(2), Descriptor { low: 0x100e2, high: 0 }, wait(1), of_pages];
+    assert!((0..4).map(|it| manager.sent(it)).eq(sent.map(Ok)));
+    assert_eq!(manager.sent(4), Err(Refused::NoDescriptor));
 }
