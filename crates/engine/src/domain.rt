@@ -129,7 +129,10 @@ impl Domain {
     {
         let floor = floor_of(self.width());
         let start = self.space.take_from(floor, wanted.pages, wanted.order)?;
-        if let Err(NoFrames) = self.tree.map_list(pool, start, segments, wanted.rights) {
+        if let Err(NoFrames) = self
+            .tree
+            .map_sized_list(pool, start, segments, wanted.pages, wanted.rights)
+        {
             self.space.undo_take(range_from(start, wanted.pages));
             return Err(Refusal::NoFrames);
         }

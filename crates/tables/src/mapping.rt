@@ -265,12 +265,14 @@ pub(crate) fn map_segments(
     root: Frame,
     segments: &[Segment],
     first: u64,
+    pages: u64,
     rights: Rights,
 ) -> Result<(), NoFrames>
     requires low { 1 ≤ level }
     requires high { level ≤ MOST_LEVELS }
     requires tree { IsTree pool.old level root }
     requires segments { AreSegments segments.now }
+    requires pages { pages ≡ total_pages segments.now }
     requires some { 0 < total_pages segments.now }
     requires within { first + total_pages segments.now ≤ PAGES_END }
     requires one_span { first / span level ≡ (first + total_pages segments.now - 1) / span level }
@@ -287,7 +289,6 @@ pub(crate) fn map_segments(
     ensures count { OnOk result (length pool.new.free + frames_to_map pool.old level root segments.now first ≡ length pool.old.free) }
     ensures pool { IsPool pool.new }
 {
-    let pages: u64 = segments.iter().map(|segment| segment.pages).sum();
     let free = pool.free_count();
     let end = first + pages;
     // Mostly as many frames are free as the pages meet spans: then none can be lacking, and the tables needn't be counted.

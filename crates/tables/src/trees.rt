@@ -143,7 +143,7 @@ impl Tree {
             pages: range.pages(),
         };
         let start = Page::new(range.first()).unwrap();
-        self.map_list(pool, start, &[segment], rights)
+        self.map_sized_list(pool, start, &[segment], segment.pages, rights)
     }
 
     /// Maps the pages from a start on, which are absent, to 1 to 16 segments, one after the other.
@@ -184,10 +184,54 @@ impl Tree {
         ensures tree { IsTree pool.new (levels self.old.width) self.old.root }
         ensures pool { IsPool pool.new }
     {
+        let pages: u64 = segments.iter().map(|segment| segment.pages).sum();
+        self.map_sized_list(pool, start, segments, pages, rights)
+    }
+
+    /// `map_list`, for a caller that knows how many pages the segments have.
+    pub fn map_sized_list(
+        &mut self,
+        pool: &mut Pool,
+        start: Page,
+        segments: &[Segment],
+        pages: u64,
+        rights: Rights,
+    ) -> Result<(), NoFrames>
+        requires tree { IsTree pool.old (levels self.old.width) self.old.root }
+        requires some { 1 ≤ length segments.now }
+        requires few { length segments.now ≤ 16 }
+        requires segments { AreSegments segments.now }
+        requires pages { pages ≡ total_pages segments.now }
+        requires range { IsPageRange (record { first = start; pages = total_pages segments.now }) }
+        requires fits { Fits (record { first = start; pages = total_pages segments.now }) self.old.width }
+        requires absent { (p : ℕ) → start ≤ p → p < start + total_pages segments.now
+            → states (memory pool.old.words) (levels self.old.width) self.old.root p ≡ None }
+        requires rights { AreRights (bits_of rights) }
+        ensures refused { IsErr result ↔ (length pool.old.free < frames_to_map pool.old (levels self.old.width)
+            self.old.root segments.now start) }
+        ensures unchanged { OnErr result (pool.new ≡ pool.old) }
+        ensures root { self.new ≡ self.old }
+        ensures moves { TakesAndGivesFrames pool.old pool.new (levels self.old.width) self.old.root [] }
+        ensures spelled { KeepsSpellings pool.old pool.new (levels self.old.width) self.old.root }
+        ensures maps { OnOk result (MapsPages pool.old pool.new (levels self.old.width) self.old.root start
+            (start + total_pages segments.now)
+            (placed segments.now start (bits_of rights))) }
+        ensures makes { OnOk result (MakesTables pool.old pool.new (levels self.old.width) self.old.root start
+            (start + total_pages segments.now)
+            (is_large_at segments.now start)) }
+        ensures count { OnOk result
+            (length pool.new.free + frames_to_map pool.old (levels self.old.width)
+            self.old.root segments.now start ≡ length pool.old.free) }
+        ensures leaves { KeepsLeaves pool.old pool.new (levels self.old.width) self.old.root }
+        ensures tables { KeepsTables pool.old pool.new (levels self.old.width) self.old.root }
+        ensures others { KeepsOthers pool.old pool.new (levels self.old.width) self.old.root }
+        ensures tree { IsTree pool.new (levels self.old.width) self.old.root }
+        ensures pool { IsPool pool.new }
+    {
         let first = start.number();
         match self.width {
-            Width::W39 => map_segments(pool, NARROW, self.root, segments, first, rights),
-            Width::W48 => map_segments(pool, WIDE, self.root, segments, first, rights),
+            Width::W39 => map_segments(pool, NARROW, self.root, segments, first, pages, rights),
+            Width::W48 => map_segments(pool, WIDE, self.root, segments, first, pages, rights),
         }
     }
 

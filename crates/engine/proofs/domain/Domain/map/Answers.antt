@@ -63,8 +63,8 @@ returns-in-Err-clause-refused c =
       short,
     )
 
-pub map_list-requires-clause-fits : goal.map_list-requires-clause-fits
-map_list-requires-clause-fits c = λ p inside.
+pub map_sized_list-requires-clause-fits : goal.map_sized_list-requires-clause-fits
+map_sized_list-requires-clause-fits c = λ p inside.
     let space = c.in_ok-start.ensures.space.0 in
     let at = space.others p (rw (c.in_ok-start.ensures.taken.free p (inside.0, omega (arith, inside.1, c.requires.pages))) refl) in
     (at.0, omega (arith, at.1, c.self.invariant.0, space.some))
@@ -76,7 +76,7 @@ invalidate_mapped-requires-clause-stated c = λ p inside.
     ap (λ (r : Range). r.first) c.range_from-then-is_caching.ensures in
     let pages : c.range_from-then-is_caching.result.pages ≡ total_pages c.args.segments.now =
     ap (λ (r : Range). r.pages) c.range_from-then-is_caching.ensures ∙ c.requires.pages in
-    subst (λ (tree : Tree). IsSome (states (memory c.map_list.new.pool.words) (levels tree.width) tree.root p))
-    (sym c.map_list.ensures.root)
+    subst (λ (tree : Tree). IsSome (states (memory c.map_sized_list.new.pool.words) (levels tree.width) tree.root p))
+    (sym c.map_sized_list.ensures.root)
     (mapped_stated _ _ _ _ c.in_ok-start.start _ c.args.segments.now p c.in_default.ensures.maps
     (omega (arith, first, inside.0), omega (arith, first, pages, inside.1)))

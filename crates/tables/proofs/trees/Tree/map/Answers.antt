@@ -10,8 +10,8 @@ use Rattle.tables.proofs.maps.Mapped.{maps_said}
 use Rattle.tables.proofs.maps.Placed.{rest_of, rest_in, placed_at}
 use Rattle.tables.proofs.trees.Tree.map.Goals as goal
 
-pub map_list-requires-clause-range : goal.map_list-requires-clause-range
-map_list-requires-clause-range c =
+pub map_sized_list-requires-clause-range : goal.map_sized_list-requires-clause-range
+map_sized_list-requires-clause-range c =
     let start : c.unwrap-start.result ≡ c.first.result =
     subst (λ o. IfSome o (λ p. p ≡ c.first.result)) c.unwrap-start.ensures c.new.ensures.value in
     let range = c.first.ensures.range in record {
@@ -23,8 +23,8 @@ map_list-requires-clause-range c =
       );
     }
 
-pub map_list-requires-clause-fits : goal.map_list-requires-clause-fits
-map_list-requires-clause-fits c =
+pub map_sized_list-requires-clause-fits : goal.map_sized_list-requires-clause-fits
+map_sized_list-requires-clause-fits c =
     let start : c.unwrap-start.result ≡ c.first.result =
     subst (λ o. IfSome o (λ p. p ≡ c.first.result)) c.unwrap-start.ensures c.new.ensures.value in
     λ p within. c.requires.fits p (
@@ -41,13 +41,13 @@ returns-clause-maps c =
     let end : c.unwrap-start.result + (0 + c.pages.result) ≡ c.args.range.first + c.args.range.pages =
     omega (arith, start, c.pages.ensures.value) in
     let says = λ (p : ℕ). Some (target (c.args.frame + (p - c.args.range.first)) (bits_of c.args.rights)) in
-    on_done c.map_list.result c.map_list.ensures.maps (λ maps.
-    subst (λ a. MapsPages c.args.pool.now c.map_list.new.pool (levels c.args.self.now.width) c.args.self.now.root a
+    on_done c.map_sized_list.result c.map_sized_list.ensures.maps (λ maps.
+    subst (λ a. MapsPages c.args.pool.now c.map_sized_list.new.pool (levels c.args.self.now.width) c.args.self.now.root a
     (c.args.range.first + c.args.range.pages) says)
     start
-    (subst (λ b. MapsPages c.args.pool.now c.map_list.new.pool (levels c.args.self.now.width)
+    (subst (λ b. MapsPages c.args.pool.now c.map_sized_list.new.pool (levels c.args.self.now.width)
     c.args.self.now.root c.unwrap-start.result b says) end
-    (maps_said c.args.pool.now c.map_list.new.pool (levels c.args.self.now.width) c.args.self.now.root c.unwrap-start.result
+    (maps_said c.args.pool.now c.map_sized_list.new.pool (levels c.args.self.now.width) c.args.self.now.root c.unwrap-start.result
     (c.unwrap-start.result + (0 + c.pages.result)) (placed (segment ∷ []) c.unwrap-start.result (bits_of c.args.rights)) says
     (λ p low high.
     let same : c.number.result + (p - c.unwrap-start.result) ≡ c.args.frame + (p - c.args.range.first) =

@@ -5,7 +5,7 @@ use Rattle.dmatypes.specs.Rights.{bits_of}
 use Rattle.dmatypes.specs.World.{placed}
 use Rattle.dmatypes.specs.declared.call.Segment.{Segment}
 use Rattle.tables.proofs.pools.ByWidth.{in_root, mapped_leaves, mapped_tables, others_stay}
-use Rattle.tables.proofs.trees.Tree.map_list.Goals as goal
+use Rattle.tables.proofs.trees.Tree.map_sized_list.Goals as goal
 
 abbrev range_of : ℕ → List Segment → Range
 range_of start segments = record { first = start; pages = total_pages segments }
