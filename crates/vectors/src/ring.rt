@@ -51,6 +51,22 @@ fn around_the_page(rt: HostRuntime) {
 }
 
 #[test]
+fn submitted_from_the_last_one_back(rt: HostRuntime) {
+    let mut ring = Ring::new();
+    assert_eq!(rt; ring.submitted(0), None);
+    submit_waits(&rt, &mut ring, 0, 200);
+    fetch_waits(&rt, &mut ring, 0, 150);
+    submit_waits(&rt, &mut ring, 200, 300);
+    for back in 0..256 {
+        assert!(rt;
+            ring.submitted(back) == Some(Descriptor::Wait(299 - back as u32)),
+            "back {back}"
+        );
+    }
+    assert_eq!(rt; ring.submitted(256), None);
+}
+
+#[test]
 fn the_status(rt: HostRuntime) {
     let mut ring = Ring::new();
     assert!(rt; ring.status() == 0 && ring.wait_done(0) && !ring.wait_done(1));
