@@ -4,7 +4,8 @@ use Rattle.std.proofs.Common.{All, slice_get, refl, ap, subst, sym, ◌∙◌, a
 use native.Mathlib.Nat.{mod-add-mod}
 use Rattle.std.specs.List.{cons_option, filter_map}
 use Rattle.std.proofs.lemmas.Bool.{cases_lt}
-use Rattle.std.proofs.lemmas.List.{same_lists, get_or_append_left, get_or-append_right, get_or-reverse, reverse-append, length-reverse, append-nil}
+use Rattle.std.proofs.lemmas.List.{same_lists, get_or_append_left, get_or-append_right, get_or-reverse, reverse-append, length-reverse}
+use Rattle.std.proofs.lemmas.List.{append-nil}
 use Rattle.std.proofs.lemmas.List.Elements.{All-tail, filter_map-append}
 use Rattle.std.proofs.lemmas.Option.{slice_get_cases, slice_get_past}
 use Rattle.vtdbits.specs.declared.descriptor.Descriptor.{Descriptor}

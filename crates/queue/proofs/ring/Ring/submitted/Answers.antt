@@ -12,7 +12,8 @@ returns-then-back c =
 pub returns-in_err-decode : goal.returns-in_err-decode
 returns-in_err-decode c =
     let here = submitted_at _ _ _ c.self.invariant _ _ c.self.view_is c.loop-newer.newer _ (omega arith) c.loop-newer.invariant in
-    c.from_residual.ensures ∙ sym (none_behind _ c.loop-newer.newer c.args.back (here ∙ sym c.decode.ensures.read ∙ c.in_err-decode.was) (omega arith))
+    c.from_residual.ensures
+    ∙ sym (none_behind _ c.loop-newer.newer c.args.back (here ∙ sym c.decode.ensures.read ∙ c.in_err-decode.was) (omega arith))
 
 pub loop-newer-preserved : goal.loop-newer-preserved
 loop-newer-preserved c =
