@@ -1,132 +1,32 @@
-/* Two devices behind a unit that the manager is in charge of. Each request of a device is made for real, and what it reached is compared
- * with what the manager's own unit answers to the same request. */
+/* Two devices behind a unit that the manager is in charge of: the cases. */
 #include "machine.h"
+#include "requests.h"
 #include "unit.h"
 
 enum { TABLE_FRAMES = 32, OWN_PAGES = 0x4100 * PAGE };
-
-/* Host frames that devices may reach. Each has a signature at one place; a device that writes there changes it. */
-enum { FIRST_FRAME = 0x8000, FRAMES = 2048, SIGNED_AT = 0x128 };
-
-/* A device's buffer: a mark that it writes, and in each word after it what one read got. The last word of its page isn't reached. */
-enum { MARK_WORD, MOST_READS = 511 };
-static const uint64_t MARK = 0x5e77000000000000;
-
 enum { RW = VTDM_READ | VTDM_WRITE, SPAN = 512, BEYOND = 1 << 27 };
 enum { A, B };
 
-static struct vtdm manager;
-static uint64_t agreed, differed, stale;
-
-/* ---- What is told */
-
-static void verdict(bool good) {
-    if (good)
-        agreed++;
-    else
-        differed++;
-    text(good ? "\n" : "  DIFFERS\n");
-}
-
-static void told(struct vtdm_answer said) {
-    if (said.status == VTDM_OK) {
-        text("host ");
-        hex(said.value);
-    } else {
-        text("fault ");
-        number(said.status - 32);
-    }
-}
-
-/* ---- Signatures */
-
-static uint64_t signature(uint64_t host) {
-    return 0xA5C3000000000000 | host;
-}
-
-static uint64_t signed_word(uint64_t frame) {
-    return (FIRST_FRAME + frame) * PAGE + SIGNED_AT;
-}
-
-static void sign_all(void) {
-    for (uint64_t frame = 0; frame < FRAMES; frame++)
-        *word64(signed_word(frame)) = signature(signed_word(frame));
-}
-
-/* How many signatures are gone, and where the last one was; they are put back. */
-static uint64_t take_changed(uint64_t *where, uint64_t *value) {
-    uint64_t count = 0;
-    for (uint64_t frame = 0; frame < FRAMES; frame++) {
-        uint64_t at = signed_word(frame), found = *word64(at);
-        if (found == signature(at))
-            continue;
-        count++;
-        *where = at;
-        *value = found;
-        *word64(at) = signature(at);
-    }
-    return count;
-}
-
-/* ---- Requests */
-
-/* A refusal by a cached entry leaves no record in QEMU. */
-static bool is_refusal(struct unit_fault fault, unsigned device, uint64_t address, bool write, uint64_t status) {
-    return !fault.there
-           || (fault.reason + 32 == status && fault.read != write && fault.page == address / PAGE
-               && fault.source == device_number(device) << 3);
-}
-
-/* The device writes its mark: exactly the word that was said has it then. */
-static bool write_agrees(unsigned device, uint64_t address, struct vtdm_answer said) {
-    uint64_t host = 0, value = 0;
-    device_writes(device, address, MARK_WORD);
-    struct unit_fault fault = unit_take_fault();
-    uint64_t changed = take_changed(&host, &value);
-    if (said.status == VTDM_OK)
-        return !fault.there && changed == 1 && host == said.value && value == MARK + device;
-    return changed == 0 && is_refusal(fault, device, address, true, said.status);
-}
-
-/* What a device read isn't seen until it writes it somewhere. So a read is judged by its fault here, and in the end, with translation off,
- * by the word that it got: a signature, or 0 where it was refused. */
-static struct {
-    unsigned count;
-    uint64_t wanted[MOST_READS];
-} reads[DEVICES];
-
-static bool read_agrees(unsigned device, uint64_t address, struct vtdm_answer said) {
-    unsigned word = ++reads[device].count;
-    device_reads(device, address, word);
-    struct unit_fault fault = unit_take_fault();
-    if (said.status != VTDM_OK)
-        return is_refusal(fault, device, address, false, said.status);
-    reads[device].wanted[word] = signature(said.value);
-    return !fault.there;
-}
-
-/* A device reads and writes a page: both units are asked, with their caches. */
-static void requests(unsigned device, uint64_t page) {
-    uint64_t address = page * PAGE + SIGNED_AT, by = device_number(device);
-    for (int write = 0; write < 2; write++) {
-        struct vtdm_answer walked = vtdm_dma(&manager, by, address, write, false, false);
-        struct vtdm_answer said = vtdm_dma(&manager, by, address, write, true, true);
-        stale += said.status == VTDM_OK && walked.status != VTDM_OK;
-        text("  device ");
-        number(by);
-        text(write ? " writes page " : " reads  page ");
-        hex(page);
-        text(": ");
-        told(said);
-        verdict(write ? write_agrees(device, address, said) : read_agrees(device, address, said));
-    }
-}
+/* The table frames whose words are brought to the unit: none where the library's own words are its tables. */
+#ifdef IN_PLACE
+enum { BROUGHT = 0 };
+#else
+enum { BROUGHT = TABLE_FRAMES };
+#endif
 
 /* ---- Calls, each followed by the unit */
 
-static uint64_t called(const char *what, struct vtdm_answer answer) {
+/* The words first, and then the descriptors. */
+static void follow(void) {
+#ifdef WORDS_LATE
+    unit_wait(&manager);
+#endif
     unit_bring(&manager);
     unit_wait(&manager);
+}
+
+static uint64_t called(const char *what, struct vtdm_answer answer) {
+    follow();
     text(what);
     text(": ");
     hex(answer.value);
@@ -134,12 +34,8 @@ static uint64_t called(const char *what, struct vtdm_answer answer) {
     return answer.value;
 }
 
-/* An unmap that finds a lazy domain's list full has flushed first, and may use a table frame that came free by it. */
 static uint64_t unmap(const char *what, uint64_t domain, uint64_t page, uint64_t pages) {
-    struct vtdm_answer answer = vtdm_unmap(&manager, domain, page * PAGE, pages);
-    if (answer.value)
-        unit_wait(&manager);
-    return called(what, answer);
+    return called(what, vtdm_unmap(&manager, domain, page * PAGE, pages));
 }
 
 static uint64_t map(const char *what, uint64_t domain, uint64_t frame, uint64_t pages, uint64_t order) {
@@ -154,8 +50,13 @@ static uint64_t domain(const char *what, bool lazy) {
 #endif
 }
 
+/* A unit with Caching Mode may remember that the device had no entry, and an attach sends nothing. */
 static void attach(unsigned device, uint64_t to) {
     called("attach", vtdm_attach(&manager, device_number(device), to));
+#ifdef CACHING
+    unit_forget_absence(device_number(device));
+    unit_forget(to);
+#endif
 }
 
 /* This unit, as VT-d allows, finds what it cached by the device too, and a detach sends the context's descriptor alone. */
@@ -209,15 +110,16 @@ static void watch(uint64_t of, uint64_t first, uint64_t pages) {
     watched.moments = watched.bad = 0;
     for (uint64_t i = 0; i < pages; i++)
         watched.before[i] = walk(first + i, true);
-    unit_brought = at_each_word;
+    unit_meanwhile = at_each_word;
 }
 
+/* There is one moment more than words, and so one where none is brought. */
 static void watch_ends(void) {
-    unit_brought = NULL;
+    unit_meanwhile = NULL;
     text("  at ");
     number(watched.moments);
     text(" moments each page is as before or as after");
-    verdict(watched.bad == 0);
+    verdict(watched.bad == 0 && (BROUGHT ? watched.moments > 1 : watched.moments == 1));
 }
 
 /* ---- The cases */
@@ -226,12 +128,16 @@ static void strict(void) {
     text("== strict: what is unmapped is refused at once\n");
     requests(A, 1);
     domain("domain", false);
+    works(A, 1);
     attach(A, 1);
+    rests();
     requests(A, 1);
     requests(B, 1);
     uint64_t page = map("map a page", 1, 0, 1, 0);
     requests(A, page);
+    works(A, page);
     unmap("unmap it", 1, page, 1);
+    rests();
     requests(A, page);
     page = called("map one to read", vtdm_map(&manager, 1, FIRST_FRAME + 1, 1, 0, VTDM_READ)) / PAGE;
     requests(A, page);
@@ -303,23 +209,37 @@ static void lazy(void) {
     requests(B, map("map in 2: the address again", 2, 50, 1, 0));
 }
 
+/* An unmap that finds the list full flushes first, and its own words may use a table frame that came free by that: before they are there
+ * the flush's descriptors are done. In place they are there at once, so the list is flushed by a call of its own. */
+static uint64_t unmap_where_full(uint64_t domain, uint64_t page) {
+    uint64_t released = 0;
+#ifdef IN_PLACE
+    if (vtdm_domain_totals(&manager, domain).retired == VTDM_MOST_RECORDS) {
+        released = vtdm_flush(&manager, domain).value;
+        follow();
+    }
+#endif
+    struct vtdm_answer answer = vtdm_unmap(&manager, domain, page * PAGE, 1);
+    if (answer.value)
+        unit_wait(&manager);
+    follow();
+    if (answer.status != VTDM_OK)
+        differed++;
+    return released + answer.value;
+}
+
 static void full_list(void) {
     text("== lazy: the 257th unmap flushes first\n");
     uint64_t page = 0;
     for (unsigned i = 0; i < 257; i++) {
         page = vtdm_map(&manager, 2, FIRST_FRAME + 100 + i, 1, 0, RW).value / PAGE;
-        unit_bring(&manager);
-        unit_wait(&manager);
+        follow();
         if (i == 255)
             requests(B, page);
-        struct vtdm_answer ended = vtdm_unmap(&manager, 2, page * PAGE, 1);
-        if (ended.value)
-            unit_wait(&manager);
-        unit_bring(&manager);
-        unit_wait(&manager);
+        uint64_t released = unmap_where_full(2, page);
         if (i == 255)
             requests(B, page);
-        if (ended.status != VTDM_OK || ended.value != (i == 256 ? 256 : 0))
+        if (released != (i == 256 ? 256 : 0))
             differed++;
     }
     requests(B, page - 1);
@@ -349,7 +269,9 @@ static void elsewhere(void) {
     text("== a device is attached elsewhere, and a domain's number is another's\n");
     uint64_t page = map("map in 1", 1, 52, 1, 0);
     requests(A, page);
+    works(A, page);
     detach(A);
+    rests();
     requests(A, page);
     attach(A, 2);
     requests(A, page);
@@ -361,35 +283,10 @@ static void elsewhere(void) {
     requests(A, map("map in 1", 1, 53, 1, 0));
 }
 
-/* What the reads got, once devices reach memory by its own addresses: each word is written to a frame. */
-static void look_at_reads(void) {
-    uint64_t at = FIRST_FRAME * (uint64_t)PAGE, others = 0, all = 0;
-    for (unsigned device = 0; device < DEVICES; device++)
-        for (unsigned word = 1; word <= reads[device].count; word++) {
-            device_writes(device, at, word);
-            others += *word64(at) != reads[device].wanted[word];
-            all++;
-        }
-    text("== ");
-    number(all);
-    text(" reads got what the manager said");
-    verdict(others == 0);
-}
-
-static void fill_buffers(void) {
-    uint64_t at = FIRST_FRAME * (uint64_t)PAGE;
-    for (unsigned device = 0; device < DEVICES; device++)
-        for (unsigned word = 0; word < MOST_READS; word++) {
-            *word64(at) = word == MARK_WORD ? MARK + device : 0;
-            device_reads(device, at, word);
-        }
-}
-
 static bool begin(void) {
     if (!find_devices())
         return false;
-    fill_buffers();
-    sign_all();
+    begin_requests();
 #ifdef IN_PLACE
     /* The library's own table words lie where the unit walks: at host frame 0, which is at address 2^37 too. */
     extern size_t placed_bytes;
@@ -402,7 +299,7 @@ static bool begin(void) {
 #else
     uint64_t status = vtdm_create(&manager, TABLE_FRAMES);
 #endif
-    unit_on(TABLE_FRAMES, OWN_PAGES);
+    unit_on(BROUGHT, OWN_PAGES);
     return status == VTDM_OK;
 }
 

@@ -49,7 +49,7 @@ void hex(uint64_t n) {
 }
 
 void power_off(bool differs) {
-    out8(0xf4, differs);
+    out8(0xf4, 16 + differs); /* N ends it with 2 * N + 1 */
     for (;;)
         ;
 }

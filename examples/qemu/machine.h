@@ -21,7 +21,7 @@ void text(const char *s);
 void number(uint64_t n);
 void hex(uint64_t n);
 
-/* Ends the machine: QEMU's status is 1 where nothing differed, else 3. */
+/* Ends the machine: QEMU's status is 33 where nothing differed, else 35. QEMU itself ends with 1 where it can't begin. */
 void power_off(bool differs);
 
 /* Finds the devices, and lets them reach memory. False where there are too few. */

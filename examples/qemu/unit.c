@@ -25,7 +25,7 @@ static struct {
     uint64_t waits, own; /* waits of the manager that were queued, and waits of our own */
 } unit;
 
-void (*unit_brought)(void);
+void (*unit_meanwhile)(void);
 
 /* A command of one bit, and whether its status shows it afterwards. */
 static void command(uint32_t bit, bool on) {
@@ -108,6 +108,12 @@ void unit_forget(uint64_t domain) {
     wait_apart();
 }
 
+/* What isn't there is remembered for domain 0, which no manager has. */
+void unit_forget_absence(uint64_t device) {
+    queue(0x31 | device << 35, 0); /* context-cache invalidate, device-selective; function 0 */
+    wait_apart();
+}
+
 /* ---- On and off */
 
 void unit_on(uint64_t frames, uint64_t own) {
@@ -135,9 +141,9 @@ void unit_off(void) {
 /* ---- Words */
 
 static void bring(uint64_t at, uint64_t word) {
+    if (unit_meanwhile)
+        unit_meanwhile();
     *word64(at) = word;
-    if (unit_brought)
-        unit_brought();
 }
 
 /* A call writes over a word that isn't 0 only where it puts a table in the place of a leaf of 2 MiB. These words go last, when the tables
@@ -155,17 +161,24 @@ static void bring_words(struct vtdm *manager, bool over) {
 }
 
 /* The low word has the bit that makes an entry present: it is brought last, and cleared first. */
+static void bring_context(uint64_t at, struct vtdm_context_answer entry) {
+    bool low_first = !entry.low;
+#ifdef WRONG_HALVES
+    low_first = !low_first;
+#endif
+    if (low_first)
+        bring(at, entry.low);
+    bring(at + 8, entry.high);
+    if (!low_first)
+        bring(at, entry.low);
+}
+
 static void bring_contexts(struct vtdm *manager) {
     for (uint64_t device = 0; device < VTDM_DEVICES; device++) {
         struct vtdm_context_answer entry = vtdm_context(manager, device);
         uint64_t at = unit.contexts + 16 * (device << 3); /* function 0 */
-        if (*word64(at) == entry.low && *word64(at + 8) == entry.high)
-            continue;
-        if (!entry.low)
-            bring(at, 0);
-        bring(at + 8, entry.high);
-        if (entry.low)
-            bring(at, entry.low);
+        if (*word64(at) != entry.low || *word64(at + 8) != entry.high)
+            bring_context(at, entry);
     }
 }
 
@@ -177,6 +190,8 @@ void unit_bring(struct vtdm *manager) {
     bring_words(manager, false);
     bring_words(manager, true);
     bring_contexts(manager);
+    if (unit_meanwhile)
+        unit_meanwhile();
     __asm__ volatile("" ::: "memory");
 }
 

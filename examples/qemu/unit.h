@@ -9,14 +9,15 @@
 #include <stdbool.h>
 #include <stdint.h>
 
-/* Turns the unit on over `frames` table frames, which begin at host address 0: a manager is made with as many. Four pages from `own` on
- * are for the root table, the context table, the queue and the status that waits write. */
+/* Turns the unit on over tables from host address 0 on. The words of the first `frames` table frames are brought there: of all that the
+ * manager is made with, or of none where its own words lie there. Four pages from `own` on are for the root table, the context table, the
+ * queue and the status that waits write. */
 void unit_on(uint64_t frames, uint64_t own);
 
 /* Turns translation off: devices then reach memory by its own addresses. */
 void unit_off(void);
 
-/* Brings words and context entries to memory, a table before the word that names it. */
+/* Brings words and context entries to memory: a table before the word that names it, and of a context entry last what makes it present. */
 void unit_bring(struct vtdm *manager);
 
 /* Queues the descriptors that the manager has sent since, oldest first. unit_step lets the unit do the next of them, if there is one;
@@ -25,8 +26,9 @@ void unit_send(struct vtdm *manager);
 bool unit_step(void);
 void unit_wait(struct vtdm *manager);
 
-/* Has the unit forget what it cached of a domain, by a descriptor that the manager hasn't sent. */
+/* Has the unit forget what it cached of a domain, or that a device had no context entry, by a descriptor that the manager hasn't sent. */
 void unit_forget(uint64_t domain);
+void unit_forget_absence(uint64_t device);
 
 struct unit_fault {
     bool there, read;
@@ -36,7 +38,7 @@ struct unit_fault {
 /* Takes the fault record, if there is one. */
 struct unit_fault unit_take_fault(void);
 
-/* Called after each word that is brought, where it isn't NULL. */
-extern void (*unit_brought)(void);
+/* Called before each word that is brought, and once when all are there, where it isn't NULL. */
+extern void (*unit_meanwhile)(void);
 
 #endif
