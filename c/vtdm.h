@@ -49,9 +49,9 @@
  * MEMORY. vtdm_create and vtdm_create_caching take all that a manager ever needs, about 1.6 MiB and VTDM_PAGE_BYTES more for each
  * table frame; vtdm_destroy gives it back, and no other function asks for any. The words of the table frames are one block of it,
  * asked for by one malloc of VTDM_PAGE_BYTES times the frames and written whole before a creation returns: those of frame F begin
- * F * VTDM_PAGE_BYTES bytes behind those of frame 0, where the block begins. So an allocator that puts this block where a unit walks
- * lets the unit walk the tables in place. A contract says that the words of one frame lie one after the other; how the frames lie is
- * how the code is and stays.
+ * F * VTDM_PAGE_BYTES bytes behind those of frame 0, where the block begins. So an allocator that puts this block at host address 0
+ * lets a unit walk the tables in place (see *A unit of your own*). A contract says that the words of one frame lie one after the other;
+ * how the frames lie is how the code is and stays.
  *
  * IT DOES NOT WEAR OUT. A manager answers VTDM_CALLS_END calls, 2^56, and VTDM_SPENT to each further one, since its counts have 64
  * bits. Nobody gets there: at a billion calls a second it takes more than two years. Readers are not counted.
@@ -289,22 +289,45 @@ struct vtdm_answer vtdm_mode_of(struct vtdm *manager, uint64_t domain);
 struct vtdm_answer vtdm_width_of(struct vtdm *manager, uint64_t domain);
 
 /* ---- A unit of your own, emulated or real. These readers tell what it reads: the tables, word I of table frame F at host address
- * F * VTDM_PAGE_BYTES + 8 * I; the context entries; and the descriptors for its queue. Around each call:
+ * F * VTDM_PAGE_BYTES + 8 * I; the context entries; and the descriptors for its queue. examples/qemu/unit.c does all of this.
+ *
+ * WHAT IT HAS. By its capability registers: second-stage tables of the widths that you use (SAGAW), leaves of 2 MiB, queued
+ * invalidation (QI), and page-selective invalidation (PSI) of up to 2^9 pages (MAMV). Where it has Caching Mode (CM), make the manager
+ * by vtdm_create_caching.
+ *
+ * BEFORE IT IS ON. Make a root table that names a context table for bus 0 alone. In that table the entry of device V is the one of
+ * its function 0, at 128 * V bytes, and the others are 0. Make a queue of 256 descriptors. Bring all words once, give the unit the root
+ * table, and have it invalidate all contexts, and then the whole IOTLB. Turn translation off before vtdm_destroy.
+ *
+ * AROUND EACH CALL
  *  1. Take your lock.
  *  2. Make the call.
  *  3. Bring the words that it changed to the unit's memory: vtdm_words, vtdm_context. No call tells which words it has written, so
- *     compare them with those in that memory. Store each word at once, the words of a table before the word that names it, and of a
- *     context entry the low word last, or first where its bit 0 goes.
- *  4. A barrier: these words are in memory before what follows.
+ *     compare them with those in that memory. Store each word of 64 bits at once, and the words of a table before the word that names it:
+ *     those go last that are not 0 in memory and become another word than 0. Of a context entry store the low word last, or first where
+ *     its bit 0 goes.
+ *  4. A barrier: the unit sees these words before what follows. Where it doesn't snoop the processor's caches, write these back; where
+ *     it asks for its write buffer to be flushed (RWBF), do that.
  *  5. Put the descriptors that the call has sent into the unit's queue, oldest first: vtdm_sent, vtdm_waits.
- *  6. Wait until the unit has written the status of the last of them.
- *  7. Release the lock. Now what the call took away may be used for something else, and not before.
- * Where vtdm_unmap answers another value than 0 it has flushed first, and may have used a table frame that came free: do 5 and 6
- * before 3. After vtdm_begin leave 6 out, and do it before vtdm_reap, with a vtdm_unit for each descriptor that your unit has done.
- * What is proved of a unit that does what the VT-d specification says (crates/moments, crates/quiet): while words are brought, it finds
- * each page as before the call or as after it. After 6 it has nothing cached of what the call took away.
- * One thing more is yours. A detach sends the descriptor of the context alone. A unit that finds cached translations by the device, and
- * not by the domain, is to be given an IOTLB invalidate descriptor of that domain too. */
+ *  6. If there are any, wait until the unit has written the status of the last of them.
+ *  7. Release the lock. Now what the call set free may be used for something else, and not before.
+ *
+ * WHERE A CALL NEEDS MORE.
+ *  - Where vtdm_unmap answers another value than 0 it has flushed first, and may have used a table frame that came free: do 5 and 6
+ *    before 3. Where the unit walks the library's own words (MEMORY, above) these are there at once, and that can't be. So never unmap
+ *    there in a domain with VTDM_MOST_RECORDS retired ranges (vtdm_domain_totals): call vtdm_flush before, with all steps.
+ *  - After vtdm_begin leave 6 out. Before vtdm_reap let the library's unit do what yours has done, and no more. S is the number of the last
+ *    wait that yours has done: call vtdm_unit as long as `pending` of vtdm_totals is above 2 * (vtdm_waits - S).
+ *  - A detach sends the descriptor of the context alone, and a unit may find cached translations by the device too. So after 6 give it an
+ *    IOTLB invalidate descriptor of the domain that the device had: low word 0xe2 + 2^16 * domain, high word 0.
+ *  - An attach sends nothing, and a unit with Caching Mode may remember that the device had no context entry. So after 4 give it a
+ *    context-cache invalidate descriptor of the device and domain 0, low word 0x31 + 2^35 * device, high word 0. Then give it an
+ *    IOTLB invalidate descriptor of the domain, as after a detach.
+ *  After a descriptor of your own put a wait of your own, with another status address, and wait for it before 7.
+ *
+ * WHAT IS PROVED, of a unit that does what docs/PROVED.md takes for granted (crates/moments, crates/quiet). While words of tables are
+ * brought, it finds each page as before the call or as after it. After 6 it has nothing cached of what the call set free. That you take
+ * these steps is yours, and so is the order of a context entry's words. */
 
 /* The number of the table frame that is the root of a domain. VTDM_NO_DOMAIN. */
 struct vtdm_answer vtdm_root_of(struct vtdm *manager, uint64_t domain);
@@ -331,7 +354,8 @@ struct vtdm_context_answer vtdm_context(struct vtdm *manager, uint64_t device);
 /* The two words of a descriptor that was sent, as the VT-d specification lays them out: of the last one where `back` is 0, of the one
  * before it where it is 1, and so on. The queue holds the last 256. A wait is an invalidation wait descriptor: its low word has
  * 5 in bits 0 to 3 and the status that it writes in bits 32 to 63. Its high word is the address to which the unit writes the status. That
- * is 2^36, behind all host frames: put an address of your own in its place. VTDM_NO_DESCRIPTOR. */
+ * is 2^36, behind all host frames: put in its place the host address of 4 bytes of your own, a multiple of 4, which hold 0 at first.
+ * VTDM_NO_DESCRIPTOR. */
 struct vtdm_sent_answer {
     uint64_t status;
     uint64_t low;

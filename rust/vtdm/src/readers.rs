@@ -121,17 +121,27 @@ impl Manager {
 /// 1. Take your lock.
 /// 2. Make the call.
 /// 3. Bring the words that it changed to the unit's memory: [`Manager::words`], [`Manager::context`]. No call tells which words it has
-///    written, so compare them with those in that memory. Store each word at once, the words of a table before the word that names it,
-///    and of a context entry the low word last, or first where its bit 0 goes.
-/// 4. A barrier: these words are in memory before what follows.
+///    written, so compare them with those in that memory. Store each word at once, and the words of a table before the word that names
+///    it: those go last that are not 0 in memory and become another word than 0. Of a context entry store the low word last, or first
+///    where its bit 0 goes.
+/// 4. A barrier: the unit sees these words before what follows.
 /// 5. Put the descriptors that the call has sent into the unit's queue, oldest first: [`Manager::sent`], [`Manager::waits`].
-/// 6. Wait until the unit has written the status of the last of them.
-/// 7. Release the lock. Now what the call took away may be used for something else, and not before.
+/// 6. If there are any, wait until the unit has written the status of the last of them.
+/// 7. Release the lock. Now what the call set free may be used for something else, and not before.
 ///
-/// Where an unmap answers that ranges were released it has flushed first, and may have used a table frame that came free: do 5 and 6
-/// before 3. After [`Manager::begin`] leave 6 out, and do it before [`Manager::reap`], with a [`Manager::unit`] for each
-/// descriptor that your unit has done. A detach sends the descriptor of the context alone. A unit that finds cached translations by the
-/// device, and not by the domain, is to be given an IOTLB invalidate descriptor of that domain too.
+/// Some calls need more:
+///
+/// - Where an unmap answers that ranges were released it has flushed first, and may have used a table frame that came free: do 5 and 6
+///   before 3.
+/// - After [`Manager::begin`] leave 6 out. Before [`Manager::reap`] let the library's unit do what yours has done, and no more. S is the
+///   number of the last wait that yours has done: call [`Manager::unit`] as long as the `pending` of [`Manager::totals`] is above
+///   2 × ([`Manager::waits`] - S).
+/// - A detach sends the descriptor of the context alone, and a unit may find cached translations by the device too. So after 6 give it an
+///   IOTLB invalidate descriptor of the domain that the device had.
+/// - An attach sends nothing, and a unit with Caching Mode may remember that the device had no context entry. So after 4 give it a
+///   context-cache invalidate descriptor of the device and domain 0, and then an IOTLB invalidate descriptor of the domain.
+///
+/// The header `c/vtdm.h` says the same of C, and besides what the unit has to have, how it begins, and what is proved of it.
 impl Manager {
     /// The table frame that is the root of a domain.
     ///
