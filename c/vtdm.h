@@ -50,8 +50,9 @@
  * table frame; vtdm_destroy gives it back, and no other function asks for any. The words of the table frames are one block of it,
  * asked for by one malloc of VTDM_PAGE_BYTES times the frames and written whole before a creation returns: those of frame F begin
  * F * VTDM_PAGE_BYTES bytes behind those of frame 0, where the block begins. So an allocator that puts this block at host address 0
- * lets a unit walk the tables in place (see *A unit of your own*). A contract says that the words of one frame lie one after the other;
- * how the frames lie is how the code is and stays.
+ * lets a unit walk the tables in place (see *A unit of your own*). A contract says that the words of one frame lie one after the other.
+ * How the frames lie, that a word is stored at once, and that a table which takes the place of a leaf of 2 MiB is filled before the word
+ * that names it, is how the code is.
  *
  * IT DOES NOT WEAR OUT. A manager answers VTDM_CALLS_END calls, 2^56, and VTDM_SPENT to each further one, since its counts have 64
  * bits. Nobody gets there: at a billion calls a second it takes more than two years. Readers are not counted.
