@@ -293,8 +293,8 @@ struct vtdm_answer vtdm_width_of(struct vtdm *manager, uint64_t domain);
  * F * VTDM_PAGE_BYTES + 8 * I; the context entries; and the descriptors for its queue. examples/qemu/unit.c does all of this.
  *
  * WHAT IT HAS. By its capability registers: second-stage tables of the widths that you use (SAGAW), leaves of 2 MiB, queued
- * invalidation (QI), and page-selective invalidation (PSI) of up to 2^9 pages (MAMV). Where it has Caching Mode (CM), make the manager
- * by vtdm_create_caching.
+ * invalidation (QI) and page-selective invalidation (PSI) of up to 2^9 pages (MAMV). It drains writes and reads (DWD, DRD). Where it has
+ * Caching Mode (CM), make the manager by vtdm_create_caching.
  *
  * BEFORE IT IS ON. Make a root table that names a context table for bus 0 alone. In that table the entry of device V is the one of
  * its function 0, at 128 * V bytes, and the others are 0. Make a queue of 256 descriptors. Bring all words once, give the unit the root
