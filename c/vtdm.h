@@ -203,7 +203,8 @@ struct vtdm_answer vtdm_detach(struct vtdm *manager, uint64_t device);
 /* Maps 1 to VTDM_MOST_PAGES pages to the host frames from `frame` on, and answers the device address of the first page: the lowest
  * free one that is a multiple of 2^order pages; in a 48-bit domain the lowest at VTDM_ADDRESSES_END (512 GiB) or above, and where
  * there is none there the lowest of all. `order` is at most VTDM_MOST_ORDER, and the frames are below VTDM_FRAMES_END.
- * Where page and frame are multiples of 512, 512 pages are mapped by one leaf of 2 MiB. `rights` are of enum vtdm_rights.
+ * Where page and frame are multiples of 512, 512 pages are mapped by one leaf of 2 MiB, unless an earlier map left a table there.
+ * `rights` are of enum vtdm_rights.
  * VTDM_NO_DOMAIN, VTDM_BAD_RANGE, VTDM_FRAME_OWNED, VTDM_NO_RANGE, VTDM_TOO_MANY_PIECES, VTDM_NO_FRAMES. */
 struct vtdm_answer vtdm_map(struct vtdm *manager, uint64_t domain, uint64_t frame, uint64_t pages, uint64_t order,
                             uint64_t rights);

@@ -172,7 +172,8 @@ impl Manager {
 
     /// Maps 1 to 4096 pages to the host frames from `frame` on, and answers the device address of the first page: the lowest free one
     /// that is a multiple of 2^`order` pages; in a 48-bit domain the lowest at 512 GiB or above, and where there is none there the
-    /// lowest of all. Where page and frame are multiples of 512, 512 pages are mapped by one leaf of 2 MiB.
+    /// lowest of all. Where page and frame are multiples of 512, 512 pages are mapped by one leaf of 2 MiB, unless an earlier map left a
+    /// table there.
     ///
     /// # Errors
     ///
