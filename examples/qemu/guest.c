@@ -227,18 +227,22 @@ static void lazy(void) {
 }
 
 /* An unmap that finds the list full flushes first, and its own words may use a table frame that came free by that: before they are there
- * the flush's descriptors are done. In place they are there at once, so the list is flushed by a call of its own. */
+ * the flush's descriptors are done, and the page before isn't reached. In place they are there at once, so the list is flushed by a call
+ * of its own. */
 static uint64_t unmap_where_full(uint64_t domain, uint64_t page) {
     uint64_t released = 0;
 #ifdef IN_PLACE
     if (vtdm_domain_totals(&manager, domain).retired == VTDM_MOST_RECORDS) {
         released = vtdm_flush(&manager, domain).value;
         follow();
+        requests(B, page - 1);
     }
 #endif
     struct vtdm_answer answer = vtdm_unmap(&manager, domain, page * PAGE, 1);
-    if (answer.value)
+    if (answer.value) {
         unit_wait(&manager);
+        requests(B, page - 1);
+    }
     follow();
     if (answer.status != VTDM_OK)
         differed++;
