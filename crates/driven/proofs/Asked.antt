@@ -1,0 +1,75 @@
+-- What a call asks, from what is told of it.
+use Rattle.std.proofs.Common.{◌≡◌, ◌⊎◌, inl, inr, ℕ, Bool, List, [], ◌∷◌, refl, subst, slice_set}
+use Rattle.std.specs.List.{All}
+use Rattle.std.proofs.lemmas.List.Elements.{All-append}
+use Rattle.dmatypes.specs.World.{IsIn}
+use Rattle.dmatypes.specs.declared.call.Call.{Call}
+use Rattle.dmatypes.specs.declared.reply.Reply.{Reply}
+use Rattle.vtdbits.specs.declared.context.ContextEntry.{ContextEntry}
+use Rattle.engine.specs.State.{State}
+use Rattle.engine.specs.Steps.{Does}
+use Rattle.engine.specs.Tickets.{KeepsTickets}
+use Rattle.quiet.specs.Quiet.{IsSound}
+use Rattle.driven.specs.declared.effect.Effect.{Effect}
+use Rattle.driven.specs.declared.effect.Effect.TheVariants.{Barrier, Context}
+use Rattle.driven.specs.Effects.{AreEffects, BringsAll, IsForMemory, IsQuiet, Sends, in_order, waited}
+use Rattle.driven.specs.Laws.{MayChange}
+use Rattle.driven.specs.Telling.{IsSentBy, with_wait}
+use Rattle.driven.proofs.Brought.{none_for_memory, one_for_memory}
+use Rattle.driven.proofs.Sent.{IsSilent, silent}
+use Rattle.driven.proofs.Told.{one_entry, sent_part, whole_row, words_stay}
+
+-- a device's context entry and the barrier after it
+abbrev pub entry_told : ℕ → List Effect
+entry_told device = Context device ∷ Barrier ∷ []
+
+entry_for_memory : (device : ℕ) → All IsForMemory (entry_told device)
+entry_for_memory device =
+    All-append IsForMemory (Context device ∷ []) (Barrier ∷ []) (one_for_memory (Context device) tt) (one_for_memory Barrier tt)
+
+module _ (m t : State) (call : Call) (reply : Reply) (sound : IsSound m) (tickets : KeepsTickets m) (does : Does m call reply t)
+    (none : (f k : ℕ) → MayChange m call reply t f k → ⊥) where
+  -- no word and no entry was changed
+  pub nothing : t.iommu.contexts ≡ m.iommu.contexts → BringsAll m t []
+  nothing row = record {
+    for_memory = none_for_memory;
+    words = words_stay m t call reply tickets does sound none [];
+    contexts = whole_row m t row [];
+  }
+
+  -- the entry of one device was, at most
+  pub entry : (device : ℕ) (es : List Effect) → All IsForMemory es → IsIn (Context device) es
+      → (t.iommu.contexts ≡ m.iommu.contexts) ⊎ ((e : ContextEntry) × (t.iommu.contexts ≡ slice_set m.iommu.contexts device e))
+      → BringsAll m t es
+  entry device es for_memory told row = record {
+    for_memory = for_memory;
+    words = words_stay m t call reply tickets does sound none es;
+    contexts = elim row [
+      | inl same ↦ whole_row m t same es
+      | inr other ↦ one_entry m t device other.0 other.1 es told
+    ];
+  }
+
+  pub one_for_entry : (device : ℕ) → (t.iommu.contexts ≡ m.iommu.contexts)
+      ⊎ ((e : ContextEntry) × (t.iommu.contexts ≡ slice_set m.iommu.contexts device e)) → BringsAll m t (entry_told device)
+  one_for_entry device row = entry device (entry_told device) (entry_for_memory device) (inl refl) row
+
+  -- a call that submits nothing
+  pub sends_none : IsSilent call → Sends m call t []
+  sends_none s =
+      let q = silent m t call reply s does.becomes in inl (record { none = refl; waits = q.0; submitted = q.1 })
+
+-- ---- what is brought, and then sent
+
+module _ (m t : State) (call : Call) (reply : Reply) (tickets : KeepsTickets m) (does : Does m call reply t) where
+  pub asks : (waits : ℕ) (awaits : Bool) (brought more es : List Effect) → BringsAll m t brought → es ≡ in_order m call brought more
+      → waits ≡ m.iommu.sent → waited call t.iommu.sent ≡ with_wait awaits t.iommu.sent → IsSentBy t waits awaits more
+      → IsQuiet reply es → AreEffects m call reply t es
+  asks waits awaits brought more es brings is were by sent quiet = record {
+    quiet = quiet;
+    brought = brought;
+    sent = more;
+    brings = brings;
+    sends = sent_part m t call reply tickets does awaits more by (subst (λ n. IsSentBy t n awaits more) were sent);
+    ordered = is;
+  }

@@ -1,0 +1,13 @@
+pub mod Ways
+pub mod Entries
+pub mod Changed
+pub mod Calls
+pub mod Sent
+pub mod Brought
+pub mod Levels
+pub mod Spans
+pub mod Told
+pub mod Rows
+pub mod BringsAll
+pub mod Asked
+pub mod Trees

@@ -1,0 +1,30 @@
+use Rattle.std.proofs.Common.{[], refl}
+use Rattle.std.proofs.lemmas.Result.{err_from_is_err_and}
+use Rattle.dmatypes.specs.declared.call.Call.TheVariants as calls
+use Rattle.dmatypes.specs.declared.reply.Reply.TheVariants as replies
+use Rattle.quiet.specs.Quiet.{IsSound}
+use Rattle.driven.proofs.Rows.{rows}
+use Rattle.driven.proofs.Told.{refused}
+use Rattle.driven.proofs.Asked.{entry_told, one_for_entry, sends_none}
+use Rattle.driven.proofs.driven.Driven.attach.Goals as goal
+
+pub returns-in_err-attach-clause-effects : goal.returns-in_err-attach-clause-effects
+returns-in_err-attach-clause-effects c =
+    let p = err_from_is_err_and c.from_residual.result c.from_residual.ensures.1 in
+    rw (p.1, p.2, ← c.self.view_is, c.clear.ensures)
+    (refused c.self.inside.state c.attach.new.self (calls.Attach c.args.device c.args.domain) c.in_err-attach.field-0.0 c.in_err-attach.ensures)
+
+pub returns-clause-effects : goal.returns-clause-effects
+returns-clause-effects c =
+    let sound : IsSound c.self.inside.state = record { of_world = c.keeps.ensures.of_world; places = c.keeps.ensures.places } in
+    rw (← c.self.view_is, c.push-2.ensures.items, c.push.ensures.items, c.clear.ensures)
+    (record {
+      quiet = tt;
+      brought = entry_told c.args.device;
+      sent = [];
+      brings = one_for_entry c.self.inside.state c.attach.new.self (calls.Attach c.args.device c.args.domain) (replies.Done) sound c.keeps.ensures.tickets c.in_ok-attach.ensures
+          (λ f k no. no) c.args.device (rows c.self.inside.state c.attach.new.self (calls.Attach c.args.device c.args.domain) (replies.Done) c.in_ok-attach.ensures.becomes);
+      sends = sends_none c.self.inside.state c.attach.new.self (calls.Attach c.args.device c.args.domain) (replies.Done) sound c.keeps.ensures.tickets c.in_ok-attach.ensures
+          (λ f k no. no) tt;
+      ordered = refl;
+    })

@@ -1,0 +1,31 @@
+use Rattle.std.proofs.Common.{false, [], ◌++◌, ◌∙◌, refl, ap}
+use Rattle.std.proofs.lemmas.Result.{err_from_is_err_and}
+use Rattle.dmatypes.specs.declared.call.Call.TheVariants as calls
+use Rattle.dmatypes.specs.declared.reply.Reply.TheVariants as replies
+use Rattle.quiet.specs.Quiet.{IsSound}
+use Rattle.driven.proofs.Rows.{rows}
+use Rattle.driven.proofs.Told.{has_sent, refused}
+use Rattle.driven.proofs.Asked.{asks, nothing}
+use Rattle.driven.proofs.driven.Driven.begin.Goals as goal
+
+pub returns-in_err-number-clause-effects : goal.returns-in_err-number-clause-effects
+returns-in_err-number-clause-effects c =
+    let p = err_from_is_err_and c.from_residual.result c.from_residual.ensures.1 in
+    rw (p.1, p.2, ← c.self.view_is, c.clear.ensures)
+    (refused c.self.inside.state c.begin.new.self (calls.Begin c.args.domain) c.in_err-number.field-0.0 c.in_err-number.ensures)
+
+pub send-requires-clause-sent : goal.send-requires-clause-sent
+send-requires-clause-sent c =
+    rw c.waits-waits.ensures
+    (has_sent c.self.inside.state c.begin.new.self (calls.Begin c.args.domain) (replies.Ticket c.args.domain c.in_ok-number.number) c.keeps.ensures.tickets c.in_ok-number.ensures)
+
+pub returns-clause-effects : goal.returns-clause-effects
+returns-clause-effects c =
+    let sound : IsSound c.self.inside.state = record { of_world = c.keeps.ensures.of_world; places = c.keeps.ensures.places } in
+    let (more, items, sent) = c.send.ensures in
+    rw (← c.self.view_is)
+    (asks c.self.inside.state c.begin.new.self (calls.Begin c.args.domain) (replies.Ticket c.args.domain c.in_ok-number.number) c.keeps.ensures.tickets c.in_ok-number.ensures c.waits-waits.result
+    false [] more c.send.new.effects.items
+    (nothing c.self.inside.state c.begin.new.self (calls.Begin c.args.domain) (replies.Ticket c.args.domain c.in_ok-number.number) sound c.keeps.ensures.tickets c.in_ok-number.ensures
+    (λ f k no. no) (rows c.self.inside.state c.begin.new.self (calls.Begin c.args.domain) (replies.Ticket c.args.domain c.in_ok-number.number) c.in_ok-number.ensures.becomes))
+    (items ∙ ap (λ xs. xs ++ more) c.clear.ensures) c.waits-waits.ensures refl sent tt)

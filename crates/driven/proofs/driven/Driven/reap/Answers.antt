@@ -1,0 +1,37 @@
+use Rattle.std.proofs.Common.{ℕ, [], None, Some, Ok, Err, Option, Result, refl}
+use Rattle.dmatypes.specs.declared.call.Call.TheVariants as calls
+use Rattle.dmatypes.specs.declared.refusal.Refusal.{Refusal}
+use Rattle.dmatypes.specs.declared.reply.Reply.{Reply}
+use Rattle.dmatypes.specs.declared.reply.Reply.TheVariants as replies
+use Rattle.engine.specs.State.{State, reaped_reply}
+use Rattle.engine.specs.Steps.{Does}
+use Rattle.engine.specs.Tickets.{KeepsTickets}
+use Rattle.quiet.specs.Quiet.{IsSound}
+use Rattle.driven.specs.Effects.{AreEffects, IsQuiet}
+use Rattle.driven.proofs.Asked.{nothing, sends_none}
+use Rattle.driven.proofs.Rows.{rows}
+use Rattle.driven.proofs.Told.{refused}
+use Rattle.driven.proofs.driven.Driven.reap.Goals as goal
+
+answered : (m t : State) (d n : ℕ) (reply : Reply) → IsQuiet reply [] → IsSound m → KeepsTickets m
+    → Does m (calls.Reap d n) reply t → AreEffects m (calls.Reap d n) reply t []
+answered m t d n reply quiet sound tickets does = record {
+  quiet = quiet;
+  brought = [];
+  sent = [];
+  brings = nothing m t (calls.Reap d n) reply sound tickets does (λ f k no. no) (rows m t (calls.Reap d n) reply does.becomes);
+  sends = sends_none m t (calls.Reap d n) reply sound tickets does (λ f k no. no) tt;
+  ordered = refl;
+}
+
+asked : (m t : State) (d n : ℕ) (r : Result (Option ℕ) Refusal) → IsSound m → KeepsTickets m
+    → Does m (calls.Reap d n) (reaped_reply r) t → AreEffects m (calls.Reap d n) (reaped_reply r) t []
+asked m t d n (Ok (Some k)) sound tickets does = answered m t d n (replies.Reaped k) tt sound tickets does
+asked m t d n (Ok None) sound tickets does = answered m t d n replies.Pending tt sound tickets does
+asked m t d n (Err r) sound tickets does = refused m t (calls.Reap d n) r does
+
+pub returns-clause-effects : goal.returns-clause-effects
+returns-clause-effects c =
+    let sound : IsSound c.self.inside.state = record { of_world = c.keeps.ensures.of_world; places = c.keeps.ensures.places } in
+    rw (← c.self.view_is, c.clear.ensures)
+    (asked c.self.inside.state c.reap.new.self c.args.domain c.args.number c.reap.result sound c.keeps.ensures.tickets c.reap.ensures)

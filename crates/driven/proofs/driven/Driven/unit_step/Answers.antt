@@ -1,0 +1,22 @@
+use Rattle.std.proofs.Common.{[], refl}
+use Rattle.dmatypes.specs.declared.call.Call.TheVariants as calls
+use Rattle.dmatypes.specs.declared.reply.Reply.TheVariants as replies
+use Rattle.quiet.specs.Quiet.{IsSound}
+use Rattle.driven.proofs.Rows.{rows}
+use Rattle.driven.proofs.Asked.{nothing, sends_none}
+use Rattle.driven.proofs.driven.Driven.unit_step.Goals as goal
+
+pub returns-clause-effects : goal.returns-clause-effects
+returns-clause-effects c =
+    let sound : IsSound c.self.inside.state = record { of_world = c.keeps.ensures.of_world; places = c.keeps.ensures.places } in
+    rw (← c.self.view_is, c.clear.ensures)
+    (record {
+      quiet = tt;
+      brought = [];
+      sent = [];
+      brings = nothing c.self.inside.state c.unit_step.new.self (calls.Unit) (replies.Stepped c.unit_step.result) sound c.keeps.ensures.tickets c.unit_step.ensures
+          (λ f k no. no) (rows c.self.inside.state c.unit_step.new.self (calls.Unit) (replies.Stepped c.unit_step.result) c.unit_step.ensures.becomes);
+      sends = sends_none c.self.inside.state c.unit_step.new.self (calls.Unit) (replies.Stepped c.unit_step.result) sound c.keeps.ensures.tickets c.unit_step.ensures
+          (λ f k no. no) tt;
+      ordered = refl;
+    })

@@ -1,0 +1,110 @@
+-- What a call asks of whoever keeps the memory and the queue that a unit reads.
+use Rattle.std.specs.Prelude.{◌≡◌, ◌≢◌, ◌⊎◌, ℕ, ◌+◌, ◌*◌, ◌<◌, ◌≤◌, List, [], ◌∷◌, ◌++◌, All, Option, None, Some, slice_get, take}
+use Rattle.dmatypes.specs.World.{IsIn}
+use Rattle.dmatypes.specs.declared.call.Call.{Call}
+use Rattle.dmatypes.specs.declared.call.Call.TheVariants as calls
+use Rattle.dmatypes.specs.declared.call.Mode.{Mode}
+use Rattle.dmatypes.specs.declared.call.Mode.TheVariants.{Lazy, Strict}
+use Rattle.dmatypes.specs.declared.reply.Reply.{Reply}
+use Rattle.dmatypes.specs.declared.reply.Reply.TheVariants.{Refused}
+use Rattle.vtdbits.specs.Descriptor.{descriptor_of}
+use Rattle.vtdbits.specs.declared.descriptor.Descriptor.{Descriptor}
+use Rattle.vtdbits.specs.declared.descriptor.Descriptor.TheVariants.{Wait}
+use Rattle.queue.specs.Ring.{submitted_in}
+use Rattle.tables.specs.declared.entries.TheConstants.{TABLE_ENTRIES}
+use Rattle.tables.specs.Pool.{word}
+use Rattle.engine.specs.Domains.{Domain, domain_at}
+use Rattle.engine.specs.Ending.{status_of}
+use Rattle.engine.specs.State.{State}
+use Rattle.driven.specs.declared.effect.Effect.{Effect}
+use Rattle.driven.specs.declared.effect.Effect.TheVariants.{Await, Context, Send, Words}
+
+-- what contracts see: the state, and what the last call asks
+pub record Driven : Type 0 where
+  pub state : State
+  pub effects : List Effect
+
+-- ---- what is brought to memory
+
+-- the effect brings the word at an index of a frame
+abbrev pub Brings : Effect → ℕ → ℕ → Type 0
+Brings (Words frame first count) f k =
+    (frame * TABLE_ENTRIES + first ≤ f * TABLE_ENTRIES + k) × (f * TABLE_ENTRIES + k < frame * TABLE_ENTRIES + first + count)
+Brings effect f k = ⊥
+
+-- one of them does
+abbrev pub IsBrought : List Effect → ℕ → ℕ → Type 0
+IsBrought effects f k = (effect : Effect) × (IsIn effect effects × Brings effect f k)
+
+-- nothing is sent and nothing waited for
+abbrev pub IsForMemory : Effect → Type 0
+IsForMemory (Send low high) = ⊥
+IsForMemory (Await number) = ⊥
+IsForMemory effect = Unit {0}
+
+-- they bring every word of a table frame, and every context entry, that isn't as before
+pub record BringsAll (m t : State) (effects : List Effect) : Type 0 where
+  pub for_memory : All IsForMemory effects
+  pub words : (f k : ℕ) → k < TABLE_ENTRIES → word m.pool.words f k ≢ word t.pool.words f k → IsBrought effects f k
+  pub contexts : (v : ℕ) → slice_get m.iommu.contexts v ≢ slice_get t.iommu.contexts v → IsIn (Context v) effects
+
+-- ---- what is sent
+
+-- nothing was submitted
+pub record SendsNothing (m t : State) (effects : List Effect) : Type 0 where
+  pub none : effects ≡ []
+  pub waits : t.iommu.sent ≡ m.iommu.sent
+  pub submitted : submitted_in t.iommu.ring ≡ submitted_in m.iommu.ring
+
+-- the descriptor and then the wait of the next number were submitted, and nothing else. The ring tells no more than 256 of them
+pub record SendsWith (m t : State) (descriptor : Descriptor) : Type 0 where
+  pub waits : t.iommu.sent ≡ m.iommu.sent + 1
+  pub submitted : submitted_in t.iommu.ring
+      ≡ Wait (status_of t.iommu.sent) ∷ descriptor ∷ take 254 (submitted_in m.iommu.ring)
+
+-- the effect sends the words of this descriptor
+abbrev pub IsSending : Descriptor → Effect → Type 0
+IsSending d (Send low high) = descriptor_of (record { low = low; high = high }) ≡ Some d
+IsSending d effect = ⊥
+
+-- the wait is waited for, but where a flush is begun
+abbrev pub waited : Call → ℕ → List Effect
+waited (calls.Begin domain) number = []
+waited call number = Await number ∷ []
+
+-- nothing, or a descriptor and its wait in this order
+abbrev pub Sends : State → Call → State → List Effect → Type 0
+Sends m call t effects =
+    SendsNothing m t effects
+    ⊎ ((d : Descriptor) × (e w : Effect) × (SendsWith m t d × IsSending d e × IsSending (Wait (status_of t.iommu.sent)) w
+    × (effects ≡ e ∷ w ∷ waited call t.iommu.sent)))
+
+-- ---- in which order
+
+-- A drop, and an unmap in a lazy domain, send before they bring words: what they wait for is why tables are free or used anew. All else
+-- brings words first: an unmap in a strict domain has cleared all before its descriptor
+abbrev pub by_mode : Mode → List Effect → List Effect → List Effect
+by_mode Strict brought sent = brought ++ sent
+by_mode Lazy brought sent = sent ++ brought
+
+abbrev pub in_mode : Option Domain → List Effect → List Effect → List Effect
+in_mode None brought sent = brought ++ sent
+in_mode (Some domain) brought sent = by_mode domain.mode brought sent
+
+abbrev pub in_order : State → Call → List Effect → List Effect → List Effect
+in_order m (calls.Drop domain) brought sent = sent ++ brought
+in_order m (calls.Unmap domain address pages) brought sent = in_mode (domain_at m.domains domain) brought sent
+in_order m call brought sent = brought ++ sent
+
+abbrev pub IsQuiet : Reply → List Effect → Type 0
+IsQuiet (Refused refusal) effects = effects ≡ []
+IsQuiet reply effects = Unit {0}
+
+-- what a call asks that leads from one state to another
+pub record AreEffects (m : State) (call : Call) (reply : Reply) (t : State) (effects : List Effect) : Type 0 where
+  pub quiet : IsQuiet reply effects
+  pub brought : List Effect
+  pub sent : List Effect
+  pub brings : BringsAll m t brought
+  pub sends : Sends m call t sent
+  pub ordered : effects ≡ in_order m call brought sent

@@ -1,0 +1,64 @@
+-- Which words of table frames each call changes, and what it submits.
+use Rattle.std.specs.Prelude.{◌≡◌, ◌≢◌, ◌⊎◌, ℕ, ◌+◌, ◌/◌, ◌<◌, Some}
+use Rattle.vtdbits.specs.declared.descriptor.Descriptor.{Descriptor}
+use Rattle.queue.specs.Ring.{submitted_in}
+use Rattle.dmatypes.specs.Conditions.{total_pages}
+use Rattle.dmatypes.specs.Page.{levels}
+use Rattle.dmatypes.specs.declared.call.Call.{Call}
+use Rattle.dmatypes.specs.declared.call.Call.TheVariants as calls
+use Rattle.dmatypes.specs.declared.page.TheConstants.{PAGE_BYTES}
+use Rattle.dmatypes.specs.declared.reply.Reply.{Reply}
+use Rattle.dmatypes.specs.declared.reply.Reply.TheVariants.{Done, Mapped, Unmapped}
+use Rattle.tables.specs.declared.entries.TheConstants.{TABLE_ENTRIES}
+use Rattle.tables.specs.Pool.{word}
+use Rattle.engine.specs.Domains.{Domain, domain_at}
+use Rattle.engine.specs.State.{State}
+use Rattle.engine.specs.Steps.{Does}
+use Rattle.engine.specs.Tickets.{KeepsTickets}
+use Rattle.quiet.specs.Quiet.{IsSound}
+use Rattle.driven.specs.Effects.{SendsWith}
+use Rattle.driven.specs.Ways.{IsExchanged, IsOnWays}
+
+-- the word lies on the way of one of so many pages of the domain, from a first one on, after the call
+abbrev pub IsOnWaysOf : State → State → ℕ → ℕ → ℕ → ℕ → ℕ → Type 0
+IsOnWaysOf m t domain first pages frame index =
+    (h : Domain) × ((domain_at m.domains domain ≡ Some h)
+    × IsOnWays t.pool.words (levels h.width) h.root first (first + pages) frame index)
+
+-- or in a table of level 1 that came into the domain's tree, or went out of it, on such a way
+abbrev pub IsOfExchanged : State → State → ℕ → ℕ → ℕ → ℕ → Type 0
+IsOfExchanged m t domain first pages frame =
+    (h : Domain) × ((domain_at m.domains domain ≡ Some h)
+    × IsExchanged m.pool.words t.pool.words (levels h.width) h.root first (first + pages) frame)
+
+-- A map may change the words on the ways of its pages. An unmap may change these, and all words of the tables of level 1 that it cuts or
+-- splits a leaf into. A drop may change any word. No other call changes one, nor one that is refused
+abbrev pub MayChange : State → Call → Reply → State → ℕ → ℕ → Type 0
+MayChange m (calls.Map domain frame pages order rights) (Mapped address) t f k =
+    IsOnWaysOf m t domain (address / PAGE_BYTES) pages f k
+MayChange m (calls.MapList domain order rights segments) (Mapped address) t f k =
+    IsOnWaysOf m t domain (address / PAGE_BYTES) (total_pages segments.items) f k
+MayChange m (calls.Unmap domain address pages) (Unmapped released) t f k =
+    IsOnWaysOf m t domain (address / PAGE_BYTES) pages f k ⊎ IsOfExchanged m t domain (address / PAGE_BYTES) pages f
+MayChange m (calls.Drop domain) Done t f k = Unit {0}
+MayChange m call reply t f k = ⊥
+
+-- no other word differs after a call
+abbrev pub CallsChangeTheseWords : Type 0
+CallsChangeTheseWords =
+    (m t : State) (call : Call) (reply : Reply) (frame index : ℕ)
+    → IsSound m
+    → Does m call reply t
+    → index < TABLE_ENTRIES
+    → word m.pool.words frame index ≢ word t.pool.words frame index
+    → MayChange m call reply t frame index
+
+-- a call submits nothing, or one descriptor and then the wait of the next number. What the ring tells of before stands behind them, as far
+-- as it has room. Each state that a caller has keeps its tickets (`IsWhole`)
+abbrev pub CallsSubmitAtMostOne : Type 0
+CallsSubmitAtMostOne =
+    (m t : State) (call : Call) (reply : Reply)
+    → KeepsTickets m
+    → Does m call reply t
+    → ((t.iommu.sent ≡ m.iommu.sent) × (submitted_in t.iommu.ring ≡ submitted_in m.iommu.ring))
+    ⊎ ((d : Descriptor) × SendsWith m t d)

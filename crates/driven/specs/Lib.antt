@@ -1,0 +1,4 @@
+pub mod Ways
+pub mod Effects
+pub mod Laws
+pub mod Telling

@@ -1,0 +1,265 @@
+//! A state that tells what each call asks.
+
+ghost use Rattle.std.specs.Prelude.{◌≡◌, ◌<◌, ◌≤◌, [], IfOk};
+ghost use Rattle.dmatypes.specs.Conditions.{total_pages};
+ghost use Rattle.dmatypes.specs.declared.call.Call.TheVariants as calls;
+ghost use Rattle.dmatypes.specs.declared.page.TheConstants.{MOST_PAGES};
+ghost use Rattle.dmatypes.specs.declared.limits.TheConstants.{CALLS_END, LEAST_TABLE_FRAMES, MOST_TABLE_FRAMES};
+ghost use Rattle.dmatypes.specs.declared.reply.Reply.TheVariants.{Stepped};
+ghost use Rattle.engine.specs.State.{IsNew, begun_reply, done_reply, flushed_reply, made_reply, mapped_reply, reaped_reply, unmapped_reply};
+ghost use Rattle.engine.specs.Steps.{Does};
+ghost use Rattle.driven.specs.Effects.{AreEffects};
+
+use crate::effect::Effect;
+use crate::telling::{Effects, bring_frames, bring_unmapped, bring_ways, send, tables_of};
+use arrayvec::ArrayVec;
+use dmatypes::{MOST_SEGMENTS, Mode, PAGE_BYTES, PageRange, Progress, Refusal, Segment, Width};
+use engine::State;
+use std::alloc::{AllocError, Global};
+use std::marker::Model;
+
+/// A state whose tables and queue a unit reads that isn't its own, and what the last call asks of whoever brings them there (own). Each
+/// call does what the state's call of the same name does, and takes no memory.
+#[derive(Drop)]
+pub struct Driven {
+    state: State,
+    effects: Effects,
+}
+
+impl Model for Driven {
+    ghost use Rattle.driven.specs.Effects.{Driven};
+
+    ghost Value = { Driven };
+
+    ghost view = { λ d. record { state = d.state; effects = d.effects.items } };
+}
+
+impl Driven {
+    /// A new state, with Caching Mode or without it, that asks nothing: all words are 0, and there is no context. Fails where memory is
+    /// lacking.
+    pub fn new(alloc: Global, frames: u64, caching: bool) -> Result<Driven, AllocError>
+        requires some { LEAST_TABLE_FRAMES ≤ frames }
+        requires few { frames ≤ MOST_TABLE_FRAMES }
+        ensures new { IfOk result (λ d. IsNew frames caching d.state) }
+        ensures quiet { IfOk result (λ d. d.effects ≡ []) }
+    {
+        Ok(Driven {
+            state: State::with_caching(alloc, frames, caching)?,
+            effects: Effects::new(),
+        })
+    }
+
+    /// The state, with its readers of words, contexts and descriptors.
+    pub fn state(&self) -> &State
+        ensures { result.now ≡ self.now.state }
+    {
+        &self.state
+    }
+
+    /// What the last call asks, in order.
+    pub fn effects(&self) -> &[Effect]
+        ensures { result.now ≡ self.now.effects }
+    {
+        self.effects.as_slice()
+    }
+
+    /// Makes a domain, as `State::domain` does.
+    pub fn domain(&mut self, mode: Mode, width: Width) -> Result<u64, Refusal>
+        requires { self.old.state.calls < CALLS_END }
+        ensures does { Does self.old.state (calls.Domain mode width) (made_reply result) self.new.state }
+        ensures effects { AreEffects self.old.state (calls.Domain mode width) (made_reply result) self.new.state self.new.effects }
+    {
+        self.effects.clear();
+        self.state.keeps();
+        self.state.domain(mode, width)
+    }
+
+    /// Detaches a device, as `State::detach` does.
+    pub fn detach(&mut self, device: u64) -> Result<(), Refusal>
+        requires { self.old.state.calls < CALLS_END }
+        ensures does { Does self.old.state (calls.Detach device) (done_reply result) self.new.state }
+        ensures effects { AreEffects self.old.state (calls.Detach device) (done_reply result) self.new.state self.new.effects }
+    {
+        self.effects.clear();
+        self.state.keeps();
+        let waits = self.state.waits();
+        self.state.detach(device)?;
+        self.effects.push(Effect::Context { device });
+        self.effects.push(Effect::Barrier);
+        send(&mut self.effects, &self.state, waits, true);
+        Ok(())
+    }
+
+    /// Releases a domain's records, as `State::flush` does.
+    pub fn flush(&mut self, domain: u64) -> Result<u64, Refusal>
+        requires { self.old.state.calls < CALLS_END }
+        ensures does { Does self.old.state (calls.Flush domain) (flushed_reply result) self.new.state }
+        ensures effects { AreEffects self.old.state (calls.Flush domain) (flushed_reply result) self.new.state self.new.effects }
+    {
+        self.effects.clear();
+        self.state.keeps();
+        let waits = self.state.waits();
+        let released = self.state.flush(domain)?;
+        send(&mut self.effects, &self.state, waits, true);
+        Ok(released)
+    }
+
+    /// Attaches a device, as `State::attach` does.
+    pub fn attach(&mut self, device: u64, domain: u64) -> Result<(), Refusal>
+        requires { self.old.state.calls < CALLS_END }
+        ensures does { Does self.old.state (calls.Attach device domain) (done_reply result) self.new.state }
+        ensures effects { AreEffects self.old.state (calls.Attach device domain) (done_reply result) self.new.state self.new.effects }
+    {
+        self.effects.clear();
+        self.state.keeps();
+        self.state.attach(device, domain)?;
+        self.effects.push(Effect::Context { device });
+        self.effects.push(Effect::Barrier);
+        Ok(())
+    }
+
+    /// Begins a flush, as `State::begin` does: nothing is waited for.
+    pub fn begin(&mut self, domain: u64) -> Result<u64, Refusal>
+        requires { self.old.state.calls < CALLS_END }
+        ensures does { Does self.old.state (calls.Begin domain) (begun_reply domain result) self.new.state }
+        ensures effects { AreEffects self.old.state (calls.Begin domain) (begun_reply domain result) self.new.state self.new.effects }
+    {
+        self.effects.clear();
+        self.state.keeps();
+        let waits = self.state.waits();
+        let number = self.state.begin(domain)?;
+        send(&mut self.effects, &self.state, waits, false);
+        Ok(number)
+    }
+
+    /// Ends a begun flush, as `State::reap` does.
+    pub fn reap(&mut self, domain: u64, number: u64) -> Result<Option<u64>, Refusal>
+        requires { self.old.state.calls < CALLS_END }
+        ensures does { Does self.old.state (calls.Reap domain number) (reaped_reply result) self.new.state }
+        ensures effects { AreEffects self.old.state (calls.Reap domain number) (reaped_reply result) self.new.state self.new.effects }
+    {
+        self.effects.clear();
+        self.state.keeps();
+        self.state.reap(domain, number)
+    }
+
+    /// Does the oldest descriptor that waits, as `State::unit_step` does: once the unit has done it.
+    pub fn unit_step(&mut self) -> Progress
+        requires { self.old.state.calls < CALLS_END }
+        ensures does { Does self.old.state calls.Unit (Stepped result) self.new.state }
+        ensures effects { AreEffects self.old.state calls.Unit (Stepped result) self.new.state self.new.effects }
+    {
+        self.effects.clear();
+        self.state.keeps();
+        self.state.unit_step()
+    }
+
+    /// Ends a domain, as `State::drop_domain` does. All table frames are brought once its descriptor is done.
+    pub fn drop_domain(&mut self, domain: u64) -> Result<(), Refusal>
+        requires { self.old.state.calls < CALLS_END }
+        ensures does { Does self.old.state (calls.Drop domain) (done_reply result) self.new.state }
+        ensures effects { AreEffects self.old.state (calls.Drop domain) (done_reply result) self.new.state self.new.effects }
+    {
+        self.effects.clear();
+        self.state.keeps();
+        let waits = self.state.waits();
+        self.state.drop_domain(domain)?;
+        send(&mut self.effects, &self.state, waits, true);
+        bring_frames(&mut self.effects, &self.state);
+        Ok(())
+    }
+
+    /// Maps pages, as `State::map` does.
+    pub fn map(
+        &mut self,
+        domain: u64,
+        frame: u64,
+        pages: u64,
+        order: u64,
+        rights: u64,
+    ) -> Result<u64, Refusal>
+        requires { self.old.state.calls < CALLS_END }
+        ensures does { Does self.old.state (calls.Map domain frame pages order rights) (mapped_reply result) self.new.state }
+        ensures effects { AreEffects self.old.state (calls.Map domain frame pages order rights) (mapped_reply result)
+            self.new.state self.new.effects }
+    {
+        self.effects.clear();
+        self.state.keeps();
+        let waits = self.state.waits();
+        let address = self.state.map(domain, frame, pages, order, rights)?;
+        bring_ways(
+            &mut self.effects,
+            &self.state,
+            domain,
+            address / PAGE_BYTES,
+            pages,
+        );
+        send(&mut self.effects, &self.state, waits, true);
+        Ok(address)
+    }
+
+    /// Maps the pages of segments, as `State::map_list` does.
+    pub fn map_list(
+        &mut self,
+        domain: u64,
+        order: u64,
+        rights: u64,
+        segments: &ArrayVec<Segment, MOST_SEGMENTS>,
+    ) -> Result<u64, Refusal>
+        requires { self.old.state.calls < CALLS_END }
+        ensures does { Does self.old.state (calls.MapList domain order rights segments.now) (mapped_reply result) self.new.state }
+        ensures effects { AreEffects self.old.state (calls.MapList domain order rights segments.now) (mapped_reply result)
+            self.new.state self.new.effects }
+    {
+        self.effects.clear();
+        self.state.keeps();
+        let waits = self.state.waits();
+        let address = self.state.map_list(domain, order, rights, segments)?;
+        let pages = pages_of(segments.as_slice());
+        bring_ways(
+            &mut self.effects,
+            &self.state,
+            domain,
+            address / PAGE_BYTES,
+            pages,
+        );
+        send(&mut self.effects, &self.state, waits, true);
+        Ok(address)
+    }
+
+    /// Ends pages, as `State::unmap` does. In a strict domain all words come before the descriptor; where the list of a lazy one was full,
+    /// its flush comes first.
+    pub fn unmap(&mut self, domain: u64, address: u64, pages: u64) -> Result<u64, Refusal>
+        requires { self.old.state.calls < CALLS_END }
+        ensures does { Does self.old.state (calls.Unmap domain address pages) (unmapped_reply result) self.new.state }
+        ensures effects { AreEffects self.old.state (calls.Unmap domain address pages) (unmapped_reply result)
+            self.new.state self.new.effects }
+    {
+        self.effects.clear();
+        self.state.keeps();
+        let Some(range) = PageRange::new(address / PAGE_BYTES, pages) else {
+            return self.state.unmap(domain, address, pages);
+        };
+        let first = range.first();
+        let last = first + range.pages() - 1;
+        let waits = self.state.waits();
+        let before = tables_of(&self.state, domain, first, last);
+        let released = self.state.unmap(domain, address, pages)?;
+        if released > 0 {
+            send(&mut self.effects, &self.state, waits, true);
+            bring_unmapped(&mut self.effects, &self.state, domain, first, last, &before);
+        } else {
+            bring_unmapped(&mut self.effects, &self.state, domain, first, last, &before);
+            send(&mut self.effects, &self.state, waits, true);
+        }
+        Ok(released)
+    }
+}
+
+// How many pages the segments have together.
+fn pages_of(segments: &[Segment]) -> u64
+    requires { total_pages segments.now ≤ MOST_PAGES }
+    ensures { result ≡ total_pages segments.now }
+{
+    segments.iter().map(|segment| segment.pages).sum()
+}
