@@ -6,6 +6,8 @@ mod driven;
 mod effect;
 pub mod laws;
 mod telling;
+#[cfg(test)]
+mod tests;
 
 pub use driven::Driven;
 pub use effect::Effect;

@@ -1,0 +1,70 @@
+//! What calls ask, effect by effect.
+
+use crate::{Driven, Effect};
+use dmatypes::{Frame, Mode, Width};
+use std::test::Fail;
+
+// The words of a descriptor and of the first wait.
+const PAGE_1_OF_DOMAIN_1: Effect = Effect::Send {
+    low: 0x1_00f2,
+    high: 0x1040,
+};
+
+const FIRST_WAIT: Effect = Effect::Send {
+    low: 0x1_0000_0025,
+    high: 1 << 36,
+};
+
+// One word of a table frame.
+fn word(frame: Frame, first: u64) -> Effect {
+    Effect::Words {
+        frame,
+        first,
+        count: 1,
+    }
+}
+
+#[test]
+fn effects_of_a_page(rt: HostRuntime) -> Result<(), Fail> {
+    let mut driven = Driven::new(rt.alloc(), 16, false)?;
+    assert_eq!(rt; driven.domain(Mode::Strict, Width::W39), Ok(1));
+    assert!(rt; driven.effects().is_empty());
+    assert_eq!(rt; driven.attach(3, 1), Ok(()));
+    assert_eq!(rt;
+        driven.effects(),
+        [Effect::Context { device: 3 }, Effect::Barrier].as_slice()
+    );
+    assert_eq!(rt; driven.map(1, 0x100, 1, 0, 3), Ok(0x1000));
+    let lowest = driven.state().table_at(1, 1, 1).expect(&rt, "a table");
+    let middle = driven.state().table_at(1, 1, 2).expect(&rt, "a table");
+    let root = driven.state().table_at(1, 1, 3).expect(&rt, "a table");
+    assert_eq!(rt;
+        driven.effects(),
+        [
+            word(lowest, 1),
+            Effect::Barrier,
+            word(middle, 0),
+            word(root, 0),
+            Effect::Barrier
+        ]
+        .as_slice()
+    );
+    assert_eq!(rt; driven.unmap(1, 0x1000, 1), Ok(0));
+    assert_eq!(rt;
+        driven.effects(),
+        [
+            word(lowest, 1),
+            Effect::Barrier,
+            word(middle, 0),
+            word(root, 0),
+            Effect::Barrier,
+            PAGE_1_OF_DOMAIN_1,
+            FIRST_WAIT,
+            Effect::Await(1),
+        ]
+        .as_slice()
+    );
+    assert!(rt; driven.unmap(1, 0x1000, 1).is_err());
+    assert!(rt; driven.effects().is_empty());
+    Ok(())
+}
