@@ -16,6 +16,7 @@ use Rattle.driven.specs.Effects.{AreEffects, BringsAll, IsForMemory, IsQuiet, Se
 use Rattle.driven.specs.Laws.{MayChange}
 use Rattle.driven.specs.Telling.{IsSentBy, with_wait}
 use Rattle.driven.proofs.Brought.{none_for_memory, one_for_memory}
+use Rattle.driven.proofs.Fills.{none_fill}
 use Rattle.driven.proofs.Sent.{IsSilent, silent}
 use Rattle.driven.proofs.Told.{one_entry, sent_part, whole_row, words_stay}
 
@@ -35,6 +36,7 @@ module _ (m t : State) (call : Call) (reply : Reply) (sound : IsSound m) (ticket
     for_memory = none_for_memory;
     words = words_stay m t call reply tickets does sound none [];
     contexts = whole_row m t row [];
+    fills = none_fill m t call reply sound does none [];
   }
 
   -- the entry of one device was, at most
@@ -48,6 +50,7 @@ module _ (m t : State) (call : Call) (reply : Reply) (sound : IsSound m) (ticket
       | inl same ↦ whole_row m t same es
       | inr other ↦ one_entry m t device other.0 other.1 es told
     ];
+    fills = none_fill m t call reply sound does none es;
   }
 
   pub one_for_entry : (device : ℕ) → (t.iommu.contexts ≡ m.iommu.contexts)

@@ -26,7 +26,7 @@ few_levels W48 = omega arith
 
 -- a table on a page's way down the domain's tree, as it is found in the state after the call
 module _ (t : State) (d : ℕ) (h h' : Domain) (then : domain_at t.domains d ≡ Some h') (root : h'.root ≡ h.root) (width : h'.width ≡ h.width) where
-  there : (p w : ℕ) → table_at t.pool (domain_at t.domains d) p w ≡ table_from (memory t.pool.words) (levels h.width) h.root p w
+  pub there : (p w : ℕ) → table_at t.pool (domain_at t.domains d) p w ≡ table_from (memory t.pool.words) (levels h.width) h.root p w
   there p w =
       ap (λ o. table_at t.pool o p w) then
       ∙ ap (λ n. table_from (memory t.pool.words) (levels n) h'.root p w) width
@@ -48,7 +48,7 @@ module _ (t : State) (d : ℕ) (h h' : Domain) (then : domain_at t.domains d ≡
       (were : AreTablesOf m.pool (domain_at m.domains d) first last before) (es : List Effect)
       (brings : BringsUnmapped t.pool (domain_at t.domains d) first last before es) where
     -- the table that was on a page's way
-    was : (p : ℕ) → first ≤ p → p ≤ last → slice_get before (p / SPAN_PAGES - first / SPAN_PAGES)
+    pub was : (p : ℕ) → first ≤ p → p ≤ last → slice_get before (p / SPAN_PAGES - first / SPAN_PAGES)
         ≡ Some (table_from (memory m.pool.words) (levels h.width) h.root p 1)
     was p low high =
         let k : ℕ = p / SPAN_PAGES - first / SPAN_PAGES in

@@ -1,5 +1,5 @@
 -- What lists of effects bring.
-use Rattle.std.proofs.Common.{◌≡◌, ◌≢◌, inl, inr, ⊎_elim, ℕ, ◌+◌, ◌-◌, ◌*◌, ◌%◌, ◌<◌, ◌≤◌, List, [], ◌∷◌, ◌++◌, Option, Some, None, refl, sym}
+use Rattle.std.proofs.Common.{◌≡◌, ◌≢◌, ◌⊎◌, inl, inr, ⊎_elim, ℕ, ◌+◌, ◌-◌, ◌*◌, ◌%◌, ◌<◌, ◌≤◌, List, [], ◌∷◌, ◌++◌, Option, Some, None, refl, sym}
 use Rattle.std.proofs.Common.{ap, subst, ◌∙◌, arith, Bool, true, false}
 use Rattle.std.specs.Prelude.{not}
 use Rattle.std.specs.Option.{option_eq}
@@ -7,6 +7,7 @@ use Rattle.std.specs.List.{All}
 use Rattle.std.proofs.lemmas.Bool.{cases_lt}
 use Rattle.std.proofs.lemmas.List.Elements.{All-append, All-push}
 use Rattle.std.proofs.lemmas.Option.{none-some, same_Some}
+use Rattle.dmatypes.specs.World.{IsIn}
 use Rattle.tables.specs.declared.entries.TheConstants.{TABLE_ENTRIES}
 use Rattle.tables.specs.Pool.{Pool}
 use Rattle.tables.specs.Tree.{index_in}
@@ -23,6 +24,26 @@ brought_left xs ys f k (e, (inside, brings)) = (e, (in_left e xs ys inside, brin
 
 pub brought_right : (xs ys : List Effect) (f k : ℕ) → IsBrought ys f k → IsBrought (xs ++ ys) f k
 brought_right xs ys f k (e, (inside, brings)) = (e, (in_right e xs ys inside, brings))
+
+-- what a joined list brings, one part or the other does
+pub brought_either : (xs ys : List Effect) (f k : ℕ) → IsBrought (xs ++ ys) f k → IsBrought xs f k ⊎ IsBrought ys f k
+brought_either xs ys f k (e, (inside, brings)) =
+    elim (in_part e xs ys inside) [
+      | inl left ↦ inl (e, (left, brings))
+      | inr right ↦ inr (e, (right, brings))
+    ]
+  where
+    in_part : (x : Effect) (us vs : List Effect) → IsIn x (us ++ vs) → IsIn x us ⊎ IsIn x vs
+    in_part x [] vs h = inr h
+    in_part x (u ∷ us) vs (inl same) = inl (inl same)
+    in_part x (u ∷ us) vs (inr rest) = elim (in_part x us vs rest) [ inl l ↦ inl (inr l) | inr r ↦ inr r ]
+
+pub brought_by : (e : Effect) (f k : ℕ) → IsBrought (e ∷ []) f k → Brings e f k
+brought_by e f k (x, (inl same, brings)) = subst (λ y. Brings y f k) same brings
+brought_by e f k (x, (inr none, brings)) = absurd none
+
+pub none_brought : (f k : ℕ) → IsBrought [] f k → ⊥
+none_brought f k (e, (inside, brings)) = inside
 
 pub brought_one : (e : Effect) (f k : ℕ) → Brings e f k → IsBrought (e ∷ []) f k
 brought_one e f k brings = (e, (inl refl, brings))
@@ -43,6 +64,35 @@ whole_table table frame e is part = record {
       let same : k % TABLE_ENTRIES ≡ k = omega (arith, inside) in
       brought_one e f k
       (subst (λ n. Brings e n k) own (subst (λ n. Brings e frame n) same (part.1 k (omega arith) (omega (arith, inside)))));
+  only = λ f k inside there. is ∙ ap (λ n. Some n) (part.2 f k inside (brought_by e f k there));
+}
+
+-- no table
+pub no_table : (table : Option ℕ) → table ≡ None → BringsWhole table []
+no_table table none = record {
+  for_memory = none_for_memory;
+  brings = λ f k at inside. absurd (none-some f (sym none ∙ at));
+  only = λ f k inside there. absurd (none_brought f k there);
+}
+
+-- of a table that stays the words of the pages, and of none nothing
+pub stays : (was now : Option ℕ) (from to frame : ℕ) (e : Effect) → was ≡ now → now ≡ Some frame → BringsPart frame from to e
+    → BringsTable was now from to (e ∷ [])
+stays was now from to frame e same is part = record {
+  for_memory = one_for_memory e part.0;
+  stays = λ f n w there low high.
+      subst (λ g. IsBrought (e ∷ []) g (n % TABLE_ENTRIES)) (same_Some frame f (sym is ∙ there))
+      (brought_one e frame (n % TABLE_ENTRIES) (part.1 n low high));
+  changes = λ f k ne h inside. absurd (ne same);
+  only = λ f k inside there. inr (is ∙ ap (λ n. Some n) (part.2 f k inside (brought_by e f k there)));
+}
+
+pub nothing_there : (was now : Option ℕ) (from to : ℕ) → was ≡ now → now ≡ None → BringsTable was now from to []
+nothing_there was now from to same none = record {
+  for_memory = none_for_memory;
+  stays = λ f n w there low high. absurd (none-some f (sym none ∙ there));
+  changes = λ f k ne h inside. absurd (ne same);
+  only = λ f k inside there. absurd (none_brought f k there);
 }
 
 -- of a table that went and of the one that came
@@ -56,6 +106,11 @@ exchanged was now from to xs ys other before after = record {
         | inl w ↦ brought_left xs ys f k (before.brings f k w inside)
         | inr n ↦ brought_right xs ys f k (after.brings f k n inside)
       ];
+  only = λ f k inside there.
+      elim (brought_either xs ys f k there) [
+        | inl x ↦ inl (before.only f k inside x)
+        | inr y ↦ inr (after.only f k inside y)
+      ];
 }
 
 -- the levels above the lowest, between two barriers
@@ -66,6 +121,8 @@ module _ (pool : Pool) (h : Option Domain) (first last : ℕ) (x y z : List Effe
   pub upper : BringsLevel pool h 2 first last x → BringsLevel pool h 3 first last y → BringsLevel pool h 4 first last z
       → BringsUpper pool h first last (Between ++ Barrier ∷ [])
   upper two three four = record {
+    rest = ((x ++ y) ++ z) ++ Barrier ∷ [];
+    begins = refl;
     for_memory =
         All-append IsForMemory Between (Barrier ∷ [])
         (All-append IsForMemory (((Barrier ∷ []) ++ x) ++ y) z
@@ -122,6 +179,10 @@ ways pool h from last to x y end lowest above = record {
 pub unmapped : (pool : Pool) (h : Option Domain) (first last : ℕ) (before : List (Option ℕ)) (x y : List Effect)
     → BringsLowest pool h first last before x → BringsUpper pool h first last y → BringsUnmapped pool h first last before (x ++ y)
 unmapped pool h first last before x y lowest above = record {
+  lowest = x;
+  rest = above.rest;
+  parted = ap (λ es. x ++ es) above.begins;
+  brings_lowest = lowest;
   for_memory = All-append IsForMemory x y lowest.for_memory above.for_memory;
   upper = λ level p f low high a b at. brought_right x y f (index_in (level - 1) p) (above.brings level p f low high a b at);
   spans = λ p was a b at.

@@ -26,7 +26,23 @@ use Rattle.quiet.proofs.Calls.{not_bad_list, not_bad_map, some_pages, unmap_page
 use Rattle.quiet.specs.Quiet.{IsSound}
 use Rattle.driven.specs.Laws.{CallsChangeTheseWords, IsOfExchanged, IsOnWaysOf, MayChange}
 use Rattle.driven.specs.Ways.{IsExchanged, IsOnWays}
-use Rattle.driven.proofs.Changed.{map_changes, unmap_changes}
+use Rattle.driven.proofs.Changed.{Sound, map_changes, unmap_changes}
+use Rattle.driven.proofs.Cuts.{Cuts, cuts}
+
+-- the tree of a domain that a map was made in
+pub map_sound : (m t : State) → IsSound m → (e : ℕ) (h : Domain) → domain_at m.domains e ≡ Some h → (at : Placement) (new : Domain)
+    → 1 ≤ total_pages at.segments → Places m.pool h at t.pool new
+    → Sound m.pool t.pool (levels h.width) h.root at.first (at.first + total_pages at.segments) []
+map_sound m t sound e h here at new some places =
+    let v = both_there m.pool.words (domain_at m.domains e) (sound.of_world.0.domains e) h (sound.of_world.1.domains e) here in
+    record {
+      zeroed = sound.of_world.1.frames.zeroed;
+      zeroed' = places.is_pool.zeroed;
+      before = v.2.spelled;
+      after = places.spelled v.2.spelled;
+      moves = places.moves;
+      some = omega (arith, some);
+    }
 
 module _ (m t : State) (f k : ℕ) (sound : IsSound m) (inside : k < TABLE_ENTRIES)
     (differs : word m.pool.words f k ≢ word t.pool.words f k) where
@@ -38,10 +54,6 @@ module _ (m t : State) (f k : ℕ) (sound : IsSound m) (inside : k < TABLE_ENTRI
   quiet same = quiet_words (ap (λ (p : Pool). p.words) same)
 
   module _ (e : ℕ) (h : Domain) (here : domain_at m.domains e ≡ Some h) where
-    spelled : AreSpelled m.pool.words (levels h.width) h.root
-    spelled =
-        (both_there m.pool.words (domain_at m.domains e) (sound.of_world.0.domains e) h (sound.of_world.1.domains e) here).2.spelled
-
     mapped : (at : Placement) (new : Domain) → 1 ≤ total_pages at.segments → Places m.pool h at t.pool new
         → IsOnWaysOf m t e at.first (total_pages at.segments) f k
     mapped at new some places = (
@@ -49,79 +61,30 @@ module _ (m t : State) (f k : ℕ) (sound : IsSound m) (inside : k < TABLE_ENTRI
       (
         here,
         map_changes m.pool t.pool (levels h.width) h.root at.first (at.first + total_pages at.segments) _
-            (record {
-              zeroed = sound.of_world.1.frames.zeroed;
-              zeroed' = places.is_pool.zeroed;
-              before = spelled;
-              after = places.spelled spelled;
-              moves = places.moves;
-              some = omega (arith, some);
-            }) places.maps f k inside differs,
+            (map_sound m t sound e h here at new some places) places.maps f k inside differs,
       ),
     )
 
     abbrev Unmapped_there : Range → Type 0
     Unmapped_there range = IsOnWaysOf m t e range.first range.pages f k ⊎ IsOfExchanged m t e range.first range.pages f
 
-    -- the pool and the domain when the tree loses the range
-    cut_tree : (range : Range) → 1 ≤ range.pages → (p p' : Pool) (x b : Domain) (r : Record) → p.words ≡ m.pool.words
-        → p'.words ≡ t.pool.words → x.width ≡ h.width → x.root ≡ h.root → AreFreeZeroed p → r.range ≡ range
-        → RetiresAndUnmaps p x r p' b → Unmapped_there range
-    cut_tree range some p p' x b r was is wide top zeroed pages retires =
-        subst (λ y. Unmapped_there y) pages
-        (elim (unmap_changes p p' (levels x.width) x.root r.range.first (r.range.first + r.range.pages) r.cut.frames
-        (record {
-          zeroed = zeroed;
-          zeroed' = retires.is_pool.zeroed;
-          before = before;
-          after = retires.spelled before;
-          moves = retires.moves;
-          some = let more : 1 ≤ r.range.pages = subst (λ (y : Range). 1 ≤ y.pages) (sym pages) some in omega (arith, more);
-        }) retires.unmaps f k inside
-        (λ same. differs (ap (λ ws. word ws f k) (sym was) ∙ same ∙ ap (λ ws. word ws f k) is))) [
-          | inl on ↦ inl (h, (here, in_place on))
-          | inr out ↦ inr (h, (here, exchanged out))
-        ])
-      where
-        before : AreSpelled p.words (levels x.width) x.root
-        before =
-            subst (λ ws. AreSpelled ws (levels x.width) x.root) (sym was)
-            (subst (λ n. AreSpelled m.pool.words (levels x.width) n) (sym top)
-            (subst (λ n. AreSpelled m.pool.words (levels n) h.root) (sym wide) spelled))
-
-        in_place : IsOnWays p'.words (levels x.width) x.root r.range.first (r.range.first + r.range.pages) f k
-            → IsOnWays t.pool.words (levels h.width) h.root r.range.first (r.range.first + r.range.pages) f k
-        in_place on =
-            subst (λ n. IsOnWays t.pool.words (levels h.width) n r.range.first (r.range.first + r.range.pages) f k) top
-            (subst (λ n. IsOnWays t.pool.words (levels n) x.root r.range.first (r.range.first + r.range.pages) f k) wide
-            (subst (λ ws. IsOnWays ws (levels x.width) x.root r.range.first (r.range.first + r.range.pages) f k) is on))
-
-        exchanged : IsExchanged p.words p'.words (levels x.width) x.root r.range.first (r.range.first + r.range.pages) f
-            → IsExchanged m.pool.words t.pool.words (levels h.width) h.root r.range.first (r.range.first + r.range.pages) f
-        exchanged out =
-            subst (λ n. IsExchanged m.pool.words t.pool.words (levels h.width) n r.range.first (r.range.first + r.range.pages) f) top
-            (subst (λ n. IsExchanged m.pool.words t.pool.words (levels n) x.root r.range.first (r.range.first + r.range.pages) f) wide
-            (subst (λ ws. IsExchanged ws t.pool.words (levels x.width) x.root r.range.first (r.range.first + r.range.pages) f) was
-            (subst (λ ws. IsExchanged p.words ws (levels x.width) x.root r.range.first (r.range.first + r.range.pages) f) is out)))
-
-    unmapped : (range : Range) (released : ℕ) (new : Domain) → 1 ≤ range.pages → (mode : Mode)
-        → ByMode mode ((released ≡ 0) × UnmapsStrictly (operands_in m h) e range (operands_in t new))
-        (PutsOff (operands_in m h) e range released (operands_in t new)) → Unmapped_there range
-    unmapped range released new some Strict does =
-        let u = does.1 in
-        cut_tree range some m.pool u.pool_between h u.between u.retired refl (sym u.releases.words) refl refl
-        sound.of_world.1.frames.zeroed u.of_range u.retires
-    unmapped range released new some Lazy does = by_room does.roomy does.room does.retires
-      where
-        by_room : (roomy : Operands) → MakesRoom (operands_in m h) e released roomy
-            → RetiresAndUnmaps roomy.pool roomy.domain does.retired t.pool does.between → Unmapped_there range
-        by_room roomy (inl has) retires =
-            cut_tree range some m.pool t.pool h does.between does.retired refl refl refl refl sound.of_world.1.frames.zeroed does.of_range
-            (subst (λ (y : Operands). RetiresAndUnmaps y.pool y.domain does.retired t.pool does.between) has.same retires)
-        by_room roomy (inr empties) retires =
-            let z = empties.flushes in
-            cut_tree range some roomy.pool t.pool roomy.domain does.between does.retired z.releases.words refl
-            (ap (λ (y : Domain). y.width) z.same) (ap (λ (y : Domain). y.root) z.same) z.releases.zeroed does.of_range retires
+    unmapped : (range : Range) → Cuts m t h range → Unmapped_there range
+    unmapped range c =
+        elim (unmap_changes c.old c.new (levels h.width) h.root range.first (range.first + range.pages) c.cut c.sound c.unmaps f k inside
+        (λ same. differs (ap (λ ws. word ws f k) (sym c.was) ∙ same ∙ ap (λ ws. word ws f k) c.is))) [
+          | inl on ↦ inl (
+            h,
+            (here, subst (λ ws. IsOnWays ws (levels h.width) h.root range.first (range.first + range.pages) f k) c.is on),
+          )
+          | inr out ↦ inr (
+            h,
+            (
+              here,
+              subst (λ ws. IsExchanged m.pool.words ws (levels h.width) h.root range.first (range.first + range.pages) f) c.is
+                  (subst (λ ws. IsExchanged ws c.new.words (levels h.width) h.root range.first (range.first + range.pages) f) c.was out),
+            ),
+          )
+        ]
 
   changed : (call : Call) (reply : Reply) → Does m call reply t → Becomes m call reply t → MayChange m call reply t f k
   unfolding Becomes
@@ -149,7 +112,8 @@ module _ (m t : State) (f k : ℕ) (sound : IsSound m) (inside : k < TABLE_ENTRI
   changed (calls.Flush e) (Flushed released) does (h, new, here, flushes, is) = quiet_words flushes.releases.words
   changed (calls.Flush e) _ does is = quiet (ap (λ (x : State). x.pool) is)
   changed (calls.Unmap e address pages) (Unmapped released) does (h, new, here, ends, is) =
-      unmapped e h here (range_at address pages) released new (unmap_pages m t e address pages released h sound here does) h.mode ends
+      unmapped e h here (range_at address pages)
+      (cuts m t sound e h here (range_at address pages) (unmap_pages m t e address pages released h sound here does) released new h.mode ends)
   changed (calls.Unmap e address pages) _ does is = quiet (ap (λ (x : State). x.pool) is)
   changed (calls.Dma device address access whim) (Refused refusal) does is = quiet (ap (λ (x : State). x.pool) is)
   changed (calls.Dma device address access whim) _ does (answer, reached, answers, filled, is) = quiet (ap (λ (x : State). x.pool) is)

@@ -42,7 +42,7 @@ module _ (old new : Pool) (level root from to : ℕ) where
   Is p l f = table_from (memory new.words) level root p l ≡ Some f
 
   -- a table of the new tree, by a page in the span of the pages whose way reads its word at an index
-  used_place : (f k : ℕ) → 0 < uses (memory new.words) level root f → k < TABLE_ENTRIES
+  pub used_place : (f k : ℕ) → 0 < uses (memory new.words) level root f → k < TABLE_ENTRIES
       → (p l : ℕ) × ((p / span level ≡ from / span level) × Is p (suc l) f × (index_in l p ≡ k))
   used_place f k some inside =
       let on = way_of_use (memory new.words) level root f from some in
@@ -73,7 +73,7 @@ module _ (old new : Pool) (level root from to : ℕ) where
   )
 
   -- a frame that the new tree doesn't use, and that wasn't cut
-  unused : (cut : List ℕ) → Sound old new level root from to cut → (f k : ℕ) → k < TABLE_ENTRIES
+  pub unused : (cut : List ℕ) → Sound old new level root from to cut → (f k : ℕ) → k < TABLE_ENTRIES
       → uses (memory new.words) level root f ≡ 0 → occurs f cut ≡ 0 → word old.words f k ≡ word new.words f k
   unused cut s f k inside none kept =
       ⊎_elim
@@ -146,7 +146,7 @@ module _ (old new : Pool) (level root from to : ℕ) where
             sym (unmaps.leaves p x near h
             (λ q low high same. none q low high (near_at x.size l p q (omega (arith, size)) same)))
 
-    unmap_stays : (p l f : ℕ) → p / span level ≡ from / span level → Was p (suc l) f → Is p (suc l) f → MeetsNone l from to p
+    pub unmap_stays : (p l f : ℕ) → p / span level ≡ from / span level → Was p (suc l) f → Is p (suc l) f → MeetsNone l from to p
         → word old.words f (index_in l p) ≡ word new.words f (index_in l p)
     unmap_stays p l f near was is none =
         word_stays old.words new.words level root p l f s.before s.after was is (sym (unmaps.clear p l near none))

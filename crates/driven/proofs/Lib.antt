@@ -1,6 +1,8 @@
 pub mod Ways
 pub mod Entries
 pub mod Changed
+pub mod Splits
+pub mod Cuts
 pub mod Calls
 pub mod Sent
 pub mod Brought
@@ -11,3 +13,4 @@ pub mod Rows
 pub mod BringsAll
 pub mod Asked
 pub mod Trees
+pub mod Fills

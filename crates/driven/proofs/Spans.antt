@@ -13,8 +13,8 @@ use Rattle.engine.specs.Domains.{Domain}
 use Rattle.engine.specs.Walkable.{table_at}
 use Rattle.driven.specs.declared.effect.Effect.{Effect}
 use Rattle.driven.specs.Effects.{IsBrought}
-use Rattle.driven.specs.Telling.{BringsTable}
-use Rattle.driven.proofs.Brought.{brought_left, brought_right}
+use Rattle.driven.specs.Telling.{BringsTable, IsLowest}
+use Rattle.driven.proofs.Brought.{brought_either, brought_left, brought_right, none_brought}
 use Rattle.driven.proofs.Levels.{near_at_level}
 
 -- of a page whose table was this one
@@ -29,6 +29,11 @@ abbrev pub Told : Pool → Option Domain → ℕ → ℕ → List (Option ℕ) �
 Told pool h first last before effects span =
     (p : ℕ) (was : Option ℕ) → first ≤ p → p ≤ last → p / SPAN_PAGES < span
     → slice_get before (p / SPAN_PAGES - first / SPAN_PAGES) ≡ Some was → OfPage pool h was effects p
+
+-- what is told is of the lowest tables of such spans alone
+abbrev pub Lowest : Pool → Option Domain → ℕ → ℕ → List (Option ℕ) → List Effect → Type 0
+Lowest pool h first last before effects =
+    (f k : ℕ) → k < TABLE_ENTRIES → IsBrought effects f k → (p : ℕ) × IsLowest pool h first last before p f
 
 -- pages of one span have one table, or none
 pub same_table : (pool : Pool) (h : Option Domain) (p q : ℕ) → p / SPAN_PAGES ≡ q / SPAN_PAGES → table_at pool h p 1 ≡ table_at pool h q 1
@@ -72,3 +77,26 @@ module _ (pool : Pool) (h : Option Domain) (first last : ℕ) (before : List (Op
             (⊎_elim (λ x. inl (one ∙ x)) (λ y. inr (sym table ∙ y)) w) inside)),
       ))
       (cases_lt (p / SPAN_PAGES) number)
+
+  pub lowest_none : Lowest pool h first last before []
+  lowest_none f k inside there = absurd (none_brought f k there)
+
+  pub lowest_more : (more : List Effect) (number from to : ℕ) (was now : Option ℕ) (next : List Effect) → Lowest pool h first last before more
+      → slice_get before (number - first / SPAN_PAGES) ≡ Some was → now ≡ table_at pool h (number * SPAN_PAGES) 1
+      → from / SPAN_PAGES ≡ number → first ≤ from → from ≤ last → BringsTable was now from to next
+      → Lowest pool h first last before (more ++ next)
+  lowest_more more number from to was now next told stood is here low high brings f k inside there =
+      elim (brought_either more next f k there) [
+        | inl earlier ↦ told f k inside earlier
+        | inr new ↦ (
+          from,
+          (
+            low,
+            high,
+            elim (brings.only f k inside new) [
+              | inl w ↦ inl (ap (λ n. slice_get before (n - first / SPAN_PAGES)) here ∙ stood ∙ ap (λ o. Some o) w)
+              | inr n ↦ inr (same_table pool h from (number * SPAN_PAGES) (omega (arith, here)) ∙ sym is ∙ n)
+            ],
+          ),
+        )
+      ]

@@ -30,6 +30,7 @@ use Rattle.driven.specs.Laws.{MayChange}
 use Rattle.driven.specs.Telling.{HasSent, IsSentBy, with_wait}
 use Rattle.driven.proofs.Brought.{none_for_memory}
 use Rattle.driven.proofs.Calls.{calls_change}
+use Rattle.driven.proofs.Fills.{same_fill}
 use Rattle.driven.proofs.Sent.{submits}
 
 -- ---- a refused call
@@ -79,6 +80,7 @@ brings_nothing m t words row = record {
   for_memory = none_for_memory;
   words = λ f k inside differs. absurd (differs (ap (λ ws. word ws f k) (sym words)));
   contexts = λ v differs. absurd (differs (ap (λ r. slice_get r v) (sym row)));
+  fills = same_fill m t words [];
 }
 
 pub refused : (m t : State) (call : Call) (r : Refusal) → Does m call (Refused r) t → AreEffects m call (Refused r) t []

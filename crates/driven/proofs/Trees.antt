@@ -29,15 +29,17 @@ use Rattle.engine.specs.State.{Becomes, State, operands_in}
 use Rattle.engine.specs.Steps.{Does}
 use Rattle.engine.proofs.domains.OneChanged.{both_there, domain_low}
 use Rattle.engine.proofs.frames.Owners.{tree_of}
-use Rattle.quiet.proofs.Calls.{not_bad_list, not_bad_map, some_pages}
+use Rattle.quiet.proofs.Calls.{not_bad_list, not_bad_map, some_pages, unmap_pages}
 use Rattle.quiet.proofs.Changes.{below_end}
 use Rattle.quiet.proofs.Onward.{onward}
 use Rattle.quiet.specs.Quiet.{IsSound}
 use Rattle.driven.specs.declared.effect.Effect.{Effect}
-use Rattle.driven.specs.Effects.{BringsAll, IsBrought, by_mode, in_mode, in_order}
+use Rattle.driven.specs.Effects.{BringsAll, FillsTables, IsBrought, by_mode, in_mode, in_order}
 use Rattle.driven.specs.Telling.{AreTablesOf, BringsFrames, BringsUnmapped, BringsWays}
 use Rattle.driven.proofs.BringsAll.{exchanged, on_ways, stays_or_came}
 use Rattle.driven.proofs.Calls.{calls_change}
+use Rattle.driven.proofs.Cuts.{cuts}
+use Rattle.driven.proofs.Fills.{closed_fill, cut_fill, placed_fill}
 use Rattle.driven.proofs.Rows.{rows}
 use Rattle.driven.proofs.Told.{whole_row}
 
@@ -45,6 +47,13 @@ use Rattle.driven.proofs.Told.{whole_row}
 
 module _ (m t : State) (d frame pages order rights address : ℕ) (sound : IsSound m)
     (does : Does m (calls.Map d frame pages order rights) (Mapped address) t) where
+  map_fill : Becomes m (calls.Map d frame pages order rights) (Mapped address) t → (es : List Effect) → FillsTables m t es
+  unfolding Becomes
+  map_fill (h, new, here, places, sent, is) es =
+      placed_fill m t sound d h new here _
+      (some_pages (record { frame = frame; pages = pages } ∷ []) order rights
+      (not_bad_map sound.of_world.0 d frame pages order rights address (does.steps sound.of_world.0 sound.of_world.1).0)) places es
+
   pub map_brings : (es : List Effect)
       → BringsWays t.pool (domain_at t.domains d) (address / PAGE_BYTES) (address / PAGE_BYTES + pages) es → BringsAll m t es
   map_brings es brings = record {
@@ -55,10 +64,18 @@ module _ (m t : State) (d frame pages order rights address : ℕ) (sound : IsSou
         (λ is done. cc) in
         on_ways t d h o.0 o.1 o.2.root o.2.width (address / PAGE_BYTES) (address / PAGE_BYTES + pages) es brings f k on;
     contexts = whole_row m t (rows m t (calls.Map d frame pages order rights) (Mapped address) does.becomes) es;
+    fills = map_fill does.becomes es;
   }
 
 module _ (m t : State) (d order rights address : ℕ) (segments : ArrayVec Segment) (sound : IsSound m)
     (does : Does m (calls.MapList d order rights segments) (Mapped address) t) where
+  list_fill : Becomes m (calls.MapList d order rights segments) (Mapped address) t → (es : List Effect) → FillsTables m t es
+  unfolding Becomes
+  list_fill (h, new, here, places, sent, is) es =
+      placed_fill m t sound d h new here _
+      (some_pages segments.items order rights
+      (not_bad_list sound.of_world.0 d order rights address segments (does.steps sound.of_world.0 sound.of_world.1).0)) places es
+
   pub list_brings : (es : List Effect)
       → BringsWays t.pool (domain_at t.domains d) (address / PAGE_BYTES) (address / PAGE_BYTES + total_pages segments.items) es
       → BringsAll m t es
@@ -69,12 +86,23 @@ module _ (m t : State) (d order rights address : ℕ) (segments : ArrayVec Segme
         let o = onward m t d h sound here (calls.MapList d order rights segments) (Mapped address) does does.becomes (λ is done. cc) in
         on_ways t d h o.0 o.1 o.2.root o.2.width (address / PAGE_BYTES) (address / PAGE_BYTES + total_pages segments.items) es brings f k on;
     contexts = whole_row m t (rows m t (calls.MapList d order rights segments) (Mapped address) does.becomes) es;
+    fills = list_fill does.becomes es;
   }
 
 -- ---- an unmap
 
 module _ (m t : State) (d address pages released : ℕ) (sound : IsSound m)
     (does : Does m (calls.Unmap d address pages) (Unmapped released) t) where
+  unmap_fill : Becomes m (calls.Unmap d address pages) (Unmapped released) t → (last : ℕ) → address / PAGE_BYTES + pages ≡ last + 1
+      → (before : List (Option ℕ)) → AreTablesOf m.pool (domain_at m.domains d) (address / PAGE_BYTES) last before → (es : List Effect)
+      → BringsUnmapped t.pool (domain_at t.domains d) (address / PAGE_BYTES) last before es → FillsTables m t es
+  unfolding Becomes
+  unmap_fill (h, new, here, ends, is) last end before were es brings =
+      let o = onward m t d h sound here (calls.Unmap d address pages) (Unmapped released) does does.becomes (λ is done. cc) in
+      cut_fill m t d h o.0 here o.1 o.2.root o.2.width (range_at address pages)
+      (cuts m t sound d h here (range_at address pages) (unmap_pages m t d address pages released h sound here does) released new h.mode ends)
+      last end before were es brings
+
   pub unmap_brings : (last : ℕ) → address / PAGE_BYTES + pages ≡ last + 1 → (before : List (Option ℕ))
       → AreTablesOf m.pool (domain_at m.domains d) (address / PAGE_BYTES) last before → (es : List Effect)
       → BringsUnmapped t.pool (domain_at t.domains d) (address / PAGE_BYTES) last before es → BringsAll m t es
@@ -92,6 +120,7 @@ module _ (m t : State) (d address pages released : ℕ) (sound : IsSound m)
               (address / PAGE_BYTES + pages) end f k inside out.1.1
         ];
     contexts = whole_row m t (rows m t (calls.Unmap d address pages) (Unmapped released) does.becomes) es;
+    fills = unmap_fill does.becomes last end before were es brings;
   }
 
 -- ---- a drop
@@ -119,11 +148,16 @@ module _ (m t : State) (d : ℕ) (sound : IsSound m) (does : Does m (calls.Drop 
   drop_by (h, here, closes, is) es brings f k inside differs =
       brings.brings f k (omega (arith, closed h here closes f k inside differs, same_frames h closes)) inside
 
+  drop_fill : Becomes m (calls.Drop d) Done t → (es : List Effect) → FillsTables m t es
+  unfolding Becomes
+  drop_fill (h, here, closes, is) es = closed_fill m t d h closes es
+
   pub drop_brings : (es : List Effect) → BringsFrames t.pool.frames es → BringsAll m t es
   drop_brings es brings = record {
     for_memory = brings.for_memory;
     words = drop_by does.becomes es brings;
     contexts = whole_row m t (rows m t (calls.Drop d) Done does.becomes) es;
+    fills = drop_fill does.becomes es;
   }
 
 -- ---- how many pages a map has

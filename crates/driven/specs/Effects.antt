@@ -1,6 +1,6 @@
 -- What a call asks of whoever keeps the memory and the queue that a unit reads.
 use Rattle.std.specs.Prelude.{◌≡◌, ◌≢◌, ◌⊎◌, ℕ, ◌+◌, ◌*◌, ◌<◌, ◌≤◌, List, [], ◌∷◌, ◌++◌, All, Option, None, Some, slice_get, take}
-use Rattle.dmatypes.specs.World.{IsIn}
+use Rattle.dmatypes.specs.World.{IsIn, Target}
 use Rattle.dmatypes.specs.declared.call.Call.{Call}
 use Rattle.dmatypes.specs.declared.call.Call.TheVariants as calls
 use Rattle.dmatypes.specs.declared.call.Mode.{Mode}
@@ -12,12 +12,13 @@ use Rattle.vtdbits.specs.declared.descriptor.Descriptor.{Descriptor}
 use Rattle.vtdbits.specs.declared.descriptor.Descriptor.TheVariants.{Wait}
 use Rattle.queue.specs.Ring.{submitted_in}
 use Rattle.tables.specs.declared.entries.TheConstants.{TABLE_ENTRIES}
-use Rattle.tables.specs.Pool.{word}
+use Rattle.vtdbits.specs.declared.entry.SsEntry.TheVariants.{LargeLeaf, Table}
+use Rattle.tables.specs.Pool.{memory, word}
 use Rattle.engine.specs.Domains.{Domain, domain_at}
 use Rattle.engine.specs.Ending.{status_of}
 use Rattle.engine.specs.State.{State}
 use Rattle.driven.specs.declared.effect.Effect.{Effect}
-use Rattle.driven.specs.declared.effect.Effect.TheVariants.{Await, Context, Send, Words}
+use Rattle.driven.specs.declared.effect.Effect.TheVariants.{Await, Barrier, Context, Send, Words}
 
 -- what contracts see: the state, and what the last call asks
 pub record Driven : Type 0 where
@@ -42,11 +43,22 @@ IsForMemory (Send low high) = ⊥
 IsForMemory (Await number) = ⊥
 IsForMemory effect = Unit {0}
 
+-- where a table takes the place of a leaf of 2 MiB, all of its words are brought before a barrier, and the word that names it isn't
+abbrev pub FillsTables : State → State → List Effect → Type 0
+FillsTables m t effects =
+    (table index below : ℕ) (leaf : Target) → index < TABLE_ENTRIES
+    → memory m.pool.words 2 table index ≡ LargeLeaf leaf
+    → memory t.pool.words 2 table index ≡ Table below
+    → (first rest : List Effect) × ((effects ≡ first ++ Barrier ∷ rest)
+    × ((k : ℕ) → k < TABLE_ENTRIES → IsBrought first below k)
+    × (IsBrought first table index → ⊥))
+
 -- they bring every word of a table frame, and every context entry, that isn't as before
 pub record BringsAll (m t : State) (effects : List Effect) : Type 0 where
   pub for_memory : All IsForMemory effects
   pub words : (f k : ℕ) → k < TABLE_ENTRIES → word m.pool.words f k ≢ word t.pool.words f k → IsBrought effects f k
   pub contexts : (v : ℕ) → slice_get m.iommu.contexts v ≢ slice_get t.iommu.contexts v → IsIn (Context v) effects
+  pub fills : FillsTables m t effects
 
 -- ---- what is sent
 

@@ -1,5 +1,6 @@
 -- What the parts of a call's effects bring and send.
-use Rattle.std.specs.Prelude.{◌≡◌, ◌≢◌, ◌⊎◌, ℕ, ◌+◌, ◌-◌, ◌*◌, ◌/◌, ◌%◌, ◌<◌, ◌≤◌, Bool, true, false, List, [], ◌∷◌, All, length, Option, Some, slice_get}
+use Rattle.std.specs.Prelude.{◌≡◌, ◌≢◌, ◌⊎◌, ℕ, ◌+◌, ◌-◌, ◌*◌, ◌/◌, ◌%◌, ◌<◌, ◌≤◌, Bool, true, false, List, [], ◌∷◌, ◌++◌, All, length, Option, Some}
+use Rattle.std.specs.Prelude.{slice_get}
 use Rattle.dmatypes.specs.declared.page.TheConstants.{SPAN_PAGES}
 use Rattle.vtdbits.specs.declared.descriptor.Descriptor.{Descriptor}
 use Rattle.queue.specs.Ring.{submitted_in}
@@ -10,7 +11,7 @@ use Rattle.engine.specs.Domains.{Domain}
 use Rattle.engine.specs.State.{State}
 use Rattle.engine.specs.Walkable.{table_at}
 use Rattle.driven.specs.declared.effect.Effect.{Effect}
-use Rattle.driven.specs.declared.effect.Effect.TheVariants.{Await}
+use Rattle.driven.specs.declared.effect.Effect.TheVariants.{Await, Barrier}
 use Rattle.driven.specs.Effects.{Brings, IsBrought, IsForMemory, IsSending}
 
 -- in how many tables of a level the words of the pages from one to another can lie
@@ -18,18 +19,21 @@ abbrev pub most_tables : ℕ → ℕ → ℕ → ℕ
 most_tables level first last =
     last / span (level - 1) / TABLE_ENTRIES + 1 - first / span (level - 1) / TABLE_ENTRIES
 
--- the words from the entry of a number to that of another in the table of that frame
+-- the words from the entry of a number to that of another in the table of that frame, and no word of another frame
 abbrev pub BringsPart : ℕ → ℕ → ℕ → Effect → Type 0
 BringsPart frame from to effect =
     IsForMemory effect × ((e : ℕ) → from ≤ e → e ≤ to → Brings effect frame (e % TABLE_ENTRIES))
+    × ((f k : ℕ) → k < TABLE_ENTRIES → Brings effect f k → frame ≡ f)
 
 -- the words of a level on the ways of the pages from one to another
 pub record BringsLevel (pool : Pool) (h : Option Domain) (level first last : ℕ) (effects : List Effect) : Type 0 where
   pub for_memory : All IsForMemory effects
   pub brings : (p f : ℕ) → first ≤ p → p ≤ last → table_at pool h p level ≡ Some f → IsBrought effects f (index_in (level - 1) p)
 
--- the words of the levels above the lowest
+-- a barrier, and then the words of the levels above the lowest
 pub record BringsUpper (pool : Pool) (h : Option Domain) (first last : ℕ) (effects : List Effect) : Type 0 where
+  pub rest : List Effect
+  pub begins : effects ≡ Barrier ∷ rest
   pub for_memory : All IsForMemory effects
   pub brings : (level p f : ℕ) → 2 ≤ level → level ≤ 4 → first ≤ p → p ≤ last → table_at pool h p level ≡ Some f
       → IsBrought effects f (index_in (level - 1) p)
@@ -38,22 +42,31 @@ pub record BringsUpper (pool : Pool) (h : Option Domain) (first last : ℕ) (eff
 pub record BringsWhole (table : Option ℕ) (effects : List Effect) : Type 0 where
   pub for_memory : All IsForMemory effects
   pub brings : (f k : ℕ) → table ≡ Some f → k < TABLE_ENTRIES → IsBrought effects f k
+  pub only : (f k : ℕ) → k < TABLE_ENTRIES → IsBrought effects f k → table ≡ Some f
 
 -- of a table that stays the words of the pages from one to another, else all words of the one that went and of the one that came
 pub record BringsTable (was now : Option ℕ) (from to : ℕ) (effects : List Effect) : Type 0 where
   pub for_memory : All IsForMemory effects
   pub stays : (f e : ℕ) → was ≡ Some f → now ≡ Some f → from ≤ e → e ≤ to → IsBrought effects f (e % TABLE_ENTRIES)
   pub changes : (f k : ℕ) → was ≢ now → (was ≡ Some f) ⊎ (now ≡ Some f) → k < TABLE_ENTRIES → IsBrought effects f k
+  pub only : (f k : ℕ) → k < TABLE_ENTRIES → IsBrought effects f k → (was ≡ Some f) ⊎ (now ≡ Some f)
 
 -- the tables of level 1 on the ways of the pages from one to another, by spans of 512 pages
 pub record AreTablesOf (pool : Pool) (h : Option Domain) (first last : ℕ) (tables : List (Option ℕ)) : Type 0 where
   pub count : length tables ≡ last / SPAN_PAGES + 1 - first / SPAN_PAGES
   pub each : (k : ℕ) → k < length tables → slice_get tables k ≡ Some (table_at pool h ((first / SPAN_PAGES + k) * SPAN_PAGES) 1)
 
+-- the frame is the table of level 1 of a page, after the call or, as these tell, before it
+abbrev pub IsLowest : Pool → Option Domain → ℕ → ℕ → List (Option ℕ) → ℕ → ℕ → Type 0
+IsLowest pool h first last before p f =
+    (first ≤ p) × (p ≤ last)
+    × ((slice_get before (p / SPAN_PAGES - first / SPAN_PAGES) ≡ Some (Some f)) ⊎ (table_at pool h p 1 ≡ Some f))
+
 -- the same of the table of each such span, which was one of these
 pub record BringsLowest (pool : Pool) (h : Option Domain) (first last : ℕ) (before : List (Option ℕ)) (effects : List Effect)
     : Type 0 where
   pub for_memory : All IsForMemory effects
+  pub only : (f k : ℕ) → k < TABLE_ENTRIES → IsBrought effects f k → (p : ℕ) × IsLowest pool h first last before p f
   pub spans : (p : ℕ) (was : Option ℕ) → first ≤ p → p ≤ last → slice_get before (p / SPAN_PAGES - first / SPAN_PAGES) ≡ Some was
       → ((f : ℕ) → was ≡ Some f → table_at pool h p 1 ≡ Some f → IsBrought effects f (p % TABLE_ENTRIES))
       × ((f k : ℕ) → was ≢ table_at pool h p 1 → (was ≡ Some f) ⊎ (table_at pool h p 1 ≡ Some f) → k < TABLE_ENTRIES
@@ -68,6 +81,10 @@ pub record BringsWays (pool : Pool) (h : Option Domain) (from to : ℕ) (effects
 -- what an unmap of the pages from one to another changed, where these were the tables of level 1 on their ways
 pub record BringsUnmapped (pool : Pool) (h : Option Domain) (first last : ℕ) (before : List (Option ℕ)) (effects : List Effect)
     : Type 0 where
+  pub lowest : List Effect
+  pub rest : List Effect
+  pub parted : effects ≡ lowest ++ Barrier ∷ rest
+  pub brings_lowest : BringsLowest pool h first last before lowest
   pub for_memory : All IsForMemory effects
   pub upper : (level p f : ℕ) → 2 ≤ level → level ≤ 4 → first ≤ p → p ≤ last → table_at pool h p level ≡ Some f
       → IsBrought effects f (index_in (level - 1) p)

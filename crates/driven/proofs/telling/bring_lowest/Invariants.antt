@@ -3,7 +3,7 @@ use Rattle.std.specs.List.{All}
 use Rattle.engine.specs.Domains.{domain_at}
 use Rattle.driven.specs.Effects.{IsForMemory}
 use Rattle.driven.specs.declared.effect.Effect.{Effect}
-use Rattle.driven.proofs.Spans.{Told}
+use Rattle.driven.proofs.Spans.{Lowest, Told}
 use Rattle.driven.proofs.telling.bring_lowest.Given as goal
 
 -- what became of the tables so far is told
@@ -13,4 +13,5 @@ invariant-loop-span l =
     × (length more + 2 * l.begin ≤ 2 * l.span)
     × (l.begin ≤ l.span)
     × All IsForMemory more
+    × Lowest l.state.pool (domain_at l.state.domains l.domain) l.first l.last l.before.items more
     × Told l.state.pool (domain_at l.state.domains l.domain) l.first l.last l.before.items more l.span)
