@@ -14,3 +14,4 @@ pub mod BringsAll
 pub mod Asked
 pub mod Trees
 pub mod Fills
+pub mod Moments

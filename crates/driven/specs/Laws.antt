@@ -1,5 +1,5 @@
--- Which words of table frames each call changes, and what it submits.
-use Rattle.std.specs.Prelude.{◌≡◌, ◌≢◌, ◌⊎◌, ℕ, ◌+◌, ◌/◌, ◌<◌, Some}
+-- Which words of table frames each call changes, what it submits, and what a walk finds while its effects reach memory.
+use Rattle.std.specs.Prelude.{◌≡◌, ◌≢◌, ◌⊎◌, ℕ, suc, ◌+◌, ◌/◌, ◌<◌, true, List, ◌∷◌, ◌++◌, Some}
 use Rattle.vtdbits.specs.declared.descriptor.Descriptor.{Descriptor}
 use Rattle.queue.specs.Ring.{submitted_in}
 use Rattle.dmatypes.specs.Conditions.{total_pages}
@@ -11,12 +11,15 @@ use Rattle.dmatypes.specs.declared.reply.Reply.{Reply}
 use Rattle.dmatypes.specs.declared.reply.Reply.TheVariants.{Done, Mapped, Unmapped}
 use Rattle.tables.specs.declared.entries.TheConstants.{TABLE_ENTRIES}
 use Rattle.tables.specs.Pool.{word}
+use Rattle.moments.specs.Moments.{IsOldOrNew, Reached, word_read}
 use Rattle.engine.specs.Domains.{Domain, domain_at}
 use Rattle.engine.specs.State.{State}
 use Rattle.engine.specs.Steps.{Does}
 use Rattle.engine.specs.Tickets.{KeepsTickets}
 use Rattle.quiet.specs.Quiet.{IsSound}
-use Rattle.driven.specs.Effects.{SendsWith}
+use Rattle.driven.specs.declared.effect.Effect.{Effect}
+use Rattle.driven.specs.declared.effect.Effect.TheVariants.{Barrier}
+use Rattle.driven.specs.Effects.{AreEffects, IsBrought, SendsWith}
 use Rattle.driven.specs.Ways.{IsExchanged, IsOnWays}
 
 -- the word lies on the way of one of so many pages of the domain, from a first one on, after the call
@@ -62,3 +65,35 @@ CallsSubmitAtMostOne =
     → Does m call reply t
     → ((t.iommu.sent ≡ m.iommu.sent) × (submitted_in t.iommu.ring ≡ submitted_in m.iommu.ring))
     ⊎ ((d : Descriptor) × SendsWith m t d)
+
+-- what is brought after a barrier reaches memory when all has that is brought before it. So where a walk reads such a word, it reads what
+-- was brought before that barrier in the tables of the next level
+abbrev pub IsReadInOrder : List Effect → Reached → Type 0
+IsReadInOrder effects reached =
+    (first rest : List Effect) (level table index below k : ℕ) → effects ≡ first ++ Barrier ∷ rest
+    → (IsBrought first table index → ⊥)
+    → reached (suc level) table index ≡ true
+    → IsBrought first below k
+    → reached level below k ≡ true
+
+-- Whatever of a call's effects has reached memory when a walk reads it, each level at its own moment, each page is found as before the call
+-- or as after it. That asks only that barriers are kept.
+abbrev pub EffectsAreOldOrNew : Type 0
+EffectsAreOldOrNew =
+    (m t : State) (call : Call) (reply : Reply) (effects : List Effect) (domain : ℕ) (h h' : Domain) (reached : Reached) (page : ℕ)
+    → IsSound m
+    → Does m call reply t
+    → AreEffects m call reply t effects
+    → domain_at m.domains domain ≡ Some h
+    → domain_at t.domains domain ≡ Some h'
+    → IsReadInOrder effects reached
+    → IsOldOrNew m.pool.words t.pool.words reached h.width h.root page
+
+-- and where all that is brought has reached memory, each word is read as after the call
+abbrev pub EffectsLeadThere : Type 0
+EffectsLeadThere =
+    (m t : State) (call : Call) (reply : Reply) (effects : List Effect) (reached : Reached) (level frame index : ℕ)
+    → AreEffects m call reply t effects
+    → index < TABLE_ENTRIES
+    → (IsBrought effects frame index → reached level frame index ≡ true)
+    → word_read m.pool.words t.pool.words reached level frame index ≡ word t.pool.words frame index

@@ -1,7 +1,7 @@
-//! What a call changes of the words that a unit reads, and what it submits to the queue. Each function does nothing: its contract is the
+//! What a call changes of the words that a unit reads, what it submits to the queue, and what a walk finds meanwhile. Each function does nothing: its contract is the
 //! law, and its proof is from the public contracts of `engine` and the crates below it.
 
-ghost use Rattle.driven.specs.Laws.{CallsChangeTheseWords, CallsSubmitAtMostOne};
+ghost use Rattle.driven.specs.Laws.{CallsChangeTheseWords, CallsSubmitAtMostOne, EffectsAreOldOrNew, EffectsLeadThere};
 
 /// Which words of table frames a call changes.
 pub fn calls_change_these_words()
@@ -11,4 +11,15 @@ pub fn calls_change_these_words()
 /// A call submits nothing, or one descriptor and its wait, and what was submitted before stands behind them in the ring.
 pub fn calls_submit_at_most_one()
     ensures { CallsSubmitAtMostOne }
+{}
+
+/// Whatever of a call's effects has reached memory when a walk reads it, each page is found as before the call or as after it, if only
+/// what is brought after a barrier reaches memory after what is brought before it.
+pub fn effects_are_old_or_new()
+    ensures { EffectsAreOldOrNew }
+{}
+
+/// Where all that is brought has reached memory, each word is read as after the call.
+pub fn effects_lead_there()
+    ensures { EffectsLeadThere }
 {}
