@@ -1,25 +1,19 @@
 -- Which words each call changes.
-use Rattle.std.proofs.Common.{◌≡◌, ◌≢◌, ◌⊎◌, inl, inr, ℕ, ◌+◌, ◌/◌, ◌<◌, ◌≤◌, [], ◌∷◌, Some, refl, sym, ap, subst, ◌∙◌, arith}
+use Rattle.std.proofs.Common.{◌≡◌, ◌≢◌, ◌⊎◌, inl, inr, ℕ, ◌+◌, ◌/◌, ◌<◌, ◌≤◌, [], ◌∷◌, Some, sym, ap, subst, ◌∙◌, arith}
 use Rattle.std.proofs.lemmas.List.Sums.{sum_by-cons}
 use Rattle.dmatypes.specs.Conditions.{total_pages}
 use Rattle.dmatypes.specs.Page.{Range, levels, range_at}
 use Rattle.dmatypes.specs.declared.call.Call.{Call}
 use Rattle.dmatypes.specs.declared.call.Call.TheVariants as calls
-use Rattle.dmatypes.specs.declared.call.Mode.{Mode}
-use Rattle.dmatypes.specs.declared.call.Mode.TheVariants.{Lazy, Strict}
 use Rattle.dmatypes.specs.declared.call.Segment.{Segment}
 use Rattle.dmatypes.specs.declared.page.TheConstants.{PAGE_BYTES}
 use Rattle.dmatypes.specs.declared.reply.Reply.{Reply}
 use Rattle.dmatypes.specs.declared.reply.Reply.TheVariants.{Done, Flushed, Made, Mapped, Reaped, Refused, Stepped, Unmapped}
 use Rattle.tables.specs.declared.entries.TheConstants.{TABLE_ENTRIES}
 use Rattle.tables.specs.Pool.{Pool, word}
-use Rattle.tables.specs.Spelled.{AreSpelled}
-use Rattle.moments.specs.Moments.{AreFreeZeroed}
-use Rattle.engine.specs.declared.record.Record.{Record}
-use Rattle.engine.specs.Domains.{Domain, Operands, domain_at}
-use Rattle.engine.specs.Ending.{ByMode, MakesRoom, PutsOff, RetiresAndUnmaps, UnmapsStrictly}
+use Rattle.engine.specs.Domains.{Domain, domain_at}
 use Rattle.engine.specs.Placing.{Placement, Places}
-use Rattle.engine.specs.State.{Becomes, State, operands_in}
+use Rattle.engine.specs.State.{Becomes, State}
 use Rattle.engine.specs.Steps.{Does}
 use Rattle.engine.proofs.domains.OneChanged.{both_there}
 use Rattle.quiet.proofs.Calls.{not_bad_list, not_bad_map, some_pages, unmap_pages}

@@ -1,23 +1,19 @@
 -- That a table which takes the place of a leaf of 2 MiB is brought before the word that names it.
-use Rattle.std.proofs.Common.{◌≡◌, ◌≢◌, ◌⊎◌, inl, inr, ⊎_elim, ℕ, ◌+◌, ◌-◌, ◌*◌, ◌/◌, ◌<◌, ◌≤◌, List, ◌∷◌, Option, Some, None, refl, sym, ap}
-use Rattle.std.proofs.Common.{subst, ◌∙◌, arith, slice_get}
+use Rattle.std.proofs.Common.{◌≡◌, inl, inr, ⊎_elim, ℕ, ◌+◌, ◌-◌, ◌/◌, ◌<◌, ◌≤◌, List, Option, Some, None, sym, ap}
+use Rattle.std.proofs.Common.{◌∙◌, arith, slice_get}
 use Rattle.std.proofs.lemmas.Bool.{cases_lt}
 use Rattle.std.proofs.lemmas.Option.{none-some, same_Some}
 use Rattle.dmatypes.specs.Conditions.{total_pages}
-use Rattle.dmatypes.specs.Page.{Range, levels, pages_end, range_at}
-use Rattle.dmatypes.specs.World.{Target}
+use Rattle.dmatypes.specs.Page.{Range, levels, pages_end}
 use Rattle.dmatypes.specs.declared.call.Call.{Call}
-use Rattle.dmatypes.specs.declared.call.Call.TheVariants as calls
-use Rattle.dmatypes.specs.declared.page.TheConstants.{PAGE_BYTES, SPAN_PAGES}
+use Rattle.dmatypes.specs.declared.page.TheConstants.{SPAN_PAGES}
 use Rattle.dmatypes.specs.declared.reply.Reply.{Reply}
-use Rattle.dmatypes.specs.declared.reply.Reply.TheVariants.{Unmapped}
 use Rattle.vtdbits.proofs.Entries.{look-zero}
 use Rattle.vtdbits.specs.Entry.{look}
-use Rattle.vtdbits.specs.declared.entry.SsEntry.{SsEntry}
 use Rattle.vtdbits.specs.declared.entry.SsEntry.TheVariants.{Absent, LargeLeaf, Table}
 use Rattle.tables.specs.declared.entries.TheConstants.{TABLE_ENTRIES}
 use Rattle.tables.specs.Pool.{memory, occurs, word}
-use Rattle.tables.specs.Tree.{index_in, table_from, uses}
+use Rattle.tables.specs.Tree.{table_from, uses}
 use Rattle.tables.proofs.walks.Words.{memory_at}
 use Rattle.moments.proofs.Walks.{one_span}
 use Rattle.engine.specs.Domains.{Domain, domain_at}
@@ -27,7 +23,6 @@ use Rattle.engine.specs.State.{State, operands_in}
 use Rattle.engine.specs.Steps.{Does}
 use Rattle.engine.specs.Walkable.{table_at}
 use Rattle.engine.proofs.domains.OneChanged.{both_there}
-use Rattle.quiet.proofs.Calls.{unmap_pages}
 use Rattle.quiet.specs.Quiet.{IsSound}
 use Rattle.driven.specs.declared.effect.Effect.{Effect}
 use Rattle.driven.specs.Effects.{FillsTables, IsBrought}
@@ -35,7 +30,7 @@ use Rattle.driven.specs.Laws.{MayChange}
 use Rattle.driven.specs.Telling.{AreTablesOf, BringsUnmapped}
 use Rattle.driven.proofs.BringsAll.{there, was}
 use Rattle.driven.proofs.Calls.{calls_change, map_sound}
-use Rattle.driven.proofs.Cuts.{Cuts, cuts}
+use Rattle.driven.proofs.Cuts.{Cuts}
 use Rattle.driven.proofs.Splits.{came, gave_way, map_none, not_lowest, on_way, was_none}
 
 -- where no word is changed none gives way
@@ -110,9 +105,9 @@ module _ (m t : State) (d : ℕ) (h h' : Domain) (here : domain_at m.domains d �
           (one_span h.width p small ∙ sym (one_span h.width range.first (omega (arith, low, small))))
           (elim either [
             | inl w ↦ inl (
-              ap (λ ws. table_from (memory ws) (levels h.width) h.root p 1) c.was
-              ∙ same_Some (Old_table p) (Some f) (sym (before_at p low (omega (arith, high, end))) ∙ w)
-            )
+                ap (λ ws. table_from (memory ws) (levels h.width) h.root p 1) c.was
+                ∙ same_Some (Old_table p) (Some f) (sym (before_at p low (omega (arith, high, end))) ∙ w)
+                )
             | inr n ↦ inr (then_at p ∙ n)
           ])
 

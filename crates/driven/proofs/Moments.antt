@@ -1,5 +1,5 @@
 -- What a walk reads while a call's effects reach memory.
-use Rattle.std.proofs.Common.{◌≡◌, ◌≢◌, ◌⊎◌, inl, inr, ℕ, suc, ◌<◌, Bool, true, false, cond, List, [], ◌∷◌, ◌++◌, Option, None, Some, refl, sym, ap}
+use Rattle.std.proofs.Common.{◌≡◌, inl, inr, ℕ, Bool, true, false, cond, List, [], ◌∷◌, ◌++◌, Option, None, Some, refl, sym, ap}
 use Rattle.std.proofs.Common.{subst, ◌∙◌}
 use Rattle.std.proofs.lemmas.List.{append-nil, append_assoc}
 use Rattle.dmatypes.specs.declared.call.Call.{Call}
@@ -15,7 +15,7 @@ use Rattle.engine.specs.State.{State}
 use Rattle.quiet.proofs.Every.{calls_old_or_new}
 use Rattle.driven.specs.declared.effect.Effect.{Effect}
 use Rattle.driven.specs.declared.effect.Effect.TheVariants.{Await, Barrier, Context, Send, Words}
-use Rattle.driven.specs.Effects.{AreEffects, Brings, FillsTables, IsBrought, IsSending, Sends, by_mode, in_mode, in_order, waited}
+use Rattle.driven.specs.Effects.{AreEffects, Brings, IsBrought, IsSending, Sends, by_mode, in_mode, in_order, waited}
 use Rattle.driven.specs.Laws.{EffectsAreOldOrNew, EffectsLeadThere, IsReadInOrder}
 use Rattle.driven.proofs.Brought.{brought_either, brought_left, brought_right, none_brought}
 

@@ -9,12 +9,12 @@ use Rattle.vtdbits.specs.Entry.{Spells, look}
 use Rattle.vtdbits.specs.declared.entry.SsEntry.{SsEntry}
 use Rattle.vtdbits.specs.declared.entry.SsEntry.TheVariants.{Absent, Table, Leaf, LargeLeaf}
 use Rattle.tables.specs.declared.entries.TheConstants.{TABLE_ENTRIES}
-use Rattle.tables.specs.Changes.{IsOutside, MapsPages, MeetsNone, UnmapsPages}
+use Rattle.tables.specs.Changes.{MapsPages, UnmapsPages}
 use Rattle.tables.specs.Pool.{IsZeroed, Pool, memory, occurs, word}
 use Rattle.tables.specs.Spelled.{AreSpelled}
-use Rattle.tables.specs.Tree.{LeafEntry, index_in, leaf_from, span, stated, states, table_from, uses}
-use Rattle.tables.proofs.walks.Near.{near_at, near_table}
-use Rattle.tables.proofs.walks.Onward.{index_lt, leaf_on, table_on}
+use Rattle.tables.specs.Tree.{index_in, leaf_from, span, stated, states, table_from, uses}
+use Rattle.tables.proofs.walks.Near.{near_table}
+use Rattle.tables.proofs.walks.Onward.{leaf_on, table_on}
 use Rattle.tables.proofs.walks.Steps.{leaf_under, same_index, same_or_not, table_top, table_under, wide_span}
 use Rattle.tables.proofs.walks.Words.{memory_at}
 use Rattle.moments.proofs.ReadWords.{spelled_on}
