@@ -17,7 +17,8 @@ use Rattle.driven.specs.declared.effect.Effect.{Effect}
 use Rattle.driven.specs.declared.effect.Effect.TheVariants.{Await, Barrier, Context, Send, Words}
 use Rattle.driven.specs.Effects.{AreEffects, Brings, IsBrought, IsSending, Sends, by_mode, in_mode, in_order, waited}
 use Rattle.driven.specs.Laws.{EffectsAreOldOrNew, EffectsLeadThere, IsReadInOrder}
-use Rattle.driven.proofs.Brought.{brought_either, brought_left, brought_right, none_brought}
+use Rattle.driven.proofs.Splits.{gave_way}
+use Rattle.driven.proofs.Brought.{brought_by, brought_either, brought_left, brought_right, none_brought}
 
 -- ---- what is sent brings nothing
 
@@ -112,8 +113,19 @@ module _ (m t : State) (call : Call) (reply : _) (effects : List Effect) (are : 
       let all : effects ≡ (pre ++ first) ++ Barrier ∷ (rest ++ post) =
       is ∙ ap (λ xs. pre ++ (xs ++ post)) parted ∙ ap (λ xs. pre ++ xs) (append_assoc first (Barrier ∷ rest) post)
       ∙ sym (append_assoc pre first (Barrier ∷ (rest ++ post))) in
+      let changed : IsBrought (first ++ Barrier ∷ rest) f i =
+      subst (λ es. IsBrought es f i) parted
+      (are.brings.words f i inside (gave_way m.pool.words t.pool.words f i below x large named)) in
+      let after : IsBrought (rest ++ post) f i =
+      elim (brought_either first (Barrier ∷ rest) f i changed) [
+        | inl told ↦ absurd (unnamed told)
+        | inr told ↦ elim (brought_either (Barrier ∷ []) rest f i told) [
+          | inl barrier ↦ absurd (brought_by Barrier f i barrier)
+          | inr told' ↦ brought_left rest post f i told'
+        ]
+      ] in
       inl (keeps (pre ++ first) (rest ++ post) 1 f i below k all
-      (λ told. elim (brought_either pre first f i told) [ inl a ↦ none f i a | inr b ↦ unnamed b ]) read
+      (λ told. elim (brought_either pre first f i told) [ inl a ↦ none f i a | inr b ↦ unnamed b ]) after read
       (brought_right pre first below k (filled k less)))
 
 pub effects_old_or_new : EffectsAreOldOrNew

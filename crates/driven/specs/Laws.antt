@@ -66,12 +66,13 @@ CallsSubmitAtMostOne =
     → ((t.iommu.sent ≡ m.iommu.sent) × (submitted_in t.iommu.ring ≡ submitted_in m.iommu.ring))
     ⊎ ((d : Descriptor) × SendsWith m t d)
 
--- what is brought after a barrier reaches memory when all has that is brought before it. So where a walk reads such a word, it reads what
--- was brought before that barrier in the tables of the next level
+-- what is brought after a barrier alone reaches memory when all has that is brought before it. So where a walk reads such a word as
+-- brought, it reads what was brought before that barrier in the tables of the next level
 abbrev pub IsReadInOrder : List Effect → Reached → Type 0
 IsReadInOrder effects reached =
     (first rest : List Effect) (level table index below k : ℕ) → effects ≡ first ++ Barrier ∷ rest
     → (IsBrought first table index → ⊥)
+    → IsBrought rest table index
     → reached (suc level) table index ≡ true
     → IsBrought first below k
     → reached level below k ≡ true
