@@ -12,7 +12,7 @@ use Rattle.engine.specs.Tickets.{KeepsTickets}
 use Rattle.quiet.specs.Quiet.{IsSound}
 use Rattle.driven.specs.declared.effect.Effect.{Effect}
 use Rattle.driven.specs.declared.effect.Effect.TheVariants.{Barrier, Context}
-use Rattle.driven.specs.Effects.{AreEffects, BringsAll, IsForMemory, IsQuiet, Sends, in_order, waited}
+use Rattle.driven.specs.Effects.{AreEffects, BringsAll, EndInBarrier, IsForMemory, IsQuiet, Sends, in_order, waited}
 use Rattle.driven.specs.Laws.{MayChange}
 use Rattle.driven.specs.Telling.{IsSentBy, with_wait}
 use Rattle.driven.proofs.Brought.{none_for_memory, one_for_memory}
@@ -37,13 +37,15 @@ module _ (m t : State) (call : Call) (reply : Reply) (sound : IsSound m) (ticket
     words = words_stay m t call reply tickets does sound none [];
     contexts = whole_row m t row [];
     fills = none_fill m t call reply sound does none [];
+    ends = inl refl;
   }
 
   -- the entry of one device was, at most
-  pub entry : (device : ℕ) (es : List Effect) → All IsForMemory es → IsIn (Context device) es
+  pub entry : (device : ℕ) (es : List Effect) → All IsForMemory es → EndInBarrier es → IsIn (Context device) es
       → (t.iommu.contexts ≡ m.iommu.contexts) ⊎ ((e : ContextEntry) × (t.iommu.contexts ≡ slice_set m.iommu.contexts device e))
       → BringsAll m t es
-  entry device es for_memory told row = record {
+  entry device es for_memory ends told row = record {
+    ends = ends;
     for_memory = for_memory;
     words = words_stay m t call reply tickets does sound none es;
     contexts = elim row [
@@ -55,7 +57,7 @@ module _ (m t : State) (call : Call) (reply : Reply) (sound : IsSound m) (ticket
 
   pub one_for_entry : (device : ℕ) → (t.iommu.contexts ≡ m.iommu.contexts)
       ⊎ ((e : ContextEntry) × (t.iommu.contexts ≡ slice_set m.iommu.contexts device e)) → BringsAll m t (entry_told device)
-  one_for_entry device row = entry device (entry_told device) (entry_for_memory device) (inl refl) row
+  one_for_entry device row = entry device (entry_told device) (entry_for_memory device) (inr (Context device ∷ [], refl)) (inl refl) row
 
   -- a call that submits nothing
   pub sends_none : IsSilent call → Sends m call t []

@@ -5,6 +5,7 @@ use Rattle.std.specs.Prelude.{not}
 use Rattle.std.specs.Option.{option_eq}
 use Rattle.std.specs.List.{All}
 use Rattle.std.proofs.lemmas.Bool.{cases_lt}
+use Rattle.std.proofs.lemmas.List.{append_assoc}
 use Rattle.std.proofs.lemmas.List.Elements.{All-append, All-push}
 use Rattle.std.proofs.lemmas.Option.{none-some, same_Some}
 use Rattle.dmatypes.specs.World.{IsIn}
@@ -15,7 +16,7 @@ use Rattle.engine.specs.Domains.{Domain}
 use Rattle.engine.proofs.lists.Membership.{in_left, in_right}
 use Rattle.driven.specs.declared.effect.Effect.{Effect}
 use Rattle.driven.specs.declared.effect.Effect.TheVariants.{Barrier, Words}
-use Rattle.driven.specs.Effects.{Brings, IsBrought, IsForMemory}
+use Rattle.driven.specs.Effects.{Brings, EndInBarrier, IsBrought, IsForMemory}
 use Rattle.driven.specs.Telling.{BringsFrames, BringsLevel, BringsLowest, BringsPart, BringsTable, BringsUnmapped, BringsUpper}
 use Rattle.driven.specs.Telling.{BringsWays, BringsWhole}
 
@@ -123,6 +124,7 @@ module _ (pool : Pool) (h : Option Domain) (first last : ℕ) (x y z : List Effe
   upper two three four = record {
     rest = ((x ++ y) ++ z) ++ Barrier ∷ [];
     begins = refl;
+    ends = inr (Between, refl);
     for_memory =
         All-append IsForMemory Between (Barrier ∷ [])
         (All-append IsForMemory (((Barrier ∷ []) ++ x) ++ y) z
@@ -161,10 +163,16 @@ differ E same (Some x) (Some y) h e =
     let one : E x y ≡ true = ap (λ n. E x n) (sym (same_Some x y e)) ∙ same x in
     absurd (let clash : true ≡ false = h ∙ ap not one in cc)
 
+-- where the second part has an effect and its last is a barrier, so is that of both
+last_barrier : (x y : List Effect) {rest : List Effect} → y ≡ Barrier ∷ rest → EndInBarrier y → EndInBarrier (x ++ y)
+last_barrier x y some (inl none) = absurd (let clash : Barrier ∷ _ ≡ [] = sym some ∙ none in cc)
+last_barrier x y some (inr (earlier, is)) = inr (x ++ earlier, ap (λ es. x ++ es) is ∙ sym (append_assoc x earlier (Barrier ∷ [])))
+
 -- the lowest tables, and then those above them
 pub ways : (pool : Pool) (h : Option Domain) (from last to : ℕ) (x y : List Effect) → to ≡ last + 1 → BringsLevel pool h 1 from last x
     → BringsUpper pool h from last y → BringsWays pool h from to (x ++ y)
 ways pool h from last to x y end lowest above = record {
+  ends = last_barrier x y above.begins above.ends;
   for_memory = All-append IsForMemory x y lowest.for_memory above.for_memory;
   brings = λ level p f low high a b at.
       let inside : p ≤ last = omega (arith, b, end) in
@@ -182,6 +190,7 @@ unmapped pool h first last before x y lowest above = record {
   lowest = x;
   rest = above.rest;
   parted = ap (λ es. x ++ es) above.begins;
+  ends = last_barrier x y above.begins above.ends;
   brings_lowest = lowest;
   for_memory = All-append IsForMemory x y lowest.for_memory above.for_memory;
   upper = λ level p f low high a b at. brought_right x y f (index_in (level - 1) p) (above.brings level p f low high a b at);
@@ -192,9 +201,12 @@ unmapped pool h first last before x y lowest above = record {
       );
 }
 
-pub frames : (count frame : ℕ) (e : Effect) → frame ≡ 0 → e ≡ Words frame 0 (TABLE_ENTRIES * count) → BringsFrames count (e ∷ [])
+pub frames : (count frame : ℕ) (e : Effect) → frame ≡ 0 → e ≡ Words frame 0 (TABLE_ENTRIES * count)
+    → BringsFrames count (e ∷ Barrier ∷ [])
 frames count frame e none is = record {
-  for_memory = one_for_memory e (subst IsForMemory (sym is) tt);
+  ends = inr (e ∷ [], refl);
+  for_memory =
+      All-append IsForMemory (e ∷ []) (Barrier ∷ []) (one_for_memory e (subst IsForMemory (sym is) tt)) (one_for_memory Barrier tt);
   brings = λ f k low inside.
-      brought_one e f k (subst (λ x. Brings x f k) (sym is) (omega (arith, none), omega (arith, none, low, inside)));
+      brought_left (e ∷ []) (Barrier ∷ []) f k (brought_one e f k (subst (λ x. Brings x f k) (sym is) (omega (arith, none), omega (arith, none, low, inside))));
 }

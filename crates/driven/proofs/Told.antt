@@ -81,6 +81,7 @@ brings_nothing m t words row = record {
   words = λ f k inside differs. absurd (differs (ap (λ ws. word ws f k) (sym words)));
   contexts = λ v differs. absurd (differs (ap (λ r. slice_get r v) (sym row)));
   fills = same_fill m t words [];
+  ends = inl refl;
 }
 
 pub refused : (m t : State) (call : Call) (r : Refusal) → Does m call (Refused r) t → AreEffects m call (Refused r) t []

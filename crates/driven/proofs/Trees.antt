@@ -58,6 +58,7 @@ module _ (m t : State) (d frame pages order rights address : ℕ) (sound : IsSou
       → BringsWays t.pool (domain_at t.domains d) (address / PAGE_BYTES) (address / PAGE_BYTES + pages) es → BringsAll m t es
   map_brings es brings = record {
     for_memory = brings.for_memory;
+    ends = brings.ends;
     words = λ f k inside differs.
         let (h, (here, on)) = calls_change m t (calls.Map d frame pages order rights) (Mapped address) f k sound does inside differs in
         let o = onward m t d h sound here (calls.Map d frame pages order rights) (Mapped address) does does.becomes
@@ -81,6 +82,7 @@ module _ (m t : State) (d order rights address : ℕ) (segments : ArrayVec Segme
       → BringsAll m t es
   list_brings es brings = record {
     for_memory = brings.for_memory;
+    ends = brings.ends;
     words = λ f k inside differs.
         let (h, (here, on)) = calls_change m t (calls.MapList d order rights segments) (Mapped address) f k sound does inside differs in
         let o = onward m t d h sound here (calls.MapList d order rights segments) (Mapped address) does does.becomes (λ is done. cc) in
@@ -108,6 +110,7 @@ module _ (m t : State) (d address pages released : ℕ) (sound : IsSound m)
       → BringsUnmapped t.pool (domain_at t.domains d) (address / PAGE_BYTES) last before es → BringsAll m t es
   unmap_brings last end before were es brings = record {
     for_memory = brings.for_memory;
+    ends = brings.ends;
     words = λ f k inside differs.
         elim (calls_change m t (calls.Unmap d address pages) (Unmapped released) f k sound does inside differs) [
           | inl on ↦
@@ -155,6 +158,7 @@ module _ (m t : State) (d : ℕ) (sound : IsSound m) (does : Does m (calls.Drop 
   pub drop_brings : (es : List Effect) → BringsFrames t.pool.frames es → BringsAll m t es
   drop_brings es brings = record {
     for_memory = brings.for_memory;
+    ends = brings.ends;
     words = drop_by does.becomes es brings;
     contexts = whole_row m t (rows m t (calls.Drop d) Done does.becomes) es;
     fills = drop_fill does.becomes es;

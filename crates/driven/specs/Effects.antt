@@ -53,12 +53,18 @@ FillsTables m t effects =
     × ((k : ℕ) → k < TABLE_ENTRIES → IsBrought first below k)
     × (IsBrought first table index → ⊥))
 
--- they bring every word of a table frame, and every context entry, that isn't as before
+-- there are none, or a barrier is the last
+abbrev pub EndInBarrier : List Effect → Type 0
+EndInBarrier effects = (effects ≡ []) ⊎ ((earlier : List Effect) × (effects ≡ earlier ++ Barrier ∷ []))
+
+-- They bring every word of a table frame, and every context entry, that isn't as before. All of it is in memory before what follows: a
+-- descriptor, or the next call
 pub record BringsAll (m t : State) (effects : List Effect) : Type 0 where
   pub for_memory : All IsForMemory effects
   pub words : (f k : ℕ) → k < TABLE_ENTRIES → word m.pool.words f k ≢ word t.pool.words f k → IsBrought effects f k
   pub contexts : (v : ℕ) → slice_get m.iommu.contexts v ≢ slice_get t.iommu.contexts v → IsIn (Context v) effects
   pub fills : FillsTables m t effects
+  pub ends : EndInBarrier effects
 
 -- ---- what is sent
 

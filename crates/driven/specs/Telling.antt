@@ -12,7 +12,7 @@ use Rattle.engine.specs.State.{State}
 use Rattle.engine.specs.Walkable.{table_at}
 use Rattle.driven.specs.declared.effect.Effect.{Effect}
 use Rattle.driven.specs.declared.effect.Effect.TheVariants.{Await, Barrier}
-use Rattle.driven.specs.Effects.{Brings, IsBrought, IsForMemory, IsSending}
+use Rattle.driven.specs.Effects.{Brings, EndInBarrier, IsBrought, IsForMemory, IsSending}
 
 -- in how many tables of a level the words of the pages from one to another can lie
 abbrev pub most_tables : ℕ → ℕ → ℕ → ℕ
@@ -30,10 +30,11 @@ pub record BringsLevel (pool : Pool) (h : Option Domain) (level first last : ℕ
   pub for_memory : All IsForMemory effects
   pub brings : (p f : ℕ) → first ≤ p → p ≤ last → table_at pool h p level ≡ Some f → IsBrought effects f (index_in (level - 1) p)
 
--- a barrier, and then the words of the levels above the lowest
+-- the words of the levels above the lowest, between two barriers
 pub record BringsUpper (pool : Pool) (h : Option Domain) (first last : ℕ) (effects : List Effect) : Type 0 where
   pub rest : List Effect
   pub begins : effects ≡ Barrier ∷ rest
+  pub ends : EndInBarrier effects
   pub for_memory : All IsForMemory effects
   pub brings : (level p f : ℕ) → 2 ≤ level → level ≤ 4 → first ≤ p → p ≤ last → table_at pool h p level ≡ Some f
       → IsBrought effects f (index_in (level - 1) p)
@@ -74,6 +75,7 @@ pub record BringsLowest (pool : Pool) (h : Option Domain) (first last : ℕ) (be
 
 -- the words on the ways of the pages from one up to another
 pub record BringsWays (pool : Pool) (h : Option Domain) (from to : ℕ) (effects : List Effect) : Type 0 where
+  pub ends : EndInBarrier effects
   pub for_memory : All IsForMemory effects
   pub brings : (level p f : ℕ) → 1 ≤ level → level ≤ 4 → from ≤ p → p < to → table_at pool h p level ≡ Some f
       → IsBrought effects f (index_in (level - 1) p)
@@ -84,6 +86,7 @@ pub record BringsUnmapped (pool : Pool) (h : Option Domain) (first last : ℕ) (
   pub lowest : List Effect
   pub rest : List Effect
   pub parted : effects ≡ lowest ++ Barrier ∷ rest
+  pub ends : EndInBarrier effects
   pub brings_lowest : BringsLowest pool h first last before lowest
   pub for_memory : All IsForMemory effects
   pub upper : (level p f : ℕ) → 2 ≤ level → level ≤ 4 → first ≤ p → p ≤ last → table_at pool h p level ≡ Some f
@@ -95,6 +98,7 @@ pub record BringsUnmapped (pool : Pool) (h : Option Domain) (first last : ℕ) (
 
 -- all words of so many table frames
 pub record BringsFrames (frames : ℕ) (effects : List Effect) : Type 0 where
+  pub ends : EndInBarrier effects
   pub for_memory : All IsForMemory effects
   pub brings : (f k : ℕ) → f < frames → k < TABLE_ENTRIES → IsBrought effects f k
 

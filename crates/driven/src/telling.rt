@@ -166,10 +166,10 @@ pub(crate) fn bring_unmapped(
     bring_upper(effects, state, domain, first, last);
 }
 
-/// Tells all words of all table frames.
+/// Tells all words of all table frames, and a barrier.
 pub(crate) fn bring_frames(effects: &mut Effects, state: &State)
-    requires room { array_vec_len effects.old + 1 ≤ MOST_EFFECTS }
-    ensures { (more : List Effect) × (effects.new.items ≡ effects.old.items ++ more) × (length more ≤ 1)
+    requires room { array_vec_len effects.old + 2 ≤ MOST_EFFECTS }
+    ensures { (more : List Effect) × (effects.new.items ≡ effects.old.items ++ more) × (length more ≤ 2)
         × BringsFrames state.now.pool.frames more }
 {
     effects.push(Effect::Words {
@@ -177,6 +177,7 @@ pub(crate) fn bring_frames(effects: &mut Effects, state: &State)
         first: 0,
         count: TABLE_ENTRIES * state.table_frames(),
     });
+    effects.push(Effect::Barrier);
 }
 
 // The words from the entry of a number to that of another in one table, which has every 512th number first.
