@@ -25,7 +25,8 @@ few_levels W39 = omega arith
 few_levels W48 = omega arith
 
 -- a table on a page's way down the domain's tree, as it is found in the state after the call
-module _ (t : State) (d : ℕ) (h h' : Domain) (then : domain_at t.domains d ≡ Some h') (root : h'.root ≡ h.root) (width : h'.width ≡ h.width) where
+module _ (t : State) (d : ℕ) (h h' : Domain) (then : domain_at t.domains d ≡ Some h') (root : h'.root ≡ h.root) (width : h'.width ≡
+    h.width) where
   pub there : (p w : ℕ) → table_at t.pool (domain_at t.domains d) p w ≡ table_from (memory t.pool.words) (levels h.width) h.root p w
   there p w =
       ap (λ o. table_at t.pool o p w) then
@@ -69,7 +70,8 @@ module _ (t : State) (d : ℕ) (h h' : Domain) (then : domain_at t.domains d ≡
         by_old : (((g : ℕ) → table_from (memory m.pool.words) (levels h.width) h.root p 1 ≡ Some g
             → table_at t.pool (domain_at t.domains d) p 1 ≡ Some g → IsBrought es g (p % TABLE_ENTRIES))
             × ((g i : ℕ) → table_from (memory m.pool.words) (levels h.width) h.root p 1 ≢ table_at t.pool (domain_at t.domains d) p 1
-            → (table_from (memory m.pool.words) (levels h.width) h.root p 1 ≡ Some g) ⊎ (table_at t.pool (domain_at t.domains d) p 1 ≡ Some g)
+            → (table_from (memory m.pool.words) (levels h.width) h.root p 1 ≡ Some g) ⊎ (table_at t.pool (domain_at t.domains d) p 1 ≡
+            Some g)
             → i < TABLE_ENTRIES → IsBrought es g i))
             → (o : Option ℕ) → table_from (memory m.pool.words) (levels h.width) h.root p 1 ≡ o → IsBrought es f k
         by_old b None old =

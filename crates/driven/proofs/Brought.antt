@@ -1,5 +1,6 @@
 -- What lists of effects bring.
-use Rattle.std.proofs.Common.{◌≡◌, ◌≢◌, ◌⊎◌, inl, inr, ⊎_elim, ℕ, ◌+◌, ◌-◌, ◌*◌, ◌%◌, ◌<◌, ◌≤◌, List, [], ◌∷◌, ◌++◌, Option, Some, None, refl, sym}
+use Rattle.std.proofs.Common.{◌≡◌, ◌≢◌, ◌⊎◌, inl, inr, ⊎_elim, ℕ, ◌+◌, ◌-◌, ◌*◌, ◌%◌}
+use Rattle.std.proofs.Common.{◌<◌, ◌≤◌, List, [], ◌∷◌, ◌++◌, Option, Some, None, refl, sym}
 use Rattle.std.proofs.Common.{ap, subst, ◌∙◌, arith, Bool, true, false}
 use Rattle.std.specs.Prelude.{not}
 use Rattle.std.specs.Option.{option_eq}
@@ -208,5 +209,13 @@ frames count frame e none is = record {
   for_memory =
       All-append IsForMemory (e ∷ []) (Barrier ∷ []) (one_for_memory e (subst IsForMemory (sym is) tt)) (one_for_memory Barrier tt);
   brings = λ f k low inside.
-      brought_left (e ∷ []) (Barrier ∷ []) f k (brought_one e f k (subst (λ x. Brings x f k) (sym is) (omega (arith, none), omega (arith, none, low, inside))));
+      brought_left (e ∷ []) (Barrier ∷ []) f k (brought_one e f k (subst (λ x. Brings x f k) (sym is) (
+        omega (arith, none),
+        omega (
+          arith,
+          none,
+          low,
+          inside,
+        ),
+      )));
 }

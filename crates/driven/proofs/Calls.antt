@@ -107,7 +107,8 @@ module _ (m t : State) (f k : ℕ) (sound : IsSound m) (inside : k < TABLE_ENTRI
   changed (calls.Flush e) _ does is = quiet (ap (λ (x : State). x.pool) is)
   changed (calls.Unmap e address pages) (Unmapped released) does (h, new, here, ends, is) =
       unmapped e h here (range_at address pages)
-      (cuts m t sound e h here (range_at address pages) (unmap_pages m t e address pages released h sound here does) released new h.mode ends)
+      (cuts m t sound e h here (range_at address pages) (unmap_pages m t e address pages released h sound here does) released new h.mode
+      ends)
   changed (calls.Unmap e address pages) _ does is = quiet (ap (λ (x : State). x.pool) is)
   changed (calls.Dma device address access whim) (Refused refusal) does is = quiet (ap (λ (x : State). x.pool) is)
   changed (calls.Dma device address access whim) _ does (answer, reached, answers, filled, is) = quiet (ap (λ (x : State). x.pool) is)

@@ -68,7 +68,8 @@ module _ (m t : State) (d : ℕ) (h h' : Domain) (here : domain_at m.domains d �
       let large' : memory c.old.words 2 f k ≡ LargeLeaf x = ap (λ ws. memory ws 2 f k) c.was ∙ large in
       let named' : memory c.new.words 2 f k ≡ Table b = ap (λ ws. memory ws 2 f k) c.is ∙ named in
       let (q, (low, high, stood, stands, index)) =
-      on_way c.old c.new (levels h.width) h.root range.first (range.first + range.pages) c.cut c.sound c.unmaps f k x inside large' b named' in
+      on_way c.old c.new (levels h.width) h.root range.first (range.first + range.pages) c.cut c.sound c.unmaps f k x inside large' b
+      named' in
       let came_there : table_from (memory c.new.words) (levels h.width) h.root q 1 ≡ Some b =
       came c.old c.new (levels h.width) h.root range.first (range.first + range.pages) c.cut c.sound c.unmaps f k x inside large' b named'
       q stands index in
@@ -101,7 +102,8 @@ module _ (m t : State) (d : ℕ) (h h' : Domain) (here : domain_at m.domains d �
       unnamed large' told =
           let (p, (low, high, either)) = brings.brings_lowest.only f k inside told in
           let small : p < pages_end h.width = omega (arith, high, end, c.below) in
-          not_lowest c.old c.new (levels h.width) h.root range.first (range.first + range.pages) c.cut c.sound c.unmaps f k x inside large' p
+          not_lowest c.old c.new (levels h.width) h.root range.first (range.first + range.pages) c.cut c.sound c.unmaps f k x inside
+          large' p
           (one_span h.width p small ∙ sym (one_span h.width range.first (omega (arith, low, small))))
           (elim either [
             | inl w ↦ inl (

@@ -81,7 +81,8 @@ module _ (pool : Pool) (h : Option Domain) (first last : ℕ) (before : List (Op
   pub lowest_none : Lowest pool h first last before []
   lowest_none f k inside there = absurd (none_brought f k there)
 
-  pub lowest_more : (more : List Effect) (number from to : ℕ) (was now : Option ℕ) (next : List Effect) → Lowest pool h first last before more
+  pub lowest_more : (more : List Effect) (number from to : ℕ) (was now : Option ℕ) (next : List Effect) → Lowest pool h first last before
+      more
       → slice_get before (number - first / SPAN_PAGES) ≡ Some was → now ≡ table_at pool h (number * SPAN_PAGES) 1
       → from / SPAN_PAGES ≡ number → first ≤ from → from ≤ last → BringsTable was now from to next
       → Lowest pool h first last before (more ++ next)

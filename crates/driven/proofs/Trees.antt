@@ -86,7 +86,8 @@ module _ (m t : State) (d order rights address : ℕ) (segments : ArrayVec Segme
     words = λ f k inside differs.
         let (h, (here, on)) = calls_change m t (calls.MapList d order rights segments) (Mapped address) f k sound does inside differs in
         let o = onward m t d h sound here (calls.MapList d order rights segments) (Mapped address) does does.becomes (λ is done. cc) in
-        on_ways t d h o.0 o.1 o.2.root o.2.width (address / PAGE_BYTES) (address / PAGE_BYTES + total_pages segments.items) es brings f k on;
+        on_ways t d h o.0 o.1 o.2.root o.2.width (address / PAGE_BYTES) (address / PAGE_BYTES + total_pages segments.items) es brings f k
+        on;
     contexts = whole_row m t (rows m t (calls.MapList d order rights segments) (Mapped address) does.becomes) es;
     fills = list_fill does.becomes es;
   }
@@ -102,7 +103,8 @@ module _ (m t : State) (d address pages released : ℕ) (sound : IsSound m)
   unmap_fill (h, new, here, ends, is) last end before were es brings =
       let o = onward m t d h sound here (calls.Unmap d address pages) (Unmapped released) does does.becomes (λ is done. cc) in
       cut_fill m t d h o.0 here o.1 o.2.root o.2.width (range_at address pages)
-      (cuts m t sound d h here (range_at address pages) (unmap_pages m t d address pages released h sound here does) released new h.mode ends)
+      (cuts m t sound d h here (range_at address pages) (unmap_pages m t d address pages released h sound here does) released new h.mode
+      ends)
       last end before were es brings
 
   pub unmap_brings : (last : ℕ) → address / PAGE_BYTES + pages ≡ last + 1 → (before : List (Option ℕ))
@@ -118,7 +120,8 @@ module _ (m t : State) (d address pages released : ℕ) (sound : IsSound m)
               stays_or_came t d on.0 o.0 o.1 o.2.root o.2.width m (address / PAGE_BYTES) last before on.1.0 were es brings
               (address / PAGE_BYTES + pages) end f k inside on.1.1
           | inr out ↦
-              let o = onward m t d out.0 sound out.1.0 (calls.Unmap d address pages) (Unmapped released) does does.becomes (λ is done. cc) in
+              let o = onward m t d out.0 sound out.1.0 (calls.Unmap d address pages) (Unmapped released) does does.becomes (λ is done.
+              cc) in
               exchanged t d out.0 o.0 o.1 o.2.root o.2.width m (address / PAGE_BYTES) last before out.1.0 were es brings
               (address / PAGE_BYTES + pages) end f k inside out.1.1
         ];

@@ -1,5 +1,5 @@
-//! What a call changes of the words that a unit reads, what it submits to the queue, and what a walk finds meanwhile. Each function does nothing: its contract is the
-//! law, and its proof is from the public contracts of `engine` and the crates below it.
+//! What a call changes of the words that a unit reads, what it submits to the queue, and what a walk finds meanwhile. Each function does
+//! nothing: its contract is the law, and its proof is from the public contracts of `engine` and the crates below it.
 
 ghost use Rattle.driven.specs.Laws.{CallsChangeTheseWords, CallsSubmitAtMostOne, EffectsAreOldOrNew, EffectsLeadThere};
 

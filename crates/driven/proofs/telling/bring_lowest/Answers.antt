@@ -24,13 +24,15 @@ loop-span-preserved c =
         omega (arith, few, two, length-append more next),
         omega (arith, begun),
         All-append IsForMemory more next for_memory brings.for_memory,
-        lowest_more c.args.state.now.pool (domain_at c.args.state.now.domains c.args.domain) c.args.first c.args.last c.args.before.now.items
+        lowest_more c.args.state.now.pool (domain_at c.args.state.now.domains c.args.domain) c.args.first c.args.last
+            c.args.before.now.items
             more c.loop-span.span c.max-from.result c.min-to.result c.index-as_slice-span.result c.table_at-now.result next lowest stood
             c.table_at-now.ensures (omega (arith, c.max-from.ensures, begun, c.loop-span-test.true))
             (omega (arith, c.max-from.ensures)) (omega (arith, c.max-from.ensures, c.requires.pages.0, c.loop-span-test.true)) brings,
         told_more c.args.state.now.pool (domain_at c.args.state.now.domains c.args.domain) c.args.first c.args.last c.args.before.now.items
             more c.loop-span.span c.max-from.result c.min-to.result c.index-as_slice-span.result c.table_at-now.result next told
             (omega (arith, begun)) stood c.table_at-now.ensures
-            (λ p low here. omega (arith, c.max-from.ensures, low, here)) (λ p high here. omega (arith, c.min-to.ensures, high, here)) brings,
+            (λ p low here. omega (arith, c.max-from.ensures, low, here)) (λ p high here. omega (arith, c.min-to.ensures, high, here))
+            brings,
       ),
     )

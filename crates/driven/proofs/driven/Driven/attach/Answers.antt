@@ -12,7 +12,8 @@ pub returns-in_err-attach-clause-effects : goal.returns-in_err-attach-clause-eff
 returns-in_err-attach-clause-effects c =
     let p = err_from_is_err_and c.from_residual.result c.from_residual.ensures.1 in
     rw (p.1, p.2, ← c.self.view_is, c.clear.ensures)
-    (refused c.self.inside.state c.attach.new.self (calls.Attach c.args.device c.args.domain) c.in_err-attach.field-0.0 c.in_err-attach.ensures)
+    (refused c.self.inside.state c.attach.new.self (calls.Attach c.args.device c.args.domain) c.in_err-attach.field-0.0
+    c.in_err-attach.ensures)
 
 pub returns-clause-effects : goal.returns-clause-effects
 returns-clause-effects c =
@@ -22,9 +23,12 @@ returns-clause-effects c =
       quiet = tt;
       brought = entry_told c.args.device;
       sent = [];
-      brings = one_for_entry c.self.inside.state c.attach.new.self (calls.Attach c.args.device c.args.domain) (replies.Done) sound c.keeps.ensures.tickets c.in_ok-attach.ensures
-          (λ f k no. no) c.args.device (rows c.self.inside.state c.attach.new.self (calls.Attach c.args.device c.args.domain) (replies.Done) c.in_ok-attach.ensures.becomes);
-      sends = sends_none c.self.inside.state c.attach.new.self (calls.Attach c.args.device c.args.domain) (replies.Done) sound c.keeps.ensures.tickets c.in_ok-attach.ensures
+      brings = one_for_entry c.self.inside.state c.attach.new.self (calls.Attach c.args.device c.args.domain) (replies.Done) sound
+          c.keeps.ensures.tickets c.in_ok-attach.ensures
+          (λ f k no. no) c.args.device (rows c.self.inside.state c.attach.new.self (calls.Attach c.args.device c.args.domain)
+          (replies.Done) c.in_ok-attach.ensures.becomes);
+      sends = sends_none c.self.inside.state c.attach.new.self (calls.Attach c.args.device c.args.domain) (replies.Done) sound
+          c.keeps.ensures.tickets c.in_ok-attach.ensures
           (λ f k no. no) tt;
       ordered = refl;
     })

@@ -17,15 +17,19 @@ returns-in_err-number-clause-effects c =
 pub send-requires-clause-sent : goal.send-requires-clause-sent
 send-requires-clause-sent c =
     rw c.waits-waits.ensures
-    (has_sent c.self.inside.state c.begin.new.self (calls.Begin c.args.domain) (replies.Ticket c.args.domain c.in_ok-number.number) c.keeps.ensures.tickets c.in_ok-number.ensures)
+    (has_sent c.self.inside.state c.begin.new.self (calls.Begin c.args.domain) (replies.Ticket c.args.domain c.in_ok-number.number)
+    c.keeps.ensures.tickets c.in_ok-number.ensures)
 
 pub returns-clause-effects : goal.returns-clause-effects
 returns-clause-effects c =
     let sound : IsSound c.self.inside.state = record { of_world = c.keeps.ensures.of_world; places = c.keeps.ensures.places } in
     let (more, items, sent) = c.send.ensures in
     rw (← c.self.view_is)
-    (asks c.self.inside.state c.begin.new.self (calls.Begin c.args.domain) (replies.Ticket c.args.domain c.in_ok-number.number) c.keeps.ensures.tickets c.in_ok-number.ensures c.waits-waits.result
+    (asks c.self.inside.state c.begin.new.self (calls.Begin c.args.domain) (replies.Ticket c.args.domain c.in_ok-number.number)
+    c.keeps.ensures.tickets c.in_ok-number.ensures c.waits-waits.result
     false [] more c.send.new.effects.items
-    (nothing c.self.inside.state c.begin.new.self (calls.Begin c.args.domain) (replies.Ticket c.args.domain c.in_ok-number.number) sound c.keeps.ensures.tickets c.in_ok-number.ensures
-    (λ f k no. no) (rows c.self.inside.state c.begin.new.self (calls.Begin c.args.domain) (replies.Ticket c.args.domain c.in_ok-number.number) c.in_ok-number.ensures.becomes))
+    (nothing c.self.inside.state c.begin.new.self (calls.Begin c.args.domain) (replies.Ticket c.args.domain c.in_ok-number.number) sound
+    c.keeps.ensures.tickets c.in_ok-number.ensures
+    (λ f k no. no) (rows c.self.inside.state c.begin.new.self (calls.Begin c.args.domain) (replies.Ticket c.args.domain
+    c.in_ok-number.number) c.in_ok-number.ensures.becomes))
     (items ∙ ap (λ xs. xs ++ more) c.clear.ensures) c.waits-waits.ensures refl sent tt)

@@ -18,17 +18,21 @@ returns-in_err-detach-clause-effects c =
 pub send-requires-clause-sent : goal.send-requires-clause-sent
 send-requires-clause-sent c =
     rw c.waits-waits.ensures
-    (has_sent c.self.inside.state c.detach.new.self (calls.Detach c.args.device) (replies.Done) c.keeps.ensures.tickets (c.in_ok-detach.ensures))
+    (has_sent c.self.inside.state c.detach.new.self (calls.Detach c.args.device) (replies.Done) c.keeps.ensures.tickets
+    (c.in_ok-detach.ensures))
 
 pub returns-clause-effects : goal.returns-clause-effects
 returns-clause-effects c =
     let sound : IsSound c.self.inside.state = record { of_world = c.keeps.ensures.of_world; places = c.keeps.ensures.places } in
     let (more, items, sent) = c.send.ensures in
     rw (← c.self.view_is)
-    (asks c.self.inside.state c.detach.new.self (calls.Detach c.args.device) (replies.Done) c.keeps.ensures.tickets (c.in_ok-detach.ensures) c.waits-waits.result
+    (asks c.self.inside.state c.detach.new.self (calls.Detach c.args.device) (replies.Done) c.keeps.ensures.tickets
+    (c.in_ok-detach.ensures) c.waits-waits.result
     Rattle.std.proofs.Common.true (entry_told c.args.device) more c.send.new.effects.items
-    (one_for_entry c.self.inside.state c.detach.new.self (calls.Detach c.args.device) (replies.Done) sound c.keeps.ensures.tickets (c.in_ok-detach.ensures)
-    (λ f k no. no) c.args.device (rows c.self.inside.state c.detach.new.self (calls.Detach c.args.device) (replies.Done) (c.in_ok-detach.ensures).becomes))
+    (one_for_entry c.self.inside.state c.detach.new.self (calls.Detach c.args.device) (replies.Done) sound c.keeps.ensures.tickets
+    (c.in_ok-detach.ensures)
+    (λ f k no. no) c.args.device (rows c.self.inside.state c.detach.new.self (calls.Detach c.args.device) (replies.Done)
+    (c.in_ok-detach.ensures).becomes))
     (items ∙ ap (λ xs. xs ++ more) (c.push-2.ensures.items
     ∙ ap (λ xs. xs ++ Barrier ∷ []) (c.push.ensures.items ∙ ap (λ xs. xs ++ Context c.args.device ∷ []) c.clear.ensures)))
     c.waits-waits.ensures refl sent tt)

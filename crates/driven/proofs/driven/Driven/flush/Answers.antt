@@ -17,15 +17,19 @@ returns-in_err-released-clause-effects c =
 pub send-requires-clause-sent : goal.send-requires-clause-sent
 send-requires-clause-sent c =
     rw c.waits-waits.ensures
-    (has_sent c.self.inside.state c.flush.new.self (calls.Flush c.args.domain) (replies.Flushed c.in_ok-released.released) c.keeps.ensures.tickets (c.in_ok-released.ensures))
+    (has_sent c.self.inside.state c.flush.new.self (calls.Flush c.args.domain) (replies.Flushed c.in_ok-released.released)
+    c.keeps.ensures.tickets (c.in_ok-released.ensures))
 
 pub returns-clause-effects : goal.returns-clause-effects
 returns-clause-effects c =
     let sound : IsSound c.self.inside.state = record { of_world = c.keeps.ensures.of_world; places = c.keeps.ensures.places } in
     let (more, items, sent) = c.send.ensures in
     rw (← c.self.view_is)
-    (asks c.self.inside.state c.flush.new.self (calls.Flush c.args.domain) (replies.Flushed c.in_ok-released.released) c.keeps.ensures.tickets (c.in_ok-released.ensures) c.waits-waits.result
+    (asks c.self.inside.state c.flush.new.self (calls.Flush c.args.domain) (replies.Flushed c.in_ok-released.released)
+    c.keeps.ensures.tickets (c.in_ok-released.ensures) c.waits-waits.result
     Rattle.std.proofs.Common.true [] more c.send.new.effects.items
-    (nothing c.self.inside.state c.flush.new.self (calls.Flush c.args.domain) (replies.Flushed c.in_ok-released.released) sound c.keeps.ensures.tickets (c.in_ok-released.ensures)
-    (λ f k no. no) (rows c.self.inside.state c.flush.new.self (calls.Flush c.args.domain) (replies.Flushed c.in_ok-released.released) (c.in_ok-released.ensures).becomes))
+    (nothing c.self.inside.state c.flush.new.self (calls.Flush c.args.domain) (replies.Flushed c.in_ok-released.released) sound
+    c.keeps.ensures.tickets (c.in_ok-released.ensures)
+    (λ f k no. no) (rows c.self.inside.state c.flush.new.self (calls.Flush c.args.domain) (replies.Flushed c.in_ok-released.released)
+    (c.in_ok-released.ensures).becomes))
     (items ∙ ap (λ xs. xs ++ more) c.clear.ensures) c.waits-waits.ensures refl sent tt)

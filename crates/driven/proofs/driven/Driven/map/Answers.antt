@@ -12,7 +12,8 @@ pub returns-in_err-address-clause-effects : goal.returns-in_err-address-clause-e
 returns-in_err-address-clause-effects c =
     let p = err_from_is_err_and c.from_residual.result c.from_residual.ensures.1 in
     rw (p.1, p.2, ← c.self.view_is, c.clear.ensures)
-    (refused c.self.inside.state c.map.new.self (calls.Map c.args.domain c.args.frame c.args.pages c.args.order c.args.rights) c.in_err-address.field-0.0 c.in_err-address.ensures)
+    (refused c.self.inside.state c.map.new.self (calls.Map c.args.domain c.args.frame c.args.pages c.args.order c.args.rights)
+    c.in_err-address.field-0.0 c.in_err-address.ensures)
 
 pub bring_ways-requires-clause-pages : goal.bring_ways-requires-clause-pages
 bring_ways-requires-clause-pages c =
@@ -23,7 +24,8 @@ bring_ways-requires-clause-pages c =
 pub send-requires-clause-sent : goal.send-requires-clause-sent
 send-requires-clause-sent c =
     rw c.waits-waits.ensures
-    (has_sent c.self.inside.state c.map.new.self (calls.Map c.args.domain c.args.frame c.args.pages c.args.order c.args.rights) (replies.Mapped c.in_ok-address.address) c.keeps.ensures.tickets c.in_ok-address.ensures)
+    (has_sent c.self.inside.state c.map.new.self (calls.Map c.args.domain c.args.frame c.args.pages c.args.order c.args.rights)
+    (replies.Mapped c.in_ok-address.address) c.keeps.ensures.tickets c.in_ok-address.ensures)
 
 pub returns-clause-effects : goal.returns-clause-effects
 returns-clause-effects c =
@@ -31,7 +33,8 @@ returns-clause-effects c =
     let (es, items, few, brings) = c.bring_ways.ensures in
     let (more, items', sent) = c.send.ensures in
     rw (← c.self.view_is)
-    (asks c.self.inside.state c.map.new.self (calls.Map c.args.domain c.args.frame c.args.pages c.args.order c.args.rights) (replies.Mapped c.in_ok-address.address) c.keeps.ensures.tickets c.in_ok-address.ensures
+    (asks c.self.inside.state c.map.new.self (calls.Map c.args.domain c.args.frame c.args.pages c.args.order c.args.rights)
+    (replies.Mapped c.in_ok-address.address) c.keeps.ensures.tickets c.in_ok-address.ensures
     c.waits-waits.result true es more c.send.new.effects.items
     (map_brings c.self.inside.state c.map.new.self c.args.domain c.args.frame c.args.pages c.args.order c.args.rights
     c.in_ok-address.address sound c.in_ok-address.ensures es brings)

@@ -17,12 +17,14 @@ pub returns-in_err-address-clause-effects : goal.returns-in_err-address-clause-e
 returns-in_err-address-clause-effects c =
     let p = err_from_is_err_and c.from_residual.result c.from_residual.ensures.1 in
     rw (p.1, p.2, ← c.self.view_is, c.clear.ensures)
-    (refused c.self.inside.state c.map_list.new.self (calls.MapList c.args.domain c.args.order c.args.rights c.args.segments.now) c.in_err-address.field-0.0 c.in_err-address.ensures)
+    (refused c.self.inside.state c.map_list.new.self (calls.MapList c.args.domain c.args.order c.args.rights c.args.segments.now)
+    c.in_err-address.field-0.0 c.in_err-address.ensures)
 
 pub pages_of-pages-requires : goal.pages_of-pages-requires
 pages_of-pages-requires c =
     let sound : IsSound c.self.inside.state = record { of_world = c.keeps.ensures.of_world; places = c.keeps.ensures.places } in
-    subst (λ xs. total_pages xs ≤ MOST_PAGES) (sym c.as_slice.ensures.value) (list_pages c.self.inside.state c.map_list.new.self c.args.domain c.args.order c.args.rights c.in_ok-address.address c.args.segments.now sound
+    subst (λ xs. total_pages xs ≤ MOST_PAGES) (sym c.as_slice.ensures.value) (list_pages c.self.inside.state c.map_list.new.self
+    c.args.domain c.args.order c.args.rights c.in_ok-address.address c.args.segments.now sound
     c.in_ok-address.ensures).1
 
 pub bring_ways-requires-clause-pages : goal.bring_ways-requires-clause-pages
@@ -30,13 +32,15 @@ bring_ways-requires-clause-pages c =
     let sound : IsSound c.self.inside.state = record { of_world = c.keeps.ensures.of_world; places = c.keeps.ensures.places } in
     let is : c.pages_of-pages.result ≡ total_pages c.args.segments.now.items =
     c.pages_of-pages.ensures ∙ ap (λ xs. total_pages xs) c.as_slice.ensures.value in
-    subst (λ n. (1 ≤ n) × (n ≤ MOST_PAGES) × (c.in_ok-address.address / PAGE_BYTES + n ≤ PAGES_END)) (sym is) (list_pages c.self.inside.state c.map_list.new.self c.args.domain c.args.order c.args.rights c.in_ok-address.address c.args.segments.now sound
+    subst (λ n. (1 ≤ n) × (n ≤ MOST_PAGES) × (c.in_ok-address.address / PAGE_BYTES + n ≤ PAGES_END)) (sym is) (list_pages
+    c.self.inside.state c.map_list.new.self c.args.domain c.args.order c.args.rights c.in_ok-address.address c.args.segments.now sound
     c.in_ok-address.ensures)
 
 pub send-requires-clause-sent : goal.send-requires-clause-sent
 send-requires-clause-sent c =
     rw c.waits-waits.ensures
-    (has_sent c.self.inside.state c.map_list.new.self (calls.MapList c.args.domain c.args.order c.args.rights c.args.segments.now) (replies.Mapped c.in_ok-address.address) c.keeps.ensures.tickets c.in_ok-address.ensures)
+    (has_sent c.self.inside.state c.map_list.new.self (calls.MapList c.args.domain c.args.order c.args.rights c.args.segments.now)
+    (replies.Mapped c.in_ok-address.address) c.keeps.ensures.tickets c.in_ok-address.ensures)
 
 pub returns-clause-effects : goal.returns-clause-effects
 returns-clause-effects c =
@@ -46,9 +50,11 @@ returns-clause-effects c =
     let (es, items, few, brings) = c.bring_ways.ensures in
     let (more, items', sent) = c.send.ensures in
     rw (← c.self.view_is)
-    (asks c.self.inside.state c.map_list.new.self (calls.MapList c.args.domain c.args.order c.args.rights c.args.segments.now) (replies.Mapped c.in_ok-address.address) c.keeps.ensures.tickets c.in_ok-address.ensures
+    (asks c.self.inside.state c.map_list.new.self (calls.MapList c.args.domain c.args.order c.args.rights c.args.segments.now)
+    (replies.Mapped c.in_ok-address.address) c.keeps.ensures.tickets c.in_ok-address.ensures
     c.waits-waits.result true es more c.send.new.effects.items
-    (list_brings c.self.inside.state c.map_list.new.self c.args.domain c.args.order c.args.rights c.in_ok-address.address c.args.segments.now sound
+    (list_brings c.self.inside.state c.map_list.new.self c.args.domain c.args.order c.args.rights c.in_ok-address.address
+    c.args.segments.now sound
     c.in_ok-address.ensures es
     (subst (λ n. BringsWays c.map_list.new.self.pool (domain_at c.map_list.new.self.domains c.args.domain)
     (c.in_ok-address.address / PAGE_BYTES) (c.in_ok-address.address / PAGE_BYTES + n) es) is brings))

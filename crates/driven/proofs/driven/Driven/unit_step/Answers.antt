@@ -14,9 +14,12 @@ returns-clause-effects c =
       quiet = tt;
       brought = [];
       sent = [];
-      brings = nothing c.self.inside.state c.unit_step.new.self (calls.Unit) (replies.Stepped c.unit_step.result) sound c.keeps.ensures.tickets c.unit_step.ensures
-          (λ f k no. no) (rows c.self.inside.state c.unit_step.new.self (calls.Unit) (replies.Stepped c.unit_step.result) c.unit_step.ensures.becomes);
-      sends = sends_none c.self.inside.state c.unit_step.new.self (calls.Unit) (replies.Stepped c.unit_step.result) sound c.keeps.ensures.tickets c.unit_step.ensures
+      brings = nothing c.self.inside.state c.unit_step.new.self (calls.Unit) (replies.Stepped c.unit_step.result) sound
+          c.keeps.ensures.tickets c.unit_step.ensures
+          (λ f k no. no) (rows c.self.inside.state c.unit_step.new.self (calls.Unit) (replies.Stepped c.unit_step.result)
+          c.unit_step.ensures.becomes);
+      sends = sends_none c.self.inside.state c.unit_step.new.self (calls.Unit) (replies.Stepped c.unit_step.result) sound
+          c.keeps.ensures.tickets c.unit_step.ensures
           (λ f k no. no) tt;
       ordered = refl;
     })

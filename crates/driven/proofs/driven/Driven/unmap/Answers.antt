@@ -35,17 +35,20 @@ pub returns-in_err-released-clause-effects : goal.returns-in_err-released-clause
 returns-in_err-released-clause-effects c =
     let p = err_from_is_err_and c.from_residual.result c.from_residual.ensures.1 in
     rw (p.1, p.2, ← c.self.view_is, c.clear.ensures)
-    (refused c.self.inside.state c.unmap-2.new.self (calls.Unmap c.args.domain c.args.address c.args.pages) c.in_err-released.field-0.0 c.in_err-released.ensures)
+    (refused c.self.inside.state c.unmap-2.new.self (calls.Unmap c.args.domain c.args.address c.args.pages) c.in_err-released.field-0.0
+    c.in_err-released.ensures)
 
 pub send-requires-clause-sent : goal.send-requires-clause-sent
 send-requires-clause-sent c =
     rw c.waits-waits.ensures
-    (has_sent c.self.inside.state c.unmap-2.new.self (calls.Unmap c.args.domain c.args.address c.args.pages) (replies.Unmapped c.in_ok-released.released) c.keeps.ensures.tickets c.in_ok-released.ensures)
+    (has_sent c.self.inside.state c.unmap-2.new.self (calls.Unmap c.args.domain c.args.address c.args.pages) (replies.Unmapped
+    c.in_ok-released.released) c.keeps.ensures.tickets c.in_ok-released.ensures)
 
 pub send-requires-else-released-gt0-clause-sent : goal.send-requires-else-released-gt0-clause-sent
 send-requires-else-released-gt0-clause-sent c =
     rw c.waits-waits.ensures
-    (has_sent c.self.inside.state c.unmap-2.new.self (calls.Unmap c.args.domain c.args.address c.args.pages) (replies.Unmapped c.in_ok-released.released) c.keeps.ensures.tickets c.in_ok-released.ensures)
+    (has_sent c.self.inside.state c.unmap-2.new.self (calls.Unmap c.args.domain c.args.address c.args.pages) (replies.Unmapped
+    c.in_ok-released.released) c.keeps.ensures.tickets c.in_ok-released.ensures)
 
 pub returns-then-released-gt0-clause-effects : goal.returns-then-released-gt0-clause-effects
 returns-then-released-gt0-clause-effects c =
@@ -58,7 +61,8 @@ returns-then-released-gt0-clause-effects c =
     let (more, items, sent) = c.send.ensures in
     let (es, items', few, brings) = c.bring_unmapped.ensures in
     rw (← c.self.view_is)
-    (asks c.self.inside.state c.unmap-2.new.self (calls.Unmap c.args.domain c.args.address c.args.pages) (replies.Unmapped c.in_ok-released.released) c.keeps.ensures.tickets
+    (asks c.self.inside.state c.unmap-2.new.self (calls.Unmap c.args.domain c.args.address c.args.pages) (replies.Unmapped
+    c.in_ok-released.released) c.keeps.ensures.tickets
     c.in_ok-released.ensures c.waits-waits.result true es more c.bring_unmapped.new.effects.items
     (unmap_brings c.self.inside.state c.unmap-2.new.self c.args.domain c.args.address c.args.pages c.in_ok-released.released sound
     c.in_ok-released.ensures (c.first-first.result + c.pages.result - 1) end c.tables_of-before.result.items
@@ -81,7 +85,8 @@ returns-else-released-gt0-clause-effects c =
     let (es, items, few, brings) = c.bring_unmapped-else-released-gt0.ensures in
     let (more, items', sent) = c.send-else-released-gt0.ensures in
     rw (← c.self.view_is)
-    (asks c.self.inside.state c.unmap-2.new.self (calls.Unmap c.args.domain c.args.address c.args.pages) (replies.Unmapped c.in_ok-released.released) c.keeps.ensures.tickets
+    (asks c.self.inside.state c.unmap-2.new.self (calls.Unmap c.args.domain c.args.address c.args.pages) (replies.Unmapped
+    c.in_ok-released.released) c.keeps.ensures.tickets
     c.in_ok-released.ensures c.waits-waits.result true es more c.send-else-released-gt0.new.effects.items
     (unmap_brings c.self.inside.state c.unmap-2.new.self c.args.domain c.args.address c.args.pages c.in_ok-released.released sound
     c.in_ok-released.ensures (c.first-first.result + c.pages.result - 1) end c.tables_of-before.result.items
@@ -92,5 +97,6 @@ returns-else-released-gt0-clause-effects c =
     (items' ∙ ap (λ xs. xs ++ more) (items ∙ ap (λ xs. xs ++ es) c.clear.ensures)
     ∙ sym (sends_last c.self.inside.state c.unmap-2.new.self c.args.domain c.args.address c.args.pages c.in_ok-released.released sound
     c.in_ok-released.ensures (omega (arith, c.if-released-gt0.false)) es more
-    (λ same. sends_nothing c.self.inside.state c.unmap-2.new.self (calls.Unmap c.args.domain c.args.address c.args.pages) (replies.Unmapped c.in_ok-released.released) c.keeps.ensures.tickets c.in_ok-released.ensures
+    (λ same. sends_nothing c.self.inside.state c.unmap-2.new.self (calls.Unmap c.args.domain c.args.address c.args.pages)
+    (replies.Unmapped c.in_ok-released.released) c.keeps.ensures.tickets c.in_ok-released.ensures
     more true same (subst (λ n. IsSentBy c.unmap-2.new.self n true more) c.waits-waits.ensures sent)))) c.waits-waits.ensures refl sent tt)
