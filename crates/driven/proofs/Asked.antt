@@ -1,10 +1,11 @@
 -- What a call asks, from what is told of it.
-use Rattle.std.proofs.Common.{◌≡◌, ◌⊎◌, inl, inr, ℕ, Bool, List, [], ◌∷◌, refl, subst, slice_set}
+use Rattle.std.proofs.Common.{◌≡◌, ◌⊎◌, inl, inr, ℕ, Bool, List, [], ◌∷◌, refl, subst, slice_set, sym}
 use Rattle.std.specs.List.{All}
 use Rattle.std.proofs.lemmas.List.Elements.{All-append}
 use Rattle.dmatypes.specs.World.{IsIn}
 use Rattle.dmatypes.specs.declared.call.Call.{Call}
 use Rattle.dmatypes.specs.declared.reply.Reply.{Reply}
+use Rattle.dmatypes.specs.declared.reply.Reply.TheVariants.{Refused}
 use Rattle.vtdbits.specs.declared.context.ContextEntry.{ContextEntry}
 use Rattle.engine.specs.State.{State}
 use Rattle.engine.specs.Steps.{Does}
@@ -18,7 +19,7 @@ use Rattle.driven.specs.Telling.{IsSentBy, with_wait}
 use Rattle.driven.proofs.Brought.{none_for_memory, one_for_memory}
 use Rattle.driven.proofs.Fills.{none_fill}
 use Rattle.driven.proofs.Sent.{IsSilent, silent}
-use Rattle.driven.proofs.Told.{one_entry, sent_part, whole_row, words_stay}
+use Rattle.driven.proofs.Told.{nothing_in_order, one_entry, sent_part, whole_row, words_stay}
 
 -- a device's context entry and the barrier after it
 abbrev pub entry_told : ℕ → List Effect
@@ -27,6 +28,10 @@ entry_told device = Context device ∷ Barrier ∷ []
 entry_for_memory : (device : ℕ) → All IsForMemory (entry_told device)
 entry_for_memory device =
     All-append IsForMemory (Context device ∷ []) (Barrier ∷ []) (one_for_memory (Context device) tt) (one_for_memory Barrier tt)
+
+none_quiet : (reply : Reply) → IsQuiet reply []
+none_quiet (Refused refusal) = refl
+none_quiet reply = tt
 
 module _ (m t : State) (call : Call) (reply : Reply) (sound : IsSound m) (tickets : KeepsTickets m) (does : Does m call reply t)
     (none : (f k : ℕ) → MayChange m call reply t f k → ⊥) where
@@ -63,6 +68,17 @@ module _ (m t : State) (call : Call) (reply : Reply) (sound : IsSound m) (ticket
   pub sends_none : IsSilent call → Sends m call t []
   sends_none s =
       let q = silent m t call reply s does.becomes in inl (record { none = refl; waits = q.0; submitted = q.1 })
+
+  -- a call that neither changes nor submits anything asks nothing, whatever it is answered
+  pub asks_nothing : IsSilent call → t.iommu.contexts ≡ m.iommu.contexts → AreEffects m call reply t []
+  asks_nothing s row = record {
+    quiet = none_quiet reply;
+    brought = [];
+    sent = [];
+    brings = nothing row;
+    sends = sends_none s;
+    ordered = sym (nothing_in_order m call);
+  }
 
 -- ---- what is brought, and then sent
 

@@ -59,7 +59,7 @@ nothing_by (Some h) = by (h.mode)
     by Strict = refl
     by Lazy = refl
 
-nothing_in_order : (m : State) (call : Call) → in_order m call [] [] ≡ []
+pub nothing_in_order : (m : State) (call : Call) → in_order m call [] [] ≡ []
 nothing_in_order m (calls.Domain mode width) = refl
 nothing_in_order m (calls.Attach device domain) = refl
 nothing_in_order m (calls.Detach device) = refl

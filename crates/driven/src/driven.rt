@@ -5,16 +5,21 @@ ghost use Rattle.dmatypes.specs.Conditions.{total_pages};
 ghost use Rattle.dmatypes.specs.declared.call.Call.TheVariants as calls;
 ghost use Rattle.dmatypes.specs.declared.page.TheConstants.{MOST_PAGES};
 ghost use Rattle.dmatypes.specs.declared.limits.TheConstants.{CALLS_END, LEAST_TABLE_FRAMES, MOST_TABLE_FRAMES};
-ghost use Rattle.dmatypes.specs.declared.reply.Reply.TheVariants.{Stepped};
-ghost use Rattle.engine.specs.State.{IsNew, begun_reply, done_reply, flushed_reply, made_reply, mapped_reply, reaped_reply, unmapped_reply};
+ghost use Rattle.dmatypes.specs.declared.reply.Reply.TheVariants.{Done, Stepped};
+ghost use Rattle.engine.specs.Hits.{IsHitOf};
+ghost use Rattle.engine.specs.State.{IsNew, begun_reply, done_reply, flushed_reply, made_reply, mapped_reply, reaped_reply, request_reply};
+ghost use Rattle.engine.specs.State.{unmapped_reply};
 ghost use Rattle.engine.specs.Steps.{Does};
 ghost use Rattle.driven.specs.Effects.{AreEffects};
 
 use crate::effect::Effect;
 use crate::telling::{Effects, bring_frames, bring_unmapped, bring_ways, send, tables_of};
 use arrayvec::ArrayVec;
-use dmatypes::{MOST_SEGMENTS, Mode, PAGE_BYTES, PageRange, Progress, Refusal, Segment, Width};
-use engine::State;
+use dmatypes::{
+    Access, Cache, Fault, MOST_SEGMENTS, Mode, PAGE_BYTES, PageRange, Progress, Refusal, Segment,
+    Whim, Width,
+};
+use engine::{Hit, State};
 use std::alloc::{AllocError, Global};
 use std::marker::Model;
 
@@ -152,6 +157,38 @@ impl Driven {
         self.effects.clear();
         self.state.keeps();
         self.state.unit_step()
+    }
+
+    /// A device's request at a byte address, made of the state's own unit as by `State::dma`: the host byte address with the frame and the
+    /// rights of its page, or the fault. It asks nothing.
+    pub fn dma(
+        &mut self,
+        device: u64,
+        address: u64,
+        access: Access,
+        whim: Whim,
+    ) -> Result<Result<Hit, Fault>, Refusal>
+        requires { self.old.state.calls < CALLS_END }
+        ensures does { Does self.old.state (calls.Dma device address access whim) (request_reply result) self.new.state }
+        ensures hit { IfOk result (λ answer. IfOk answer (IsHitOf self.old.state device address access)) }
+        ensures effects { AreEffects self.old.state (calls.Dma device address access whim) (request_reply result)
+            self.new.state self.new.effects }
+    {
+        self.effects.clear();
+        self.state.keeps();
+        self.state.dma(device, address, access, whim)
+    }
+
+    /// The entry at a place of one of the caches of the state's own unit is forgotten, if there is one, as by `State::evict`. It asks
+    /// nothing.
+    pub fn evict(&mut self, kind: Cache, place: u64)
+        requires { self.old.state.calls < CALLS_END }
+        ensures does { Does self.old.state (calls.Evict kind place) Done self.new.state }
+        ensures effects { AreEffects self.old.state (calls.Evict kind place) Done self.new.state self.new.effects }
+    {
+        self.effects.clear();
+        self.state.keeps();
+        self.state.evict(kind, place);
     }
 
     /// Ends a domain, as `State::drop_domain` does. All table frames are brought once its descriptor is done.

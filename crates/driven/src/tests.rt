@@ -1,7 +1,7 @@
 //! What calls ask, effect by effect.
 
 use crate::{Driven, Effect};
-use dmatypes::{Frame, Mode, Width};
+use dmatypes::{Access, Cache, Frame, Mode, Whim, Width};
 use std::test::Fail;
 
 // The words of a descriptor and of the first wait.
@@ -65,6 +65,25 @@ fn effects_of_a_page(rt: HostRuntime) -> Result<(), Fail> {
         .as_slice()
     );
     assert!(rt; driven.unmap(1, 0x1000, 1).is_err());
+    assert!(rt; driven.effects().is_empty());
+    Ok(())
+}
+
+#[test]
+fn requests_and_evictions_ask_nothing(rt: HostRuntime) -> Result<(), Fail> {
+    let mut driven = Driven::new(rt.alloc(), 16, false)?;
+    assert_eq!(rt; driven.domain(Mode::Strict, Width::W39), Ok(1));
+    assert_eq!(rt; driven.attach(3, 1), Ok(()));
+    assert_eq!(rt; driven.map(1, 0x100, 1, 0, 3), Ok(0x1000));
+    let whim = Whim {
+        look: true,
+        fill: true,
+    };
+    let answer = driven.dma(3, 0x1234, Access::Read, whim);
+    assert!(rt; matches!(answer, Ok(Ok(hit)) if hit.host == 0x10_0234));
+    assert!(rt; driven.effects().is_empty());
+    assert_eq!(rt; driven.attach(4, 1), Ok(()));
+    driven.evict(Cache::Leaf, 0);
     assert!(rt; driven.effects().is_empty());
     Ok(())
 }

@@ -1,0 +1,14 @@
+use Rattle.dmatypes.specs.declared.call.Call.TheVariants as calls
+use Rattle.dmatypes.specs.declared.reply.Reply.TheVariants.{Done}
+use Rattle.quiet.specs.Quiet.{IsSound}
+use Rattle.driven.proofs.Asked.{asks_nothing}
+use Rattle.driven.proofs.Rows.{rows}
+use Rattle.driven.proofs.driven.Driven.evict.Goals as goal
+
+pub returns-clause-effects : goal.returns-clause-effects
+returns-clause-effects c =
+    let sound : IsSound c.self.inside.state = record { of_world = c.keeps.ensures.of_world; places = c.keeps.ensures.places } in
+    let call = calls.Evict c.args.kind c.args.place in
+    rw (← c.self.view_is, c.clear.ensures)
+    (asks_nothing c.self.inside.state c.evict.new.self call Done sound c.keeps.ensures.tickets c.evict.ensures (λ f k no. no) tt
+    (rows c.self.inside.state c.evict.new.self call Done c.evict.ensures.becomes))
