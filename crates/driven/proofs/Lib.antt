@@ -15,3 +15,4 @@ pub mod Asked
 pub mod Trees
 pub mod Fills
 pub mod Moments
+pub mod Detached

@@ -1,5 +1,5 @@
 -- What is told of a call that was done.
-use Rattle.std.proofs.Common.{◌≡◌, ◌≢◌, inl, inr, ℕ, ◌+◌, ◌<◌, ◌≤◌, Bool, List, [], ◌∷◌}
+use Rattle.std.proofs.Common.{◌≡◌, ◌≢◌, inl, inr, ℕ, ◌+◌, ◌<◌, ◌≤◌, Bool, true, false, List, [], ◌∷◌}
 use Rattle.std.proofs.Common.{length, Option, Some, None, refl, sym, ap, subst, ◌∙◌, arith, slice_get, slice_set}
 use Rattle.std.proofs.lemmas.Option.{same_Some}
 use Rattle.dmatypes.proofs.histories.Maps.{same_or_not}
@@ -101,6 +101,18 @@ refused m t call r does =
     }
 
 -- ---- what was sent
+
+one_wait : (awaits : Bool) (number : ℕ) → length (with_wait awaits number) ≤ 1
+one_wait true number = omega arith
+one_wait false number = omega arith
+
+pub few_sent : (t : State) (waits : ℕ) (awaits : Bool) (es : List Effect) → IsSentBy t waits awaits es → length es ≤ 3
+few_sent t waits awaits es sent =
+    elim sent [
+      | inl none ↦ omega (arith, ap length none.1)
+      | inr some ↦
+          let (d, w, e, f, (ne, one, zero, se, sf, is)) = some in omega (arith, ap length is, one_wait awaits t.iommu.sent)
+    ]
 
 module _ (m t : State) (call : Call) (reply : Reply) (tickets : KeepsTickets m) (does : Does m call reply t) where
   pub has_sent : HasSent t m.iommu.sent

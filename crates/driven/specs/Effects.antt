@@ -1,12 +1,15 @@
 -- What a call asks of whoever keeps the memory and the queue that a unit reads.
 use Rattle.std.specs.Prelude.{◌≡◌, ◌≢◌, ◌⊎◌, ℕ, ◌+◌, ◌*◌, ◌<◌, ◌≤◌, List, [], ◌∷◌, ◌++◌, All, Option, None, Some, slice_get, take}
+use Rattle.std.specs.Prelude.{Result, IfErr, IfOk}
 use Rattle.dmatypes.specs.World.{IsIn, Target}
 use Rattle.dmatypes.specs.declared.call.Call.{Call}
 use Rattle.dmatypes.specs.declared.call.Call.TheVariants as calls
 use Rattle.dmatypes.specs.declared.call.Mode.{Mode}
 use Rattle.dmatypes.specs.declared.call.Mode.TheVariants.{Lazy, Strict}
+use Rattle.dmatypes.specs.declared.refusal.Refusal.{Refusal}
 use Rattle.dmatypes.specs.declared.reply.Reply.{Reply}
-use Rattle.dmatypes.specs.declared.reply.Reply.TheVariants.{Refused}
+use Rattle.dmatypes.specs.declared.reply.Reply.TheVariants.{Done, Flushed, Refused}
+use Rattle.vtdbits.specs.Context.{attached}
 use Rattle.vtdbits.specs.Descriptor.{descriptor_of}
 use Rattle.vtdbits.specs.declared.descriptor.Descriptor.{Descriptor}
 use Rattle.vtdbits.specs.declared.descriptor.Descriptor.TheVariants.{Wait}
@@ -17,6 +20,7 @@ use Rattle.tables.specs.Pool.{memory, word}
 use Rattle.engine.specs.Domains.{Domain, domain_at}
 use Rattle.engine.specs.Ending.{status_of}
 use Rattle.engine.specs.State.{State}
+use Rattle.engine.specs.Steps.{Does}
 use Rattle.driven.specs.declared.effect.Effect.{Effect}
 use Rattle.driven.specs.declared.effect.Effect.TheVariants.{Await, Barrier, Context, Send, Words}
 
@@ -126,3 +130,23 @@ pub record AreEffects (m : State) (call : Call) (reply : Reply) (t : State) (eff
   pub brings : BringsAll m t brought
   pub sends : Sends m call t sent
   pub ordered : effects ≡ in_order m call brought sent
+
+-- ---- a detach, and a flush after it
+
+-- a device is detached, and then the domain that it had is flushed
+pub record DetachesAndFlushes (m : State) (device released : ℕ) (t : State) (effects : List Effect) : Type 0 where
+  pub domain : ℕ
+  pub had : attached (slice_get m.iommu.contexts device) ≡ Some domain
+  pub between : State
+  pub first : List Effect
+  pub second : List Effect
+  pub detaches : Does m (calls.Detach device) Done between
+  pub asks_first : AreEffects m (calls.Detach device) Done between first
+  pub flushes : Does between (calls.Flush domain) (Flushed released) t
+  pub asks_then : AreEffects between (calls.Flush domain) (Flushed released) t second
+  pub joined : effects ≡ first ++ second
+
+-- a device is detached, and then the domain that it had is flushed. A detach that is refused is all of it
+pub record DetachesAll (m : State) (device : ℕ) (result : Result ℕ Refusal) (t : State) (effects : List Effect) : Type 0 where
+  pub done : IfOk result (λ released. DetachesAndFlushes m device released t effects)
+  pub refused : IfErr result (λ refusal. Does m (calls.Detach device) (Refused refusal) t × (effects ≡ []))

@@ -1,6 +1,6 @@
 //! A state that tells what each call asks.
 
-ghost use Rattle.std.specs.Prelude.{◌≡◌, ◌<◌, ◌≤◌, [], IfOk};
+ghost use Rattle.std.specs.Prelude.{◌≡◌, ◌+◌, ◌<◌, ◌≤◌, [], IfOk};
 ghost use Rattle.dmatypes.specs.Conditions.{total_pages};
 ghost use Rattle.dmatypes.specs.declared.call.Call.TheVariants as calls;
 ghost use Rattle.dmatypes.specs.declared.page.TheConstants.{MOST_PAGES};
@@ -10,8 +10,9 @@ ghost use Rattle.engine.specs.Hits.{IsHitOf};
 ghost use Rattle.engine.specs.State.{IsNew, begun_reply, done_reply, flushed_reply, made_reply, mapped_reply, reaped_reply, request_reply};
 ghost use Rattle.engine.specs.State.{unmapped_reply};
 ghost use Rattle.engine.specs.Steps.{Does};
-ghost use Rattle.driven.specs.Effects.{AreEffects};
+ghost use Rattle.driven.specs.Effects.{AreEffects, DetachesAll};
 
+use crate::detaching::{tell_detach, tell_flush};
 use crate::effect::Effect;
 use crate::telling::{Effects, bring_frames, bring_unmapped, bring_ways, send, tables_of};
 use arrayvec::ArrayVec;
@@ -24,7 +25,7 @@ use std::alloc::{AllocError, Global};
 use std::marker::Model;
 
 /// A state whose tables and queue a unit reads that isn't its own, and what the last call asks of whoever brings them there (own). Each
-/// call does what the state's call of the same name does, and takes no memory.
+/// call does what the state's call of the same name does, and `detach_all` two of them. None takes memory.
 #[derive(Drop)]
 pub struct Driven {
     state: State,
@@ -86,13 +87,23 @@ impl Driven {
         ensures effects { AreEffects self.old.state (calls.Detach device) (done_reply result) self.new.state self.new.effects }
     {
         self.effects.clear();
+        tell_detach(&mut self.effects, &mut self.state, device)
+    }
+
+    /// Detaches a device and then flushes the domain that it had, as Linux does: until then a unit that finds translations by their device
+    /// too, and not by their domain alone, may still reach the domain (own). It is the call `detach` and then the call `flush`, with what
+    /// both ask, and counts as two. Answers how many records the flush released. Refuses as `State::detach` does, and is that call alone
+    /// then.
+    pub fn detach_all(&mut self, device: u64) -> Result<u64, Refusal>
+        requires { self.old.state.calls + 1 < CALLS_END }
+        ensures { DetachesAll self.old.state device result self.new.state self.new.effects }
+    {
+        self.effects.clear();
+        let domain = self.state.domain_of(device);
         self.state.keeps();
-        let waits = self.state.waits();
-        self.state.detach(device)?;
-        self.effects.push(Effect::Context { device });
-        self.effects.push(Effect::Barrier);
-        send(&mut self.effects, &self.state, waits, true);
-        Ok(())
+        tell_detach(&mut self.effects, &mut self.state, device)?;
+        // What is detached had a domain, and that is there still: so the flush is never refused.
+        tell_flush(&mut self.effects, &mut self.state, domain.unwrap())
     }
 
     /// Releases a domain's records, as `State::flush` does.
@@ -102,11 +113,7 @@ impl Driven {
         ensures effects { AreEffects self.old.state (calls.Flush domain) (flushed_reply result) self.new.state self.new.effects }
     {
         self.effects.clear();
-        self.state.keeps();
-        let waits = self.state.waits();
-        let released = self.state.flush(domain)?;
-        send(&mut self.effects, &self.state, waits, true);
-        Ok(released)
+        tell_flush(&mut self.effects, &mut self.state, domain)
     }
 
     /// Attaches a device, as `State::attach` does.

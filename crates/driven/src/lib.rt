@@ -2,6 +2,7 @@
 //! keeps the memory and the queue which the unit reads: words to bring, descriptors to send, and what to wait for.
 #![tactic(auto)]
 
+mod detaching;
 mod driven;
 mod effect;
 pub mod laws;

@@ -1,7 +1,7 @@
 //! What calls ask, effect by effect.
 
 use crate::{Driven, Effect};
-use dmatypes::{Access, Cache, Frame, Mode, Whim, Width};
+use dmatypes::{Access, Cache, Frame, Mode, Refusal, Whim, Width};
 use std::test::Fail;
 
 // The words of a descriptor and of the first wait.
@@ -65,6 +65,50 @@ fn effects_of_a_page(rt: HostRuntime) -> Result<(), Fail> {
         .as_slice()
     );
     assert!(rt; driven.unmap(1, 0x1000, 1).is_err());
+    assert!(rt; driven.effects().is_empty());
+    Ok(())
+}
+
+// The words of what a detach of device 3 and a flush of domain 1 send.
+const CONTEXT_OF_DEVICE_3: Effect = Effect::Send {
+    low: 0x18_0001_0031,
+    high: 0,
+};
+
+const ALL_OF_DOMAIN_1: Effect = Effect::Send {
+    low: 0x1_00e2,
+    high: 0,
+};
+
+const SECOND_WAIT: Effect = Effect::Send {
+    low: 0x2_0000_0025,
+    high: 1 << 36,
+};
+
+#[test]
+fn a_detach_with_a_flush(rt: HostRuntime) -> Result<(), Fail> {
+    let mut driven = Driven::new(rt.alloc(), 16, false)?;
+    assert_eq!(rt; driven.domain(Mode::Lazy, Width::W39), Ok(1));
+    assert_eq!(rt; driven.attach(3, 1), Ok(()));
+    assert_eq!(rt; driven.map(1, 0x100, 1, 0, 3), Ok(0x1000));
+    assert_eq!(rt; driven.unmap(1, 0x1000, 1), Ok(0));
+    assert_eq!(rt; driven.detach_all(3), Ok(1));
+    assert_eq!(rt;
+        driven.effects(),
+        [
+            Effect::Context { device: 3 },
+            Effect::Barrier,
+            CONTEXT_OF_DEVICE_3,
+            FIRST_WAIT,
+            Effect::Await(1),
+            ALL_OF_DOMAIN_1,
+            SECOND_WAIT,
+            Effect::Await(2),
+        ]
+        .as_slice()
+    );
+    assert_eq!(rt; driven.state().domain_of(3), None);
+    assert_eq!(rt; driven.detach_all(3), Err(Refusal::NotAttached));
     assert!(rt; driven.effects().is_empty());
     Ok(())
 }

@@ -1,35 +1,7 @@
-use Rattle.std.proofs.Common.{◌≡◌, ℕ, List, [], ◌∷◌, ◌++◌, ◌∙◌, refl, sym, ap, subst}
-use Rattle.std.proofs.lemmas.Result.{err_from_is_err_and}
-use Rattle.dmatypes.specs.declared.call.Call.TheVariants as calls
-use Rattle.dmatypes.specs.declared.reply.Reply.TheVariants as replies
-use Rattle.quiet.specs.Quiet.{IsSound}
-use Rattle.driven.proofs.Asked.{asks, nothing}
-use Rattle.driven.proofs.Rows.{rows}
-use Rattle.driven.proofs.Told.{has_sent, refused}
+use Rattle.std.proofs.Common.{◌++◌, ◌∙◌, ap}
 use Rattle.driven.proofs.driven.Driven.flush.Goals as goal
-
-pub returns-in_err-released-clause-effects : goal.returns-in_err-released-clause-effects
-returns-in_err-released-clause-effects c =
-    let p = err_from_is_err_and c.from_residual.result c.from_residual.ensures.1 in
-    rw (p.1, p.2, ← c.self.view_is, c.clear.ensures)
-    (refused c.self.inside.state c.flush.new.self (calls.Flush c.args.domain) c.in_err-released.field-0.0 (c.in_err-released.ensures))
-
-pub send-requires-clause-sent : goal.send-requires-clause-sent
-send-requires-clause-sent c =
-    rw c.waits-waits.ensures
-    (has_sent c.self.inside.state c.flush.new.self (calls.Flush c.args.domain) (replies.Flushed c.in_ok-released.released)
-    c.keeps.ensures.tickets (c.in_ok-released.ensures))
 
 pub returns-clause-effects : goal.returns-clause-effects
 returns-clause-effects c =
-    let sound : IsSound c.self.inside.state = record { of_world = c.keeps.ensures.of_world; places = c.keeps.ensures.places } in
-    let (more, items, sent) = c.send.ensures in
-    rw (← c.self.view_is)
-    (asks c.self.inside.state c.flush.new.self (calls.Flush c.args.domain) (replies.Flushed c.in_ok-released.released)
-    c.keeps.ensures.tickets (c.in_ok-released.ensures) c.waits-waits.result
-    Rattle.std.proofs.Common.true [] more c.send.new.effects.items
-    (nothing c.self.inside.state c.flush.new.self (calls.Flush c.args.domain) (replies.Flushed c.in_ok-released.released) sound
-    c.keeps.ensures.tickets (c.in_ok-released.ensures)
-    (λ f k no. no) (rows c.self.inside.state c.flush.new.self (calls.Flush c.args.domain) (replies.Flushed c.in_ok-released.released)
-    (c.in_ok-released.ensures).becomes))
-    (items ∙ ap (λ xs. xs ++ more) c.clear.ensures) c.waits-waits.ensures refl sent tt)
+    let (more, items, asks) = c.tell_flush.ensures.effects in
+    rw (← c.self.view_is, items ∙ ap (λ xs. xs ++ more) c.clear.ensures) asks
