@@ -16,7 +16,7 @@ use Rattle.engine.specs.State.{State}
 use Rattle.engine.specs.Walkable.{table_at}
 use Rattle.driven.specs.declared.effect.Effect.{Effect}
 use Rattle.driven.specs.Effects.{IsBrought}
-use Rattle.driven.specs.Telling.{AreTablesOf, BringsUnmapped, BringsWays}
+use Rattle.driven.specs.Telling.{AreTablesOf, BringsUnmapped, BringsWays, TablesStay}
 use Rattle.driven.specs.Ways.{IsExchanged, IsOnWays}
 use Rattle.driven.proofs.Spans.{same_table}
 
@@ -46,8 +46,7 @@ module _ (t : State) (d : ℕ) (h h' : Domain) (then : domain_at t.domains d ≡
   -- ---- an unmap
 
   module _ (m : State) (first last : ℕ) (before : List (Option ℕ)) (here : domain_at m.domains d ≡ Some h)
-      (were : AreTablesOf m.pool (domain_at m.domains d) first last before) (es : List Effect)
-      (brings : BringsUnmapped t.pool (domain_at t.domains d) first last before es) where
+      (were : AreTablesOf m.pool (domain_at m.domains d) first last before) where
     -- the table that was on a page's way
     pub was : (p : ℕ) → first ≤ p → p ≤ last → slice_get before (p / SPAN_PAGES - first / SPAN_PAGES)
         ≡ Some (table_from (memory m.pool.words) (levels h.width) h.root p 1)
@@ -59,12 +58,21 @@ module _ (t : State) (d : ℕ) (h h' : Domain) (then : domain_at t.domains d ≡
         ∙ same_table m.pool (domain_at m.domains d) (p / SPAN_PAGES * SPAN_PAGES) p (omega arith)
         ∙ ap (λ o. table_at m.pool o p 1) here)
 
+  module _ (m : State) (first last : ℕ) (before : List (Option ℕ)) (here : domain_at m.domains d ≡ Some h)
+      (were : AreTablesOf m.pool (domain_at m.domains d) first last before) (es : List Effect)
+      (brings : BringsUnmapped t.pool (domain_at t.domains d) first last before es) where
+    -- where the lowest tables stay the word is none of a table above them
+    abbrev pub Low : ℕ → ℕ → Type 0
+    Low f k =
+        TablesStay t.pool (domain_at t.domains d) first last before → (p l : ℕ) → first ≤ p → p ≤ last
+        → table_from (memory t.pool.words) (levels h.width) h.root p (suc (suc l)) ≡ Some f → index_in (suc l) p ≡ k → ⊥
+
     -- on a way after the unmap
-    pub stays_or_came : (to : ℕ) → to ≡ last + 1 → (f k : ℕ) → k < TABLE_ENTRIES
+    pub stays_or_came : (to : ℕ) → to ≡ last + 1 → (f k : ℕ) → k < TABLE_ENTRIES → Low f k
         → IsOnWays t.pool.words (levels h.width) h.root first to f k → IsBrought es f k
-    stays_or_came to end f k inside (p, (low, high, (zero, at, index))) =
+    stays_or_came to end f k inside lowest (p, (low, high, (zero, at, index))) =
         let b = brings.spans p (table_from (memory m.pool.words) (levels h.width) h.root p 1) low (omega (arith, high, end))
-        (was p low (omega (arith, high, end))) in
+        (was m first last before here were p low (omega (arith, high, end))) in
         by_old b (table_from (memory m.pool.words) (levels h.width) h.root p 1) refl
       where
         by_old : (((g : ℕ) → table_from (memory m.pool.words) (levels h.width) h.root p 1 ≡ Some g
@@ -83,17 +91,20 @@ module _ (t : State) (d : ℕ) (h h' : Domain) (then : domain_at t.domains d ≡
             (λ (other : c ≢ f).
             b.1 f k (λ e. other (same_Some c f (sym old ∙ e ∙ there p 1 ∙ at))) (inr (there p 1 ∙ at)) inside)
             (same_or_not c f)
-    stays_or_came to end f k inside (p, (low, high, (suc l, at, index))) =
+    stays_or_came to end f k inside lowest (p, (low, high, (suc l, at, index))) =
         let few : suc (suc l) ≤ levels h.width = deeper (memory t.pool.words) (levels h.width) h.root p (suc (suc l)) f at in
         let same : suc (suc l) - 1 ≡ suc l = omega arith in
-        subst (λ i. IsBrought es f i) (ap (λ n. index_in n p) same ∙ index)
-        (brings.upper (suc (suc l)) p f (omega arith) (omega (arith, few, few_levels h.width)) low (omega (arith, high, end))
-        (there p (suc (suc l)) ∙ at))
+        elim brings.upper [
+          | inl stay ↦ absurd (lowest stay p l low (omega (arith, high, end)) at index)
+          | inr told ↦ subst (λ i. IsBrought es f i) (ap (λ n. index_in n p) same ∙ index)
+              (told (suc (suc l)) p f (omega arith) (omega (arith, few, few_levels h.width)) low (omega (arith, high, end))
+              (there p (suc (suc l)) ∙ at))
+        ]
 
     -- in a table that went or came
     pub exchanged : (to : ℕ) → to ≡ last + 1 → (f k : ℕ) → k < TABLE_ENTRIES
         → IsExchanged m.pool.words t.pool.words (levels h.width) h.root first to f → IsBrought es f k
     exchanged to end f k inside (p, (low, high, ne, either)) =
         let b = brings.spans p (table_from (memory m.pool.words) (levels h.width) h.root p 1) low (omega (arith, high, end))
-        (was p low (omega (arith, high, end))) in
+        (was m first last before here were p low (omega (arith, high, end))) in
         b.1 f k (λ e. ne (e ∙ there p 1)) (⊎_elim (λ w. inl w) (λ n. inr (there p 1 ∙ n)) either) inside

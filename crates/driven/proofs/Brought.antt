@@ -1,5 +1,5 @@
 -- What lists of effects bring.
-use Rattle.std.proofs.Common.{◌≡◌, ◌≢◌, ◌⊎◌, inl, inr, ⊎_elim, ℕ, ◌+◌, ◌-◌, ◌*◌, ◌%◌}
+use Rattle.std.proofs.Common.{◌≡◌, ◌≢◌, ◌⊎◌, inl, inr, ⊎_elim, ℕ, ◌+◌, ◌-◌, ◌*◌, ◌/◌, ◌%◌}
 use Rattle.std.proofs.Common.{◌<◌, ◌≤◌, List, [], ◌∷◌, ◌++◌, Option, Some, None, refl, sym}
 use Rattle.std.proofs.Common.{ap, subst, ◌∙◌, arith, Bool, true, false}
 use Rattle.std.specs.Prelude.{not}
@@ -18,8 +18,8 @@ use Rattle.engine.proofs.lists.Membership.{in_left, in_right}
 use Rattle.driven.specs.declared.effect.Effect.{Effect}
 use Rattle.driven.specs.declared.effect.Effect.TheVariants.{Barrier, Words}
 use Rattle.driven.specs.Effects.{Brings, EndInBarrier, IsBrought, IsForMemory}
-use Rattle.driven.specs.Telling.{BringsFrames, BringsLevel, BringsLowest, BringsPart, BringsTable, BringsUnmapped, BringsUpper}
-use Rattle.driven.specs.Telling.{BringsWays, BringsWhole}
+use Rattle.driven.specs.Telling.{BringsFrames, BringsLevel, BringsLowest, BringsMapped, BringsPart, BringsTable, BringsUnmapped}
+use Rattle.driven.specs.Telling.{BringsUpper, BringsWays, BringsWhole, TablesStay}
 
 pub brought_left : (xs ys : List Effect) (f k : ℕ) → IsBrought xs f k → IsBrought (xs ++ ys) f k
 brought_left xs ys f k (e, (inside, brings)) = (e, (in_left e xs ys inside, brings))
@@ -185,6 +185,47 @@ ways pool h from last to x y end lowest above = record {
       (cases_lt level 2);
 }
 
+-- a page of one table, and a barrier
+pub mapped_in : (pool : Pool) (h : Option Domain) (from last to near frame : ℕ) (table : Option ℕ) (e : Effect) → to ≡ last + 1
+    → table ≡ Some frame → from / TABLE_ENTRIES ≡ near / TABLE_ENTRIES → last / TABLE_ENTRIES ≡ near / TABLE_ENTRIES
+    → BringsPart frame from last e → BringsMapped pool h from to near table (e ∷ Barrier ∷ [])
+mapped_in pool h from last to near frame table e end is low high part = record {
+  ends = inr (e ∷ [], refl);
+  for_memory = All-append IsForMemory (e ∷ []) (Barrier ∷ []) (one_for_memory e part.0) (one_for_memory Barrier tt);
+  brings = inr (
+    frame,
+    (
+      is,
+      (λ p a b. omega (arith, a, b, end, low, high)),
+      (λ p a b. brought_left (e ∷ []) (Barrier ∷ []) frame (p % TABLE_ENTRIES)
+          (brought_one e frame (p % TABLE_ENTRIES) (part.1 p a (omega (arith, b, end))))),
+    ),
+  );
+}
+
+pub mapped_ways : (pool : Pool) (h : Option Domain) (from to near : ℕ) (table : Option ℕ) (es : List Effect)
+    → BringsWays pool h from to es → BringsMapped pool h from to near table es
+mapped_ways pool h from to near table es brings = record { ends = brings.ends; for_memory = brings.for_memory; brings = inl brings }
+
+-- where all tables of level 1 stay, no more than theirs and a barrier
+pub unmapped_in : (pool : Pool) (h : Option Domain) (first last : ℕ) (before : List (Option ℕ)) (x : List Effect)
+    → BringsLowest pool h first last before x → TablesStay pool h first last before
+    → BringsUnmapped pool h first last before (x ++ Barrier ∷ [])
+unmapped_in pool h first last before x lowest stay = record {
+  lowest = x;
+  rest = [];
+  parted = refl;
+  ends = inr (x, refl);
+  brings_lowest = lowest;
+  for_memory = All-append IsForMemory x (Barrier ∷ []) lowest.for_memory (one_for_memory Barrier tt);
+  upper = inl stay;
+  spans = λ p was a b at.
+      let t = lowest.spans p was a b at in (
+        (λ f w n. brought_left x (Barrier ∷ []) f (p % TABLE_ENTRIES) (t.0 f w n)),
+        (λ f k ne w inside. brought_left x (Barrier ∷ []) f k (t.1 f k ne w inside)),
+      );
+}
+
 pub unmapped : (pool : Pool) (h : Option Domain) (first last : ℕ) (before : List (Option ℕ)) (x y : List Effect)
     → BringsLowest pool h first last before x → BringsUpper pool h first last y → BringsUnmapped pool h first last before (x ++ y)
 unmapped pool h first last before x y lowest above = record {
@@ -194,7 +235,7 @@ unmapped pool h first last before x y lowest above = record {
   ends = last_barrier x y above.begins above.ends;
   brings_lowest = lowest;
   for_memory = All-append IsForMemory x y lowest.for_memory above.for_memory;
-  upper = λ level p f low high a b at. brought_right x y f (index_in (level - 1) p) (above.brings level p f low high a b at);
+  upper = inr (λ level p f low high a b at. brought_right x y f (index_in (level - 1) p) (above.brings level p f low high a b at));
   spans = λ p was a b at.
       let t = lowest.spans p was a b at in (
         (λ f w n. brought_left x y f (p % TABLE_ENTRIES) (t.0 f w n)),

@@ -1,5 +1,5 @@
 -- Which words a map and an unmap change, from the public contracts of `tables`.
-use Rattle.std.proofs.Common.{◌≡◌, ◌≢◌, ◌⊎◌, inl, inr, ⊎_elim, ℕ, suc, ◌/◌, ◌<◌, ◌≤◌, List, [], Option, Some, None, refl, sym, ap}
+use Rattle.std.proofs.Common.{◌≡◌, ◌≢◌, ◌⊎◌, inl, inr, ⊎_elim, ℕ, zero, suc, ◌/◌, ◌<◌, ◌≤◌, List, [], Option, Some, None, refl, sym, ap}
 use Rattle.std.proofs.Common.{subst, ◌∙◌, arith}
 use Rattle.std.proofs.lemmas.Bool.{cases_lt}
 use Rattle.std.proofs.lemmas.Option.{none-some, same_Some}
@@ -8,15 +8,15 @@ use Rattle.tables.specs.declared.entries.TheConstants.{TABLE_ENTRIES}
 use Rattle.tables.specs.Changes.{IsOutside, MapsPages, MeetsNone, TakesAndGivesFrames, UnmapsPages}
 use Rattle.tables.specs.Pool.{Pool, memory, occurs, word}
 use Rattle.tables.specs.Spelled.{AreSpelled}
-use Rattle.tables.specs.Tree.{LeafEntry, index_in, leaf_from, span, stated, table_from, uses}
+use Rattle.tables.specs.Tree.{LeafEntry, Memory, index_in, leaf_from, span, stated, table_from, uses}
 use Rattle.tables.proofs.walks.Near.{near_at, near_table, smaller}
 use Rattle.tables.proofs.walks.Onward.{deeper, index_lt, leaf_on}
 use Rattle.tables.proofs.walks.Steps.{same_index, same_or_not, wide_span}
 use Rattle.moments.specs.Moments.{AreFreeZeroed}
 use Rattle.quiet.proofs.WhatIsMet.{used_on}
 use Rattle.driven.specs.Ways.{IsExchanged, IsOnWays}
-use Rattle.driven.proofs.Entries.{word_fresh, word_stays}
-use Rattle.driven.proofs.Ways.{meets, page_at, way_of_use}
+use Rattle.driven.proofs.Entries.{word_fresh, word_named, word_stays}
+use Rattle.driven.proofs.Ways.{meets, page_at, passes, way_of_use}
 
 -- the words of a tree spell its entries before and after, and what is free is zeroed
 pub record Sound (old new : Pool) (level root from to : ℕ) (cut : List ℕ) : Type 0 where
@@ -82,6 +82,27 @@ module _ (old new : Pool) (level root from to : ℕ) where
       (λ (gone : occurs f new.free ≤ 0). sym (s.moves.others f k inside (omega (arith, gone, none, kept, s.moves.account f))))
       (cases_lt 0 (occurs f new.free))
 
+  -- ---- above the lowest tables
+
+  -- a way that passes a table of level 1 passes one of each level
+  all_above : (m : Memory) (p c w : ℕ) → table_from m level root p 1 ≡ Some c → suc w ≤ level
+      → (d : ℕ) × (table_from m level root p (suc w) ≡ Some d)
+  all_above m p c zero at up = (c, at)
+  all_above m p c (suc w) at up =
+      let below = all_above m p c w at (omega (arith, up)) in passes m level root p (suc w) below.0 below.1 up
+
+  -- where it passes the same ones after as before, no word of it above the lowest table changes
+  upper_stays : AreSpelled old.words level root → AreSpelled new.words level root → (p l f c : ℕ) → Was p 1 c
+      → ((w d : ℕ) → Was p (suc w) d → Is p (suc w) d) → Is p (suc (suc l)) f
+      → word old.words f (index_in (suc l) p) ≡ word new.words f (index_in (suc l) p)
+  upper_stays before after p l f c lowest kept at =
+      let up : suc (suc l) ≤ level = deeper (memory new.words) level root p (suc (suc l)) f at in
+      let g = all_above (memory old.words) p c (suc l) lowest up in
+      let e = all_above (memory old.words) p c l lowest (omega (arith, up)) in
+      let own : g.0 ≡ f = same_Some g.0 f (sym (kept (suc l) g.0 g.1) ∙ at) in
+      word_named old.words new.words level root p (suc l) f before after e.0 (subst (λ n. Was p (suc (suc l)) n) own g.1) at e.1
+      (kept l e.0 e.1)
+
   -- ---- a map
 
   module _ (says : ℕ → Option Target) (s : Sound old new level root from to []) (maps : MapsPages old new level root from to says) where
@@ -107,6 +128,11 @@ module _ (old new : Pool) (level root from to : ℕ) where
         by_tables None was = word_fresh old.words new.words level root p l f s.after
             (s.zeroed f free (index_in l p) (index_lt l p)) is was
             (sym (maps.clear p l near none)) (sym (maps.elsewhere p near (none_inside l from to p none)))
+
+    -- no table goes
+    pub map_upper : (p l f c : ℕ) → Was p 1 c → Is p (suc (suc l)) f
+        → word old.words f (index_in (suc l) p) ≡ word new.words f (index_in (suc l) p)
+    map_upper p l f c lowest at = upper_stays s.before s.after p l f c lowest (λ w d was. maps.tables p (suc w) d was) at
 
     pub map_changes : (f k : ℕ) → k < TABLE_ENTRIES → word old.words f k ≢ word new.words f k
         → IsOnWays new.words level root from to f k
@@ -151,6 +177,19 @@ module _ (old new : Pool) (level root from to : ℕ) where
     unmap_stays p l f near was is none =
         word_stays old.words new.words level root p l f s.before s.after was is (sym (unmaps.clear p l near none))
         (unmap_leaf p l f near was none)
+
+    -- no table goes but one of level 1
+    pub unmap_upper : (p l f c : ℕ) → p / span level ≡ from / span level → Was p 1 c → Is p 1 c → Is p (suc (suc l)) f
+        → word old.words f (index_in (suc l) p) ≡ word new.words f (index_in (suc l) p)
+    unmap_upper p l f c near lowest stays at =
+        upper_stays s.before s.after p l f c lowest
+        (λ w d was. elim (unmaps.tables p (suc w) d near was) [
+          | inl is ↦ is
+          | inr gone ↦
+              let bottom : 1 ≡ suc w = sym gone.0 in
+              let own : c ≡ d = same_Some c d (sym lowest ∙ ap (λ n. table_from (memory old.words) level root p n) bottom ∙ was) in
+              ap (λ n. table_from (memory new.words) level root p n) (sym bottom) ∙ stays ∙ ap (λ n. Some n) own
+        ]) at
 
     abbrev Changed : ℕ → ℕ → Type 0
     Changed f k = IsOnWays new.words level root from to f k ⊎ IsExchanged old.words new.words level root from to f

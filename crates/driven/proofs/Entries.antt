@@ -63,6 +63,13 @@ one_entry a b l p (LargeLeaf x) (Table d) mx my tables leaves = absurd (none-som
 one_entry a b l p (LargeLeaf x) (Leaf y) mx my tables leaves = absurd (omega (arith, mx, my))
 one_entry a b l p (LargeLeaf x) (LargeLeaf y) mx my tables leaves = ap (λ z. LargeLeaf z) (same_target l x y leaves)
 
+-- one below which the way passes a table names that
+named : (m : Memory) (l p c : ℕ) (x : SsEntry) → MayStandAt (suc l) x → Below m l p x ≡ Some c → x ≡ Table c
+named m l p c Absent may at = absurd (none-some c at)
+named m l p c (Table d) may at = ap (λ n. Table n) (same_Some d c (sym (below_table m l p d may) ∙ at))
+named m l p c (Leaf y) may at = absurd (none-some c at)
+named m l p c (LargeLeaf y) may at = absurd (none-some c at)
+
 module _ (old new : List ℕ) (level root p l f : ℕ) (before : AreSpelled old level root) (after : AreSpelled new level root) where
   abbrev k : ℕ
   k = index_in l p
@@ -89,6 +96,18 @@ module _ (old new : List ℕ) (level root p l f : ℕ) (before : AreSpelled old 
       let same : x ≡ y = one_entry (memory old) (memory new) l p x y (stands (suc l) (word old f k) x sx)
       (stands (suc l) (word new f k) y sy) (ox.0 ∙ tables ∙ sym oy.0) (ox.1 ∙ leaves ∙ sym oy.1) in
       one_word (suc l) (suc l) (word old f k) (word new f k) y (subst (λ e. Spells (suc l) (word old f k) e) same sx) sy
+
+  -- one that names the same table before and after, whatever becomes of the leaf
+  pub word_named : (c : ℕ) → table_from (memory old) level root p (suc l) ≡ Some f → table_from (memory new) level root p (suc l) ≡ Some f
+      → table_from (memory old) level root p l ≡ Some c → table_from (memory new) level root p l ≡ Some c → word old f k ≡ word new f k
+  word_named c was is below below' =
+      let x : SsEntry = memory old (suc l) f k in
+      let y : SsEntry = memory new (suc l) f k in
+      let sx : Spells (suc l) (word old f k) x = spelled_on old level root p l f k before was (index_lt l p) in
+      let sy : Spells (suc l) (word new f k) y = spelled_on new level root p l f k after is (index_lt l p) in
+      let nx : x ≡ Table c = named (memory old) l p c x (stands (suc l) (word old f k) x sx) ((entry_there (memory old) was).0 ∙ below) in
+      let ny : y ≡ Table c = named (memory new) l p c y (stands (suc l) (word new f k) y sy) ((entry_there (memory new) is).0 ∙ below') in
+      one_word (suc l) (suc l) (word old f k) (word new f k) y (subst (λ e. Spells (suc l) (word old f k) e) (nx ∙ sym ny) sx) sy
 
 -- a word of a table that came into the tree, where the old way passes none and all else on it stays: it is 0 as before
 pub word_fresh : (old new : List ℕ) (level root p l f : ℕ) → AreSpelled new level root → word old f (index_in l p) ≡ 0

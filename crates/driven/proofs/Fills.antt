@@ -84,7 +84,7 @@ module _ (m t : State) (d : ℕ) (h h' : Domain) (here : domain_at m.domains d �
       before_at : (q : ℕ) → range.first ≤ q → q < range.first + range.pages
           → slice_get before (q / SPAN_PAGES - range.first / SPAN_PAGES)
           ≡ Some (table_from (memory m.pool.words) (levels h.width) h.root q 1)
-      before_at q low high = was t d h h' then root width m range.first last before here were es brings q low (omega (arith, high, end))
+      before_at q low high = was t d h h' then root width m range.first last before here were q low (omega (arith, high, end))
 
       then_at : (q : ℕ) → table_from (memory c.new.words) (levels h.width) h.root q 1 ≡ table_at t.pool (domain_at t.domains d) q 1
       then_at q = ap (λ ws. table_from (memory ws) (levels h.width) h.root q 1) c.is ∙ sym (there t d h h' then root width q 1)

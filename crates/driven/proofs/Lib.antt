@@ -12,6 +12,7 @@ pub mod Told
 pub mod Rows
 pub mod BringsAll
 pub mod Asked
+pub mod Stays
 pub mod Trees
 pub mod Fills
 pub mod Moments

@@ -30,6 +30,12 @@ Told pool h first last before effects span =
     (p : ℕ) (was : Option ℕ) → first ≤ p → p ≤ last → p / SPAN_PAGES < span
     → slice_get before (p / SPAN_PAGES - first / SPAN_PAGES) ≡ Some was → OfPage pool h was effects p
 
+-- each page of spans below this one had a table, and has it still
+abbrev pub Stay : Pool → Option Domain → ℕ → ℕ → List (Option ℕ) → ℕ → Type 0
+Stay pool h first last before span =
+    (p : ℕ) → first ≤ p → p ≤ last → p / SPAN_PAGES < span
+    → (f : ℕ) × ((slice_get before (p / SPAN_PAGES - first / SPAN_PAGES) ≡ Some (Some f)) × (table_at pool h p 1 ≡ Some f))
+
 -- what is told is of the lowest tables of such spans alone
 abbrev pub Lowest : Pool → Option Domain → ℕ → ℕ → List (Option ℕ) → List Effect → Type 0
 Lowest pool h first last before effects =
@@ -75,6 +81,24 @@ module _ (pool : Pool) (h : Option Domain) (first last : ℕ) (before : List (Op
         (λ f k ne w inside. brought_right more next f k
             (brings.changes f k (λ e. ne (sym one ∙ e ∙ sym table))
             (⊎_elim (λ x. inl (one ∙ x)) (λ y. inr (sym table ∙ y)) w) inside)),
+      ))
+      (cases_lt (p / SPAN_PAGES) number)
+
+  pub stay_none : Stay pool h first last before (first / SPAN_PAGES)
+  stay_none p low high less = absurd (omega (arith, low, less))
+
+  pub stay_more : (number f : ℕ) (was now : Option ℕ) → Stay pool h first last before number
+      → slice_get before (number - first / SPAN_PAGES) ≡ Some was → now ≡ table_at pool h (number * SPAN_PAGES) 1 → was ≡ Some f
+      → now ≡ Some f → Stay pool h first last before (number + 1)
+  stay_more number f was now stay stood is had has p a b less =
+      ⊎_elim (λ (earlier : p / SPAN_PAGES < number). stay p a b earlier)
+      (λ (not : number ≤ p / SPAN_PAGES).
+      let here : p / SPAN_PAGES ≡ number = omega (arith, not, less) in (
+        f,
+        (
+          ap (λ n. slice_get before (n - first / SPAN_PAGES)) here ∙ stood ∙ ap (λ o. Some o) had,
+          same_table pool h p (number * SPAN_PAGES) (omega (arith, here)) ∙ sym is ∙ has,
+        ),
       ))
       (cases_lt (p / SPAN_PAGES) number)
 

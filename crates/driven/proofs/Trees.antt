@@ -1,9 +1,10 @@
 -- What is told of a call that changes tables brings all that it changed.
-use Rattle.std.proofs.Common.{◌≡◌, ◌≢◌, inl, inr, ⊎_elim, ℕ, ◌+◌, ◌-◌, ◌/◌, ◌<◌, ◌≤◌, List, [], ◌∷◌, ◌++◌, Option, Some, refl, sym, ap}
-use Rattle.std.proofs.Common.{◌∙◌, arith}
+use Rattle.std.proofs.Common.{◌≡◌, ◌≢◌, inl, inr, ⊎_elim, ℕ, suc, ◌+◌, ◌-◌, ◌/◌, ◌<◌, ◌≤◌, List, [], ◌∷◌, ◌++◌, Option, Some, refl, sym, ap}
+use Rattle.std.proofs.Common.{subst, ◌∙◌, arith}
 use Rattle.std.proofs.lemmas.Bool.{cases_lt}
 use Rattle.std.proofs.lemmas.List.{append-nil}
 use Rattle.std.proofs.lemmas.List.Sums.{sum_by-cons}
+use Rattle.std.proofs.lemmas.Option.{same_Some}
 use Rattle.arrayvec.specs.ArrayVec.{ArrayVec}
 use Rattle.dmatypes.specs.Conditions.{IsBadMap, IsBadUnmap, Stands, total_pages}
 use Rattle.dmatypes.specs.Page.{IsPageRange, levels, pages_end, range_at}
@@ -20,13 +21,14 @@ use Rattle.dmatypes.specs.declared.width.Width.{Width}
 use Rattle.dmatypes.specs.declared.width.Width.TheVariants.{W39, W48}
 use Rattle.tables.specs.declared.entries.TheConstants.{TABLE_ENTRIES}
 use Rattle.tables.specs.Pool.{memory, word}
-use Rattle.tables.specs.Tree.{uses}
+use Rattle.tables.specs.Tree.{index_in, table_from, uses}
 use Rattle.engine.specs.declared.iommu.Iommu.{Iommu}
 use Rattle.engine.specs.Domains.{Domain, Operands, domain_at}
 use Rattle.engine.specs.Ending.{ByMode, Closes, MakesRoom, PutsOff, UnmapsStrictly}
 use Rattle.engine.specs.Placing.{Placement, Places}
 use Rattle.engine.specs.State.{Becomes, State, operands_in}
 use Rattle.engine.specs.Steps.{Does}
+use Rattle.engine.specs.Walkable.{table_at}
 use Rattle.engine.proofs.domains.OneChanged.{both_there, domain_low}
 use Rattle.engine.proofs.frames.Owners.{tree_of}
 use Rattle.quiet.proofs.Calls.{not_bad_list, not_bad_map, some_pages, unmap_pages}
@@ -35,12 +37,14 @@ use Rattle.quiet.proofs.Onward.{onward}
 use Rattle.quiet.specs.Quiet.{IsSound}
 use Rattle.driven.specs.declared.effect.Effect.{Effect}
 use Rattle.driven.specs.Effects.{BringsAll, FillsTables, IsBrought, by_mode, in_mode, in_order}
-use Rattle.driven.specs.Telling.{AreTablesOf, BringsFrames, BringsUnmapped, BringsWays}
-use Rattle.driven.proofs.BringsAll.{exchanged, on_ways, stays_or_came}
+use Rattle.driven.specs.Telling.{AreTablesOf, BringsFrames, BringsMapped, BringsUnmapped, TablesStay}
+use Rattle.driven.specs.Ways.{IsOnWays}
+use Rattle.driven.proofs.BringsAll.{exchanged, stays_or_came}
 use Rattle.driven.proofs.Calls.{calls_change}
 use Rattle.driven.proofs.Cuts.{cuts}
 use Rattle.driven.proofs.Fills.{closed_fill, cut_fill, placed_fill}
 use Rattle.driven.proofs.Rows.{rows}
+use Rattle.driven.proofs.Stays.{cut_upper, placed_words}
 use Rattle.driven.proofs.Told.{whole_row}
 
 -- ---- a map
@@ -54,16 +58,28 @@ module _ (m t : State) (d frame pages order rights address : ℕ) (sound : IsSou
       (some_pages (record { frame = frame; pages = pages } ∷ []) order rights
       (not_bad_map sound.of_world.0 d frame pages order rights address (does.steps sound.of_world.0 sound.of_world.1).0)) places es
 
-  pub map_brings : (es : List Effect)
-      → BringsWays t.pool (domain_at t.domains d) (address / PAGE_BYTES) (address / PAGE_BYTES + pages) es → BringsAll m t es
-  map_brings es brings = record {
+  map_words : Becomes m (calls.Map d frame pages order rights) (Mapped address) t → (near : ℕ) (table : Option ℕ)
+      → table ≡ table_at m.pool (domain_at m.domains d) near 1 → (es : List Effect)
+      → BringsMapped t.pool (domain_at t.domains d) (address / PAGE_BYTES) (address / PAGE_BYTES + pages) near table es → (f k : ℕ)
+      → k < TABLE_ENTRIES → word m.pool.words f k ≢ word t.pool.words f k → IsBrought es f k
+  unfolding Becomes
+  map_words (h, new, here, places, sent, is) near table looked es brings f k inside differs =
+      let (g, (there, on)) = calls_change m t (calls.Map d frame pages order rights) (Mapped address) f k sound does inside differs in
+      let o = onward m t d h sound here (calls.Map d frame pages order rights) (Mapped address) does does.becomes (λ is done. cc) in
+      placed_words m t d h o.0 here o.1 o.2.root o.2.width sound new _
+      (some_pages (record { frame = frame; pages = pages } ∷ []) order rights
+      (not_bad_map sound.of_world.0 d frame pages order rights address (does.steps sound.of_world.0 sound.of_world.1).0)) places near table
+      looked (address / PAGE_BYTES + pages) es brings f k differs
+      (subst (λ (y : Domain). IsOnWays t.pool.words (levels y.width) y.root (address / PAGE_BYTES) (address / PAGE_BYTES + pages) f k)
+      (same_Some g h (sym there ∙ here)) on)
+
+  pub map_brings : (near : ℕ) (table : Option ℕ) → table ≡ table_at m.pool (domain_at m.domains d) near 1 → (es : List Effect)
+      → BringsMapped t.pool (domain_at t.domains d) (address / PAGE_BYTES) (address / PAGE_BYTES + pages) near table es
+      → BringsAll m t es
+  map_brings near table looked es brings = record {
     for_memory = brings.for_memory;
     ends = brings.ends;
-    words = λ f k inside differs.
-        let (h, (here, on)) = calls_change m t (calls.Map d frame pages order rights) (Mapped address) f k sound does inside differs in
-        let o = onward m t d h sound here (calls.Map d frame pages order rights) (Mapped address) does does.becomes
-        (λ is done. cc) in
-        on_ways t d h o.0 o.1 o.2.root o.2.width (address / PAGE_BYTES) (address / PAGE_BYTES + pages) es brings f k on;
+    words = map_words does.becomes near table looked es brings;
     contexts = whole_row m t (rows m t (calls.Map d frame pages order rights) (Mapped address) does.becomes) es;
     fills = map_fill does.becomes es;
   }
@@ -77,17 +93,28 @@ module _ (m t : State) (d order rights address : ℕ) (segments : ArrayVec Segme
       (some_pages segments.items order rights
       (not_bad_list sound.of_world.0 d order rights address segments (does.steps sound.of_world.0 sound.of_world.1).0)) places es
 
-  pub list_brings : (es : List Effect)
-      → BringsWays t.pool (domain_at t.domains d) (address / PAGE_BYTES) (address / PAGE_BYTES + total_pages segments.items) es
+  list_words : Becomes m (calls.MapList d order rights segments) (Mapped address) t → (near : ℕ) (table : Option ℕ)
+      → table ≡ table_at m.pool (domain_at m.domains d) near 1 → (es : List Effect)
+      → BringsMapped t.pool (domain_at t.domains d) (address / PAGE_BYTES) (address / PAGE_BYTES + total_pages segments.items) near table es
+      → (f k : ℕ) → k < TABLE_ENTRIES → word m.pool.words f k ≢ word t.pool.words f k → IsBrought es f k
+  unfolding Becomes
+  list_words (h, new, here, places, sent, is) near table looked es brings f k inside differs =
+      let (g, (there, on)) = calls_change m t (calls.MapList d order rights segments) (Mapped address) f k sound does inside differs in
+      let o = onward m t d h sound here (calls.MapList d order rights segments) (Mapped address) does does.becomes (λ is done. cc) in
+      placed_words m t d h o.0 here o.1 o.2.root o.2.width sound new _
+      (some_pages segments.items order rights
+      (not_bad_list sound.of_world.0 d order rights address segments (does.steps sound.of_world.0 sound.of_world.1).0)) places near table
+      looked (address / PAGE_BYTES + total_pages segments.items) es brings f k differs
+      (subst (λ (y : Domain). IsOnWays t.pool.words (levels y.width) y.root (address / PAGE_BYTES)
+      (address / PAGE_BYTES + total_pages segments.items) f k) (same_Some g h (sym there ∙ here)) on)
+
+  pub list_brings : (near : ℕ) (table : Option ℕ) → table ≡ table_at m.pool (domain_at m.domains d) near 1 → (es : List Effect)
+      → BringsMapped t.pool (domain_at t.domains d) (address / PAGE_BYTES) (address / PAGE_BYTES + total_pages segments.items) near table es
       → BringsAll m t es
-  list_brings es brings = record {
+  list_brings near table looked es brings = record {
     for_memory = brings.for_memory;
     ends = brings.ends;
-    words = λ f k inside differs.
-        let (h, (here, on)) = calls_change m t (calls.MapList d order rights segments) (Mapped address) f k sound does inside differs in
-        let o = onward m t d h sound here (calls.MapList d order rights segments) (Mapped address) does does.becomes (λ is done. cc) in
-        on_ways t d h o.0 o.1 o.2.root o.2.width (address / PAGE_BYTES) (address / PAGE_BYTES + total_pages segments.items) es brings f k
-        on;
+    words = list_words does.becomes near table looked es brings;
     contexts = whole_row m t (rows m t (calls.MapList d order rights segments) (Mapped address) does.becomes) es;
     fills = list_fill does.becomes es;
   }
@@ -107,6 +134,23 @@ module _ (m t : State) (d address pages released : ℕ) (sound : IsSound m)
       ends)
       last end before were es brings
 
+  -- where the lowest tables stay no word above them was changed
+  unmap_kept : Becomes m (calls.Unmap d address pages) (Unmapped released) t → (last : ℕ) → address / PAGE_BYTES + pages ≡ last + 1
+      → (before : List (Option ℕ)) → AreTablesOf m.pool (domain_at m.domains d) (address / PAGE_BYTES) last before
+      → TablesStay t.pool (domain_at t.domains d) (address / PAGE_BYTES) last before → (g : Domain) → domain_at m.domains d ≡ Some g
+      → (p l f : ℕ) → address / PAGE_BYTES ≤ p → p ≤ last
+      → table_from (memory t.pool.words) (levels g.width) g.root p (suc (suc l)) ≡ Some f
+      → word m.pool.words f (index_in (suc l) p) ≡ word t.pool.words f (index_in (suc l) p)
+  unfolding Becomes
+  unmap_kept (h, new, here, ends, is) last end before were stay g there p l f low high at =
+      let o = onward m t d h sound here (calls.Unmap d address pages) (Unmapped released) does does.becomes (λ is done. cc) in
+      cut_upper m t d h o.0 here o.1 o.2.root o.2.width (range_at address pages)
+      (cuts m t sound d h here (range_at address pages) (unmap_pages m t d address pages released h sound here does) released new h.mode
+      ends)
+      last end before were stay p l f low high
+      (subst (λ (y : Domain). table_from (memory t.pool.words) (levels y.width) y.root p (suc (suc l)) ≡ Some f)
+      (same_Some g h (sym there ∙ here)) at)
+
   pub unmap_brings : (last : ℕ) → address / PAGE_BYTES + pages ≡ last + 1 → (before : List (Option ℕ))
       → AreTablesOf m.pool (domain_at m.domains d) (address / PAGE_BYTES) last before → (es : List Effect)
       → BringsUnmapped t.pool (domain_at t.domains d) (address / PAGE_BYTES) last before es → BringsAll m t es
@@ -118,7 +162,9 @@ module _ (m t : State) (d address pages released : ℕ) (sound : IsSound m)
           | inl on ↦
               let o = onward m t d on.0 sound on.1.0 (calls.Unmap d address pages) (Unmapped released) does does.becomes (λ is done. cc) in
               stays_or_came t d on.0 o.0 o.1 o.2.root o.2.width m (address / PAGE_BYTES) last before on.1.0 were es brings
-              (address / PAGE_BYTES + pages) end f k inside on.1.1
+              (address / PAGE_BYTES + pages) end f k inside
+              (λ stay p l low high at index. differs (subst (λ i. word m.pool.words f i ≡ word t.pool.words f i) index
+              (unmap_kept does.becomes last end before were stay on.0 on.1.0 p l f low high at))) on.1.1
           | inr out ↦
               let o = onward m t d out.0 sound out.1.0 (calls.Unmap d address pages) (Unmapped released) does does.becomes (λ is done.
               cc) in

@@ -74,6 +74,12 @@ pub record BringsLowest (pool : Pool) (h : Option Domain) (first last : ℕ) (be
       × ((f k : ℕ) → was ≢ table_at pool h p 1 → (was ≡ Some f) ⊎ (table_at pool h p 1 ≡ Some f) → k < TABLE_ENTRIES
       → IsBrought effects f k)
 
+-- each of these pages had a table of level 1, as these tell, and has it still
+abbrev pub TablesStay : Pool → Option Domain → ℕ → ℕ → List (Option ℕ) → Type 0
+TablesStay pool h first last before =
+    (p : ℕ) → first ≤ p → p ≤ last
+    → (f : ℕ) × ((slice_get before (p / SPAN_PAGES - first / SPAN_PAGES) ≡ Some (Some f)) × (table_at pool h p 1 ≡ Some f))
+
 -- the words on the ways of the pages from one up to another
 pub record BringsWays (pool : Pool) (h : Option Domain) (from to : ℕ) (effects : List Effect) : Type 0 where
   pub ends : EndInBarrier effects
@@ -81,7 +87,17 @@ pub record BringsWays (pool : Pool) (h : Option Domain) (from to : ℕ) (effects
   pub brings : (level p f : ℕ) → 1 ≤ level → level ≤ 4 → from ≤ p → p < to → table_at pool h p level ≡ Some f
       → IsBrought effects f (index_in (level - 1) p)
 
--- what an unmap of the pages from one to another changed, where these were the tables of level 1 on their ways
+-- what a map of the pages from one up to another changed, where this was the table of level 1 on the way of a page near them: where they
+-- are all of that page's span, their words in that table alone, else all words on their ways
+pub record BringsMapped (pool : Pool) (h : Option Domain) (from to near : ℕ) (table : Option ℕ) (effects : List Effect) : Type 0 where
+  pub ends : EndInBarrier effects
+  pub for_memory : All IsForMemory effects
+  pub brings : BringsWays pool h from to effects
+      ⊎ ((frame : ℕ) × ((table ≡ Some frame) × ((p : ℕ) → from ≤ p → p < to → p / SPAN_PAGES ≡ near / SPAN_PAGES)
+      × ((p : ℕ) → from ≤ p → p < to → IsBrought effects frame (p % TABLE_ENTRIES))))
+
+-- what an unmap of the pages from one to another changed, where these were the tables of level 1 on their ways. Where all of these stay,
+-- no word of a level above is told
 pub record BringsUnmapped (pool : Pool) (h : Option Domain) (first last : ℕ) (before : List (Option ℕ)) (effects : List Effect)
     : Type 0 where
   pub lowest : List Effect
@@ -90,8 +106,9 @@ pub record BringsUnmapped (pool : Pool) (h : Option Domain) (first last : ℕ) (
   pub ends : EndInBarrier effects
   pub brings_lowest : BringsLowest pool h first last before lowest
   pub for_memory : All IsForMemory effects
-  pub upper : (level p f : ℕ) → 2 ≤ level → level ≤ 4 → first ≤ p → p ≤ last → table_at pool h p level ≡ Some f
-      → IsBrought effects f (index_in (level - 1) p)
+  pub upper : TablesStay pool h first last before
+      ⊎ ((level p f : ℕ) → 2 ≤ level → level ≤ 4 → first ≤ p → p ≤ last → table_at pool h p level ≡ Some f
+      → IsBrought effects f (index_in (level - 1) p))
   pub spans : (p : ℕ) (was : Option ℕ) → first ≤ p → p ≤ last → slice_get before (p / SPAN_PAGES - first / SPAN_PAGES) ≡ Some was
       → ((f : ℕ) → was ≡ Some f → table_at pool h p 1 ≡ Some f → IsBrought effects f (p % TABLE_ENTRIES))
       × ((f k : ℕ) → was ≢ table_at pool h p 1 → (was ≡ Some f) ⊎ (table_at pool h p 1 ≡ Some f) → k < TABLE_ENTRIES

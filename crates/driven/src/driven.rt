@@ -14,7 +14,7 @@ ghost use Rattle.driven.specs.Effects.{AreEffects, DetachesAll};
 
 use crate::detaching::{tell_detach, tell_flush};
 use crate::effect::Effect;
-use crate::telling::{Effects, bring_frames, bring_unmapped, bring_ways, send, tables_of};
+use crate::telling::{Effects, bring_frames, bring_mapped, bring_unmapped, send, tables_of};
 use arrayvec::ArrayVec;
 use dmatypes::{
     Access, Cache, Fault, MOST_SEGMENTS, Mode, PAGE_BYTES, PageRange, Progress, Refusal, Segment,
@@ -30,6 +30,8 @@ use std::marker::Model;
 pub struct Driven {
     state: State,
     effects: Effects,
+    // The first page that the last map took: mostly the next one takes pages of the same span of 512.
+    near: u64,
 }
 
 impl Model for Driven {
@@ -52,6 +54,7 @@ impl Driven {
         Ok(Driven {
             state: State::with_caching(alloc, frames, caching)?,
             effects: Effects::new(),
+            near: 0,
         })
     }
 
@@ -230,13 +233,18 @@ impl Driven {
         self.effects.clear();
         self.state.keeps();
         let waits = self.state.waits();
+        let near = self.near;
+        let table = self.state.table_at(domain, near, 1);
         let address = self.state.map(domain, frame, pages, order, rights)?;
-        bring_ways(
+        self.near = address / PAGE_BYTES;
+        bring_mapped(
             &mut self.effects,
             &self.state,
             domain,
-            address / PAGE_BYTES,
+            self.near,
             pages,
+            near,
+            table,
         );
         send(&mut self.effects, &self.state, waits, true);
         Ok(address)
@@ -258,14 +266,19 @@ impl Driven {
         self.effects.clear();
         self.state.keeps();
         let waits = self.state.waits();
+        let near = self.near;
+        let table = self.state.table_at(domain, near, 1);
         let address = self.state.map_list(domain, order, rights, segments)?;
+        self.near = address / PAGE_BYTES;
         let pages = pages_of(segments.as_slice());
-        bring_ways(
+        bring_mapped(
             &mut self.effects,
             &self.state,
             domain,
-            address / PAGE_BYTES,
+            self.near,
             pages,
+            near,
+            table,
         );
         send(&mut self.effects, &self.state, waits, true);
         Ok(address)

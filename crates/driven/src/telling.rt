@@ -1,11 +1,11 @@
 //! The effects of a call, as they are told once it was made.
 
-ghost use Rattle.std.specs.Prelude.{◌≡◌, ◌≢◌, ◌+◌, ◌-◌, ◌*◌, ◌/◌, ◌%◌, ◌<◌, ◌≤◌, ◌++◌, List, length};
+ghost use Rattle.std.specs.Prelude.{◌≡◌, ◌≢◌, ◌+◌, ◌-◌, ◌*◌, ◌/◌, ◌%◌, ◌<◌, ◌≤◌, ◌++◌, ℕ, List, length, Some, IsTrue};
 ghost use Rattle.arrayvec.specs.ArrayVec.{array_vec_len};
 ghost use Rattle.engine.specs.Domains.{domain_at};
 ghost use Rattle.driven.specs.Effects.{IsSending};
 ghost use Rattle.driven.specs.Telling.{AreTablesOf, BringsLevel, BringsLowest, BringsPart, BringsTable, BringsUpper, BringsWhole};
-ghost use Rattle.driven.specs.Telling.{BringsFrames, BringsUnmapped, BringsWays, HasSent, IsSentBy, most_tables};
+ghost use Rattle.driven.specs.Telling.{BringsFrames, BringsMapped, BringsUnmapped, BringsWays, HasSent, IsSentBy, TablesStay, most_tables};
 ghost use Rattle.driven.specs.declared.effect.Effect.{Effect};
 
 use crate::effect::Effect;
@@ -95,7 +95,7 @@ pub(crate) fn tables_of(state: &State, domain: u64, first: u64, last: u64) -> Ta
 }
 
 /// Tells of each span of the pages from one to another: where its table of level 1 stays, the words of the pages; where it went or
-/// came, all words of the one and of the other.
+/// came, all words of the one and of the other. Answers whether each span had a table that stays.
 pub(crate) fn bring_lowest(
     effects: &mut Effects,
     state: &State,
@@ -103,21 +103,27 @@ pub(crate) fn bring_lowest(
     first: u64,
     last: u64,
     before: &Tables,
-)
+) -> bool
     requires pages { (first ≤ last) × (last / SPAN_PAGES < first / SPAN_PAGES + MOST_SPANS) }
     requires before { length before.now.items ≡ last / SPAN_PAGES + 1 - first / SPAN_PAGES }
     requires room { array_vec_len effects.old + 2 * MOST_SPANS ≤ MOST_EFFECTS }
-    ensures { (more : List Effect) × (effects.new.items ≡ effects.old.items ++ more) × (length more ≤ 2 * MOST_SPANS)
+    ensures brings { (more : List Effect) × (effects.new.items ≡ effects.old.items ++ more) × (length more ≤ 2 * MOST_SPANS)
         × BringsLowest state.now.pool (domain_at state.now.domains domain) first last before.now.items more }
+    ensures stay { IsTrue result → TablesStay state.now.pool (domain_at state.now.domains domain) first last before.now.items }
 {
     let begin = first / SPAN_PAGES;
+    let mut stay = true;
     for span in begin..last / SPAN_PAGES + 1 {
         let was = before.as_slice()[(span - begin) as usize];
         let now = state.table_at(domain, span * SPAN_PAGES, 1);
         let from = first.max(span * SPAN_PAGES);
         let to = last.min(span * SPAN_PAGES + (SPAN_PAGES - 1));
+        if !is_kept(&was, &now) {
+            stay = false;
+        }
         bring_table(effects, was, now, from, to);
     }
+    stay
 }
 
 /// Tells the words of the levels above the lowest, between two barriers.
@@ -147,7 +153,36 @@ pub(crate) fn bring_ways(effects: &mut Effects, state: &State, domain: u64, firs
     bring_upper(effects, state, domain, first, last);
 }
 
-/// Tells what an unmap of the pages from one to another changed, of the tables of level 1 that were there before it first.
+/// Tells the words of so many pages, from a first one on, that a map changed, where this was the table of level 1 on the way of a page
+/// near them before it: a table that was there stays, and is named by what it was.
+pub(crate) fn bring_mapped(
+    effects: &mut Effects,
+    state: &State,
+    domain: u64,
+    first: u64,
+    pages: u64,
+    near: u64,
+    table: Option<Frame>,
+)
+    requires pages { (1 ≤ pages) × (pages ≤ MOST_PAGES) × (first + pages ≤ PAGES_END) }
+    requires room { array_vec_len effects.old + 17 ≤ MOST_EFFECTS }
+    ensures { (more : List Effect) × (effects.new.items ≡ effects.old.items ++ more) × (length more ≤ 17)
+        × BringsMapped state.now.pool (domain_at state.now.domains domain) first (first + pages) near table more }
+{
+    let last = first + pages - 1;
+    if let Some(frame) = table {
+        let span = near / SPAN_PAGES;
+        if first / SPAN_PAGES == span && last / SPAN_PAGES == span {
+            effects.push(part(frame, first, last));
+            effects.push(Effect::Barrier);
+            return;
+        }
+    }
+    bring_ways(effects, state, domain, first, pages);
+}
+
+/// Tells what an unmap of the pages from one to another changed, of the tables of level 1 that were there before it first. Where all of
+/// these stay, no word above them was changed.
 pub(crate) fn bring_unmapped(
     effects: &mut Effects,
     state: &State,
@@ -162,8 +197,11 @@ pub(crate) fn bring_unmapped(
     ensures { (more : List Effect) × (effects.new.items ≡ effects.old.items ++ more) × (length more ≤ 26)
         × BringsUnmapped state.now.pool (domain_at state.now.domains domain) first last before.now.items more }
 {
-    bring_lowest(effects, state, domain, first, last, before);
-    bring_upper(effects, state, domain, first, last);
+    if bring_lowest(effects, state, domain, first, last, before) {
+        effects.push(Effect::Barrier);
+    } else {
+        bring_upper(effects, state, domain, first, last);
+    }
 }
 
 /// Tells all words of all table frames, and a barrier.
@@ -191,6 +229,13 @@ fn part(frame: Frame, from: u64, to: u64) -> Effect
         first: from % TABLE_ENTRIES,
         count: to - from + 1,
     }
+}
+
+// Whether a span had a table that it has still.
+fn is_kept(was: &Option<Frame>, now: &Option<Frame>) -> bool
+    ensures { IsTrue result → (f : ℕ) × ((was.now ≡ Some f) × (now.now ≡ Some f)) }
+{
+    was.is_some() && was == now
 }
 
 // Tells of one span: the words from a page to another where its table stays, else all of the table that went and of the one that came.

@@ -55,12 +55,27 @@ fn effects_of_a_page(rt: HostRuntime) -> Result<(), Fail> {
         [
             word(lowest, 1),
             Effect::Barrier,
-            word(middle, 0),
-            word(root, 0),
-            Effect::Barrier,
             PAGE_1_OF_DOMAIN_1,
             FIRST_WAIT,
             Effect::Await(1),
+        ]
+        .as_slice()
+    );
+    // The tables are there now.
+    assert_eq!(rt; driven.map(1, 0x100, 1, 0, 3), Ok(0x1000));
+    assert_eq!(rt;
+        driven.effects(),
+        [word(lowest, 1), Effect::Barrier].as_slice()
+    );
+    assert_eq!(rt; driven.unmap(1, 0x1000, 1), Ok(0));
+    assert_eq!(rt;
+        driven.effects(),
+        [
+            word(lowest, 1),
+            Effect::Barrier,
+            PAGE_1_OF_DOMAIN_1,
+            SECOND_WAIT,
+            Effect::Await(2),
         ]
         .as_slice()
     );

@@ -1,4 +1,4 @@
-use Rattle.std.proofs.Common.{◌≡◌, ◌-◌, ◌/◌, ◌++◌, ◌∙◌, Some, ap, arith, length, refl, subst}
+use Rattle.std.proofs.Common.{◌≡◌, ◌-◌, ◌/◌, ◌++◌, ◌∙◌, Some, ap, arith, length, refl, subst, sym, true, false}
 use Rattle.std.specs.Prelude.{slice_get}
 use Rattle.std.proofs.lemmas.Option.{slice_get_read}
 use Rattle.dmatypes.specs.declared.page.TheConstants.{SPAN_PAGES}
@@ -6,12 +6,13 @@ use Rattle.std.proofs.lemmas.List.{append_assoc, length-append}
 use Rattle.std.proofs.lemmas.List.Elements.{All-append}
 use Rattle.engine.specs.Domains.{domain_at}
 use Rattle.driven.specs.Effects.{IsForMemory}
-use Rattle.driven.proofs.Spans.{lowest_more, told_more}
+use Rattle.driven.proofs.Spans.{lowest_more, stay_more, told_more}
 use Rattle.driven.proofs.telling.bring_lowest.Goals as goal
+use Rattle.driven.proofs.telling.bring_lowest.Goals.{else-not-is_kept, then-not-is_kept}
 
 pub loop-span-preserved : goal.loop-span-preserved
 loop-span-preserved c =
-    let (more, (items, few, begun, for_memory, lowest, told)) = c.loop-span.invariant in
+    let (more, (items, few, begun, for_memory, lowest, told, stay)) = c.loop-span.invariant in
     let (next, second, two, brings) = c.bring_table.ensures in
     let stood : slice_get c.args.before.now.items (c.loop-span.span - c.args.first / SPAN_PAGES) ≡ Some c.index-as_slice-span.result =
     subst (λ xs. slice_get xs (c.loop-span.span - c.args.first / SPAN_PAGES) ≡ Some c.index-as_slice-span.result) c.as_slice.ensures.value
@@ -34,5 +35,13 @@ loop-span-preserved c =
             (omega (arith, begun)) stood c.table_at-now.ensures
             (λ p low here. omega (arith, c.max-from.ensures, low, here)) (λ p high here. omega (arith, c.min-to.ensures, high, here))
             brings,
+        (λ yes. elim c.if-not-is_kept.branch [
+          | then-not-is_kept w ↦ absurd (let clash : true ≡ false = sym yes ∙ w.stay-is in cc)
+          | else-not-is_kept w ↦
+              let (f, (had, has)) = c.is_kept.ensures w.if-not-is_kept.false in
+              stay_more c.args.state.now.pool (domain_at c.args.state.now.domains c.args.domain) c.args.first c.args.last
+              c.args.before.now.items c.loop-span.span f c.index-as_slice-span.result c.table_at-now.result (stay (sym w.stay-is ∙ yes))
+              stood c.table_at-now.ensures had has
+        ]),
       ),
     )

@@ -1,9 +1,10 @@
 use Rattle.std.proofs.Common.{◌≡◌, ◌+◌, ◌*◌, ◌≤◌, ◌++◌, List, length}
 use Rattle.std.specs.List.{All}
+use Rattle.std.specs.Prelude.{IsTrue}
 use Rattle.engine.specs.Domains.{domain_at}
 use Rattle.driven.specs.Effects.{IsForMemory}
 use Rattle.driven.specs.declared.effect.Effect.{Effect}
-use Rattle.driven.proofs.Spans.{Lowest, Told}
+use Rattle.driven.proofs.Spans.{Lowest, Stay, Told}
 use Rattle.driven.proofs.telling.bring_lowest.Given as goal
 
 -- what became of the tables so far is told
@@ -14,4 +15,5 @@ invariant-loop-span l =
     × (l.begin ≤ l.span)
     × All IsForMemory more
     × Lowest l.state.pool (domain_at l.state.domains l.domain) l.first l.last l.before.items more
-    × Told l.state.pool (domain_at l.state.domains l.domain) l.first l.last l.before.items more l.span)
+    × Told l.state.pool (domain_at l.state.domains l.domain) l.first l.last l.before.items more l.span
+    × (IsTrue l.stay → Stay l.state.pool (domain_at l.state.domains l.domain) l.first l.last l.before.items l.span))

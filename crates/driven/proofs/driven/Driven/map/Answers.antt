@@ -15,8 +15,8 @@ returns-in_err-address-clause-effects c =
     (refused c.self.inside.state c.map.new.self (calls.Map c.args.domain c.args.frame c.args.pages c.args.order c.args.rights)
     c.in_err-address.field-0.0 c.in_err-address.ensures)
 
-pub bring_ways-requires-clause-pages : goal.bring_ways-requires-clause-pages
-bring_ways-requires-clause-pages c =
+pub bring_mapped-requires-clause-pages : goal.bring_mapped-requires-clause-pages
+bring_mapped-requires-clause-pages c =
     let sound : IsSound c.self.inside.state = record { of_world = c.keeps.ensures.of_world; places = c.keeps.ensures.places } in
     map_pages c.self.inside.state c.map.new.self c.args.domain c.args.frame c.args.pages c.args.order c.args.rights c.in_ok-address.address
     sound c.in_ok-address.ensures
@@ -30,12 +30,12 @@ send-requires-clause-sent c =
 pub returns-clause-effects : goal.returns-clause-effects
 returns-clause-effects c =
     let sound : IsSound c.self.inside.state = record { of_world = c.keeps.ensures.of_world; places = c.keeps.ensures.places } in
-    let (es, items, few, brings) = c.bring_ways.ensures in
+    let (es, items, few, brings) = c.bring_mapped.ensures in
     let (more, items', sent) = c.send.ensures in
     rw (← c.self.view_is)
     (asks c.self.inside.state c.map.new.self (calls.Map c.args.domain c.args.frame c.args.pages c.args.order c.args.rights)
     (replies.Mapped c.in_ok-address.address) c.keeps.ensures.tickets c.in_ok-address.ensures
     c.waits-waits.result true es more c.send.new.effects.items
     (map_brings c.self.inside.state c.map.new.self c.args.domain c.args.frame c.args.pages c.args.order c.args.rights
-    c.in_ok-address.address sound c.in_ok-address.ensures es brings)
+    c.in_ok-address.address sound c.in_ok-address.ensures c.self.inside.near c.table_at-table.result c.table_at-table.ensures es brings)
     (items' ∙ ap (λ xs. xs ++ more) (items ∙ ap (λ xs. xs ++ es) c.clear.ensures)) c.waits-waits.ensures refl sent tt)

@@ -8,7 +8,7 @@ use Rattle.dmatypes.specs.Conditions.{total_pages}
 use Rattle.dmatypes.specs.declared.page.TheConstants.{MOST_PAGES, PAGE_BYTES}
 use Rattle.dmatypes.specs.declared.width.TheConstants.{PAGES_END}
 use Rattle.engine.specs.Domains.{domain_at}
-use Rattle.driven.specs.Telling.{BringsWays}
+use Rattle.driven.specs.Telling.{BringsMapped}
 use Rattle.driven.proofs.Asked.{asks}
 use Rattle.driven.proofs.Trees.{list_brings, list_pages}
 use Rattle.driven.proofs.driven.Driven.map_list.Goals as goal
@@ -27,8 +27,8 @@ pages_of-pages-requires c =
     c.args.domain c.args.order c.args.rights c.in_ok-address.address c.args.segments.now sound
     c.in_ok-address.ensures).1
 
-pub bring_ways-requires-clause-pages : goal.bring_ways-requires-clause-pages
-bring_ways-requires-clause-pages c =
+pub bring_mapped-requires-clause-pages : goal.bring_mapped-requires-clause-pages
+bring_mapped-requires-clause-pages c =
     let sound : IsSound c.self.inside.state = record { of_world = c.keeps.ensures.of_world; places = c.keeps.ensures.places } in
     let is : c.pages_of-pages.result ≡ total_pages c.args.segments.now.items =
     c.pages_of-pages.ensures ∙ ap (λ xs. total_pages xs) c.as_slice.ensures.value in
@@ -47,7 +47,7 @@ returns-clause-effects c =
     let sound : IsSound c.self.inside.state = record { of_world = c.keeps.ensures.of_world; places = c.keeps.ensures.places } in
     let is : c.pages_of-pages.result ≡ total_pages c.args.segments.now.items =
     c.pages_of-pages.ensures ∙ ap (λ xs. total_pages xs) c.as_slice.ensures.value in
-    let (es, items, few, brings) = c.bring_ways.ensures in
+    let (es, items, few, brings) = c.bring_mapped.ensures in
     let (more, items', sent) = c.send.ensures in
     rw (← c.self.view_is)
     (asks c.self.inside.state c.map_list.new.self (calls.MapList c.args.domain c.args.order c.args.rights c.args.segments.now)
@@ -55,7 +55,8 @@ returns-clause-effects c =
     c.waits-waits.result true es more c.send.new.effects.items
     (list_brings c.self.inside.state c.map_list.new.self c.args.domain c.args.order c.args.rights c.in_ok-address.address
     c.args.segments.now sound
-    c.in_ok-address.ensures es
-    (subst (λ n. BringsWays c.map_list.new.self.pool (domain_at c.map_list.new.self.domains c.args.domain)
-    (c.in_ok-address.address / PAGE_BYTES) (c.in_ok-address.address / PAGE_BYTES + n) es) is brings))
+    c.in_ok-address.ensures c.self.inside.near c.table_at-table.result c.table_at-table.ensures es
+    (subst (λ n. BringsMapped c.map_list.new.self.pool (domain_at c.map_list.new.self.domains c.args.domain)
+    (c.in_ok-address.address / PAGE_BYTES) (c.in_ok-address.address / PAGE_BYTES + n) c.self.inside.near c.table_at-table.result es) is
+    brings))
     (items' ∙ ap (λ xs. xs ++ more) (items ∙ ap (λ xs. xs ++ es) c.clear.ensures)) c.waits-waits.ensures refl sent tt)

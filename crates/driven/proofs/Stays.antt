@@ -1,0 +1,79 @@
+-- That no word above the lowest tables is changed where these stay.
+use Rattle.std.proofs.Common.{◌≡◌, ◌≢◌, inl, inr, ℕ, zero, suc, ◌+◌, ◌/◌, ◌<◌, ◌≤◌, List, Option, Some, sym, ap, subst, ◌∙◌, arith}
+use Rattle.std.proofs.lemmas.Option.{same_Some}
+use Rattle.dmatypes.specs.Conditions.{total_pages}
+use Rattle.dmatypes.specs.Page.{Range, levels, pages_end}
+use Rattle.dmatypes.specs.declared.page.TheConstants.{SPAN_PAGES}
+use Rattle.tables.specs.Pool.{memory, word}
+use Rattle.tables.specs.Tree.{index_in, table_from}
+use Rattle.tables.proofs.walks.Steps.{index-zero}
+use Rattle.moments.proofs.Walks.{one_span}
+use Rattle.engine.specs.Domains.{Domain, domain_at}
+use Rattle.engine.specs.Placing.{Placement, Places}
+use Rattle.engine.specs.State.{State}
+use Rattle.engine.specs.Walkable.{table_at}
+use Rattle.quiet.specs.Quiet.{IsSound}
+use Rattle.driven.specs.declared.effect.Effect.{Effect}
+use Rattle.driven.specs.Effects.{IsBrought}
+use Rattle.driven.specs.Telling.{AreTablesOf, BringsMapped, TablesStay}
+use Rattle.driven.specs.Ways.{IsOnWays}
+use Rattle.driven.proofs.BringsAll.{on_ways, there, was}
+use Rattle.driven.proofs.Calls.{map_sound}
+use Rattle.driven.proofs.Changed.{map_upper, unmap_upper}
+use Rattle.driven.proofs.Cuts.{Cuts}
+use Rattle.driven.proofs.Spans.{same_table}
+
+module _ (m t : State) (d : ℕ) (h h' : Domain) (here : domain_at m.domains d ≡ Some h) (then : domain_at t.domains d ≡ Some h')
+    (root : h'.root ≡ h.root) (width : h'.width ≡ h.width) where
+  -- ---- a map
+
+  module _ (sound : IsSound m) (new : Domain) (at : Placement) (some : 1 ≤ total_pages at.segments) (places : Places m.pool h at t.pool new)
+      (near : ℕ) (table : Option ℕ) (looked : table ≡ table_at m.pool (domain_at m.domains d) near 1) where
+    -- the table that a page of the near one's span had
+    had : (p c : ℕ) → table ≡ Some c → p / SPAN_PAGES ≡ near / SPAN_PAGES
+        → table_from (memory m.pool.words) (levels h.width) h.root p 1 ≡ Some c
+    had p c found same =
+        sym (ap (λ o. table_at m.pool o p 1) here) ∙ same_table m.pool (domain_at m.domains d) p near same ∙ sym looked ∙ found
+
+    -- the words of the pages in it are all that was changed on their ways
+    pub placed_words : (to : ℕ) (es : List Effect) → BringsMapped t.pool (domain_at t.domains d) at.first to near table es → (f k : ℕ)
+        → word m.pool.words f k ≢ word t.pool.words f k → IsOnWays t.pool.words (levels h.width) h.root at.first to f k → IsBrought es f k
+    placed_words to es brings f k differs on =
+        elim brings.brings [
+          | inl all ↦ on_ways t d h h' then root width at.first to es all f k on
+          | inr one ↦ in_table one.0 one.1.0 one.1.1
+              (λ p low high. subst (λ i. IsBrought es one.0 i) (sym (index-zero p)) (one.1.2 p low high)) on
+        ]
+      where
+        in_table : (c : ℕ) → table ≡ Some c → ((p : ℕ) → at.first ≤ p → p < to → p / SPAN_PAGES ≡ near / SPAN_PAGES)
+            → ((p : ℕ) → at.first ≤ p → p < to → IsBrought es c (index_in 0 p))
+            → IsOnWays t.pool.words (levels h.width) h.root at.first to f k → IsBrought es f k
+        in_table c found same told (p, (low, high, (zero, is, index))) =
+            let own : c ≡ f = same_Some c f (sym (places.maps.tables p 1 c (had p c found (same p low high))) ∙ is) in
+            subst (λ g. IsBrought es g k) own (subst (λ i. IsBrought es c i) index (told p low high))
+        in_table c found same told (p, (low, high, (suc l, is, index))) =
+            absurd (differs (subst (λ i. word m.pool.words f i ≡ word t.pool.words f i) index
+            (map_upper m.pool t.pool (levels h.width) h.root at.first (at.first + total_pages at.segments) _
+            (map_sound m t sound d h here at new some places) places.maps p l f c (had p c found (same p low high)) is)))
+
+  -- ---- an unmap
+
+  module _ (range : Range) (c : Cuts m t h range) (last : ℕ) (end : range.first + range.pages ≡ last + 1) (before : List (Option ℕ))
+      (were : AreTablesOf m.pool (domain_at m.domains d) range.first last before)
+      (stay : TablesStay t.pool (domain_at t.domains d) range.first last before) where
+    pub cut_upper : (p l f : ℕ) → range.first ≤ p → p ≤ last
+        → table_from (memory t.pool.words) (levels h.width) h.root p (suc (suc l)) ≡ Some f
+        → word m.pool.words f (index_in (suc l) p) ≡ word t.pool.words f (index_in (suc l) p)
+    cut_upper p l f low high at =
+        let (b, (old, new)) = stay p low high in
+        let small : p < pages_end h.width = omega (arith, high, end, c.below) in
+        let stood : table_from (memory m.pool.words) (levels h.width) h.root p 1 ≡ Some b =
+        same_Some (table_from (memory m.pool.words) (levels h.width) h.root p 1) (Some b)
+        (sym (was t d h h' then root width m range.first last before here were p low high) ∙ old) in
+        ap (λ ws. word ws f (index_in (suc l) p)) (sym c.was)
+        ∙ unmap_upper c.old c.new (levels h.width) h.root range.first (range.first + range.pages) c.cut c.sound c.unmaps p l f b
+        (one_span h.width p small ∙ sym (one_span h.width range.first (omega (arith, low, small))))
+        (ap (λ ws. table_from (memory ws) (levels h.width) h.root p 1) c.was ∙ stood)
+        (ap (λ ws. table_from (memory ws) (levels h.width) h.root p 1) c.is ∙ sym (there t d h h' then root width p 1) ∙ new)
+        (ap (λ ws. table_from (memory ws) (levels h.width) h.root p (suc (suc l))) c.is ∙ at)
+        ∙ ap (λ ws. word ws f (index_in (suc l) p)) c.is
