@@ -1,11 +1,13 @@
 -- That no word above the lowest tables is changed where these stay.
-use Rattle.std.proofs.Common.{◌≡◌, ◌≢◌, inl, inr, ℕ, zero, suc, ◌+◌, ◌/◌, ◌<◌, ◌≤◌, List, Option, Some, sym, ap, subst, ◌∙◌, arith}
+use Rattle.std.proofs.Common.{◌≡◌, ◌≢◌, inl, inr, ℕ, zero, suc, ◌+◌, ◌-◌, ◌/◌, ◌<◌, ◌≤◌, List, Option, Some, sym, ap, subst, ◌∙◌, arith}
+use Rattle.std.specs.Prelude.{slice_get}
 use Rattle.std.proofs.lemmas.Option.{same_Some}
 use Rattle.dmatypes.specs.Conditions.{total_pages}
 use Rattle.dmatypes.specs.Page.{Range, levels, pages_end}
 use Rattle.dmatypes.specs.declared.page.TheConstants.{SPAN_PAGES}
+use Rattle.tables.specs.Changes.{IsCovered}
 use Rattle.tables.specs.Pool.{memory, word}
-use Rattle.tables.specs.Tree.{index_in, table_from}
+use Rattle.tables.specs.Tree.{index_in, span, table_from}
 use Rattle.tables.proofs.walks.Steps.{index-zero}
 use Rattle.moments.proofs.Walks.{one_span}
 use Rattle.engine.specs.Domains.{Domain, domain_at}
@@ -15,7 +17,7 @@ use Rattle.engine.specs.Walkable.{table_at}
 use Rattle.quiet.specs.Quiet.{IsSound}
 use Rattle.driven.specs.declared.effect.Effect.{Effect}
 use Rattle.driven.specs.Effects.{IsBrought}
-use Rattle.driven.specs.Telling.{AreTablesOf, BringsMapped, TablesStay}
+use Rattle.driven.specs.Telling.{AreTablesOf, BringsMapped, StayInPart, TablesStay}
 use Rattle.driven.specs.Ways.{IsOnWays}
 use Rattle.driven.proofs.BringsAll.{on_ways, there, was}
 use Rattle.driven.proofs.Calls.{map_sound}
@@ -59,21 +61,37 @@ module _ (m t : State) (d : ℕ) (h h' : Domain) (here : domain_at m.domains d �
   -- ---- an unmap
 
   module _ (range : Range) (c : Cuts m t h range) (last : ℕ) (end : range.first + range.pages ≡ last + 1) (before : List (Option ℕ))
-      (were : AreTablesOf m.pool (domain_at m.domains d) range.first last before)
-      (stay : TablesStay t.pool (domain_at t.domains d) range.first last before) where
-    pub cut_upper : (p l f : ℕ) → range.first ≤ p → p ≤ last
+      (were : AreTablesOf m.pool (domain_at m.domains d) range.first last before) where
+    near_first : (p : ℕ) → range.first ≤ p → p ≤ last → p / span (levels h.width) ≡ range.first / span (levels h.width)
+    near_first p low high =
+        let small : p < pages_end h.width = omega (arith, high, end, c.below) in
+        one_span h.width p small ∙ sym (one_span h.width range.first (omega (arith, low, small)))
+
+    -- the table that a page had, as it was looked up
+    stood : (p b : ℕ) → range.first ≤ p → p ≤ last → slice_get before (p / SPAN_PAGES - range.first / SPAN_PAGES) ≡ Some (Some b)
+        → table_from (memory c.old.words) (levels h.width) h.root p 1 ≡ Some b
+    stood p b low high old =
+        ap (λ ws. table_from (memory ws) (levels h.width) h.root p 1) c.was
+        ∙ same_Some (table_from (memory m.pool.words) (levels h.width) h.root p 1) (Some b)
+        (sym (was t d h h' then root width m range.first last before here were p low high) ∙ old)
+
+    -- it stays where the pages don't cover its span
+    pub cut_stays : StayInPart t.pool (domain_at t.domains d) range.first last before
+    cut_stays p f low high partly old =
+        there t d h h' then root width p 1 ∙ ap (λ ws. table_from (memory ws) (levels h.width) h.root p 1) (sym c.is)
+        ∙ elim (c.unmaps.tables p 1 f (near_first p low high) (stood p f low high old)) [
+          | inl is ↦ is
+          | inr gone ↦ absurd (partly (subst (λ n. IsCovered range.first n p) end gone.1))
+        ]
+
+    pub cut_upper : TablesStay t.pool (domain_at t.domains d) range.first last before → (p l f : ℕ) → range.first ≤ p → p ≤ last
         → table_from (memory t.pool.words) (levels h.width) h.root p (suc (suc l)) ≡ Some f
         → word m.pool.words f (index_in (suc l) p) ≡ word t.pool.words f (index_in (suc l) p)
-    cut_upper p l f low high at =
+    cut_upper stay p l f low high at =
         let (b, (old, new)) = stay p low high in
-        let small : p < pages_end h.width = omega (arith, high, end, c.below) in
-        let stood : table_from (memory m.pool.words) (levels h.width) h.root p 1 ≡ Some b =
-        same_Some (table_from (memory m.pool.words) (levels h.width) h.root p 1) (Some b)
-        (sym (was t d h h' then root width m range.first last before here were p low high) ∙ old) in
         ap (λ ws. word ws f (index_in (suc l) p)) (sym c.was)
         ∙ unmap_upper c.old c.new (levels h.width) h.root range.first (range.first + range.pages) c.cut c.sound c.unmaps p l f b
-        (one_span h.width p small ∙ sym (one_span h.width range.first (omega (arith, low, small))))
-        (ap (λ ws. table_from (memory ws) (levels h.width) h.root p 1) c.was ∙ stood)
+        (near_first p low high) (stood p b low high old)
         (ap (λ ws. table_from (memory ws) (levels h.width) h.root p 1) c.is ∙ sym (there t d h h' then root width p 1) ∙ new)
         (ap (λ ws. table_from (memory ws) (levels h.width) h.root p (suc (suc l))) c.is ∙ at)
         ∙ ap (λ ws. word ws f (index_in (suc l) p)) c.is

@@ -37,14 +37,14 @@ use Rattle.quiet.proofs.Onward.{onward}
 use Rattle.quiet.specs.Quiet.{IsSound}
 use Rattle.driven.specs.declared.effect.Effect.{Effect}
 use Rattle.driven.specs.Effects.{BringsAll, FillsTables, IsBrought, by_mode, in_mode, in_order}
-use Rattle.driven.specs.Telling.{AreTablesOf, BringsFrames, BringsMapped, BringsUnmapped, TablesStay}
+use Rattle.driven.specs.Telling.{AreTablesOf, BringsFrames, BringsMapped, BringsUnmapped, StayInPart, TablesStay}
 use Rattle.driven.specs.Ways.{IsOnWays}
 use Rattle.driven.proofs.BringsAll.{exchanged, stays_or_came}
 use Rattle.driven.proofs.Calls.{calls_change}
 use Rattle.driven.proofs.Cuts.{cuts}
 use Rattle.driven.proofs.Fills.{closed_fill, cut_fill, placed_fill}
 use Rattle.driven.proofs.Rows.{rows}
-use Rattle.driven.proofs.Stays.{cut_upper, placed_words}
+use Rattle.driven.proofs.Stays.{cut_stays, cut_upper, placed_words}
 use Rattle.driven.proofs.Told.{whole_row}
 
 -- ---- a map
@@ -133,6 +133,23 @@ module _ (m t : State) (d address pages released : ℕ) (sound : IsSound m)
       (cuts m t sound d h here (range_at address pages) (unmap_pages m t d address pages released h sound here does) released new h.mode
       ends)
       last end before were es brings
+
+  stay_by : Becomes m (calls.Unmap d address pages) (Unmapped released) t → (last : ℕ) → address / PAGE_BYTES + pages ≡ last + 1
+      → (before : List (Option ℕ)) → AreTablesOf m.pool (domain_at m.domains d) (address / PAGE_BYTES) last before
+      → StayInPart t.pool (domain_at t.domains d) (address / PAGE_BYTES) last before
+  unfolding Becomes
+  stay_by (h, new, here, ends, is) last end before were =
+      let o = onward m t d h sound here (calls.Unmap d address pages) (Unmapped released) does does.becomes (λ is done. cc) in
+      cut_stays m t d h o.0 here o.1 o.2.root o.2.width (range_at address pages)
+      (cuts m t sound d h here (range_at address pages) (unmap_pages m t d address pages released h sound here does) released new h.mode
+      ends)
+      last end before were
+
+  -- the lowest tables whose spans the pages don't cover stay
+  pub stay_in_part : (last : ℕ) → address / PAGE_BYTES + pages ≡ last + 1 → (before : List (Option ℕ))
+      → AreTablesOf m.pool (domain_at m.domains d) (address / PAGE_BYTES) last before
+      → StayInPart t.pool (domain_at t.domains d) (address / PAGE_BYTES) last before
+  stay_in_part last end before were = stay_by does.becomes last end before were
 
   -- where the lowest tables stay no word above them was changed
   unmap_kept : Becomes m (calls.Unmap d address pages) (Unmapped released) t → (last : ℕ) → address / PAGE_BYTES + pages ≡ last + 1

@@ -6,6 +6,7 @@ use Rattle.dmatypes.specs.declared.page.TheConstants.{SPAN_PAGES}
 use Rattle.vtdbits.specs.declared.descriptor.Descriptor.{Descriptor}
 use Rattle.queue.specs.Ring.{submitted_in}
 use Rattle.tables.specs.declared.entries.TheConstants.{TABLE_ENTRIES}
+use Rattle.tables.specs.Changes.{IsCovered}
 use Rattle.tables.specs.Pool.{Pool}
 use Rattle.tables.specs.Tree.{index_in, span}
 use Rattle.engine.specs.Domains.{Domain}
@@ -73,6 +74,12 @@ pub record BringsLowest (pool : Pool) (h : Option Domain) (first last : ℕ) (be
       → ((f : ℕ) → was ≡ Some f → table_at pool h p 1 ≡ Some f → IsBrought effects f (p % TABLE_ENTRIES))
       × ((f k : ℕ) → was ≢ table_at pool h p 1 → (was ≡ Some f) ⊎ (table_at pool h p 1 ≡ Some f) → k < TABLE_ENTRIES
       → IsBrought effects f k)
+
+-- a table of level 1 that was there is so still where one of its span is none of these pages
+abbrev pub StayInPart : Pool → Option Domain → ℕ → ℕ → List (Option ℕ) → Type 0
+StayInPart pool h first last before =
+    (p f : ℕ) → first ≤ p → p ≤ last → (IsCovered first (last + 1) p → ⊥)
+    → slice_get before (p / SPAN_PAGES - first / SPAN_PAGES) ≡ Some (Some f) → table_at pool h p 1 ≡ Some f
 
 -- each of these pages had a table of level 1, as these tell, and has it still
 abbrev pub TablesStay : Pool → Option Domain → ℕ → ℕ → List (Option ℕ) → Type 0

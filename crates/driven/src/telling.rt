@@ -3,9 +3,11 @@
 ghost use Rattle.std.specs.Prelude.{◌≡◌, ◌≢◌, ◌+◌, ◌-◌, ◌*◌, ◌/◌, ◌%◌, ◌<◌, ◌≤◌, ◌++◌, ℕ, List, length, Some, IsTrue};
 ghost use Rattle.arrayvec.specs.ArrayVec.{array_vec_len};
 ghost use Rattle.engine.specs.Domains.{domain_at};
+ghost use Rattle.engine.specs.Walkable.{table_at};
 ghost use Rattle.driven.specs.Effects.{IsSending};
 ghost use Rattle.driven.specs.Telling.{AreTablesOf, BringsLevel, BringsLowest, BringsPart, BringsTable, BringsUpper, BringsWhole};
-ghost use Rattle.driven.specs.Telling.{BringsFrames, BringsMapped, BringsUnmapped, BringsWays, HasSent, IsSentBy, TablesStay, most_tables};
+ghost use Rattle.driven.specs.Telling.{BringsFrames, BringsMapped, BringsUnmapped, BringsWays, HasSent, IsSentBy, StayInPart, TablesStay};
+ghost use Rattle.driven.specs.Telling.{most_tables};
 ghost use Rattle.driven.specs.declared.effect.Effect.{Effect};
 
 use crate::effect::Effect;
@@ -106,6 +108,7 @@ pub(crate) fn bring_lowest(
 ) -> bool
     requires pages { (first ≤ last) × (last / SPAN_PAGES < first / SPAN_PAGES + MOST_SPANS) }
     requires before { length before.now.items ≡ last / SPAN_PAGES + 1 - first / SPAN_PAGES }
+    requires stay { StayInPart state.now.pool (domain_at state.now.domains domain) first last before.now.items }
     requires room { array_vec_len effects.old + 2 * MOST_SPANS ≤ MOST_EFFECTS }
     ensures brings { (more : List Effect) × (effects.new.items ≡ effects.old.items ++ more) × (length more ≤ 2 * MOST_SPANS)
         × BringsLowest state.now.pool (domain_at state.now.domains domain) first last before.now.items more }
@@ -115,9 +118,9 @@ pub(crate) fn bring_lowest(
     let mut stay = true;
     for span in begin..last / SPAN_PAGES + 1 {
         let was = before.as_slice()[(span - begin) as usize];
-        let now = state.table_at(domain, span * SPAN_PAGES, 1);
         let from = first.max(span * SPAN_PAGES);
         let to = last.min(span * SPAN_PAGES + (SPAN_PAGES - 1));
+        let now = table_after(state, domain, &was, from, to);
         if !is_kept(&was, &now) {
             stay = false;
         }
@@ -193,6 +196,7 @@ pub(crate) fn bring_unmapped(
 )
     requires pages { (first ≤ last) × (last < first + MOST_PAGES) }
     requires before { length before.now.items ≡ last / SPAN_PAGES + 1 - first / SPAN_PAGES }
+    requires stay { StayInPart state.now.pool (domain_at state.now.domains domain) first last before.now.items }
     requires room { array_vec_len effects.old + 26 ≤ MOST_EFFECTS }
     ensures { (more : List Effect) × (effects.new.items ≡ effects.old.items ++ more) × (length more ≤ 26)
         × BringsUnmapped state.now.pool (domain_at state.now.domains domain) first last before.now.items more }
@@ -229,6 +233,22 @@ fn part(frame: Frame, from: u64, to: u64) -> Effect
         first: from % TABLE_ENTRIES,
         count: to - from + 1,
     }
+}
+
+// The table of level 1 of the pages from one to another of a span, where it was this before they were unmapped. One that has pages besides
+// stays, and isn't asked for.
+fn table_after(state: &State, domain: u64, was: &Option<Frame>, from: u64, to: u64) -> Option<Frame>
+    requires pages { from ≤ to }
+    requires stays { to - from < SPAN_PAGES - 1 → (f : ℕ) → was.now ≡ Some f
+        → table_at state.now.pool (domain_at state.now.domains domain) from 1 ≡ Some f }
+    ensures { result ≡ table_at state.now.pool (domain_at state.now.domains domain) from 1 }
+{
+    if let Some(frame) = was {
+        if to - from < SPAN_PAGES - 1 {
+            return Some(*frame);
+        }
+    }
+    state.table_at(domain, from, 1)
 }
 
 // Whether a span had a table that it has still.
