@@ -1,6 +1,8 @@
+use Rattle.std.proofs.Common.{subst, sym}
 use Rattle.dmatypes.specs.declared.call.Call.TheVariants as calls
 use Rattle.engine.specs.State.{request_reply}
 use Rattle.quiet.specs.Quiet.{IsSound}
+use Rattle.driven.specs.Effects.{AreEffects}
 use Rattle.driven.proofs.Asked.{asks_nothing}
 use Rattle.driven.proofs.Rows.{rows}
 use Rattle.driven.proofs.driven.Driven.dma.Goals as goal
@@ -9,6 +11,7 @@ pub returns-clause-effects : goal.returns-clause-effects
 returns-clause-effects c =
     let sound : IsSound c.self.inside.state = record { of_world = c.keeps.ensures.of_world; places = c.keeps.ensures.places } in
     let call = calls.Dma c.args.device c.args.address c.args.access c.args.whim in
-    rw (← c.self.view_is, c.clear.ensures)
+    subst (λ es. AreEffects c.args.self.now.state call (request_reply c.dma.result) c.dma.new.self es) (sym c.clear.ensures)
+    (rw (← c.self.view_is)
     (asks_nothing c.self.inside.state c.dma.new.self call (request_reply c.dma.result) sound c.keeps.ensures.tickets c.dma.ensures.does
-    (λ f k no. no) tt (rows c.self.inside.state c.dma.new.self call (request_reply c.dma.result) c.dma.ensures.does.becomes))
+    (λ f k no. no) tt (rows c.self.inside.state c.dma.new.self call (request_reply c.dma.result) c.dma.ensures.does.becomes)))
