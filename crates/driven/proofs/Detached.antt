@@ -25,7 +25,7 @@ not_lacking w d v r here (inl (inl (none, same))) = let clash : true ≡ false =
 not_lacking w d v r here (inl (inr (other, never))) = never
 not_lacking w d v r here (inr (fine, meets)) = meets
 
-not_refused : (s t : State) (d : ℕ) (h : Domain) (r : Refusal) → IsOfSomeWorld s → domain_at s.domains d ≡ Some h
+pub not_refused : (s t : State) (d : ℕ) (h : Domain) (r : Refusal) → IsOfSomeWorld s → domain_at s.domains d ≡ Some h
     → Does s (calls.Flush d) (Refused r) t → ⊥
 not_refused s t d h r (w, q) here does =
     let v = both_there s.pool.words (domain_at s.domains d) (w.domains d) h (q.domains d) here in
@@ -45,7 +45,7 @@ module _ (m s : State) (device : ℕ) (sound : IsSound m) (does : Does m (calls.
   pub had : Had
   had = had_by does.becomes
 
-  after : IsOfSomeWorld s
+  pub after : IsOfSomeWorld s
   after = (_, (does.steps sound.of_world.0 sound.of_world.1).1)
 
   pub both : (t : State) (d : ℕ) → attached (slice_get m.iommu.contexts device) ≡ Some d → (first second es : List Effect)

@@ -1,6 +1,6 @@
 //! A state that tells what each call asks.
 
-ghost use Rattle.std.specs.Prelude.{◌≡◌, ◌+◌, ◌<◌, ◌≤◌, [], IfOk};
+ghost use Rattle.std.specs.Prelude.{◌≡◌, ◌+◌, ◌<◌, ◌≤◌, [], length, IfOk, true, false};
 ghost use Rattle.dmatypes.specs.Conditions.{total_pages};
 ghost use Rattle.dmatypes.specs.declared.call.Call.TheVariants as calls;
 ghost use Rattle.dmatypes.specs.declared.page.TheConstants.{MOST_PAGES};
@@ -10,15 +10,18 @@ ghost use Rattle.engine.specs.Hits.{IsHitOf};
 ghost use Rattle.engine.specs.State.{IsNew, begun_reply, done_reply, flushed_reply, made_reply, mapped_reply, reaped_reply, request_reply};
 ghost use Rattle.engine.specs.State.{unmapped_reply};
 ghost use Rattle.engine.specs.Steps.{Does};
+ghost use Rattle.engine.specs.Quarantine.{Quarantine};
+ghost use Rattle.dmatypes.specs.World.{empty};
 ghost use Rattle.driven.specs.Effects.{AreEffects, DetachesAll};
+ghost use Rattle.driven.specs.declared.telling.TheConstants.{MOST_EFFECTS};
 
 use crate::detaching::{tell_detach, tell_flush};
 use crate::effect::Effect;
-use crate::telling::{Effects, bring_frames, bring_mapped, bring_unmapped, send, tables_of};
+use crate::noting::{Noted, note_map, note_unmap, tell_map, tell_unmap};
+use crate::telling::{Effects, bring_frames, send};
 use arrayvec::ArrayVec;
 use dmatypes::{
-    Access, Cache, Fault, MOST_SEGMENTS, Mode, PAGE_BYTES, PageRange, Progress, Refusal, Segment,
-    Whim, Width,
+    Access, Cache, Fault, MOST_SEGMENTS, Mode, PAGE_BYTES, Progress, Refusal, Segment, Whim, Width,
 };
 use engine::{Hit, State};
 use std::alloc::{AllocError, Global};
@@ -30,8 +33,8 @@ use std::marker::Model;
 pub struct Driven {
     state: State,
     effects: Effects,
-    // The first page that the last map took: mostly the next one takes pages of the same span of 512.
-    near: u64,
+    noted: Noted,
+    tells: bool,
 }
 
 impl Model for Driven {
@@ -39,7 +42,7 @@ impl Model for Driven {
 
     ghost Value = { Driven };
 
-    ghost view = { λ d. record { state = d.state; effects = d.effects.items } };
+    ghost view = { λ d. record { state = d.state; effects = d.effects.items; tells = d.tells } };
 }
 
 impl Driven {
@@ -49,13 +52,45 @@ impl Driven {
         requires some { LEAST_TABLE_FRAMES ≤ frames }
         requires few { frames ≤ MOST_TABLE_FRAMES }
         ensures new { IfOk result (λ d. IsNew frames caching d.state) }
+        ensures empty { IfOk result (λ d. Quarantine d.state (empty frames)) }
         ensures quiet { IfOk result (λ d. d.effects ≡ []) }
+        ensures tells { IfOk result (λ d. d.tells ≡ true) }
+    {
+        Driven::made(alloc, frames, caching, true)
+    }
+
+    /// The same, for whoever has no other unit: its maps and unmaps tell nothing, and cost what the state's do.
+    pub fn silent(alloc: Global, frames: u64, caching: bool) -> Result<Driven, AllocError>
+        requires some { LEAST_TABLE_FRAMES ≤ frames }
+        requires few { frames ≤ MOST_TABLE_FRAMES }
+        ensures new { IfOk result (λ d. IsNew frames caching d.state) }
+        ensures empty { IfOk result (λ d. Quarantine d.state (empty frames)) }
+        ensures tells { IfOk result (λ d. d.tells ≡ false) }
+    {
+        Driven::made(alloc, frames, caching, false)
+    }
+
+    fn made(alloc: Global, frames: u64, caching: bool, tells: bool) -> Result<Driven, AllocError>
+        requires some { LEAST_TABLE_FRAMES ≤ frames }
+        requires few { frames ≤ MOST_TABLE_FRAMES }
+        ensures new { IfOk result (λ d. IsNew frames caching d.state) }
+        ensures empty { IfOk result (λ d. Quarantine d.state (empty frames)) }
+        ensures quiet { IfOk result (λ d. d.effects ≡ []) }
+        ensures tells { IfOk result (λ d. d.tells ≡ tells) }
     {
         Ok(Driven {
             state: State::with_caching(alloc, frames, caching)?,
             effects: Effects::new(),
-            near: 0,
+            noted: Noted::new(),
+            tells,
         })
+    }
+
+    /// Whether it tells what maps and unmaps ask.
+    pub fn tells(&self) -> bool
+        ensures { result ≡ self.now.tells }
+    {
+        self.tells
     }
 
     /// The state, with its readers of words, contexts and descriptors.
@@ -67,15 +102,24 @@ impl Driven {
 
     /// What the last call asks, in order.
     pub fn effects(&self) -> &[Effect]
-        ensures { result.now ≡ self.now.effects }
+        ensures effects { result.now ≡ self.now.effects }
+        ensures few { length result.now ≤ MOST_EFFECTS }
     {
         self.effects.as_slice()
+    }
+
+    /// Forgets what the last call asks, once it is done.
+    pub fn forget_effects(&mut self)
+        ensures { self.new ≡ record { state = self.old.state; effects = []; tells = self.old.tells } }
+    {
+        self.effects.clear();
     }
 
     /// Makes a domain, as `State::domain` does.
     pub fn domain(&mut self, mode: Mode, width: Width) -> Result<u64, Refusal>
         requires { self.old.state.calls < CALLS_END }
         ensures does { Does self.old.state (calls.Domain mode width) (made_reply result) self.new.state }
+        ensures tells { self.new.tells ≡ self.old.tells }
         ensures effects { AreEffects self.old.state (calls.Domain mode width) (made_reply result) self.new.state self.new.effects }
     {
         self.effects.clear();
@@ -87,6 +131,7 @@ impl Driven {
     pub fn detach(&mut self, device: u64) -> Result<(), Refusal>
         requires { self.old.state.calls < CALLS_END }
         ensures does { Does self.old.state (calls.Detach device) (done_reply result) self.new.state }
+        ensures tells { self.new.tells ≡ self.old.tells }
         ensures effects { AreEffects self.old.state (calls.Detach device) (done_reply result) self.new.state self.new.effects }
     {
         self.effects.clear();
@@ -99,7 +144,8 @@ impl Driven {
     /// then.
     pub fn detach_all(&mut self, device: u64) -> Result<u64, Refusal>
         requires { self.old.state.calls + 1 < CALLS_END }
-        ensures { DetachesAll self.old.state device result self.new.state self.new.effects }
+        ensures detaches { DetachesAll self.old.state device result self.new.state self.new.effects }
+        ensures tells { self.new.tells ≡ self.old.tells }
     {
         self.effects.clear();
         let domain = self.state.domain_of(device);
@@ -113,6 +159,7 @@ impl Driven {
     pub fn flush(&mut self, domain: u64) -> Result<u64, Refusal>
         requires { self.old.state.calls < CALLS_END }
         ensures does { Does self.old.state (calls.Flush domain) (flushed_reply result) self.new.state }
+        ensures tells { self.new.tells ≡ self.old.tells }
         ensures effects { AreEffects self.old.state (calls.Flush domain) (flushed_reply result) self.new.state self.new.effects }
     {
         self.effects.clear();
@@ -123,6 +170,7 @@ impl Driven {
     pub fn attach(&mut self, device: u64, domain: u64) -> Result<(), Refusal>
         requires { self.old.state.calls < CALLS_END }
         ensures does { Does self.old.state (calls.Attach device domain) (done_reply result) self.new.state }
+        ensures tells { self.new.tells ≡ self.old.tells }
         ensures effects { AreEffects self.old.state (calls.Attach device domain) (done_reply result) self.new.state self.new.effects }
     {
         self.effects.clear();
@@ -137,6 +185,7 @@ impl Driven {
     pub fn begin(&mut self, domain: u64) -> Result<u64, Refusal>
         requires { self.old.state.calls < CALLS_END }
         ensures does { Does self.old.state (calls.Begin domain) (begun_reply domain result) self.new.state }
+        ensures tells { self.new.tells ≡ self.old.tells }
         ensures effects { AreEffects self.old.state (calls.Begin domain) (begun_reply domain result) self.new.state self.new.effects }
     {
         self.effects.clear();
@@ -151,6 +200,7 @@ impl Driven {
     pub fn reap(&mut self, domain: u64, number: u64) -> Result<Option<u64>, Refusal>
         requires { self.old.state.calls < CALLS_END }
         ensures does { Does self.old.state (calls.Reap domain number) (reaped_reply result) self.new.state }
+        ensures tells { self.new.tells ≡ self.old.tells }
         ensures effects { AreEffects self.old.state (calls.Reap domain number) (reaped_reply result) self.new.state self.new.effects }
     {
         self.effects.clear();
@@ -162,6 +212,7 @@ impl Driven {
     pub fn unit_step(&mut self) -> Progress
         requires { self.old.state.calls < CALLS_END }
         ensures does { Does self.old.state calls.Unit (Stepped result) self.new.state }
+        ensures tells { self.new.tells ≡ self.old.tells }
         ensures effects { AreEffects self.old.state calls.Unit (Stepped result) self.new.state self.new.effects }
     {
         self.effects.clear();
@@ -180,6 +231,7 @@ impl Driven {
     ) -> Result<Result<Hit, Fault>, Refusal>
         requires { self.old.state.calls < CALLS_END }
         ensures does { Does self.old.state (calls.Dma device address access whim) (request_reply result) self.new.state }
+        ensures tells { self.new.tells ≡ self.old.tells }
         ensures hit { IfOk result (λ answer. IfOk answer (IsHitOf self.old.state device address access)) }
         ensures effects { AreEffects self.old.state (calls.Dma device address access whim) (request_reply result)
             self.new.state self.new.effects }
@@ -194,6 +246,7 @@ impl Driven {
     pub fn evict(&mut self, kind: Cache, place: u64)
         requires { self.old.state.calls < CALLS_END }
         ensures does { Does self.old.state (calls.Evict kind place) Done self.new.state }
+        ensures tells { self.new.tells ≡ self.old.tells }
         ensures effects { AreEffects self.old.state (calls.Evict kind place) Done self.new.state self.new.effects }
     {
         self.effects.clear();
@@ -205,6 +258,7 @@ impl Driven {
     pub fn drop_domain(&mut self, domain: u64) -> Result<(), Refusal>
         requires { self.old.state.calls < CALLS_END }
         ensures does { Does self.old.state (calls.Drop domain) (done_reply result) self.new.state }
+        ensures tells { self.new.tells ≡ self.old.tells }
         ensures effects { AreEffects self.old.state (calls.Drop domain) (done_reply result) self.new.state self.new.effects }
     {
         self.effects.clear();
@@ -227,26 +281,23 @@ impl Driven {
     ) -> Result<u64, Refusal>
         requires { self.old.state.calls < CALLS_END }
         ensures does { Does self.old.state (calls.Map domain frame pages order rights) (mapped_reply result) self.new.state }
-        ensures effects { AreEffects self.old.state (calls.Map domain frame pages order rights) (mapped_reply result)
+        ensures tells { self.new.tells ≡ self.old.tells }
+        ensures effects { self.old.tells ≡ true → AreEffects self.old.state (calls.Map domain frame pages order rights) (mapped_reply result)
             self.new.state self.new.effects }
     {
-        self.effects.clear();
         self.state.keeps();
-        let waits = self.state.waits();
-        let near = self.near;
-        let table = self.state.table_at(domain, near, 1);
-        let address = self.state.map(domain, frame, pages, order, rights)?;
-        self.near = address / PAGE_BYTES;
-        bring_mapped(
-            &mut self.effects,
-            &self.state,
-            domain,
-            self.near,
-            pages,
-            near,
-            table,
-        );
-        send(&mut self.effects, &self.state, waits, true);
+        let Driven {
+            state,
+            effects,
+            noted,
+            tells,
+        } = self;
+        note_map(effects, noted, state, domain, *tells);
+        let address = state.map(domain, frame, pages, order, rights)?;
+        if !*tells {
+            return Ok(address);
+        }
+        tell_map(effects, noted, state, domain, address / PAGE_BYTES, pages);
         Ok(address)
     }
 
@@ -260,27 +311,24 @@ impl Driven {
     ) -> Result<u64, Refusal>
         requires { self.old.state.calls < CALLS_END }
         ensures does { Does self.old.state (calls.MapList domain order rights segments.now) (mapped_reply result) self.new.state }
-        ensures effects { AreEffects self.old.state (calls.MapList domain order rights segments.now) (mapped_reply result)
+        ensures tells { self.new.tells ≡ self.old.tells }
+        ensures effects { self.old.tells ≡ true → AreEffects self.old.state (calls.MapList domain order rights segments.now) (mapped_reply result)
             self.new.state self.new.effects }
     {
-        self.effects.clear();
         self.state.keeps();
-        let waits = self.state.waits();
-        let near = self.near;
-        let table = self.state.table_at(domain, near, 1);
-        let address = self.state.map_list(domain, order, rights, segments)?;
-        self.near = address / PAGE_BYTES;
+        let Driven {
+            state,
+            effects,
+            noted,
+            tells,
+        } = self;
+        note_map(effects, noted, state, domain, *tells);
+        let address = state.map_list(domain, order, rights, segments)?;
+        if !*tells {
+            return Ok(address);
+        }
         let pages = pages_of(segments.as_slice());
-        bring_mapped(
-            &mut self.effects,
-            &self.state,
-            domain,
-            self.near,
-            pages,
-            near,
-            table,
-        );
-        send(&mut self.effects, &self.state, waits, true);
+        tell_map(effects, noted, state, domain, address / PAGE_BYTES, pages);
         Ok(address)
     }
 
@@ -289,26 +337,30 @@ impl Driven {
     pub fn unmap(&mut self, domain: u64, address: u64, pages: u64) -> Result<u64, Refusal>
         requires { self.old.state.calls < CALLS_END }
         ensures does { Does self.old.state (calls.Unmap domain address pages) (unmapped_reply result) self.new.state }
-        ensures effects { AreEffects self.old.state (calls.Unmap domain address pages) (unmapped_reply result)
+        ensures tells { self.new.tells ≡ self.old.tells }
+        ensures effects { self.old.tells ≡ true → AreEffects self.old.state (calls.Unmap domain address pages) (unmapped_reply result)
             self.new.state self.new.effects }
     {
-        self.effects.clear();
         self.state.keeps();
-        let Some(range) = PageRange::new(address / PAGE_BYTES, pages) else {
-            return self.state.unmap(domain, address, pages);
-        };
-        let first = range.first();
-        let last = first + range.pages() - 1;
-        let waits = self.state.waits();
-        let before = tables_of(&self.state, domain, first, last);
-        let released = self.state.unmap(domain, address, pages)?;
-        if released > 0 {
-            send(&mut self.effects, &self.state, waits, true);
-            bring_unmapped(&mut self.effects, &self.state, domain, first, last, &before);
-        } else {
-            bring_unmapped(&mut self.effects, &self.state, domain, first, last, &before);
-            send(&mut self.effects, &self.state, waits, true);
+        let Driven {
+            state,
+            effects,
+            noted,
+            tells,
+        } = self;
+        note_unmap(effects, noted, state, domain, address, pages, *tells);
+        let released = state.unmap(domain, address, pages)?;
+        if !*tells {
+            return Ok(released);
         }
+        tell_unmap(
+            effects,
+            noted,
+            state,
+            domain,
+            address / PAGE_BYTES,
+            released,
+        );
         Ok(released)
     }
 }

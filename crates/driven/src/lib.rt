@@ -6,9 +6,11 @@ mod detaching;
 mod driven;
 mod effect;
 pub mod laws;
+mod noting;
 mod telling;
 #[cfg(test)]
 mod tests;
 
 pub use driven::Driven;
 pub use effect::Effect;
+pub use telling::MOST_EFFECTS;

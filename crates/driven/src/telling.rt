@@ -19,7 +19,7 @@ use vtdbits::{Descriptor, Words};
 
 /// A call asks this many things at most: of nine spans the table that went and the one that came, of three levels above them two tables
 /// each, two barriers, and what is sent.
-pub(crate) const MOST_EFFECTS: usize = 32;
+pub const MOST_EFFECTS: usize = 32;
 
 /// A range lies in this many spans of 512 pages at most.
 pub(crate) const MOST_SPANS: usize = 9;
@@ -85,15 +85,14 @@ pub(crate) fn bring_level(
 }
 
 /// The tables of level 1 of a domain on the ways of the pages from one to another.
-pub(crate) fn tables_of(state: &State, domain: u64, first: u64, last: u64) -> Tables
+pub(crate) fn fill_tables(tables: &mut Tables, state: &State, domain: u64, first: u64, last: u64)
     requires { (first ≤ last) × (last / SPAN_PAGES < first / SPAN_PAGES + MOST_SPANS) }
-    ensures { AreTablesOf state.now.pool (domain_at state.now.domains domain) first last result.items }
+    ensures { AreTablesOf state.now.pool (domain_at state.now.domains domain) first last tables.new.items }
 {
-    let mut tables = Tables::new();
+    tables.clear();
     for span in first / SPAN_PAGES..last / SPAN_PAGES + 1 {
         tables.push(state.table_at(domain, span * SPAN_PAGES, 1));
     }
-    tables
 }
 
 /// Tells of each span of the pages from one to another: where its table of level 1 stays, the words of the pages; where it went or

@@ -1,4 +1,4 @@
-use Rattle.std.proofs.Common.{◌≡◌, ◌+◌, ◌/◌, ◌≤◌, true, ◌++◌, ◌∙◌, refl, sym, ap, subst}
+use Rattle.std.proofs.Common.{◌≡◌, ◌+◌, ◌/◌, ◌≤◌, true, ◌∙◌, refl, sym, ap, subst}
 use Rattle.std.proofs.lemmas.Result.{err_from_is_err_and}
 use Rattle.dmatypes.specs.declared.call.Call.TheVariants as calls
 use Rattle.dmatypes.specs.declared.reply.Reply.TheVariants as replies
@@ -14,9 +14,10 @@ use Rattle.driven.proofs.Trees.{list_brings, list_pages}
 use Rattle.driven.proofs.driven.Driven.map_list.Goals as goal
 
 pub returns-in_err-address-clause-effects : goal.returns-in_err-address-clause-effects
-returns-in_err-address-clause-effects c =
+returns-in_err-address-clause-effects c told =
     let p = err_from_is_err_and c.from_residual.result c.from_residual.ensures.1 in
-    rw (p.1, p.2, ← c.self.view_is, c.clear.ensures)
+    let (none, waits, table) = c.note_map.ensures (ap (λ d. d.tells) c.self.view_is ∙ told) in
+    rw (p.1, p.2, ← c.self.view_is, none)
     (refused c.self.inside.state c.map_list.new.self (calls.MapList c.args.domain c.args.order c.args.rights c.args.segments.now)
     c.in_err-address.field-0.0 c.in_err-address.ensures)
 
@@ -27,8 +28,8 @@ pages_of-pages-requires c =
     c.args.domain c.args.order c.args.rights c.in_ok-address.address c.args.segments.now sound
     c.in_ok-address.ensures).1
 
-pub bring_mapped-requires-clause-pages : goal.bring_mapped-requires-clause-pages
-bring_mapped-requires-clause-pages c =
+pub tell_map-requires-clause-pages : goal.tell_map-requires-clause-pages
+tell_map-requires-clause-pages c =
     let sound : IsSound c.self.inside.state = record { of_world = c.keeps.ensures.of_world; places = c.keeps.ensures.places } in
     let is : c.pages_of-pages.result ≡ total_pages c.args.segments.now.items =
     c.pages_of-pages.ensures ∙ ap (λ xs. total_pages xs) c.as_slice.ensures.value in
@@ -36,27 +37,27 @@ bring_mapped-requires-clause-pages c =
     c.self.inside.state c.map_list.new.self c.args.domain c.args.order c.args.rights c.in_ok-address.address c.args.segments.now sound
     c.in_ok-address.ensures)
 
-pub send-requires-clause-sent : goal.send-requires-clause-sent
-send-requires-clause-sent c =
-    rw c.waits-waits.ensures
+pub tell_map-requires-clause-sent : goal.tell_map-requires-clause-sent
+tell_map-requires-clause-sent c =
+    let (none, waits, table) = c.note_map.ensures c.if-not-tells.false in
+    rw waits
     (has_sent c.self.inside.state c.map_list.new.self (calls.MapList c.args.domain c.args.order c.args.rights c.args.segments.now)
     (replies.Mapped c.in_ok-address.address) c.keeps.ensures.tickets c.in_ok-address.ensures)
 
 pub returns-clause-effects : goal.returns-clause-effects
-returns-clause-effects c =
+returns-clause-effects c told =
     let sound : IsSound c.self.inside.state = record { of_world = c.keeps.ensures.of_world; places = c.keeps.ensures.places } in
     let is : c.pages_of-pages.result ≡ total_pages c.args.segments.now.items =
     c.pages_of-pages.ensures ∙ ap (λ xs. total_pages xs) c.as_slice.ensures.value in
-    let (es, items, few, brings) = c.bring_mapped.ensures in
-    let (more, items', sent) = c.send.ensures in
+    let (none, waits, table) = c.note_map.ensures c.if-not-tells.false in
+    let (es, more, items, brings, sent) = c.tell_map.ensures in
     rw (← c.self.view_is)
     (asks c.self.inside.state c.map_list.new.self (calls.MapList c.args.domain c.args.order c.args.rights c.args.segments.now)
     (replies.Mapped c.in_ok-address.address) c.keeps.ensures.tickets c.in_ok-address.ensures
-    c.waits-waits.result true es more c.send.new.effects.items
+    c.note_map.new.noted.waits true es more c.tell_map.new.effects.items
     (list_brings c.self.inside.state c.map_list.new.self c.args.domain c.args.order c.args.rights c.in_ok-address.address
-    c.args.segments.now sound
-    c.in_ok-address.ensures c.self.inside.near c.table_at-table.result c.table_at-table.ensures es
+    c.args.segments.now sound c.in_ok-address.ensures c.note_map.new.noted.near c.note_map.new.noted.table table es
     (subst (λ n. BringsMapped c.map_list.new.self.pool (domain_at c.map_list.new.self.domains c.args.domain)
-    (c.in_ok-address.address / PAGE_BYTES) (c.in_ok-address.address / PAGE_BYTES + n) c.self.inside.near c.table_at-table.result es) is
-    brings))
-    (items' ∙ ap (λ xs. xs ++ more) (items ∙ ap (λ xs. xs ++ es) c.clear.ensures)) c.waits-waits.ensures refl sent tt)
+    (c.in_ok-address.address / PAGE_BYTES) (c.in_ok-address.address / PAGE_BYTES + n) c.note_map.new.noted.near
+    c.note_map.new.noted.table es) is brings))
+    items waits refl sent tt)

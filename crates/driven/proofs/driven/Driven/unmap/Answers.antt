@@ -1,134 +1,98 @@
-use Rattle.std.proofs.Common.{◌≡◌, ℕ, ◌+◌, ◌-◌, ◌/◌, true, List, Option, Ok, Err, Result, [], ◌++◌, ◌∙◌, refl, sym, ap, subst, arith}
+use Rattle.std.proofs.Common.{◌≡◌, ℕ, zero, suc, ◌+◌, ◌-◌, ◌/◌, ◌<◌, ◌≤◌, ◌⊎◌, inl, inr, true, List, ◌++◌, length, Option, None, Some}
+use Rattle.std.proofs.Common.{◌∙◌, refl, sym, ap, subst, arith}
+use Rattle.std.specs.Prelude.{IfSome, IsNone}
 use Rattle.std.proofs.lemmas.Result.{err_from_is_err_and}
+use Rattle.dmatypes.specs.Page.{IsPageRange, range_at}
 use Rattle.dmatypes.specs.declared.call.Call.TheVariants as calls
+use Rattle.dmatypes.specs.declared.page.TheConstants.{MOST_PAGES, PAGE_BYTES, SPAN_PAGES}
 use Rattle.dmatypes.specs.declared.reply.Reply.TheVariants as replies
+use Rattle.engine.specs.Domains.{domain_at}
 use Rattle.engine.specs.State.{State}
+use Rattle.engine.specs.Steps.{Does}
+use Rattle.engine.specs.Tickets.{KeepsTickets}
 use Rattle.quiet.specs.Quiet.{IsSound}
 use Rattle.driven.specs.Effects.{AreEffects}
-use Rattle.driven.proofs.Told.{has_sent, refused}
-use Rattle.dmatypes.specs.Page.{IsPageRange, range_at}
-use Rattle.dmatypes.specs.declared.page.TheConstants.{PAGE_BYTES}
-use Rattle.dmatypes.specs.declared.refusal.Refusal.{Refusal}
-use Rattle.engine.specs.Domains.{domain_at}
-use Rattle.engine.specs.State.{unmapped_reply}
-use Rattle.engine.specs.Steps.{Does}
 use Rattle.driven.specs.Telling.{AreTablesOf, BringsUnmapped, IsSentBy, StayInPart}
+use Rattle.driven.specs.declared.effect.Effect.{Effect}
 use Rattle.driven.proofs.Asked.{asks}
-use Rattle.driven.proofs.Told.{sends_nothing}
+use Rattle.driven.proofs.Told.{has_sent, refused, sends_nothing}
 use Rattle.driven.proofs.Trees.{flushed_first, is_range, sends_last, stay_in_part, unmap_brings}
 use Rattle.driven.proofs.driven.Driven.unmap.Goals as goal
 
-bad_range : (m t : State) (d address pages : ℕ) (r : Result ℕ Refusal) → IsSound m → (IsPageRange (range_at address pages) → ⊥)
-    → Does m (calls.Unmap d address pages) (unmapped_reply r) t
-    → AreEffects m (calls.Unmap d address pages) (unmapped_reply r) t []
-bad_range m t d address pages (Ok n) sound bad does = absurd (is_range m t d address pages n sound does bad)
-bad_range m t d address pages (Err r) sound bad does = refused m t (calls.Unmap d address pages) r does
+-- the last page of an unmap, and the tables on the ways of its pages before it
+abbrev Are : State → ℕ → ℕ → ℕ → List (Option ℕ) → ℕ → Type 0
+Are m d address pages tables last =
+    (address / PAGE_BYTES + pages ≡ last + 1) × (1 ≤ pages) × (pages ≤ MOST_PAGES)
+    × AreTablesOf m.pool (domain_at m.domains d) (address / PAGE_BYTES) last tables
 
-stays_in_part : (m t : State) (d address pages released : ℕ) → IsSound m
-    → Does m (calls.Unmap d address pages) (replies.Unmapped released) t → (last : ℕ) → address / PAGE_BYTES + pages ≡ last + 1 → (first : ℕ) → first ≡ address / PAGE_BYTES → (before : List (Option ℕ))
-    → AreTablesOf m.pool (domain_at m.domains d) first last before → StayInPart t.pool (domain_at t.domains d) first last before
-stays_in_part m t d address pages released sound does last end first is before were =
-    subst (λ n. StayInPart t.pool (domain_at t.domains d) n last before) (sym is)
-    (stay_in_part m t d address pages released sound does last end before
-    (subst (λ n. AreTablesOf m.pool (domain_at m.domains d) n last before) is were))
+-- these pages, and what is told of them
+abbrev Pages : State → ℕ → ℕ → List (Option ℕ) → ℕ → Type 0
+Pages t d first tables last =
+    (first ≤ last) × (last < first + MOST_PAGES) × (length tables ≡ last / SPAN_PAGES + 1 - first / SPAN_PAGES)
+    × StayInPart t.pool (domain_at t.domains d) first last tables
 
-pub returns-in_default-clause-effects : goal.returns-in_default-clause-effects
-returns-in_default-clause-effects c =
-    let sound : IsSound c.self.inside.state = record { of_world = c.keeps.ensures.of_world; places = c.keeps.ensures.places } in
-    rw (← c.self.view_is, c.clear.ensures)
-    (bad_range c.self.inside.state c.unmap.new.self c.args.domain c.args.address c.args.pages c.unmap.result sound
-    (λ range. let some = c.in_default.ensures.some.1 range in absurd cc) c.unmap.ensures)
+abbrev Tells : State → ℕ → ℕ → List (Option ℕ) → ℕ → ℕ → List Effect → ℕ → Type 0
+Tells t d first tables released waits all last =
+    (es more : List Effect) × (0 < released → all ≡ more ++ es) × (released ≡ 0 → all ≡ es ++ more)
+    × BringsUnmapped t.pool (domain_at t.domains d) first last tables es × IsSentBy t waits true more
+
+none_or_some : (n : ℕ) → (n ≡ 0) ⊎ (0 < n)
+none_or_some zero = inl refl
+none_or_some (suc n) = inr (omega arith)
+
+module _ (m t : State) (d address pages released : ℕ) (sound : IsSound m) (tickets : KeepsTickets m)
+    (does : Does m (calls.Unmap d address pages) (replies.Unmapped released) t) (tables : List (Option ℕ)) where
+  stays : (o : Option ℕ) → IfSome o (Are m d address pages tables) → IfSome o (Pages t d (address / PAGE_BYTES) tables)
+  stays None are = tt
+  stays (Some last) (end, some, few, were) = (
+    omega (arith, end, some),
+    omega (arith, end, few),
+    were.count,
+    stay_in_part m t d address pages released sound does last end tables were,
+  )
+
+  asked : (waits : ℕ) → waits ≡ m.iommu.sent → (o : Option ℕ) → IfSome o (Are m d address pages tables)
+      → (IsNone o → IsPageRange (range_at address pages) → ⊥) → (all : List Effect)
+      → IfSome o (Tells t d (address / PAGE_BYTES) tables released waits all)
+      → AreEffects m (calls.Unmap d address pages) (replies.Unmapped released) t all
+  asked waits is None are bad all tells = absurd (is_range m t d address pages released sound does (bad refl))
+  asked waits is (Some last) (end, some, few, were) bad all (es, more, flushed, quick, brings, sent) =
+      asks m t (calls.Unmap d address pages) (replies.Unmapped released) tickets does waits true es more all
+      (unmap_brings m t d address pages released sound does last end tables were es brings)
+      (elim (none_or_some released) [
+        | inl none ↦ quick none ∙ sym (sends_last m t d address pages released sound does none es more
+            (λ same. sends_nothing m t (calls.Unmap d address pages) (replies.Unmapped released) tickets does more true same
+            (subst (λ n. IsSentBy t n true more) is sent)))
+        | inr some' ↦ flushed some' ∙ sym (flushed_first m t d address pages released sound does some' es more)
+      ]) is refl sent tt
 
 pub returns-in_err-released-clause-effects : goal.returns-in_err-released-clause-effects
-returns-in_err-released-clause-effects c =
+returns-in_err-released-clause-effects c told =
     let p = err_from_is_err_and c.from_residual.result c.from_residual.ensures.1 in
-    rw (p.1, p.2, ← c.self.view_is, c.clear.ensures)
-    (refused c.self.inside.state c.unmap-2.new.self (calls.Unmap c.args.domain c.args.address c.args.pages) c.in_err-released.field-0.0
+    let (none, waits, some, bad) = c.note_unmap.ensures (ap (λ d. d.tells) c.self.view_is ∙ told) in
+    rw (p.1, p.2, ← c.self.view_is, none)
+    (refused c.self.inside.state c.unmap.new.self (calls.Unmap c.args.domain c.args.address c.args.pages) c.in_err-released.field-0.0
     c.in_err-released.ensures)
 
-pub send-requires-clause-sent : goal.send-requires-clause-sent
-send-requires-clause-sent c =
-    rw c.waits-waits.ensures
-    (has_sent c.self.inside.state c.unmap-2.new.self (calls.Unmap c.args.domain c.args.address c.args.pages) (replies.Unmapped
+pub tell_unmap-requires-clause-pages : goal.tell_unmap-requires-clause-pages
+tell_unmap-requires-clause-pages c =
+    let sound : IsSound c.self.inside.state = record { of_world = c.keeps.ensures.of_world; places = c.keeps.ensures.places } in
+    let (none, waits, some, bad) = c.note_unmap.ensures c.if-not-tells.false in
+    stays c.self.inside.state c.unmap.new.self c.args.domain c.args.address c.args.pages c.in_ok-released.released sound
+    c.keeps.ensures.tickets c.in_ok-released.ensures c.note_unmap.new.noted.tables.items c.note_unmap.new.noted.last some
+
+pub tell_unmap-requires-clause-sent : goal.tell_unmap-requires-clause-sent
+tell_unmap-requires-clause-sent c =
+    let (none, waits, some, bad) = c.note_unmap.ensures c.if-not-tells.false in
+    rw waits
+    (has_sent c.self.inside.state c.unmap.new.self (calls.Unmap c.args.domain c.args.address c.args.pages) (replies.Unmapped
     c.in_ok-released.released) c.keeps.ensures.tickets c.in_ok-released.ensures)
 
-pub send-requires-else-released-gt0-clause-sent : goal.send-requires-else-released-gt0-clause-sent
-send-requires-else-released-gt0-clause-sent c =
-    rw c.waits-waits.ensures
-    (has_sent c.self.inside.state c.unmap-2.new.self (calls.Unmap c.args.domain c.args.address c.args.pages) (replies.Unmapped
-    c.in_ok-released.released) c.keeps.ensures.tickets c.in_ok-released.ensures)
-
-pub bring_unmapped-requires-clause-stay : goal.bring_unmapped-requires-clause-stay
-bring_unmapped-requires-clause-stay c =
+pub returns-clause-effects : goal.returns-clause-effects
+returns-clause-effects c told =
     let sound : IsSound c.self.inside.state = record { of_world = c.keeps.ensures.of_world; places = c.keeps.ensures.places } in
-    let first : c.first-first.result ≡ c.args.address / PAGE_BYTES =
-    c.first-first.ensures.value ∙ ap (λ r. r.first) c.in-Some.ensures.value in
-    let pages : c.pages.result ≡ c.args.pages = c.pages.ensures.value ∙ ap (λ r. r.pages) c.in-Some.ensures.value in
-    let end : c.args.address / PAGE_BYTES + c.args.pages ≡ c.first-first.result + c.pages.result - 1 + 1 =
-    omega (arith, first, pages, c.pages.ensures.value, c.first-first.ensures.range.some) in
-    stays_in_part c.self.inside.state c.unmap-2.new.self c.args.domain c.args.address c.args.pages c.in_ok-released.released sound
-    c.in_ok-released.ensures (c.first-first.result + c.pages.result - 1) end c.first-first.result first c.tables_of-before.result.items
-    c.tables_of-before.ensures
-
-pub bring_unmapped-requires-else-released-gt0-clause-stay : goal.bring_unmapped-requires-else-released-gt0-clause-stay
-bring_unmapped-requires-else-released-gt0-clause-stay c =
-    let sound : IsSound c.self.inside.state = record { of_world = c.keeps.ensures.of_world; places = c.keeps.ensures.places } in
-    let first : c.first-first.result ≡ c.args.address / PAGE_BYTES =
-    c.first-first.ensures.value ∙ ap (λ r. r.first) c.in-Some.ensures.value in
-    let pages : c.pages.result ≡ c.args.pages = c.pages.ensures.value ∙ ap (λ r. r.pages) c.in-Some.ensures.value in
-    let end : c.args.address / PAGE_BYTES + c.args.pages ≡ c.first-first.result + c.pages.result - 1 + 1 =
-    omega (arith, first, pages, c.pages.ensures.value, c.first-first.ensures.range.some) in
-    stays_in_part c.self.inside.state c.unmap-2.new.self c.args.domain c.args.address c.args.pages c.in_ok-released.released sound
-    c.in_ok-released.ensures (c.first-first.result + c.pages.result - 1) end c.first-first.result first c.tables_of-before.result.items
-    c.tables_of-before.ensures
-
-pub returns-then-released-gt0-clause-effects : goal.returns-then-released-gt0-clause-effects
-returns-then-released-gt0-clause-effects c =
-    let sound : IsSound c.self.inside.state = record { of_world = c.keeps.ensures.of_world; places = c.keeps.ensures.places } in
-    let first : c.first-first.result ≡ c.args.address / PAGE_BYTES =
-    c.first-first.ensures.value ∙ ap (λ r. r.first) c.in-Some.ensures.value in
-    let pages : c.pages.result ≡ c.args.pages = c.pages.ensures.value ∙ ap (λ r. r.pages) c.in-Some.ensures.value in
-    let end : c.args.address / PAGE_BYTES + c.args.pages ≡ c.first-first.result + c.pages.result - 1 + 1 =
-    omega (arith, first, pages, c.pages.ensures.value, c.first-first.ensures.range.some) in
-    let (more, items, sent) = c.send.ensures in
-    let (es, items', few, brings) = c.bring_unmapped.ensures in
+    let (none, waits, some, bad) = c.note_unmap.ensures c.if-not-tells.false in
     rw (← c.self.view_is)
-    (asks c.self.inside.state c.unmap-2.new.self (calls.Unmap c.args.domain c.args.address c.args.pages) (replies.Unmapped
-    c.in_ok-released.released) c.keeps.ensures.tickets
-    c.in_ok-released.ensures c.waits-waits.result true es more c.bring_unmapped.new.effects.items
-    (unmap_brings c.self.inside.state c.unmap-2.new.self c.args.domain c.args.address c.args.pages c.in_ok-released.released sound
-    c.in_ok-released.ensures (c.first-first.result + c.pages.result - 1) end c.tables_of-before.result.items
-    (subst (λ n. AreTablesOf c.self.inside.state.pool (domain_at c.self.inside.state.domains c.args.domain) n
-    (c.first-first.result + c.pages.result - 1) c.tables_of-before.result.items) first c.tables_of-before.ensures) es
-    (subst (λ n. BringsUnmapped c.unmap-2.new.self.pool (domain_at c.unmap-2.new.self.domains c.args.domain) n
-    (c.first-first.result + c.pages.result - 1) c.tables_of-before.result.items es) first brings))
-    (items' ∙ ap (λ xs. xs ++ es) (items ∙ ap (λ xs. xs ++ more) c.clear.ensures)
-    ∙ sym (flushed_first c.self.inside.state c.unmap-2.new.self c.args.domain c.args.address c.args.pages c.in_ok-released.released sound
-    c.in_ok-released.ensures c.if-released-gt0.true es more)) c.waits-waits.ensures refl sent tt)
-
-pub returns-else-released-gt0-clause-effects : goal.returns-else-released-gt0-clause-effects
-returns-else-released-gt0-clause-effects c =
-    let sound : IsSound c.self.inside.state = record { of_world = c.keeps.ensures.of_world; places = c.keeps.ensures.places } in
-    let first : c.first-first.result ≡ c.args.address / PAGE_BYTES =
-    c.first-first.ensures.value ∙ ap (λ r. r.first) c.in-Some.ensures.value in
-    let pages : c.pages.result ≡ c.args.pages = c.pages.ensures.value ∙ ap (λ r. r.pages) c.in-Some.ensures.value in
-    let end : c.args.address / PAGE_BYTES + c.args.pages ≡ c.first-first.result + c.pages.result - 1 + 1 =
-    omega (arith, first, pages, c.pages.ensures.value, c.first-first.ensures.range.some) in
-    let (es, items, few, brings) = c.bring_unmapped-else-released-gt0.ensures in
-    let (more, items', sent) = c.send-else-released-gt0.ensures in
-    rw (← c.self.view_is)
-    (asks c.self.inside.state c.unmap-2.new.self (calls.Unmap c.args.domain c.args.address c.args.pages) (replies.Unmapped
-    c.in_ok-released.released) c.keeps.ensures.tickets
-    c.in_ok-released.ensures c.waits-waits.result true es more c.send-else-released-gt0.new.effects.items
-    (unmap_brings c.self.inside.state c.unmap-2.new.self c.args.domain c.args.address c.args.pages c.in_ok-released.released sound
-    c.in_ok-released.ensures (c.first-first.result + c.pages.result - 1) end c.tables_of-before.result.items
-    (subst (λ n. AreTablesOf c.self.inside.state.pool (domain_at c.self.inside.state.domains c.args.domain) n
-    (c.first-first.result + c.pages.result - 1) c.tables_of-before.result.items) first c.tables_of-before.ensures) es
-    (subst (λ n. BringsUnmapped c.unmap-2.new.self.pool (domain_at c.unmap-2.new.self.domains c.args.domain) n
-    (c.first-first.result + c.pages.result - 1) c.tables_of-before.result.items es) first brings))
-    (items' ∙ ap (λ xs. xs ++ more) (items ∙ ap (λ xs. xs ++ es) c.clear.ensures)
-    ∙ sym (sends_last c.self.inside.state c.unmap-2.new.self c.args.domain c.args.address c.args.pages c.in_ok-released.released sound
-    c.in_ok-released.ensures (omega (arith, c.if-released-gt0.false)) es more
-    (λ same. sends_nothing c.self.inside.state c.unmap-2.new.self (calls.Unmap c.args.domain c.args.address c.args.pages)
-    (replies.Unmapped c.in_ok-released.released) c.keeps.ensures.tickets c.in_ok-released.ensures
-    more true same (subst (λ n. IsSentBy c.unmap-2.new.self n true more) c.waits-waits.ensures sent)))) c.waits-waits.ensures refl sent tt)
+    (asked c.self.inside.state c.unmap.new.self c.args.domain c.args.address c.args.pages c.in_ok-released.released sound
+    c.keeps.ensures.tickets c.in_ok-released.ensures c.note_unmap.new.noted.tables.items c.note_unmap.new.noted.waits waits
+    c.note_unmap.new.noted.last some bad c.tell_unmap.new.effects.items c.tell_unmap.ensures)

@@ -3,7 +3,7 @@ use Rattle.std.specs.Prelude.{slice_get}
 use Rattle.dmatypes.specs.declared.page.TheConstants.{SPAN_PAGES}
 use Rattle.engine.specs.Domains.{domain_at}
 use Rattle.engine.specs.Walkable.{table_at}
-use Rattle.driven.proofs.telling.tables_of.Given as goal
+use Rattle.driven.proofs.telling.fill_tables.Given as goal
 
 abbrev pub invariant-loop-span : goal.invariant-loop-span
 invariant-loop-span l =
