@@ -9,7 +9,7 @@ TOP = os.path.dirname(os.path.dirname(os.path.abspath(__file__)))
 HEADER = f"{TOP}/c/vtdm.h"
 CRATES = f"{TOP}/crates"
 # The sources of the numbers that the header names, and the widths whose ends it names.
-LIMITS = ["dmatypes/src/limits.rt", "dmatypes/src/page.rt", "iova/src/space.rt"]
+LIMITS = ["dmatypes/src/limits.rt", "dmatypes/src/page.rt", "iova/src/space.rt", "driven/src/telling.rt"]
 WIDTH = "dmatypes/src/width.rt"
 ENDS = {"W39": "ADDRESSES_END", "W48": "WIDE_ADDRESSES_END"}
 REFUSALS = "dmatypes/src/refusal.rt"
@@ -23,9 +23,10 @@ STRUCTS = {
     "DomainTotals": "vtdm_domain_totals_answer",
     "Context": "vtdm_context_answer",
     "Sent": "vtdm_sent_answer",
+    "Effect": "vtdm_effect",
     "Segment": "vtdm_segment",
 }
-SLICES = {"&[Segment]": "const struct vtdm_segment *", "&mut [u64]": "uint64_t *"}
+SLICES = {"&[Segment]": "const struct vtdm_segment *", "&mut [u64]": "uint64_t *", "&mut [Effect]": "struct vtdm_effect *"}
 TYPES = {
     "u64": "uint64_t",
     "bool": "bool",
@@ -118,12 +119,14 @@ def limits():
 
 
 def choices():
-    """Rights, modes, and caches."""
+    """Rights, modes, caches, and kinds of effects."""
     rights = arms(source("dmatypes/src/rights.rt"), r"const (READ|WRITE) = (\d+);")
     modes = arms(source("vtdm_c/src/told.rt"), r"Mode::(\w+) => (\d+)")
     caches = {name: int(value) for value, name in re.findall(r"(\d+) => Some\(Cache::(\w+)\)", source("vtdm_c/src/requests.rt"))}
+    kinds = arms(source("vtdm_c/src/effect.rt"), r"pub const (\w+): u64 = (\d+);")
     return (
-        difference(rights, enum_of("vtdm_rights"))
+        difference({f"EFFECT_{name}": value for name, value in kinds.items()}, enum_of("vtdm_effect_kind"))
+        or difference(rights, enum_of("vtdm_rights"))
         or difference({shouted(name): value for name, value in modes.items()}, enum_of("vtdm_mode"))
         or difference({f"CACHE_{shouted(name)}": value for name, value in caches.items()}, enum_of("vtdm_cache"))
     )
@@ -186,7 +189,7 @@ def functions():
 COMPARISONS = {
     "statuses": statuses,
     "limits": limits,
-    "rights, modes and caches": choices,
+    "rights, modes, caches and kinds of effects": choices,
     "structs": structs,
     "functions": functions,
 }

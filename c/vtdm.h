@@ -30,8 +30,8 @@
  * end (VTDM_ADDRESSES_END, VTDM_WIDE_ADDRESSES_END), where maps begin (vtdm_map), and how many table frames they need (vtdm_create).
  *
  * WHAT C OWES. None of this is checked. Where one is broken, nothing that this header says holds.
- *  - A `struct vtdm` is zeros (VTDM_INIT) before vtdm_create or vtdm_create_caching, and only the functions below write its members
- *    afterwards: its address member says where the manager lies, and a call follows it.
+ *  - A `struct vtdm` is zeros (VTDM_INIT) before its creation (vtdm_create, vtdm_create_caching, vtdm_create_driven), and only the
+ *    functions below write its members afterwards: its address member says where the manager lies, and a call follows it.
  *  - It is not copied. After vtdm_destroy on one copy, the other still has the address, and a call on it would use freed memory.
  *    It may be moved between two calls, since nothing points to it, if the old place is not used again.
  *  - vtdm_destroy is called before the struct goes away. Otherwise its memory is lost: nothing else frees it.
@@ -39,15 +39,15 @@
  *    out of the struct and puts it back at its end. Any thread may call. Two managers share nothing, and need no common lock.
  *  - A pointer to a `struct vtdm` is not null and is aligned, since a call reads it at once. `segments` is not null and is aligned
  *    even where `count` is 0, and `count` segments can be read there, also where they are more than VTDM_MOST_SEGMENTS and are
- *    refused. A call writes no segment, and keeps no pointer. `to` of vtdm_words is not null and is aligned in the same way, `count`
- *    words can be written there, and the struct is none of them.
+ *    refused. A call writes no segment, and keeps no pointer. `to` of vtdm_words and of vtdm_effects is not null and is aligned in the
+ *    same way, `count` words or effects can be written there, and the struct is none of them.
  *  - malloc, realloc and free are one allocator, since each takes blocks of the others, and align blocks as C asks.
  *  - No call from a signal handler, since it may have come while another call had the manager. For the same reason no call in the
  *    child of a fork of a process with several threads.
  * Every number that is passed may be any number: one outside its limits is refused by a status.
  *
- * MEMORY. vtdm_create and vtdm_create_caching take all that a manager ever needs, about 1.6 MiB and VTDM_PAGE_BYTES more for each
- * table frame; vtdm_destroy gives it back, and no other function asks for any. The words of the table frames are one block of it,
+ * MEMORY. The creation of a manager takes all that it ever needs, about 1.6 MiB and VTDM_PAGE_BYTES more for each table frame;
+ * vtdm_destroy gives it back, and no other function asks for any. The words of the table frames are one block of it,
  * asked for by one malloc of VTDM_PAGE_BYTES times the frames and written whole before a creation returns: those of frame F begin
  * F * VTDM_PAGE_BYTES bytes behind those of frame 0, where the block begins. So an allocator that puts this block at host address 0
  * lets a unit walk the tables in place (see *A unit of your own*). A contract says that the words of one frame lie one after the other.
@@ -58,7 +58,8 @@
  * bits. Nobody gets there: at a billion calls a second it takes more than two years. Readers are not counted.
  *
  * WAITING. A call returns when the unit has done what the call needs of it. Two calls leave work for later: vtdm_begin, and
- * vtdm_unmap in a lazy domain.
+ * vtdm_unmap in a lazy domain. Of a manager of vtdm_create_driven that is the library's own unit: where a function says *when it
+ * returns*, yours has done it when the call's effects are done.
  */
 #ifndef VTDM_H
 #define VTDM_H
@@ -89,6 +90,7 @@ extern "C" {
 #define VTDM_MOST_PIECES UINT64_C(1024)              /* the most pieces of a domain's address space: free, mapped or retired */
 #define VTDM_MOST_RECORDS UINT64_C(256)              /* the most retired ranges of a lazy domain */
 #define VTDM_MOST_TICKETS UINT64_C(64)               /* the most open tickets, over all domains */
+#define VTDM_MOST_EFFECTS UINT64_C(32)               /* the most effects of one call */
 #define VTDM_CALLS_END (UINT64_C(1) << 56)           /* a manager answers as many calls */
 
 /* ---- Types */
@@ -142,14 +144,17 @@ enum vtdm_status {
     /* Of this interface itself. Nothing has changed; of these VTDM_PENDING alone counts as a call. */
     VTDM_ABSENT = 64,        /* there is no manager at the struct */
     VTDM_SPENT = 65,         /* the manager has answered VTDM_CALLS_END calls */
-    VTDM_PRESENT = 66,       /* vtdm_create, vtdm_create_caching: there is a manager at the struct already */
-    VTDM_BAD_FRAMES = 67,    /* vtdm_create, vtdm_create_caching: the number of table frames is outside its limits */
-    VTDM_NO_MEMORY = 68,     /* vtdm_create, vtdm_create_caching: malloc or realloc gave none, what was taken is freed */
+    VTDM_PRESENT = 66,       /* a creation: there is a manager at the struct already */
+    VTDM_BAD_FRAMES = 67,    /* a creation: the number of table frames is outside its limits */
+    VTDM_NO_MEMORY = 68,     /* a creation: malloc or realloc gave none, what was taken is freed */
     VTDM_MANY_SEGMENTS = 69, /* vtdm_map_list: more than VTDM_MOST_SEGMENTS segments */
     VTDM_PENDING = 70,       /* vtdm_reap: the unit has not done the ticket's invalidation wait descriptor */
     VTDM_NO_WORD = 71,       /* vtdm_table_word, vtdm_words: there is no such table frame, or no such index */
     VTDM_BAD_CACHE = 72,     /* vtdm_evict: the number is not in enum vtdm_cache */
-    VTDM_NO_DESCRIPTOR = 73  /* vtdm_sent: none was sent so long ago, or the queue holds it no more */
+    VTDM_NO_DESCRIPTOR = 73, /* vtdm_sent: none was sent so long ago, or the queue holds it no more */
+    VTDM_NOT_DRIVEN = 74,    /* vtdm_effects: the manager was not made by vtdm_create_driven */
+    VTDM_FEW_PLACES = 75,    /* vtdm_effects: there are more effects than places */
+    VTDM_BAD_ADDRESS = 76    /* vtdm_create_driven: the status address is no multiple of 4 */
 };
 
 /* What a device may do with a page: one of these, or both by `|`. */
@@ -177,6 +182,11 @@ uint64_t vtdm_create(struct vtdm *manager, uint64_t frames);
  * the queue is done before. Otherwise as vtdm_create. */
 uint64_t vtdm_create_caching(struct vtdm *manager, uint64_t frames);
 
+/* Makes a manager for a unit of your own, with Caching Mode or without it: vtdm_effects tells after each call what it asks (see *A unit
+ * of your own*). `status` is the host address of 4 bytes of yours, which hold 0 at first: the unit writes the status of each wait there.
+ * Otherwise as vtdm_create. VTDM_BAD_ADDRESS is judged after VTDM_BAD_FRAMES and before VTDM_NO_MEMORY. */
+uint64_t vtdm_create_driven(struct vtdm *manager, uint64_t frames, bool caching, uint64_t status);
+
 /* Ends the manager, if there is one, and frees its memory. Then the struct is as at VTDM_INIT and can be used again. */
 void vtdm_destroy(struct vtdm *manager);
 
@@ -199,6 +209,11 @@ struct vtdm_answer vtdm_attach(struct vtdm *manager, uint64_t device, uint64_t d
 
 /* Detaches a device from its domain: when it returns the device reaches nothing. VTDM_NO_DEVICE, VTDM_NOT_ATTACHED. */
 struct vtdm_answer vtdm_detach(struct vtdm *manager, uint64_t device);
+
+/* Detaches a device, as vtdm_detach does, and then flushes the domain that it had, as vtdm_flush does: two calls in one. Answers how many
+ * retired ranges the flush released. A unit of your own that finds cached translations by the device too, as VT-d allows, reaches the
+ * domain until then. VTDM_SPENT also where one call alone is left. VTDM_NO_DEVICE, VTDM_NOT_ATTACHED. */
+struct vtdm_answer vtdm_detach_all(struct vtdm *manager, uint64_t device);
 
 /* Maps 1 to VTDM_MOST_PAGES pages to the host frames from `frame` on, and answers the device address of the first page: the lowest
  * free one that is a multiple of 2^order pages; in a 48-bit domain the lowest at VTDM_ADDRESSES_END (512 GiB) or above, and where
@@ -290,46 +305,76 @@ struct vtdm_answer vtdm_mode_of(struct vtdm *manager, uint64_t domain);
 /* The bits of a domain's device addresses: 39 or 48. VTDM_NO_DOMAIN. */
 struct vtdm_answer vtdm_width_of(struct vtdm *manager, uint64_t domain);
 
-/* ---- A unit of your own, emulated or real. These readers tell what it reads: the tables, word I of table frame F at host address
- * F * VTDM_PAGE_BYTES + 8 * I; the context entries; and the descriptors for its queue. examples/qemu/unit.c does all of this.
+/* ---- A unit of your own, emulated or real, which a manager of vtdm_create_driven is in charge of. It reads the tables, word I of table
+ * frame F at host address F * VTDM_PAGE_BYTES + 8 * I; the context entries; and the descriptors in its queue. examples/qemu/unit.c does
+ * all of this.
  *
  * WHAT IT HAS. By its capability registers: second-stage tables of the widths that you use (SAGAW), leaves of 2 MiB, queued
- * invalidation (QI) and page-selective invalidation (PSI) of up to 2^9 pages (MAMV). It drains writes and reads (DWD, DRD). Where it has
- * Caching Mode (CM), make the manager by vtdm_create_caching.
+ * invalidation (QI) and page-selective invalidation (PSI) of up to 2^9 pages (MAMV). It drains writes and reads (DWD, DRD). Say by
+ * `caching` whether it has Caching Mode (CM).
  *
  * BEFORE IT IS ON. Make a root table that names a context table for bus 0 alone. In that table the entry of device V is the one of
- * its function 0, at 128 * V bytes, and the others are 0. Make a queue of 256 descriptors. Bring all words once, give the unit the root
- * table, and have it invalidate all contexts, and then the whole IOTLB. Turn translation off before vtdm_destroy.
+ * its function 0, at 128 * V bytes, and the others are 0. Make a queue of 256 descriptors. Before the first call clear the memory of the
+ * table frames (the library's own words are 0 already), give the unit the root table, and have it invalidate all contexts, and then the
+ * whole IOTLB. Turn translation off before vtdm_destroy.
  *
  * AROUND EACH CALL
  *  1. Take your lock.
  *  2. Make the call.
- *  3. Bring the words that it changed to the unit's memory: vtdm_words, vtdm_context. No call tells which words it has written, so
- *     compare them with those in that memory. Store each word of 64 bits at once, and the words of a table before the word that names it:
- *     those go last that are not 0 in memory and become another word than 0. Of a context entry store the low word last, or first where
- *     its bit 0 goes.
- *  4. A barrier: the unit sees these words before what follows. Where it doesn't snoop the processor's caches, write these back; where
- *     it asks for its write buffer to be flushed (RWBF), do that.
- *  5. Put the descriptors that the call has sent into the unit's queue, oldest first: vtdm_sent, vtdm_waits.
- *  6. If there are any, wait until the unit has written the status of the last of them.
- *  7. Release the lock. Now what the call set free may be used for something else, and not before.
+ *  3. Take its effects (vtdm_effects), and do what each asks, one after the other.
+ *  4. Release the lock. Now what the call set free may be used for something else, and not before.
+ *
+ * TABLES IN PLACE. Where the unit walks the library's own words (MEMORY, above), pass over VTDM_EFFECT_WORDS: they are there already. The
+ * other effects stay. But an unmap that flushes first may then use a table frame before the flush is done. So never unmap there in a
+ * domain with VTDM_MOST_RECORDS retired ranges (vtdm_domain_totals): call vtdm_flush before, with its effects.
  *
  * WHERE A CALL NEEDS MORE.
- *  - Where vtdm_unmap answers another value than 0 it has flushed first, and may have used a table frame that came free: do 5 and 6
- *    before 3. Where the unit walks the library's own words (MEMORY, above) these are there at once, and that can't be. So never unmap
- *    there in a domain with VTDM_MOST_RECORDS retired ranges (vtdm_domain_totals): call vtdm_flush before, with all steps.
- *  - After vtdm_begin leave 6 out. Before vtdm_reap let the library's unit do what yours has done, and no more. S is the number of the last
- *    wait that yours has done: call vtdm_unit as long as `pending` of vtdm_totals is above 2 * (vtdm_waits - S).
- *  - A detach sends the descriptor of the context alone, and a unit may find cached translations by the device too. So after 6 give it an
- *    IOTLB invalidate descriptor of the domain that the device had: low word 0xe2 + 2^16 * domain, high word 0.
- *  - An attach sends nothing, and a unit with Caching Mode may remember that the device had no context entry. So after 4 give it a
- *    context-cache invalidate descriptor of the device and domain 0, low word 0x31 + 2^35 * device, high word 0. Then give it an
- *    IOTLB invalidate descriptor of the domain, as after a detach.
- *  After a descriptor of your own put a wait of your own, with another status address, and wait for it before 7.
+ *  - vtdm_dma, vtdm_evict and vtdm_unit are of the library's own unit here too. They have no effects.
+ *  - vtdm_begin asks for no wait. Before vtdm_reap let the library's unit do what yours has done, and no more. S is the number of the
+ *    last wait that yours has done: call vtdm_unit as long as `pending` of vtdm_totals is above 2 * (vtdm_waits - S).
+ *  - A detach sends the descriptor of the context alone. Where your unit finds cached translations by the device too, use
+ *    vtdm_detach_all.
+ *  - An attach sends nothing, and a unit with Caching Mode may remember that the device had no context entry. So after its effects give
+ *    it a context-cache invalidate descriptor of the device and domain 0, low word 0x31 + 2^35 * device, high word 0. Then give it an
+ *    IOTLB invalidate descriptor of the domain, low word 0xe2 + 2^16 * domain, high word 0. After them put a wait of your own, with
+ *    another status address, and wait for it before 4.
  *
- * WHAT IS PROVED, of a unit that does what docs/PROVED.md takes for granted (crates/moments, crates/quiet). While words of tables are
- * brought, it finds each page as before the call or as after it. After 6 it has nothing cached of what the call set free. That you take
- * these steps is yours, and so is the order of a context entry's words. */
+ * WHAT IS PROVED, of a unit that does what docs/PROVED.md takes for granted (crates/moments, crates/quiet, crates/driven). The effects
+ * bring each word and each context entry that the call has changed, and send all its descriptors in their order. Whatever of them has
+ * reached memory, the unit finds each page as before the call or as after it. After the last of them it has nothing cached of what the
+ * call set free. That you do what they ask is yours, and so is the order of a context entry's words. */
+
+/* What an effect asks. The comment names the members that it uses; the others are 0. */
+enum vtdm_effect_kind {
+    /* `number`, `first`, `count`: bring `count` words to the unit's memory, from index `first` of table frame `number` on. vtdm_words has
+     * them, a frame at a time: vtdm_drop alone asks for more than one, for all of them. Store each word of 64 bits at once. */
+    VTDM_EFFECT_WORDS = 1,
+    /* None: what was brought before is in memory before what follows. That is a fence. Where the unit doesn't snoop the processor's
+     * caches, write back what was brought before it; where it asks for its write buffer to be flushed (RWBF), do that. */
+    VTDM_EFFECT_BARRIER = 2,
+    /* `number`: bring the context entry of this device, which vtdm_context has: the low word last, or first where its bit 0 goes. */
+    VTDM_EFFECT_CONTEXT = 3,
+    /* `low`, `high`: put the descriptor of these words into the unit's queue, and tell it the new tail. */
+    VTDM_EFFECT_SEND = 4,
+    /* `number`: go on when the unit has written the status of this wait, the low 32 bits of its number, to the status address. */
+    VTDM_EFFECT_AWAIT = 5
+};
+
+/* One thing that a call asks. */
+struct vtdm_effect {
+    uint64_t kind;
+    uint64_t number;
+    uint64_t first;
+    uint64_t count;
+    uint64_t low;
+    uint64_t high;
+};
+
+/* Tells what the last call asks: writes its effects to the first places of `to`, and answers how many there are, 0 to VTDM_MOST_EFFECTS.
+ * They are told once: after that there are none until the next call. The next call that is counted forgets those that nobody took, also
+ * where it is refused, and then there are none; VTDM_SPENT, VTDM_MANY_SEGMENTS and VTDM_BAD_CACHE leave them. It is not counted itself.
+ * Where they are more than `count`, it writes nothing, and they can be taken still. VTDM_ABSENT, VTDM_NOT_DRIVEN, VTDM_FEW_PLACES. */
+struct vtdm_answer vtdm_effects(struct vtdm *manager, struct vtdm_effect *to, size_t count);
 
 /* The number of the table frame that is the root of a domain. VTDM_NO_DOMAIN. */
 struct vtdm_answer vtdm_root_of(struct vtdm *manager, uint64_t domain);
@@ -355,9 +400,8 @@ struct vtdm_context_answer vtdm_context(struct vtdm *manager, uint64_t device);
 
 /* The two words of a descriptor that was sent, as the VT-d specification lays them out: of the last one where `back` is 0, of the one
  * before it where it is 1, and so on. The queue holds the last 256. A wait is an invalidation wait descriptor: its low word has
- * 5 in bits 0 to 3 and the status that it writes in bits 32 to 63. Its high word is the address to which the unit writes the status. That
- * is 2^36, behind all host frames: put in its place the host address of 4 bytes of your own, a multiple of 4, which hold 0 at first.
- * VTDM_NO_DESCRIPTOR. */
+ * 5 in bits 0 to 3 and the status that it writes in bits 32 to 63. Its high word is the address to which the library's unit writes the
+ * status, 2^36, which is beyond all host frames; vtdm_effects tells yours in its place. VTDM_NO_DESCRIPTOR. */
 struct vtdm_sent_answer {
     uint64_t status;
     uint64_t low;

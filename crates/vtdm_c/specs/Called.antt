@@ -1,5 +1,5 @@
 -- What a call of C's does to the manager at a handle. A state answers at most 2^56 calls.
-use Rattle.std.specs.Prelude.{◌≡◌, ◌<◌, ◌≤◌, ◌⊎◌, Bool, ℕ, List, length, Option, None, Some, IsNone, IsSome}
+use Rattle.std.specs.Prelude.{◌≡◌, ◌+◌, ◌%◌, ◌<◌, ◌≤◌, ◌⊎◌, Bool, true, false, ℕ, List, [], length, Option, None, Some, IsNone, IsSome, Result}
 use Rattle.dmatypes.specs.declared.call.Cache.{Cache}
 use Rattle.dmatypes.specs.declared.call.Call.{Call}
 use Rattle.dmatypes.specs.declared.call.Call.TheVariants as calls
@@ -7,20 +7,53 @@ use Rattle.dmatypes.specs.World.{empty}
 use Rattle.dmatypes.specs.declared.limits.TheConstants.{CALLS_END, LEAST_TABLE_FRAMES, MOST_SEGMENTS, MOST_TABLE_FRAMES}
 use Rattle.dmatypes.specs.declared.reply.Reply.{Reply}
 use Rattle.engine.specs.Quarantine.{Quarantine}
-use Rattle.engine.specs.State.{IsNew, State}
+use Rattle.engine.specs.State.{IsNew, State, flushed_reply}
 use Rattle.engine.specs.Steps.{Does}
-use Rattle.vtdm_c.specs.Answers.{answer_of, lone}
+use Rattle.dmatypes.specs.declared.refusal.Refusal.{Refusal}
+use Rattle.driven.specs.Effects.{AreEffects, DetachesAll}
+use Rattle.driven.specs.declared.telling.TheConstants.{MOST_EFFECTS}
+use Rattle.vtdm_c.specs.Answers.{answer_of, lone, told}
+use Rattle.vtdm_c.specs.Effects.{AreTold}
 use Rattle.vtdm_c.specs.Segments.{named}
 use Rattle.vtdm_c.specs.declared.answer.Answer.{Answer}
-use Rattle.vtdm_c.specs.declared.answer.TheConstants.Answer.{ABSENT, BAD_CACHE, BAD_FRAMES, MANY_SEGMENTS, NO_MEMORY, OK, PRESENT}
-use Rattle.vtdm_c.specs.declared.answer.TheConstants.Answer.{SPENT}
+use Rattle.vtdm_c.specs.declared.answer.TheConstants.Answer.{ABSENT, BAD_ADDRESS, BAD_CACHE, BAD_FRAMES, FEW_PLACES, MANY_SEGMENTS}
+use Rattle.vtdm_c.specs.declared.answer.TheConstants.Answer.{NOT_DRIVEN, NO_MEMORY, OK, PRESENT, SPENT}
+use Rattle.vtdm_c.specs.declared.effect.Effect.{Effect}
 use Rattle.vtdm_c.specs.declared.segments.Segment.{Segment}
 use Rattle.vtdm_c.specs.declared.session.Session.{Session}
 
+abbrev pub state_of : Session → State
+state_of s = s.driven.state
+
+abbrev pub IsSame : Session → Session → Type 0
+IsSame s t = (t.driven.tells ≡ s.driven.tells) × (t.status ≡ s.status)
+
+-- the state makes the call; where that is told, these are its effects
+pub record Makes (s : Session) (call : Call) (reply : Reply) (t : Session) : Type 0 where
+  pub does : Does (state_of s) call reply (state_of t)
+  pub asks : s.driven.tells ≡ true → AreEffects (state_of s) call reply (state_of t) t.driven.effects
+  pub same : IsSame s t
+
 -- a state that has answered all calls that it can stays as it is; any other makes the call, and the answer says its reply
 pub record Answered (s : Session) (call : Call) (answer : Answer) (t : Session) : Type 0 where
-  pub spent : CALLS_END ≤ s.state.calls → (answer ≡ lone SPENT) × (t ≡ s)
-  pub does : s.state.calls < CALLS_END → (reply : Reply) × (answer ≡ answer_of reply) × Does s.state call reply t.state
+  pub spent : CALLS_END ≤ (state_of s).calls → (answer ≡ lone SPENT) × (t ≡ s)
+  pub does : (state_of s).calls < CALLS_END → (reply : Reply) × (answer ≡ answer_of reply) × Makes s call reply t
+
+-- the same of a detach and the flush of the domain that follows it, where two calls can be answered still
+pub record AnsweredAll (s : Session) (device : ℕ) (answer : Answer) (t : Session) : Type 0 where
+  pub spent : CALLS_END ≤ (state_of s).calls + 1 → (answer ≡ lone SPENT) × (t ≡ s)
+  pub does : (state_of s).calls + 1 < CALLS_END
+      → (result : Result ℕ Refusal) × (answer ≡ answer_of (flushed_reply result))
+      × DetachesAll (state_of s) device result (state_of t) t.driven.effects × IsSame s t
+
+-- what the last call asks is told once; where there are fewer places for it, it can be told still
+pub record Takes (s : Session) (old : List Effect) (answer : Answer) (new : List Effect) (t : Session) : Type 0 where
+  pub alone : s.driven.tells ≡ false → (answer ≡ lone NOT_DRIVEN) × (new ≡ old) × (t ≡ s)
+  pub few : s.driven.tells ≡ true → length old < length s.driven.effects → (answer ≡ lone FEW_PLACES) × (new ≡ old) × (t ≡ s)
+  pub told : s.driven.tells ≡ true → length s.driven.effects ≤ length old
+      → (answer ≡ told (length s.driven.effects)) × AreTold s.status s.driven.effects old new × (state_of t ≡ state_of s) × IsSame s t
+      × (t.driven.effects ≡ [])
+  pub enough : s.driven.tells ≡ true → MOST_EFFECTS ≤ length old → answer.status ≡ OK
 
 -- a handle with no manager stays one, and a manager stays at its handle and answers
 abbrev pub Calls : Option Session → Call → Answer → Option Session → Type 0
@@ -35,6 +68,16 @@ MapsList s domain order rights segments answer t =
     × (MOST_SEGMENTS < length segments → IsNone s → (answer ≡ lone ABSENT) × (t ≡ s))
     × (length segments ≤ MOST_SEGMENTS → Calls s (calls.MapList domain order rights (record { items = named segments })) answer t)
 
+abbrev pub CallsAll : Option Session → ℕ → Answer → Option Session → Type 0
+CallsAll None device answer after = (answer ≡ lone ABSENT) × (after ≡ None)
+CallsAll (Some s) device answer None = ⊥
+CallsAll (Some s) device answer (Some t) = AnsweredAll s device answer t
+
+abbrev pub TakesAt : Option Session → List Effect → Answer → List Effect → Option Session → Type 0
+TakesAt None old answer new after = (answer ≡ lone ABSENT) × (new ≡ old) × (after ≡ None)
+TakesAt (Some s) old answer new None = ⊥
+TakesAt (Some s) old answer new (Some t) = Takes s old answer new t
+
 -- likewise a number that is of no cache
 abbrev pub Evicts : Option Session → Option Cache → ℕ → Answer → Option Session → Type 0
 Evicts s (Some kind) place answer t = Calls s (calls.Evict kind place) answer t
@@ -44,16 +87,33 @@ Evicts None None place answer t = (answer ≡ lone ABSENT) × (t ≡ None)
 -- the answer of a reader, which changes nothing: what it finds in the state, or what says that there is none
 abbrev pub Reads : {A : Type 0} → A → (State → A → Type 0) → Option Session → A → Option Session → Type 0
 Reads absent Finds None answer after = (answer ≡ absent) × (after ≡ None)
-Reads absent Finds (Some s) answer after = Finds s.state answer × (after ≡ Some s)
+Reads absent Finds (Some s) answer after = Finds (state_of s) answer × (after ≡ Some s)
 
--- a manager is made where there is none and the number of its table frames is one that it can have, unless memory is lacking. It is new,
--- its unit has Caching Mode or not as was asked, and it is a state of the empty world
-pub record Makes (frames : ℕ) (caching : Bool) (status : ℕ) (after : Option Session) : Type 0 where
+-- it is new, its unit has Caching Mode or not as was asked, and it is a state of the empty world
+pub record IsNewState (frames : ℕ) (caching : Bool) (m : State) : Type 0 where
+  pub new : IsNew frames caching m
+  pub empty : Quarantine m (empty frames)
+
+-- it tells nothing; or it tells what calls ask, which is nothing yet, and its waits write their status to this address
+abbrev pub IsNewSession : ℕ → Bool → Option ℕ → Session → Type 0
+IsNewSession frames caching None s = IsNewState frames caching (state_of s) × (s.driven.tells ≡ false)
+IsNewSession frames caching (Some address) s =
+    IsNewState frames caching (state_of s) × (s.driven.tells ≡ true) × (s.driven.effects ≡ []) × (s.status ≡ address)
+
+-- a status is of 32 bits, at a multiple of 4
+abbrev pub IsAddress : Option ℕ → Type 0
+IsAddress None = Unit {0}
+IsAddress (Some address) = address % 4 ≡ 0
+
+-- a manager is made where there is none, the number of its table frames is one that it can have, and the address one of a status, unless
+-- memory is lacking
+pub record MakesManager (frames : ℕ) (caching : Bool) (address : Option ℕ) (status : ℕ) (after : Option Session) : Type 0 where
   pub bad : (frames < LEAST_TABLE_FRAMES) ⊎ (MOST_TABLE_FRAMES < frames) → (status ≡ BAD_FRAMES) × (after ≡ None)
-  pub good : LEAST_TABLE_FRAMES ≤ frames → frames ≤ MOST_TABLE_FRAMES
+  pub askew : LEAST_TABLE_FRAMES ≤ frames → frames ≤ MOST_TABLE_FRAMES → (IsAddress address → ⊥) → (status ≡ BAD_ADDRESS) × (after ≡ None)
+  pub good : LEAST_TABLE_FRAMES ≤ frames → frames ≤ MOST_TABLE_FRAMES → IsAddress address
       → ((status ≡ NO_MEMORY) × (after ≡ None))
-      ⊎ ((status ≡ OK) × (s : Session) × (after ≡ Some s) × IsNew frames caching s.state × Quarantine s.state (empty frames))
+      ⊎ ((status ≡ OK) × (s : Session) × (after ≡ Some s) × IsNewSession frames caching address s)
 
-abbrev pub Creates : Option Session → ℕ → Bool → ℕ → Option Session → Type 0
-Creates (Some s) frames caching status after = (status ≡ PRESENT) × (after ≡ Some s)
-Creates None frames caching status after = Makes frames caching status after
+abbrev pub Creates : Option Session → ℕ → Bool → Option ℕ → ℕ → Option Session → Type 0
+Creates (Some s) frames caching address status after = (status ≡ PRESENT) × (after ≡ Some s)
+Creates None frames caching address status after = MakesManager frames caching address status after

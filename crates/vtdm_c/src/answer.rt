@@ -49,6 +49,12 @@ impl Answer {
     pub const BAD_CACHE: u64 = 72;
     /// The ring doesn't hold a descriptor that was sent so long ago, or none was.
     pub const NO_DESCRIPTOR: u64 = 73;
+    /// The manager tells nothing of what calls ask.
+    pub const NOT_DRIVEN: u64 = 74;
+    /// The call asks more than there are places for.
+    pub const FEW_PLACES: u64 = 75;
+    /// The address of the waits' status is no multiple of 4.
+    pub const BAD_ADDRESS: u64 = 76;
 
     /// A status with no number.
     pub(crate) fn lone(status: u64) -> Answer

@@ -4,7 +4,7 @@ ghost use Rattle.std.specs.Prelude.{◌≡◌};
 ghost use Rattle.dmatypes.specs.declared.call.Call.TheVariants as calls;
 ghost use Rattle.dmatypes.specs.declared.width.Width.TheVariants.{W39, W48};
 ghost use Rattle.vtdm_c.specs.Answers.{mode_named};
-ghost use Rattle.vtdm_c.specs.Called.{Calls};
+ghost use Rattle.vtdm_c.specs.Called.{Calls, CallsAll};
 
 use crate::answer::Answer;
 use crate::handle::Handle;
@@ -77,6 +77,19 @@ pub extern "C" fn vtdm_detach(alloc: Global, handle: &mut Handle, device: u64) -
         return Answer::lone(Answer::ABSENT);
     };
     let answer = session.detach(device);
+    handle.put(session);
+    answer
+}
+
+/// Detaches a device, as `vtdm_detach` does, and then flushes the domain that it had; answers how many retired records were released.
+#[unsafe(no_mangle)]
+pub extern "C" fn vtdm_detach_all(alloc: Global, handle: &mut Handle, device: u64) -> Answer
+    ensures { CallsAll handle.old.slot.held device result handle.new.slot.held }
+{
+    let Some(mut session) = handle.take(alloc) else {
+        return Answer::lone(Answer::ABSENT);
+    };
+    let answer = session.detach_all(device);
     handle.put(session);
     answer
 }

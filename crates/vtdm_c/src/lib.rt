@@ -16,6 +16,8 @@
 
 mod answer;
 mod domains;
+mod driving;
+mod effect;
 mod flushes;
 mod handle;
 pub mod laws;
@@ -30,6 +32,7 @@ mod slot;
 mod told;
 
 pub use answer::Answer;
+pub use effect::Effect;
 pub use handle::Handle;
 pub use segments::Segment;
 pub use slot::Slot;

@@ -1,41 +1,46 @@
-//! A state of the engine with the number of its calls, which the engine bounds.
+//! What a manager of C's does, by calls that are refused where its state has answered all that it can.
 
-ghost use Rattle.std.specs.Prelude.{◌≡◌, ◌≤◌, ◌↔◌, IsTrue};
+ghost use Rattle.std.specs.Prelude.{◌≡◌, ◌+◌, ◌≤◌, ◌↔◌, IsTrue};
 ghost use Rattle.dmatypes.specs.declared.call.Call.TheVariants as calls;
 ghost use Rattle.dmatypes.specs.declared.limits.TheConstants.{CALLS_END};
 
 use crate::answer::Answer;
+use crate::effect::{Effect, tell};
 use arrayvec::ArrayVec;
 use dmatypes::{Access, CALLS_END, Cache, MOST_SEGMENTS, Mode, Segment, Whim, Width};
-use engine::State;
+use driven::Driven;
 
 mod reading;
 
-/// A state, with the number of calls that it has answered. Each method is refused exactly where the state has answered all that
-/// it can, and then changes nothing.
+/// What a handle holds: a state that tells what calls ask, or one that doesn't, and the host address to which the unit writes the status
+/// of a wait. Each method is refused exactly where the state has answered all that it can, and then changes nothing.
 #[derive(Drop)]
 pub struct Session {
-    state: State,
-    calls: u64,
-    ghost counted: { calls ≡ state.calls },
+    driven: Driven,
+    status: u64,
 }
 
 impl Session {
-    ghost use Rattle.vtdm_c.specs.Called.{Answered};
+    ghost use Rattle.vtdm_c.specs.Called.{Answered, AnsweredAll, Takes, state_of};
 
-    /// A session of a new state.
-    pub(crate) fn new(state: State) -> Session
-        requires { state.calls ≡ 0 }
-        ensures { result.state ≡ state }
+    pub(crate) fn new(driven: Driven, status: u64) -> Session
+        ensures { (result.driven ≡ driven) × (result.status ≡ status) }
     {
-        Session { state, calls: 0 }
+        Session { driven, status }
     }
 
     // Whether the state has answered all calls that it can.
     fn is_spent(&self) -> bool
-        ensures { IsTrue result ↔ CALLS_END ≤ self.now.state.calls }
+        ensures { IsTrue result ↔ CALLS_END ≤ (state_of self.now).calls }
     {
-        self.calls >= CALLS_END
+        self.driven.state().calls() >= CALLS_END
+    }
+
+    // Whether it can answer one more at most.
+    fn is_nearly_spent(&self) -> bool
+        ensures { IsTrue result ↔ CALLS_END ≤ (state_of self.now).calls + 1 }
+    {
+        CALLS_END - 1 <= self.driven.state().calls()
     }
 
     pub(crate) fn domain(&mut self, mode: Mode, width: Width) -> Answer
@@ -44,8 +49,7 @@ impl Session {
         if self.is_spent() {
             return Answer::lone(Answer::SPENT);
         }
-        self.calls += 1;
-        Answer::number(self.state.domain(mode, width))
+        Answer::number(self.driven.domain(mode, width))
     }
 
     pub(crate) fn drop_domain(&mut self, domain: u64) -> Answer
@@ -54,8 +58,7 @@ impl Session {
         if self.is_spent() {
             return Answer::lone(Answer::SPENT);
         }
-        self.calls += 1;
-        Answer::done(self.state.drop_domain(domain))
+        Answer::done(self.driven.drop_domain(domain))
     }
 
     pub(crate) fn attach(&mut self, device: u64, domain: u64) -> Answer
@@ -64,8 +67,7 @@ impl Session {
         if self.is_spent() {
             return Answer::lone(Answer::SPENT);
         }
-        self.calls += 1;
-        Answer::done(self.state.attach(device, domain))
+        Answer::done(self.driven.attach(device, domain))
     }
 
     pub(crate) fn detach(&mut self, device: u64) -> Answer
@@ -74,8 +76,16 @@ impl Session {
         if self.is_spent() {
             return Answer::lone(Answer::SPENT);
         }
-        self.calls += 1;
-        Answer::done(self.state.detach(device))
+        Answer::done(self.driven.detach(device))
+    }
+
+    pub(crate) fn detach_all(&mut self, device: u64) -> Answer
+        ensures { AnsweredAll self.old device result self.new }
+    {
+        if self.is_nearly_spent() {
+            return Answer::lone(Answer::SPENT);
+        }
+        Answer::number(self.driven.detach_all(device))
     }
 
     pub(crate) fn map(
@@ -91,8 +101,7 @@ impl Session {
         if self.is_spent() {
             return Answer::lone(Answer::SPENT);
         }
-        self.calls += 1;
-        Answer::number(self.state.map(domain, frame, pages, order, rights))
+        Answer::number(self.driven.map(domain, frame, pages, order, rights))
     }
 
     pub(crate) fn map_list(
@@ -107,8 +116,7 @@ impl Session {
         if self.is_spent() {
             return Answer::lone(Answer::SPENT);
         }
-        self.calls += 1;
-        Answer::number(self.state.map_list(domain, order, rights, segments))
+        Answer::number(self.driven.map_list(domain, order, rights, segments))
     }
 
     pub(crate) fn unmap(&mut self, domain: u64, address: u64, pages: u64) -> Answer
@@ -117,8 +125,7 @@ impl Session {
         if self.is_spent() {
             return Answer::lone(Answer::SPENT);
         }
-        self.calls += 1;
-        Answer::number(self.state.unmap(domain, address, pages))
+        Answer::number(self.driven.unmap(domain, address, pages))
     }
 
     pub(crate) fn flush(&mut self, domain: u64) -> Answer
@@ -127,8 +134,7 @@ impl Session {
         if self.is_spent() {
             return Answer::lone(Answer::SPENT);
         }
-        self.calls += 1;
-        Answer::number(self.state.flush(domain))
+        Answer::number(self.driven.flush(domain))
     }
 
     pub(crate) fn begin(&mut self, domain: u64) -> Answer
@@ -137,8 +143,7 @@ impl Session {
         if self.is_spent() {
             return Answer::lone(Answer::SPENT);
         }
-        self.calls += 1;
-        Answer::begun(domain, self.state.begin(domain))
+        Answer::begun(domain, self.driven.begin(domain))
     }
 
     pub(crate) fn unit_step(&mut self) -> Answer
@@ -147,8 +152,7 @@ impl Session {
         if self.is_spent() {
             return Answer::lone(Answer::SPENT);
         }
-        self.calls += 1;
-        Answer::stepped(self.state.unit_step())
+        Answer::stepped(self.driven.unit_step())
     }
 
     pub(crate) fn reap(&mut self, domain: u64, number: u64) -> Answer
@@ -157,8 +161,7 @@ impl Session {
         if self.is_spent() {
             return Answer::lone(Answer::SPENT);
         }
-        self.calls += 1;
-        Answer::reaped(self.state.reap(domain, number))
+        Answer::reaped(self.driven.reap(domain, number))
     }
 
     pub(crate) fn dma(&mut self, device: u64, address: u64, access: Access, whim: Whim) -> Answer
@@ -167,8 +170,7 @@ impl Session {
         if self.is_spent() {
             return Answer::lone(Answer::SPENT);
         }
-        self.calls += 1;
-        Answer::requested(self.state.dma(device, address, access, whim))
+        Answer::requested(self.driven.dma(device, address, access, whim))
     }
 
     pub(crate) fn evict(&mut self, kind: Cache, place: u64) -> Answer
@@ -177,8 +179,24 @@ impl Session {
         if self.is_spent() {
             return Answer::lone(Answer::SPENT);
         }
-        self.calls += 1;
-        self.state.evict(kind, place);
+        self.driven.evict(kind, place);
         Answer::lone(Answer::OK)
+    }
+
+    /// Tells what the last call asks, and that once: after it nothing is asked. With fewer places nothing is told.
+    pub(crate) fn take_effects(&mut self, to: &mut [Effect]) -> Answer
+        ensures { Takes self.old to.old result to.new self.new }
+    {
+        if !self.driven.tells() {
+            return Answer::lone(Answer::NOT_DRIVEN);
+        }
+        let effects = self.driven.effects();
+        let count = effects.len();
+        if to.len() < count {
+            return Answer::lone(Answer::FEW_PLACES);
+        }
+        tell(effects, self.status, to);
+        self.driven.forget_effects();
+        Answer::told(count as u64)
     }
 }

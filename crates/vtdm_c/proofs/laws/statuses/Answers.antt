@@ -8,7 +8,20 @@ returns c = record {
   refusals_apart = statuses.refusals_apart;
   faults = statuses.behind;
   faults_apart = statuses.faults_apart;
-  own = (omega arith, omega arith, omega arith, omega arith, omega arith, omega arith, omega arith, omega arith, omega arith);
+  own = (
+    omega arith,
+    omega arith,
+    omega arith,
+    omega arith,
+    omega arith,
+    omega arith,
+    omega arith,
+    omega arith,
+    omega arith,
+    omega arith,
+    omega arith,
+    omega arith,
+  );
   domain = refl;
   device = refl;
   attached = refl;

@@ -5,6 +5,6 @@ use Rattle.std.proofs.Common.{◌∙◌, sym, arith}
 pub returns : goal.returns
 returns c =
     let none = sym c.is_live.ensures ∙ c.if-is_live.false in
-    made c.args.handle.now.slot.held c.args.frames c.args.caching c.in-Ok.session.value c.put.new.self.slot.held none
-    (omega (arith, c.if-frames-lt-LEAST_TABLE_FRAMES.false)) (omega (arith, c.if-frames-gt-MOST_TABLE_FRAMES.false)) c.put.ensures
-    c.in-Ok.ensures.new c.in-Ok.ensures.empty
+    made c.args.handle.now.slot.held c.args.frames c.args.caching c.args.status c.in-Ok.session.value c.put.new.self.slot.held none
+    (omega (arith, c.if-frames-lt-LEAST_TABLE_FRAMES.false)) (omega (arith, c.if-frames-gt-MOST_TABLE_FRAMES.false))
+    (c.is_address.ensures.0 c.if-not-is_address.false) c.put.ensures c.in-Ok.ensures
