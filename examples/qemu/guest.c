@@ -16,17 +16,8 @@ enum { BROUGHT = TABLE_FRAMES };
 
 /* ---- Calls, each followed by the unit */
 
-/* The words first, and then the descriptors. */
-static void follow(void) {
-#ifdef WORDS_LATE
-    unit_wait(&manager);
-#endif
-    unit_bring(&manager);
-    unit_wait(&manager);
-}
-
 static uint64_t called(const char *what, struct vtdm_answer answer) {
-    follow();
+    unit_follow(&manager);
     text(what);
     text(": ");
     hex(answer.value);
@@ -61,12 +52,10 @@ static void attach(unsigned device, uint64_t to) {
 
 /* This unit, as VT-d allows, finds what it cached by the device too, and a detach sends the context's descriptor alone. */
 static void detach(unsigned device) {
-    uint64_t from = vtdm_domain_of(&manager, device_number(device)).value;
+#ifdef DETACH_ALONE
     called("detach", vtdm_detach(&manager, device_number(device)));
-#ifndef DETACH_ALONE
-    unit_forget(from);
 #else
-    (void)from;
+    called("detach", vtdm_detach_all(&manager, device_number(device)));
 #endif
 }
 
@@ -113,7 +102,7 @@ static void watch(uint64_t of, uint64_t first, uint64_t pages) {
     unit_meanwhile = at_each_word;
 }
 
-/* So many words were to be brought. There is one moment more than words, and so one where none is brought. */
+/* So many words were to be brought. There is one moment more than words: before the wait, or in the end. */
 static void watch_ends(uint64_t words) {
     unit_meanwhile = NULL;
     text("  at ");
@@ -229,21 +218,36 @@ static void lazy(void) {
 /* An unmap that finds the list full flushes first, and its own words may use a table frame that came free by that: before they are there
  * the flush's descriptors are done, and the page before isn't reached. In place they are there at once, so the list is flushed by a call
  * of its own. */
+static struct {
+    uint64_t page, moments;
+} flushed;
+
+/* The first moment is before the wait of the flush, and the second before the words. */
+static void at_second(void) {
+    if (flushed.moments++ == 1)
+        requests(B, flushed.page);
+}
+
+static uint64_t flush_in_place(uint64_t domain) {
+    uint64_t released = vtdm_flush(&manager, domain).value;
+    unit_follow(&manager);
+    requests(B, flushed.page);
+    return released;
+}
+
 static uint64_t unmap_where_full(uint64_t domain, uint64_t page) {
     uint64_t released = 0;
-#ifdef IN_PLACE
     if (vtdm_domain_totals(&manager, domain).retired == VTDM_MOST_RECORDS) {
-        released = vtdm_flush(&manager, domain).value;
-        follow();
-        requests(B, page - 1);
+        flushed.page = page - 1;
+        flushed.moments = 0;
+        if (BROUGHT)
+            unit_meanwhile = at_second;
+        else
+            released = flush_in_place(domain);
     }
-#endif
     struct vtdm_answer answer = vtdm_unmap(&manager, domain, page * PAGE, 1);
-    if (answer.value) {
-        unit_wait(&manager);
-        requests(B, page - 1);
-    }
-    follow();
+    unit_follow(&manager);
+    unit_meanwhile = NULL;
     if (answer.status != VTDM_OK)
         differed++;
     return released + answer.value;
@@ -254,7 +258,7 @@ static void full_list(void) {
     uint64_t page = 0;
     for (unsigned i = 0; i < 257; i++) {
         page = vtdm_map(&manager, 2, FIRST_FRAME + 100 + i, 1, 0, RW).value / PAGE;
-        follow();
+        unit_follow(&manager);
         if (i == 255)
             requests(B, page);
         uint64_t released = unmap_where_full(2, page);
@@ -273,7 +277,7 @@ static void tickets(void) {
     requests(B, page);
     unmap("unmap it", 2, page, 1);
     uint64_t ticket = vtdm_begin(&manager, 2).value;
-    unit_send(&manager);
+    unit_follow(&manager);
     requests(B, page);
     unit_step();
     vtdm_unit(&manager);
@@ -316,12 +320,12 @@ static bool begin(void) {
     placed_at = (void *)(1ull << 37);
 #endif
 #ifdef CACHING
-    uint64_t status = vtdm_create_caching(&manager, TABLE_FRAMES);
+    bool caching = true;
 #else
-    uint64_t status = vtdm_create(&manager, TABLE_FRAMES);
+    bool caching = false;
 #endif
     unit_on(BROUGHT, OWN_PAGES);
-    return status == VTDM_OK;
+    return vtdm_create_driven(&manager, TABLE_FRAMES, caching, unit_status()) == VTDM_OK;
 }
 
 void run(void) {

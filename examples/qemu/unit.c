@@ -16,13 +16,13 @@ enum {
 static const uint64_t REGISTERS = 0xFED90000;
 static const uint32_t TRANSLATE = 1u << 31, SET_ROOT = 1u << 30, QUEUED = 1u << 26;
 
-enum { WORDS = 512, PAIRS = 256, WAIT = 5, WAIT_WRITES = 0x25 };
+enum { WORDS = 512, PLACES = 256, WAIT = 5, WAIT_WRITES = 0x25 };
 
 static struct {
     uint64_t frames, contexts, queue, status;
     uint32_t command;
-    uint32_t tail;       /* of the queue in memory; what the unit was told of is in its register */
-    uint64_t waits, own; /* waits of the manager that were queued, and waits of our own */
+    uint32_t tail; /* of the queue in memory; what the unit was told of is in its register */
+    uint64_t own;  /* waits of our own */
 } unit;
 
 void (*unit_meanwhile)(void);
@@ -48,7 +48,7 @@ static void queue(uint64_t low, uint64_t high) {
     uint64_t at = unit.queue + 16 * unit.tail;
     *word64(at) = low;
     *word64(at + 8) = high;
-    unit.tail = (unit.tail + 1) % PAIRS;
+    unit.tail = (unit.tail + 1) % PLACES;
 }
 
 static uint32_t head(void) {
@@ -68,39 +68,15 @@ static void wait_apart(void) {
     go_on_until(unit.status + 64, (uint32_t)unit.own);
 }
 
-static bool is_wait(uint64_t low) {
-    return (low & 15) == WAIT;
-}
-
-/* A wait's second word is where it writes its status: the manager can't know an address, so it is put in here. */
-void unit_send(struct vtdm *manager) {
-    uint64_t waits = vtdm_waits(manager).value;
-    for (uint64_t back = 2 * (waits - unit.waits); back-- > 0;) {
-        struct vtdm_sent_answer sent = vtdm_sent(manager, back);
-        if (is_wait(sent.low))
-            queue(sent.low, unit.status);
-#ifndef WITHOUT_DESCRIPTORS
-        else
-            queue(sent.low, sent.high);
-#endif
-    }
-    unit.waits = waits;
-}
-
 bool unit_step(void) {
     uint32_t at = head();
     if (at == unit.tail)
         return false;
-    uint32_t next = (at + 1) % PAIRS;
+    uint32_t next = (at + 1) % PLACES;
     *word32(REGISTERS + QUEUE_TAIL) = 16 * next;
     while (head() != next)
         ;
     return true;
-}
-
-void unit_wait(struct vtdm *manager) {
-    unit_send(manager);
-    go_on_until(unit.status, (uint32_t)unit.waits);
 }
 
 void unit_forget(uint64_t domain) {
@@ -121,6 +97,7 @@ void unit_on(uint64_t frames, uint64_t own) {
     unit.contexts = own + PAGE;
     unit.queue = own + 2 * PAGE;
     unit.status = own + 3 * PAGE;
+    clear(0, frames * PAGE);
     clear(own, 4 * PAGE);
     *word64(own) = unit.contexts | 1; /* bus 0 */
     *word64(REGISTERS + ROOT_TABLE) = own;
@@ -134,34 +111,45 @@ void unit_on(uint64_t frames, uint64_t own) {
     command(TRANSLATE, true);
 }
 
+uint64_t unit_status(void) {
+    return unit.status;
+}
+
 void unit_off(void) {
     command(TRANSLATE, false);
 }
 
-/* ---- Words */
+/* ---- What a call asks */
 
-static void bring(uint64_t at, uint64_t word) {
+static void moment(void) {
     if (unit_meanwhile)
         unit_meanwhile();
+}
+
+static void bring(uint64_t at, uint64_t word) {
+    if (*word64(at) == word)
+        return;
+    moment();
     *word64(at) = word;
 }
 
-/* A call writes over a word that isn't 0 only where it puts a table in the place of a leaf of 2 MiB. These words go last, when the tables
- * that they name are there. Every other word only becomes present or absent, and what it names is then absent still or already. */
-static void bring_words(struct vtdm *manager, bool over) {
+/* Where the library's own words are the unit's tables none is brought. */
+static void bring_words(struct vtdm *manager, struct vtdm_effect it) {
     static uint64_t words[WORDS];
-    for (uint64_t frame = 0; frame < unit.frames; frame++) {
-        vtdm_words(manager, frame, 0, words, WORDS);
-        for (uint64_t index = 0; index < WORDS; index++) {
-            uint64_t at = frame * PAGE + 8 * index, old = *word64(at);
-            if (words[index] != old && (old && words[index]) == over)
-                bring(at, words[index]);
-        }
+    uint64_t left = unit.frames ? it.count : 0;
+    for (uint64_t frame = it.number, first = it.first; left; frame++, first = 0) {
+        uint64_t count = left < WORDS - first ? left : WORDS - first;
+        vtdm_words(manager, frame, first, words, count);
+        for (uint64_t i = 0; i < count; i++)
+            bring(frame * PAGE + 8 * (first + i), words[i]);
+        left -= count;
     }
 }
 
 /* The low word has the bit that makes an entry present: it is brought last, and cleared first. */
-static void bring_context(uint64_t at, struct vtdm_context_answer entry) {
+static void bring_context(struct vtdm *manager, uint64_t device) {
+    struct vtdm_context_answer entry = vtdm_context(manager, device);
+    uint64_t at = unit.contexts + 16 * (device << 3); /* function 0 */
     bool low_first = !entry.low;
 #ifdef WRONG_HALVES
     low_first = !low_first;
@@ -173,26 +161,82 @@ static void bring_context(uint64_t at, struct vtdm_context_answer entry) {
         bring(at, entry.low);
 }
 
-static void bring_contexts(struct vtdm *manager) {
-    for (uint64_t device = 0; device < VTDM_DEVICES; device++) {
-        struct vtdm_context_answer entry = vtdm_context(manager, device);
-        uint64_t at = unit.contexts + 16 * (device << 3); /* function 0 */
-        if (*word64(at) != entry.low || *word64(at + 8) != entry.high)
-            bring_context(at, entry);
+static void send(struct vtdm_effect it) {
+#ifdef WITHOUT_DESCRIPTORS
+    if ((it.low & 15) != WAIT)
+        return;
+#endif
+    queue(it.low, it.high);
+}
+
+/* The unit is told of what is queued when that is waited for. */
+static void await(struct vtdm_effect it) {
+    moment();
+    go_on_until(unit.status, (uint32_t)it.number);
+}
+
+static void do_as_asked(struct vtdm *manager, struct vtdm_effect it) {
+    switch (it.kind) {
+    case VTDM_EFFECT_WORDS:
+        bring_words(manager, it);
+        break;
+    case VTDM_EFFECT_BARRIER: /* this processor stores in order, and the unit snoops its caches */
+        __asm__ volatile("" ::: "memory");
+        break;
+    case VTDM_EFFECT_CONTEXT:
+        bring_context(manager, it.number);
+        break;
+    case VTDM_EFFECT_SEND:
+        send(it);
+        break;
+    case VTDM_EFFECT_AWAIT:
+        await(it);
+        break;
     }
 }
 
-/* The barrier is the processor's own: it stores in order, and this unit snoops its caches. The compiler is told to keep the order. */
-void unit_bring(struct vtdm *manager) {
-#ifdef WRONG_ORDER
-    bring_words(manager, true);
+#if defined WORDS_LATE || defined WRONG_ORDER
+static bool is_for_queue(struct vtdm_effect it) {
+    return it.kind == VTDM_EFFECT_SEND || it.kind == VTDM_EFFECT_AWAIT;
+}
+
+/* An order that no manager asks for: what is for the queue first, or what is for memory backwards. It shows that the guest can fail. */
+static void spoil(struct vtdm_effect *effects, uint64_t count) {
+    struct vtdm_effect given[VTDM_MOST_EFFECTS];
+    uint64_t at = 0;
+    for (uint64_t i = 0; i < count; i++)
+        given[i] = effects[i];
+#ifdef WORDS_LATE
+    for (uint64_t i = 0; i < count; i++)
+        if (is_for_queue(given[i]))
+            effects[at++] = given[i];
+    for (uint64_t i = 0; i < count; i++)
+        if (!is_for_queue(given[i]))
+            effects[at++] = given[i];
+#else
+    for (uint64_t i = count; i-- > 0;)
+        if (!is_for_queue(given[i]))
+            effects[at++] = given[i];
+    for (uint64_t i = 0; i < count; i++)
+        if (is_for_queue(given[i]))
+            effects[at++] = given[i];
 #endif
-    bring_words(manager, false);
-    bring_words(manager, true);
-    bring_contexts(manager);
-    if (unit_meanwhile)
-        unit_meanwhile();
-    __asm__ volatile("" ::: "memory");
+}
+#endif
+
+void unit_follow(struct vtdm *manager) {
+    struct vtdm_effect effects[VTDM_MOST_EFFECTS];
+    uint64_t count = vtdm_effects(manager, effects, VTDM_MOST_EFFECTS).value;
+    bool waited = false;
+#if defined WORDS_LATE || defined WRONG_ORDER
+    spoil(effects, count);
+#endif
+    for (uint64_t i = 0; i < count; i++) {
+        do_as_asked(manager, effects[i]);
+        waited |= effects[i].kind == VTDM_EFFECT_AWAIT;
+    }
+    if (!waited)
+        moment();
 }
 
 /* ---- Faults */
