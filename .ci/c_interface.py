@@ -38,10 +38,13 @@ PROGRAMS = {
     "rows": (["answers.c", "script.c"], [], [ADDRESS, VALGRIND]),
     "statuses": (["statuses.c"], [], [ADDRESS, VALGRIND]),
     "walk": (["walk.c"], [], [ADDRESS, VALGRIND]),
+    "effects": (["effects.c", "unit.c"], [], [ADDRESS, VALGRIND]),
     "memory": (["memory.c"], ["-Wl,--wrap=malloc,--wrap=realloc,--wrap=free"], [ADDRESS]),
     "threads": (["threads.c"], ["-pthread"], [ADDRESS, THREAD]),
     "owner in C++": (["owner.cpp"], ["-pthread"], [ADDRESS]),
 }
+# What the test of memory makes managers by.
+CREATIONS = {"vtdm_create", "vtdm_create_caching", "vtdm_create_driven"}
 # The header twice, alone in its file.
 ALONE = "#include <vtdm.h>\n#include <vtdm.h>\nextern struct vtdm manager;\nstruct vtdm manager = VTDM_INIT;\n"
 
@@ -111,7 +114,7 @@ def fault_of_names(folder):
 def fault_of_calls(output):
     """The test of memory counts each function of the header but those that take memory."""
     counted = set(re.findall(r"^(vtdm_\w+): \d+ calls", output, re.M))
-    odd = counted ^ (set(c_header.prototypes()) - {"vtdm_create", "vtdm_create_caching"})
+    odd = counted ^ (set(c_header.prototypes()) - CREATIONS)
     return f"not counted, or not in the header: {sorted(odd)}" if odd else None
 
 

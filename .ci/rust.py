@@ -30,6 +30,7 @@ STRUCTS = {
     "DomainTotalsAnswer": "vtdm_domain_totals_answer",
     "ContextAnswer": "vtdm_context_answer",
     "SentAnswer": "vtdm_sent_answer",
+    "Effect": "vtdm_effect",
 }
 TYPES = {
     "u64": "uint64_t",
@@ -41,13 +42,14 @@ TYPES = {
     "&mut Handle": "struct vtdm *",
     "*const Segment": "const struct vtdm_segment *",
     "*mut u64": "uint64_t *",
+    "*mut Effect": "struct vtdm_effect *",
     "": "void",
     **{rust: f"struct {c}" for rust, c in STRUCTS.items()},
 }
 # What the symbols have of the functions of Rust's core library that panic.
 PANIC = re.compile(r"panick|unwrap_failed|expect_failed")
 # Tests that valgrind runs. Of the others one is of little memory, and one of many calls of the same.
-UNDER_VALGRIND = ["rows", "refusals", "readers"]
+UNDER_VALGRIND = ["rows", "refusals", "readers", "driven"]
 
 
 def rust(name):
@@ -104,11 +106,13 @@ def statuses():
 
 
 def choices():
-    """Rights, modes and caches."""
+    """Rights, modes, caches, and kinds of effects."""
+    kinds = {name: int(value) for name, value in re.findall(r"const (EFFECT_\w+): u64 = (\d+);", rust("ffi"))}
     caches = {f"CACHE_{name}": value for name, value in variants(rust("choices"), "Cache").items()}
     rights = {name: int(value) for name, value in re.findall(r"pub const (READ|WRITE): Rights = Rights\((\d+)\);", rust("rights"))}
     return (
-        c_header.difference(caches, c_header.enum_of("vtdm_cache"))
+        c_header.difference(kinds, c_header.enum_of("vtdm_effect_kind"))
+        or c_header.difference(caches, c_header.enum_of("vtdm_cache"))
         or c_header.difference(variants(rust("choices"), "Mode"), c_header.enum_of("vtdm_mode"))
         or c_header.difference(rights, c_header.enum_of("vtdm_rights"))
     )
@@ -130,7 +134,7 @@ COMPARISONS = {
     "structs": structs,
     "limits": limits,
     "statuses": statuses,
-    "rights, modes and caches": choices,
+    "rights, modes, caches and kinds of effects": choices,
     "texts of refusals": texts,
 }
 

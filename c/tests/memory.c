@@ -1,6 +1,6 @@
 /* Memory, by an allocator of this test's own, which the linker puts before malloc, realloc and free (--wrap): creation is refused
  * at each of its requests in turn, nothing leaks, a million calls of all functions ask for none, and the table frames' words stand in
- * one block, frame after frame. */
+ * one block, frame after frame; each of a manager with the library's unit, and of a driven one. */
 #include "check.h"
 #include "vtdm.h"
 
@@ -58,12 +58,23 @@ void __wrap_free(void *block) {
     __real_free(block);
 }
 
-/* Refuses one request of a creation, with Caching Mode or without; answers whether there were as many. */
-static bool refuse(uint64_t frames, bool caching, long number) {
+/* How a manager is made: without Caching Mode, with it, and either for a unit of one's own. */
+enum creation { PLAIN, CACHING, DRIVEN, DRIVEN_CACHING, CREATIONS };
+
+static uint64_t create(struct vtdm *manager, uint64_t frames, enum creation how) {
+    switch (how) {
+    case PLAIN: return vtdm_create(manager, frames);
+    case CACHING: return vtdm_create_caching(manager, frames);
+    default: return vtdm_create_driven(manager, frames, how == DRIVEN_CACHING, 0x8000);
+    }
+}
+
+/* Refuses one request of a creation; answers whether there were as many. */
+static bool refuse(uint64_t frames, enum creation how, long number) {
     struct vtdm manager = VTDM_INIT;
     asked = 0;
     refused = number;
-    uint64_t status = caching ? vtdm_create_caching(&manager, frames) : vtdm_create(&manager, frames);
+    uint64_t status = create(&manager, frames, how);
     refused = 0;
     if (asked < number) {
         CHECK(status == VTDM_OK);
@@ -80,12 +91,23 @@ static bool refuse(uint64_t frames, bool caching, long number) {
     return true;
 }
 
+/* A creation that can't be asks for nothing. */
+static void judge_before(void) {
+    struct vtdm manager = VTDM_INIT;
+    asked = 0;
+    refused = 1;
+    CHECK(vtdm_create_driven(&manager, 64, false, 0x8001) == VTDM_BAD_ADDRESS);
+    CHECK(vtdm_create_driven(&manager, 15, false, 0x8000) == VTDM_BAD_FRAMES);
+    CHECK(asked == 0 && held == 0);
+    refused = 0;
+}
+
 /* A creation asks for about 1.6 MiB, and for a page more for each table frame. */
-static void count_bytes(uint64_t frames) {
+static void count_bytes(uint64_t frames, enum creation how) {
     struct vtdm manager = VTDM_INIT;
     const uint64_t pages = frames * VTDM_PAGE_BYTES, beside = UINT64_C(1600) << 10, margin = UINT64_C(100) << 10;
     bytes = 0;
-    CHECK(vtdm_create(&manager, frames) == VTDM_OK);
+    CHECK(create(&manager, frames, how) == VTDM_OK);
     CHECK(bytes > pages + beside - margin && bytes < pages + beside + margin);
     vtdm_destroy(&manager);
 }
@@ -95,7 +117,7 @@ static void create_and_destroy(void) {
     struct vtdm manager = VTDM_INIT;
     bool same = true;
     for (int i = 0; i < MANAGERS; i++) {
-        same = same && vtdm_create(&manager, VTDM_LEAST_TABLE_FRAMES) == VTDM_OK && held > 0;
+        same = same && create(&manager, VTDM_LEAST_TABLE_FRAMES, (enum creation)(i % CREATIONS)) == VTDM_OK && held > 0;
         vtdm_domain(&manager, i % 2);
         long before = asked;
         vtdm_destroy(&manager);
@@ -117,12 +139,12 @@ static bool is_in_order(struct vtdm *manager, uint64_t frames, uint64_t *present
 }
 
 /* The words of the table frames are one block, frame after frame, and a creation writes all of it. */
-static void words_in_order(uint64_t frames) {
+static void words_in_order(uint64_t frames, enum creation how) {
     struct vtdm manager = VTDM_INIT;
     uint64_t present;
     sought = frames * VTDM_PAGE_BYTES;
     blocks_found = 0;
-    CHECK(vtdm_create(&manager, frames) == VTDM_OK);
+    CHECK(create(&manager, frames, how) == VTDM_OK);
     sought = 0;
     if (CHECK(blocks_found == 1)) {
         CHECK(is_in_order(&manager, frames, &present) && present == 0);
@@ -136,16 +158,16 @@ static void words_in_order(uint64_t frames) {
     vtdm_destroy(&manager);
 }
 
-/* Every function but vtdm_create and vtdm_create_caching. */
+/* Every function but the creations. */
 enum function {
-    DOMAIN, DOMAIN_WIDE, DROP, ATTACH, DETACH, MAP, MAP_LIST, UNMAP, FLUSH, BEGIN, UNIT, REAP, DMA, EVICT,
-    TOTALS, DOMAIN_TOTALS, DOMAIN_OF, DEVICES_OF, MODE_OF, WIDTH_OF, ROOT_OF, TABLE_WORD, WORDS,
+    DOMAIN, DOMAIN_WIDE, DROP, ATTACH, DETACH, DETACH_ALL, MAP, MAP_LIST, UNMAP, FLUSH, BEGIN, UNIT, REAP, DMA, EVICT,
+    TOTALS, DOMAIN_TOTALS, DOMAIN_OF, DEVICES_OF, MODE_OF, WIDTH_OF, EFFECTS, ROOT_OF, TABLE_WORD, WORDS,
     CONTEXT, SENT, WAITS, DESTROY, FUNCTIONS
 };
 
 static const char *const names[FUNCTIONS] = {
-    "domain", "domain_wide", "drop", "attach", "detach", "map", "map_list", "unmap", "flush", "begin", "unit", "reap", "dma", "evict",
-    "totals", "domain_totals", "domain_of", "devices_of", "mode_of", "width_of", "root_of", "table_word", "words",
+    "domain", "domain_wide", "drop", "attach", "detach", "detach_all", "map", "map_list", "unmap", "flush", "begin", "unit", "reap", "dma",
+    "evict", "totals", "domain_totals", "domain_of", "devices_of", "mode_of", "width_of", "effects", "root_of", "table_word", "words",
     "context", "sent", "waits", "destroy",
 };
 
@@ -216,6 +238,11 @@ static uint64_t request(struct vtdm *manager) {
     return vtdm_dma(manager, pick(17), address, pick(2), pick(2), pick(2)).status;
 }
 
+static uint64_t effects(struct vtdm *manager) {
+    struct vtdm_effect to[VTDM_MOST_EFFECTS];
+    return vtdm_effects(manager, to, pick(VTDM_MOST_EFFECTS)).status;
+}
+
 static uint64_t words(struct vtdm *manager) {
     uint64_t to[TABLE_WORDS];
     return vtdm_words(manager, pick(4100), pick(400), to, pick(TABLE_WORDS));
@@ -228,6 +255,7 @@ static uint64_t call(struct vtdm *manager, enum function function) {
     case DROP: return vtdm_drop(manager, any_domain()).status;
     case ATTACH: return vtdm_attach(manager, pick(VTDM_DEVICES), lasting_domain()).status;
     case DETACH: return vtdm_detach(manager, pick(VTDM_DEVICES)).status;
+    case DETACH_ALL: return vtdm_detach_all(manager, pick(VTDM_DEVICES)).status;
     case MAP: return map(manager, false);
     case MAP_LIST: return map(manager, true);
     case UNMAP: return unmap(manager);
@@ -243,6 +271,7 @@ static uint64_t call(struct vtdm *manager, enum function function) {
     case DEVICES_OF: return vtdm_devices_of(manager, any_domain()).status;
     case MODE_OF: return vtdm_mode_of(manager, any_domain()).status;
     case WIDTH_OF: return vtdm_width_of(manager, any_domain()).status;
+    case EFFECTS: return effects(manager);
     case ROOT_OF: return vtdm_root_of(manager, any_domain()).status;
     case TABLE_WORD: return vtdm_table_word(manager, pick(4100), pick(520)).status;
     case WORDS: return words(manager);
@@ -256,12 +285,13 @@ static uint64_t call(struct vtdm *manager, enum function function) {
     return VTDM_OK;
 }
 
-/* A million calls, of each function about as many. */
-static void calls_ask_for_none(void) {
+/* So many calls, of each function about as many. */
+static void calls_ask_for_none(enum creation how, long calls) {
     struct vtdm manager = VTDM_INIT;
-    CHECK(vtdm_create(&manager, VTDM_MOST_TABLE_FRAMES) == VTDM_OK);
+    CHECK(create(&manager, VTDM_MOST_TABLE_FRAMES, how) == VTDM_OK);
+    lives = begun = 0;
     long before_asked = asked, before_freed = freed, before_held = held;
-    for (long i = 0; i < CALLS; i++) {
+    for (long i = 0; i < calls; i++) {
         enum function one = (enum function)pick(FUNCTIONS);
         called[one]++;
         done[one] += call(&manager, one) == VTDM_OK;
@@ -269,6 +299,9 @@ static void calls_ask_for_none(void) {
     CHECK(asked == before_asked && freed == before_freed && held == before_held);
     vtdm_destroy(&manager);
     CHECK(held == 0);
+}
+
+static void each_was_called(void) {
     for (int i = 0; i < FUNCTIONS; i++) {
         printf("vtdm_%s: %ld calls, %ld of them done\n", names[i], called[i], done[i]);
         CHECK(done[i] >= LEAST_CALLS);
@@ -279,17 +312,22 @@ int main(void) {
     static const uint64_t sizes[] = {VTDM_LEAST_TABLE_FRAMES, 64, VTDM_MOST_TABLE_FRAMES};
     printf("memory\n"); /* the C library's buffer, outside the counts */
     held = 0;
-    for (size_t i = 0; i < 2 * sizeof sizes / sizeof sizes[0]; i++) {
+    for (size_t i = 0; i < CREATIONS * sizeof sizes / sizeof sizes[0]; i++) {
         long number = 1;
-        while (refuse(sizes[i / 2], i % 2, number))
+        while (refuse(sizes[i / CREATIONS], (enum creation)(i % CREATIONS), number))
             number++;
         CHECK(number > LEAST_REQUESTS);
     }
-    count_bytes(VTDM_LEAST_TABLE_FRAMES);
-    count_bytes(VTDM_MOST_TABLE_FRAMES);
+    judge_before();
+    for (size_t i = 0; i < 2; i++) {
+        const enum creation how = i ? DRIVEN : PLAIN;
+        count_bytes(VTDM_LEAST_TABLE_FRAMES, how);
+        count_bytes(VTDM_MOST_TABLE_FRAMES, how);
+        words_in_order(VTDM_LEAST_TABLE_FRAMES, how);
+        words_in_order(VTDM_MOST_TABLE_FRAMES, how);
+        calls_ask_for_none(how, CALLS / 2);
+    }
     create_and_destroy();
-    words_in_order(VTDM_LEAST_TABLE_FRAMES);
-    words_in_order(VTDM_MOST_TABLE_FRAMES);
-    calls_ask_for_none();
+    each_was_called();
     return check_end();
 }

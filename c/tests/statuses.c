@@ -15,6 +15,7 @@ static void check_absent(struct vtdm *manager) {
     ANSWERS(vtdm_drop(manager, 1), VTDM_ABSENT, 0);
     ANSWERS(vtdm_attach(manager, 0, 1), VTDM_ABSENT, 0);
     ANSWERS(vtdm_detach(manager, 0), VTDM_ABSENT, 0);
+    ANSWERS(vtdm_detach_all(manager, VTDM_DEVICES), VTDM_ABSENT, 0);
     ANSWERS(vtdm_map(manager, 1, 0x100, 1, 0, VTDM_READ), VTDM_ABSENT, 0);
     ANSWERS(vtdm_map_list(manager, 1, 0, VTDM_READ, segments, 1), VTDM_ABSENT, 0);
     ANSWERS(vtdm_map_list(manager, 1, 0, VTDM_READ, segments, MANY_SEGMENTS), VTDM_ABSENT, 0);
@@ -39,6 +40,10 @@ static void check_absent(struct vtdm *manager) {
     ANSWERS(vtdm_waits(manager), VTDM_ABSENT, 0);
     uint64_t words[] = {JUNK};
     CHECK(vtdm_words(manager, 0, 0, words, 1) == VTDM_ABSENT && words[0] == JUNK);
+    struct vtdm_effect effects[] = {{JUNK, JUNK, JUNK, JUNK, JUNK, JUNK}};
+    ANSWERS(vtdm_effects(manager, effects, 1), VTDM_ABSENT, 0);
+    ANSWERS(vtdm_effects(manager, effects, 0), VTDM_ABSENT, 0);
+    CHECK(effects[0].kind == JUNK && effects[0].high == JUNK);
 }
 
 static void check_limits(struct vtdm *manager) {
@@ -58,6 +63,7 @@ static void check_limits(struct vtdm *manager) {
     ANSWERS(vtdm_attach(manager, UINT64_MAX, 1), VTDM_NO_DEVICE, 0);
     ANSWERS(vtdm_detach(manager, 16), VTDM_NO_DEVICE, 0);
     ANSWERS(vtdm_detach(manager, 15), VTDM_NOT_ATTACHED, 0);
+    ANSWERS(vtdm_detach_all(manager, UINT64_MAX), VTDM_NO_DEVICE, 0);
     ANSWERS(vtdm_dma(manager, 15, UINT64_MAX, true, true, true), VTDM_FAULT_NOT_ATTACHED, 0);
     ANSWERS(vtdm_evict(manager, VTDM_CACHE_CONTEXT, UINT64_MAX), VTDM_OK, 0);
     ANSWERS(vtdm_evict(manager, VTDM_CACHE_FAULT, 0), VTDM_OK, 0);
@@ -286,9 +292,121 @@ static void check_sent(void) {
     vtdm_destroy(&manager);
 }
 
+/* A device of a lazy or a strict domain is detached and the domain flushed: the unit has nothing of it any more, and another device of the
+ * domain stays. */
+static void check_detach_all(bool lazy) {
+    struct vtdm manager = VTDM_INIT;
+    CHECK(vtdm_create(&manager, 64) == VTDM_OK);
+    ANSWERS(vtdm_domain(&manager, lazy), VTDM_OK, 1);
+    ANSWERS(vtdm_detach_all(&manager, VTDM_DEVICES), VTDM_NO_DEVICE, 0);
+    ANSWERS(vtdm_detach_all(&manager, 3), VTDM_NOT_ATTACHED, 0);
+    ANSWERS(vtdm_attach(&manager, 3, 1), VTDM_OK, 0);
+    ANSWERS(vtdm_attach(&manager, 4, 1), VTDM_OK, 0);
+    ANSWERS(map_read(&manager, 0x100, 4, 0), VTDM_OK, 0x1000);
+    ANSWERS(vtdm_dma(&manager, 4, 0x1234, false, true, true), VTDM_OK, 0x100234);
+    for (uint64_t page = 1; page <= 3; page++)
+        ANSWERS(vtdm_unmap(&manager, 1, page * VTDM_PAGE_BYTES, 1), VTDM_OK, 0);
+    ANSWERS(vtdm_dma(&manager, 4, 0x1234, false, true, false), lazy ? VTDM_OK : VTDM_FAULT_READ, lazy ? 0x100234 : 0);
+    uint64_t before = vtdm_waits(&manager).value;
+    ANSWERS(vtdm_detach_all(&manager, 3), VTDM_OK, lazy ? 3 : 0);
+    CHECK(vtdm_waits(&manager).value == before + 2 && vtdm_domain_totals(&manager, 1).retired == 0);
+    CHECK(sent_is(&manager, 3, UINT64_C(24) << 32 | 0x10031, 0) && sent_is(&manager, 1, 0x100e2, 0));
+    ANSWERS(vtdm_dma(&manager, 4, 0x1234, false, true, false), VTDM_FAULT_READ, 0);
+    ANSWERS(vtdm_dma(&manager, 4, 0x4234, false, true, false), VTDM_OK, 0x103234);
+    ANSWERS(vtdm_dma(&manager, 3, 0x4234, false, true, false), VTDM_FAULT_NOT_ATTACHED, 0);
+    ANSWERS(vtdm_detach_all(&manager, 3), VTDM_NOT_ATTACHED, 0);
+    vtdm_destroy(&manager);
+}
+
+static const struct vtdm_effect none = {JUNK, JUNK, JUNK, JUNK, JUNK, JUNK};
+
+static bool effect_is(const struct vtdm_effect *it, uint64_t kind, uint64_t number, uint64_t first, uint64_t count) {
+    return it->kind == kind && it->number == number && it->first == first && it->count == count && it->low == 0 && it->high == 0;
+}
+
+static bool is_none(const struct vtdm_effect *it) {
+    return it->kind == JUNK && it->number == JUNK && it->first == JUNK && it->count == JUNK && it->low == JUNK && it->high == JUNK;
+}
+
+static bool are_none(const struct vtdm_effect *effects, size_t from, size_t end) {
+    while (from < end && is_none(&effects[from]))
+        from++;
+    return from >= end;
+}
+
+/* A manager with the library's unit tells no effects, whatever it did and however many places there are. */
+static void check_not_driven(bool caching) {
+    struct vtdm manager = VTDM_INIT;
+    struct vtdm_effect effects[] = {none};
+    CHECK((caching ? vtdm_create_caching(&manager, 64) : vtdm_create(&manager, 64)) == VTDM_OK);
+    ANSWERS(vtdm_effects(&manager, effects, 1), VTDM_NOT_DRIVEN, 0);
+    ANSWERS(vtdm_domain(&manager, false), VTDM_OK, 1);
+    ANSWERS(vtdm_attach(&manager, 3, 1), VTDM_OK, 0);
+    ANSWERS(vtdm_effects(&manager, effects, 1), VTDM_NOT_DRIVEN, 0);
+    ANSWERS(vtdm_effects(&manager, effects, 0), VTDM_NOT_DRIVEN, 0);
+    CHECK(is_none(effects));
+    vtdm_destroy(&manager);
+}
+
+/* Effects are told once, to the first places, and where those are too few, later still; a refused call has none; and the next call forgets
+ * what nobody took, but for one that is refused before it counts. */
+static void check_effects(void) {
+    struct vtdm manager = VTDM_INIT;
+    struct vtdm_segment segments[MANY_SEGMENTS] = {{0x100, 1}};
+    struct vtdm_effect effects[VTDM_MOST_EFFECTS];
+    for (size_t i = 0; i < VTDM_MOST_EFFECTS; i++)
+        effects[i] = none;
+    CHECK(vtdm_create_driven(&manager, 64, false, 0) == VTDM_OK);
+    ANSWERS(vtdm_effects(&manager, effects, 0), VTDM_OK, 0);
+    ANSWERS(vtdm_domain(&manager, false), VTDM_OK, 1);
+    ANSWERS(vtdm_effects(&manager, effects, 0), VTDM_OK, 0);
+    ANSWERS(vtdm_attach(&manager, 3, 1), VTDM_OK, 0);
+    for (size_t few = 0; few < 2; few++)
+        ANSWERS(vtdm_effects(&manager, effects, few), VTDM_FEW_PLACES, 0);
+    CHECK(are_none(effects, 0, VTDM_MOST_EFFECTS));
+    ANSWERS(vtdm_domain_of(&manager, 3), VTDM_OK, 1);
+    ANSWERS(vtdm_effects(&manager, effects, 2), VTDM_OK, 2);
+    CHECK(effect_is(&effects[0], VTDM_EFFECT_CONTEXT, 3, 0, 0) && effect_is(&effects[1], VTDM_EFFECT_BARRIER, 0, 0, 0));
+    CHECK(are_none(effects, 2, VTDM_MOST_EFFECTS));
+    ANSWERS(vtdm_effects(&manager, effects, VTDM_MOST_EFFECTS), VTDM_OK, 0);
+    CHECK(effect_is(&effects[0], VTDM_EFFECT_CONTEXT, 3, 0, 0) && are_none(effects, 2, VTDM_MOST_EFFECTS));
+    ANSWERS(vtdm_attach(&manager, 4, 1), VTDM_OK, 0);
+    ANSWERS(vtdm_attach(&manager, 5, 1), VTDM_OK, 0);
+    ANSWERS(vtdm_effects(&manager, effects, VTDM_MOST_EFFECTS), VTDM_OK, 2);
+    CHECK(effect_is(&effects[0], VTDM_EFFECT_CONTEXT, 5, 0, 0) && are_none(effects, 2, VTDM_MOST_EFFECTS));
+    ANSWERS(vtdm_attach(&manager, 6, 1), VTDM_OK, 0);
+    ANSWERS(vtdm_map_list(&manager, 1, 0, VTDM_READ, segments, MANY_SEGMENTS), VTDM_MANY_SEGMENTS, 0);
+    ANSWERS(vtdm_evict(&manager, VTDM_CACHE_FAULT + 1, 0), VTDM_BAD_CACHE, 0);
+    ANSWERS(vtdm_effects(&manager, effects, 0), VTDM_FEW_PLACES, 0);
+    ANSWERS(vtdm_attach(&manager, 6, 1), VTDM_BUSY, 0);
+    ANSWERS(vtdm_effects(&manager, effects, 0), VTDM_OK, 0);
+    ANSWERS(vtdm_detach_all(&manager, 7), VTDM_NOT_ATTACHED, 0);
+    ANSWERS(vtdm_effects(&manager, effects, 0), VTDM_OK, 0);
+    vtdm_destroy(&manager);
+    ANSWERS(vtdm_effects(&manager, effects, VTDM_MOST_EFFECTS), VTDM_ABSENT, 0);
+}
+
 /* The struct is as at its beginning. */
 static bool is_empty(const struct vtdm *manager) {
     return manager->at == NULL && !manager->live;
+}
+
+/* A driven manager's table frames, and then the address of its status, are judged before it is made. */
+static void check_addresses(void) {
+    static const uint64_t good[] = {0, 4, UINT64_C(1) << 36, UINT64_MAX - 3};
+    struct vtdm manager = VTDM_INIT;
+    for (size_t i = 0; i < sizeof good / sizeof good[0]; i++) {
+        for (uint64_t more = 1; more < 4; more++) {
+            CHECK(vtdm_create_driven(&manager, 64, more % 2, good[i] + more) == VTDM_BAD_ADDRESS && is_empty(&manager));
+            CHECK(vtdm_create_driven(&manager, 15, more % 2, good[i] + more) == VTDM_BAD_FRAMES && is_empty(&manager));
+        }
+        CHECK(vtdm_create_driven(&manager, 15, true, good[i]) == VTDM_BAD_FRAMES && is_empty(&manager));
+        CHECK(vtdm_create_driven(&manager, 64, i % 2, good[i]) == VTDM_OK && !is_empty(&manager));
+        CHECK(vtdm_create_driven(&manager, UINT64_MAX, false, UINT64_MAX) == VTDM_PRESENT);
+        CHECK(vtdm_create(&manager, 64) == VTDM_PRESENT);
+        vtdm_destroy(&manager);
+        CHECK(is_empty(&manager));
+    }
 }
 
 int main(void) {
@@ -302,6 +420,7 @@ int main(void) {
     CHECK(vtdm_create(&manager, 64) == VTDM_PRESENT);
     CHECK(vtdm_create(&manager, 0) == VTDM_PRESENT);
     CHECK(vtdm_create_caching(&manager, 64) == VTDM_PRESENT);
+    CHECK(vtdm_create_driven(&manager, 0, false, 1) == VTDM_PRESENT);
     CHECK(vtdm_create(&other, 4096) == VTDM_OK);
     check_edges();
     check_caching_mode(false);
@@ -313,6 +432,12 @@ int main(void) {
     check_readers(&manager);
     check_words(&manager);
     check_sent();
+    check_detach_all(false);
+    check_detach_all(true);
+    check_not_driven(false);
+    check_not_driven(true);
+    check_effects();
+    check_addresses();
     CHECK(vtdm_totals(&other).free == 4096);
     vtdm_destroy(&manager);
     CHECK(is_empty(&manager));

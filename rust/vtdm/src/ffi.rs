@@ -1,6 +1,6 @@
 //! The functions of the C library, as its header `vtdm.h` declares them. This is the only module with `unsafe`.
 //!
-//! Types stand for what the header has C owe, so that all functions but two are safe to call.
+//! Types stand for what the header has C owe, so that all functions but three are safe to call.
 
 use crate::numbers::Segment;
 use std::ffi::c_void;
@@ -70,6 +70,33 @@ pub(crate) struct SentAnswer {
     pub(crate) high: u64,
 }
 
+/// `struct vtdm_effect`.
+#[derive(Clone, Copy)]
+#[repr(C)]
+pub(crate) struct Effect {
+    pub(crate) kind: u64,
+    pub(crate) number: u64,
+    pub(crate) first: u64,
+    pub(crate) count: u64,
+    pub(crate) low: u64,
+    pub(crate) high: u64,
+}
+
+impl Effect {
+    /// A place where nothing is told yet.
+    pub(crate) const NONE: Effect =
+        Effect { kind: 0, number: 0, first: 0, count: 0, low: 0, high: 0 };
+}
+
+/// `enum vtdm_effect_kind`.
+pub(crate) mod kinds {
+    pub(crate) const EFFECT_WORDS: u64 = 1;
+    pub(crate) const EFFECT_BARRIER: u64 = 2;
+    pub(crate) const EFFECT_CONTEXT: u64 = 3;
+    pub(crate) const EFFECT_SEND: u64 = 4;
+    pub(crate) const EFFECT_AWAIT: u64 = 5;
+}
+
 // SAFETY: the functions have these names in libvtdm.a, and the header's types; the gate compares both texts. Those that are `safe` may
 // be called with any arguments of their types. Of what the header has C owe,
 //  - a `Handle` is `Handle::none()` before its creation, since there is no other way to make one, and nothing else writes it;
@@ -82,12 +109,19 @@ pub(crate) struct SentAnswer {
 unsafe extern "C" {
     pub(crate) safe fn vtdm_create(manager: &mut Handle, frames: u64) -> u64;
     pub(crate) safe fn vtdm_create_caching(manager: &mut Handle, frames: u64) -> u64;
+    pub(crate) safe fn vtdm_create_driven(
+        manager: &mut Handle,
+        frames: u64,
+        caching: bool,
+        status: u64,
+    ) -> u64;
     pub(crate) safe fn vtdm_destroy(manager: &mut Handle);
     pub(crate) safe fn vtdm_domain(manager: &mut Handle, lazy: bool) -> Answer;
     pub(crate) safe fn vtdm_domain_wide(manager: &mut Handle, lazy: bool) -> Answer;
     pub(crate) safe fn vtdm_drop(manager: &mut Handle, domain: u64) -> Answer;
     pub(crate) safe fn vtdm_attach(manager: &mut Handle, device: u64, domain: u64) -> Answer;
     pub(crate) safe fn vtdm_detach(manager: &mut Handle, device: u64) -> Answer;
+    pub(crate) safe fn vtdm_detach_all(manager: &mut Handle, device: u64) -> Answer;
     pub(crate) safe fn vtdm_map(
         manager: &mut Handle,
         domain: u64,
@@ -129,6 +163,7 @@ unsafe extern "C" {
     pub(crate) safe fn vtdm_devices_of(manager: &mut Handle, domain: u64) -> Answer;
     pub(crate) safe fn vtdm_mode_of(manager: &mut Handle, domain: u64) -> Answer;
     pub(crate) safe fn vtdm_width_of(manager: &mut Handle, domain: u64) -> Answer;
+    fn vtdm_effects(manager: &mut Handle, to: *mut Effect, count: usize) -> Answer;
     pub(crate) safe fn vtdm_root_of(manager: &mut Handle, domain: u64) -> Answer;
     pub(crate) safe fn vtdm_table_word(manager: &mut Handle, frame: u64, index: u64) -> Answer;
     fn vtdm_words(manager: &mut Handle, frame: u64, first: u64, to: *mut u64, count: usize) -> u64;
@@ -148,6 +183,14 @@ pub(crate) fn map_list(
     // SAFETY: the address of a slice is not null and is aligned, also where the slice is empty, and as many segments as it has can be
     // read there. `Segment` is laid out as `struct vtdm_segment`. The call writes none, and keeps no pointer.
     unsafe { vtdm_map_list(manager, domain, order, rights, segments.as_ptr(), segments.len()) }
+}
+
+/// `vtdm_effects` into a slice.
+pub(crate) fn effects(manager: &mut Handle, to: &mut [Effect]) -> Answer {
+    // SAFETY: the address of a slice is not null and is aligned, also where the slice is empty, and as many effects as it has places can
+    // be written there. `Effect` is laid out as `struct vtdm_effect`, and any numbers make one. It is borrowed alone, so the handle is
+    // none of them. The call keeps no pointer.
+    unsafe { vtdm_effects(manager, to.as_mut_ptr(), to.len()) }
 }
 
 /// `vtdm_words` into a slice.

@@ -56,6 +56,12 @@
 //! # Ok::<(), Refused>(())
 //! ```
 //!
+//! # A unit of your own
+//!
+//! A manager of [`Manager::driven`] is in charge of a unit that isn't the library's own, emulated or real: [`Manager::effects`] tells
+//! after each call what it asks ([`Effect`]), and you do that before you release your lock. Until then devices may reach what the call set
+//! free, in a strict domain too. How that goes stands at the methods of [`Manager`] for such a unit.
+//!
 //! # Numbers
 //!
 //! Every number may be any number: a call refuses one outside its limits ([`limits`]) by a [`Refused`]. Nothing here panics.
@@ -82,6 +88,7 @@
 )]
 
 mod choices;
+mod effects;
 #[allow(unsafe_code, reason = "the only module that calls C")]
 mod ffi;
 pub mod limits;
@@ -95,6 +102,7 @@ pub use choices::{
     Access, Cache, Context, Descriptor, DomainTotals, Mode, Progress, Reaped, Totals, Unmapped,
     Whim, Width,
 };
+pub use effects::{Effect, Effects};
 pub use manager::Manager;
 pub use numbers::{
     Address, Device, Devices, Domain, Frame, HostAddress, Order, Page, Pages, Segment, Ticket,

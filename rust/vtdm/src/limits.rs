@@ -33,5 +33,7 @@ pub const MOST_PIECES: u64 = 1024;
 pub const MOST_RECORDS: u64 = 256;
 /// The most open tickets, over all domains.
 pub const MOST_TICKETS: u64 = 64;
+/// The most effects of one call.
+pub const MOST_EFFECTS: u64 = 32;
 /// A manager answers as many calls.
 pub const CALLS_END: u64 = 1 << 56;

@@ -87,6 +87,30 @@ impl Manager {
     pub fn with_caching_mode(frames: u64) -> Result<Manager, Refused> {
         made(|handle| ffi::vtdm_create_caching(handle, frames))
     }
+
+    /// Makes a manager for a unit of your own, with Caching Mode or without it: [`Manager::effects`] tells after each call what it asks.
+    /// Where a method says that no device reaches something, that is so of your unit's once what the call asks is done.
+    ///
+    /// `status` is the host address of 4 bytes of yours, which hold 0 at first: the unit writes the status of each wait there, and nothing
+    /// of this crate reads or writes them. Otherwise as [`Manager::new`].
+    ///
+    /// # Errors
+    ///
+    /// [`Refused::BadFrames`], [`Refused::BadAddress`], [`Refused::NoMemory`].
+    ///
+    /// ```
+    /// use vtdm::{Frame, HostAddress, Manager, Mode, Order, Pages, Refused, Rights, Width};
+    ///
+    /// let mut manager = Manager::driven(64, false, HostAddress::new(0x8000))?;
+    /// let domain = manager.domain(Mode::Strict, Width::W39)?;
+    /// manager.map(domain, Frame::new(0x100), Pages::new(1), Order::PAGE, Rights::READ)?;
+    /// assert!(!manager.effects()?.is_empty());
+    /// assert_eq!(Manager::driven(64, false, HostAddress::new(0x8002)).unwrap_err(), Refused::BadAddress);
+    /// # Ok::<(), Refused>(())
+    /// ```
+    pub fn driven(frames: u64, caching: bool, status: HostAddress) -> Result<Manager, Refused> {
+        made(|handle| ffi::vtdm_create_driven(handle, frames, caching, status.get()))
+    }
 }
 
 /// Calls.
@@ -168,6 +192,29 @@ impl Manager {
     /// ```
     pub fn detach(&mut self, device: Device) -> Result<(), Refused> {
         ffi::vtdm_detach(self.handle(), device.get()).done()
+    }
+
+    /// Detaches a device, as [`Manager::detach`] does, and then flushes the domain that it had, as [`Manager::flush`] does: two calls in
+    /// one. Answers how many retired ranges the flush released. A unit of your own that finds cached translations by the device too, as
+    /// VT-d allows, reaches the domain until then.
+    ///
+    /// # Errors
+    ///
+    /// [`Refused::Spent`] also where one call alone is left, [`Refused::NoDevice`], [`Refused::NotAttached`].
+    ///
+    /// ```
+    /// # use vtdm::{Device, Manager, Mode, Order, Refused, Rights, Width};
+    /// # let mut manager = Manager::new(64)?;
+    /// let domain = manager.domain(Mode::Lazy, Width::W39)?;
+    /// manager.attach(Device::new(3), domain)?;
+    /// let at = manager.map(domain, 0x100.into(), 1.into(), Order::PAGE, Rights::READ)?;
+    /// let _ = manager.unmap(domain, at, 1.into())?;
+    /// assert_eq!(manager.detach_all(Device::new(3))?, 1);
+    /// assert_eq!(manager.detach_all(Device::new(3)), Err(Refused::NotAttached));
+    /// # Ok::<(), Refused>(())
+    /// ```
+    pub fn detach_all(&mut self, device: Device) -> Result<u64, Refused> {
+        ffi::vtdm_detach_all(self.handle(), device.get()).value()
     }
 
     /// Maps 1 to 4096 pages to the host frames from `frame` on, and answers the device address of the first page: the lowest free one
@@ -386,7 +433,7 @@ impl Manager {
         ffi::vtdm_evict(self.handle(), cache as u64, place).done()
     }
 
-    fn handle(&mut self) -> &mut Handle {
+    pub(crate) fn handle(&mut self) -> &mut Handle {
         self.handle.get_mut()
     }
 }

@@ -1,6 +1,7 @@
-//! What is read of a manager.
+//! What is read of a manager, and what its calls ask.
 
 use crate::choices::{Context, Descriptor, DomainTotals, Mode, Totals, Width};
+use crate::effects::{Effects, PLACES};
 use crate::ffi;
 use crate::manager::{Manager, check};
 use crate::numbers::{Device, Devices, Domain, Frame};
@@ -115,34 +116,76 @@ impl Manager {
     }
 }
 
-/// For a unit of your own, emulated or real. These readers tell what it reads: the tables, word I of table frame F at host address
-/// F × 4096 + 8 × I; the context entries; and the descriptors for its queue. Around each call:
+/// For a unit of your own, emulated or real, which a manager of [`Manager::driven`] is in charge of. It reads the tables, word I of table
+/// frame F at host address F × 4096 + 8 × I; the context entries; and the descriptors in its queue. Clear the memory of the table frames
+/// before the unit is on. Around each call:
 ///
 /// 1. Take your lock.
 /// 2. Make the call.
-/// 3. Bring the words that it changed to the unit's memory: [`Manager::words`], [`Manager::context`]. No call tells which words it has
-///    written, so compare them with those in that memory. Store each word at once, and the words of a table before the word that names
-///    it: those go last that are not 0 in memory and become another word than 0. Of a context entry store the low word last, or first
-///    where its bit 0 goes.
-/// 4. A barrier: the unit sees these words before what follows.
-/// 5. Put the descriptors that the call has sent into the unit's queue, oldest first: [`Manager::sent`], [`Manager::waits`].
-/// 6. If there are any, wait until the unit has written the status of the last of them.
-/// 7. Release the lock. Now what the call set free may be used for something else, and not before.
+/// 3. Take its effects ([`Manager::effects`]), and do what each asks, one after the other.
+/// 4. Release the lock. Now what the call set free may be used for something else, and not before.
 ///
 /// Some calls need more:
 ///
-/// - Where an unmap answers that ranges were released it has flushed first, and may have used a table frame that came free: do 5 and 6
-///   before 3.
-/// - After [`Manager::begin`] leave 6 out. Before [`Manager::reap`] let the library's unit do what yours has done, and no more. S is the
+/// - [`Manager::begin`] asks for no wait. Before [`Manager::reap`] let the library's unit do what yours has done, and no more. S is the
 ///   number of the last wait that yours has done: call [`Manager::unit`] as long as the `pending` of [`Manager::totals`] is above
 ///   2 × ([`Manager::waits`] - S).
-/// - A detach sends the descriptor of the context alone, and a unit may find cached translations by the device too. So after 6 give it an
-///   IOTLB invalidate descriptor of the domain that the device had.
-/// - An attach sends nothing, and a unit with Caching Mode may remember that the device had no context entry. So after 4 give it a
-///   context-cache invalidate descriptor of the device and domain 0, and then an IOTLB invalidate descriptor of the domain.
+/// - [`Manager::detach`] sends the descriptor of the context alone. Where your unit finds cached translations by the device too, use
+///   [`Manager::detach_all`].
+/// - An attach sends nothing, and a unit with Caching Mode may remember that the device had no context entry. So after its effects give it
+///   a context-cache invalidate descriptor of the device and domain 0, and then an IOTLB invalidate descriptor of the domain. After them
+///   put a wait of your own, with another status address, and wait for it before 4.
 ///
-/// The header `c/vtdm.h` says the same of C, and besides what the unit has to have, how it begins, and what is proved of it.
+/// The header `c/vtdm.h` says the same of C, and besides what the unit has to have, how it begins, how it walks the library's own words,
+/// and what is proved of it.
 impl Manager {
+    /// Takes what the last call asks, in order. It is told once: after that nothing is asked until the next call. The next call that is
+    /// counted forgets what nobody took, also where it is refused, and then asks nothing. This itself is not counted as a call.
+    ///
+    /// # Errors
+    ///
+    /// [`Refused::NotDriven`].
+    ///
+    /// ```
+    /// use vtdm::{Device, Effect, Frame, HostAddress, Manager, Mode, Order, Refused, Rights, Width};
+    ///
+    /// let mut manager = Manager::driven(64, false, HostAddress::new(0x8000))?;
+    /// // What the unit reads. Here it is memory of Rust's own.
+    /// let mut memory = vec![0; 64 * 512];
+    /// let mut contexts = [(0, 0); 16];
+    /// let mut queue = Vec::new();
+    ///
+    /// let domain = manager.domain(Mode::Strict, Width::W39)?;
+    /// let at = manager.map(domain, 0x100.into(), 1.into(), Order::PAGE, Rights::READ)?;
+    /// for effect in manager.effects()? {
+    ///     match effect {
+    ///         Effect::Words { frame, first, count } => {
+    ///             let from = 512 * frame.get() + first;
+    ///             for place in from..from + count {
+    ///                 memory[place as usize] = manager.table_word(Frame::new(place / 512), place % 512)?;
+    ///             }
+    ///         }
+    ///         Effect::Barrier => (), // one thread sees its own stores in order
+    ///         Effect::Context(device) => {
+    ///             let entry = manager.context(device)?;
+    ///             contexts[device.get() as usize] = (entry.low, entry.high);
+    ///         }
+    ///         Effect::Send(descriptor) => queue.push(descriptor),
+    ///         Effect::Await(number) => (), // let the unit do its queue, up to the wait of this number
+    ///     }
+    /// }
+    /// let root = manager.root_of(domain)?;
+    /// assert_eq!(memory[512 * root.get() as usize], manager.table_word(root, 0)?);
+    /// assert!(manager.effects()?.is_empty());
+    /// assert_eq!(Manager::new(64)?.effects(), Err(Refused::NotDriven));
+    /// # Ok::<(), Refused>(())
+    /// ```
+    pub fn effects(&mut self) -> Result<Effects, Refused> {
+        let mut told = [ffi::Effect::NONE; PLACES];
+        let count = ffi::effects(self.handle(), &mut told).value()?;
+        Effects::of(&told, count)
+    }
+
     /// The table frame that is the root of a domain.
     ///
     /// # Errors
@@ -222,7 +265,7 @@ impl Manager {
     /// manager.flush(domain)?;
     /// let count = 2 * (manager.waits()? - before);
     /// for back in (0..count).rev() {
-    ///     let descriptor = manager.sent(back)?; // for the queue of a unit of your own, oldest first
+    ///     let descriptor = manager.sent(back)?; // oldest first
     ///     assert_eq!(descriptor.low & 15, if back == 0 { 5 } else { 2 }); // a wait behind an IOTLB invalidate descriptor
     /// }
     /// # Ok::<(), Refused>(())

@@ -82,6 +82,12 @@ pub enum Refused {
     BadCache = 72,
     /// No descriptor was sent so long ago, or the queue holds it no more.
     NoDescriptor = 73,
+    /// Effects: the manager was not made by [`Manager::driven`](crate::Manager::driven).
+    NotDriven = 74,
+    /// There are more effects than places. No call of this crate is answered so: there are as many places as effects of one call.
+    FewPlaces = 75,
+    /// The address of the status is no multiple of 4.
+    BadAddress = 76,
 
     /// The library answered a number that this crate doesn't know: it was made from another header.
     Unknown = u64::MAX,
@@ -89,7 +95,7 @@ pub enum Refused {
 
 impl Refused {
     /// All that the header names.
-    pub const ALL: [Refused; 28] = [
+    pub const ALL: [Refused; 31] = [
         Refused::NoDomain,
         Refused::NoDevice,
         Refused::Busy,
@@ -118,6 +124,9 @@ impl Refused {
         Refused::NoWord,
         Refused::BadCache,
         Refused::NoDescriptor,
+        Refused::NotDriven,
+        Refused::FewPlaces,
+        Refused::BadAddress,
     ];
 
     /// Its number in `enum vtdm_status` of the header.
@@ -181,6 +190,9 @@ impl Refused {
             Refused::NoWord => "no such table word",
             Refused::BadCache => "no such cache",
             Refused::NoDescriptor => "no such descriptor",
+            Refused::NotDriven => "not a driven manager",
+            Refused::FewPlaces => "more effects than places",
+            Refused::BadAddress => "bad address of a status",
             Refused::Unknown => "a number of another header",
         }
     }

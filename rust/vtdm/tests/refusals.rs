@@ -86,14 +86,27 @@ fn of_tickets_and_requests() -> Vec<Refused> {
     all
 }
 
+/// What is refused of a unit of one's own.
+fn of_driven_managers() -> Vec<Refused> {
+    let mut all = vec![Manager::driven(64, true, HostAddress::new(0x8001)).unwrap_err()];
+    all.extend(begun(64).effects().err());
+    all
+}
+
 #[test]
 fn each_refusal_comes_where_it_can() {
-    let told = [of_domains(), of_pages(), of_tickets_and_requests()].concat();
+    let told = [of_domains(), of_pages(), of_tickets_and_requests(), of_driven_managers()].concat();
     let told: HashSet<_> = told.into_iter().collect();
     // The limit on pieces keeps a range from ever lacking; 2^56 calls are too many; memory is refused in a test of its own.
     let elsewhere = [Refused::NoRange, Refused::Spent, Refused::NoMemory];
-    // What the types rule out, and what a reap answers in another way.
-    let never = [Refused::Absent, Refused::Present, Refused::BadCache, Refused::Pending];
+    // What the types rule out, and what a reap answers in another way. Places for effects are as many as a call can ask.
+    let never = [
+        Refused::Absent,
+        Refused::Present,
+        Refused::BadCache,
+        Refused::Pending,
+        Refused::FewPlaces,
+    ];
     let wanted =
         Refused::ALL.into_iter().filter(|it| !elsewhere.contains(it) && !never.contains(it));
     assert_eq!(told, wanted.collect());
@@ -105,6 +118,7 @@ fn any_number_is_answered() {
     let (domain, device) = (Domain::new(MOST), Device::new(MOST));
     assert_eq!(manager.drop_domain(domain), Err(Refused::NoDomain));
     assert_eq!(manager.attach(device, ONE), Err(Refused::NoDevice));
+    assert_eq!(manager.detach_all(device), Err(Refused::NoDevice));
     assert_eq!(manager.attach(Device::new(4), domain), Err(Refused::NoDomain));
     assert_eq!(map(&mut manager, MOST, MOST, MOST), Err(Refused::BadRange));
     assert_eq!(unmap(&mut manager, MOST, MOST), Err(Refused::BadRange));
@@ -122,6 +136,8 @@ fn any_number_is_answered() {
     assert_eq!(manager.context(device), Err(Refused::NoDevice));
     assert_eq!(manager.sent(MOST), Err(Refused::NoDescriptor));
     assert_eq!(Manager::with_caching_mode(MOST).unwrap_err(), Refused::BadFrames);
+    let driven = Manager::driven(MOST, true, HostAddress::new(MOST));
+    assert_eq!(driven.unwrap_err(), Refused::BadFrames);
     assert_eq!(manager.domain_totals(ONE).unwrap().live, 0);
 }
 
