@@ -282,7 +282,8 @@ impl Driven {
         requires { self.old.state.calls < CALLS_END }
         ensures does { Does self.old.state (calls.Map domain frame pages order rights) (mapped_reply result) self.new.state }
         ensures tells { self.new.tells ≡ self.old.tells }
-        ensures effects { self.old.tells ≡ true → AreEffects self.old.state (calls.Map domain frame pages order rights) (mapped_reply result)
+        ensures effects { self.old.tells ≡ true
+            → AreEffects self.old.state (calls.Map domain frame pages order rights) (mapped_reply result)
             self.new.state self.new.effects }
     {
         self.state.keeps();
@@ -312,7 +313,8 @@ impl Driven {
         requires { self.old.state.calls < CALLS_END }
         ensures does { Does self.old.state (calls.MapList domain order rights segments.now) (mapped_reply result) self.new.state }
         ensures tells { self.new.tells ≡ self.old.tells }
-        ensures effects { self.old.tells ≡ true → AreEffects self.old.state (calls.MapList domain order rights segments.now) (mapped_reply result)
+        ensures effects { self.old.tells ≡ true
+            → AreEffects self.old.state (calls.MapList domain order rights segments.now) (mapped_reply result)
             self.new.state self.new.effects }
     {
         self.state.keeps();
@@ -338,7 +340,8 @@ impl Driven {
         requires { self.old.state.calls < CALLS_END }
         ensures does { Does self.old.state (calls.Unmap domain address pages) (unmapped_reply result) self.new.state }
         ensures tells { self.new.tells ≡ self.old.tells }
-        ensures effects { self.old.tells ≡ true → AreEffects self.old.state (calls.Unmap domain address pages) (unmapped_reply result)
+        ensures effects { self.old.tells ≡ true
+            → AreEffects self.old.state (calls.Unmap domain address pages) (unmapped_reply result)
             self.new.state self.new.effects }
     {
         self.state.keeps();
