@@ -70,6 +70,8 @@ impl Driven {
         Driven::made(alloc, frames, caching, false)
     }
 
+    // Never inlined: the room on the stack in which the state is moved is given back when it returns.
+    #[inline(never)]
     fn made(alloc: Global, frames: u64, caching: bool, tells: bool) -> Result<Driven, AllocError>
         requires some { LEAST_TABLE_FRAMES ≤ frames }
         requires few { frames ≤ MOST_TABLE_FRAMES }

@@ -79,6 +79,7 @@ fn is_address(status: Option<u64>) -> bool
 }
 
 // A session of a new state, on the heap.
+#[inline(never)]
 fn new_session(
     alloc: Global,
     frames: u64,
