@@ -13,13 +13,13 @@ use std::num::NonZeroU32;
 use std::sync::Wait;
 use std::time::Clock;
 
-/// How a manager is called.
+/// When a manager's lock is taken.
 #[derive(Clone, Copy)]
-pub(crate) enum Way {
-    /// Under one guard for all rounds.
-    Guarded,
-    /// Each call takes the lock.
-    Locking,
+pub(crate) enum Locks {
+    /// Once, for all rounds.
+    Once,
+    /// Each call takes it.
+    EachCall,
 }
 
 /// What each round takes, a map of one page into a strict domain and its unmap. Where a device is attached
@@ -28,13 +28,13 @@ pub(crate) fn time_manager<C: Clock + Wait>(
     clock: &C,
     alloc: Global,
     rounds: NonZeroU32,
-    way: Way,
+    locks: Locks,
     attached: bool,
 ) -> Result<Tenths, Trouble> {
     let calls = 2 + 2 * u64::from(rounds.get());
     let config = Config::new(TABLE_FRAMES, calls, 1).ok_or(Trouble::TooManyCalls)?;
     let seed = Seed::new(alloc, config)?;
-    time_owned::<Brand, C>(clock, alloc, rounds, way, attached, seed)
+    time_owned::<Brand, C>(clock, alloc, rounds, locks, attached, seed)
 }
 
 // The same, over an owner that names the manager.
@@ -42,7 +42,7 @@ fn time_owned<B: Owner, C: Clock + Wait>(
     clock: &C,
     alloc: Global,
     rounds: NonZeroU32,
-    way: Way,
+    locks: Locks,
     attached: bool,
     seed: Seed,
 ) -> Result<Tenths, Trouble>
@@ -56,8 +56,8 @@ fn time_owned<B: Owner, C: Clock + Wait>(
     } = Manager::<B>::new(alloc, seed)?;
     let mut mine = shares.pop().ok_or(Trouble::Wrong)?;
     make_domain(clock, &manager, &rows, &mut mine, attached)?;
-    match way {
-        Way::Locking => {
+    match locks {
+        Locks::EachCall => {
             let mut pairs = Locking {
                 clock,
                 manager: &manager,
@@ -66,7 +66,7 @@ fn time_owned<B: Owner, C: Clock + Wait>(
             };
             time(clock, rounds, &mut pairs)
         }
-        Way::Guarded => {
+        Locks::Once => {
             let mut guard = manager.lock(clock);
             let mut pairs = Guarded {
                 book: &mut *guard,

@@ -7,7 +7,7 @@ use crate::driver::{
 };
 use crate::hitting::{Hits, time_hits};
 use crate::loading::time_loads;
-use crate::managing::{Way, time_manager};
+use crate::managing::{Locks, time_manager};
 use crate::mapping::{Deferred, Flushing, Listing, Mapping, SelfFlushing, Shape, Splitting};
 use crate::request::Request;
 use crate::reusing::{Bursts, Freed, Holes, Reusing, Sizes};
@@ -51,7 +51,7 @@ enum Kind {
     // Whether the unit may look in its caches.
     Request(bool),
     // Whether a device is attached to the domain.
-    Manage(Way, bool),
+    Manage(Locks, bool),
     // On this number of threads.
     Contend(u32, Managers),
     // On this number of threads.
@@ -236,19 +236,19 @@ pub(crate) const SUBJECTS: [Subject; 67] = [
     },
     Subject {
         name: "map and unmap 1 page, under one guard",
-        kind: Kind::Manage(Way::Guarded, false),
+        kind: Kind::Manage(Locks::Once, false),
     },
     Subject {
         name: "map and unmap 1 page, a lock each call",
-        kind: Kind::Manage(Way::Locking, false),
+        kind: Kind::Manage(Locks::EachCall, false),
     },
     Subject {
         name: "map and unmap for a device, under one guard",
-        kind: Kind::Manage(Way::Guarded, true),
+        kind: Kind::Manage(Locks::Once, true),
     },
     Subject {
         name: "map and unmap for a device, a lock each call",
-        kind: Kind::Manage(Way::Locking, true),
+        kind: Kind::Manage(Locks::EachCall, true),
     },
     Subject {
         name: "map and unmap, 1 thread, one manager",
@@ -469,7 +469,7 @@ impl Subject {
             Kind::TakeBursts => time(clock, rounds, &mut Bursts::new(alloc)?),
             Kind::Walk(width) => time(clock, rounds, &mut Walking::new(alloc, width)?),
             Kind::Request(look) => time(clock, rounds, &mut Request::new(alloc, look)?),
-            Kind::Manage(way, attached) => time_manager(clock, alloc, rounds, way, attached),
+            Kind::Manage(locks, attached) => time_manager(clock, alloc, rounds, locks, attached),
             Kind::Contend(threads, managers) => time_threads(
                 clock, alloc, rounds, threads, managers,
             ),

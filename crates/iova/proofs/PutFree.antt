@@ -7,7 +7,7 @@ use Rattle.iova.specs.declared.node.Node.{Node}
 use Rattle.iova.specs.declared.piece.Piece.{Piece}
 use Rattle.iova.specs.declared.piece.PageState.TheVariants.{Free}
 use Rattle.iova.specs.Pieces.{IsOrdered, NoneFreeBelow, with_piece}
-use Rattle.iova.specs.Stored.{IsKept, pieces_of}
+use Rattle.iova.specs.Stored.{IsTreeOf, pieces_of}
 use Rattle.iova.specs.Way.{pages_as}
 use Rattle.iova.proofs.Among.{put_piece}
 use Rattle.iova.proofs.LowestFree.{none_below_less, none_below_put}
@@ -15,7 +15,7 @@ use Rattle.iova.proofs.shapes.Tall.{kept_view}
 
 -- no free piece begins below the page once the free piece is put there
 pub put_below : (now : Option ℕ) (new : Slab Node) (pieces : List Piece) (low less : ℕ) (ends : Ends) → IsOrdered 1 pieces
-    → IsKept now new (with_piece (pages_as ends Free) pieces) → NoneFreeBelow low pieces → ends.first ≤ ends.last → less ≤ low
+    → IsTreeOf now new (with_piece (pages_as ends Free) pieces) → NoneFreeBelow low pieces → ends.first ≤ ends.last → less ≤ low
     → less ≤ ends.first → NoneFreeBelow less (pieces_of new now)
 put_below now new pieces low less ends o k none w a b =
     subst (λ ps. NoneFreeBelow less ps) (sym (kept_view now new (with_piece (pages_as ends Free) pieces) k))
@@ -23,7 +23,7 @@ put_below now new pieces low less ends o k none w a b =
 
 -- and it is there
 pub put_there : (now : Option ℕ) (new : Slab Node) (pieces : List Piece) (ends pages : Ends)
-    → IsKept now new (with_piece (pages_as ends Free) pieces) → ends.first ≡ pages.first → ends.last ≡ pages.last
+    → IsTreeOf now new (with_piece (pages_as ends Free) pieces) → ends.first ≡ pages.first → ends.last ≡ pages.last
     → IsIn (pages_as pages Free) (pieces_of new now)
 put_there now new pieces ends pages k a b =
     subst (λ ps. IsIn (pages_as pages Free) ps) (sym (kept_view now new (with_piece (pages_as ends Free) pieces) k))

@@ -67,7 +67,7 @@ abbrev pub seen : ℕ → Option ℕ → Slab Node → InMind → Space
 seen last root nodes in_mind = record { last = last; pieces = shown in_mind (pieces_of nodes root) }
 
 -- the nodes are one balanced tree with these pieces, at most 14 high, and there is room for 1,024
-pub record IsKept (root : Option ℕ) (nodes : Slab Node) (pieces : List Piece) : Type 0 where
+pub record IsTreeOf (root : Option ℕ) (nodes : Slab Node) (pieces : List Piece) : Type 0 where
   pub shape : Shape
   pub here : root ≡ root_of shape
   pub tree : IsTree (get nodes) (top_of shape) shape

@@ -7,7 +7,7 @@ ghost use Rattle.iova.specs.declared.beside.Ends.{Ends};
 ghost use Rattle.iova.specs.declared.piece.Piece.{Piece};
 ghost use Rattle.iova.specs.declared.piece.PageState.TheVariants.{Free};
 ghost use Rattle.iova.specs.Pieces.{IsOrdered};
-ghost use Rattle.iova.specs.Stored.{IsKept, pieces_of};
+ghost use Rattle.iova.specs.Stored.{IsTreeOf, pieces_of};
 ghost use Rattle.iova.specs.Tree.{IsBelow, Shape, items};
 ghost use Rattle.iova.specs.Way.{CanWalk, IsHeld};
 
@@ -57,7 +57,7 @@ pub(crate) fn longest_before(
     way: &[Step; MOST_HEIGHT],
     known: Known,
 ) -> u64
-    requires kept { IsKept root nodes.now (pieces_of nodes.now root) }
+    requires kept { IsTreeOf root nodes.now (pieces_of nodes.now root) }
     requires ordered { IsOrdered 1 (pieces_of nodes.now root) }
     requires held { IsHeld (get nodes.now) root way.now known.held known.pages }
     ensures { (p : Piece) → IsIn p (pieces_of nodes.now root) → p.state ≡ Free → p.first < known.pages.first

@@ -4,7 +4,7 @@ ghost use Rattle.std.specs.Prelude.{◌≡◌, ◌≢◌, List, ℕ, ◌+◌, �
 ghost use Rattle.slab.specs.Slab.{get};
 ghost use Rattle.iova.specs.Pieces.{IsOrdered, NoneFreeBelow, piece_of, with_piece};
 ghost use Rattle.iova.specs.Space.{IsFit, IsLowestFrom};
-ghost use Rattle.iova.specs.Stored.{IsInMind, IsKept, IsKnown, pieces_of};
+ghost use Rattle.iova.specs.Stored.{IsInMind, IsTreeOf, IsKnown, pieces_of};
 ghost use Rattle.iova.specs.Carved.{IsSought};
 ghost use Rattle.iova.specs.Search.{HasNoRoom, IsFound};
 ghost use Rattle.iova.specs.Tree.{IsBelow, Shape, items};
@@ -30,7 +30,7 @@ pub(crate) fn find_in_mind(
     in_mind: InMind,
     way: &mut [Step; MOST_HEIGHT],
 ) -> Option<Found>
-    requires kept { IsKept root nodes.now (pieces_of nodes.now root) }
+    requires kept { IsTreeOf root nodes.now (pieces_of nodes.now root) }
     requires ordered { IsOrdered 1 (pieces_of nodes.now root) }
     requires sought { IsSought sought }
     requires in_mind { IsInMind nodes.now root way.old in_mind }
@@ -73,7 +73,7 @@ fn find(
     sought: Sought,
     way: &mut [Step; MOST_HEIGHT],
 ) -> Option<Spot>
-    requires kept { IsKept root nodes.now (pieces_of nodes.now root) }
+    requires kept { IsTreeOf root nodes.now (pieces_of nodes.now root) }
     requires ordered { IsOrdered 1 (pieces_of nodes.now root) }
     requires sought { IsSought sought }
     ensures lowest { IfSome result (λ spot. IsLowestFrom sought.floor (pieces_of nodes.now root) sought.pages sought.unit spot.start) }
@@ -101,7 +101,7 @@ fn fit_from(
     sought: Sought,
     way: &mut [Step; MOST_HEIGHT],
 ) -> Option<u64>
-    requires kept { IsKept root nodes.now (pieces_of nodes.now root) }
+    requires kept { IsTreeOf root nodes.now (pieces_of nodes.now root) }
     requires ordered { IsOrdered 1 (pieces_of nodes.now root) }
     requires sought { IsSought sought }
     ensures lowest { IfSome result (IsLowestFrom sought.floor (pieces_of nodes.now root) sought.pages sought.unit) }

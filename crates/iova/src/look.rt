@@ -3,7 +3,7 @@
 ghost use Rattle.std.specs.Prelude.{◌≡◌, ◌≢◌, Some, IfSome, IfNone};
 ghost use Rattle.dmatypes.specs.World.{IsIn};
 ghost use Rattle.iova.specs.Pieces.{Holds, IsOrdered, state_at};
-ghost use Rattle.iova.specs.Stored.{IsKept, pieces_of};
+ghost use Rattle.iova.specs.Stored.{IsTreeOf, pieces_of};
 
 use crate::node::Node;
 use crate::piece::{PageState, Piece};
@@ -12,7 +12,7 @@ use slab::Slab;
 
 /// The state of the piece that a page lies in.
 pub(crate) fn state_of(nodes: &Slab<Node>, root: Option<usize>, page: u64) -> Option<PageState>
-    requires kept { IsKept root nodes.now (pieces_of nodes.now root) }
+    requires kept { IsTreeOf root nodes.now (pieces_of nodes.now root) }
     requires ordered { IsOrdered 1 (pieces_of nodes.now root) }
     ensures { result ≡ state_at (pieces_of nodes.now root) page }
 {
@@ -24,7 +24,7 @@ pub(crate) fn state_of(nodes: &Slab<Node>, root: Option<usize>, page: u64) -> Op
 
 /// The live piece that a page lies in.
 pub(crate) fn live_at(nodes: &Slab<Node>, root: Option<usize>, page: u64) -> Option<Piece>
-    requires kept { IsKept root nodes.now (pieces_of nodes.now root) }
+    requires kept { IsTreeOf root nodes.now (pieces_of nodes.now root) }
     requires ordered { IsOrdered 1 (pieces_of nodes.now root) }
     ensures live { IfSome result (λ piece. IsIn piece (pieces_of nodes.now root) × Holds piece page × (piece.state ≡ PageState.Live)) }
     ensures none { IfNone result (state_at (pieces_of nodes.now root) page ≢ Some PageState.Live) }

@@ -4,7 +4,7 @@ ghost use Rattle.std.specs.Prelude.{◌≡◌, ◌≢◌, List, None, Some, ℕ,
 ghost use Rattle.dmatypes.specs.World.{IsIn};
 ghost use Rattle.iova.specs.Pieces.{Holds, IsOrdered, NoneFreeBelow, free_start, state_at};
 ghost use Rattle.iova.specs.Space.{IsLowestFit, IsSpace};
-ghost use Rattle.iova.specs.Stored.{IsInMind, IsKept, TakesPlace, pieces_of, shown, stored, with_freed};
+ghost use Rattle.iova.specs.Stored.{IsInMind, IsTreeOf, TakesPlace, pieces_of, shown, stored, with_freed};
 ghost use Rattle.iova.specs.Way.{IsHeld};
 ghost use Rattle.slab.specs.Slab.{get};
 
@@ -27,11 +27,11 @@ fn write(
     way: &[Step; MOST_HEIGHT],
     known: Known,
 ) -> WithFree
-    requires kept { IsKept root nodes.old (pieces_of nodes.old root) }
+    requires kept { IsTreeOf root nodes.old (pieces_of nodes.old root) }
     requires space { (last : ℕ) × IsSpace (stored last root nodes.old) }
     requires low { NoneFreeBelow low (pieces_of nodes.old root) }
     requires in_mind { IsInMind nodes.old root way.now (InMind.Freed known) }
-    ensures kept { IsKept result.root nodes.new (shown (InMind.Freed known) (pieces_of nodes.old root)) }
+    ensures kept { IsTreeOf result.root nodes.new (shown (InMind.Freed known) (pieces_of nodes.old root)) }
     ensures low { NoneFreeBelow result.low (pieces_of nodes.new result.root) }
     ensures in_mind { IsInMind nodes.new result.root way.now result.in_mind }
     ensures shows { (pieces : List Piece) → shown result.in_mind pieces ≡ pieces }
@@ -49,12 +49,12 @@ pub(crate) fn put_freed(
     way: &[Step; MOST_HEIGHT],
     in_mind: &mut InMind,
 )
-    requires kept { IsKept root.old nodes.old (pieces_of nodes.old root.old) }
+    requires kept { IsTreeOf root.old nodes.old (pieces_of nodes.old root.old) }
     requires space { (last : ℕ) × IsSpace (stored last root.old nodes.old) }
     requires low { NoneFreeBelow low.old (pieces_of nodes.old root.old) }
     requires in_mind { IsInMind nodes.old root.old way.now in_mind.old }
     ensures pieces { pieces_of nodes.new root.new ≡ shown in_mind.old (pieces_of nodes.old root.old) }
-    ensures kept { IsKept root.new nodes.new (pieces_of nodes.new root.new) }
+    ensures kept { IsTreeOf root.new nodes.new (pieces_of nodes.new root.new) }
     ensures space { (last : ℕ) → IsSpace (stored last root.old nodes.old) → IsSpace (stored last root.new nodes.new) }
     ensures ordered { IsOrdered 1 (pieces_of nodes.new root.new) }
     ensures low { NoneFreeBelow low.new (pieces_of nodes.new root.new) }
@@ -90,7 +90,7 @@ fn low_of_first(
     known: Known,
     pages: u64,
 ) -> Option<u64>
-    requires kept { IsKept root nodes.now (pieces_of nodes.now root) }
+    requires kept { IsTreeOf root nodes.now (pieces_of nodes.now root) }
     requires space { (last : ℕ) × IsSpace (stored last root nodes.now) }
     requires low { NoneFreeBelow low (pieces_of nodes.now root) }
     requires in_mind { IsInMind nodes.now root way.now (InMind.Freed known) }
@@ -125,7 +125,7 @@ pub(crate) fn fit_freed(
     way: &[Step; MOST_HEIGHT],
     in_mind: InMind,
 ) -> Option<Fit>
-    requires kept { IsKept root nodes.now (pieces_of nodes.now root) }
+    requires kept { IsTreeOf root nodes.now (pieces_of nodes.now root) }
     requires space { (last : ℕ) × IsSpace (stored last root nodes.now) }
     requires low { NoneFreeBelow low (pieces_of nodes.now root) }
     requires some_pages { 1 ≤ pages }
@@ -175,7 +175,7 @@ pub(crate) fn state_of(
     in_mind: InMind,
     page: u64,
 ) -> Option<PageState>
-    requires kept { IsKept root nodes.now (pieces_of nodes.now root) }
+    requires kept { IsTreeOf root nodes.now (pieces_of nodes.now root) }
     requires space { (last : ℕ) × IsSpace (stored last root nodes.now) }
     requires in_mind { (way : List Step) × IsInMind nodes.now root way in_mind }
     ensures { result ≡ state_at (shown in_mind (pieces_of nodes.now root)) page }
@@ -193,7 +193,7 @@ pub(crate) fn live_at(
     in_mind: InMind,
     page: u64,
 ) -> Option<Piece>
-    requires kept { IsKept root nodes.now (pieces_of nodes.now root) }
+    requires kept { IsTreeOf root nodes.now (pieces_of nodes.now root) }
     requires space { (last : ℕ) × IsSpace (stored last root nodes.now) }
     requires in_mind { (way : List Step) × IsInMind nodes.now root way in_mind }
     ensures live { IfSome result (λ piece. IsIn piece (shown in_mind (pieces_of nodes.now root)) × Holds piece page
@@ -213,7 +213,7 @@ pub(crate) fn freed_ends(
     way: &[Step; MOST_HEIGHT],
     in_mind: InMind,
 ) -> Option<Ends>
-    requires kept { IsKept root nodes.now (pieces_of nodes.now root) }
+    requires kept { IsTreeOf root nodes.now (pieces_of nodes.now root) }
     requires space { (last : ℕ) × IsSpace (stored last root nodes.now) }
     requires in_mind { IsInMind nodes.now root way.now in_mind }
     ensures shown { shown in_mind (pieces_of nodes.now root) ≡ with_freed result (pieces_of nodes.now root) }
@@ -236,7 +236,7 @@ pub(crate) fn count(
     way: &[Step; MOST_HEIGHT],
     in_mind: InMind,
 ) -> usize
-    requires kept { IsKept root nodes.now (pieces_of nodes.now root) }
+    requires kept { IsTreeOf root nodes.now (pieces_of nodes.now root) }
     requires space { (last : ℕ) × IsSpace (stored last root nodes.now) }
     requires in_mind { IsInMind nodes.now root way.now in_mind }
     ensures { result ≡ length (shown in_mind (pieces_of nodes.now root)) }

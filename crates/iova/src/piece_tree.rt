@@ -33,13 +33,13 @@ pub(crate) struct PieceTree {
 impl Model for PieceTree {
     ghost use Rattle.iova.specs.Pieces.{NoneFreeBelow};
     ghost use Rattle.iova.specs.Space.{Space, IsSpace};
-    ghost use Rattle.iova.specs.Stored.{IsInMind, IsKept, pieces_of, seen, stored};
+    ghost use Rattle.iova.specs.Stored.{IsInMind, IsTreeOf, pieces_of, seen, stored};
 
     ghost Value = { Space };
 
     ghost view = { λ a. seen a.last a.root a.nodes a.in_mind };
 
-    ghost invariant = { λ a. IsKept a.root a.nodes (pieces_of a.nodes a.root) × IsSpace (stored a.last a.root a.nodes)
+    ghost invariant = { λ a. IsTreeOf a.root a.nodes (pieces_of a.nodes a.root) × IsSpace (stored a.last a.root a.nodes)
         × NoneFreeBelow a.low (pieces_of a.nodes a.root) × IsInMind a.nodes a.root a.way a.in_mind };
 }
 

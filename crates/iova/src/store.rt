@@ -6,7 +6,7 @@ ghost use Rattle.dmatypes.specs.World.{IsIn};
 ghost use Rattle.iova.specs.Pieces.{IsOrdered, NoneFreeBelow, free_end, free_start, freed};
 ghost use Rattle.iova.specs.Pieces.{with_free, with_piece};
 ghost use Rattle.iova.specs.Space.{new_space};
-ghost use Rattle.iova.specs.Stored.{IsInMind, IsKept, pieces_of, shown};
+ghost use Rattle.iova.specs.Stored.{IsInMind, IsTreeOf, pieces_of, shown};
 ghost use Rattle.iova.specs.Tree.{IsPiece};
 ghost use Rattle.iova.specs.Way.{EndsAbove, IsHeld, LeadsTo, held_above, pages_as};
 
@@ -28,11 +28,11 @@ const ABOVE_WINDOW: u64 = WINDOW_LAST + 1;
 
 /// Puts a piece over those that are there, and answers the root.
 pub(crate) fn store(nodes: &mut Slab<Node>, root: Option<usize>, piece: Piece) -> Option<usize>
-    requires kept { IsKept root nodes.old (pieces_of nodes.old root) }
+    requires kept { IsTreeOf root nodes.old (pieces_of nodes.old root) }
     requires ordered { IsOrdered 1 (pieces_of nodes.old root) }
     requires few { length (with_piece piece (pieces_of nodes.old root)) ≤ MOST_PIECES }
     requires piece { IsPiece piece }
-    ensures { IsKept result nodes.new (with_piece piece (pieces_of nodes.old root)) }
+    ensures { IsTreeOf result nodes.new (with_piece piece (pieces_of nodes.old root)) }
 {
     put(nodes, root, &piece)
 }
@@ -46,12 +46,12 @@ pub(crate) fn store_by(
     way: &mut [Step; MOST_HEIGHT],
     place: Place,
 ) -> Option<usize>
-    requires kept { IsKept root nodes.old (pieces_of nodes.old root) }
+    requires kept { IsTreeOf root nodes.old (pieces_of nodes.old root) }
     requires ordered { IsOrdered 1 (pieces_of nodes.old root) }
     requires few { length (with_piece piece (pieces_of nodes.old root)) ≤ MOST_PIECES }
     requires piece { IsPiece piece }
     requires place { LeadsTo (get nodes.old) root piece way.old place }
-    ensures { IsKept result nodes.new (with_piece piece (pieces_of nodes.old root)) }
+    ensures { IsTreeOf result nodes.new (with_piece piece (pieces_of nodes.old root)) }
 {
     put_by(nodes, root, &piece, way, place)
 }
@@ -64,12 +64,12 @@ pub(crate) fn store_known(
     way: &mut [Step; MOST_HEIGHT],
     in_mind: InMind,
 ) -> Option<usize>
-    requires kept { IsKept root nodes.old (pieces_of nodes.old root) }
+    requires kept { IsTreeOf root nodes.old (pieces_of nodes.old root) }
     requires ordered { IsOrdered 1 (pieces_of nodes.old root) }
     requires few { length (with_piece piece (pieces_of nodes.old root)) ≤ MOST_PIECES }
     requires piece { IsPiece piece }
     requires in_mind { IsInMind nodes.old root way.old in_mind }
-    ensures { IsKept result nodes.new (with_piece piece (pieces_of nodes.old root)) }
+    ensures { IsTreeOf result nodes.new (with_piece piece (pieces_of nodes.old root)) }
 {
     let place = match in_mind {
         InMind::Open(known) if known.pages.first <= piece.first && piece.last <= known.pages.last =>
@@ -93,12 +93,12 @@ pub(crate) fn store_held(
     way: &[Step; MOST_HEIGHT],
     held: Held,
 ) -> Option<usize>
-    requires kept { IsKept root nodes.old (pieces_of nodes.old root) }
+    requires kept { IsTreeOf root nodes.old (pieces_of nodes.old root) }
     requires ordered { IsOrdered 1 (pieces_of nodes.old root) }
     requires few { length (with_piece piece (pieces_of nodes.old root)) ≤ MOST_PIECES }
     requires piece { IsPiece piece }
     requires held { (pages : Ends) × IsHeld (get nodes.old) root way.now held pages × (pages_as pages piece.state ≡ piece) }
-    ensures kept { IsKept result nodes.new (with_piece piece (pieces_of nodes.old root)) }
+    ensures kept { IsTreeOf result nodes.new (with_piece piece (pieces_of nodes.old root)) }
     ensures held { (pages : Ends) → IsHeld (get nodes.old) root way.now held pages → IsHeld (get nodes.new) result way.now held pages }
 {
     put_whole(nodes, root, &piece, way, held);
@@ -114,13 +114,13 @@ fn store_over_leaf(
     way: &[Step; MOST_HEIGHT],
     held: Held,
 )
-    requires kept { IsKept root nodes.old (pieces_of nodes.old root) }
+    requires kept { IsTreeOf root nodes.old (pieces_of nodes.old root) }
     requires ordered { IsOrdered 1 (pieces_of nodes.old root) }
     requires few { length (with_piece piece (pieces_of nodes.old root)) ≤ MOST_PIECES }
     requires piece { IsPiece piece }
     requires held { (pages : Ends) × IsHeld (get nodes.old) root way.now held pages × (piece.first ≡ pages.first) }
     requires above { EndsAbove (get nodes.old) way.now held.depth piece.last }
-    ensures kept { IsKept root nodes.new (with_piece piece (pieces_of nodes.old root)) }
+    ensures kept { IsTreeOf root nodes.new (with_piece piece (pieces_of nodes.old root)) }
     ensures held { (pages : Ends) → piece.first ≡ pages.first → piece.last ≡ pages.last
         → IsHeld (get nodes.new) root way.now (held_above way.now held) pages }
 {
@@ -136,12 +136,12 @@ pub(crate) fn retire(
     way: &[Step; MOST_HEIGHT],
     in_mind: InMind,
 ) -> Option<usize>
-    requires kept { IsKept root nodes.old (pieces_of nodes.old root) }
+    requires kept { IsTreeOf root nodes.old (pieces_of nodes.old root) }
     requires ordered { IsOrdered 1 (pieces_of nodes.old root) }
     requires few { length (with_piece piece (pieces_of nodes.old root)) ≤ MOST_PIECES }
     requires piece { IsPiece piece }
     requires in_mind { IsInMind nodes.old root way.now in_mind }
-    ensures { IsKept result nodes.new (with_piece piece (pieces_of nodes.old root)) }
+    ensures { IsTreeOf result nodes.new (with_piece piece (pieces_of nodes.old root)) }
 {
     if let InMind::Judged(known) = in_mind {
         if known.pages.first == piece.first && known.pages.last == piece.last {
@@ -180,13 +180,13 @@ fn set_free(
     way: &[Step; MOST_HEIGHT],
     held: Held,
 ) -> SetFree
-    requires kept { IsKept root nodes.old (pieces_of nodes.old root) }
+    requires kept { IsTreeOf root nodes.old (pieces_of nodes.old root) }
     requires ordered { IsOrdered 1 (pieces_of nodes.old root) }
     requires few { length (with_free (pages_as pages PageState.Free) (pieces_of nodes.old root)) ≤ MOST_PIECES }
     requires piece { IsPiece (freed (pages_as pages PageState.Free) (pieces_of nodes.old root)) }
     requires held { IsHeld (get nodes.old) root way.now held pages }
     requires low { NoneFreeBelow low (pieces_of nodes.old root) }
-    ensures kept { IsKept result.root nodes.new (with_free (pages_as pages PageState.Free) (pieces_of nodes.old root)) }
+    ensures kept { IsTreeOf result.root nodes.new (with_free (pages_as pages PageState.Free) (pieces_of nodes.old root)) }
     ensures low { NoneFreeBelow result.low (pieces_of nodes.new result.root) }
     ensures lowest { IsTrue result.is_lowest → result.is_above ≡ false
         → IsInMind nodes.new result.root way.now (InMind.Lowest (record { pages = pages; held = held })) }
@@ -242,13 +242,13 @@ pub(crate) fn free(
     way: &[Step; MOST_HEIGHT],
     held: Held,
 ) -> WithFree
-    requires kept { IsKept root nodes.old (pieces_of nodes.old root) }
+    requires kept { IsTreeOf root nodes.old (pieces_of nodes.old root) }
     requires ordered { IsOrdered 1 (pieces_of nodes.old root) }
     requires few { length (with_free (pages_as pages PageState.Free) (pieces_of nodes.old root)) ≤ MOST_PIECES }
     requires piece { IsPiece (freed (pages_as pages PageState.Free) (pieces_of nodes.old root)) }
     requires held { IsHeld (get nodes.old) root way.now held pages }
     requires low { NoneFreeBelow low (pieces_of nodes.old root) }
-    ensures kept { IsKept result.root nodes.new (with_free (pages_as pages PageState.Free) (pieces_of nodes.old root)) }
+    ensures kept { IsTreeOf result.root nodes.new (with_free (pages_as pages PageState.Free) (pieces_of nodes.old root)) }
     ensures low { NoneFreeBelow result.low (pieces_of nodes.new result.root) }
     ensures in_mind { IsInMind nodes.new result.root way.now result.in_mind }
     ensures shows { (pieces : List Piece) → shown result.in_mind pieces ≡ pieces }
@@ -292,7 +292,7 @@ pub(crate) fn hold(
     pages: Ends,
     way: &mut [Step; MOST_HEIGHT],
 ) -> Held
-    requires kept { IsKept root nodes.now (pieces_of nodes.now root) }
+    requires kept { IsTreeOf root nodes.now (pieces_of nodes.now root) }
     requires ordered { IsOrdered 1 (pieces_of nodes.now root) }
     requires piece { (state : PageState) × IsIn (pages_as pages state) (pieces_of nodes.now root) }
     ensures { IsHeld (get nodes.now) root way.new result pages }
@@ -311,7 +311,7 @@ pub(crate) fn hold_live(
     pages: Ends,
     way: &mut [Step; MOST_HEIGHT],
 ) -> Option<Held>
-    requires kept { IsKept root nodes.now (pieces_of nodes.now root) }
+    requires kept { IsTreeOf root nodes.now (pieces_of nodes.now root) }
     requires ordered { IsOrdered 1 (pieces_of nodes.now root) }
     ensures held { IfSome result (λ held. IsHeld (get nodes.now) root way.new held pages) }
     ensures live { IfSome result (λ held. IsIn (pages_as pages PageState.Live) (pieces_of nodes.now root)) }
@@ -331,7 +331,7 @@ pub(crate) fn fill(nodes: &mut Slab<Node>, last: u64) -> Option<usize>
     requires room { MOST_PIECES ≤ nodes.old.capacity }
     requires some { 1 ≤ last }
     requires narrow { last < PAGES_END }
-    ensures { IsKept result nodes.new (new_space last).pieces }
+    ensures { IsTreeOf result nodes.new (new_space last).pieces }
 {
     let low = Piece {
         first: 1,
@@ -360,7 +360,7 @@ pub(crate) fn with_free_ends(
     held: Held,
     pages: Ends,
 ) -> Ends
-    requires kept { IsKept root nodes.now (pieces_of nodes.now root) }
+    requires kept { IsTreeOf root nodes.now (pieces_of nodes.now root) }
     requires ordered { IsOrdered 1 (pieces_of nodes.now root) }
     requires held { IsHeld (get nodes.now) root way.now held pages }
     ensures first { result.first ≡ free_start (pieces_of nodes.now root) pages.first }
@@ -371,7 +371,7 @@ pub(crate) fn with_free_ends(
 
 /// The same for any pages, to which no way leads.
 pub(crate) fn with_free_around(nodes: &Slab<Node>, root: Option<usize>, pages: Ends) -> Ends
-    requires kept { IsKept root nodes.now (pieces_of nodes.now root) }
+    requires kept { IsTreeOf root nodes.now (pieces_of nodes.now root) }
     requires ordered { IsOrdered 1 (pieces_of nodes.now root) }
     requires some { pages.first ≤ pages.last }
     requires narrow { pages.last < NUMBERS_END }

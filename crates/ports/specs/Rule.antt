@@ -102,7 +102,7 @@ module _ (legal : List Event → Type 0) (lawful : List Event → ℕ → ℕ �
   -- The steps of ports, passes and the desk have led here, and no others. The row words are those of the run, and so is what callers
   -- have seen, what each of them did, and what the desk last stored at each place. The counter is the length of the desk's history,
   -- which is legal. Every row word is 0 or the one that the desk last stored there, and every one of these is lawful after the history
-  pub record IsKept (passes : ℕ) (s : Table) : Type 0 where
+  pub record FollowsRule (passes : ℕ) (s : Table) : Type 0 where
     pub truth : Truth
     pub reached : IsReached passes truth
     pub wide : length s.words ≡ WORDS

@@ -31,9 +31,9 @@ pub(crate) struct Law;
 impl TableRule<(), View, Size> for Law {
     ghost use Rattle.dmatypes.specs.History.{IsLegal};
     ghost use Rattle.ports.specs.Lawful.{IsLawfulAfter};
-    ghost use Rattle.ports.specs.Rule.{IsKept, made_desk};
+    ghost use Rattle.ports.specs.Rule.{FollowsRule, made_desk};
 
-    ghost holds = { λ size s. IsKept (IsLegal size.frames) (IsLawfulAfter size.frames) size.passes s };
+    ghost holds = { λ size s. FollowsRule (IsLegal size.frames) (IsLawfulAfter size.frames) size.passes s };
 
     ghost first = { λ size. made_desk size.frames 0 };
 }

@@ -14,7 +14,7 @@ use crate::leaves::MarkedLeaves;
 use crate::lists::remember;
 use crate::lookups::{first_context, is_absent, lowest_table};
 use crate::recent::LEAVES;
-use crate::walking::{NON_LEAVES, Way, walk};
+use crate::walking::{NON_LEAVES, WalkRequest, walk};
 use arrayvec::ArrayVec;
 use dmatypes::{
     DEVICES, Frame, MOST_CACHED_CONTEXTS, MOST_CACHED_FAULTS, MOST_LEVELS, PAGES_END, Whim,
@@ -130,13 +130,13 @@ pub(crate) fn translation_of(
         }
     }
     let (level, table) = start_of(tables, context, page, whim.look);
-    let way = Way {
+    let asked = WalkRequest {
         domain,
         page,
         fill: whim.fill,
         is_lowest: whim.look,
     };
-    let Some(leaf) = walk(pool, tables, way, level, table) else {
+    let Some(leaf) = walk(pool, tables, asked, level, table) else {
         let fault = CachedFault { domain, page };
         remember(faults, fault, whim.fill && caching, whim.look);
         return None;

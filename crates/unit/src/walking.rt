@@ -23,7 +23,7 @@ pub(crate) const NON_LEAVES: usize = MOST_CACHED_NON_LEAVES;
 /// What a walk is for: a page of a domain, whether what it passes is remembered, and whether it begins below each remembered
 /// table of the domain that covers the page, as after a look. Then what it passes isn't remembered yet.
 #[derive(Clone, Copy)]
-pub(crate) struct Way {
+pub(crate) struct WalkRequest {
     pub(crate) domain: DomainId,
     pub(crate) page: u64,
     pub(crate) fill: bool,
@@ -34,26 +34,27 @@ pub(crate) struct Way {
 pub(crate) fn walk(
     pool: &Pool,
     passed: &mut ArrayVec<CachedNonLeaf, NON_LEAVES>,
-    way: Way,
+    asked: WalkRequest,
     level: u64,
     table: Frame,
 ) -> Option<CachedLeaf>
-    requires page { way.page < PAGES_END }
+    requires page { asked.page < PAGES_END }
     requires low { 1 ≤ level }
     requires high { level ≤ MOST_LEVELS }
-    requires lowest { IsTrue way.is_lowest → IsLowest passed.old.items way.domain way.page level }
-    ensures leaf { result ≡ met way.domain way.page (leaf_from (memory pool.now.words) level table way.page) }
-    ensures passed { Gains way.fill (IsPassed (memory pool.now.words) level table way.domain way.page) passed.old.items passed.new.items }
+    requires lowest { IsTrue asked.is_lowest → IsLowest passed.old.items asked.domain asked.page level }
+    ensures leaf { result ≡ met asked.domain asked.page (leaf_from (memory pool.now.words) level table asked.page) }
+    ensures passed { Gains asked.fill (IsPassed (memory pool.now.words) level table asked.domain asked.page) passed.old.items
+        passed.new.items }
     ensures few { length passed.old.items ≤ NON_LEAVES → length passed.new.items ≤ NON_LEAVES }
 {
-    match read_entry(pool, level, table, index_of(level, way.page)) {
+    match read_entry(pool, level, table, index_of(level, asked.page)) {
         SsEntry::Absent => None,
         SsEntry::Table(below) => {
-            let table = CachedNonLeaf::new(way.domain, way.page, level - 1, below);
-            remember(passed, table, way.fill, way.is_lowest);
-            walk(pool, passed, way, level - 1, below)
+            let table = CachedNonLeaf::new(asked.domain, asked.page, level - 1, below);
+            remember(passed, table, asked.fill, asked.is_lowest);
+            walk(pool, passed, asked, level - 1, below)
         }
-        SsEntry::Leaf(leaf) => Some(CachedLeaf::small(way.domain, way.page, leaf)),
-        SsEntry::LargeLeaf(leaf) => Some(CachedLeaf::large(way.domain, way.page, leaf)),
+        SsEntry::Leaf(leaf) => Some(CachedLeaf::small(asked.domain, asked.page, leaf)),
+        SsEntry::LargeLeaf(leaf) => Some(CachedLeaf::large(asked.domain, asked.page, leaf)),
     }
 }

@@ -11,13 +11,13 @@ use Rattle.iova.specs.Pieces.{IsOrdered, state_at, part_above, with_piece}
 use Rattle.iova.specs.Space.{new_space}
 use Rattle.iova.specs.Search.{piece_at}
 use Rattle.iova.specs.Tree.{Empty}
-use Rattle.iova.specs.Stored.{pieces_of, IsKept}
+use Rattle.iova.specs.Stored.{pieces_of, IsTreeOf}
 use Rattle.iova.proofs.Pieces.{order, state-nil, state-here, state-under, state-past, part_below-nil, part_below-keep, part_above-nil}
 use Rattle.iova.proofs.Pieces.{part_above-skip}
 use Rattle.iova.proofs.searches.Found.{at-nil, at-here, at-under, at-past}
 use Rattle.iova.proofs.shapes.Tall.{kept_view}
 
-pub kept_none : (nodes : Slab Node) → nodes.slots ≡ [] → 1024 ≤ nodes.capacity → IsKept None nodes []
+pub kept_none : (nodes : Slab Node) → nodes.slots ≡ [] → 1024 ≤ nodes.capacity → IsTreeOf None nodes []
 kept_none nodes e r = record {
   shape = Empty;
   here = refl;
@@ -63,8 +63,8 @@ state_is (p ∷ ps) page =
 none_view : (nodes : Slab Node) → nodes.slots ≡ [] → 1024 ≤ nodes.capacity → pieces_of nodes None ≡ []
 none_view nodes e r = kept_view None nodes [] (kept_none nodes e r)
 
-pub empty_kept : (nodes : Slab Node) → nodes.slots ≡ [] → 1024 ≤ nodes.capacity → IsKept None nodes (pieces_of nodes None)
-empty_kept nodes e r = subst (λ l. IsKept None nodes l) (sym (none_view nodes e r)) (kept_none nodes e r)
+pub empty_kept : (nodes : Slab Node) → nodes.slots ≡ [] → 1024 ≤ nodes.capacity → IsTreeOf None nodes (pieces_of nodes None)
+empty_kept nodes e r = subst (λ l. IsTreeOf None nodes l) (sym (none_view nodes e r)) (kept_none nodes e r)
 
 pub empty_ordered : (nodes : Slab Node) → nodes.slots ≡ [] → 1024 ≤ nodes.capacity → IsOrdered 1 (pieces_of nodes None)
 empty_ordered nodes e r = subst (λ l. IsOrdered 1 l) (sym (none_view nodes e r)) tt
@@ -77,22 +77,22 @@ pub empty_few : (nodes : Slab Node) (p : Piece) → nodes.slots ≡ [] → 1024 
 empty_few nodes p e r = let f = ap (λ (l : List Piece). length l) (with_first nodes p e r) in omega arith
 
 pub first_stored : (nodes mid : Slab Node) (root : Option ℕ) (p : Piece) → nodes.slots ≡ [] → 1024 ≤ nodes.capacity
-    → IsKept root mid (with_piece p (pieces_of nodes None)) → IsKept root mid (p ∷ [])
-first_stored nodes mid root p e r k = subst (λ l. IsKept root mid l) (with_first nodes p e r) k
+    → IsTreeOf root mid (with_piece p (pieces_of nodes None)) → IsTreeOf root mid (p ∷ [])
+first_stored nodes mid root p e r k = subst (λ l. IsTreeOf root mid l) (with_first nodes p e r) k
 
-pub one_ordered : (mid : Slab Node) (root : Option ℕ) (q : Piece) → 1 ≤ q.first → q.first ≤ q.last → IsKept root mid (q ∷ [])
+pub one_ordered : (mid : Slab Node) (root : Option ℕ) (q : Piece) → 1 ≤ q.first → q.first ≤ q.last → IsTreeOf root mid (q ∷ [])
     → IsOrdered 1 (pieces_of mid root)
 one_ordered mid root q a b k = subst (λ l. IsOrdered 1 l) (sym (kept_view root mid (q ∷ []) k)) (a, b, (λ h. h), tt)
 
-with_second : (mid : Slab Node) (root : Option ℕ) (q p : Piece) → q.last < p.first → p.first ≤ p.last → IsKept root mid (q ∷ [])
+with_second : (mid : Slab Node) (root : Option ℕ) (q p : Piece) → q.last < p.first → p.first ≤ p.last → IsTreeOf root mid (q ∷ [])
     → with_piece p (pieces_of mid root) ≡ q ∷ p ∷ []
 with_second mid root q p a b k = ap (λ l. with_piece p l) (kept_view root mid (q ∷ []) k) ∙ with_one p q a b
 
-pub one_few : (mid : Slab Node) (root : Option ℕ) (q p : Piece) → q.last < p.first → p.first ≤ p.last → IsKept root mid (q ∷ [])
+pub one_few : (mid : Slab Node) (root : Option ℕ) (q p : Piece) → q.last < p.first → p.first ≤ p.last → IsTreeOf root mid (q ∷ [])
     → length (with_piece p (pieces_of mid root)) ≤ 1024
 one_few mid root q p a b k = let f = ap (λ (l : List Piece). length l) (with_second mid root q p a b k) in omega arith
 
-pub second_stored : (mid new : Slab Node) (root now : Option ℕ) (q p : Piece) → q.last < p.first → p.first ≤ p.last → IsKept root mid (q
+pub second_stored : (mid new : Slab Node) (root now : Option ℕ) (q p : Piece) → q.last < p.first → p.first ≤ p.last → IsTreeOf root mid (q
     ∷ [])
-    → IsKept now new (with_piece p (pieces_of mid root)) → IsKept now new (q ∷ p ∷ [])
-second_stored mid new root now q p a b k n = subst (λ l. IsKept now new l) (with_second mid root q p a b k) n
+    → IsTreeOf now new (with_piece p (pieces_of mid root)) → IsTreeOf now new (q ∷ p ∷ [])
+second_stored mid new root now q p a b k n = subst (λ l. IsTreeOf now new l) (with_second mid root q p a b k) n

@@ -9,7 +9,7 @@ use Rattle.iova.specs.declared.node.Node.{Node}
 use Rattle.iova.specs.declared.way.Held.{Held}
 use Rattle.iova.specs.declared.way.Step.{Step}
 use Rattle.iova.specs.Pieces.{AllIn, IsOrdered, piece_of, with_piece}
-use Rattle.iova.specs.Stored.{IsKept, IsKnown, pieces_of}
+use Rattle.iova.specs.Stored.{IsTreeOf, IsKnown, pieces_of}
 use Rattle.iova.specs.Tree.{items}
 use Rattle.iova.specs.Way.{Above, Whole, Before, Behind, IsHeld, LeadsTo, among}
 use Rattle.iova.proofs.Among.{in_append_cases, in_append_left, in_append_right, in_le, in_one, put_piece}
@@ -21,7 +21,7 @@ use Rattle.iova.proofs.searches.Found.{empty_items, passes}
 use Rattle.iova.proofs.searches.Holding.{held_piece, kept_low}
 use Rattle.iova.proofs.shapes.Ways.{plug-items}
 
-module _ (root : Option ℕ) (nodes : Slab Node) (pieces : List Piece) (k : IsKept root nodes pieces) (o : IsOrdered 1 pieces)
+module _ (root : Option ℕ) (nodes : Slab Node) (pieces : List Piece) (k : IsTreeOf root nodes pieces) (o : IsOrdered 1 pieces)
     (way : List Step) (held : Held) (n : Node) (p : Piece)
     (lead : LeadsTo (get nodes) root p way (record { at = Some held.key; depth = held.depth })) (here : get nodes held.key ≡ Some n) where
   -- where a way leads to a place for a piece, it leads to the piece that is there
@@ -79,7 +79,7 @@ in_among (Behind key p l up) q xs ys f m =
       | inr x ↦ in_append_right q (items l) (p ∷ ys) (elim x [ inl e ↦ inl e | inr y ↦ inr (f y) ])
     ]) m
 
-module _ (root : Option ℕ) (nodes : Slab Node) (k : IsKept root nodes (pieces_of nodes root)) (o : IsOrdered 1 (pieces_of nodes root))
+module _ (root : Option ℕ) (nodes : Slab Node) (k : IsTreeOf root nodes (pieces_of nodes root)) (o : IsOrdered 1 (pieces_of nodes root))
     (way : List Step) (range : Range) (some : 1 ≤ range.pages) (free : AllIn Free range (pieces_of nodes root)) where
   abbrev ps : List Piece
   ps = pieces_of nodes root

@@ -16,14 +16,14 @@ use Rattle.iova.specs.declared.way.Step.{Step}
 use Rattle.iova.specs.declared.node.TheConstants.{NUMBERS_END}
 use Rattle.iova.specs.Pieces.{IsOrdered, NoneFreeBelow, piece_of}
 use Rattle.iova.specs.Space.{CutsPiece, MayRetire}
-use Rattle.iova.specs.Stored.{IsInMind, IsKept, IsKnown, pieces_of}
+use Rattle.iova.specs.Stored.{IsInMind, IsTreeOf, IsKnown, pieces_of}
 use Rattle.iova.specs.Way.{CanWalk, IsLowBelow, IsHeld, pages_as}
 use Rattle.iova.proofs.Among.{in_le, in_one, in_state}
 use Rattle.iova.proofs.searches.CutAt.{items_fine}
 use Rattle.iova.proofs.searches.Seeking.{held_in}
 use Rattle.iova.proofs.shapes.Tall.{kept_below}
 
-module _ (root : Option ℕ) (nodes : Slab Node) (pieces : List Piece) (k : IsKept root nodes pieces) (o : IsOrdered 1 pieces) where
+module _ (root : Option ℕ) (nodes : Slab Node) (pieces : List Piece) (k : IsTreeOf root nodes pieces) (o : IsOrdered 1 pieces) where
   pub kept_low : IsLowBelow (get nodes) root k.shape 1
   kept_low = record { below = kept_below root nodes pieces k o; low = k.height }
 

@@ -8,7 +8,7 @@ use Rattle.iova.specs.declared.node.Top.{Top}
 use Rattle.iova.specs.Pieces.{IsOrdered, with_piece}
 use Rattle.iova.specs.Tree.{Look, Shape, Empty, Fork, items, height_of, IsBalanced, AreNodes, IsBelow}
 use Rattle.iova.specs.Tree.{IsPiece, CanPut, CanSearch, Leaves, root_of, at_root}
-use Rattle.iova.specs.Stored.{around, contents, pieces_of, IsKept}
+use Rattle.iova.specs.Stored.{around, contents, pieces_of, IsTreeOf}
 use Rattle.iova.proofs.Pieces.{order}
 
 -- the fewest nodes of a balanced tree so high
@@ -54,21 +54,21 @@ contents_is look (suc depth) root (Fork k p l r) e n h =
     ∙ ap (λ ys. items l ++ p ∷ ys) (contents_is look depth (root_of r) r refl n.2 (omega arith))
 
 -- what is kept is what is seen
-pub kept_view : (root : Option ℕ) (nodes : Slab Node) (pieces : List Piece) → IsKept root nodes pieces → pieces_of nodes root ≡ pieces
+pub kept_view : (root : Option ℕ) (nodes : Slab Node) (pieces : List Piece) → IsTreeOf root nodes pieces → pieces_of nodes root ≡ pieces
 kept_view root nodes pieces k = contents_is (get nodes) 14 root k.shape k.here k.tree.nodes k.height ∙ k.all
 
-pub kept_below : (root : Option ℕ) (nodes : Slab Node) (pieces : List Piece) (k : IsKept root nodes pieces) → IsOrdered 1 pieces
+pub kept_below : (root : Option ℕ) (nodes : Slab Node) (pieces : List Piece) (k : IsTreeOf root nodes pieces) → IsOrdered 1 pieces
     → IsBelow (get nodes) root k.shape 1
 kept_below root nodes pieces k o = record {
   here = k.here;
   whole = record { tree = k.tree; once = k.once; low = omega (arith, k.height); ordered = subst (λ l. IsOrdered 1 l) (sym k.all) o };
 }
 
-pub kept_can : (root : Option ℕ) (nodes : Slab Node) (pieces : List Piece) → IsKept root nodes pieces → IsOrdered 1 pieces
+pub kept_can : (root : Option ℕ) (nodes : Slab Node) (pieces : List Piece) → IsTreeOf root nodes pieces → IsOrdered 1 pieces
     → CanSearch nodes root
 kept_can root nodes pieces k o = (k.shape, 1, kept_below root nodes pieces k o)
 
-pub kept_put : (root : Option ℕ) (nodes : Slab Node) (pieces : List Piece) (p : Piece) → IsKept root nodes pieces → IsOrdered 1 pieces
+pub kept_put : (root : Option ℕ) (nodes : Slab Node) (pieces : List Piece) (p : Piece) → IsTreeOf root nodes pieces → IsOrdered 1 pieces
     → length (with_piece p pieces) ≤ 1024 → IsPiece p → CanPut nodes root p
 kept_put root nodes pieces p k o few i = (
   k.shape,
@@ -79,9 +79,9 @@ kept_put root nodes pieces p k o few i = (
   i,
 )
 
-pub kept_done : (root now : Option ℕ) (old new : Slab Node) (pieces : List Piece) (p : Piece) (more : ℕ) (k : IsKept root old pieces)
+pub kept_done : (root now : Option ℕ) (old new : Slab Node) (pieces : List Piece) (p : Piece) (more : ℕ) (k : IsTreeOf root old pieces)
     → length (with_piece p pieces) ≤ 1024 → Leaves old new now k.shape (with_piece p (items k.shape)) more
-    → IsKept now new (with_piece p pieces)
+    → IsTreeOf now new (with_piece p pieces)
 kept_done root now old new pieces p more k few v =
     let m = v.makes in
     let e : items m.shape ≡ with_piece p pieces = m.all ∙ ap (λ l. with_piece p l) k.all in
@@ -99,10 +99,10 @@ kept_done root now old new pieces p more k few v =
       all = e;
     }
 
-pub kept_self : (root : Option ℕ) (nodes : Slab Node) (pieces : List Piece) → IsKept root nodes pieces
-    → IsKept root nodes (pieces_of nodes root)
-kept_self root nodes pieces k = subst (λ l. IsKept root nodes l) (sym (kept_view root nodes pieces k)) k
+pub kept_self : (root : Option ℕ) (nodes : Slab Node) (pieces : List Piece) → IsTreeOf root nodes pieces
+    → IsTreeOf root nodes (pieces_of nodes root)
+kept_self root nodes pieces k = subst (λ l. IsTreeOf root nodes l) (sym (kept_view root nodes pieces k)) k
 
-pub kept_at : (root : Option ℕ) (nodes : Slab Node) (pieces : List Piece) (key : ℕ) (k : IsKept root nodes pieces) → IsOrdered 1 pieces
+pub kept_at : (root : Option ℕ) (nodes : Slab Node) (pieces : List Piece) (key : ℕ) (k : IsTreeOf root nodes pieces) → IsOrdered 1 pieces
     → root ≡ Some key → IsBelow (get nodes) (Some key) k.shape 1
 kept_at root nodes pieces key k o e = subst (λ r. IsBelow (get nodes) r k.shape 1) e (kept_below root nodes pieces k o)

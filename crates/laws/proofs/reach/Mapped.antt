@@ -12,13 +12,14 @@ use Rattle.laws.specs.Events.{Drops, Gives, IsAttached, IsOfMode, Lasts, TakesAw
 use Rattle.laws.proofs.lists.Courses.{lasts_as, lasts_less}
 use Rattle.laws.proofs.reach.Reached.{IsReached, gives, reached_after}
 use Rattle.laws.proofs.worlds.Attached.{attached_by}
-use Rattle.laws.proofs.worlds.Kept.{IsKept, WasPut, kept_none, kept_step}
+use Rattle.laws.proofs.worlds.Kept.{IsExplained, WasPut, kept_none, kept_step}
 use Rattle.laws.proofs.worlds.Modes.{mode_after}
 use Rattle.laws.proofs.worlds.Runs.{carried, legal_front}
 
-kept_after : (frames : ℕ) (history : List Event) (d p : ℕ) → IsLegal frames history → IsKept d p history ((after frames history).domains d)
+kept_after : (frames : ℕ) (history : List Event) (d p : ℕ) → IsLegal frames history
+    → IsExplained d p history ((after frames history).domains d)
 kept_after frames history d p legal =
-    carried (λ es w. IsKept d p es (w.domains d)) (kept_step d p) [] (empty frames) history
+    carried (λ es w. IsExplained d p es (w.domains d)) (kept_step d p) [] (empty frames) history
     (kept_none d p [] None (λ v t none live. absurd cc) (λ v t none retired. absurd cc)) legal
 
 -- a domain without records has no page in one
@@ -42,7 +43,7 @@ reaches_mapped frames before rest device address access whim host legal = (r.id,
     attached : IsAttached device r.id before
     attached = attached_by frames before device r.id legal_before r.attached
 
-    kept : IsKept r.id (page_of address) before ((after frames before).domains r.id)
+    kept : IsExplained r.id (page_of address) before ((after frames before).domains r.id)
     kept = kept_after frames before r.id (page_of address) legal_before
 
     put : Lasts (Gives r.id address access host) (Drops r.id) before

@@ -12,11 +12,11 @@ use Rattle.laws.specs.Events.{Drops, Gives, IsAttached, Occurs, TakesAway, reach
 use Rattle.laws.proofs.lists.Courses.{lasts_occurs, occurs_as}
 use Rattle.laws.proofs.reach.Reached.{IsReached, gives, reached_after}
 use Rattle.laws.proofs.worlds.Attached.{attached_after}
-use Rattle.laws.proofs.worlds.Kept.{IsKept, WasPut}
+use Rattle.laws.proofs.worlds.Kept.{IsExplained, WasPut}
 use Rattle.laws.proofs.worlds.Runs.{after_from-append, legal_front}
 
 given : (d address : ℕ) (access : Access) (host : ℕ) (w : World) (device : ℕ) (between : List Event)
-    (r : IsReached w device address access host) → r.id ≡ d → IsKept d (page_of address) between (w.domains d)
+    (r : IsReached w device address access host) → r.id ≡ d → IsExplained d (page_of address) between (w.domains d)
     → Occurs (Gives d address access host) between
 given d address access host w device between r same kept =
     let there : w.domains d ≡ Some r.domain = ap w.domains (sym same) ∙ r.there in
@@ -33,7 +33,7 @@ given d address access host w device between r same kept =
 pub given_since : (frames : ℕ) (before between rest : List Event) (e : Event) (d device address : ℕ) (access : Access) (whim : Whim)
     (host : ℕ) → IsLegal frames ((before ++ e ∷ between) ++ reaching device address access whim host ∷ rest)
     → IsAttached device d (before ++ e ∷ between)
-    → IsKept d (page_of address) between ((after_from (next (after frames before) e.call e.reply) between).domains d)
+    → IsExplained d (page_of address) between ((after_from (next (after frames before) e.call e.reply) between).domains d)
     → Occurs (Gives d address access host) between
 given_since frames before between rest e d device address access whim host legal attached kept =
     let history = before ++ e ∷ between in
@@ -41,5 +41,5 @@ given_since frames before between rest e d device address access whim host legal
     let legal_before = legal_front (empty frames) history (reaching device address access whim host ∷ rest) legal in
     let same : r.id ≡ d = same_Some r.id d (sym r.attached ∙ attached_after frames history device d legal_before attached) in
     given d address access host (after frames history) device between r same
-    (subst (λ (w : World). IsKept d (page_of address) between (w.domains d))
+    (subst (λ (w : World). IsExplained d (page_of address) between (w.domains d))
     (sym (after_from-append (empty frames) before (e ∷ between))) kept)

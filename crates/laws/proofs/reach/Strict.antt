@@ -12,7 +12,7 @@ use Rattle.dmatypes.specs.History.{after, IsLegal}
 use Rattle.laws.specs.Events.{Gives, IsAttached, IsOfMode, Occurs, Unmaps, reaching}
 use Rattle.laws.proofs.reach.Mapped.{bare_none}
 use Rattle.laws.proofs.reach.Since.{given_since}
-use Rattle.laws.proofs.worlds.Kept.{IsKept, kept_none, kept_step}
+use Rattle.laws.proofs.worlds.Kept.{IsExplained, kept_none, kept_step}
 use Rattle.laws.proofs.worlds.Live.{unmapped_live, without_here}
 use Rattle.laws.proofs.worlds.Modes.{IsOf, mode_after, unmapped_bare}
 use Rattle.laws.proofs.worlds.Runs.{carried, legal_from, legal_front}
@@ -25,14 +25,14 @@ not_live v range p t within live =
 
 -- after a strict unmap its pages are neither live nor in a record
 pub kept_strict : (w : World) (e : Event) (d p : ℕ) → IsStep w e.call e.reply → Unmaps d p e → IsOf modes.Strict (w.domains d)
-    → IsKept d p [] ((next w e.call e.reply).domains d)
+    → IsExplained d p [] ((next w e.call e.reply).domains d)
 kept_strict w e d p step u mode =
     let by = unmap_step w e d p step u in
     let same : mode.domain ≡ by.0 = same_Some mode.domain by.0 (sym mode.there ∙ by.1) in
     let strict : by.0.mode ≡ modes.Strict = ap (λ (v : Domain). v.mode) (sym same) ∙ mode.is in
     let bare : (unmapped_by by.0.mode (range_at u.0 u.1) by.0).retired ≡ [] =
     unmapped_bare by.0.mode (range_at u.0 u.1) by.0 strict ∙ ap (λ (v : Domain). v.retired) (sym same) ∙ mode.bare refl in
-    subst (IsKept d p []) (sym by.3)
+    subst (IsExplained d p []) (sym by.3)
     (kept_none d p [] (Some (unmapped_by by.0.mode (range_at u.0 u.1) by.0))
     (λ v t at live.
     not_live by.0 (range_at u.0 u.1) p t u.4 (ap (λ (x : Domain). x.live p) (same_Some _ v at) ∙ live))
@@ -53,5 +53,5 @@ strict_ends frames before between rest unmap domain device address access whim h
     legal_front (empty frames) before (unmap ∷ between) (legal_front (empty frames) (before ++ unmap ∷ between) dma legal) in
     let first = kept_strict w unmap domain p from.0 unmaps (mode_after frames before modes.Strict domain legal_before strict) in
     given_since frames before between rest unmap domain device address access whim host legal attached
-    (carried (λ es x. IsKept domain p es (x.domains domain)) (kept_step domain p) [] (next w unmap.call unmap.reply) between first
+    (carried (λ es x. IsExplained domain p es (x.domains domain)) (kept_step domain p) [] (next w unmap.call unmap.reply) between first
     (legal_front (next w unmap.call unmap.reply) between dma from.1))

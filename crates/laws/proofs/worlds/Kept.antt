@@ -30,7 +30,7 @@ use Rattle.laws.proofs.worlds.Turns.{Turn, named_by, turn}
 abbrev pub WasPut : ℕ → ℕ → Target → Event → Type 0
 WasPut d p t e = MapsTo d p t.frame t.rights e
 
-pub record IsKept (d p : ℕ) (es : List Event) (o : Option Domain) : Type 0 where
+pub record IsExplained (d p : ℕ) (es : List Event) (o : Option Domain) : Type 0 where
   pub live : (v : Domain) (t : Target) → o ≡ Some v → v.live p ≡ Some t → Lasts (WasPut d p t) (TakesAway d p) es
   pub retired : (v : Domain) (t : Target) → o ≡ Some v → IsRetired v p t → Lasts (WasPut d p t) (Drops d) es
 
@@ -64,9 +64,9 @@ not_taken_by_map d p e ss rights address of = elim (maps_kind d ss rights addres
 
 -- a domain that has no page live and none in a record that it hadn't before, at an event that doesn't take the page away
 kept_less : (d p : ℕ) (es : List Event) (e : Event) (o : Option Domain) (v : Domain) (new : Option Domain) (u : Domain)
-    → IsKept d p es o → o ≡ Some v → new ≡ Some u → (TakesAway d p e → ⊥)
+    → IsExplained d p es o → o ≡ Some v → new ≡ Some u → (TakesAway d p e → ⊥)
     → ((t : Target) → u.live p ≡ Some t → v.live p ≡ Some t) → ((t : Target) → IsRetired u p t → IsRetired v p t)
-    → IsKept d p (es ++ e ∷ []) new
+    → IsExplained d p (es ++ e ∷ []) new
 kept_less d p es e o v new u old there is keeps lives retires = record {
   live = λ x t at live.
       let same : u ≡ x = same_Some u x (sym is ∙ at) in
@@ -81,8 +81,8 @@ kept_less d p es e o v new u old there is keeps lives retires = record {
 -- ---- maps
 
 kept_mapped : (d p : ℕ) (es : List Event) (e : Event) (o : Option Domain) (v : Domain) (ss : List Segment) (rights address : ℕ)
-    → IsKept d p es o → o ≡ Some v → MapsAll d ss rights address e
-    → IsKept d p (es ++ e ∷ []) (Some (mapped ss (page_of address) rights v))
+    → IsExplained d p es o → o ≡ Some v → MapsAll d ss rights address e
+    → IsExplained d p (es ++ e ∷ []) (Some (mapped ss (page_of address) rights v))
 kept_mapped d p es e o v ss rights address old there of = record {
   live = λ x t at live.
       let same : mapped ss (page_of address) rights v ≡ x = same_Some _ x at in
@@ -130,8 +130,8 @@ unmapped_retired modes.Lazy range v p t h =
     ]
 
 kept_unmapped : (d p : ℕ) (es : List Event) (e : Event) (o : Option Domain) (v : Domain) (mode : Mode) (range : Range)
-    → IsKept d p es o → o ≡ Some v → (Drops d e → ⊥) → (Unmaps d p e → IsWithin range p)
-    → IsKept d p (es ++ e ∷ []) (Some (unmapped_by mode range v))
+    → IsExplained d p es o → o ≡ Some v → (Drops d e → ⊥) → (Unmaps d p e → IsWithin range p)
+    → IsExplained d p (es ++ e ∷ []) (Some (unmapped_by mode range v))
 kept_unmapped d p es e o v mode range old there stays within = record {
   live = λ x t at live.
       let same : unmapped_by mode range v ≡ x = same_Some _ x at in
@@ -171,8 +171,8 @@ within_of : (d p address pages released : ℕ) (e : Event) → e ≡ event (call
 unfolding range_in
 within_of d p address pages released e of u = subst (λ (r : Range). IsWithin r p) (ap range_in (sym u.3 ∙ of)) u.4
 
-kept_turn : (w : World) (d p : ℕ) (es : List Event) (e : Event) (new : Option Domain) → IsKept d p es (w.domains d) → Turn w d e new
-    → IsKept d p (es ++ e ∷ []) new
+kept_turn : (w : World) (d p : ℕ) (es : List Event) (e : Event) (new : Option Domain) → IsExplained d p es (w.domains d) → Turn w d e new
+    → IsExplained d p (es ++ e ∷ []) new
 kept_turn w d p es e new old (Turn.stays same unnamed) = record {
   live = λ v t at live.
       lasts_still (WasPut d p t) (TakesAway d p) es e (λ takes. unnamed (takes_named d p e takes)) (old.live v t (sym same ∙ at) live);
@@ -190,9 +190,9 @@ kept_turn w d p es e new old (Turn.dropped none of) = record {
   retired = λ v t at retired. absurd (let both : None ≡ Some v = sym none ∙ at in cc);
 }
 kept_turn w d p es e new old (Turn.maps v ss rights address there free is of) =
-    subst (IsKept d p (es ++ e ∷ [])) (sym is) (kept_mapped d p es e (w.domains d) v ss rights address old there of)
+    subst (IsExplained d p (es ++ e ∷ [])) (sym is) (kept_mapped d p es e (w.domains d) v ss rights address old there of)
 kept_turn w d p es e new old (Turn.unmaps v address pages released there answer is of) =
-    subst (IsKept d p (es ++ e ∷ [])) (sym is)
+    subst (IsExplained d p (es ++ e ∷ [])) (sym is)
     (kept_unmapped d p es e (w.domains d) v v.mode (range_at address pages) old there
     (λ drops. let both : Kind.unmaps ≡ Kind.drops = ap kind (sym of ∙ drops) in cc) (within_of d p address pages released e of))
 kept_turn w d p es e new old (Turn.flushes v released there is of) =
@@ -206,13 +206,13 @@ kept_turn w d p es e new old (Turn.reaps v number there is of) =
     (λ t live. live)
     (λ t r. (r.0, (in_filter (λ (x : Retired). not (is_before number x)) r.0 v.retired r.1).0, r.2, r.3))
 
-pub kept_step : (d p : ℕ) (es : List Event) (w : World) (e : Event) → IsKept d p es (w.domains d) → IsStep w e.call e.reply
-    → IsKept d p (es ++ e ∷ []) ((next w e.call e.reply).domains d)
+pub kept_step : (d p : ℕ) (es : List Event) (w : World) (e : Event) → IsExplained d p es (w.domains d) → IsStep w e.call e.reply
+    → IsExplained d p (es ++ e ∷ []) ((next w e.call e.reply).domains d)
 kept_step d p es w e old step = kept_turn w d p es e ((next w e.call e.reply).domains d) old (turn w e.call e.reply d step)
 
 -- where the page is neither live nor in a record
 pub kept_none : (d p : ℕ) (es : List Event) (o : Option Domain) → ((v : Domain) (t : Target) → o ≡ Some v → v.live p ≡ Some t → ⊥)
-    → ((v : Domain) (t : Target) → o ≡ Some v → IsRetired v p t → ⊥) → IsKept d p es o
+    → ((v : Domain) (t : Target) → o ≡ Some v → IsRetired v p t → ⊥) → IsExplained d p es o
 kept_none d p es o live retired = record {
   live = λ v t at is. absurd (live v t at is);
   retired = λ v t at is. absurd (retired v t at is);

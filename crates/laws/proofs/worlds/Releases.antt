@@ -22,7 +22,7 @@ use Rattle.laws.proofs.lists.Kinds.{Kind, kind}
 use Rattle.laws.proofs.lists.Options.{in_either, in_last}
 use Rattle.laws.proofs.worlds.Apart.{IsApart, was_live}
 use Rattle.laws.proofs.worlds.Held.{HasNone, Holds, holds_begun, holds_mapped, holds_reaped, none_flushed, none_reaped, unmapped_held}
-use Rattle.laws.proofs.worlds.Kept.{IsKept, kept_none, kept_step, maps_kind, room_retired}
+use Rattle.laws.proofs.worlds.Kept.{IsExplained, kept_none, kept_step, maps_kind, room_retired}
 use Rattle.laws.proofs.worlds.Live.{without_here}
 use Rattle.laws.proofs.worlds.Modes.{IsOf}
 use Rattle.laws.proofs.worlds.Tickets.{IsBegun, begin_step, opened, reap_open, room_begun}
@@ -37,7 +37,7 @@ pub record IsHeld (d p mark : ℕ) (es : List Event) (w : World) : Type 0 where
   pub unreleased : IsReleased d es → ⊥
 
 abbrev pub IsHeldOrReleased : ℕ → ℕ → ℕ → List Event → World → Type 0
-IsHeldOrReleased d p mark es w = IsHeld d p mark es w ⊎ (IsReleased d es × IsKept d p es (w.domains d))
+IsHeldOrReleased d p mark es w = IsHeld d p mark es w ⊎ (IsReleased d es × IsExplained d p es (w.domains d))
 
 -- ---- one event more
 
@@ -99,7 +99,7 @@ held_more d p mark es w e u old step is holds all ends = record {
   unreleased = unreleased_more d es e old.unreleased all ends;
 }
 
-kept_of : (d p : ℕ) (es : List Event) (new : Option Domain) (u : Domain) → new ≡ Some u → HasNone p u → IsKept d p es new
+kept_of : (d p : ℕ) (es : List Event) (new : Option Domain) (u : Domain) → new ≡ Some u → HasNone p u → IsExplained d p es new
 kept_of d p es new u is none =
     kept_none d p es new
     (λ v t at live.

@@ -13,7 +13,7 @@ use Rattle.ports.specs.declared.known.Known.{Known}
 use Rattle.ports.specs.declared.known.View.{View}
 use Rattle.ports.specs.declared.known.OwnStep.{OwnStep}
 use Rattle.ports.specs.Steps.{PortStep, loads_word, loads_counter, counter, place_of, seen_by, own_steps, Core, IsSeenInRun, led_to}
-use Rattle.ports.specs.Rule.{caller_view, with_guest, Fits, Table, Sat, IsKept, IsReached, Counted, Looked, Hosted}
+use Rattle.ports.specs.Rule.{caller_view, with_guest, Fits, Table, Sat, FollowsRule, IsReached, Counted, Looked, Hosted}
 use Rattle.ports.proofs.lists.Fronts.{prefix_self}
 use Rattle.ports.proofs.runs.OwnSteps.{IsOwn, loaded_word, loaded_counter, own_more, own_same, stores_same}
 use Rattle.ports.proofs.runs.Reaching.{reached_more}
@@ -24,7 +24,7 @@ use Rattle.ports.proofs.steps.Views.{named_as, caller_fits, desk_fits_as, others
 module _ (legal : List Event → Type 0) (lawful : List Event → ℕ → ℕ → Type 0) (none_legal : legal [])
     (zeros : (log : List Event) (device : ℕ) → lawful log device 0) (passes : ℕ) where
   abbrev K : Table → Type 0
-  K s = IsKept legal lawful passes s
+  K s = FollowsRule legal lawful passes s
 
   -- a word is loaded, by which the caller p sees the history
   loads : (s : Table) (r : K s) (i id p : ℕ) (one : PortStep) (step : OwnStep) (c : List (ℕ × Unit {0})) (w : View) → i < WORDS

@@ -11,7 +11,8 @@ use Rattle.dmatypes.specs.declared.reply.Event.{Event}
 use Rattle.ports.specs.declared.known.Known.{Known}
 use Rattle.ports.specs.declared.known.View.{View}
 use Rattle.ports.specs.Steps.{empty, own_steps, place_of, seen_by}
-use Rattle.ports.specs.Rule.{nobody, newcomer, left_seat, caller_view, made_desk, with_guest, one_more, Truth, IsNamed, Fits, Table, IsKept}
+use Rattle.ports.specs.Rule.{nobody, newcomer, left_seat, caller_view, made_desk, with_guest, one_more, Truth, IsNamed, Fits, Table}
+use Rattle.ports.specs.Rule.{FollowsRule}
 use Rattle.ports.proofs.lists.Fronts.{prefix_self, prefix_nil}
 use Rattle.ports.proofs.steps.Views.{Stays, nobody_named, named_as, named_stays, caller_fits, left_seat_fits, desk_fits, desk_fits_as}
 use Rattle.dmatypes.specs.declared.limits.TheConstants.{DEVICES}
@@ -21,7 +22,7 @@ use Rattle.ports.proofs.steps.Views.{desk_else, others, snoc_fits, placing, plac
 module _ (legal : List Event → Type 0) (lawful : List Event → ℕ → ℕ → Type 0) (none_legal : legal [])
     (zeros : (log : List Event) (device : ℕ) → lawful log device 0) (passes : ℕ) where
   abbrev K : Table → Type 0
-  K s = IsKept legal lawful passes s
+  K s = FollowsRule legal lawful passes s
 
   -- views change, and who sits where
   shown : (s : Table) (r : K s) (p : ℕ) (x : ℕ × Bool) (views : List View)

@@ -14,7 +14,7 @@ use Rattle.ports.specs.declared.known.OwnStep.TheVariants.{Stored}
 use Rattle.ports.specs.declared.known.Known.{Known}
 use Rattle.ports.specs.declared.known.View.{View}
 use Rattle.ports.specs.Steps.{PortStep, empties_word, stores_word, adds_event, counter, place_of, own_steps, AreLawful}
-use Rattle.ports.specs.Rule.{caller_view, desk_view, Truth, Fits, Table, Sat, IsKept, IsReached, Emptied, Filled, Appended}
+use Rattle.ports.specs.Rule.{caller_view, desk_view, Truth, Fits, Table, Sat, FollowsRule, IsReached, Emptied, Filled, Appended}
 use Rattle.ports.proofs.lists.Fronts.{prefix_self, prefix_trans}
 use Rattle.ports.proofs.runs.OwnSteps.{emptied_word, own_more, own_same, stores_more, stores_same}
 use Rattle.ports.proofs.runs.Reaching.{reached_more, with_step}
@@ -25,7 +25,7 @@ use Rattle.ports.proofs.steps.Views.{Stays, apart, caller_fits, desk_fits_as, fi
 module _ (legal : List Event → Type 0) (lawful : List Event → ℕ → ℕ → Type 0) (none_legal : legal [])
     (zeros : (log : List Event) (device : ℕ) → lawful log device 0) (passes : ℕ) where
   abbrev K : Table → Type 0
-  K s = IsKept legal lawful passes s
+  K s = FollowsRule legal lawful passes s
 
   -- the word at a place becomes n, which is 0 or the last word that the desk stored there
   stores : (s : Table) (r : K s) (device slot n id : ℕ) (c : List (ℕ × Unit {0})) (w : View) (last : List ℕ) (steps : List PortStep)

@@ -5,14 +5,14 @@ use Rattle.atomic_table.specs.Table.{step, Allows}
 use Rattle.dmatypes.specs.History.{IsLegal}
 use Rattle.ports.specs.Lawful.{IsLawfulAfter}
 use Rattle.ports.specs.Steps.{counter, place_of}
-use Rattle.ports.specs.Rule.{Sat, Table, IsKept, Counted, Looked}
+use Rattle.ports.specs.Rule.{Sat, Table, FollowsRule, Counted, Looked}
 use Rattle.ports.proofs.histories.LawfulWords.{legal_empty, lawful_zero}
 use Rattle.dmatypes.specs.declared.limits.TheConstants.{DEVICES}
 use Rattle.ports.specs.declared.rule.TheConstants.{SLOTS}
 use Rattle.ports.proofs.steps.Loads.{counts, looks}
 
 abbrev Holds : ℕ → ℕ → Table → Type 0
-Holds frames passes s = IsKept (IsLegal frames) (IsLawfulAfter frames) passes s
+Holds frames passes s = FollowsRule (IsLegal frames) (IsLawfulAfter frames) passes s
 
 pub counted : (frames passes slots id : ℕ) (me : Sat) (p : ℕ) → me.0.frames ≡ frames → me.0.mine.who ≡ suc p
     → Allows (Holds frames passes) slots id me counter (λ n. n)

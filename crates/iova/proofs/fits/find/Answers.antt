@@ -11,7 +11,7 @@ use Rattle.iova.specs.declared.way.Spot.{Spot}
 use Rattle.iova.specs.Pieces.{AllIn, IsOrdered}
 use Rattle.iova.specs.Search.{IsFound, HasNoRoom}
 use Rattle.iova.specs.Space.{IsFit, IsLowestFrom}
-use Rattle.iova.specs.Stored.{IsKept, pieces_of}
+use Rattle.iova.specs.Stored.{IsTreeOf, pieces_of}
 use Rattle.iova.proofs.LowestFree.{holding_all}
 use Rattle.iova.proofs.searches.CutAt.{items_fine, no_fit}
 use Rattle.iova.proofs.searches.Found.{found_lowest}
@@ -34,7 +34,7 @@ none None pages unit ps o pos g f =
 none (Some s) pages unit ps o pos g f = tt
 
 -- the numbers of free pages are below the end of the numbers
-narrow : (root : Option ℕ) (nodes : Slab Node) (range : Range) → IsKept root nodes (pieces_of nodes root)
+narrow : (root : Option ℕ) (nodes : Slab Node) (range : Range) → IsTreeOf root nodes (pieces_of nodes root)
     → IsOrdered 1 (pieces_of nodes root) → 1 ≤ range.pages → AllIn Free range (pieces_of nodes root)
     → range.first + range.pages ≤ NUMBERS_END
 narrow root nodes range k o some free =

@@ -1,7 +1,7 @@
 use Rattle.std.proofs.Common.{ℕ, arith, subst, sym, ap, [], ◌∷◌, ◌∙◌}
 use Rattle.iova.specs.declared.piece.Piece.{Piece}
 use Rattle.iova.specs.declared.piece.PageState.TheVariants.{Free}
-use Rattle.iova.specs.Stored.{IsKept}
+use Rattle.iova.specs.Stored.{IsTreeOf}
 use Rattle.iova.proofs.shapes.Tall.{kept_self}
 use Rattle.iova.proofs.parts.Filled.{empty_kept, empty_ordered, empty_few, first_stored, one_ordered}
 use Rattle.iova.proofs.parts.Filled.{one_few, second_stored, new-one, new-two}
@@ -24,7 +24,7 @@ store-root-requires-clause-few c = empty_few c.args.nodes.now (low c.min.result)
 
 pub returns-then-last-lt-ABOVE_WINDOW : goal.returns-then-last-lt-ABOVE_WINDOW
 returns-then-last-lt-ABOVE_WINDOW c =
-    subst (λ l. IsKept c.store-root.result c.store-root.new.nodes l)
+    subst (λ l. IsTreeOf c.store-root.result c.store-root.new.nodes l)
     (ap (λ n. low n ∷ []) c.min.ensures ∙ sym (new-one c.args.last c.if-last-lt-ABOVE_WINDOW.true))
     (first_stored c.args.nodes.now c.store-root.new.nodes c.store-root.result (low c.min.result) c.requires.empty c.requires.room
     c.store-root.ensures)
@@ -49,7 +49,7 @@ store-requires-clause-few c =
 
 pub returns : goal.returns
 returns c =
-    subst (λ l. IsKept c.store.result c.store.new.nodes l) (ap (λ n. low n ∷ high c.args.last ∷ []) c.min.ensures
+    subst (λ l. IsTreeOf c.store.result c.store.new.nodes l) (ap (λ n. low n ∷ high c.args.last ∷ []) c.min.ensures
     ∙ sym (new-two c.args.last c.if-last-lt-ABOVE_WINDOW.false))
     (second_stored c.store-root.new.nodes c.store.new.nodes c.store-root.result c.store.result (low c.min.result) (high c.args.last)
     (omega (arith, c.min.ensures)) (omega arith)

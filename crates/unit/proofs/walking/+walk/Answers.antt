@@ -20,26 +20,27 @@ pub returns-in-Absent-clause-leaf : goal.returns-in-Absent-clause-leaf
 returns-in-Absent-clause-leaf t c =
     let m = memory c.args.pool.now.words in
     let is = on_way _ _ _ _ _ _ c.index_of.ensures.exact c.in-Absent.ensures.is in
-    met_absent m c.args.way.domain c.args.table c.args.way.page c.args.level c.requires.low is
+    met_absent m c.args.asked.domain c.args.table c.args.asked.page c.args.level c.requires.low is
 
 pub returns-in-Table-clause-leaf : goal.returns-in-Table-clause-leaf
 returns-in-Table-clause-leaf t c =
     let m = memory c.args.pool.now.words in
     let is = on_way _ _ _ _ _ _ c.index_of.ensures.exact c.in-Table.ensures.is in
     c.walk.ensures.leaf
-    ∙ met_table m c.args.way.domain c.args.table c.args.way.page c.args.level c.requires.low c.in-Table.below is
+    ∙ met_table m c.args.asked.domain c.args.table c.args.asked.page c.args.level c.requires.low c.in-Table.below is
 
 pub returns-in-Table-clause-passed : goal.returns-in-Table-clause-passed
 returns-in-Table-clause-passed t c =
     let m = memory c.args.pool.now.words in
     let is = on_way _ _ _ _ _ _ c.index_of.ensures.exact c.in-Table.ensures.is in
     let deep : 2 ≤ c.args.level = omega (arith, c.in-Table.ensures.stands) in
-    gains_twice c.args.way.fill
-    (IsPassed m c.args.level c.args.table c.args.way.domain c.args.way.page)
+    gains_twice c.args.asked.fill
+    (IsPassed m c.args.level c.args.table c.args.asked.domain c.args.asked.page)
     (λ y. y ≡ c.new-table.result)
-    (IsPassed m (c.args.level - 1) c.in-Table.below c.args.way.domain c.args.way.page) _ _ _
-    (λ y e. passed_next m c.args.way.domain c.args.table c.args.way.page c.in-Table.below c.args.level deep is y (e ∙ c.new-table.ensures))
-    (passed_below m c.args.way.domain c.args.table c.args.way.page c.in-Table.below c.args.level deep is)
+    (IsPassed m (c.args.level - 1) c.in-Table.below c.args.asked.domain c.args.asked.page) _ _ _
+    (λ y e. passed_next m c.args.asked.domain c.args.table c.args.asked.page c.in-Table.below c.args.level deep is y
+    (e ∙ c.new-table.ensures))
+    (passed_below m c.args.asked.domain c.args.table c.args.asked.page c.in-Table.below c.args.level deep is)
     (gains_entry _ _ _ _ _ _ c.remember.ensures.items)
     c.walk.ensures.passed
 
@@ -48,7 +49,7 @@ returns-in-Leaf-clause-leaf t c =
     let m = memory c.args.pool.now.words in
     let is = on_way _ _ _ _ _ _ c.index_of.ensures.exact c.in-Leaf.ensures.is in
     ap (λ (l : CachedLeaf). Some l) c.small.ensures
-    ∙ met_small m c.args.way.domain c.args.table c.args.way.page c.args.level c.requires.low c.in-Leaf.leaf is
+    ∙ met_small m c.args.asked.domain c.args.table c.args.asked.page c.args.level c.requires.low c.in-Leaf.leaf is
     (omega (arith, c.in-Leaf.ensures.stands))
 
 pub returns-in-LargeLeaf-clause-leaf : goal.returns-in-LargeLeaf-clause-leaf
@@ -56,7 +57,7 @@ returns-in-LargeLeaf-clause-leaf t c =
     let m = memory c.args.pool.now.words in
     let is = on_way _ _ _ _ _ _ c.index_of.ensures.exact c.in-LargeLeaf.ensures.is in
     ap (λ (l : CachedLeaf). Some l) c.large.ensures
-    ∙ met_large m c.args.way.domain c.args.table c.args.way.page c.args.level c.requires.low c.in-LargeLeaf.leaf is
+    ∙ met_large m c.args.asked.domain c.args.table c.args.asked.page c.args.level c.requires.low c.in-LargeLeaf.leaf is
     (omega (arith, c.in-LargeLeaf.ensures.stands))
 
 pub remember-requires : goal.remember-requires
@@ -67,7 +68,8 @@ remember-requires t c =
         omega arith,
         λ lowest.
             new_outside _ c.new-table.result c.args.passed.now.items (λ y same. search rules) (λ there.
-            table_new c.args.way.domain c.args.way.page c.args.level c.in-Table.below c.args.passed.now.items deep (c.requires.lowest lowest)
+            table_new c.args.asked.domain c.args.asked.page c.args.level c.in-Table.below c.args.passed.now.items deep
+            (c.requires.lowest lowest)
             (subst (λ (i : CachedNonLeaf). IsIn i c.args.passed.now.items) c.new-table.ensures there)),
       ),
     )
@@ -83,8 +85,9 @@ walk-requires t c =
           (
             omega arith,
             λ lowest.
-                lowest_below c.args.way.domain c.args.way.page c.args.level c.in-Table.below c.args.passed.now.items deep (c.requires.lowest lowest)
-                c.args.way.fill c.new-table.result c.new-table.ensures c.remember.new.list.items
+                lowest_below c.args.asked.domain c.args.asked.page c.args.level c.in-Table.below c.args.passed.now.items deep
+                (c.requires.lowest lowest)
+                c.args.asked.fill c.new-table.result c.new-table.ensures c.remember.new.list.items
                 (gains_entry _ _ _ _ _ _ c.remember.ensures.items),
           ),
         ),
