@@ -20,8 +20,12 @@ use dmatypes::{Call, Event, Reply};
 use std::alloc::{AllocError, Global};
 use std::marker::{Model, PhantomData};
 use std::sync::{Mutex, MutexGuard, Wait};
+use std::thread::yield_now;
 
 mod debug;
+
+// How often the lock is asked for again before its thread sleeps.
+const TRIES: u32 = 1_000;
 
 /// A book under its lock.
 #[derive(Drop)]
@@ -151,12 +155,29 @@ impl<B: Owner> Manager<B> {
         })
     }
 
+    // The book, once the lock is free. A call takes less time than it takes to sleep and to be woken, and whoever sleeps is handed the
+    // lock, for which all others wait then: so it is asked for again for a while before that. Never inlined: beside an atomic step a
+    // caller's code would move the call in memory once more.
+    #[inline(never)]
+    fn book<R: Wait>(&self, rt: &R) -> MutexGuard<'_, Book<B>> {
+        if let Some(book) = self.book.try_lock() {
+            return book;
+        }
+        for _ in 0..TRIES {
+            yield_now();
+            if let Some(book) = self.book.try_lock() {
+                return book;
+            }
+        }
+        self.book.lock(rt)
+    }
+
     /// Waits for the lock. The book found there has kept all that a book keeps: its history is legal, and
     /// its state fits the world after it.
     pub fn lock<R: Wait>(&self, rt: &R) -> MutexGuard<'_, Book<B>>
         ensures { IsKept B.frames B.room B.mode B.most (mutex_guard_value result) }
     {
-        let guard = self.book.lock(rt);
+        let guard = self.book(rt);
         // What is under the lock has no value in contracts, but its type keeps this at every moment, and here says so.
         guard.keeps();
         guard
@@ -183,7 +204,7 @@ impl<B: Owner> Manager<B> {
         ensures number { IfOk result (λ r. (mine.new.calls ≤ r.0) × (r.0 ≤ B.most)) }
         ensures alone { B.shares ≡ 1 → MatchResult result (λ r. r.0 ≡ mine.new.calls) (λ _. B.most ≡ B.room → mine.new.calls ≡ B.room) }
     {
-        self.book.lock(rt).call(rows, mine, call)
+        self.book(rt).call(rows, mine, call)
     }
 
     /// Tells a port and a share one and the same history, under the lock.
@@ -194,7 +215,7 @@ impl<B: Owner> Manager<B> {
         ensures same { mine.new.seen ≡ port.new.seen }
         ensures legal { IsLegal B.frames mine.new.seen }
     {
-        self.book.lock(rt).check_in(rows, mine, port);
+        self.book(rt).check_in(rows, mine, port);
     }
 
     /// Hands on the events that are kept, under the lock: the end of the history that the share has then seen, from where the epoch's
@@ -214,7 +235,7 @@ impl<B: Owner> Manager<B> {
     {
         // They are dropped before the lock.
         epoch.clear();
-        self.book.lock(rt).hand_on(rows, mine, epoch);
+        self.book(rt).hand_on(rows, mine, epoch);
     }
 
     /// Hands the history out to whoever has all shares; with fewer, the manager and the shares come back.
