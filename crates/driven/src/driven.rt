@@ -31,7 +31,8 @@ use std::marker::Model;
 /// call does what the state's call of the same name does, and `detach_all` two of them. None takes memory.
 #[derive(Drop)]
 pub struct Driven {
-    state: State,
+    // In a place of its own, since it is large and whoever has a driven state moves it.
+    state: Box<State>,
     effects: Effects,
     noted: Noted,
     tells: bool,
@@ -42,7 +43,7 @@ impl Model for Driven {
 
     ghost Value = { Driven };
 
-    ghost view = { λ d. record { state = d.state; effects = d.effects.items; tells = d.tells } };
+    ghost view = { λ d. record { state = d.state.value; effects = d.effects.items; tells = d.tells } };
 }
 
 impl Driven {
@@ -70,8 +71,6 @@ impl Driven {
         Driven::made(alloc, frames, caching, false)
     }
 
-    // Never inlined: the room on the stack in which the state is moved is given back when it returns.
-    #[inline(never)]
     fn made(alloc: Global, frames: u64, caching: bool, tells: bool) -> Result<Driven, AllocError>
         requires some { LEAST_TABLE_FRAMES ≤ frames }
         requires few { frames ≤ MOST_TABLE_FRAMES }
@@ -81,7 +80,7 @@ impl Driven {
         ensures tells { IfOk result (λ d. d.tells ≡ tells) }
     {
         Ok(Driven {
-            state: State::with_caching(alloc, frames, caching)?,
+            state: new_state(alloc, frames, caching)?,
             effects: Effects::new(),
             noted: Noted::new(),
             tells,
@@ -125,8 +124,9 @@ impl Driven {
         ensures effects { AreEffects self.old.state (calls.Domain mode width) (made_reply result) self.new.state self.new.effects }
     {
         self.effects.clear();
-        self.state.keeps();
-        self.state.domain(mode, width)
+        let state: &mut State = &mut self.state;
+        state.keeps();
+        state.domain(mode, width)
     }
 
     /// Detaches a device, as `State::detach` does.
@@ -137,7 +137,8 @@ impl Driven {
         ensures effects { AreEffects self.old.state (calls.Detach device) (done_reply result) self.new.state self.new.effects }
     {
         self.effects.clear();
-        tell_detach(&mut self.effects, &mut self.state, device)
+        let state: &mut State = &mut self.state;
+        tell_detach(&mut self.effects, state, device)
     }
 
     /// Detaches a device and then flushes the domain that it had, as Linux does: until then a unit that finds translations by their device
@@ -150,11 +151,12 @@ impl Driven {
         ensures tells { self.new.tells ≡ self.old.tells }
     {
         self.effects.clear();
-        let domain = self.state.domain_of(device);
-        self.state.keeps();
-        tell_detach(&mut self.effects, &mut self.state, device)?;
+        let state: &mut State = &mut self.state;
+        let domain = state.domain_of(device);
+        state.keeps();
+        tell_detach(&mut self.effects, state, device)?;
         // What is detached had a domain, and that is there still: so the flush is never refused.
-        tell_flush(&mut self.effects, &mut self.state, domain.unwrap())
+        tell_flush(&mut self.effects, state, domain.unwrap())
     }
 
     /// Releases a domain's records, as `State::flush` does.
@@ -165,7 +167,8 @@ impl Driven {
         ensures effects { AreEffects self.old.state (calls.Flush domain) (flushed_reply result) self.new.state self.new.effects }
     {
         self.effects.clear();
-        tell_flush(&mut self.effects, &mut self.state, domain)
+        let state: &mut State = &mut self.state;
+        tell_flush(&mut self.effects, state, domain)
     }
 
     /// Attaches a device, as `State::attach` does.
@@ -176,8 +179,9 @@ impl Driven {
         ensures effects { AreEffects self.old.state (calls.Attach device domain) (done_reply result) self.new.state self.new.effects }
     {
         self.effects.clear();
-        self.state.keeps();
-        self.state.attach(device, domain)?;
+        let state: &mut State = &mut self.state;
+        state.keeps();
+        state.attach(device, domain)?;
         self.effects.push(Effect::Context { device });
         self.effects.push(Effect::Barrier);
         Ok(())
@@ -191,10 +195,11 @@ impl Driven {
         ensures effects { AreEffects self.old.state (calls.Begin domain) (begun_reply domain result) self.new.state self.new.effects }
     {
         self.effects.clear();
-        self.state.keeps();
-        let waits = self.state.waits();
-        let number = self.state.begin(domain)?;
-        send(&mut self.effects, &self.state, waits, false);
+        let state: &mut State = &mut self.state;
+        state.keeps();
+        let waits = state.waits();
+        let number = state.begin(domain)?;
+        send(&mut self.effects, state, waits, false);
         Ok(number)
     }
 
@@ -206,8 +211,9 @@ impl Driven {
         ensures effects { AreEffects self.old.state (calls.Reap domain number) (reaped_reply result) self.new.state self.new.effects }
     {
         self.effects.clear();
-        self.state.keeps();
-        self.state.reap(domain, number)
+        let state: &mut State = &mut self.state;
+        state.keeps();
+        state.reap(domain, number)
     }
 
     /// Does the oldest descriptor that waits, as `State::unit_step` does: once the unit has done it.
@@ -218,8 +224,9 @@ impl Driven {
         ensures effects { AreEffects self.old.state calls.Unit (Stepped result) self.new.state self.new.effects }
     {
         self.effects.clear();
-        self.state.keeps();
-        self.state.unit_step()
+        let state: &mut State = &mut self.state;
+        state.keeps();
+        state.unit_step()
     }
 
     /// A device's request at a byte address, made of the state's own unit as by `State::dma`: the host byte address with the frame and the
@@ -239,8 +246,9 @@ impl Driven {
             self.new.state self.new.effects }
     {
         self.effects.clear();
-        self.state.keeps();
-        self.state.dma(device, address, access, whim)
+        let state: &mut State = &mut self.state;
+        state.keeps();
+        state.dma(device, address, access, whim)
     }
 
     /// The entry at a place of one of the caches of the state's own unit is forgotten, if there is one, as by `State::evict`. It asks
@@ -252,8 +260,9 @@ impl Driven {
         ensures effects { AreEffects self.old.state (calls.Evict kind place) Done self.new.state self.new.effects }
     {
         self.effects.clear();
-        self.state.keeps();
-        self.state.evict(kind, place);
+        let state: &mut State = &mut self.state;
+        state.keeps();
+        state.evict(kind, place);
     }
 
     /// Ends a domain, as `State::drop_domain` does. All table frames are brought once its descriptor is done.
@@ -264,11 +273,12 @@ impl Driven {
         ensures effects { AreEffects self.old.state (calls.Drop domain) (done_reply result) self.new.state self.new.effects }
     {
         self.effects.clear();
-        self.state.keeps();
-        let waits = self.state.waits();
-        self.state.drop_domain(domain)?;
-        send(&mut self.effects, &self.state, waits, true);
-        bring_frames(&mut self.effects, &self.state);
+        let state: &mut State = &mut self.state;
+        state.keeps();
+        let waits = state.waits();
+        state.drop_domain(domain)?;
+        send(&mut self.effects, state, waits, true);
+        bring_frames(&mut self.effects, state);
         Ok(())
     }
 
@@ -288,18 +298,38 @@ impl Driven {
             → AreEffects self.old.state (calls.Map domain frame pages order rights) (mapped_reply result)
             self.new.state self.new.effects }
     {
-        self.state.keeps();
+        if self.tells {
+            return self.map_and_tell(domain, frame, pages, order, rights);
+        }
+        self.state.map(domain, frame, pages, order, rights)
+    }
+
+    // Never inlined, as the two below: who tells nothing only asks whether to.
+    #[inline(never)]
+    fn map_and_tell(
+        &mut self,
+        domain: u64,
+        frame: u64,
+        pages: u64,
+        order: u64,
+        rights: u64,
+    ) -> Result<u64, Refusal>
+        requires { self.old.state.calls < CALLS_END }
+        ensures does { Does self.old.state (calls.Map domain frame pages order rights) (mapped_reply result) self.new.state }
+        ensures tells { self.new.tells ≡ self.old.tells }
+        ensures effects { AreEffects self.old.state (calls.Map domain frame pages order rights) (mapped_reply result)
+            self.new.state self.new.effects }
+    {
         let Driven {
             state,
             effects,
             noted,
-            tells,
+            ..
         } = self;
-        note_map(effects, noted, state, domain, *tells);
+        let state: &mut State = state;
+        state.keeps();
+        note_map(effects, noted, state, domain);
         let address = state.map(domain, frame, pages, order, rights)?;
-        if !*tells {
-            return Ok(address);
-        }
         tell_map(effects, noted, state, domain, address / PAGE_BYTES, pages);
         Ok(address)
     }
@@ -319,18 +349,36 @@ impl Driven {
             → AreEffects self.old.state (calls.MapList domain order rights segments.now) (mapped_reply result)
             self.new.state self.new.effects }
     {
-        self.state.keeps();
+        if self.tells {
+            return self.map_list_and_tell(domain, order, rights, segments);
+        }
+        self.state.map_list(domain, order, rights, segments)
+    }
+
+    #[inline(never)]
+    fn map_list_and_tell(
+        &mut self,
+        domain: u64,
+        order: u64,
+        rights: u64,
+        segments: &ArrayVec<Segment, MOST_SEGMENTS>,
+    ) -> Result<u64, Refusal>
+        requires { self.old.state.calls < CALLS_END }
+        ensures does { Does self.old.state (calls.MapList domain order rights segments.now) (mapped_reply result) self.new.state }
+        ensures tells { self.new.tells ≡ self.old.tells }
+        ensures effects { AreEffects self.old.state (calls.MapList domain order rights segments.now) (mapped_reply result)
+            self.new.state self.new.effects }
+    {
         let Driven {
             state,
             effects,
             noted,
-            tells,
+            ..
         } = self;
-        note_map(effects, noted, state, domain, *tells);
+        let state: &mut State = state;
+        state.keeps();
+        note_map(effects, noted, state, domain);
         let address = state.map_list(domain, order, rights, segments)?;
-        if !*tells {
-            return Ok(address);
-        }
         let pages = pages_of(segments.as_slice());
         tell_map(effects, noted, state, domain, address / PAGE_BYTES, pages);
         Ok(address)
@@ -346,28 +394,46 @@ impl Driven {
             → AreEffects self.old.state (calls.Unmap domain address pages) (unmapped_reply result)
             self.new.state self.new.effects }
     {
-        self.state.keeps();
+        if self.tells {
+            return self.unmap_and_tell(domain, address, pages);
+        }
+        self.state.unmap(domain, address, pages)
+    }
+
+    #[inline(never)]
+    fn unmap_and_tell(&mut self, domain: u64, address: u64, pages: u64) -> Result<u64, Refusal>
+        requires { self.old.state.calls < CALLS_END }
+        ensures does { Does self.old.state (calls.Unmap domain address pages) (unmapped_reply result) self.new.state }
+        ensures tells { self.new.tells ≡ self.old.tells }
+        ensures effects { AreEffects self.old.state (calls.Unmap domain address pages) (unmapped_reply result)
+            self.new.state self.new.effects }
+    {
         let Driven {
             state,
             effects,
             noted,
-            tells,
+            ..
         } = self;
-        note_unmap(effects, noted, state, domain, address, pages, *tells);
+        let state: &mut State = state;
+        state.keeps();
+        note_unmap(effects, noted, state, domain, address, pages);
         let released = state.unmap(domain, address, pages)?;
-        if !*tells {
-            return Ok(released);
-        }
-        tell_unmap(
-            effects,
-            noted,
-            state,
-            domain,
-            address / PAGE_BYTES,
-            released,
-        );
+        let first = address / PAGE_BYTES;
+        tell_unmap(effects, noted, state, domain, first, released);
         Ok(released)
     }
+}
+
+// A new state in a place of its own. Never inlined: the room on the stack in which it is moved is given back when it returns.
+#[inline(never)]
+fn new_state(alloc: Global, frames: u64, caching: bool) -> Result<Box<State>, AllocError>
+    requires some { LEAST_TABLE_FRAMES ≤ frames }
+    requires few { frames ≤ MOST_TABLE_FRAMES }
+    ensures new { IfOk result (λ state. IsNew frames caching state.value) }
+    ensures empty { IfOk result (λ state. Quarantine state.value (empty frames)) }
+{
+    let state = State::with_caching(alloc, frames, caching)?;
+    Ok(Box::new(alloc, state)?)
 }
 
 // How many pages the segments have together.

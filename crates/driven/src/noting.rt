@@ -1,5 +1,4 @@
-//! What is known before a map and an unmap, and what is told by it afterwards. Whoever tells nothing only asks whether to: the rest is
-//! never inlined, so that these calls cost what the state's do.
+//! What is known before a map and an unmap, and what is told by it afterwards.
 
 ghost use Rattle.std.specs.Prelude.{◌≡◌, ◌+◌, ◌/◌, ◌<◌, ◌≤◌, ◌++◌, [], List, length, ◌-◌, IfSome, IsNone, true};
 ghost use Rattle.dmatypes.specs.Page.{IsPageRange, range_at};
@@ -37,26 +36,8 @@ impl Noted {
     }
 }
 
-/// Notes what a map changes is told by, for who tells it; nothing is asked yet.
-#[inline]
-pub(crate) fn note_map(
-    effects: &mut Effects,
-    noted: &mut Noted,
-    state: &State,
-    domain: u64,
-    tells: bool,
-)
-    ensures { tells ≡ true → (effects.new.items ≡ []) × (noted.new.waits ≡ state.now.iommu.sent)
-        × (noted.new.table ≡ table_at state.now.pool (domain_at state.now.domains domain) noted.new.near 1) }
-{
-    if tells {
-        note_table(effects, noted, state, domain);
-    }
-}
-
-// The same.
-#[inline(never)]
-fn note_table(effects: &mut Effects, noted: &mut Noted, state: &State, domain: u64)
+/// Notes what a map changes is told by; nothing is asked yet.
+pub(crate) fn note_map(effects: &mut Effects, noted: &mut Noted, state: &State, domain: u64)
     ensures none { effects.new.items ≡ [] }
     ensures waits { noted.new.waits ≡ state.now.iommu.sent }
     ensures table { noted.new.table ≡ table_at state.now.pool (domain_at state.now.domains domain) noted.new.near 1 }
@@ -67,7 +48,6 @@ fn note_table(effects: &mut Effects, noted: &mut Noted, state: &State, domain: u
 }
 
 /// Tells what a map of so many pages, from a first one on, changed and sent.
-#[inline(never)]
 pub(crate) fn tell_map(
     effects: &mut Effects,
     noted: &mut Noted,
@@ -94,30 +74,8 @@ pub(crate) fn tell_map(
     *near = first;
 }
 
-/// Notes what an unmap changes is told by, for who tells it; nothing is asked yet.
-#[inline]
+/// Notes what an unmap changes is told by; nothing is asked yet.
 pub(crate) fn note_unmap(
-    effects: &mut Effects,
-    noted: &mut Noted,
-    state: &State,
-    domain: u64,
-    address: u64,
-    pages: u64,
-    tells: bool,
-)
-    ensures { tells ≡ true → (effects.new.items ≡ []) × (noted.new.waits ≡ state.now.iommu.sent)
-        × IfSome noted.new.last (λ last. (address / PAGE_BYTES + pages ≡ last + 1) × (1 ≤ pages) × (pages ≤ MOST_PAGES)
-        × AreTablesOf state.now.pool (domain_at state.now.domains domain) (address / PAGE_BYTES) last noted.new.tables.items)
-        × (IsNone noted.new.last → IsPageRange (range_at address pages) → ⊥) }
-{
-    if tells {
-        note_tables(effects, noted, state, domain, address, pages);
-    }
-}
-
-// The same.
-#[inline(never)]
-fn note_tables(
     effects: &mut Effects,
     noted: &mut Noted,
     state: &State,
@@ -144,7 +102,6 @@ fn note_tables(
 }
 
 /// Tells what an unmap of the noted pages, from a first one on, changed and sent; where it released records, it flushed first.
-#[inline(never)]
 pub(crate) fn tell_unmap(
     effects: &mut Effects,
     noted: &Noted,

@@ -1,6 +1,6 @@
 //! The effects of a call, as they are told once it was made.
 
-ghost use Rattle.std.specs.Prelude.{◌≡◌, ◌≢◌, ◌+◌, ◌-◌, ◌*◌, ◌/◌, ◌%◌, ◌<◌, ◌≤◌, ◌++◌, ℕ, List, length, Some, IsTrue};
+ghost use Rattle.std.specs.Prelude.{◌≡◌, ◌≢◌, ◌+◌, ◌-◌, ◌*◌, ◌/◌, ◌%◌, ◌<◌, ◌≤◌, ◌++◌, ℕ, List, length, Some, IfSome, IsTrue};
 ghost use Rattle.arrayvec.specs.ArrayVec.{array_vec_len};
 ghost use Rattle.engine.specs.Domains.{domain_at};
 ghost use Rattle.engine.specs.Walkable.{table_at};
@@ -9,13 +9,14 @@ ghost use Rattle.driven.specs.Telling.{AreTablesOf, BringsLevel, BringsLowest, B
 ghost use Rattle.driven.specs.Telling.{BringsFrames, BringsMapped, BringsUnmapped, BringsWays, HasSent, IsSentBy, StayInPart, TablesStay};
 ghost use Rattle.driven.specs.Telling.{most_tables};
 ghost use Rattle.driven.specs.declared.effect.Effect.{Effect};
+ghost use Rattle.vtdbits.specs.Descriptor.{descriptor_of};
 
 use crate::effect::Effect;
 use arrayvec::ArrayVec;
 use dmatypes::{Frame, MOST_PAGES, PAGES_END, SPAN_PAGES};
 use engine::State;
 use tables::{TABLE_ENTRIES, span_of};
-use vtdbits::{Descriptor, Words};
+use vtdbits::Words;
 
 /// A call asks this many things at most: of nine spans the table that went and the one that came, of three levels above them two tables
 /// each, two barriers, and what is sent.
@@ -39,9 +40,8 @@ pub(crate) fn send(effects: &mut Effects, state: &State, waits: u64, awaits: boo
     if state.waits() == waits {
         return;
     }
-    let (Some(descriptor), Some(wait)) = (state.sent(1), state.sent(0)) else {
-        unreachable!()
-    };
+    let descriptor = state.sent_words(1);
+    let wait = state.sent_words(0);
     effects.push(sending(descriptor));
     effects.push(sending(wait));
     if awaits {
@@ -49,11 +49,11 @@ pub(crate) fn send(effects: &mut Effects, state: &State, waits: u64, awaits: boo
     }
 }
 
-// Sends the words of a descriptor.
-fn sending(descriptor: Descriptor) -> Effect
-    ensures { IsSending descriptor result }
+// Sends these words, which spell a descriptor.
+fn sending(words: Words) -> Effect
+    ensures { IfSome (descriptor_of words) (λ descriptor. IsSending descriptor result) }
 {
-    let Words { low, high } = descriptor.encode();
+    let Words { low, high } = words;
     Effect::Send { low, high }
 }
 

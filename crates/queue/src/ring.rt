@@ -2,6 +2,7 @@
 
 ghost use Rattle.std.specs.Prelude.{◌≡◌, ◌+◌, ◌%◌, ◌<◌, ◌≤◌, ◌↔◌, [], ◌∷◌, length, slice_get, IsTrue, IsErr, IfSome, IfNone, OnOk, OnErr};
 ghost use Rattle.queue.specs.Ring.{ring_of, submitted_in, with_last};
+ghost use Rattle.vtdbits.specs.Descriptor.{descriptor_of};
 
 use crate::error::RingFull;
 use std::marker::Model;
@@ -99,6 +100,14 @@ impl Ring {
             Descriptor::decode(self.page[(last - newer) % PAIRS])?;
         }
         Descriptor::decode(self.page[(last - back as usize) % PAIRS])
+    }
+
+    /// The words of the descriptor that `submitted` answers there.
+    pub fn submitted_words(&self, back: u64) -> Words
+        requires { back < length (submitted_in self.now) }
+        ensures { descriptor_of result ≡ slice_get (submitted_in self.now) back }
+    {
+        self.page[(self.tail + PAIRS - 1 - back as usize) % PAIRS]
     }
 
     /// How many descriptors wait.

@@ -8,6 +8,7 @@ ghost use Rattle.engine.specs.Walkable.{SpellsContext, root_of, table_at};
 ghost use Rattle.queue.specs.Ring.{submitted_in};
 ghost use Rattle.tables.specs.Pool.{word};
 ghost use Rattle.tables.specs.declared.entries.TheConstants.{TABLE_ENTRIES};
+ghost use Rattle.vtdbits.specs.Descriptor.{descriptor_of};
 
 use super::{State, place_of};
 use dmatypes::{DEVICES, Frame};
@@ -97,6 +98,14 @@ impl State {
         ensures { result ≡ slice_get (submitted_in self.now.iommu.ring) back }
     {
         self.iommu.ring.submitted(back)
+    }
+
+    /// The words of the descriptor that `sent` answers there.
+    pub fn sent_words(&self, back: u64) -> Words
+        requires { back < length (submitted_in self.now.iommu.ring) }
+        ensures { descriptor_of result ≡ slice_get (submitted_in self.now.iommu.ring) back }
+    {
+        self.iommu.ring.submitted_words(back)
     }
 
     /// How many waits were sent, which is the number of the last one: 0 before the first. A wait writes its number's low 32 bits

@@ -11,23 +11,23 @@ use Rattle.driven.proofs.driven.Driven.attach.Goals as goal
 pub returns-in_err-attach-clause-effects : goal.returns-in_err-attach-clause-effects
 returns-in_err-attach-clause-effects c =
     let p = err_from_is_err_and c.from_residual.result c.from_residual.ensures.1 in
-    rw (p.1, p.2, ← c.self.view_is, c.clear.ensures)
-    (refused c.self.inside.state c.attach.new.self (calls.Attach c.args.device c.args.domain) c.in_err-attach.field-0.0
+    rw (p.1, p.2, ← c.self.view_is, ← c.deref_mut-state.ensures.value, c.clear.ensures)
+    (refused c.deref_mut-state.result.now c.attach.new.self (calls.Attach c.args.device c.args.domain) c.in_err-attach.field-0.0
     c.in_err-attach.ensures)
 
 pub returns-clause-effects : goal.returns-clause-effects
 returns-clause-effects c =
-    let sound : IsSound c.self.inside.state = record { of_world = c.keeps.ensures.of_world; places = c.keeps.ensures.places } in
-    rw (← c.self.view_is, c.push-2.ensures.items, c.push.ensures.items, c.clear.ensures)
+    let sound : IsSound c.deref_mut-state.result.now = record { of_world = c.keeps.ensures.of_world; places = c.keeps.ensures.places } in
+    rw (← c.self.view_is, ← c.deref_mut-state.ensures.value, c.push-2.ensures.items, c.push.ensures.items, c.clear.ensures)
     (record {
       quiet = tt;
       brought = entry_told c.args.device;
       sent = [];
-      brings = one_for_entry c.self.inside.state c.attach.new.self (calls.Attach c.args.device c.args.domain) (replies.Done) sound
+      brings = one_for_entry c.deref_mut-state.result.now c.attach.new.self (calls.Attach c.args.device c.args.domain) (replies.Done) sound
           c.keeps.ensures.tickets c.in_ok-attach.ensures
-          (λ f k no. no) c.args.device (rows c.self.inside.state c.attach.new.self (calls.Attach c.args.device c.args.domain)
+          (λ f k no. no) c.args.device (rows c.deref_mut-state.result.now c.attach.new.self (calls.Attach c.args.device c.args.domain)
           (replies.Done) c.in_ok-attach.ensures.becomes);
-      sends = sends_none c.self.inside.state c.attach.new.self (calls.Attach c.args.device c.args.domain) (replies.Done) sound
+      sends = sends_none c.deref_mut-state.result.now c.attach.new.self (calls.Attach c.args.device c.args.domain) (replies.Done) sound
           c.keeps.ensures.tickets c.in_ok-attach.ensures
           (λ f k no. no) tt;
       ordered = refl;

@@ -11,25 +11,25 @@ use Rattle.driven.proofs.driven.Driven.begin.Goals as goal
 pub returns-in_err-number-clause-effects : goal.returns-in_err-number-clause-effects
 returns-in_err-number-clause-effects c =
     let p = err_from_is_err_and c.from_residual.result c.from_residual.ensures.1 in
-    rw (p.1, p.2, ← c.self.view_is, c.clear.ensures)
-    (refused c.self.inside.state c.begin.new.self (calls.Begin c.args.domain) c.in_err-number.field-0.0 c.in_err-number.ensures)
+    rw (p.1, p.2, ← c.self.view_is, ← c.deref_mut-state.ensures.value, c.clear.ensures)
+    (refused c.deref_mut-state.result.now c.begin.new.self (calls.Begin c.args.domain) c.in_err-number.field-0.0 c.in_err-number.ensures)
 
 pub send-requires-clause-sent : goal.send-requires-clause-sent
 send-requires-clause-sent c =
     rw c.waits-waits.ensures
-    (has_sent c.self.inside.state c.begin.new.self (calls.Begin c.args.domain) (replies.Ticket c.args.domain c.in_ok-number.number)
+    (has_sent c.deref_mut-state.result.now c.begin.new.self (calls.Begin c.args.domain) (replies.Ticket c.args.domain c.in_ok-number.number)
     c.keeps.ensures.tickets c.in_ok-number.ensures)
 
 pub returns-clause-effects : goal.returns-clause-effects
 returns-clause-effects c =
-    let sound : IsSound c.self.inside.state = record { of_world = c.keeps.ensures.of_world; places = c.keeps.ensures.places } in
+    let sound : IsSound c.deref_mut-state.result.now = record { of_world = c.keeps.ensures.of_world; places = c.keeps.ensures.places } in
     let (more, items, sent) = c.send.ensures in
-    rw (← c.self.view_is)
-    (asks c.self.inside.state c.begin.new.self (calls.Begin c.args.domain) (replies.Ticket c.args.domain c.in_ok-number.number)
+    rw (← c.self.view_is, ← c.deref_mut-state.ensures.value)
+    (asks c.deref_mut-state.result.now c.begin.new.self (calls.Begin c.args.domain) (replies.Ticket c.args.domain c.in_ok-number.number)
     c.keeps.ensures.tickets c.in_ok-number.ensures c.waits-waits.result
     false [] more c.send.new.effects.items
-    (nothing c.self.inside.state c.begin.new.self (calls.Begin c.args.domain) (replies.Ticket c.args.domain c.in_ok-number.number) sound
-    c.keeps.ensures.tickets c.in_ok-number.ensures
-    (λ f k no. no) (rows c.self.inside.state c.begin.new.self (calls.Begin c.args.domain) (replies.Ticket c.args.domain
+    (nothing c.deref_mut-state.result.now c.begin.new.self (calls.Begin c.args.domain) (replies.Ticket c.args.domain
+    c.in_ok-number.number) sound c.keeps.ensures.tickets c.in_ok-number.ensures
+    (λ f k no. no) (rows c.deref_mut-state.result.now c.begin.new.self (calls.Begin c.args.domain) (replies.Ticket c.args.domain
     c.in_ok-number.number) c.in_ok-number.ensures.becomes))
     (items ∙ ap (λ xs. xs ++ more) c.clear.ensures) c.waits-waits.ensures refl sent tt)

@@ -6,18 +6,19 @@ use Rattle.driven.proofs.driven.Driven.detach_all.Goals as goal
 
 pub unwrap-requires : goal.unwrap-requires
 unwrap-requires c =
-    let sound : IsSound c.self.inside.state = record { of_world = c.keeps.ensures.of_world; places = c.keeps.ensures.places } in
-    let own = had c.self.inside.state c.tell_detach.new.state c.args.device sound c.in_ok-tell_detach.ensures.does in
+    let sound : IsSound c.deref_mut-state.result.now = record { of_world = c.keeps.ensures.of_world; places = c.keeps.ensures.places } in
+    let own = had c.deref_mut-state.result.now c.tell_detach.new.state c.args.device sound c.in_ok-tell_detach.ensures.does in
     subst IsSome (sym (c.domain_of-domain.ensures ∙ own.2.0)) refl
 
 pub returns : goal.returns
 returns c =
-    let sound : IsSound c.self.inside.state = record { of_world = c.keeps.ensures.of_world; places = c.keeps.ensures.places } in
+    let sound : IsSound c.deref_mut-state.result.now = record { of_world = c.keeps.ensures.of_world; places = c.keeps.ensures.places } in
     let (first, items, few, asks) = c.in_ok-tell_detach.ensures.effects in
     let (second, items', asks_then) = c.tell_flush.ensures.effects in
     record {
-      detaches = rw (← c.self.view_is)
-          (both c.self.inside.state c.tell_detach.new.state c.args.device sound c.in_ok-tell_detach.ensures.does c.tell_flush.new.state
+      detaches = rw (← c.self.view_is, ← c.deref_mut-state.ensures.value)
+          (both c.deref_mut-state.result.now c.tell_detach.new.state c.args.device sound c.in_ok-tell_detach.ensures.does
+          c.tell_flush.new.state
           c.unwrap.result (sym c.domain_of-domain.ensures ∙ c.unwrap.ensures) first second c.tell_flush.new.effects.items asks
           c.tell_flush.result c.tell_flush.ensures.does asks_then
           (items' ∙ ap (λ xs. xs ++ second) (items ∙ ap (λ xs. xs ++ first) c.clear.ensures)));

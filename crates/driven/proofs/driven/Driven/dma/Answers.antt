@@ -9,9 +9,10 @@ use Rattle.driven.proofs.driven.Driven.dma.Goals as goal
 
 pub returns-clause-effects : goal.returns-clause-effects
 returns-clause-effects c =
-    let sound : IsSound c.self.inside.state = record { of_world = c.keeps.ensures.of_world; places = c.keeps.ensures.places } in
+    let sound : IsSound c.deref_mut-state.result.now = record { of_world = c.keeps.ensures.of_world; places = c.keeps.ensures.places } in
     let call = calls.Dma c.args.device c.args.address c.args.access c.args.whim in
     subst (λ es. AreEffects c.args.self.now.state call (request_reply c.dma.result) c.dma.new.self es) (sym c.clear.ensures)
-    (rw (← c.self.view_is)
-    (asks_nothing c.self.inside.state c.dma.new.self call (request_reply c.dma.result) sound c.keeps.ensures.tickets c.dma.ensures.does
-    (λ f k no. no) tt (rows c.self.inside.state c.dma.new.self call (request_reply c.dma.result) c.dma.ensures.does.becomes)))
+    (rw (← c.self.view_is, ← c.deref_mut-state.ensures.value)
+    (asks_nothing c.deref_mut-state.result.now c.dma.new.self call (request_reply c.dma.result) sound c.keeps.ensures.tickets
+    c.dma.ensures.does
+    (λ f k no. no) tt (rows c.deref_mut-state.result.now c.dma.new.self call (request_reply c.dma.result) c.dma.ensures.does.becomes)))

@@ -30,8 +30,9 @@ asked m t mode width (Err r) sound tickets does = refused m t (calls.Domain mode
 
 pub returns-clause-effects : goal.returns-clause-effects
 returns-clause-effects c =
-    let sound : IsSound c.self.inside.state = record { of_world = c.keeps.ensures.of_world; places = c.keeps.ensures.places } in
+    let sound : IsSound c.deref_mut-state.result.now = record { of_world = c.keeps.ensures.of_world; places = c.keeps.ensures.places } in
     subst (λ es. AreEffects c.args.self.now.state (calls.Domain c.args.mode c.args.width) (made_reply c.domain.result) c.domain.new.self es)
     (sym c.clear.ensures)
-    (rw (← c.self.view_is) (asked c.self.inside.state c.domain.new.self c.args.mode c.args.width c.domain.result sound
+    (rw (← c.self.view_is, ← c.deref_mut-state.ensures.value)
+    (asked c.deref_mut-state.result.now c.domain.new.self c.args.mode c.args.width c.domain.result sound
     c.keeps.ensures.tickets c.domain.ensures))

@@ -11,24 +11,24 @@ use Rattle.driven.proofs.driven.Driven.drop_domain.Goals as goal
 pub returns-in_err-drop_domain-clause-effects : goal.returns-in_err-drop_domain-clause-effects
 returns-in_err-drop_domain-clause-effects c =
     let p = err_from_is_err_and c.from_residual.result c.from_residual.ensures.1 in
-    rw (p.1, p.2, ← c.self.view_is, c.clear.ensures)
-    (refused c.self.inside.state c.drop_domain.new.self (calls.Drop c.args.domain) c.in_err-drop_domain.field-0.0
+    rw (p.1, p.2, ← c.self.view_is, ← c.deref_mut-state.ensures.value, c.clear.ensures)
+    (refused c.deref_mut-state.result.now c.drop_domain.new.self (calls.Drop c.args.domain) c.in_err-drop_domain.field-0.0
     c.in_err-drop_domain.ensures)
 
 pub send-requires-clause-sent : goal.send-requires-clause-sent
 send-requires-clause-sent c =
     rw c.waits-waits.ensures
-    (has_sent c.self.inside.state c.drop_domain.new.self (calls.Drop c.args.domain) (replies.Done) c.keeps.ensures.tickets
+    (has_sent c.deref_mut-state.result.now c.drop_domain.new.self (calls.Drop c.args.domain) (replies.Done) c.keeps.ensures.tickets
     c.in_ok-drop_domain.ensures)
 
 pub returns-clause-effects : goal.returns-clause-effects
 returns-clause-effects c =
-    let sound : IsSound c.self.inside.state = record { of_world = c.keeps.ensures.of_world; places = c.keeps.ensures.places } in
+    let sound : IsSound c.deref_mut-state.result.now = record { of_world = c.keeps.ensures.of_world; places = c.keeps.ensures.places } in
     let (more, items, sent) = c.send.ensures in
     let (es, items', few, brings) = c.bring_frames.ensures in
-    rw (← c.self.view_is)
-    (asks c.self.inside.state c.drop_domain.new.self (calls.Drop c.args.domain) (replies.Done) c.keeps.ensures.tickets
+    rw (← c.self.view_is, ← c.deref_mut-state.ensures.value)
+    (asks c.deref_mut-state.result.now c.drop_domain.new.self (calls.Drop c.args.domain) (replies.Done) c.keeps.ensures.tickets
     c.in_ok-drop_domain.ensures
     c.waits-waits.result true es more c.bring_frames.new.effects.items
-    (drop_brings c.self.inside.state c.drop_domain.new.self c.args.domain sound c.in_ok-drop_domain.ensures es brings)
+    (drop_brings c.deref_mut-state.result.now c.drop_domain.new.self c.args.domain sound c.in_ok-drop_domain.ensures es brings)
     (items' ∙ ap (λ xs. xs ++ es) (items ∙ ap (λ xs. xs ++ more) c.clear.ensures)) c.waits-waits.ensures refl sent tt)

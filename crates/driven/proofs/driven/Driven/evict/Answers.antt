@@ -7,8 +7,8 @@ use Rattle.driven.proofs.driven.Driven.evict.Goals as goal
 
 pub returns-clause-effects : goal.returns-clause-effects
 returns-clause-effects c =
-    let sound : IsSound c.self.inside.state = record { of_world = c.keeps.ensures.of_world; places = c.keeps.ensures.places } in
+    let sound : IsSound c.deref_mut-state.result.now = record { of_world = c.keeps.ensures.of_world; places = c.keeps.ensures.places } in
     let call = calls.Evict c.args.kind c.args.place in
-    rw (← c.self.view_is, c.clear.ensures)
-    (asks_nothing c.self.inside.state c.evict.new.self call Done sound c.keeps.ensures.tickets c.evict.ensures (λ f k no. no) tt
-    (rows c.self.inside.state c.evict.new.self call Done c.evict.ensures.becomes))
+    rw (← c.self.view_is, ← c.deref_mut-state.ensures.value, c.clear.ensures)
+    (asks_nothing c.deref_mut-state.result.now c.evict.new.self call Done sound c.keeps.ensures.tickets c.evict.ensures (λ f k no. no) tt
+    (rows c.deref_mut-state.result.now c.evict.new.self call Done c.evict.ensures.becomes))

@@ -32,6 +32,7 @@ asked m t d n (Err r) sound tickets does = refused m t (calls.Reap d n) r does
 
 pub returns-clause-effects : goal.returns-clause-effects
 returns-clause-effects c =
-    let sound : IsSound c.self.inside.state = record { of_world = c.keeps.ensures.of_world; places = c.keeps.ensures.places } in
-    rw (← c.self.view_is, c.clear.ensures)
-    (asked c.self.inside.state c.reap.new.self c.args.domain c.args.number c.reap.result sound c.keeps.ensures.tickets c.reap.ensures)
+    let sound : IsSound c.deref_mut-state.result.now = record { of_world = c.keeps.ensures.of_world; places = c.keeps.ensures.places } in
+    rw (← c.self.view_is, ← c.deref_mut-state.ensures.value, c.clear.ensures)
+    (asked c.deref_mut-state.result.now c.reap.new.self c.args.domain c.args.number c.reap.result sound c.keeps.ensures.tickets
+    c.reap.ensures)

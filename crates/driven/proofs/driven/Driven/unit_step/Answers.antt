@@ -8,17 +8,17 @@ use Rattle.driven.proofs.driven.Driven.unit_step.Goals as goal
 
 pub returns-clause-effects : goal.returns-clause-effects
 returns-clause-effects c =
-    let sound : IsSound c.self.inside.state = record { of_world = c.keeps.ensures.of_world; places = c.keeps.ensures.places } in
-    rw (← c.self.view_is, c.clear.ensures)
+    let sound : IsSound c.deref_mut-state.result.now = record { of_world = c.keeps.ensures.of_world; places = c.keeps.ensures.places } in
+    rw (← c.self.view_is, ← c.deref_mut-state.ensures.value, c.clear.ensures)
     (record {
       quiet = tt;
       brought = [];
       sent = [];
-      brings = nothing c.self.inside.state c.unit_step.new.self (calls.Unit) (replies.Stepped c.unit_step.result) sound
+      brings = nothing c.deref_mut-state.result.now c.unit_step.new.self (calls.Unit) (replies.Stepped c.unit_step.result) sound
           c.keeps.ensures.tickets c.unit_step.ensures
-          (λ f k no. no) (rows c.self.inside.state c.unit_step.new.self (calls.Unit) (replies.Stepped c.unit_step.result)
+          (λ f k no. no) (rows c.deref_mut-state.result.now c.unit_step.new.self (calls.Unit) (replies.Stepped c.unit_step.result)
           c.unit_step.ensures.becomes);
-      sends = sends_none c.self.inside.state c.unit_step.new.self (calls.Unit) (replies.Stepped c.unit_step.result) sound
+      sends = sends_none c.deref_mut-state.result.now c.unit_step.new.self (calls.Unit) (replies.Stepped c.unit_step.result) sound
           c.keeps.ensures.tickets c.unit_step.ensures
           (λ f k no. no) tt;
       ordered = refl;

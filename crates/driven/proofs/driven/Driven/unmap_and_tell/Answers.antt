@@ -17,7 +17,7 @@ use Rattle.driven.specs.declared.effect.Effect.{Effect}
 use Rattle.driven.proofs.Asked.{asks}
 use Rattle.driven.proofs.Told.{has_sent, refused, sends_nothing}
 use Rattle.driven.proofs.Trees.{flushed_first, is_range, sends_last, stay_in_part, unmap_brings}
-use Rattle.driven.proofs.driven.Driven.unmap.Goals as goal
+use Rattle.driven.proofs.driven.Driven.unmap_and_tell.Goals as goal
 
 -- the last page of an unmap, and the tables on the ways of its pages before it
 abbrev Are : State → ℕ → ℕ → ℕ → List (Option ℕ) → ℕ → Type 0
@@ -67,32 +67,30 @@ module _ (m t : State) (d address pages released : ℕ) (sound : IsSound m) (tic
       ]) is refl sent tt
 
 pub returns-in_err-released-clause-effects : goal.returns-in_err-released-clause-effects
-returns-in_err-released-clause-effects c told =
+returns-in_err-released-clause-effects c =
     let p = err_from_is_err_and c.from_residual.result c.from_residual.ensures.1 in
-    let (none, waits, some, bad) = c.note_unmap.ensures (ap (λ d. d.tells) c.self.view_is ∙ told) in
-    rw (p.1, p.2, ← c.self.view_is, none)
-    (refused c.self.inside.state c.unmap.new.self (calls.Unmap c.args.domain c.args.address c.args.pages) c.in_err-released.field-0.0
-    c.in_err-released.ensures)
+    rw (p.1, p.2, ← c.self.view_is, ← c.deref_mut-state.ensures.value, c.note_unmap.ensures.none)
+    (refused c.deref_mut-state.result.now c.unmap.new.self (calls.Unmap c.args.domain c.args.address c.args.pages)
+    c.in_err-released.field-0.0 c.in_err-released.ensures)
 
 pub tell_unmap-requires-clause-pages : goal.tell_unmap-requires-clause-pages
 tell_unmap-requires-clause-pages c =
-    let sound : IsSound c.self.inside.state = record { of_world = c.keeps.ensures.of_world; places = c.keeps.ensures.places } in
-    let (none, waits, some, bad) = c.note_unmap.ensures c.if-not-tells.false in
-    stays c.self.inside.state c.unmap.new.self c.args.domain c.args.address c.args.pages c.in_ok-released.released sound
-    c.keeps.ensures.tickets c.in_ok-released.ensures c.note_unmap.new.noted.tables.items c.note_unmap.new.noted.last some
+    let sound : IsSound c.deref_mut-state.result.now = record { of_world = c.keeps.ensures.of_world; places = c.keeps.ensures.places } in
+    stays c.deref_mut-state.result.now c.unmap.new.self c.args.domain c.args.address c.args.pages c.in_ok-released.released sound
+    c.keeps.ensures.tickets c.in_ok-released.ensures c.note_unmap.new.noted.tables.items c.note_unmap.new.noted.last
+    c.note_unmap.ensures.some
 
 pub tell_unmap-requires-clause-sent : goal.tell_unmap-requires-clause-sent
 tell_unmap-requires-clause-sent c =
-    let (none, waits, some, bad) = c.note_unmap.ensures c.if-not-tells.false in
-    rw waits
-    (has_sent c.self.inside.state c.unmap.new.self (calls.Unmap c.args.domain c.args.address c.args.pages) (replies.Unmapped
+    rw c.note_unmap.ensures.waits
+    (has_sent c.deref_mut-state.result.now c.unmap.new.self (calls.Unmap c.args.domain c.args.address c.args.pages) (replies.Unmapped
     c.in_ok-released.released) c.keeps.ensures.tickets c.in_ok-released.ensures)
 
 pub returns-clause-effects : goal.returns-clause-effects
-returns-clause-effects c told =
-    let sound : IsSound c.self.inside.state = record { of_world = c.keeps.ensures.of_world; places = c.keeps.ensures.places } in
-    let (none, waits, some, bad) = c.note_unmap.ensures c.if-not-tells.false in
-    rw (← c.self.view_is)
-    (asked c.self.inside.state c.unmap.new.self c.args.domain c.args.address c.args.pages c.in_ok-released.released sound
-    c.keeps.ensures.tickets c.in_ok-released.ensures c.note_unmap.new.noted.tables.items c.note_unmap.new.noted.waits waits
-    c.note_unmap.new.noted.last some bad c.tell_unmap.new.effects.items c.tell_unmap.ensures)
+returns-clause-effects c =
+    let sound : IsSound c.deref_mut-state.result.now = record { of_world = c.keeps.ensures.of_world; places = c.keeps.ensures.places } in
+    rw (← c.self.view_is, ← c.deref_mut-state.ensures.value)
+    (asked c.deref_mut-state.result.now c.unmap.new.self c.args.domain c.args.address c.args.pages c.in_ok-released.released sound
+    c.keeps.ensures.tickets c.in_ok-released.ensures c.note_unmap.new.noted.tables.items c.note_unmap.new.noted.waits
+    c.note_unmap.ensures.waits
+    c.note_unmap.new.noted.last c.note_unmap.ensures.some c.note_unmap.ensures.no_pages c.tell_unmap.new.effects.items c.tell_unmap.ensures)
