@@ -41,6 +41,7 @@ PROGRAMS = {
     "effects": (["effects.c", "unit.c"], [], [ADDRESS, VALGRIND]),
     "memory": (["memory.c"], ["-Wl,--wrap=malloc,--wrap=realloc,--wrap=free"], [ADDRESS]),
     "threads": (["threads.c"], ["-pthread"], [ADDRESS, THREAD]),
+    "stack": (["stack.c"], ["-pthread"], []),
     "owner in C++": (["owner.cpp"], ["-pthread"], [ADDRESS]),
 }
 # What the test of memory makes managers by.
