@@ -56,6 +56,8 @@ impl Descriptor {
     ghost use Rattle.vtdbits.specs.Descriptor.{Spells, descriptor_of};
 
     /// The descriptor that two words spell, if they spell one.
+    // Inlined into each caller: what waits in a ring spells a descriptor, and whoever fetches it needs no test but of the kind.
+    #[inline(always)]
     #[tactic(auto, unfolding(crate::specs::Descriptor::descriptor_of))]
     pub fn decode(words: Words) -> Option<Descriptor>
         ensures some { IfSome result (Spells words) }
