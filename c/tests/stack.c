@@ -18,7 +18,7 @@ static void expect(struct tried *tried, bool holds) {
         tried->wrong = tried->done;
 }
 
-/* A leaf of 2 MiB is split, a flush begun and reaped, a device detached, the domain dropped. */
+/* A leaf of 2 MiB is split, the domain flushed, its device detached, and the domain dropped. */
 static void use(struct vtdm *manager, struct tried *tried) {
     expect(tried, vtdm_domain(manager, true).value == 1);
     expect(tried, vtdm_attach(manager, DEVICE, 1).status == VTDM_OK);
