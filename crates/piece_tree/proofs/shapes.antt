@@ -1,0 +1,14 @@
+pub mod Forks
+pub mod Turned
+pub mod Hung
+pub mod Mended
+pub mod Lifted
+pub mod Sorted
+pub mod Tall
+pub mod Led
+pub mod Beside
+pub mod Edited
+pub mod Placed
+pub mod Between
+pub mod Lower
+pub mod Sought

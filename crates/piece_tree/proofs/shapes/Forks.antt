@@ -1,0 +1,134 @@
+-- A key with a tree on each of its sides, by the side: what it shows, and how it is written.
+use Rattle.std.proofs.Common.{◌≡◌, ◌≢◌, ℕ, ◌+◌, ◌<◌, max, Bool, true, false, Option, Some, None, IsSome, refl}
+use Rattle.std.proofs.Common.{ap, sym, ◌∙◌, arith}
+use Rattle.slab.specs.Slab.{Slab, Updates, get}
+use Rattle.piece_tree.specs.declared.piece.Piece.{Piece}
+use Rattle.piece_tree.specs.declared.node.Node.{Node}
+use Rattle.piece_tree.specs.declared.node.Top.{Top}
+use Rattle.piece_tree.specs.Pieces.{IsPiece}
+use Rattle.piece_tree.specs.Tree.{Look, Shape, Empty, Fork, height_of, longest_of, free_pages, root_of, one, uses, AreNear, fork, top_of}
+use Rattle.piece_tree.specs.Tree.{joint_at, Stands, AreParts, Links}
+
+-- ---- keys
+
+pub one-same : (key : ℕ) → one key key ≡ 1
+one-same key = grind (arith)
+
+pub one-other : (key k : ℕ) → k ≢ key → one key k ≡ 0
+one-other key k h = grind (arith)
+
+pub is_there : {A : Type 0} (o : Option A) (x : A) → o ≡ Some x → IsSome o
+is_there None x e = absurd (cc)
+is_there (Some y) x e = refl
+
+-- a key that a tree doesn't use is none that it does
+pub differs : (key k : ℕ) (t : Shape) → uses t key ≡ 0 → 0 < uses t k → k ≢ key
+differs key k t z g e = let w : uses t k ≡ uses t key = ap (uses t) e in absurd (omega arith)
+
+-- a tree whose keys have the same nodes
+pub same_stands : (look next : Look) (t : Shape) → Stands look t → ((k : ℕ) → 0 < uses t k → next k ≡ look k) → Stands next t
+same_stands look next Empty s h = tt
+same_stands look next (Fork key p l r) s h = (
+  h key (omega (arith, one-same key)) ∙ s.0,
+  s.1,
+  s.2,
+  same_stands look next l s.3 (λ k u. h k (omega arith)),
+  same_stands look next r s.4 (λ k u. h k (omega arith)),
+)
+
+-- ---- by a side
+
+pub fork-height : (b : Bool) (key : ℕ) (p : Piece) (n f : Shape) → height_of (fork b key p n f) ≡ 1 + max (height_of n) (height_of f)
+fork-height true key p n f = refl
+fork-height false key p n f = omega arith
+
+pub fork-longest : (b : Bool) (key : ℕ) (p : Piece) (n f : Shape)
+    → longest_of (fork b key p n f) ≡ max (free_pages p) (max (longest_of n) (longest_of f))
+fork-longest true key p n f = refl
+fork-longest false key p n f = omega arith
+
+pub fork-uses : (b : Bool) (key : ℕ) (p : Piece) (n f : Shape) (k : ℕ) → uses (fork b key p n f) k ≡ one key k + uses n k + uses f k
+fork-uses true key p n f k = refl
+fork-uses false key p n f k = omega arith
+
+pub fork-root : (b : Bool) (key : ℕ) (p : Piece) (n f : Shape) → root_of (fork b key p n f) ≡ Some key
+fork-root true key p n f = refl
+fork-root false key p n f = refl
+
+pub fork-top : (b : Bool) (key : ℕ) (p : Piece) (n f : Shape) (height longest : ℕ) → height ≡ 1 + max (height_of n) (height_of f)
+    → longest ≡ max (free_pages p) (max (longest_of n) (longest_of f))
+    → record { root = Some key; height = height; longest = longest } ≡ top_of (fork b key p n f)
+fork-top b key p n f height longest h l =
+    ap (λ (r : Option ℕ). record { root = r; height = height; longest = longest }) (sym (fork-root b key p n f))
+    ∙ ap (λ (x : ℕ). record { root = root_of (fork b key p n f); height = x; longest = longest }) (h ∙ sym (fork-height b key p n f))
+    ∙ ap (λ (x : ℕ). record { root = root_of (fork b key p n f); height = height_of (fork b key p n f); longest = x })
+    (l ∙ sym (fork-longest b key p n f))
+
+-- the parts of it
+pub record StandsBy (look : Look) (b : Bool) (key : ℕ) (p : Piece) (n f : Shape) : Type 0 where
+  pub here : look key ≡ Some (joint_at b p (top_of n) (top_of f))
+  pub piece : IsPiece p
+  pub near : AreNear n f
+  pub one : Stands look n
+  pub other : Stands look f
+
+pub stands_by : (look : Look) (b : Bool) (key : ℕ) (p : Piece) (n f : Shape) → Stands look (fork b key p n f) → StandsBy look b key p n f
+stands_by look true key p n f s = record { here = s.0; piece = s.1; near = s.2; one = s.3; other = s.4 }
+stands_by look false key p n f s = record { here = s.0; piece = s.1; near = (s.2.1, s.2.0); one = s.4; other = s.3 }
+
+pub by_stands : (look : Look) (b : Bool) (key : ℕ) (p : Piece) (n f : Shape) → StandsBy look b key p n f → Stands look (fork b key p n f)
+by_stands look true key p n f s = (s.here, s.piece, s.near, s.one, s.other)
+by_stands look false key p n f s = (s.here, s.piece, (s.near.1, s.near.0), s.other, s.one)
+
+-- ---- written
+
+-- the node with its heights in any order
+joint-by : (b : Bool) (p : Piece) (near far : Top) (sides : Option ℕ × Option ℕ) (height longest : ℕ)
+    → (b ≡ true → sides ≡ (near.root, far.root)) → (b ≡ false → sides ≡ (far.root, near.root))
+    → height ≡ 1 + max near.height far.height → longest ≡ max (free_pages p) (max near.longest far.longest)
+    → record { piece = p; left = sides.0; right = sides.1; height = height; longest = longest } ≡ joint_at b p near far
+joint-by true p near far sides height longest on off h l =
+    let e = on refl in
+    ap (λ (s : Option ℕ × Option ℕ). record { piece = p; left = s.0; right = s.1; height = height; longest = longest }) e
+    ∙ ap (λ x. record { piece = p; left = near.root; right = far.root; height = x; longest = longest }) h
+    ∙ ap (λ x. record { piece = p; left = near.root; right = far.root; height = 1 + max near.height far.height; longest = x }) l
+joint-by false p near far sides height longest on off h l =
+    let e = off refl in
+    let a : height ≡ 1 + max far.height near.height = omega (arith, h) in
+    let c : longest ≡ max (free_pages p) (max far.longest near.longest) = omega (arith, l) in
+    ap (λ (s : Option ℕ × Option ℕ). record { piece = p; left = s.0; right = s.1; height = height; longest = longest }) e
+    ∙ ap (λ x. record { piece = p; left = far.root; right = near.root; height = x; longest = longest }) a
+    ∙ ap (λ x. record { piece = p; left = far.root; right = near.root; height = 1 + max far.height near.height; longest = x }) c
+
+-- two trees that are nearly as high, and a key with the node of a piece between them
+pub linked : (old new : Slab Node) (b : Bool) (near far : Top) (key : ℕ) (p : Piece) (n f : Shape) (sides : Option ℕ × Option ℕ)
+    (height longest : ℕ) → AreParts (get old) near key far n f → IsPiece p → AreNear n f
+    → (b ≡ true → sides ≡ (near.root, far.root)) → (b ≡ false → sides ≡ (far.root, near.root))
+    → height ≡ 1 + max near.height far.height → longest ≡ max (free_pages p) (max near.longest far.longest)
+    → Updates old new key (Some (record { piece = p; left = sides.0; right = sides.1; height = height; longest = longest }))
+    → Links (get old) (get new) b (record { root = Some key; height = height; longest = longest }) key p n f
+linked old new b near far key p n f sides height longest a i w on off h l u =
+    let none : (t : Shape) → uses t key ≡ 0 → (x : ℕ) → 0 < uses t x → get new x ≡ get old x =
+    λ t z x g. u.others x (differs key x t z g) in
+    let own = one-same key in
+    let hn : near.height ≡ height_of n = ap (λ (v : Top). v.height) a.near_is in
+    let hf : far.height ≡ height_of f = ap (λ (v : Top). v.height) a.far_is in
+    let ln : near.longest ≡ longest_of n = ap (λ (v : Top). v.longest) a.near_is in
+    let lf : far.longest ≡ longest_of f = ap (λ (v : Top). v.longest) a.far_is in
+    record {
+      is = fork-top b key p n f height longest (omega (arith, h)) (omega (arith, l));
+      stands = by_stands (get new) b key p n f (record {
+        here = u.changed ∙ ap (λ x. Some x) (joint-by b p near far sides height longest on off h l)
+            ∙ ap (λ x. Some (joint_at b p x far)) a.near_is ∙ ap (λ x. Some (joint_at b p (top_of n) x)) a.far_is;
+        piece = i;
+        near = w;
+        one = same_stands (get old) (get new) n a.near_stands (none n (omega (arith, a.once key)));
+        other = same_stands (get old) (get new) f a.far_stands (none f (omega (arith, a.once key)));
+      });
+      others = u.others;
+    }
+
+-- a tree beside what was linked
+pub beside_linked : (old new : Look) (b : Bool) (top : Top) (key : ℕ) (p : Piece) (n f t : Shape) → Links old new b top key p n f
+    → uses t key ≡ 0 → Stands old t → Stands new t
+beside_linked old new b top key p n f t u z s = same_stands old new t s (λ x g. u.others x (differs key x t z g))

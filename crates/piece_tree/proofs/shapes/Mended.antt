@@ -1,0 +1,263 @@
+-- A way back up a tree, where another tree lies at its end.
+use Rattle.std.proofs.Common.{◌≡◌, ℕ, ◌+◌, ◌-◌, ◌<◌, ◌≤◌, max, Bool, true, false, List, Option, Some, refl, ap, sym, ◌∙◌}
+use Rattle.std.proofs.Common.{inl, inr, subst, arith}
+use Rattle.std.proofs.lemmas.Bool.{cases_eq}
+use Rattle.slab.specs.Slab.{Slab, get}
+use Rattle.piece_tree.specs.declared.piece.Piece.{Piece}
+use Rattle.piece_tree.specs.declared.node.Node.{Node}
+use Rattle.piece_tree.specs.declared.node.Top.{Top}
+use Rattle.piece_tree.specs.declared.way.Hung.{Hung}
+use Rattle.piece_tree.specs.declared.way.Step.{Step}
+use Rattle.piece_tree.specs.Tree.{Look, Shape, items, height_of, longest_of, free_pages, uses, AreNear, fork, top_of}
+use Rattle.piece_tree.specs.Tree.{joint_at, Stands, Joins, KeepsCount}
+use Rattle.piece_tree.specs.Way.{Above, Whole, Beside, plug, among, uses_above, AreAbove, step_at, AreSteps, CanHang, Hangs, CanMend, Mends}
+use Rattle.piece_tree.proofs.shapes.Forks.{one-same, same_stands, fork-height, fork-uses, stands_by, by_stands}
+
+-- ---- what lies above a place
+
+pub plug-high : (up : Above) (t : Shape) → height_of t ≤ height_of (plug up t)
+plug-high Whole t = omega arith
+plug-high (Beside b key p o up) t = omega (arith, plug-high up (fork b key p t o), fork-height b key p t o)
+
+pub plug-items : (up : Above) (t : Shape) → items (plug up t) ≡ among up (items t)
+plug-items Whole t = refl
+plug-items (Beside true key p o up) t = plug-items up (fork true key p t o)
+plug-items (Beside false key p o up) t = plug-items up (fork false key p t o)
+
+pub plug-uses : (up : Above) (t : Shape) (k : ℕ) → uses (plug up t) k ≡ uses_above up k + uses t k
+plug-uses Whole t k = omega arith
+plug-uses (Beside b key p o up) t k = omega (arith, plug-uses up (fork b key p t o) k, fork-uses b key p t o k)
+
+pub plug_stands : (look : Look) (up : Above) (t : Shape) → Stands look (plug up t) → Stands look t × AreAbove look up t
+plug_stands look Whole t s = (s, tt)
+plug_stands look (Beside b key p o up) t s =
+    let a = plug_stands look up (fork b key p t o) s in
+    let c = stands_by look b key p t o a.0 in
+    (c.one, (c.here, c.piece, c.near, c.other, a.1))
+
+pub same_above : (look next : Look) (up : Above) (t : Shape) → AreAbove look up t → ((k : ℕ) → 0 < uses_above up k → next k ≡ look k)
+    → AreAbove next up t
+same_above look next Whole t a h = tt
+same_above look next (Beside b key p o up) t a h = (
+  h key (let own = one-same key in omega arith) ∙ a.0,
+  a.1,
+  a.2,
+  same_stands look next o a.3 (λ k g. h k (omega arith)),
+  same_above look next up (fork b key p t o) a.4 (λ k g. h k (omega arith)),
+)
+
+fork-shows : (b : Bool) (key : ℕ) (p : Piece) (s t o : Shape) → top_of s ≡ top_of t → top_of (fork b key p s o) ≡ top_of (fork b key p t o)
+fork-shows true key p s t o e = ap (λ (v : Top). record {
+  root = Some key;
+  height = 1 + max v.height (height_of o);
+  longest = max (free_pages p) (max v.longest (longest_of o));
+}) e
+fork-shows false key p s t o e = ap (λ (v : Top). record {
+  root = Some key;
+  height = 1 + max (height_of o) v.height;
+  longest = max (free_pages p) (max (longest_of o) v.longest);
+}) e
+
+-- where a tree shows what another did, the keys above it are as they must be
+pub stops : (look : Look) (up : Above) (old new : Shape) → AreAbove look up old → Stands look new → top_of new ≡ top_of old
+    → Stands look (plug up new) × (top_of (plug up new) ≡ top_of (plug up old))
+stops look Whole old new a s e = (s, e)
+stops look (Beside b key p o up) old new a s e =
+    let h : height_of new ≡ height_of old = ap (λ (v : Top). v.height) e in
+    stops look up (fork b key p old o) (fork b key p new o) a.4
+    (by_stands look b key p new o (record {
+      here = a.0 ∙ ap (λ v. Some (joint_at b p v (top_of o))) (sym e);
+      piece = a.1;
+      near = (omega (arith, a.2), omega (arith, a.2));
+      one = s;
+      other = a.3;
+    }))
+    (fork-shows b key p new old o e)
+
+-- ---- the last step
+
+pub record Last (way : List Step) (depth : ℕ) (up : Above) : Type 0 where
+  pub piece : Piece
+  pub other : Shape
+  pub more : Above
+  pub is : up ≡ Beside (step_at way (depth - 1)).before (step_at way (depth - 1)).key piece other more
+  pub steps : AreSteps way (depth - 1) more
+
+pub last_step : (way : List Step) (depth : ℕ) (up : Above) → AreSteps way depth up → 0 < depth → Last way depth up
+last_step way depth Whole s pos = absurd (omega arith)
+last_step way depth (Beside b key p o up) s pos =
+    let e : depth - 1 ≡ s.0 = omega (arith, s.1) in
+    record {
+      piece = p;
+      other = o;
+      more = up;
+      is = ap (λ (x : Step). Beside x.before x.key p o up) (sym (ap (step_at way) e ∙ s.2));
+      steps = subst (λ d. AreSteps way d up) (sym e) s.3;
+    }
+
+pub steps_few : (way : List Step) (depth : ℕ) (up : Above) (t : Shape) → AreSteps way depth up → depth + height_of t ≤ height_of (plug up t)
+steps_few way depth Whole t s = omega arith
+steps_few way depth (Beside b key p o up) t s =
+    omega (arith, s.1, steps_few way s.0 up (fork b key p t o) s.3, fork-height b key p t o)
+
+pub counts_twice : (old mid new : Slab Node) → KeepsCount old mid → KeepsCount mid new → KeepsCount old new
+counts_twice old mid new a b = record { len = b.len ∙ a.len; capacity = b.capacity ∙ a.capacity }
+
+-- ---- up
+
+-- so far: what lies at a place further up, and what becomes of the whole
+pub record Mending (old now : Slab Node) (way : List Step) (depth : ℕ) (root : Option ℕ) (top : Top) (path : Above) (t new : Shape)
+    : Type 0 where
+  pub up : Above
+  pub there : Shape
+  pub here : Shape
+  pub can : CanMend (get now) way depth root top up there here
+  pub back : (then : Slab Node) (whole : Option ℕ) → Mends (get now) (get then) whole up there here
+      → Mends (get old) (get then) whole path t new
+  pub count : KeepsCount old now
+
+abbrev pub IsMending : Slab Node → Slab Node → List Step → ℕ → Option ℕ → Top → ℕ → Top → Type 0
+IsMending old now way steps root end depth top = (path : Above) (t new : Shape) → CanMend (get old) way steps root end path t new
+    → Mending old now way depth root top path t new
+
+unfoldable pub mending_start : (old : Slab Node) (way : List Step) (steps : ℕ) (root : Option ℕ) (end : Top)
+    → IsMending old old way steps root end steps end
+mending_start old way steps root end path t new can = record {
+  up = path;
+  there = t;
+  here = new;
+  can = can;
+  back = λ then whole m. m;
+  count = record { len = refl; capacity = refl };
+}
+
+mended_end : (look : Look) (way : List Step) (root : Option ℕ) (top : Top) (up : Above) (there here : Shape)
+    → CanMend look way 0 root top up there here → Mends look look top.root up there here
+mended_end look way root top Whole there here can = record {
+  shape = here;
+  here = ap (λ (v : Top). v.root) can.is;
+  stands = can.stands;
+  all = refl;
+  keys = λ k. omega arith;
+  others = λ k z. refl;
+  plain = λ e. refl;
+}
+mended_end look way root top (Beside b key p o up) there here can = absurd (omega (arith, can.steps.1))
+
+pub mending_end : (old now : Slab Node) (way : List Step) (depth : ℕ) (root : Option ℕ) (top : Top) (path : Above) (t new : Shape)
+    → Mending old now way depth root top path t new → depth ≡ 0 → Mends (get old) (get now) top.root path t new
+mending_end old now way depth root top path t new m e =
+    m.back now top.root (mended_end (get now) way root top m.up m.there m.here
+    (subst (λ d. CanMend (get now) way d root top m.up m.there m.here) e m.can))
+
+-- where the tree shows what was there, the whole is up to date
+stopped : (look : Look) (way : List Step) (depth : ℕ) (root : Option ℕ) (top : Top) (up : Above) (there here : Shape)
+    → CanMend look way depth root top up there here → top_of here ≡ top_of there → Mends look look root up there here
+stopped look way depth root top up there here can e =
+    let s = stops look up there here can.above can.stands e in
+    record {
+      shape = plug up here;
+      here = can.here ∙ sym (ap (λ (v : Top). v.root) s.1);
+      stands = s.0;
+      all = plug-items up here;
+      keys = λ k. plug-uses up here k;
+      others = λ k z. refl;
+      plain = λ h. refl;
+    }
+
+module _ (old now : Slab Node) (way : List Step) (depth : ℕ) (root : Option ℕ) (top : Top) (path : Above) (t new : Shape)
+    (m : Mending old now way depth root top path t new) (pos : 0 < depth) where
+  pub mending-few : depth ≤ 14
+  mending-few = omega (arith, steps_few way depth m.up m.there m.can.steps, m.can.low)
+
+  abbrev s : Step
+  s = step_at way (depth - 1)
+
+  pub la : Last way depth m.up
+  la = last_step way depth m.up m.can.steps pos
+
+  abbrev was : Shape
+  was = fork s.before s.key la.piece m.there la.other
+
+  can : CanMend (get now) way depth root top (Beside s.before s.key la.piece la.other la.more) m.there m.here
+  can = subst (λ u. CanMend (get now) way depth root top u m.there m.here) la.is m.can
+
+  pub mending-can : CanHang (get now) s top la.piece m.there m.here la.other
+  mending-can =
+      let h = plug-high la.more was in
+      let e = fork-height s.before s.key la.piece m.there la.other in
+      record {
+        here = can.above.0;
+        fine = can.above.1;
+        near = can.above.2;
+        close = can.close;
+        tree_is = can.is;
+        stands = can.stands;
+        beside = can.above.3;
+        once = λ k. omega (arith, can.once k);
+        low = (omega (arith, can.low, can.close), omega (arith, can.low));
+      }
+
+  module _ (next : Slab Node) (hung : Hung) (i : Hangs (get now) (get next) s hung la.piece m.there m.here la.other)
+      (c : KeepsCount now next) where
+    abbrev j : Joins (get now) (get next) s.before hung.top s.key la.piece m.here la.other
+    j = i.joins
+
+    stays-close : AreNear was j.shape
+    stays-close =
+        let e = fork-height s.before s.key la.piece m.there la.other in
+        elim (cases_eq (height_of m.here) (height_of la.other)) [
+          | inl x ↦
+              let y = ap height_of (j.plain (omega arith, omega arith)) ∙ fork-height s.before s.key la.piece m.here la.other in
+              (omega (arith, can.above.2, can.close), omega (arith, can.above.2, can.close))
+          | inr x ↦ (omega (arith, can.above.2, can.close, j.tall, j.short), omega (arith, can.above.2, can.close, j.tall, j.short))
+        ]
+
+    pub further : CanMend (get next) way (depth - 1) root hung.top la.more was j.shape
+    further = record {
+      steps = la.steps;
+      above = same_above (get now) (get next) la.more was can.above.4 (λ k g. j.others k (omega (arith, can.once k)));
+      here = can.here;
+      is = j.is;
+      stands = j.stands;
+      once = λ k. omega (arith, can.once k, j.keys k);
+      close = stays-close;
+      low = can.low;
+    }
+
+    among-hung : among la.more (items j.shape) ≡ among (Beside s.before s.key la.piece la.other la.more) (items m.here)
+    among-hung = ap (λ ps. among la.more ps) j.all ∙ sides s.before
+      where
+        sides : (b : Bool) → among la.more (items (fork b s.key la.piece m.here la.other))
+            ≡ among (Beside b s.key la.piece la.other la.more) (items m.here)
+        sides true = refl
+        sides false = refl
+
+    pub back : (then : Slab Node) (whole : Option ℕ) → Mends (get next) (get then) whole la.more was j.shape
+        → Mends (get old) (get then) whole path t new
+    back then whole n = m.back then whole (subst (λ u. Mends (get now) (get then) whole u m.there m.here) (sym la.is) (record {
+      shape = n.shape;
+      here = n.here;
+      stands = n.stands;
+      all = n.all ∙ among-hung;
+      keys = λ k. omega (arith, n.keys k, j.keys k);
+      others = λ k z. n.others k (omega (arith, j.keys k)) ∙ j.others k (omega arith);
+      plain = λ e.
+          let a = fork-height s.before s.key la.piece m.there la.other in
+          let d = fork-height s.before s.key la.piece m.here la.other in
+          let x = j.plain (omega (arith, can.above.2), omega (arith, can.above.2)) in
+          n.plain (ap height_of x ∙ omega arith) ∙ ap (λ y. plug la.more y) x;
+    }))
+
+    unfoldable pub mending-next : Mending old next way (depth - 1) root hung.top path t new
+    mending-next = record {
+      up = la.more;
+      there = was;
+      here = j.shape;
+      can = further;
+      back = back;
+      count = counts_twice old now next m.count c;
+    }
+
+    pub mending-stops : hung.same ≡ true → Mends (get old) (get next) root path t new
+    mending-stops e = back next root (stopped (get next) way (depth - 1) root hung.top la.more was j.shape further (i.same e))

@@ -1,0 +1,112 @@
+-- Pieces in order, in lists that are put together.
+use Rattle.std.proofs.Common.{◌≡◌, ℕ, true, false, ◌+◌, ◌<◌, ◌≤◌, List, [], ◌∷◌, ◌++◌, refl, ap, sym, ◌∙◌, subst, arith, append_assoc}
+use Rattle.std.proofs.lemmas.List.{append-nil}
+use Rattle.std.specs.List.{AllByRecursion}
+use Rattle.piece_tree.specs.declared.piece.Piece.{Piece}
+use Rattle.piece_tree.specs.Pieces.{AreSorted, Holds, IsPiece}
+use Rattle.piece_tree.specs.Tree.{items}
+use Rattle.piece_tree.specs.Way.{Above, Whole, Beside, among, front, back}
+
+pub all_append : (P : Piece → Type 0) (xs ys : List Piece) → AllByRecursion P xs → AllByRecursion P ys → AllByRecursion P (xs ++ ys)
+all_append P [] ys a b = b
+all_append P (x ∷ xs) ys a b = (a.0, all_append P xs ys a.1 b)
+
+pub all_left : (P : Piece → Type 0) (xs ys : List Piece) → AllByRecursion P (xs ++ ys) → AllByRecursion P xs
+all_left P [] ys a = tt
+all_left P (x ∷ xs) ys a = (a.0, all_left P xs ys a.1)
+
+pub all_right : (P : Piece → Type 0) (xs ys : List Piece) → AllByRecursion P (xs ++ ys) → AllByRecursion P ys
+all_right P [] ys a = a
+all_right P (x ∷ xs) ys a = all_right P xs ys a.1
+
+pub sorted_from : (low from : ℕ) (ps : List Piece) → low ≤ from → AreSorted from ps → AreSorted low ps
+sorted_from low from [] h s = tt
+sorted_from low from (p ∷ ps) h s = (omega (arith, s.0), s.1, s.2)
+
+pub sorted_front : (from : ℕ) (xs ys : List Piece) → AreSorted from (xs ++ ys) → AreSorted from xs
+sorted_front from [] ys s = tt
+sorted_front from (x ∷ xs) ys s = (s.0, s.1, sorted_front (x.last + 1) xs ys s.2)
+
+pub sorted_at : (from : ℕ) (xs : List Piece) (p : Piece) (ys : List Piece) → AreSorted from (xs ++ p ∷ ys)
+    → (from ≤ p.first) × IsPiece p × AreSorted (p.last + 1) ys
+sorted_at from [] p ys s = s
+sorted_at from (x ∷ xs) p ys s =
+    let a = sorted_at (x.last + 1) xs p ys s.2 in
+    (omega (arith, s.0, s.1, a.0), a.1, a.2)
+
+-- what comes before a piece ends below it, and what comes behind begins above it
+pub ends_below : (from page : ℕ) (xs : List Piece) (p : Piece) (ys : List Piece) → AreSorted from (xs ++ p ∷ ys) → p.first ≤ page
+    → AllByRecursion (λ q. q.last < page) xs
+ends_below from page [] p ys s h = tt
+ends_below from page (x ∷ xs) p ys s h =
+    (let a = sorted_at (x.last + 1) xs p ys s.2 in omega (arith, a.0), ends_below (x.last + 1) page xs p ys s.2 h)
+
+pub begins_above : (from page : ℕ) (ps : List Piece) → AreSorted from ps → page < from → AllByRecursion (λ q. page < q.first) ps
+begins_above from page [] s h = tt
+begins_above from page (p ∷ ps) s h = (omega (arith, s.0), begins_above (p.last + 1) page ps s.2 (omega (arith, s.0, s.1)))
+
+-- others in the place of a piece and of what comes behind it
+pub sorted_with : (from : ℕ) (xs : List Piece) (p : Piece) (ys : List Piece) (q : Piece) (zs : List Piece) → AreSorted from (xs ++ p ∷ ys)
+    → IsPiece q → p.first ≤ q.first → AreSorted (q.last + 1) zs → AreSorted from (xs ++ q ∷ zs)
+sorted_with from [] p ys q zs s i h z = (omega (arith, s.0), i, z)
+sorted_with from (x ∷ xs) p ys q zs s i h z = (s.0, s.1, sorted_with (x.last + 1) xs p ys q zs s.2 i h z)
+
+-- ---- at a place
+
+pub plug-parts : (up : Above) (ps : List Piece) → among up ps ≡ front up ++ ps ++ back up
+plug-parts Whole ps = sym (append-nil ps)
+plug-parts (Beside true key p o up) ps = plug-parts up (ps ++ p ∷ items o) ∙ simp append_assoc
+plug-parts (Beside false key p o up) ps = plug-parts up (items o ++ p ∷ ps) ∙ simp append_assoc
+
+pub sorted_there : (up : Above) (ps : List Piece) (from : ℕ) → AreSorted from (among up ps) → (low : ℕ) × AreSorted low ps
+sorted_there Whole ps from s = (from, s)
+sorted_there (Beside true key p o up) ps from s =
+    let a = sorted_there up (ps ++ p ∷ items o) from s in
+    (a.0, sorted_front a.0 ps (p ∷ items o) a.1)
+sorted_there (Beside false key p o up) ps from s =
+    let a = sorted_there up (items o ++ p ∷ ps) from s in
+    (p.last + 1, (sorted_at a.0 (items o) p ps a.1).2)
+
+-- ---- one split of a list
+
+-- a page lies in one piece alone
+pub same_split : (from page : ℕ) (xs : List Piece) (p : Piece) (ys bs : List Piece) (q : Piece) (cs : List Piece)
+    → xs ++ p ∷ ys ≡ bs ++ q ∷ cs → AreSorted from (xs ++ p ∷ ys) → Holds p page → Holds q page → (xs ≡ bs) × (p ≡ q) × (ys ≡ cs)
+same_split from page [] p ys [] q cs e s h g = (refl, cc, cc)
+same_split from page [] p ys (b ∷ bs) q cs e s h g =
+    let hd : p ≡ b = cc in
+    let tl : ys ≡ bs ++ q ∷ cs = cc in
+    let a = sorted_at (p.last + 1) bs q cs (subst (λ l. AreSorted (p.last + 1) l) tl s.2) in
+    absurd (omega (arith, a.0, h, g))
+same_split from page (x ∷ xs) p ys [] q cs e s h g =
+    let hd : x ≡ q = cc in
+    let a = sorted_at (x.last + 1) xs p ys s.2 in
+    let l : x.last ≡ q.last = ap (λ (r : Piece). r.last) hd in
+    absurd (omega (arith, a.0, h, g))
+same_split from page (x ∷ xs) p ys (b ∷ bs) q cs e s h g =
+    let hd : x ≡ b = cc in
+    let tl : xs ++ p ∷ ys ≡ bs ++ q ∷ cs = cc in
+    let a = same_split (x.last + 1) page xs p ys bs q cs tl s.2 h g in
+    (cc, a.1, a.2)
+
+-- and one that lies in none between two pieces alone
+pub same_gap : (page : ℕ) (xs ys bs cs : List Piece) → xs ++ ys ≡ bs ++ cs → AllByRecursion (λ q. q.last < page) xs
+    → AllByRecursion (λ q. page < q.first) ys → AllByRecursion (λ q. q.last < page) bs → AllByRecursion (λ q. page < q.first) cs
+    → AllByRecursion (λ q. q.first ≤ q.last) (xs ++ ys) → (xs ≡ bs) × (ys ≡ cs)
+same_gap page [] ys [] cs e a b c d f = (refl, e)
+same_gap page [] ys (x ∷ bs) cs e a b c d f =
+    let w : AllByRecursion (λ q. page < q.first) (x ∷ bs ++ cs) = subst (λ l. AllByRecursion (λ q. page < q.first) l) e b in
+    let v : AllByRecursion (λ q. q.first ≤ q.last) (x ∷ bs ++ cs) = subst (λ l. AllByRecursion (λ q. q.first ≤ q.last) l) e f in
+    absurd (omega (arith, w.0, c.0, v.0))
+same_gap page (x ∷ xs) ys [] cs e a b c d f =
+    let w : AllByRecursion (λ q. page < q.first) (x ∷ xs ++ ys) = subst (λ l. AllByRecursion (λ q. page < q.first) l) (sym e) d in
+    absurd (omega (arith, w.0, a.0, f.0))
+same_gap page (x ∷ xs) ys (y ∷ bs) cs e a b c d f =
+    let hd : x ≡ y = cc in
+    let tl : xs ++ ys ≡ bs ++ cs = cc in
+    let g = same_gap page xs ys bs cs tl a.1 b c.1 d f.1 in
+    (cc, g.1)
+
+pub all_pages : (from : ℕ) (ps : List Piece) → AreSorted from ps → AllByRecursion (λ q. q.first ≤ q.last) ps
+all_pages from [] s = tt
+all_pages from (p ∷ ps) s = (s.1.0, all_pages (p.last + 1) ps s.2)

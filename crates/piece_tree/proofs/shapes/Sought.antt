@@ -1,0 +1,363 @@
+-- Searches in a tree.
+use Rattle.std.proofs.Common.{◌≡◌, ℕ, ◌+◌, ◌<◌, ◌≤◌, max, Bool, true, false, List, [], ◌∷◌, ◌++◌, length, Option, Some, None, IfSome, refl}
+use Rattle.std.proofs.Common.{ap, sym, ◌∙◌, subst, arith, append_assoc, slice_set, IsSome}
+use Rattle.std.proofs.lemmas.Bool.Decides.{nat_tests}
+use Rattle.std.proofs.lemmas.List.{append-nil}
+use Rattle.std.specs.List.{AllByRecursion}
+use Rattle.slab.specs.Slab.{Slab, get}
+use Rattle.piece_tree.specs.declared.piece.Piece.{Piece}
+use Rattle.piece_tree.specs.declared.node.Node.{Node}
+use Rattle.piece_tree.specs.declared.way.Step.{Step}
+use Rattle.piece_tree.specs.Pieces.{AreSorted, IsPiece}
+use Rattle.piece_tree.specs.Search.{IsFirstLong, IsShort, first_of, pieces_from}
+use Rattle.piece_tree.specs.Tree.{Look, Shape, Empty, Fork, items, height_of, longest_of, free_pages, root_of, at_root, Stands, IsBelow}
+use Rattle.piece_tree.specs.Tree.{IsWhole}
+use Rattle.piece_tree.specs.Tree.{pieces_of}
+use Rattle.piece_tree.specs.Way.{Above, Whole, Beside, plug, front, back, AreSteps, IsHand}
+use Rattle.piece_tree.proofs.shapes.Led.{Roots, roots, root_there, root-falls, node_height, place-few, steps_more}
+use Rattle.piece_tree.proofs.shapes.Beside.{none_empty}
+use Rattle.piece_tree.proofs.shapes.Mended.{plug-items, plug_stands}
+use Rattle.piece_tree.proofs.shapes.Sorted.{all_append, plug-parts, sorted_at, sorted_front, sorted_there, ends_below}
+use Rattle.piece_tree.proofs.shapes.Tall.{whole-low, whole_view}
+
+-- ---- the first piece from a page on
+
+from-skip : (page : ℕ) (xs ys : List Piece) → AllByRecursion (λ q. q.first < page) xs → pieces_from page (xs ++ ys) ≡ pieces_from page ys
+unfolding pieces_from
+from-skip page [] ys a = refl
+from-skip page (x ∷ xs) ys a = grind (arith, nat_tests, from-skip page xs ys a.1, a.0)
+
+from-all : (page : ℕ) (ps : List Piece) → IfSome (first_of ps) (λ p. page ≤ p.first) → pieces_from page ps ≡ ps
+unfolding pieces_from
+from-all page [] a = refl
+from-all page (p ∷ ps) a = grind (arith, nat_tests, a)
+
+-- so far: what comes before a place begins below the page, and what was found is the first piece behind it
+pub record Narrows (page : ℕ) (at : Option ℕ) (found : Option Piece) (t : Shape) : Type 0 where
+  pub path : Above
+  pub there : Shape
+  pub is : t ≡ plug path there
+  pub root : at ≡ root_of there
+  pub before : AllByRecursion (λ q. q.first < page) (front path)
+  pub behind : found ≡ first_of (back path)
+  pub from : IfSome found (λ p. page ≤ p.first)
+
+abbrev pub IsNarrowing : Slab Node → Option ℕ → ℕ → Option ℕ → Option Piece → Type 0
+IsNarrowing nodes root page at found = (t : Shape) → IsWhole nodes root t → Narrows page at found t
+
+pub narrow_start : (nodes : Slab Node) (root : Option ℕ) (page : ℕ) → IsNarrowing nodes root page root None
+narrow_start nodes root page t w = record { path = Whole; there = t; is = refl; root = w.here; before = tt; behind = refl; from = tt }
+
+module _ (nodes : Slab Node) (root : Option ℕ) (page : ℕ) (at : Option ℕ) (found : Option Piece) (key : ℕ) (t : Shape)
+    (w : IsWhole nodes root t) (q : Narrows page at found t) (e : at ≡ Some key) where
+  narrow-root : root_of q.there ≡ Some key
+  narrow-root = sym q.root ∙ e
+
+  narrow-stands : Stands (get nodes) q.there
+  narrow-stands = (plug_stands (get nodes) q.path q.there (subst (λ x. Stands (get nodes) x) q.is w.stands)).0
+
+  pub narrow-there : IsSome (get nodes key)
+  narrow-there = root_there (get nodes) key q.there narrow-root narrow-stands
+
+  module _ (node : Node) (f : get nodes key ≡ Some node) where
+    abbrev x : Roots key node q.there
+    x = roots (get nodes) key node q.there narrow-root narrow-stands f
+
+    pub narrow-falls : (node_height (at_root (get nodes) node.left) < node_height (at_root (get nodes) at))
+        × (node_height (at_root (get nodes) node.right) < node_height (at_root (get nodes) at))
+    narrow-falls = subst (λ o. (node_height (at_root (get nodes) node.left) < node_height (at_root (get nodes) o))
+        × (node_height (at_root (get nodes) node.right) < node_height (at_root (get nodes) o))) (sym e)
+        (root-falls (get nodes) key node q.there x narrow-stands f)
+
+    ordered : (low : ℕ) × AreSorted low (items x.l ++ node.piece ∷ items x.r)
+    ordered = sorted_there q.path (items x.l ++ node.piece ∷ items x.r) 0
+        (subst (λ ps. AreSorted 0 ps) (ap items q.is ∙ ap (λ y. items (plug q.path y)) x.is
+        ∙ plug-items q.path (Fork key node.piece x.l x.r)) w.sorted)
+
+    pub narrow-right : node.piece.first < page → Narrows page node.right found t
+    narrow-right h = record {
+      path = Beside false key node.piece x.l q.path;
+      there = x.r;
+      is = q.is ∙ ap (plug q.path) x.is;
+      root = x.right;
+      before = all_append (λ y. y.first < page) (front q.path) (items x.l ++ node.piece ∷ []) q.before
+          (all_append (λ y. y.first < page) (items x.l) (node.piece ∷ [])
+          (begins_below ordered.0 page (items x.l) node.piece (items x.r) ordered.1 h) (h, tt));
+      behind = q.behind;
+      from = q.from;
+    }
+      where
+        begins_below : (from page : ℕ) (xs : List Piece) (p : Piece) (ys : List Piece) → AreSorted from (xs ++ p ∷ ys) → p.first < page
+            → AllByRecursion (λ q. q.first < page) xs
+        begins_below from page [] p ys s h = tt
+        begins_below from page (x ∷ xs) p ys s h =
+            (let a = sorted_at (x.last + 1) xs p ys s.2 in omega (arith, a.0, s.1), begins_below (x.last + 1) page xs p ys s.2 h)
+
+    pub narrow-left : page ≤ node.piece.first → Narrows page node.left (Some node.piece) t
+    narrow-left h = record {
+      path = Beside true key node.piece x.r q.path;
+      there = x.l;
+      is = q.is ∙ ap (plug q.path) x.is;
+      root = x.left;
+      before = q.before;
+      behind = refl;
+      from = h;
+    }
+
+pub narrow-end : (nodes : Slab Node) (root : Option ℕ) (page : ℕ) (at : Option ℕ) (found : Option Piece) (t : Shape)
+    → IsWhole nodes root t → Narrows page at found t → at ≡ None → found ≡ first_of (pieces_from page (pieces_of nodes root))
+narrow-end nodes root page at found t w q e =
+    let z = none_empty q.there (sym q.root ∙ e) in
+    q.behind ∙ sym (ap first_of (ap (pieces_from page) (whole_view nodes root t w ∙ ap items q.is ∙ ap (λ y. items (plug q.path y)) z
+    ∙ plug-items q.path Empty ∙ plug-parts q.path [] ∙ ap (λ xs. xs ++ back q.path) (append-nil (front q.path)))
+    ∙ from-skip page (front q.path) (back q.path) q.before
+    ∙ from-all page (back q.path) (subst (λ o. IfSome o (λ p. page ≤ p.first)) q.behind q.from)))
+
+-- ---- the first piece with so many free pages
+
+-- where none is so long
+pub short-all : (from pages : ℕ) (t : Shape) → longest_of t < pages → AllByRecursion (IsShort from pages) (items t)
+short-all from pages Empty h = tt
+short-all from pages (Fork key p l r) h =
+    all_append (IsShort from pages) (items l) (p ∷ items r) (short-all from pages l (omega arith))
+    ((λ e. omega arith), short-all from pages r (omega arith))
+
+short-below : (from pages : ℕ) (ps : List Piece) → AllByRecursion (λ q. q.last < from) ps → AllByRecursion (IsShort from pages) ps
+short-below from pages [] a = tt
+short-below from pages (p ∷ ps) a = ((λ e. absurd (omega (arith, a.0))), short-below from pages ps a.1)
+
+-- what is longest is shown
+pub shows_longest : (look : Look) (key : ℕ) (node : Node) (t : Shape) → root_of t ≡ Some key → Stands look t → look key ≡ Some node
+    → node.longest ≡ longest_of t
+shows_longest look key node Empty e s f = absurd (cc)
+shows_longest look key node (Fork k p l r) e s f =
+    let same : k ≡ key = cc in
+    let at : look k ≡ Some node = ap look same ∙ f in
+    let here = s.0 in
+    let is : node ≡ record {
+      piece = p;
+      left = root_of l;
+      right = root_of r;
+      height = 1 + max (height_of l) (height_of r);
+      longest = max (free_pages p) (max (longest_of l) (longest_of r));
+    } = cc in
+    ap (λ (n : Node). n.longest) is
+
+-- so far: what comes before a place is short, and the tree there isn't
+pub record GoesLong (way : List Step) (pages : ℕ) (at : Option ℕ) (depth : ℕ) (t : Shape) : Type 0 where
+  pub path : Above
+  pub there : Shape
+  pub is : t ≡ plug path there
+  pub root : at ≡ root_of there
+  pub steps : AreSteps way depth path
+  pub short : AllByRecursion (IsShort 0 pages) (front path)
+  pub long : pages ≤ longest_of there
+
+abbrev pub IsGoingLong : Slab Node → Option ℕ → ℕ → List Step → Option ℕ → ℕ → Type 0
+IsGoingLong nodes root pages way at depth =
+    ((t : Shape) → IsWhole nodes root t → GoesLong way pages at depth t) × (length way ≡ 14)
+
+pub long_start : (nodes : Slab Node) (root : Option ℕ) (pages : ℕ) (way : List Step) → length way ≡ 14 → (n : ℕ)
+    → ((t : Shape) → IsBelow (get nodes) root t → n ≡ longest_of t) → pages ≤ n → IsGoingLong nodes root pages way root 0
+long_start nodes root pages way e n is h = (
+  (λ t w. record {
+    path = Whole;
+    there = t;
+    is = refl;
+    root = w.here;
+    steps = refl;
+    short = tt;
+    long = omega (arith, is t (w.here, w.stands));
+  }),
+  e,
+)
+
+module _ (nodes : Slab Node) (root : Option ℕ) (pages : ℕ) (way : List Step) (at : Option ℕ) (depth key : ℕ)
+    (i : IsGoingLong nodes root pages way at depth) (e : at ≡ Some key) (t : Shape) (w : IsWhole nodes root t) where
+  abbrev g : GoesLong way pages at depth t
+  g = i.0 t w
+
+  pub long-root : root_of g.there ≡ Some key
+  long-root = sym g.root ∙ e
+
+  pub long-stands : Stands (get nodes) g.there
+  long-stands = (plug_stands (get nodes) g.path g.there (subst (λ x. Stands (get nodes) x) g.is w.stands)).0
+
+  pub long-there : IsSome (get nodes key)
+  long-there = root_there (get nodes) key g.there long-root long-stands
+
+  pub long-few : depth < 14
+  long-few = place-few way depth key g.path g.there g.steps long-root (subst (λ x. height_of x ≤ 14) g.is (whole-low nodes root t w))
+
+  module _ (node : Node) (f : get nodes key ≡ Some node) where
+    abbrev y : Roots key node g.there
+    y = roots (get nodes) key node g.there long-root long-stands f
+
+    stands-at : Stands (get nodes) (Fork key node.piece y.l y.r)
+    stands-at = subst (λ x. Stands (get nodes) x) y.is long-stands
+
+    pub long-left : IsBelow (get nodes) node.left y.l
+    long-left = (y.left, stands-at.3)
+
+    pub long-piece : IsPiece node.piece
+    long-piece = stands-at.1
+
+    long-is : pages ≤ max (free_pages node.piece) (max (longest_of y.l) (longest_of y.r))
+    long-is = subst (λ x. pages ≤ longest_of x) y.is g.long
+
+    pub long-smaller : (b : Bool) (child : Option ℕ) → (b ≡ true → child ≡ node.left) → (b ≡ false → child ≡ node.right)
+        → node_height (at_root (get nodes) child) < node_height (at_root (get nodes) at)
+    long-smaller true child left right =
+        subst (λ o. node_height (at_root (get nodes) child) < node_height (at_root (get nodes) o)) (sym e)
+        (subst (λ o. node_height (at_root (get nodes) o) < node_height (at_root (get nodes) (Some key))) (sym (left refl))
+        (root-falls (get nodes) key node g.there y long-stands f).0)
+    long-smaller false child left right =
+        subst (λ o. node_height (at_root (get nodes) child) < node_height (at_root (get nodes) o)) (sym e)
+        (subst (λ o. node_height (at_root (get nodes) o) < node_height (at_root (get nodes) (Some key))) (sym (right refl))
+        (root-falls (get nodes) key node g.there y long-stands f).1)
+
+    pub long-on : (b : Bool) (child : Option ℕ) → (b ≡ true → child ≡ node.left) → (b ≡ false → child ≡ node.right)
+        → (b ≡ true → pages ≤ longest_of y.l) → (b ≡ false → (longest_of y.l < pages) × (free_pages node.piece < pages))
+        → GoesLong (slice_set way depth (record { key = key; before = b })) pages child (depth + 1) t
+    long-on true child left right on off = record {
+      path = Beside true key node.piece y.r g.path;
+      there = y.l;
+      is = g.is ∙ ap (plug g.path) y.is;
+      root = left refl ∙ y.left;
+      steps = steps_more way depth key true node.piece y.r g.path g.steps (omega (arith, i.1, long-few));
+      short = g.short;
+      long = on refl;
+    }
+    long-on false child left right on off =
+        let h = off refl in
+        record {
+          path = Beside false key node.piece y.l g.path;
+          there = y.r;
+          is = g.is ∙ ap (plug g.path) y.is;
+          root = right refl ∙ y.right;
+          steps = steps_more way depth key false node.piece y.l g.path g.steps (omega (arith, i.1, long-few));
+          short = all_append (IsShort 0 pages) (front g.path) (items y.l ++ node.piece ∷ []) g.short
+              (all_append (IsShort 0 pages) (items y.l) (node.piece ∷ []) (short-all 0 pages y.l h.0) ((λ x. h.1), tt));
+          long = omega (arith, long-is, h);
+        }
+
+    -- it is the piece there
+    pub long-here : longest_of y.l < pages → pages ≤ free_pages node.piece
+        → (h : IsHand way (record { key = key; depth = depth }) t) × IsFirstLong 0 pages (items t) h.piece
+    long-here none h = (
+      record {
+        path = g.path;
+        piece = node.piece;
+        left = y.l;
+        right = y.r;
+        is = g.is ∙ ap (plug g.path) y.is;
+        steps = g.steps;
+      },
+      record {
+        before = front g.path ++ items y.l;
+        behind = items y.r ++ back g.path;
+        parts = ap items g.is ∙ ap (λ x. items (plug g.path x)) y.is ∙ plug-items g.path (Fork key node.piece y.l y.r)
+            ∙ plug-parts g.path (items y.l ++ node.piece ∷ items y.r)
+            ∙ regroup (front g.path) (items y.l) node.piece (items y.r) (back g.path);
+        short = all_append (IsShort 0 pages) (front g.path) (items y.l) g.short (short-all 0 pages y.l none);
+        ends = omega arith;
+        long = h;
+      },
+    )
+      where
+        regroup : (fs ls : List Piece) (x : Piece) (rs bs : List Piece) → (fs ++ (ls ++ x ∷ rs)) ++ bs ≡ (fs ++ ls) ++ x ∷ (rs ++ bs)
+        regroup fs ls x rs bs = simp append_assoc
+
+pub long-end : (way : List Step) (pages : ℕ) (at : Option ℕ) (depth : ℕ) (t : Shape) → GoesLong way pages at depth t → at ≡ None
+    → 1 ≤ pages → ⊥
+long-end way pages at depth t g e pos =
+    let z = none_empty g.there (sym g.root ∙ e) in
+    let h : pages ≤ longest_of Empty = subst (λ x. pages ≤ longest_of x) z g.long in
+    omega arith
+
+-- ---- and that ends at a page or behind it
+
+module _ (look : Look) (root : Option ℕ) (key : ℕ) (node : Node) (from pages : ℕ) (t : Shape) (low : ℕ) (b : IsBelow look root t)
+    (s : AreSorted low (items t)) (e : root ≡ Some key) (f : look key ≡ Some node) where
+  abbrev pub far-z : Roots key node t
+  far-z = roots look key node t (sym b.0 ∙ e) b.1 f
+
+  stands-z : Stands look (Fork key node.piece far-z.l far-z.r)
+  stands-z = subst (λ x. Stands look x) far-z.is b.1
+
+  sorted-z : AreSorted low (items far-z.l ++ node.piece ∷ items far-z.r)
+  sorted-z = subst (λ x. AreSorted low (items x)) far-z.is s
+
+  pub far-there : IsSome (look key)
+  far-there = root_there look key t (sym b.0 ∙ e) b.1
+
+  pub far-left : IsBelow look node.left far-z.l
+  far-left = (far-z.left, stands-z.3)
+
+  pub far-right : IsBelow look node.right far-z.r
+  far-right = (far-z.right, stands-z.4)
+
+  pub far-sorted_left : AreSorted low (items far-z.l)
+  far-sorted_left = sorted_front low (items far-z.l) (node.piece ∷ items far-z.r) sorted-z
+
+  pub far-sorted_right : AreSorted (node.piece.last + 1) (items far-z.r)
+  far-sorted_right = (sorted_at low (items far-z.l) node.piece (items far-z.r) sorted-z).2
+
+  pub far-piece : IsPiece node.piece
+  far-piece = stands-z.1
+
+  pub far-falls : (node_height (at_root look node.left) < node_height (at_root look root))
+      × (node_height (at_root look node.right) < node_height (at_root look root))
+  far-falls = subst (λ o. (node_height (at_root look node.left) < node_height (at_root look o))
+      × (node_height (at_root look node.right) < node_height (at_root look o))) (sym e) (root-falls look key node t far-z b.1 f)
+
+  pub far-short : node.longest < pages → AllByRecursion (IsShort from pages) (items t)
+  far-short h = short-all from pages t (omega (arith, shows_longest look key node t (sym b.0 ∙ e) b.1 f))
+
+  pub far-in_left : (p : Piece) → IsFirstLong from pages (items far-z.l) p → IsFirstLong from pages (items t) p
+  far-in_left p i = record {
+    before = i.before;
+    behind = i.behind ++ node.piece ∷ items far-z.r;
+    parts = ap items far-z.is ∙ ap (λ xs. xs ++ node.piece ∷ items far-z.r) i.parts
+        ∙ append_assoc i.before (p ∷ i.behind) (node.piece ∷ items far-z.r);
+    short = i.short;
+    ends = i.ends;
+    long = i.long;
+  }
+
+  pub far-here : AllByRecursion (IsShort from pages) (items far-z.l) → from ≤ node.piece.last → pages ≤ free_pages node.piece
+      → IsFirstLong from pages (items t) node.piece
+  far-here a h l = record {
+    before = items far-z.l;
+    behind = items far-z.r;
+    parts = ap items far-z.is;
+    short = a;
+    ends = h;
+    long = l;
+  }
+
+  pub far-in_right : (p : Piece) → AllByRecursion (IsShort from pages) (items far-z.l) → IsShort from pages node.piece
+      → IsFirstLong from pages (items far-z.r) p → IsFirstLong from pages (items t) p
+  far-in_right p a h i = record {
+    before = items far-z.l ++ node.piece ∷ i.before;
+    behind = i.behind;
+    parts = ap items far-z.is ∙ ap (λ xs. items far-z.l ++ node.piece ∷ xs) i.parts
+        ∙ sym (append_assoc (items far-z.l) (node.piece ∷ i.before) (p ∷ i.behind));
+    short = all_append (IsShort from pages) (items far-z.l) (node.piece ∷ i.before) a (h, i.short);
+    ends = i.ends;
+    long = i.long;
+  }
+
+  pub far-none : AllByRecursion (IsShort from pages) (items far-z.l) → IsShort from pages node.piece
+      → AllByRecursion (IsShort from pages) (items far-z.r) → AllByRecursion (IsShort from pages) (items t)
+  far-none a h c = subst (λ x. AllByRecursion (IsShort from pages) (items x)) (sym far-z.is)
+      (all_append (IsShort from pages) (items far-z.l) (node.piece ∷ items far-z.r) a (h, c))
+
+  -- where the piece ends below the page, so does all before it
+  pub far-below : node.piece.last < from → AllByRecursion (IsShort from pages) (items far-z.l) × IsShort from pages node.piece
+  far-below h =
+      let a = sorted_at low (items far-z.l) node.piece (items far-z.r) sorted-z in (
+        short-below from pages (items far-z.l)
+            (ends_below low from (items far-z.l) node.piece (items far-z.r) sorted-z (omega (arith, a.1))),
+        (λ x. absurd (omega arith)),
+      )

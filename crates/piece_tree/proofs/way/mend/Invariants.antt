@@ -1,0 +1,9 @@
+use Rattle.piece_tree.proofs.shapes.Mended.{IsMending}
+use Rattle.piece_tree.proofs.way.mend.Given as goal
+
+-- what lies at the place that was come to, whichever tree lay at the end of the way
+abbrev pub invariant-loop-depth : goal.invariant-loop-depth
+invariant-loop-depth l = IsMending l.fn.nodes l.nodes l.way l.fn.steps l.fn.root l.fn.end l.depth l.top
+
+abbrev pub decreases-loop-depth : goal.decreases-loop-depth
+decreases-loop-depth l = l.depth

@@ -1,0 +1,4 @@
+pub mod Pieces
+pub mod Tree
+pub mod Way
+pub mod Search

@@ -1,0 +1,288 @@
+//! Ways down a tree, and back up once what lies at their end has changed.
+
+ghost use Rattle.std.specs.Prelude.{◌≡◌, ◌≤◌, ◌++◌, ◌∷◌, ℕ, List, Option, Some, IfSome, IfNone};
+ghost use Rattle.slab.specs.Slab.{get};
+ghost use Rattle.piece_tree.specs.Pieces.{AreSorted, Holds};
+ghost use Rattle.piece_tree.specs.Search.{beside_of};
+ghost use Rattle.piece_tree.specs.Tree.{Empty, IsWhole, KeepsCount, Shape, items};
+ghost use Rattle.piece_tree.specs.Way.{Above, AreAbove, AreSteps, CanHang, CanLift, CanMend, EndsBefore, IsBetween, Hangs, IsAtHand};
+ghost use Rattle.piece_tree.specs.Way.{IsHeld, Leads};
+ghost use Rattle.piece_tree.specs.Way.{LeadsOn, Mends, back, front};
+
+use crate::links::{free_length, link, longest, read, set_longest};
+use crate::node::{Node, Top};
+use crate::piece::Piece;
+use crate::turn::turn;
+use slab::Slab;
+
+/// The greatest height of a tree, and so the most steps of a way down.
+pub(crate) const MOST_HEIGHT: usize = 14;
+
+/// A step down: a key, and whether the way goes on before it.
+#[derive(Clone, Copy)]
+pub(crate) struct Step {
+    pub(crate) key: usize,
+    pub(crate) before: bool,
+}
+
+/// Where no step is yet.
+pub(crate) const NO_STEP: Step = Step {
+    key: 0,
+    before: false,
+};
+
+/// Where a way ends: the root of what lies there, and how many steps lead to it.
+#[derive(Clone, Copy)]
+pub(crate) struct Place {
+    pub(crate) at: Option<usize>,
+    pub(crate) depth: usize,
+}
+
+/// Where a piece lies: its key, and how many steps lead to it.
+#[derive(Clone, Copy)]
+pub(crate) struct Held {
+    pub(crate) key: usize,
+    pub(crate) depth: usize,
+}
+
+/// What lies at a key once a tree was hung below it, and whether it shows what was there.
+#[derive(Clone, Copy)]
+pub(crate) struct Hung {
+    pub(crate) top: Top,
+    pub(crate) same: bool,
+}
+
+/// Goes down to the piece that a page lies in, or to where it would be.
+pub(crate) fn walk(
+    nodes: &Slab<Node>,
+    root: Option<usize>,
+    page: u64,
+    way: &mut [Step; MOST_HEIGHT],
+) -> Place
+    requires { (t : Shape) × IsWhole nodes.now root t }
+    ensures leads { (t : Shape) → IsWhole nodes.now root t → Leads way.new page result t }
+    ensures holds { IfSome result.at (λ key. (n : Node) × (get nodes.now key ≡ Some n) × Holds n.piece page) }
+{
+    let mut at = root;
+    let mut depth = 0;
+    while let Some(key) = at {
+        let node = &nodes[key];
+        let before = page < node.piece.first;
+        if !before && page <= node.piece.last {
+            return Place { at, depth };
+        }
+        way[depth] = Step { key, before };
+        at = node.child(before);
+        depth += 1;
+    }
+    Place { at, depth }
+}
+
+/// The same, where it may be the piece at hand.
+pub(crate) fn reach(
+    nodes: &Slab<Node>,
+    root: Option<usize>,
+    page: u64,
+    way: &mut [Step; MOST_HEIGHT],
+    hand: Option<Held>,
+) -> Place
+    requires { (t : Shape) × IsWhole nodes.now root t × IsAtHand way.old hand t }
+    ensures leads { (t : Shape) → IsWhole nodes.now root t → IsAtHand way.old hand t → Leads way.new page result t }
+    ensures holds { IfSome result.at (λ key. (n : Node) × (get nodes.now key ≡ Some n) × Holds n.piece page) }
+{
+    if let Some(held) = hand {
+        let piece = nodes[held.key].piece;
+        if piece.first <= page && page <= piece.last {
+            return Place {
+                at: Some(held.key),
+                depth: held.depth,
+            };
+        }
+    }
+    walk(nodes, root, page, way)
+}
+
+/// Goes on from a key to the piece right behind its own, where that lies below the key.
+pub(crate) fn go_behind(
+    nodes: &Slab<Node>,
+    way: &mut [Step; MOST_HEIGHT],
+    held: Held,
+) -> Option<Held>
+    requires { (root : Option ℕ) × (path : Above) × (p : Piece) × (l : Shape) × (r : Shape)
+        × IsHeld nodes.now root way.old held path p l r }
+    ensures some { (root : Option ℕ) (path : Above) (p : Piece) (l r : Shape) → IsHeld nodes.now root way.old held path p l r
+        → IfSome result (λ next. LeadsOn nodes.now way.new next path held.key p l r) }
+    ensures none { (root : Option ℕ) (path : Above) (p : Piece) (l r : Shape) → IsHeld nodes.now root way.old held path p l r
+        → IfNone result (r ≡ Empty) }
+    ensures unchanged { IfNone result (way.new ≡ way.old) }
+{
+    let mut at = nodes[held.key].right?;
+    way[held.depth] = Step {
+        key: held.key,
+        before: false,
+    };
+    let mut depth = held.depth + 1;
+    while let Some(left) = nodes[at].left {
+        way[depth] = Step {
+            key: at,
+            before: true,
+        };
+        at = left;
+        depth += 1;
+    }
+    Some(Held { key: at, depth })
+}
+
+/// The piece right before a place, or right behind it, of those that the way there passes.
+pub(crate) fn piece_above(
+    nodes: &Slab<Node>,
+    way: &[Step; MOST_HEIGHT],
+    steps: usize,
+    before: bool,
+) -> Option<Piece>
+    requires { (t : Shape) × (path : Above) × AreAbove (get nodes.now) path t × AreSteps way.now steps path × (steps ≤ MOST_HEIGHT) }
+    ensures { (t : Shape) (path : Above) → AreAbove (get nodes.now) path t → AreSteps way.now steps path
+        → result ≡ beside_of before (front path) (back path) }
+{
+    let mut depth = steps;
+    while depth > 0 {
+        depth -= 1;
+        let step = way[depth];
+        if step.before != before {
+            return Some(nodes[step.key].piece);
+        }
+    }
+    None
+}
+
+/// Hangs a tree where a step goes to.
+fn hang(nodes: &mut Slab<Node>, step: Step, tree: Top) -> Hung
+    requires { (piece : Piece) × (was : Shape) × (n : Shape) × (f : Shape) × CanHang (get nodes.old) step tree piece was n f }
+    ensures hung { (piece : Piece) (was n f : Shape) → CanHang (get nodes.old) step tree piece was n f
+        → Hangs (get nodes.old) (get nodes.new) step result piece was n f }
+    ensures count { KeepsCount nodes.old nodes.new }
+{
+    let node = &nodes[step.key];
+    let piece = node.piece;
+    let was_height = node.height;
+    let was_longest = node.longest;
+    let other = read(nodes, node.child(!step.before));
+    if tree.height > other.height + 1 {
+        let top = turn(nodes, step.before, tree, step.key, piece, other);
+        return Hung { top, same: false };
+    }
+    if other.height > tree.height + 1 {
+        let top = turn(nodes, !step.before, other, step.key, piece, tree);
+        return Hung { top, same: false };
+    }
+    let top = link(nodes, step.before, tree, step.key, piece, other);
+    let same = top.height == was_height && top.longest == was_longest;
+    Hung { top, same }
+}
+
+/// Brings a tree up to date from the end of a way on, where another tree lies now: up to the first key that shows what it did.
+pub(crate) fn mend(
+    nodes: &mut Slab<Node>,
+    way: &[Step; MOST_HEIGHT],
+    steps: usize,
+    root: Option<usize>,
+    end: Top,
+) -> Option<usize>
+    requires { (path : Above) × (t : Shape) × (new : Shape) × CanMend (get nodes.old) way.now steps root end path t new }
+    ensures mended { (path : Above) (t new : Shape) → CanMend (get nodes.old) way.now steps root end path t new
+        → Mends (get nodes.old) (get nodes.new) result path t new }
+    ensures count { KeepsCount nodes.old nodes.new }
+{
+    let mut depth = steps;
+    let mut top = end;
+    while depth > 0 {
+        depth -= 1;
+        let hung = hang(nodes, way[depth], top);
+        if hung.same {
+            return root;
+        }
+        top = hung.top;
+    }
+    top.root
+}
+
+/// Brings a tree up to date from the end of a way on, where the tree has the root and the height that it had, and what is longest there
+/// `was` so long and is so long `now`: up to the first key that shows what it did. It ends at once at a key that shows no less than is
+/// longest now, and something else than what was longest.
+pub(crate) fn lift(
+    nodes: &mut Slab<Node>,
+    way: &[Step; MOST_HEIGHT],
+    steps: usize,
+    was: u64,
+    now: u64,
+)
+    requires { (root : Option ℕ) × (path : Above) × (t : Shape) × (new : Shape)
+        × CanLift (get nodes.old) way.now steps root path t new was now }
+    ensures lifted { (root : Option ℕ) (path : Above) (t new : Shape) → CanLift (get nodes.old) way.now steps root path t new was now
+        → Mends (get nodes.old) (get nodes.new) root path t new }
+    ensures count { KeepsCount nodes.old nodes.new }
+{
+    let mut depth = steps;
+    let mut was = was;
+    let mut now = now;
+    while depth > 0 {
+        depth -= 1;
+        let step = way[depth];
+        let node = &nodes[step.key];
+        let shown = node.longest;
+        if now <= shown && shown != was {
+            return;
+        }
+        let other = longest(nodes, node.child(!step.before));
+        let then = now.max(free_length(node.piece).max(other));
+        if then == shown {
+            return;
+        }
+        set_longest(nodes, step.key, then);
+        was = shown;
+        now = then;
+    }
+}
+
+/// Goes on from a key to the end of the tree before it, where nothing is: how many steps lead there.
+pub(crate) fn go_before(nodes: &Slab<Node>, way: &mut [Step; MOST_HEIGHT], held: Held) -> usize
+    requires { (root : Option ℕ) × (path : Above) × (p : Piece) × (l : Shape) × (r : Shape)
+        × IsHeld nodes.now root way.old held path p l r }
+    ensures { (root : Option ℕ) (path : Above) (p : Piece) (l r : Shape) → IsHeld nodes.now root way.old held path p l r
+        → EndsBefore way.new result path held.key p l r }
+{
+    let mut at = nodes[held.key].left;
+    way[held.depth] = Step {
+        key: held.key,
+        before: true,
+    };
+    let mut depth = held.depth + 1;
+    while let Some(key) = at {
+        way[depth] = Step { key, before: false };
+        at = nodes[key].right;
+        depth += 1;
+    }
+    depth
+}
+
+/// The way to where a piece belongs, which lies between two others: mostly right before the one at hand. How many steps lead there.
+pub(crate) fn go_between(
+    nodes: &Slab<Node>,
+    root: Option<usize>,
+    way: &mut [Step; MOST_HEIGHT],
+    hand: Option<Held>,
+    piece: Piece,
+) -> usize
+    requires { (t : Shape) × (before : List Piece) × (behind : List Piece) × IsWhole nodes.now root t × IsAtHand way.old hand t
+        × (items t ≡ before ++ behind) × AreSorted 0 (before ++ piece ∷ behind) }
+    ensures { (t : Shape) (before behind : List Piece) → IsWhole nodes.now root t → IsAtHand way.old hand t → items t ≡ before ++ behind
+        → AreSorted 0 (before ++ piece ∷ behind) → IsBetween way.new result t before behind }
+{
+    if let Some(held) = hand {
+        if nodes[held.key].piece.first == piece.last + 1 {
+            return go_before(nodes, way, held);
+        }
+    }
+    let place = walk(nodes, root, piece.first, way);
+    place.depth
+}
