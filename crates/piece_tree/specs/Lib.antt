@@ -2,3 +2,6 @@ pub mod Pieces
 pub mod Tree
 pub mod Way
 pub mod Search
+pub mod Laid
+pub mod Graft
+pub mod Neighbours

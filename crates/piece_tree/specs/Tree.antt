@@ -1,15 +1,15 @@
 -- Pieces in a balanced tree: nodes of a slab, named by their keys. The pieces before a node's own lie on its left, and those behind it on
 -- its right. Each node has the height of the tree from it down, and the greatest length of a free piece in it.
-use Rattle.std.specs.Prelude.{ℕ, zero, suc, ◌≡◌, ◌≢◌, ◌+◌, ◌-◌, ◌≤◌, ◌⊎◌, ◌==◌, max, Bool, true, false, if◌then◌else◌, List, [], ◌∷◌, ◌++◌}
+use Rattle.std.specs.Prelude.{ℕ, zero, suc, ◌≡◌, ◌≢◌, ◌+◌, ◌-◌, ◌≤◌, ◌==◌, max, Bool, true, false, if◌then◌else◌, List, [], ◌∷◌, ◌++◌}
 use Rattle.std.specs.Prelude.{length, Option}
 use Rattle.std.specs.Prelude.{Some, None, IsSome}
 use Rattle.slab.specs.Slab.{Slab, get, slab_len}
 use Rattle.piece_tree.specs.declared.piece.Piece.{Piece}
 use Rattle.piece_tree.specs.declared.piece.TheConstants.{MOST_PIECES}
 use Rattle.piece_tree.specs.declared.node.Node.{Node}
+use Rattle.piece_tree.specs.declared.way.TheConstants.{MOST_HEIGHT}
 use Rattle.piece_tree.specs.declared.node.Opened.{Opened}
 use Rattle.piece_tree.specs.declared.node.Top.{Top}
-use Rattle.piece_tree.specs.declared.tree.Pair.{Pair}
 use Rattle.piece_tree.specs.Pieces.{is_free, AreSorted, IsPiece}
 
 -- what is under each key
@@ -150,23 +150,15 @@ contents look (suc depth) root = around (at_root look root) (contents look depth
 
 -- all the pieces
 abbrev pub pieces_of : Slab Node → Option ℕ → List Piece
-pieces_of nodes root = contents (get nodes) 14 root
+pieces_of nodes root = contents (get nodes) MOST_HEIGHT root
 
--- a tree of pieces in order stands below the root, with no key in two places, and there is room for all pieces
+-- a tree of pieces in order stands below the root, at most 14 high, with no key in two places, and there is room for all pieces
 pub record IsWhole (nodes : Slab Node) (root : Option ℕ) (t : Shape) : Type 0 where
   pub here : root ≡ root_of t
   pub stands : Stands (get nodes) t
   pub once : (k : ℕ) → uses t k ≤ 1
+  pub low : height_of t ≤ MOST_HEIGHT
   pub sorted : AreSorted 0 (items t)
   pub count : slab_len nodes ≡ length (items t)
   pub few : length (items t) ≤ MOST_PIECES
   pub room : MOST_PIECES ≤ nodes.capacity
-
--- of two pieces, one right behind the other, one is kept
-pub record TakesOne (pair : Pair) (p q : Piece) (left : Piece → Type 0) : Type 0 where
-  pub first : pair.first ≡ p.first
-  pub last : pair.last ≡ q.last
-  pub kept : Piece
-  pub which : (kept ≡ p) ⊎ (kept ≡ q)
-  pub at : pair.kept ≡ kept.first
-  pub rest : left kept

@@ -1,5 +1,5 @@
 -- Ways down a tree: what lies above a place in it. A way is the steps from the root down, and `Above` is what lies beside them.
-use Rattle.std.specs.Prelude.{ℕ, ◌≡◌, ◌+◌, ◌<◌, ◌≤◌, Bool, true, false, List, [], ◌∷◌, ◌++◌, Option, Some, IfSome, slice_index_or}
+use Rattle.std.specs.Prelude.{ℕ, ◌≡◌, ◌+◌, ◌<◌, ◌≤◌, Bool, true, false, not, List, [], ◌∷◌, ◌++◌, Option, Some, IfSome, slice_index_or}
 use Rattle.std.specs.List.{AllByRecursion}
 use Rattle.slab.specs.Slab.{Slab, get}
 use Rattle.piece_tree.specs.declared.piece.Piece.{Piece}
@@ -11,7 +11,7 @@ use Rattle.piece_tree.specs.declared.way.Place.{Place}
 use Rattle.piece_tree.specs.declared.way.Step.{Step}
 use Rattle.piece_tree.specs.declared.way.TheConstants.{MOST_HEIGHT}
 use Rattle.piece_tree.specs.Pieces.{IsPiece}
-use Rattle.piece_tree.specs.Tree.{Look, Shape, Empty, Fork, items, height_of, longest_of, root_of, top_of, one, uses, fork, joint_at}
+use Rattle.piece_tree.specs.Tree.{Look, Shape, Fork, items, height_of, longest_of, root_of, top_of, one, uses, fork, joint_at}
 use Rattle.piece_tree.specs.Tree.{AreNear, Stands, Joins}
 use Rattle.piece_tree.specs.Tree.{IsWhole}
 
@@ -42,6 +42,11 @@ back Whole = []
 back (Beside true key piece other up) = piece ∷ items other ++ back up
 back (Beside false key piece other up) = back up
 
+-- of the trees before a key and behind it, the one on a side
+abbrev pub side : (before : Bool) → Shape → Shape → Shape
+side true l r = l
+side false l r = r
+
 -- how often a key is used beside the place
 abbrev pub uses_above : Above → ℕ → ℕ
 uses_above Whole k = 0
@@ -64,6 +69,28 @@ AreSteps way depth Whole = depth ≡ 0
 AreSteps way depth (Beside before key piece other up) =
     (d : ℕ) × (depth ≡ d + 1) × (step_at way d ≡ record { key = key; before = before }) × AreSteps way d up
 
+-- a way on from the end of another one
+abbrev pub within : (inner up : Above) → Above
+within Whole up = up
+within (Beside before key piece other inner) up = Beside before key piece other (within inner up)
+
+-- each step of the way goes to that side
+abbrev pub GoesOn : (before : Bool) → Above → Type 0
+GoesOn before Whole = Unit {0}
+GoesOn before (Beside to key piece other up) = (to ≡ before) × GoesOn before up
+
+-- the last step of the way that goes to a side: so many steps lead to its key
+pub record IsStepAbove (way : List Step) (before : Bool) (depth : ℕ) (path : Above) : Type 0 where
+  pub inner : Above
+  pub key : ℕ
+  pub piece : Piece
+  pub other : Shape
+  pub up : Above
+  pub is : path ≡ within inner (Beside before key piece other up)
+  pub on : GoesOn (not before) inner
+  pub step : step_at way depth ≡ record { key = key; before = before }
+  pub steps : AreSteps way depth up
+
 -- ---- a tree hung below a key
 
 -- a tree can be hung where a step goes to, in the place of one that was nearly as high
@@ -78,10 +105,16 @@ pub record CanHang (look : Look) (step : Step) (tree : Top) (piece : Piece) (was
   pub once : (k : ℕ) → one step.key k + uses n k + uses f k ≤ 1
   pub low : (height_of n ≤ 100) × (height_of f ≤ 100)
 
--- it hangs there, and where `same` says so, the key shows what it did
+-- a tree has the root and the height of another one, which had a longest free piece of so many pages
+pub record IsKept (now was : Shape) (longest : ℕ) : Type 0 where
+  pub root : root_of now ≡ root_of was
+  pub height : height_of now ≡ height_of was
+  pub shown : longest ≡ longest_of was
+
+-- it hangs there, and where something is `kept`, the key is at the top still, and as high: so much it showed as longest
 pub record Hangs (old new : Look) (step : Step) (hung : Hung) (piece : Piece) (was n f : Shape) : Type 0 where
   pub joins : Joins old new step.before hung.top step.key piece n f
-  pub same : hung.same ≡ true → top_of joins.shape ≡ top_of (fork step.before step.key piece was f)
+  pub kept : IfSome hung.kept (IsKept joins.shape (fork step.before step.key piece was f))
 
 -- ---- and up
 
@@ -147,32 +180,6 @@ pub record IsHand (way : List Step) (held : Held) (t : Shape) : Type 0 where
 
 abbrev pub IsAtHand : List Step → Option Held → Shape → Type 0
 IsAtHand way hand t = IfSome hand (λ held. IsHand way held t)
-
--- the way leads on to the key of the piece right behind, which has no tree before it
-pub record LeadsOn (nodes : Slab Node) (way : List Step) (next : Held) (path : Above) (key : ℕ) (p : Piece) (l r : Shape) : Type 0 where
-  pub more : Above
-  pub piece : Piece
-  pub rest : Shape
-  pub is : plug path (Fork key p l r) ≡ plug more (Fork next.key piece Empty rest)
-  pub steps : AreSteps way next.depth more
-  pub before : front more ≡ front path ++ (items l ++ p ∷ [])
-  pub behind : items r ++ back path ≡ piece ∷ items rest ++ back more
-
--- the way leads on to the end of the tree before the key
-pub record EndsBefore (way : List Step) (steps : ℕ) (path : Above) (key : ℕ) (p : Piece) (l r : Shape) : Type 0 where
-  pub more : Above
-  pub is : plug path (Fork key p l r) ≡ plug more Empty
-  pub to : AreSteps way steps more
-  pub before : front more ≡ front path ++ items l
-  pub behind : back more ≡ p ∷ items r ++ back path
-
--- the way leads to where nothing is, between these pieces
-pub record IsBetween (way : List Step) (steps : ℕ) (t : Shape) (before behind : List Piece) : Type 0 where
-  pub path : Above
-  pub is : t ≡ plug path Empty
-  pub to : AreSteps way steps path
-  pub first : front path ≡ before
-  pub last : back path ≡ behind
 
 -- ---- a change at the end of a way
 

@@ -1,13 +1,15 @@
-//! What changes at the end of a way: a piece that is another, one that comes, and one that goes.
+//! What changes at a key to which a way leads: its piece is another, and others come beside it.
 
-ghost use Rattle.std.specs.Prelude.{◌≡◌, ◌+◌, ◌<◌, ◌∷◌, ◌++◌, [], Bool, ℕ, Option};
+ghost use Rattle.std.specs.Prelude.{◌≡◌, ◌+◌, ◌≤◌, ◌∷◌, ◌++◌, ℕ, Option, IfSome, length};
 ghost use Rattle.slab.specs.Slab.{slab_len};
+ghost use Rattle.piece_tree.specs.Graft.{some_of};
 ghost use Rattle.piece_tree.specs.Pieces.{IsPiece};
-ghost use Rattle.piece_tree.specs.Tree.{Empty, Fork, IsWhole, KeepsCount, Shape, fork, items};
-ghost use Rattle.piece_tree.specs.Way.{Above, AreSteps, Becomes, IsHeld, plug};
+ghost use Rattle.piece_tree.specs.Tree.{Fork, KeepsCount, Shape, items};
+ghost use Rattle.piece_tree.specs.Way.{Above, Becomes, IsHeld, plug};
 
-use crate::links::{free_length, longest, read, set_piece};
-use crate::node::{Node, Top};
+use crate::grafts::{add, graft};
+use crate::links::{free_length, longest, open, read, set_piece};
+use crate::node::Node;
 use crate::piece::{MOST_PIECES, Piece};
 use crate::way::{Held, MOST_HEIGHT, Step, lift, mend};
 use slab::Slab;
@@ -30,57 +32,28 @@ pub(crate) fn renew(nodes: &mut Slab<Node>, way: &[Step; MOST_HEIGHT], held: Hel
     lift(nodes, way, held.depth, was, now);
 }
 
-/// Hangs a piece at the end of a way, where nothing is.
-pub(crate) fn hang_leaf(
-    nodes: &mut Slab<Node>,
-    root: Option<usize>,
-    way: &[Step; MOST_HEIGHT],
-    steps: usize,
-    piece: Piece,
-) -> Option<usize>
-    requires place { (path : Above) × IsWhole nodes.old root (plug path Empty) × AreSteps way.now steps path }
-    requires piece { IsPiece piece }
-    requires room { slab_len nodes.old < MOST_PIECES }
-    ensures becomes { (path : Above) → IsWhole nodes.old root (plug path Empty) → AreSteps way.now steps path
-        → Becomes nodes.old nodes.new result path (piece ∷ []) }
-    ensures len { slab_len nodes.new ≡ slab_len nodes.old + 1 }
-{
-    let longest = free_length(piece);
-    let key = nodes.insert_reserved(Node {
-        piece,
-        left: None,
-        right: None,
-        height: 1,
-        longest,
-    });
-    let top = Top {
-        root: Some(key),
-        height: 1,
-        longest,
-    };
-    mend(nodes, way, steps, root, top)
-}
-
-/// Takes the piece under a key out, which has no tree on one side: the other one takes its place.
-pub(crate) fn unlink(
+/// Puts another piece under a key, and one right before it and one right behind it, where there are such.
+pub(crate) fn split(
     nodes: &mut Slab<Node>,
     root: Option<usize>,
     way: &[Step; MOST_HEIGHT],
     held: Held,
+    below: Option<Piece>,
+    piece: Piece,
+    above: Option<Piece>,
 ) -> Option<usize>
-    requires { (path : Above) × (before : Bool) × (p : Piece) × (c : Shape)
-        × IsWhole nodes.old root (plug path (fork before held.key p c Empty)) × AreSteps way.now held.depth path }
-    ensures becomes { (path : Above) (before : Bool) (p : Piece) (c : Shape)
-        → IsWhole nodes.old root (plug path (fork before held.key p c Empty)) → AreSteps way.now held.depth path
-        → Becomes nodes.old nodes.new result path (items c) }
-    ensures len { slab_len nodes.new + 1 ≡ slab_len nodes.old }
+    requires held { (path : Above) × (p : Piece) × (l : Shape) × (r : Shape) × IsHeld nodes.old root way.now held path p l r }
+    requires piece { IsPiece piece }
+    requires below { IfSome below IsPiece }
+    requires above { IfSome above IsPiece }
+    requires room { slab_len nodes.old + length (some_of below ++ some_of above) ≤ MOST_PIECES }
+    ensures becomes { (path : Above) (p : Piece) (l r : Shape) → IsHeld nodes.old root way.now held path p l r
+        → Becomes nodes.old nodes.new result path (items l ++ (some_of below ++ piece ∷ some_of above) ++ items r) }
+    ensures len { slab_len nodes.new ≡ slab_len nodes.old + length (some_of below ++ some_of above) }
 {
-    let node = nodes.remove(held.key);
-    let child = if node.left.is_some() {
-        node.left
-    } else {
-        node.right
-    };
-    let end = read(nodes, child);
-    mend(nodes, way, held.depth, root, end)
+    let opened = open(nodes, true, held.key);
+    let near = add(nodes, true, opened.near, below);
+    let far = add(nodes, false, opened.far, above);
+    let top = graft(nodes, true, near, held.key, piece, far);
+    mend(nodes, way, held.depth, root, top)
 }

@@ -1,18 +1,18 @@
 //! Ways down a tree, and back up once what lies at their end has changed.
 
-ghost use Rattle.std.specs.Prelude.{◌≡◌, ◌≤◌, ◌++◌, ◌∷◌, ℕ, List, Option, Some, IfSome, IfNone};
+ghost use Rattle.std.specs.Prelude.{◌≡◌, ◌<◌, ◌≤◌, not, ◌++◌, ◌∷◌, ℕ, List, Option, Some, IfSome, IfNone};
 ghost use Rattle.slab.specs.Slab.{get};
 ghost use Rattle.piece_tree.specs.Pieces.{AreSorted, Holds};
 ghost use Rattle.piece_tree.specs.Search.{beside_of};
 ghost use Rattle.piece_tree.specs.Tree.{Empty, IsWhole, KeepsCount, Shape, items};
-ghost use Rattle.piece_tree.specs.Way.{Above, AreAbove, AreSteps, CanHang, CanLift, CanMend, EndsBefore, IsBetween, Hangs, IsAtHand};
-ghost use Rattle.piece_tree.specs.Way.{IsHeld, Leads};
-ghost use Rattle.piece_tree.specs.Way.{LeadsOn, Mends, back, front};
+ghost use Rattle.piece_tree.specs.Way.{Above, AreAbove, AreSteps, CanHang, CanLift, CanMend, Hangs, IsAtHand};
+ghost use Rattle.piece_tree.specs.Way.{GoesOn, IsHeld, IsStepAbove, Leads};
+ghost use Rattle.piece_tree.specs.Way.{Mends, back, front};
 
+use crate::grafts::between;
 use crate::links::{free_length, link, longest, read, set_longest};
 use crate::node::{Node, Top};
 use crate::piece::Piece;
-use crate::turn::turn;
 use slab::Slab;
 
 /// The greatest height of a tree, and so the most steps of a way down.
@@ -45,11 +45,11 @@ pub(crate) struct Held {
     pub(crate) depth: usize,
 }
 
-/// What lies at a key once a tree was hung below it, and whether it shows what was there.
+/// What lies at a key once a tree was hung below it; where the key is at the top still, and as high, also what it showed as longest.
 #[derive(Clone, Copy)]
 pub(crate) struct Hung {
     pub(crate) top: Top,
-    pub(crate) same: bool,
+    pub(crate) kept: Option<u64>,
 }
 
 /// Goes down to the piece that a page lies in, or to where it would be.
@@ -102,35 +102,22 @@ pub(crate) fn reach(
     walk(nodes, root, page, way)
 }
 
-/// Goes on from a key to the piece right behind its own, where that lies below the key.
-pub(crate) fn go_behind(
-    nodes: &Slab<Node>,
-    way: &mut [Step; MOST_HEIGHT],
-    held: Held,
-) -> Option<Held>
-    requires { (root : Option ℕ) × (path : Above) × (p : Piece) × (l : Shape) × (r : Shape)
-        × IsHeld nodes.now root way.old held path p l r }
-    ensures some { (root : Option ℕ) (path : Above) (p : Piece) (l r : Shape) → IsHeld nodes.now root way.old held path p l r
-        → IfSome result (λ next. LeadsOn nodes.now way.new next path held.key p l r) }
-    ensures none { (root : Option ℕ) (path : Above) (p : Piece) (l r : Shape) → IsHeld nodes.now root way.old held path p l r
-        → IfNone result (r ≡ Empty) }
-    ensures unchanged { IfNone result (way.new ≡ way.old) }
+/// The last step that goes on before its key, or behind it: how many steps lead to that key.
+#[inline(always)]
+pub(crate) fn step_above(way: &[Step; MOST_HEIGHT], steps: usize, before: bool) -> Option<usize>
+    requires { (path : Above) × AreSteps way.now steps path × (steps ≤ MOST_HEIGHT) }
+    ensures few { IfSome result (λ depth. depth < steps) }
+    ensures some { (path : Above) → AreSteps way.now steps path → IfSome result (λ depth. IsStepAbove way.now before depth path) }
+    ensures none { (path : Above) → AreSteps way.now steps path → IfNone result (GoesOn (not before) path) }
 {
-    let mut at = nodes[held.key].right?;
-    way[held.depth] = Step {
-        key: held.key,
-        before: false,
-    };
-    let mut depth = held.depth + 1;
-    while let Some(left) = nodes[at].left {
-        way[depth] = Step {
-            key: at,
-            before: true,
-        };
-        at = left;
-        depth += 1;
+    let mut depth = steps;
+    while depth > 0 {
+        depth -= 1;
+        if way[depth].before == before {
+            return Some(depth);
+        }
     }
-    Some(Held { key: at, depth })
+    None
 }
 
 /// The piece right before a place, or right behind it, of those that the way there passes.
@@ -144,18 +131,11 @@ pub(crate) fn piece_above(
     ensures { (t : Shape) (path : Above) → AreAbove (get nodes.now) path t → AreSteps way.now steps path
         → result ≡ beside_of before (front path) (back path) }
 {
-    let mut depth = steps;
-    while depth > 0 {
-        depth -= 1;
-        let step = way[depth];
-        if step.before != before {
-            return Some(nodes[step.key].piece);
-        }
-    }
-    None
+    let depth = step_above(way, steps, !before)?;
+    Some(nodes[way[depth].key].piece)
 }
 
-/// Hangs a tree where a step goes to.
+// Hangs a tree where a step goes to. It chooses as `between` does: from that it would have to compare roots to tell whether it turned.
 fn hang(nodes: &mut Slab<Node>, step: Step, tree: Top) -> Hung
     requires { (piece : Piece) × (was : Shape) × (n : Shape) × (f : Shape) × CanHang (get nodes.old) step tree piece was n f }
     ensures hung { (piece : Piece) (was n f : Shape) → CanHang (get nodes.old) step tree piece was n f
@@ -167,20 +147,21 @@ fn hang(nodes: &mut Slab<Node>, step: Step, tree: Top) -> Hung
     let was_height = node.height;
     let was_longest = node.longest;
     let other = read(nodes, node.child(!step.before));
-    if tree.height > other.height + 1 {
-        let top = turn(nodes, step.before, tree, step.key, piece, other);
-        return Hung { top, same: false };
-    }
-    if other.height > tree.height + 1 {
-        let top = turn(nodes, !step.before, other, step.key, piece, tree);
-        return Hung { top, same: false };
+    if tree.height > other.height + 1 || other.height > tree.height + 1 {
+        let top = between(nodes, step.before, tree, step.key, piece, other);
+        return Hung { top, kept: None };
     }
     let top = link(nodes, step.before, tree, step.key, piece, other);
-    let same = top.height == was_height && top.longest == was_longest;
-    Hung { top, same }
+    let kept = if top.height == was_height {
+        Some(was_longest)
+    } else {
+        None
+    };
+    Hung { top, kept }
 }
 
-/// Brings a tree up to date from the end of a way on, where another tree lies now: up to the first key that shows what it did.
+/// Brings a tree up to date from the end of a way on, where another tree lies now. From the first key on that is as high as it was, only
+/// what is longest changes.
 pub(crate) fn mend(
     nodes: &mut Slab<Node>,
     way: &[Step; MOST_HEIGHT],
@@ -198,10 +179,11 @@ pub(crate) fn mend(
     while depth > 0 {
         depth -= 1;
         let hung = hang(nodes, way[depth], top);
-        if hung.same {
+        top = hung.top;
+        if let Some(was) = hung.kept {
+            lift(nodes, way, depth, was, top.longest);
             return root;
         }
-        top = hung.top;
     }
     top.root
 }
@@ -242,47 +224,4 @@ pub(crate) fn lift(
         was = shown;
         now = then;
     }
-}
-
-/// Goes on from a key to the end of the tree before it, where nothing is: how many steps lead there.
-pub(crate) fn go_before(nodes: &Slab<Node>, way: &mut [Step; MOST_HEIGHT], held: Held) -> usize
-    requires { (root : Option ℕ) × (path : Above) × (p : Piece) × (l : Shape) × (r : Shape)
-        × IsHeld nodes.now root way.old held path p l r }
-    ensures { (root : Option ℕ) (path : Above) (p : Piece) (l r : Shape) → IsHeld nodes.now root way.old held path p l r
-        → EndsBefore way.new result path held.key p l r }
-{
-    let mut at = nodes[held.key].left;
-    way[held.depth] = Step {
-        key: held.key,
-        before: true,
-    };
-    let mut depth = held.depth + 1;
-    while let Some(key) = at {
-        way[depth] = Step { key, before: false };
-        at = nodes[key].right;
-        depth += 1;
-    }
-    depth
-}
-
-/// The way to where a piece belongs, which lies between two others: mostly right before the one at hand. How many steps lead there.
-pub(crate) fn go_between(
-    nodes: &Slab<Node>,
-    root: Option<usize>,
-    way: &mut [Step; MOST_HEIGHT],
-    hand: Option<Held>,
-    piece: Piece,
-) -> usize
-    requires { (t : Shape) × (before : List Piece) × (behind : List Piece) × IsWhole nodes.now root t × IsAtHand way.old hand t
-        × (items t ≡ before ++ behind) × AreSorted 0 (before ++ piece ∷ behind) }
-    ensures { (t : Shape) (before behind : List Piece) → IsWhole nodes.now root t → IsAtHand way.old hand t → items t ≡ before ++ behind
-        → AreSorted 0 (before ++ piece ∷ behind) → IsBetween way.new result t before behind }
-{
-    if let Some(held) = hand {
-        if nodes[held.key].piece.first == piece.last + 1 {
-            return go_before(nodes, way, held);
-        }
-    }
-    let place = walk(nodes, root, piece.first, way);
-    place.depth
 }

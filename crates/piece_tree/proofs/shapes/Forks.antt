@@ -1,13 +1,14 @@
 -- A key with a tree on each of its sides, by the side: what it shows, and how it is written.
 use Rattle.std.proofs.Common.{◌≡◌, ◌≢◌, ℕ, ◌+◌, ◌<◌, max, Bool, true, false, Option, Some, None, IsSome, refl}
-use Rattle.std.proofs.Common.{ap, sym, ◌∙◌, arith}
+use Rattle.std.proofs.Common.{ap, sym, ◌∙◌, subst, arith}
 use Rattle.slab.specs.Slab.{Slab, Updates, get}
 use Rattle.piece_tree.specs.declared.piece.Piece.{Piece}
 use Rattle.piece_tree.specs.declared.node.Node.{Node}
+use Rattle.piece_tree.specs.declared.node.Opened.{Opened}
 use Rattle.piece_tree.specs.declared.node.Top.{Top}
 use Rattle.piece_tree.specs.Pieces.{IsPiece}
 use Rattle.piece_tree.specs.Tree.{Look, Shape, Empty, Fork, height_of, longest_of, free_pages, root_of, one, uses, AreNear, fork, top_of}
-use Rattle.piece_tree.specs.Tree.{joint_at, Stands, AreParts, Links}
+use Rattle.piece_tree.specs.Tree.{joint_at, Stands, Opens, AreParts, Links}
 
 -- ---- keys
 
@@ -80,6 +81,21 @@ pub by_stands : (look : Look) (b : Bool) (key : ℕ) (p : Piece) (n f : Shape) �
 by_stands look true key p n f s = (s.here, s.piece, s.near, s.one, s.other)
 by_stands look false key p n f s = (s.here, s.piece, (s.near.1, s.near.0), s.other, s.one)
 
+-- ---- opened
+
+module _ (look : Look) (b : Bool) (key : ℕ) (opened : Opened) (t : Shape) (s : Stands look t) (o : Opens b key opened t) where
+  pub opened-by : StandsBy look b key opened.piece o.near o.far
+  opened-by = stands_by look b key opened.piece o.near o.far (subst (λ x. Stands look x) o.is s)
+
+  pub opened-there : IsSome (look key)
+  opened-there = is_there _ _ opened-by.here
+
+  pub opened-uses : (k : ℕ) → uses t k ≡ one key k + uses o.near k + uses o.far k
+  opened-uses k = ap (λ x. uses x k) o.is ∙ fork-uses b key opened.piece o.near o.far k
+
+  pub opened-height : height_of t ≡ 1 + max (height_of o.near) (height_of o.far)
+  opened-height = ap height_of o.is ∙ fork-height b key opened.piece o.near o.far
+
 -- ---- written
 
 -- the node with its heights in any order
@@ -88,17 +104,15 @@ joint-by : (b : Bool) (p : Piece) (near far : Top) (sides : Option ℕ × Option
     → height ≡ 1 + max near.height far.height → longest ≡ max (free_pages p) (max near.longest far.longest)
     → record { piece = p; left = sides.0; right = sides.1; height = height; longest = longest } ≡ joint_at b p near far
 joint-by true p near far sides height longest on off h l =
-    let e = on refl in
-    ap (λ (s : Option ℕ × Option ℕ). record { piece = p; left = s.0; right = s.1; height = height; longest = longest }) e
-    ∙ ap (λ x. record { piece = p; left = near.root; right = far.root; height = x; longest = longest }) h
-    ∙ ap (λ x. record { piece = p; left = near.root; right = far.root; height = 1 + max near.height far.height; longest = x }) l
+    let first : sides.0 ≡ near.root = ap (λ (s : Option ℕ × Option ℕ). s.0) (on refl) in
+    let second : sides.1 ≡ far.root = ap (λ (s : Option ℕ × Option ℕ). s.1) (on refl) in
+    cc
 joint-by false p near far sides height longest on off h l =
-    let e = off refl in
+    let first : sides.0 ≡ far.root = ap (λ (s : Option ℕ × Option ℕ). s.0) (off refl) in
+    let second : sides.1 ≡ near.root = ap (λ (s : Option ℕ × Option ℕ). s.1) (off refl) in
     let a : height ≡ 1 + max far.height near.height = omega (arith, h) in
     let c : longest ≡ max (free_pages p) (max far.longest near.longest) = omega (arith, l) in
-    ap (λ (s : Option ℕ × Option ℕ). record { piece = p; left = s.0; right = s.1; height = height; longest = longest }) e
-    ∙ ap (λ x. record { piece = p; left = far.root; right = near.root; height = x; longest = longest }) a
-    ∙ ap (λ x. record { piece = p; left = far.root; right = near.root; height = 1 + max far.height near.height; longest = x }) c
+    cc
 
 -- two trees that are nearly as high, and a key with the node of a piece between them
 pub linked : (old new : Slab Node) (b : Bool) (near far : Top) (key : ℕ) (p : Piece) (n f : Shape) (sides : Option ℕ × Option ℕ)

@@ -1,7 +1,6 @@
 -- A tree hung below a key, where another one was.
-use Rattle.std.proofs.Common.{◌≡◌, ◌≢◌, ℕ, ◌+◌, max, Bool, true, false, nat_eq, Option, Some, refl, ap, sym, ◌∙◌, subst, arith}
+use Rattle.std.proofs.Common.{◌≡◌, ◌≢◌, ℕ, ◌+◌, max, Bool, true, false, nat_eq, Option, None, Some, IfSome, refl, ap, sym, ◌∙◌, subst, arith}
 use Rattle.std.specs.Prelude.{not}
-use Rattle.std.proofs.lemmas.Bool.{false≢true}
 use Rattle.std.proofs.lemmas.Bool.Decides.{nat_tests}
 use Rattle.piece_tree.specs.declared.piece.Piece.{Piece}
 use Rattle.piece_tree.specs.declared.node.Node.{Node}
@@ -10,7 +9,7 @@ use Rattle.piece_tree.specs.declared.way.Step.{Step}
 use Rattle.piece_tree.specs.Pieces.{IsPiece}
 use Rattle.piece_tree.specs.Tree.{Look, Shape, items, height_of, longest_of, free_pages, root_of, one, fork, top_of}
 use Rattle.piece_tree.specs.Tree.{joint_at, IsBelow, AreParts, Links, Joins}
-use Rattle.piece_tree.specs.Way.{CanHang, Hangs}
+use Rattle.piece_tree.specs.Way.{CanHang, Hangs, IsKept}
 use Rattle.piece_tree.proofs.shapes.Forks.{one-same, is_there, differs, same_stands, fork-height, fork-longest, fork-uses, fork-root}
 use Rattle.piece_tree.proofs.shapes.Forks.{fork-top}
 use Rattle.piece_tree.proofs.shapes.Forks.{by_stands}
@@ -40,6 +39,17 @@ joint-far false p near far node r e on off = on refl ∙ ap (λ (n : Node). n.le
 pub fork-flip : (b : Bool) (key : ℕ) (p : Piece) (n f : Shape) → fork (not b) key p f n ≡ fork b key p n f
 fork-flip true key p n f = refl
 fork-flip false key p n f = refl
+
+pub parts_flip : (look : Look) (near far : Top) (key : ℕ) (n f : Shape) → AreParts look near key far n f → AreParts look far key near f n
+parts_flip look near far key n f a = record {
+  near_is = a.far_is;
+  far_is = a.near_is;
+  near_stands = a.far_stands;
+  far_stands = a.near_stands;
+  here = a.here;
+  once = λ k. omega (arith, a.once k);
+  low = (a.low.1, a.low.0);
+}
 
 pub joins-flip : (old new : Look) (b : Bool) (top : Top) (key : ℕ) (p : Piece) (n f : Shape) → Joins old new (not b) top key p f n
     → Joins old new b top key p n f
@@ -96,63 +106,43 @@ module _ (look : Look) (step : Step) (tree : Top) (piece : Piece) (was n f : Sha
   }
 
   pub hung-flip : (other : Top) → other ≡ top_of f → AreParts look other step.key tree f n
-  hung-flip other i = record {
-    near_is = i;
-    far_is = h.tree_is;
-    near_stands = h.beside;
-    far_stands = h.stands;
-    here = is_there _ _ e;
-    once = λ k. omega (arith, h.once k);
-    low = (h.low.1, h.low.0);
-  }
+  hung-flip other i = parts_flip look tree other step.key n f (hung-parts other i)
 
   -- by turns
   pub hangs-turned : (new : Look) (top : Top) → Joins look new step.before top step.key node.piece n f
-      → Hangs look new step (record { top = top; same = false }) piece was n f
-  hangs-turned new top j = record {
-    joins = subst (λ q. Joins look new step.before top step.key q n f) piece_is j;
-    same = λ s. absurd (false≢true s);
-  }
+      → Hangs look new step (record { top = top; kept = None }) piece was n f
+  hangs-turned new top j = record { joins = subst (λ q. Joins look new step.before top step.key q n f) piece_is j; kept = tt }
 
   pub hangs-flipped : (new : Look) (top : Top) → Joins look new (not step.before) top step.key node.piece f n
-      → Hangs look new step (record { top = top; same = false }) piece was n f
+      → Hangs look new step (record { top = top; kept = None }) piece was n f
   hangs-flipped new top j = hangs-turned new top (joins-flip look new step.before top step.key node.piece n f j)
 
+  shown-height : node.height ≡ height_of (fork step.before step.key piece was f)
+  shown-height = ap (λ (y : Node). y.height) node_is ∙ joint-height step.before piece (top_of was) (top_of f)
+      ∙ sym (fork-height step.before step.key piece was f)
+
+  shown-longest : node.longest ≡ longest_of (fork step.before step.key piece was f)
+  shown-longest = ap (λ (y : Node). y.longest) node_is ∙ joint-longest step.before piece (top_of was) (top_of f)
+      ∙ sym (fork-longest step.before step.key piece was f)
+
   -- and where none is needed
-  pub hangs-linked : (new : Look) (top : Top) (same : Bool) → Links look new step.before top step.key node.piece n f
-      → (same ≡ true → (top.height ≡ node.height) × (top.longest ≡ node.longest))
-      → Hangs look new step (record { top = top; same = same }) piece was n f
+  pub hangs-linked : (new : Look) (top : Top) (kept : Option ℕ) → Links look new step.before top step.key node.piece n f
+      → IfSome kept (λ longest. (top.height ≡ node.height) × (longest ≡ node.longest))
+      → Hangs look new step (record { top = top; kept = kept }) piece was n f
   unfolding link_joins
-  hangs-linked new top same u shows =
-      let v = subst (λ q. Links look new step.before top step.key q n f) piece_is u in
-      let b = step.before in
-      record {
-        joins = link_joins look new b top step.key piece n f v;
-        same = λ s.
-            let x = shows s in
-            let hh : height_of (fork b step.key piece n f) ≡ height_of (fork b step.key piece was f) =
-            sym (ap (λ (y : Top). y.height) v.is) ∙ x.0 ∙ ap (λ (y : Node). y.height) node_is
-            ∙ joint-height b piece (top_of was) (top_of f) ∙ sym (fork-height b step.key piece was f) in
-            let ll : longest_of (fork b step.key piece n f) ≡ longest_of (fork b step.key piece was f) =
-            sym (ap (λ (y : Top). y.longest) v.is) ∙ x.1 ∙ ap (λ (y : Node). y.longest) node_is
-            ∙ joint-longest b piece (top_of was) (top_of f) ∙ sym (fork-longest b step.key piece was f) in
-            let rr : root_of (fork b step.key piece n f) ≡ root_of (fork b step.key piece was f) =
-            fork-root b step.key piece n f ∙ sym (fork-root b step.key piece was f) in
-            ap (λ r. record {
-              root = r;
-              height = height_of (fork b step.key piece n f);
-              longest = longest_of (fork b step.key piece n f);
-            }) rr
-            ∙ ap (λ y. record {
-              root = root_of (fork b step.key piece was f);
-              height = y;
-              longest = longest_of (fork b step.key piece n f);
-            }) hh
-            ∙ ap (λ y. record {
-              root = root_of (fork b step.key piece was f);
-              height = height_of (fork b step.key piece was f);
-              longest = y;
-            }) ll;
+  hangs-linked new top kept u shows =
+      record { joins = link_joins look new step.before top step.key piece n f v; kept = keeps kept shows }
+    where
+      v : Links look new step.before top step.key piece n f
+      v = subst (λ q. Links look new step.before top step.key q n f) piece_is u
+
+      keeps : (kept : Option ℕ) → IfSome kept (λ longest. (top.height ≡ node.height) × (longest ≡ node.longest))
+          → IfSome kept (IsKept (fork step.before step.key piece n f) (fork step.before step.key piece was f))
+      keeps None e = tt
+      keeps (Some longest) e = record {
+        root = fork-root step.before step.key piece n f ∙ sym (fork-root step.before step.key piece was f);
+        height = sym (ap (λ (y : Top). y.height) v.is) ∙ e.0 ∙ shown-height;
+        shown = e.1 ∙ shown-longest;
       }
 
   -- what is longest alone was written, where the tree has the root and the height of the one that was there
@@ -160,41 +150,26 @@ module _ (look : Look) (step : Step) (tree : Top) (piece : Piece) (was n f : Sha
       (is : then ≡ max (free_pages node.piece) (max (longest_of n) (longest_of f))) where
     renewed : (b : Bool) → record (joint_at b piece (top_of was) (top_of f)) { longest = then } ≡ joint_at b piece (top_of n) (top_of f)
     renewed true =
-        ap (λ r. record { piece = piece; left = r; right = root_of f; height = 1 + max (height_of was) (height_of f); longest = then })
-        (sym same_root)
-        ∙ ap (λ h. record { piece = piece; left = root_of n; right = root_of f; height = 1 + max h (height_of f); longest = then })
-        (sym same_height)
-        ∙ ap (λ x. record {
-          piece = piece;
-          left = root_of n;
-          right = root_of f;
-          height = 1 + max (height_of n) (height_of f);
-          longest = x;
-        }) (is ∙ ap (λ q. max (free_pages q) (max (longest_of n) (longest_of f))) piece_is)
+        let height : 1 + max (height_of was) (height_of f) ≡ 1 + max (height_of n) (height_of f) = omega (arith, same_height) in
+        let longest = is ∙ ap (λ q. max (free_pages q) (max (longest_of n) (longest_of f))) piece_is in
+        cc
     renewed false =
-        ap (λ r. record { piece = piece; left = root_of f; right = r; height = 1 + max (height_of f) (height_of was); longest = then })
-        (sym same_root)
-        ∙ ap (λ h. record { piece = piece; left = root_of f; right = root_of n; height = 1 + max (height_of f) h; longest = then })
-        (sym same_height)
-        ∙ ap (λ x. record {
-          piece = piece;
-          left = root_of f;
-          right = root_of n;
-          height = 1 + max (height_of f) (height_of n);
-          longest = x;
-        }) (is ∙ ap (λ q. max (free_pages q) (max (longest_of n) (longest_of f))) piece_is ∙ omega arith)
+        let height : 1 + max (height_of f) (height_of was) ≡ 1 + max (height_of f) (height_of n) = omega (arith, same_height) in
+        let longest : then ≡ max (free_pages piece) (max (longest_of f) (longest_of n)) =
+        is ∙ ap (λ q. max (free_pages q) (max (longest_of n) (longest_of f))) piece_is ∙ omega arith in
+        cc
 
     pub hung-lifted : (next : Look) → next step.key ≡ Some (record node { longest = then })
-        → ((k : ℕ) → k ≢ step.key → next k ≡ look k) → (same : Bool) → (same ≡ true → then ≡ node.longest)
+        → ((k : ℕ) → k ≢ step.key → next k ≡ look k)
         → Hangs look next step (record {
           top = record { root = Some step.key; height = node.height; longest = then };
-          same = same;
+          kept = Some node.longest;
         }) piece was n f
-    hung-lifted next written others same shows =
+    hung-lifted next written others =
         let b = step.before in
         let height = ap (λ (y : Node). y.height) node_is ∙ joint-height b piece (top_of was) (top_of f) in
         let own = one-same step.key in
-        hangs-linked next _ same (record {
+        hangs-linked next _ (Some node.longest) (record {
           is = fork-top b step.key node.piece n f node.height then (height ∙ ap (λ h. 1 + max h (height_of f)) (sym same_height)) is;
           stands = by_stands next b step.key node.piece n f (record {
             here = written ∙ ap (λ (y : Node). Some (record y { longest = then })) node_is ∙ ap (λ y. Some y) (renewed b)
@@ -207,4 +182,4 @@ module _ (look : Look) (step : Step) (tree : Top) (piece : Piece) (was n f : Sha
                 (λ k g. others k (differs step.key k f (omega (arith, h.once step.key)) g));
           });
           others = others;
-        }) (λ s. (refl, shows s))
+        }) (refl, refl)

@@ -57,16 +57,26 @@ root_height look Empty s = refl
 root_height look (Fork k p l r) s = ap node_height s.0
 
 -- a child is lower
-pub root-falls : (look : Look) (key : ℕ) (node : Node) (t : Shape) (x : Roots key node t) → Stands look t → look key ≡ Some node
-    → (node_height (at_root look node.left) < node_height (at_root look (Some key)))
-    × (node_height (at_root look node.right) < node_height (at_root look (Some key)))
-root-falls look key node t x s f =
+pub root-falls : (look : Look) (at : Option ℕ) (key : ℕ) (node : Node) (t : Shape) → at ≡ Some key → Roots key node t → Stands look t
+    → look key ≡ Some node
+    → (node_height (at_root look node.left) < node_height (at_root look at))
+    × (node_height (at_root look node.right) < node_height (at_root look at))
+root-falls look at key node t e x s f =
     let w = subst (λ y. Stands look y) x.is s in
     let a = ap (λ o. node_height (at_root look o)) x.left ∙ root_height look x.l w.3 in
     let b = ap (λ o. node_height (at_root look o)) x.right ∙ root_height look x.r w.4 in
-    let c : node_height (look key) ≡ node.height = ap node_height f in
+    let c : node_height (at_root look at) ≡ node.height = ap (λ o. node_height (at_root look o)) e ∙ ap node_height f in
     let d = x.height ∙ ap height_of x.is in
     (omega arith, omega arith)
+
+-- on either side
+pub child-falls : (look : Look) (at : Option ℕ) (key : ℕ) (node : Node) (t : Shape) → at ≡ Some key → Roots key node t → Stands look t
+    → look key ≡ Some node → (b : Bool) (child : Option ℕ) → (b ≡ true → child ≡ node.left) → (b ≡ false → child ≡ node.right)
+    → node_height (at_root look child) < node_height (at_root look at)
+child-falls look at key node t e x s f true child left right =
+    subst (λ o. node_height (at_root look o) < node_height (at_root look at)) (sym (left refl)) (root-falls look at key node t e x s f).0
+child-falls look at key node t e x s f false child left right =
+    subst (λ o. node_height (at_root look o) < node_height (at_root look at)) (sym (right refl)) (root-falls look at key node t e x s f).1
 
 -- ---- steps
 
@@ -111,18 +121,9 @@ module _ (nodes : Slab Node) (root : Option ℕ) (page : ℕ) (at : Option ℕ) 
     pub lies-at : Roots key node q.there
     lies-at = roots (get nodes) key node q.there lies-root lies-stands f
 
-    falls : (node_height (at_root (get nodes) node.left) < node_height (at_root (get nodes) at))
-        × (node_height (at_root (get nodes) node.right) < node_height (at_root (get nodes) at))
-    falls = subst (λ o. (node_height (at_root (get nodes) node.left) < node_height (at_root (get nodes) o))
-        × (node_height (at_root (get nodes) node.right) < node_height (at_root (get nodes) o))) (sym e)
-        (root-falls (get nodes) key node q.there lies-at lies-stands f)
-
     pub lies-smaller : (b : Bool) (child : Option ℕ) → (b ≡ true → child ≡ node.left) → (b ≡ false → child ≡ node.right)
         → node_height (at_root (get nodes) child) < node_height (at_root (get nodes) at)
-    lies-smaller true child left right =
-        subst (λ o. node_height (at_root (get nodes) o) < node_height (at_root (get nodes) at)) (sym (left refl)) falls.0
-    lies-smaller false child left right =
-        subst (λ o. node_height (at_root (get nodes) o) < node_height (at_root (get nodes) at)) (sym (right refl)) falls.1
+    lies-smaller = child-falls (get nodes) at key node q.there e lies-at lies-stands f
 
     pub lies-sorted : (low : ℕ) × AreSorted low (items lies-at.l ++ node.piece ∷ items lies-at.r)
     lies-sorted = sorted_there q.path (items lies-at.l ++ node.piece ∷ items lies-at.r) 0

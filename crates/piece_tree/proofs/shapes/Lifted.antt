@@ -1,5 +1,5 @@
 -- A way back up a tree, where what is longest at its end alone has changed.
-use Rattle.std.proofs.Common.{◌≡◌, ℕ, ◌-◌, ◌<◌, ◌≤◌, max, Bool, true, false, List, Option, Some, IsSome, refl, ap, sym, ◌∙◌}
+use Rattle.std.proofs.Common.{◌≡◌, ℕ, ◌-◌, ◌<◌, ◌≤◌, max, true, false, List, Option, Some, IsSome, refl, ap, sym, ◌∙◌}
 use Rattle.std.proofs.Common.{subst, arith}
 use Rattle.std.specs.Prelude.{not}
 use Rattle.slab.specs.Slab.{Slab, Updates, get}
@@ -8,10 +8,10 @@ use Rattle.piece_tree.specs.declared.node.Node.{Node}
 use Rattle.piece_tree.specs.declared.node.Top.{Top}
 use Rattle.piece_tree.specs.declared.way.Step.{Step}
 use Rattle.piece_tree.specs.Pieces.{IsPiece}
-use Rattle.piece_tree.specs.Tree.{Look, Shape, height_of, longest_of, free_pages, root_of, top_of, joint_at, IsBelow, KeepsCount}
+use Rattle.piece_tree.specs.Tree.{Look, Shape, height_of, longest_of, free_pages, fork, root_of, top_of, joint_at, IsBelow, KeepsCount}
 use Rattle.piece_tree.specs.Way.{Above, Whole, Beside, step_at, CanHang, Hangs, CanLift, CanMend, Mends}
-use Rattle.piece_tree.proofs.shapes.Forks.{is_there, fork-height, fork-longest, fork-root}
-use Rattle.piece_tree.proofs.shapes.Hung.{joint-height, joint-longest, hung-piece, hung-other, hung-lifted, piece_is}
+use Rattle.piece_tree.proofs.shapes.Forks.{is_there}
+use Rattle.piece_tree.proofs.shapes.Hung.{joint-longest, hung-piece, hung-other, hung-lifted, piece_is}
 use Rattle.piece_tree.proofs.shapes.Mended.{Mending, mending_start, mending_end, mending-few, mending-can, mending-next, mending-stops, la}
 
 -- so far: the tree at a place further up has the root and the height of what was there, where so much was longest, and is now
@@ -100,37 +100,37 @@ module _ (old now : Slab Node) (way : List Step) (depth : ℕ) (root : Option �
       long : then ≡ max (free_pages node.piece) (max (longest_of g.m.here) (longest_of tree-beside))
       long = is ∙ ap (λ n. max (free_pages node.piece) (max n (longest_of tree-beside))) g.now_is
 
-      hangs : (next : Slab Node) → Updates now next s.key (Some (record node { longest = then })) → (same : Bool)
-          → (same ≡ true → then ≡ node.longest) → Hangs (get now) (get next) s (record {
+      hangs : (next : Slab Node) → Updates now next s.key (Some (record node { longest = then }))
+          → Hangs (get now) (get next) s (record {
             top = record { root = Some s.key; height = node.height; longest = then };
-            same = same;
+            kept = Some node.longest;
           }) piece g.m.there g.m.here tree-beside
-      hangs next u same shows = hung-lifted (get now) s g.top piece g.m.there g.m.here tree-beside can node f g.root_is g.height_is then
-          long
-          (get next) u.changed u.others same shows
+      hangs next u = hung-lifted (get now) s g.top piece g.m.there g.m.here tree-beside can node f g.root_is g.height_is then long
+          (get next) u.changed u.others
 
       -- nothing else is shown
       pub lifts-ends : then ≡ node.longest → Mends (get old) (get now) root path t new
       lifts-ends e =
-          mending-stops old now way depth root g.top path t new g.m pos now _
-          (hangs now (record { changed = f ∙ ap (λ n. Some (record node { longest = n })) (sym e); others = λ k d. refl }) true (λ x. e))
-          (record { len = refl; capacity = refl }) refl
+          let h = hangs now (record { changed = f ∙ ap (λ n. Some (record node { longest = n })) (sym e); others = λ k d. refl }) in
+          let is = h.joins.is in
+          let k = h.kept in
+          let root_is = k.root in
+          let height_is = k.height in
+          let longest_is : longest_of h.joins.shape ≡ longest_of (fork s.before s.key piece g.m.there tree-beside) =
+          sym (ap (λ (x : Top). x.longest) is) ∙ e ∙ k.shown in
+          mending-stops old now way depth root g.top path t new g.m pos now _ h (record { len = refl; capacity = refl }) (cc)
 
       pub lifts-on : (next : Slab Node) → Updates now next s.key (Some (record node { longest = then })) → KeepsCount now next
           → Lifts old next way (depth - 1) root path t new node.longest then
       unfolding mending-next
       lifts-on next u c =
-          let h = hangs next u false (λ e. absurd (cc)) in
-          let is_top = h.joins.is in
-          let height = ap (λ (x : Node). x.height) node_is ∙ joint-height s.before piece (top_of g.m.there) (top_of tree-beside)
-          ∙ sym (fork-height s.before s.key piece g.m.there tree-beside) in
-          let shown = ap (λ (x : Node). x.longest) node_is ∙ joint-longest s.before piece (top_of g.m.there) (top_of tree-beside)
-          ∙ sym (fork-longest s.before s.key piece g.m.there tree-beside) in
+          let h = hangs next u in
+          let k = h.kept in
           record {
             top = record { root = Some s.key; height = node.height; longest = then };
             m = mending-next old now way depth root g.top path t new g.m pos next _ h c;
-            root_is = sym (ap (λ (x : Top). x.root) is_top) ∙ sym (fork-root s.before s.key piece g.m.there tree-beside);
-            height_is = sym (ap (λ (x : Top). x.height) is_top) ∙ height;
-            was_is = shown;
-            now_is = ap (λ (x : Top). x.longest) is_top;
+            root_is = k.root;
+            height_is = k.height;
+            was_is = k.shown;
+            now_is = ap (λ (x : Top). x.longest) h.joins.is;
           }

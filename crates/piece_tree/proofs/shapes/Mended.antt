@@ -1,5 +1,5 @@
 -- A way back up a tree, where another tree lies at its end.
-use Rattle.std.proofs.Common.{◌≡◌, ℕ, ◌+◌, ◌-◌, ◌<◌, ◌≤◌, max, Bool, true, false, List, Option, Some, refl, ap, sym, ◌∙◌}
+use Rattle.std.proofs.Common.{◌≡◌, ℕ, ◌+◌, ◌-◌, ◌<◌, ◌≤◌, max, Bool, true, false, List, Option, Some, IfSome, refl, ap, sym, ◌∙◌}
 use Rattle.std.proofs.Common.{inl, inr, subst, arith}
 use Rattle.std.proofs.lemmas.Bool.{cases_eq}
 use Rattle.slab.specs.Slab.{Slab, get}
@@ -10,7 +10,7 @@ use Rattle.piece_tree.specs.declared.way.Hung.{Hung}
 use Rattle.piece_tree.specs.declared.way.Step.{Step}
 use Rattle.piece_tree.specs.Tree.{Look, Shape, items, height_of, longest_of, free_pages, uses, AreNear, fork, top_of}
 use Rattle.piece_tree.specs.Tree.{joint_at, Stands, Joins, KeepsCount}
-use Rattle.piece_tree.specs.Way.{Above, Whole, Beside, plug, among, uses_above, AreAbove, step_at, AreSteps, CanHang, Hangs, CanMend, Mends}
+use Rattle.piece_tree.specs.Way.{Above, Whole, Beside, plug, among, uses_above, AreAbove, step_at, AreSteps, CanHang, Hangs, IsKept, CanLift, CanMend, Mends}
 use Rattle.piece_tree.proofs.shapes.Forks.{one-same, same_stands, fork-height, fork-uses, stands_by, by_stands}
 
 -- ---- what lies above a place
@@ -259,5 +259,18 @@ module _ (old now : Slab Node) (way : List Step) (depth : ℕ) (root : Option �
       count = counts_twice old now next m.count c;
     }
 
-    pub mending-stops : hung.same ≡ true → Mends (get old) (get next) root path t new
-    mending-stops e = back next root (stopped (get next) way (depth - 1) root hung.top la.more was j.shape further (i.same e))
+    pub mending-stops : top_of j.shape ≡ top_of was → Mends (get old) (get next) root path t new
+    mending-stops e = back next root (stopped (get next) way (depth - 1) root hung.top la.more was j.shape further e)
+
+    -- from a key on that is as high as it was what is longest alone may change
+    pub mending-lifts : (longest : ℕ) → hung.kept ≡ Some longest
+        → CanLift (get next) way (depth - 1) root la.more was j.shape longest hung.top.longest
+    mending-lifts longest e =
+        let k : IsKept j.shape was longest = subst (λ o. IfSome o (IsKept j.shape was)) e i.kept in
+        record {
+          can = subst (λ v. CanMend (get next) way (depth - 1) root v la.more was j.shape) j.is further;
+          same_root = k.root;
+          same_height = k.height;
+          was_is = k.shown;
+          now_is = ap (λ (v : Top). v.longest) j.is;
+        }

@@ -1,5 +1,5 @@
 -- The list of a tree, at the place of a page.
-use Rattle.std.proofs.Common.{◌≡◌, ℕ, ◌+◌, ◌<◌, ◌≤◌, List, [], ◌∷◌, ◌++◌, length, Option, Some, None, IfSome, refl, ap, sym, ◌∙◌, inl, inr}
+use Rattle.std.proofs.Common.{◌≡◌, ℕ, ◌<◌, ◌≤◌, List, [], ◌∷◌, ◌++◌, length, Option, Some, None, IfSome, refl, ap, sym, ◌∙◌, inl, inr}
 use Rattle.std.proofs.Common.{subst, arith, append_assoc, length-append}
 use Rattle.std.proofs.lemmas.Bool.Decides.{nat_tests}
 use Rattle.std.proofs.lemmas.List.{append-nil}
@@ -8,48 +8,15 @@ use Rattle.slab.specs.Slab.{Slab, get, slab_len}
 use Rattle.piece_tree.specs.declared.piece.Piece.{Piece}
 use Rattle.piece_tree.specs.declared.piece.TheConstants.{MOST_PIECES}
 use Rattle.piece_tree.specs.declared.node.Node.{Node}
-use Rattle.piece_tree.specs.declared.way.Place.{Place}
 use Rattle.piece_tree.specs.declared.way.Step.{Step}
 use Rattle.piece_tree.specs.Pieces.{AreSorted, Holds, piece_at}
-use Rattle.piece_tree.specs.Tree.{Shape, Empty, Fork, items, KeepsCount, IsWhole, pieces_of}
-use Rattle.piece_tree.specs.Way.{Above, plug, among, front, back, AreSteps, Lies, Leads, IsHand, IsHeld, Becomes}
+use Rattle.piece_tree.specs.Tree.{Shape, Fork, items, KeepsCount, IsWhole, pieces_of}
+use Rattle.piece_tree.specs.Way.{Above, plug, among, front, back, AreSteps, Lies, IsHeld, Becomes}
 use Rattle.piece_tree.proofs.shapes.Led.{Roots, lies-at}
 use Rattle.piece_tree.proofs.shapes.Beside.{none_empty}
 use Rattle.piece_tree.proofs.shapes.Mended.{plug-items}
-use Rattle.piece_tree.proofs.shapes.Sorted.{plug-parts, sorted_at, same_split, same_gap, all_pages, ends_below, begins_above}
-use Rattle.piece_tree.proofs.shapes.Tall.{order, whole_view}
-
--- ---- pieces beside a page
-
-all_at : (P : Piece → Type 0) (xs : List Piece) (p : Piece) (ys : List Piece) → AllByRecursion P (xs ++ p ∷ ys) → P p
-all_at P [] p ys a = a.0
-all_at P (x ∷ xs) p ys a = all_at P xs p ys a.1
-
-not_beside : (page : ℕ) (xs ys bs : List Piece) (p : Piece) (cs : List Piece) → xs ++ ys ≡ bs ++ p ∷ cs
-    → AllByRecursion (λ q. q.last < page) xs → AllByRecursion (λ q. page < q.first) ys → Holds p page → ⊥
-not_beside page [] ys bs p cs e a b h =
-    let g = all_at (λ q. page < q.first) bs p cs (subst (λ l. AllByRecursion (λ q. page < q.first) l) e b) in
-    omega (arith, h)
-not_beside page (x ∷ xs) ys [] p cs e a b h =
-    let hd : x ≡ p = cc in
-    let l : x.last ≡ p.last = ap (λ (q : Piece). q.last) hd in
-    omega (arith, h, a.0)
-not_beside page (x ∷ xs) ys (y ∷ bs) p cs e a b h = let tl : xs ++ ys ≡ bs ++ p ∷ cs = cc in not_beside page xs ys bs p cs tl a.1 b h
-
--- none holds the first page of a piece that lies between others
-no_holder : (from : ℕ) (bs : List Piece) (q : Piece) (cs xs : List Piece) (p : Piece) (ys : List Piece) → AreSorted from (bs ++ q ∷ cs)
-    → bs ++ cs ≡ xs ++ p ∷ ys → Holds p q.first → ⊥
-no_holder from [] q cs xs p ys s e h =
-    let a = sorted_at (q.last + 1) xs p ys (subst (λ l. AreSorted (q.last + 1) l) e s.2) in
-    omega (arith, a.0, h, s.1)
-no_holder from (b ∷ bs) q cs [] p ys s e h =
-    let hd : b ≡ p = cc in
-    let l : b.last ≡ p.last = ap (λ (q : Piece). q.last) hd in
-    let a = sorted_at (b.last + 1) bs q cs s.2 in
-    omega (arith, a.0, h)
-no_holder from (b ∷ bs) q cs (x ∷ xs) p ys s e h =
-    let tl : bs ++ cs ≡ xs ++ p ∷ ys = cc in
-    no_holder (b.last + 1) bs q cs xs p ys s.2 tl h
+use Rattle.piece_tree.proofs.shapes.Sorted.{plug-parts, same_split, ends_below}
+use Rattle.piece_tree.proofs.shapes.Tall.{low_tree, order, whole_view}
 
 pub parts : (path : Above) (xs : List Piece) (p : Piece) (ys : List Piece)
     → among path (xs ++ p ∷ ys) ≡ (front path ++ xs) ++ p ∷ (ys ++ back path)
@@ -68,6 +35,7 @@ module _ (old new : Slab Node) (root result : Option ℕ) (t : Shape) (w : IsWho
     here = b.here;
     stands = b.stands;
     once = b.once;
+    low = low_tree (get new) b.shape b.stands (subst (λ l. length l ≤ MOST_PIECES) (sym whole-all) few);
     sorted = subst (λ l. AreSorted 0 l) (sym whole-all) s;
     count = len ∙ sym (ap length whole-all);
     few = subst (λ l. length l ≤ MOST_PIECES) (sym whole-all) few;
@@ -80,15 +48,6 @@ module _ (old new : Slab Node) (root result : Option ℕ) (t : Shape) (w : IsWho
 -- ---- where a piece is
 
 module _ (nodes : Slab Node) (root : Option ℕ) (page : ℕ) (at : Option ℕ) (t : Shape) (w : IsWhole nodes root t) (q : Lies page at t) where
-  -- the page lies in a piece, and so at a key
-  pub at-key : (before : List Piece) (p : Piece) (behind : List Piece) → items t ≡ before ++ p ∷ behind → Holds p page
-      → at ≡ None → ⊥
-  at-key before p behind e h none =
-      let z = none_empty q.there (sym q.root ∙ none) in
-      let all = ap items q.is ∙ plug-items q.path q.there ∙ ap (λ x. among q.path (items x)) z
-      ∙ plug-parts q.path [] in
-      not_beside page (front q.path) (back q.path) before p behind (sym (all ∙ simp append-nil) ∙ e) q.before q.behind h
-
   -- the node of the piece that the page lies in
   pub at-node : (key : ℕ) → at ≡ Some key
       → IfSome at (λ k. (n : Node) × (get nodes k ≡ Some n) × Holds n.piece page)
@@ -96,7 +55,7 @@ module _ (nodes : Slab Node) (root : Option ℕ) (page : ℕ) (at : Option ℕ) 
   at-node key e h = subst (λ o. IfSome o (λ k. (n : Node) × (get nodes k ≡ Some n) × Holds n.piece page)) e h
 
   module _ (key : ℕ) (here : at ≡ Some key) (n : Node) (f : get nodes key ≡ Some n) (holds : Holds n.piece page) where
-    abbrev x : Roots key n q.there
+    abbrev pub x : Roots key n q.there
     x = lies-at nodes root page at key t w q here n f
 
     abbrev pub before-it : List Piece
@@ -141,47 +100,14 @@ module _ (nodes : Slab Node) (root : Option ℕ) (page : ℕ) (at : Option ℕ) 
       put-view = whole-view nodes new root result t w q.path _ (before ++ piece ∷ behind) b all s
           (omega (arith, c.len, w.count, long)) (omega (arith, w.few, long))
 
--- ---- where none is
-
-module _ (nodes : Slab Node) (root : Option ℕ) (way : List Step) (piece : Piece) (place : Place) (t : Shape) (w : IsWhole nodes root t)
-    (q : Leads way piece.first place t) (holds : IfSome place.at (λ key. (n : Node) × (get nodes key ≡ Some n) × Holds n.piece piece.first))
-    (before behind : List Piece) (e : items t ≡ before ++ behind) (s : AreSorted 0 (before ++ piece ∷ behind)) where
-  no-key : place.at ≡ None
-  no-key = go place.at refl
-    where
-      go : (o : Option ℕ) → place.at ≡ o → o ≡ None
-      go None g = refl
-      go (Some key) g =
-          let h = subst (λ o. IfSome o (λ k. (n : Node) × (get nodes k ≡ Some n) × Holds n.piece piece.first)) g holds in
-          absurd (no_holder 0 before piece behind _ h.0.piece _ s (sym e ∙ place-all nodes root piece.first place.at t w q.lies key g h.0
-          h.1 h.2)
-          h.2)
-
-  pub gap-empty : q.lies.there ≡ Empty
-  gap-empty = none_empty q.lies.there (sym q.lies.root ∙ no-key)
-
-  pub gap-path : t ≡ plug q.lies.path Empty
-  gap-path = q.lies.is ∙ ap (plug q.lies.path) gap-empty
-
-  sides : front q.lies.path ++ back q.lies.path ≡ before ++ behind
-  sides = sym (ap items gap-path ∙ plug-items q.lies.path Empty ∙ plug-parts q.lies.path [] ∙ simp append-nil) ∙ e
-
-  pub gap-split : (front q.lies.path ≡ before) × (back q.lies.path ≡ behind)
-  gap-split =
-      let a = sorted_at 0 before piece behind s in
-      same_gap piece.first (front q.lies.path) (back q.lies.path) before behind sides q.lies.before q.lies.behind
-      (ends_below 0 piece.first before piece behind s (omega arith))
-      (begins_above (piece.last + 1) piece.first behind a.2 (omega (arith, a.1)))
-      (subst (λ l. AllByRecursion (λ x. x.first ≤ x.last) l) (e ∙ sym sides) (all_pages 0 (items t) w.sorted))
-
 -- ---- what is found
 
-at-none : (page : ℕ) (ps : List Piece) → AllByRecursion (λ q. page < q.first) ps → piece_at ps page ≡ None
+pub at-none : (page : ℕ) (ps : List Piece) → AllByRecursion (λ q. page < q.first) ps → piece_at ps page ≡ None
 unfolding piece_at
 at-none page [] a = refl
 at-none page (p ∷ ps) a = grind (arith, nat_tests, at-none page ps a.1, a.0)
 
-at-skip : (page : ℕ) (xs ys : List Piece) → AllByRecursion (λ q. q.last < page) xs → piece_at (xs ++ ys) page ≡ piece_at ys page
+pub at-skip : (page : ℕ) (xs ys : List Piece) → AllByRecursion (λ q. q.last < page) xs → piece_at (xs ++ ys) page ≡ piece_at ys page
 unfolding piece_at
 at-skip page [] ys a = refl
 at-skip page (x ∷ xs) ys a = grind (arith, nat_tests, at-skip page xs ys a.1, a.0)
@@ -196,9 +122,9 @@ pub found_at : (from page : ℕ) (xs : List Piece) (p : Piece) (ys : List Piece)
 found_at from page xs p ys s h =
     at-skip page xs (p ∷ ys) (ends_below from page xs p ys s h.0) ∙ at-here page p ys h
 
-at-later : (page : ℕ) (q : Piece) (ps : List Piece) → page < q.first → piece_at (q ∷ ps) page ≡ piece_at ps page
+at-below : (page : ℕ) (q : Piece) (ps : List Piece) → page < q.first → piece_at (q ∷ ps) page ≡ piece_at ps page
 unfolding piece_at
-at-later page q ps a = grind (arith, nat_tests, a)
+at-below page q ps a = grind (arith, nat_tests, a)
 
 -- and back
 pub found_split : (ps : List Piece) (page : ℕ) (p : Piece) → piece_at ps page ≡ Some p
@@ -217,7 +143,7 @@ found_split (q ∷ ps) page p e =
             (q ∷ r.0, r.1, ap (λ l. q ∷ l) r.2, r.3)
       ]
       | inr a ↦
-          let tl : piece_at ps page ≡ Some p = sym (at-later page q ps a) ∙ e in
+          let tl : piece_at ps page ≡ Some p = sym (at-below page q ps a) ∙ e in
           let r = found_split ps page p tl in
           (q ∷ r.0, r.1, ap (λ l. q ∷ l) r.2, r.3)
     ]
@@ -239,15 +165,3 @@ module _ (nodes : Slab Node) (root : Option ℕ) (page : ℕ) (at : Option ℕ) 
         sym (ap (λ l. piece_at l page) (whole_view nodes root t w ∙ all)
         ∙ found_at 0 page (front q.path ++ items x.l) n.piece (items x.r ++ back q.path)
         (subst (λ l. AreSorted 0 l) all w.sorted) holds)
-
-    pub found-hand : (way : List Step) (depth : ℕ) → AreSteps way depth q.path → IsHand way (record { key = key; depth = depth }) t
-    found-hand way depth s =
-        let x = lies-at nodes root page at key t w q here n f in
-        record {
-          path = q.path;
-          piece = n.piece;
-          left = x.l;
-          right = x.r;
-          is = q.is ∙ ap (plug q.path) x.is;
-          steps = s;
-        }

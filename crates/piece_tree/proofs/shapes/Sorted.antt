@@ -45,12 +45,6 @@ pub begins_above : (from page : ℕ) (ps : List Piece) → AreSorted from ps →
 begins_above from page [] s h = tt
 begins_above from page (p ∷ ps) s h = (omega (arith, s.0), begins_above (p.last + 1) page ps s.2 (omega (arith, s.0, s.1)))
 
--- others in the place of a piece and of what comes behind it
-pub sorted_with : (from : ℕ) (xs : List Piece) (p : Piece) (ys : List Piece) (q : Piece) (zs : List Piece) → AreSorted from (xs ++ p ∷ ys)
-    → IsPiece q → p.first ≤ q.first → AreSorted (q.last + 1) zs → AreSorted from (xs ++ q ∷ zs)
-sorted_with from [] p ys q zs s i h z = (omega (arith, s.0), i, z)
-sorted_with from (x ∷ xs) p ys q zs s i h z = (s.0, s.1, sorted_with (x.last + 1) xs p ys q zs s.2 i h z)
-
 -- ---- at a place
 
 pub plug-parts : (up : Above) (ps : List Piece) → among up ps ≡ front up ++ ps ++ back up
@@ -88,25 +82,3 @@ same_split from page (x ∷ xs) p ys (b ∷ bs) q cs e s h g =
     let tl : xs ++ p ∷ ys ≡ bs ++ q ∷ cs = cc in
     let a = same_split (x.last + 1) page xs p ys bs q cs tl s.2 h g in
     (cc, a.1, a.2)
-
--- and one that lies in none between two pieces alone
-pub same_gap : (page : ℕ) (xs ys bs cs : List Piece) → xs ++ ys ≡ bs ++ cs → AllByRecursion (λ q. q.last < page) xs
-    → AllByRecursion (λ q. page < q.first) ys → AllByRecursion (λ q. q.last < page) bs → AllByRecursion (λ q. page < q.first) cs
-    → AllByRecursion (λ q. q.first ≤ q.last) (xs ++ ys) → (xs ≡ bs) × (ys ≡ cs)
-same_gap page [] ys [] cs e a b c d f = (refl, e)
-same_gap page [] ys (x ∷ bs) cs e a b c d f =
-    let w : AllByRecursion (λ q. page < q.first) (x ∷ bs ++ cs) = subst (λ l. AllByRecursion (λ q. page < q.first) l) e b in
-    let v : AllByRecursion (λ q. q.first ≤ q.last) (x ∷ bs ++ cs) = subst (λ l. AllByRecursion (λ q. q.first ≤ q.last) l) e f in
-    absurd (omega (arith, w.0, c.0, v.0))
-same_gap page (x ∷ xs) ys [] cs e a b c d f =
-    let w : AllByRecursion (λ q. page < q.first) (x ∷ xs ++ ys) = subst (λ l. AllByRecursion (λ q. page < q.first) l) (sym e) d in
-    absurd (omega (arith, w.0, a.0, f.0))
-same_gap page (x ∷ xs) ys (y ∷ bs) cs e a b c d f =
-    let hd : x ≡ y = cc in
-    let tl : xs ++ ys ≡ bs ++ cs = cc in
-    let g = same_gap page xs ys bs cs tl a.1 b c.1 d f.1 in
-    (cc, g.1)
-
-pub all_pages : (from : ℕ) (ps : List Piece) → AreSorted from ps → AllByRecursion (λ q. q.first ≤ q.last) ps
-all_pages from [] s = tt
-all_pages from (p ∷ ps) s = (s.1.0, all_pages (p.last + 1) ps s.2)

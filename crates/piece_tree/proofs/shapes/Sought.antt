@@ -14,10 +14,10 @@ use Rattle.piece_tree.specs.Tree.{Look, Shape, Empty, Fork, items, height_of, lo
 use Rattle.piece_tree.specs.Tree.{IsWhole}
 use Rattle.piece_tree.specs.Tree.{pieces_of}
 use Rattle.piece_tree.specs.Way.{Above, Whole, Beside, plug, front, back, AreSteps, IsHand}
-use Rattle.piece_tree.proofs.shapes.Led.{Roots, roots, root_there, root-falls, node_height, place-few, steps_more}
+use Rattle.piece_tree.proofs.shapes.Led.{Roots, roots, root_there, root-falls, child-falls, node_height, place-few, steps_more}
 use Rattle.piece_tree.proofs.shapes.Beside.{none_empty}
 use Rattle.piece_tree.proofs.shapes.Mended.{plug-items, plug_stands}
-use Rattle.piece_tree.proofs.shapes.Sorted.{all_append, plug-parts, sorted_at, sorted_front, sorted_there, ends_below}
+use Rattle.piece_tree.proofs.shapes.Sorted.{all_append, plug-parts, sorted_at, sorted_there}
 use Rattle.piece_tree.proofs.shapes.Tall.{whole-low, whole_view}
 
 -- ---- the first piece from a page on
@@ -65,9 +65,7 @@ module _ (nodes : Slab Node) (root : Option ℕ) (page : ℕ) (at : Option ℕ) 
 
     pub narrow-falls : (node_height (at_root (get nodes) node.left) < node_height (at_root (get nodes) at))
         × (node_height (at_root (get nodes) node.right) < node_height (at_root (get nodes) at))
-    narrow-falls = subst (λ o. (node_height (at_root (get nodes) node.left) < node_height (at_root (get nodes) o))
-        × (node_height (at_root (get nodes) node.right) < node_height (at_root (get nodes) o))) (sym e)
-        (root-falls (get nodes) key node q.there x narrow-stands f)
+    narrow-falls = root-falls (get nodes) at key node q.there e x narrow-stands f
 
     ordered : (low : ℕ) × AreSorted low (items x.l ++ node.piece ∷ items x.r)
     ordered = sorted_there q.path (items x.l ++ node.piece ∷ items x.r) 0
@@ -116,15 +114,10 @@ narrow-end nodes root page at found t w q e =
 -- ---- the first piece with so many free pages
 
 -- where none is so long
-pub short-all : (from pages : ℕ) (t : Shape) → longest_of t < pages → AllByRecursion (IsShort from pages) (items t)
-short-all from pages Empty h = tt
-short-all from pages (Fork key p l r) h =
-    all_append (IsShort from pages) (items l) (p ∷ items r) (short-all from pages l (omega arith))
-    ((λ e. omega arith), short-all from pages r (omega arith))
-
-short-below : (from pages : ℕ) (ps : List Piece) → AllByRecursion (λ q. q.last < from) ps → AllByRecursion (IsShort from pages) ps
-short-below from pages [] a = tt
-short-below from pages (p ∷ ps) a = ((λ e. absurd (omega (arith, a.0))), short-below from pages ps a.1)
+pub short-all : (pages : ℕ) (t : Shape) → longest_of t < pages → AllByRecursion (IsShort pages) (items t)
+short-all pages Empty h = tt
+short-all pages (Fork key p l r) h =
+    all_append (IsShort pages) (items l) (p ∷ items r) (short-all pages l (omega arith)) (omega arith, short-all pages r (omega arith))
 
 -- what is longest is shown
 pub shows_longest : (look : Look) (key : ℕ) (node : Node) (t : Shape) → root_of t ≡ Some key → Stands look t → look key ≡ Some node
@@ -150,7 +143,7 @@ pub record GoesLong (way : List Step) (pages : ℕ) (at : Option ℕ) (depth : �
   pub is : t ≡ plug path there
   pub root : at ≡ root_of there
   pub steps : AreSteps way depth path
-  pub short : AllByRecursion (IsShort 0 pages) (front path)
+  pub short : AllByRecursion (IsShort pages) (front path)
   pub long : pages ≤ longest_of there
 
 abbrev pub IsGoingLong : Slab Node → Option ℕ → ℕ → List Step → Option ℕ → ℕ → Type 0
@@ -207,14 +200,7 @@ module _ (nodes : Slab Node) (root : Option ℕ) (pages : ℕ) (way : List Step)
 
     pub long-smaller : (b : Bool) (child : Option ℕ) → (b ≡ true → child ≡ node.left) → (b ≡ false → child ≡ node.right)
         → node_height (at_root (get nodes) child) < node_height (at_root (get nodes) at)
-    long-smaller true child left right =
-        subst (λ o. node_height (at_root (get nodes) child) < node_height (at_root (get nodes) o)) (sym e)
-        (subst (λ o. node_height (at_root (get nodes) o) < node_height (at_root (get nodes) (Some key))) (sym (left refl))
-        (root-falls (get nodes) key node g.there y long-stands f).0)
-    long-smaller false child left right =
-        subst (λ o. node_height (at_root (get nodes) child) < node_height (at_root (get nodes) o)) (sym e)
-        (subst (λ o. node_height (at_root (get nodes) o) < node_height (at_root (get nodes) (Some key))) (sym (right refl))
-        (root-falls (get nodes) key node g.there y long-stands f).1)
+    long-smaller = child-falls (get nodes) at key node g.there e y long-stands f
 
     pub long-on : (b : Bool) (child : Option ℕ) → (b ≡ true → child ≡ node.left) → (b ≡ false → child ≡ node.right)
         → (b ≡ true → pages ≤ longest_of y.l) → (b ≡ false → (longest_of y.l < pages) × (free_pages node.piece < pages))
@@ -236,14 +222,14 @@ module _ (nodes : Slab Node) (root : Option ℕ) (pages : ℕ) (way : List Step)
           is = g.is ∙ ap (plug g.path) y.is;
           root = right refl ∙ y.right;
           steps = steps_more way depth key false node.piece y.l g.path g.steps (omega (arith, i.1, long-few));
-          short = all_append (IsShort 0 pages) (front g.path) (items y.l ++ node.piece ∷ []) g.short
-              (all_append (IsShort 0 pages) (items y.l) (node.piece ∷ []) (short-all 0 pages y.l h.0) ((λ x. h.1), tt));
+          short = all_append (IsShort pages) (front g.path) (items y.l ++ node.piece ∷ []) g.short
+              (all_append (IsShort pages) (items y.l) (node.piece ∷ []) (short-all pages y.l h.0) (h.1, tt));
           long = omega (arith, long-is, h);
         }
 
     -- it is the piece there
     pub long-here : longest_of y.l < pages → pages ≤ free_pages node.piece
-        → (h : IsHand way (record { key = key; depth = depth }) t) × IsFirstLong 0 pages (items t) h.piece
+        → (h : IsHand way (record { key = key; depth = depth }) t) × IsFirstLong pages (items t) h.piece
     long-here none h = (
       record {
         path = g.path;
@@ -259,8 +245,7 @@ module _ (nodes : Slab Node) (root : Option ℕ) (pages : ℕ) (way : List Step)
         parts = ap items g.is ∙ ap (λ x. items (plug g.path x)) y.is ∙ plug-items g.path (Fork key node.piece y.l y.r)
             ∙ plug-parts g.path (items y.l ++ node.piece ∷ items y.r)
             ∙ regroup (front g.path) (items y.l) node.piece (items y.r) (back g.path);
-        short = all_append (IsShort 0 pages) (front g.path) (items y.l) g.short (short-all 0 pages y.l none);
-        ends = omega arith;
+        short = all_append (IsShort pages) (front g.path) (items y.l) g.short (short-all pages y.l none);
         long = h;
       },
     )
@@ -274,90 +259,3 @@ long-end way pages at depth t g e pos =
     let z = none_empty g.there (sym g.root ∙ e) in
     let h : pages ≤ longest_of Empty = subst (λ x. pages ≤ longest_of x) z g.long in
     omega arith
-
--- ---- and that ends at a page or behind it
-
-module _ (look : Look) (root : Option ℕ) (key : ℕ) (node : Node) (from pages : ℕ) (t : Shape) (low : ℕ) (b : IsBelow look root t)
-    (s : AreSorted low (items t)) (e : root ≡ Some key) (f : look key ≡ Some node) where
-  abbrev pub far-z : Roots key node t
-  far-z = roots look key node t (sym b.0 ∙ e) b.1 f
-
-  stands-z : Stands look (Fork key node.piece far-z.l far-z.r)
-  stands-z = subst (λ x. Stands look x) far-z.is b.1
-
-  sorted-z : AreSorted low (items far-z.l ++ node.piece ∷ items far-z.r)
-  sorted-z = subst (λ x. AreSorted low (items x)) far-z.is s
-
-  pub far-there : IsSome (look key)
-  far-there = root_there look key t (sym b.0 ∙ e) b.1
-
-  pub far-left : IsBelow look node.left far-z.l
-  far-left = (far-z.left, stands-z.3)
-
-  pub far-right : IsBelow look node.right far-z.r
-  far-right = (far-z.right, stands-z.4)
-
-  pub far-sorted_left : AreSorted low (items far-z.l)
-  far-sorted_left = sorted_front low (items far-z.l) (node.piece ∷ items far-z.r) sorted-z
-
-  pub far-sorted_right : AreSorted (node.piece.last + 1) (items far-z.r)
-  far-sorted_right = (sorted_at low (items far-z.l) node.piece (items far-z.r) sorted-z).2
-
-  pub far-piece : IsPiece node.piece
-  far-piece = stands-z.1
-
-  pub far-falls : (node_height (at_root look node.left) < node_height (at_root look root))
-      × (node_height (at_root look node.right) < node_height (at_root look root))
-  far-falls = subst (λ o. (node_height (at_root look node.left) < node_height (at_root look o))
-      × (node_height (at_root look node.right) < node_height (at_root look o))) (sym e) (root-falls look key node t far-z b.1 f)
-
-  pub far-short : node.longest < pages → AllByRecursion (IsShort from pages) (items t)
-  far-short h = short-all from pages t (omega (arith, shows_longest look key node t (sym b.0 ∙ e) b.1 f))
-
-  pub far-in_left : (p : Piece) → IsFirstLong from pages (items far-z.l) p → IsFirstLong from pages (items t) p
-  far-in_left p i = record {
-    before = i.before;
-    behind = i.behind ++ node.piece ∷ items far-z.r;
-    parts = ap items far-z.is ∙ ap (λ xs. xs ++ node.piece ∷ items far-z.r) i.parts
-        ∙ append_assoc i.before (p ∷ i.behind) (node.piece ∷ items far-z.r);
-    short = i.short;
-    ends = i.ends;
-    long = i.long;
-  }
-
-  pub far-here : AllByRecursion (IsShort from pages) (items far-z.l) → from ≤ node.piece.last → pages ≤ free_pages node.piece
-      → IsFirstLong from pages (items t) node.piece
-  far-here a h l = record {
-    before = items far-z.l;
-    behind = items far-z.r;
-    parts = ap items far-z.is;
-    short = a;
-    ends = h;
-    long = l;
-  }
-
-  pub far-in_right : (p : Piece) → AllByRecursion (IsShort from pages) (items far-z.l) → IsShort from pages node.piece
-      → IsFirstLong from pages (items far-z.r) p → IsFirstLong from pages (items t) p
-  far-in_right p a h i = record {
-    before = items far-z.l ++ node.piece ∷ i.before;
-    behind = i.behind;
-    parts = ap items far-z.is ∙ ap (λ xs. items far-z.l ++ node.piece ∷ xs) i.parts
-        ∙ sym (append_assoc (items far-z.l) (node.piece ∷ i.before) (p ∷ i.behind));
-    short = all_append (IsShort from pages) (items far-z.l) (node.piece ∷ i.before) a (h, i.short);
-    ends = i.ends;
-    long = i.long;
-  }
-
-  pub far-none : AllByRecursion (IsShort from pages) (items far-z.l) → IsShort from pages node.piece
-      → AllByRecursion (IsShort from pages) (items far-z.r) → AllByRecursion (IsShort from pages) (items t)
-  far-none a h c = subst (λ x. AllByRecursion (IsShort from pages) (items x)) (sym far-z.is)
-      (all_append (IsShort from pages) (items far-z.l) (node.piece ∷ items far-z.r) a (h, c))
-
-  -- where the piece ends below the page, so does all before it
-  pub far-below : node.piece.last < from → AllByRecursion (IsShort from pages) (items far-z.l) × IsShort from pages node.piece
-  far-below h =
-      let a = sorted_at low (items far-z.l) node.piece (items far-z.r) sorted-z in (
-        short-below from pages (items far-z.l)
-            (ends_below low from (items far-z.l) node.piece (items far-z.r) sorted-z (omega (arith, a.1))),
-        (λ x. absurd (omega arith)),
-      )

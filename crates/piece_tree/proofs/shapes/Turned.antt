@@ -1,19 +1,19 @@
 -- Turns: the root of a tree that is higher by two is raised, or the root of its inner tree.
-use Rattle.std.proofs.Common.{◌≡◌, ℕ, ◌+◌, ◌<◌, ◌≤◌, max, Bool, true, false, ◌∷◌, Some, IsSome, refl}
+use Rattle.std.proofs.Common.{◌≡◌, ℕ, ◌+◌, ◌<◌, ◌≤◌, max, Bool, true, false, ◌∷◌, Some, IsSome}
 use Rattle.std.proofs.Common.{ap, sym, ◌∙◌, subst, arith}
 use Rattle.std.proofs.Common.{append_assoc}
 use Rattle.piece_tree.specs.declared.piece.Piece.{Piece}
 use Rattle.piece_tree.specs.declared.node.Opened.{Opened}
 use Rattle.piece_tree.specs.declared.node.Top.{Top}
 use Rattle.piece_tree.specs.Pieces.{IsPiece}
-use Rattle.piece_tree.specs.Tree.{Look, Shape, Empty, Fork, items, height_of, one, uses, AreNear, fork, top_of, IsBelow, Opens, AreParts}
-use Rattle.piece_tree.specs.Tree.{Links, Joins, Stands, root_of}
+use Rattle.piece_tree.specs.Tree.{Look, Shape, items, height_of, one, uses, AreNear, fork, top_of, IsBelow, Opens, AreParts}
+use Rattle.piece_tree.specs.Tree.{Links, Joins, Stands}
 use Rattle.piece_tree.proofs.shapes.Forks.{one-same, is_there, fork-height, fork-uses, StandsBy, stands_by}
-use Rattle.piece_tree.proofs.shapes.Forks.{beside_linked}
+use Rattle.piece_tree.proofs.shapes.Forks.{opened-by, opened-uses, opened-height, beside_linked}
 
 -- ---- the order of the pieces
 
-once_items : (b : Bool) (key top : ℕ) (p q : Piece) (nn nf f : Shape)
+pub once_items : (b : Bool) (key top : ℕ) (p q : Piece) (nn nf f : Shape)
     → items (fork b top q nn (fork b key p nf f)) ≡ items (fork b key p (fork b top q nn nf) f)
 once_items true key top p q nn nf f = sym (append_assoc (items nn) (q ∷ items nf) (p ∷ items f))
 once_items false key top p q nn nf f = append_assoc (items f) (p ∷ items nf) (q ∷ items nn)
@@ -26,16 +26,7 @@ twice_items false key top middle p q r nn mn mf f = simp append_assoc
 
 -- ---- what was opened
 
--- a tree with a root has a height
-pub rooted : (t : Shape) (key : ℕ) → root_of t ≡ Some key → 1 ≤ height_of t
-rooted Empty key e = absurd (cc)
-rooted (Fork k p l r) key e = omega arith
-
-pub rootless : (t : Shape) → height_of t ≡ 0 → t ≡ Empty
-rootless Empty e = refl
-rootless (Fork k p l r) e = absurd (omega arith)
-
--- and where heights are shown
+-- a height that is shown
 pub shows_height : (top : Top) (t : Shape) → top ≡ top_of t → top.height ≡ height_of t
 shows_height top t e = ap (λ (v : Top). v.height) e
 
@@ -47,20 +38,14 @@ below_top look top key t is e s = (sym e ∙ ap (λ (v : Top). v.root) is, s)
 
 module _ (old : Look) (b : Bool) (high low : Top) (key top : ℕ) (p : Piece) (outer : Opened) (n f : Shape)
     (a : AreParts old high key low n f) (tall : height_of n ≡ height_of f + 2) (o : Opens b top outer n) where
-  whole : Stands old (fork b top outer.piece o.near o.far)
-  whole = subst (λ t. Stands old t) o.is a.near_stands
-
   by : StandsBy old b top outer.piece o.near o.far
-  by = stands_by old b top outer.piece o.near o.far whole
-
-  pub turn-piece : IsPiece outer.piece
-  turn-piece = by.piece
+  by = opened-by old b top outer n a.near_stands o
 
   uses-n : (k : ℕ) → uses n k ≡ one top k + uses o.near k + uses o.far k
-  uses-n k = ap (λ t. uses t k) o.is ∙ fork-uses b top outer.piece o.near o.far k
+  uses-n k = opened-uses old b top outer n a.near_stands o k
 
   high-n : height_of f + 1 ≡ max (height_of o.near) (height_of o.far)
-  high-n = let e = ap height_of o.is ∙ fork-height b top outer.piece o.near o.far in omega (arith, e)
+  high-n = omega (arith, opened-height old b top outer n a.near_stands o)
 
   pub top_there : IsSome (old top)
   top_there = is_there _ _ by.here

@@ -12,7 +12,7 @@ loop-at-init c = long_start c.args.nodes.now c.args.root c.args.pages c.args.way
 
 pub returns-then-longest-pages-clause-none : goal.returns-then-longest-pages-clause-none
 returns-then-longest-pages-clause-none c t w =
-    short-all 0 c.args.pages t (omega (arith, c.longest.ensures t (w.here, w.stands), c.if-longest-pages.true))
+    short-all c.args.pages t (omega (arith, c.longest.ensures t (w.here, w.stands), c.if-longest-pages.true))
 
 pub index-node-requires : goal.index-node-requires
 index-node-requires c =

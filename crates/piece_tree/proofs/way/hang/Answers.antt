@@ -1,11 +1,11 @@
-use Rattle.std.proofs.Common.{arith}
+use Rattle.std.proofs.Common.{refl, arith}
 use Rattle.slab.specs.Slab.{get}
-use Rattle.piece_tree.proofs.shapes.Hung.{eq_true, hung-piece, hung-other, hung-parts, hung-flip, hangs-turned, hangs-flipped, hangs-linked}
+use Rattle.piece_tree.proofs.shapes.Hung.{hung-piece, hung-other, hung-parts, hung-flip, hangs-turned, hangs-flipped, hangs-linked}
 use Rattle.piece_tree.proofs.shapes.Turned.{shows_height}
 use Rattle.piece_tree.proofs.way.hang.Goals as goal
 
-pub turn-top-requires-clause-parts : goal.turn-top-requires-clause-parts
-turn-top-requires-clause-parts c =
+pub between-top-requires-clause-parts : goal.between-top-requires-clause-parts
+between-top-requires-clause-parts c =
     let q = c.requires in
     let o = c.read-other.ensures q.3 (hung-other (get c.args.nodes.now) c.args.step c.args.tree q.0 q.1 q.2 q.3 q.4 c.index-node.result.now
     c.index-node.ensures c.child.result c.child.ensures.before c.child.ensures.behind) in
@@ -16,6 +16,7 @@ turn-top-requires-clause-parts c =
       hung-parts (get c.args.nodes.now) c.args.step c.args.tree q.0 q.1 q.2 q.3 q.4 c.index-node.result.now c.index-node.ensures
           c.read-other.result o,
       omega (arith, q.4.near, q.4.close),
+      omega (arith, q.4.near, q.4.close),
     )
 
 pub returns-then-tree-other-clause-hung : goal.returns-then-tree-other-clause-hung
@@ -25,40 +26,9 @@ returns-then-tree-other-clause-hung c piece was n f h =
     let a = shows_height c.args.tree n h.tree_is in
     let b = shows_height c.read-other.result f o in
     hangs-turned (get c.args.nodes.now) c.args.step c.args.tree piece was n f h c.index-node.result.now c.index-node.ensures
-    (get c.turn-top.new.nodes) c.turn-top.result
-    (c.turn-top.ensures.joins n f (hung-parts (get c.args.nodes.now) c.args.step c.args.tree piece was n f h c.index-node.result.now
-    c.index-node.ensures c.read-other.result o) (omega (arith, h.near, h.close)))
-
-pub turn-top-requires-then-other-tree-clause-parts : goal.turn-top-requires-then-other-tree-clause-parts
-turn-top-requires-then-other-tree-clause-parts c =
-    let q = c.requires in
-    let o = c.read-other.ensures q.3 (hung-other (get c.args.nodes.now) c.args.step c.args.tree q.0 q.1 q.2 q.3 q.4 c.index-node.result.now
-    c.index-node.ensures c.child.result c.child.ensures.before c.child.ensures.behind) in
-    let a = shows_height c.args.tree q.2 q.4.tree_is in
-    let b = shows_height c.read-other.result q.3 o in (
-      q.3,
-      q.2,
-      hung-flip (get c.args.nodes.now) c.args.step c.args.tree q.0 q.1 q.2 q.3 q.4 c.index-node.result.now c.index-node.ensures
-          c.read-other.result o,
-      omega (arith, q.4.near, q.4.close),
-    )
-
-pub turn-top-requires-then-other-tree-clause-piece : goal.turn-top-requires-then-other-tree-clause-piece
-turn-top-requires-then-other-tree-clause-piece c =
-    let q = c.requires in
-    hung-piece (get c.args.nodes.now) c.args.step c.args.tree q.0 q.1 q.2 q.3 q.4 c.index-node.result.now c.index-node.ensures
-
-pub returns-then-other-tree-clause-hung : goal.returns-then-other-tree-clause-hung
-returns-then-other-tree-clause-hung c piece was n f h =
-    let o = c.read-other.ensures f (hung-other (get c.args.nodes.now) c.args.step c.args.tree piece was n f h c.index-node.result.now
-    c.index-node.ensures c.child.result c.child.ensures.before c.child.ensures.behind) in
-    let a = shows_height c.args.tree n h.tree_is in
-    let b = shows_height c.read-other.result f o in
-    hangs-flipped (get c.args.nodes.now) c.args.step c.args.tree piece was n f h c.index-node.result.now c.index-node.ensures
-    (get c.turn-top-then-other-tree.new.nodes) c.turn-top-then-other-tree.result
-    (c.turn-top-then-other-tree.ensures.joins f n (hung-flip (get c.args.nodes.now) c.args.step c.args.tree piece was n f h
-    c.index-node.result.now
-    c.index-node.ensures c.read-other.result o) (omega (arith, h.near, h.close)))
+    (get c.between-top.new.nodes) c.between-top.result
+    (c.between-top.ensures.joins n f (hung-parts (get c.args.nodes.now) c.args.step c.args.tree piece was n f h c.index-node.result.now
+    c.index-node.ensures c.read-other.result o))
 
 pub link-top-requires-clause-parts : goal.link-top-requires-clause-parts
 link-top-requires-clause-parts c =
@@ -84,7 +54,7 @@ returns-then-top-was_height-clause-hung c piece was n f h =
     (get c.link-top.new.nodes) c.link-top.result _
     (c.link-top.ensures.links n f (hung-parts (get c.args.nodes.now) c.args.step c.args.tree piece was n f h c.index-node.result.now
     c.index-node.ensures c.read-other.result o) (omega arith, omega arith))
-    (λ s. (c.if-top-was_height.true, eq_true _ _ s))
+    (c.if-top-was_height.true, refl)
 
 pub returns-else-top-was_height-clause-hung : goal.returns-else-top-was_height-clause-hung
 returns-else-top-was_height-clause-hung c piece was n f h =
@@ -96,4 +66,4 @@ returns-else-top-was_height-clause-hung c piece was n f h =
     (get c.link-top.new.nodes) c.link-top.result _
     (c.link-top.ensures.links n f (hung-parts (get c.args.nodes.now) c.args.step c.args.tree piece was n f h c.index-node.result.now
     c.index-node.ensures c.read-other.result o) (omega arith, omega arith))
-    (λ s. absurd (c.if-top-was_height.false (eq_true _ _ s)))
+    tt

@@ -1,6 +1,6 @@
 use Rattle.std.proofs.Common.{arith}
 use Rattle.piece_tree.proofs.shapes.Mended.{counts_twice, la, mending_start, mending_end, mending-few, mending-can, mending-next}
-use Rattle.piece_tree.proofs.shapes.Mended.{mending-stops}
+use Rattle.piece_tree.proofs.shapes.Mended.{back, mending-lifts}
 use Rattle.piece_tree.proofs.way.mend.Goals as goal
 
 pub loop-depth-init : goal.loop-depth-init
@@ -34,22 +34,42 @@ hang-hung-requires c =
           c.loop-depth-test.true,
     )
 
-pub returns-then-hung-clause-mended : goal.returns-then-hung-clause-mended
-returns-then-hung-clause-mended c path t new can =
+pub lift-requires : goal.lift-requires
+lift-requires c =
+    let q = c.requires in
+    let m = c.loop-depth.invariant q.0 q.1 q.2 q.3 in
+    let l = la c.args.nodes.now c.loop-depth.nodes c.args.way.now c.loop-depth.depth c.args.root c.loop-depth.top q.0 q.1 q.2 m
+    c.loop-depth-test.true in (
+      c.args.root,
+      l.more,
+      _,
+      _,
+      mending-lifts c.args.nodes.now c.loop-depth.nodes c.args.way.now c.loop-depth.depth c.args.root c.loop-depth.top q.0 q.1 q.2 m
+          c.loop-depth-test.true c.hang-hung.new.nodes c.hang-hung.result
+          (c.hang-hung.ensures.hung l.piece m.there m.here l.other
+          (mending-can c.args.nodes.now c.loop-depth.nodes c.args.way.now c.loop-depth.depth c.args.root c.loop-depth.top q.0 q.1 q.2 m
+          c.loop-depth-test.true)) c.hang-hung.ensures.count c.in-Some.was c.in-Some.is,
+    )
+
+pub returns-in-Some-clause-mended : goal.returns-in-Some-clause-mended
+returns-in-Some-clause-mended c path t new can =
     let m = c.loop-depth.invariant path t new can in
     let l = la c.args.nodes.now c.loop-depth.nodes c.args.way.now c.loop-depth.depth c.args.root c.loop-depth.top path t new m
     c.loop-depth-test.true in
-    mending-stops c.args.nodes.now c.loop-depth.nodes c.args.way.now c.loop-depth.depth c.args.root c.loop-depth.top path t new m
-    c.loop-depth-test.true c.hang-hung.new.nodes c.hang-hung.result
-    (c.hang-hung.ensures.hung l.piece m.there m.here l.other
+    let h = c.hang-hung.ensures.hung l.piece m.there m.here l.other
     (mending-can c.args.nodes.now c.loop-depth.nodes c.args.way.now c.loop-depth.depth c.args.root c.loop-depth.top path t new m
-    c.loop-depth-test.true)) c.hang-hung.ensures.count c.if-hung.true
+    c.loop-depth-test.true) in
+    back c.args.nodes.now c.loop-depth.nodes c.args.way.now c.loop-depth.depth c.args.root c.loop-depth.top path t new m
+    c.loop-depth-test.true c.hang-hung.new.nodes c.hang-hung.result h c.hang-hung.ensures.count c.lift.new.nodes c.args.root
+    (c.lift.ensures.lifted c.args.root l.more _ _
+    (mending-lifts c.args.nodes.now c.loop-depth.nodes c.args.way.now c.loop-depth.depth c.args.root c.loop-depth.top path t new m
+    c.loop-depth-test.true c.hang-hung.new.nodes c.hang-hung.result h c.hang-hung.ensures.count c.in-Some.was c.in-Some.is))
 
-pub returns-then-hung-clause-count : goal.returns-then-hung-clause-count
-returns-then-hung-clause-count c =
+pub returns-in-Some-clause-count : goal.returns-in-Some-clause-count
+returns-in-Some-clause-count c =
     let q = c.requires in
-    counts_twice c.args.nodes.now c.loop-depth.nodes c.hang-hung.new.nodes (c.loop-depth.invariant q.0 q.1 q.2 q.3).count
-    c.hang-hung.ensures.count
+    counts_twice c.args.nodes.now c.loop-depth.nodes c.lift.new.nodes (c.loop-depth.invariant q.0 q.1 q.2 q.3).count
+    (counts_twice c.loop-depth.nodes c.hang-hung.new.nodes c.lift.new.nodes c.hang-hung.ensures.count c.lift.ensures.count)
 
 pub loop-depth-preserved : goal.loop-depth-preserved
 loop-depth-preserved c path t new can =

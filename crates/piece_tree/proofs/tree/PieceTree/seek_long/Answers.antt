@@ -11,7 +11,7 @@ use Rattle.piece_tree.proofs.tree.PieceTree.seek_long.Goals as goal
 pub index-requires : goal.index-requires
 index-requires c =
     let i = c.self.invariant in
-    let h = subst (λ o. IfSome o (λ held. (x : IsHand c.go_long-self-inside.new.way held i.0) × IsFirstLong 0 c.args.pages (items i.0)
+    let h = subst (λ o. IfSome o (λ held. (x : IsHand c.go_long-self-inside.new.way held i.0) × IsFirstLong c.args.pages (items i.0)
     x.piece))
     c.in_ok-held.was (c.go_long-self-inside.ensures.hand i.0 i.1) in
     hand-there c.self.inside.nodes c.self.inside.root c.go_long-self-inside.new.way c.in_ok-held.held i.0 i.1 h.0
@@ -20,21 +20,21 @@ pub returns-in_err-held-clause-none : goal.returns-in_err-held-clause-none
 returns-in_err-held-clause-none c =
     let i = c.self.invariant in
     let e = sym (whole_view c.self.inside.nodes c.self.inside.root i.0 i.1) ∙ c.self.view_is in
-    subst (λ o. IfNone o (AllByRecursion (IsShort 0 c.args.pages) c.args.self.now)) (sym c.from_residual.ensures)
-    (subst (λ l. AllByRecursion (IsShort 0 c.args.pages) l) e
-    (subst (λ o. IfNone o (AllByRecursion (IsShort 0 c.args.pages) (items i.0))) c.in_err-held.was
+    subst (λ o. IfNone o (AllByRecursion (IsShort c.args.pages) c.args.self.now)) (sym c.from_residual.ensures)
+    (subst (λ l. AllByRecursion (IsShort c.args.pages) l) e
+    (subst (λ o. IfNone o (AllByRecursion (IsShort c.args.pages) (items i.0))) c.in_err-held.was
     (c.go_long-self-inside.ensures.none i.0 i.1)))
 
 pub returns-clause-some : goal.returns-clause-some
 returns-clause-some c =
     let i = c.self.invariant in
-    let h = subst (λ o. IfSome o (λ held. (x : IsHand c.go_long-self-inside.new.way held i.0) × IsFirstLong 0 c.args.pages (items i.0)
+    let h = subst (λ o. IfSome o (λ held. (x : IsHand c.go_long-self-inside.new.way held i.0) × IsFirstLong c.args.pages (items i.0)
     x.piece))
     c.in_ok-held.was (c.go_long-self-inside.ensures.hand i.0 i.1) in
     let e = sym (whole_view c.self.inside.nodes c.self.inside.root i.0 i.1) ∙ c.self.view_is in
-    subst (λ x. IsFirstLong 0 c.args.pages c.args.self.now x)
+    subst (λ x. IsFirstLong c.args.pages c.args.self.now x)
     (sym (hand-piece c.self.inside.nodes c.self.inside.root c.go_long-self-inside.new.way c.in_ok-held.held i.0 i.1 h.0 c.index.result.now
-    c.index.ensures)) (subst (λ l. IsFirstLong 0 c.args.pages l h.0.piece) e h.1)
+    c.index.ensures)) (subst (λ l. IsFirstLong c.args.pages l h.0.piece) e h.1)
 
 pub returns-in_err-held-clause-sorted : goal.returns-in_err-held-clause-sorted
 returns-in_err-held-clause-sorted c =

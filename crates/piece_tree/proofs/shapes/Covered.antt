@@ -1,0 +1,105 @@
+-- Pieces in order, once a row of others was put over some of their pages.
+use Rattle.std.proofs.Common.{◌≡◌, ℕ, ◌+◌, ◌-◌, ◌<◌, ◌≤◌, List, [], ◌∷◌, ◌++◌, refl, ap, sym, ◌∙◌, inl, inr, subst, arith, append_assoc}
+use Rattle.std.proofs.lemmas.Bool.Decides.{nat_tests}
+use Rattle.piece_tree.specs.declared.piece.Piece.{Piece}
+use Rattle.piece_tree.specs.declared.piece.TheConstants.{NUMBERS_END}
+use Rattle.piece_tree.specs.Laid.{IsRow, part_above, part_below, rest_above, rest_below, with_piece, with_row}
+use Rattle.piece_tree.specs.Pieces.{AreSorted, Holds, IsPiece}
+use Rattle.piece_tree.proofs.shapes.Laid.{above-at, below-at, row_rises}
+use Rattle.piece_tree.proofs.shapes.Sorted.{sorted_from}
+use Rattle.piece_tree.proofs.shapes.Tall.{order}
+
+-- ---- what is left of a piece
+
+pub below-none : (page : ℕ) (p : Piece) → page ≤ p.first → rest_below page p ≡ []
+below-none page p h = grind (arith, nat_tests, h)
+
+pub above-none : (page : ℕ) (p : Piece) → p.last ≤ page → rest_above page p ≡ []
+above-none page p h = grind (arith, nat_tests, h)
+
+-- a row over pages of one piece
+pub row-at : (from first last : ℕ) (row xs : List Piece) (p : Piece) (ys : List Piece) → AreSorted from (xs ++ p ∷ ys) → Holds p first
+    → Holds p last
+    → with_row first row last (xs ++ p ∷ ys) ≡ xs ++ (rest_below first p ++ row ++ rest_above last p) ++ ys
+row-at from first last row xs p ys s h k =
+    ap (λ l. l ++ (row ++ part_above last (xs ++ p ∷ ys))) (below-at from first xs p ys s h)
+    ∙ ap (λ l. (xs ++ rest_below first p) ++ (row ++ l)) (above-at from last xs p ys s k) ∙ simp append_assoc
+
+-- ---- order
+
+below-step : (page : ℕ) (p : Piece) (ps : List Piece) → p.last < page → part_below page (p ∷ ps) ≡ p ∷ part_below page ps
+unfolding part_below
+below-step page p ps h = grind (arith, nat_tests, h)
+
+below-cut : (page : ℕ) (p : Piece) (ps : List Piece) → page ≤ p.last → p.first < page
+    → part_below page (p ∷ ps) ≡ record p { last = page - 1 } ∷ []
+unfolding part_below
+below-cut page p ps h k = grind (arith, nat_tests, h, k)
+
+below-stop : (page : ℕ) (p : Piece) (ps : List Piece) → page ≤ p.last → page ≤ p.first → part_below page (p ∷ ps) ≡ []
+unfolding part_below
+below-stop page p ps h k = grind (arith, nat_tests, h, k)
+
+below-nil : (page : ℕ) → part_below page [] ≡ []
+unfolding part_below
+below-nil page = refl
+
+pub below-sorted : (from page : ℕ) (ps zs : List Piece) → AreSorted from ps → from ≤ page → AreSorted page zs
+    → AreSorted from (part_below page ps ++ zs)
+below-sorted from page [] zs s h z = subst (λ l. AreSorted from (l ++ zs)) (sym (below-nil page)) (sorted_from from page zs h z)
+below-sorted from page (p ∷ ps) zs s h z = elim (order page p.last) [
+  | inr a ↦ subst (λ l. AreSorted from (l ++ zs)) (sym (below-step page p ps a))
+      (s.0, s.1, below-sorted (p.last + 1) page ps zs s.2 (omega (arith, a)) z)
+  | inl a ↦ elim (order page p.first) [
+    | inl b ↦ subst (λ l. AreSorted from (l ++ zs)) (sym (below-stop page p ps a b)) (sorted_from from page zs h z)
+    | inr b ↦
+        let e : page ≡ page - 1 + 1 = omega (arith, b) in
+        subst (λ l. AreSorted from (l ++ zs)) (sym (below-cut page p ps a b))
+        (s.0, (omega (arith, b), omega (arith, a, s.1)), subst (λ n. AreSorted n zs) e z)
+  ]
+]
+
+pub above-step : (page : ℕ) (p : Piece) (ps : List Piece) → p.last ≤ page → part_above page (p ∷ ps) ≡ part_above page ps
+unfolding part_above
+above-step page p ps h = grind (arith, nat_tests, h)
+
+pub above-cut : (page : ℕ) (p : Piece) (ps : List Piece) → page < p.last → p.first ≤ page
+    → part_above page (p ∷ ps) ≡ record p { first = page + 1 } ∷ ps
+unfolding part_above
+above-cut page p ps h k = grind (arith, nat_tests, h, k)
+
+above-stop : (page : ℕ) (p : Piece) (ps : List Piece) → page < p.last → page < p.first → part_above page (p ∷ ps) ≡ p ∷ ps
+unfolding part_above
+above-stop page p ps h k = grind (arith, nat_tests, h, k)
+
+above-nil : (page : ℕ) → part_above page [] ≡ []
+unfolding part_above
+above-nil page = refl
+
+pub above-sorted : (from page : ℕ) (ps : List Piece) → AreSorted from ps → AreSorted (page + 1) (part_above page ps)
+above-sorted from page [] s = subst (λ l. AreSorted (page + 1) l) (sym (above-nil page)) tt
+above-sorted from page (p ∷ ps) s = elim (order p.last page) [
+  | inl a ↦ subst (λ l. AreSorted (page + 1) l) (sym (above-step page p ps a)) (above-sorted (p.last + 1) page ps s.2)
+  | inr a ↦ elim (order p.first page) [
+    | inl b ↦ subst (λ l. AreSorted (page + 1) l) (sym (above-cut page p ps a b))
+        (omega arith, (omega (arith, a), omega (arith, s.1)), s.2)
+    | inr b ↦ subst (λ l. AreSorted (page + 1) l) (sym (above-stop page p ps a b)) (omega (arith, b), s.1, s.2)
+  ]
+]
+
+row-sorted : (from : ℕ) (row : List Piece) (end : ℕ) (zs : List Piece) → IsRow from row end → end ≤ NUMBERS_END → AreSorted end zs
+    → AreSorted from (row ++ zs)
+row-sorted from [] end zs r h z = subst (λ n. AreSorted n zs) (sym r) z
+row-sorted from (p ∷ ps) end zs r h z =
+    let a = row_rises (p.last + 1) ps end r.2 in
+    (omega (arith, r.0), (r.1, omega (arith, a, h)), row-sorted (p.last + 1) ps end zs r.2 h z)
+
+pub with_row-sorted : (from first last : ℕ) (row ps : List Piece) → AreSorted from ps → from ≤ first → IsRow first row (last + 1)
+    → last < NUMBERS_END → AreSorted from (with_row first row last ps)
+with_row-sorted from first last row ps s h r n =
+    below-sorted from first ps (row ++ part_above last ps) s h
+    (row-sorted first row (last + 1) (part_above last ps) r (omega (arith, n)) (above-sorted from last ps s))
+
+pub with_piece-sorted : (from : ℕ) (p : Piece) (ps : List Piece) → AreSorted from ps → from ≤ p.first → IsPiece p
+    → AreSorted from (with_piece p ps)
+with_piece-sorted from p ps s h i = with_row-sorted from p.first p.last (p ∷ []) ps s h (refl, i.0, refl) i.1

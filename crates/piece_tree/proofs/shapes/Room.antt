@@ -1,0 +1,146 @@
+-- Whether so many pages have room in pieces, from a floor on, at a multiple of a unit.
+use Rattle.std.proofs.Common.{◌≡◌, ℕ, ◌+◌, ◌-◌, ◌*◌, ◌/◌, ◌%◌, ◌^◌, ◌<◌, ◌≤◌, max, bit_and, false, List, [], ◌∷◌, ◌++◌}
+use Rattle.std.proofs.Common.{ap, sym, ◌∙◌, inl, inr, subst, arith, append_assoc}
+use Rattle.std.specs.List.{AllByRecursion}
+use Rattle.std.proofs.lemmas.Nat.{and_mask}
+use Rattle.std.proofs.Math.Nat.{div-add-mod, mul-mod_right, mul-le-mul_left, lt_of_mul-lt-mul_left}
+use Rattle.piece_tree.specs.declared.piece.Piece.{Piece}
+use Rattle.piece_tree.specs.Pieces.{AreSorted, is_free}
+use Rattle.piece_tree.specs.Search.{HasNoRoom, IsFound, IsRoundUp}
+use Rattle.piece_tree.specs.Tree.{Shape, Empty, Fork, free_pages, items, longest_of}
+use Rattle.piece_tree.proofs.shapes.Sorted.{sorted_at, sorted_front}
+use Rattle.piece_tree.proofs.shapes.Tall.{order}
+
+-- ---- multiples
+
+-- a multiple of the unit is unit times a quotient
+quotient : (m unit : ℕ) → m % unit ≡ 0 → m ≡ unit * (m / unit)
+quotient m unit e = sym (div-add-mod m unit) ∙ ap (λ r. unit * (m / unit) + r) e ∙ omega arith
+
+rounds_up : (page unit up : ℕ) → up % unit ≡ 0 → page ≤ up → up < page + unit → IsRoundUp page unit up
+rounds_up page unit up e l h = (
+  e,
+  l,
+  (λ other f k. elim (order up other) [
+    | inl x ↦ x
+    | inr x ↦
+        let q : up ≡ unit * (up / unit) = quotient up unit e in
+        let r : other ≡ unit * (other / unit) = quotient other unit f in
+        let less : other / unit < up / unit = lt_of_mul-lt-mul_left unit (omega (arith, q, r, x)) in
+        let more : unit * (other / unit + 1) ≤ unit * (up / unit) = mul-le-mul_left unit (omega (arith, less)) in
+        let next : unit * (other / unit + 1) ≡ unit * (other / unit) + unit = grind arith in
+        absurd (omega (arith, q, r, more, next, h, k))
+  ]),
+)
+
+-- a power of two rounds up by a mask
+pub masked_up : (page unit order : ℕ) → unit ≡ 2 ^ order → 0 < unit
+    → IsRoundUp page unit (page + (unit - 1) - bit_and (page + (unit - 1)) (unit - 1))
+masked_up page unit order e some =
+    let most = page + (unit - 1) in
+    let masked : bit_and most (unit - 1) ≡ most % unit =
+    ap (λ u. bit_and most (u - 1)) e ∙ and_mask most order ∙ ap (λ u. most % u) (sym e) in
+    let up : most - bit_and most (unit - 1) ≡ unit * (most / unit) = omega (arith, masked, div-add-mod most unit) in
+    let less : most % unit < unit = omega arith in
+    rounds_up page unit (most - bit_and most (unit - 1)) (ap (λ m. m % unit) up ∙ mul-mod_right unit (most / unit))
+    (omega (arith, masked, less)) (omega (arith, some))
+
+-- ---- no room
+
+-- where the first aligned page doesn't leave enough pages, none does
+pub no_room : (p : Piece) (floor pages unit up : ℕ) → IsRoundUp (max p.first floor) unit up → p.last + 1 < up + pages
+    → HasNoRoom floor pages unit p
+no_room p floor pages unit up r h free t a b l = let k : up ≤ t = r.2 t b a in absurd (omega arith)
+
+pub no_room-unless_free : (p : Piece) (floor pages unit : ℕ) → is_free p.state ≡ false → HasNoRoom floor pages unit p
+no_room-unless_free p floor pages unit e free t a b l = absurd (cc)
+
+pub none_append : (floor pages unit : ℕ) (xs : List Piece) (q : Piece) (ys : List Piece)
+    → AllByRecursion (HasNoRoom floor pages unit) xs → HasNoRoom floor pages unit q → AllByRecursion (HasNoRoom floor pages unit) ys
+    → AllByRecursion (HasNoRoom floor pages unit) (xs ++ q ∷ ys)
+none_append floor pages unit [] q ys a b c = (b, c)
+none_append floor pages unit (x ∷ xs) q ys a b c = (a.0, none_append floor pages unit xs q ys a.1 b c)
+
+-- where all that is free is too short
+pub none_short : (floor pages unit : ℕ) (t : Shape) → longest_of t < pages → AllByRecursion (HasNoRoom floor pages unit) (items t)
+none_short floor pages unit Empty h = tt
+none_short floor pages unit (Fork k p l r) h =
+    none_append floor pages unit (items l) p (items r) (none_short floor pages unit l (omega arith))
+    (λ free t a b c. let e : free_pages p ≡ p.last + 1 - p.first = grind (arith, free) in omega arith)
+    (none_short floor pages unit r (omega arith))
+
+-- where pieces end before so many pages from the floor on would
+pub none_between : (floor pages unit least end : ℕ) (ps : List Piece) → IsRoundUp floor unit least → end < least + pages
+    → AllByRecursion (λ p. p.last < end) ps → AllByRecursion (HasNoRoom floor pages unit) ps
+none_between floor pages unit least end [] up short h = tt
+none_between floor pages unit least end (p ∷ ps) up short h = (
+  λ free t a b c. let k : least ≤ t = up.2 t b (omega (arith, a)) in absurd (omega (arith, k, c, h.0, short)),
+  none_between floor pages unit least end ps up short h.1,
+)
+
+-- ---- a floor that is raised to where the pieces begin
+
+pub none_raised : (floor low from pages unit : ℕ) (ps : List Piece) → AreSorted from ps → low ≤ from
+    → AllByRecursion (HasNoRoom (max floor low) pages unit) ps → AllByRecursion (HasNoRoom floor pages unit) ps
+none_raised floor low from pages unit [] o h n = tt
+none_raised floor low from pages unit (p ∷ ps) o h n = (
+  λ free t a b c. n.0 free t (omega (arith, a, o.0, h)) b c,
+  none_raised floor low (p.last + 1) pages unit ps o.2 (omega (arith, o.0, o.1, h)) n.1,
+)
+
+pub found_raised : (floor low from pages unit : ℕ) (ps : List Piece) (start : ℕ) → AreSorted from ps → low ≤ from
+    → IsFound (max floor low) pages unit ps start → IsFound floor pages unit ps start
+found_raised floor low from pages unit ps start o h f =
+    let parts : AreSorted from (f.before ++ f.piece ∷ f.behind) = subst (λ l. AreSorted from l) f.parts o in
+    let first : from ≤ f.piece.first = (sorted_at from f.before f.piece f.behind parts).0 in
+    let same : max f.piece.first (max floor low) ≡ max f.piece.first floor = omega (arith, first, h) in
+    record {
+      before = f.before;
+      piece = f.piece;
+      behind = f.behind;
+      parts = f.parts;
+      none = none_raised floor low from pages unit f.before (sorted_front from f.before (f.piece ∷ f.behind) parts) h f.none;
+      free = f.free;
+      up = subst (λ page. IsRoundUp page unit start) same f.up;
+      room = f.room;
+    }
+
+-- ---- among others
+
+pub found_before : (floor pages unit : ℕ) (xs : List Piece) (q : Piece) (ys : List Piece) (start : ℕ) → IsFound floor pages unit xs start
+    → IsFound floor pages unit (xs ++ q ∷ ys) start
+found_before floor pages unit xs q ys start f = record {
+  before = f.before;
+  piece = f.piece;
+  behind = f.behind ++ q ∷ ys;
+  parts = ap (λ l. l ++ q ∷ ys) f.parts ∙ append_assoc f.before (f.piece ∷ f.behind) (q ∷ ys);
+  none = f.none;
+  free = f.free;
+  up = f.up;
+  room = f.room;
+}
+
+pub found_behind : (floor pages unit : ℕ) (xs : List Piece) (q : Piece) (ys : List Piece) (start : ℕ)
+    → AllByRecursion (HasNoRoom floor pages unit) xs → HasNoRoom floor pages unit q → IsFound floor pages unit ys start
+    → IsFound floor pages unit (xs ++ q ∷ ys) start
+found_behind floor pages unit xs q ys start a b f = record {
+  before = xs ++ q ∷ f.before;
+  piece = f.piece;
+  behind = f.behind;
+  parts = ap (λ l. xs ++ q ∷ l) f.parts ∙ sym (append_assoc xs (q ∷ f.before) (f.piece ∷ f.behind));
+  none = none_append floor pages unit xs q f.before a b f.none;
+  free = f.free;
+  up = f.up;
+  room = f.room;
+}
+
+-- what holds of all pieces holds of those behind one
+pub all_behind : (P : Piece → Type 0) (xs : List Piece) (q : Piece) (ys : List Piece) → AllByRecursion P (xs ++ q ∷ ys)
+    → AllByRecursion P ys
+all_behind P [] q ys h = h.1
+all_behind P (x ∷ xs) q ys h = all_behind P xs q ys h.1
+
+-- all pages are below the end of the numbers
+pub all_narrow : (from : ℕ) (ps : List Piece) → AreSorted from ps → AllByRecursion (λ p. p.last < 1099511627776) ps
+all_narrow from [] s = tt
+all_narrow from (p ∷ ps) s = (omega (arith, s.1), all_narrow (p.last + 1) ps s.2)

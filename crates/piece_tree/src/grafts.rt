@@ -1,0 +1,122 @@
+//! Trees put together at a key between them, and pieces added at an end of a tree.
+
+ghost use Rattle.std.specs.Prelude.{◌≡◌, ◌+◌, ◌<◌, ◌≤◌, ◌∷◌, [], IfSome, IsSome, length};
+ghost use Rattle.slab.specs.Slab.{get, slab_len};
+ghost use Rattle.piece_tree.specs.Pieces.{IsPiece};
+ghost use Rattle.piece_tree.specs.Graft.{Adds, IsTree, Makes, some_of};
+ghost use Rattle.piece_tree.specs.Tree.{AreParts, Empty, Joins, KeepsCount, Shape, height_of, items};
+
+use crate::links::{free_length, link, open};
+use crate::node::{NO_TREE, Node, Top};
+use crate::piece::{MOST_PIECES, Piece};
+use crate::turn::turn;
+use slab::Slab;
+
+/// Joins two trees on the two sides of a key whose heights differ by at most two.
+#[inline(always)]
+pub(crate) fn between(
+    nodes: &mut Slab<Node>,
+    before: bool,
+    near: Top,
+    key: usize,
+    piece: Piece,
+    far: Top,
+) -> Top
+    requires parts { (n : Shape) × (f : Shape) × AreParts (get nodes.old) near key far n f
+        × (height_of n ≤ height_of f + 2) × (height_of f ≤ height_of n + 2) }
+    requires piece { IsPiece piece }
+    ensures joins { (n f : Shape) → AreParts (get nodes.old) near key far n f
+        → Joins (get nodes.old) (get nodes.new) before result key piece n f }
+    ensures count { KeepsCount nodes.old nodes.new }
+{
+    if near.height > far.height + 1 {
+        return turn(nodes, before, near, key, piece, far);
+    }
+    if far.height > near.height + 1 {
+        return turn(nodes, !before, far, key, piece, near);
+    }
+    link(nodes, before, near, key, piece, far)
+}
+
+/// Joins two trees on the two sides of a key, of any heights: the lower one is hung where the other one's end is as low.
+pub(crate) fn graft(
+    nodes: &mut Slab<Node>,
+    before: bool,
+    near: Top,
+    key: usize,
+    piece: Piece,
+    far: Top,
+) -> Top
+    requires parts { (n : Shape) × (f : Shape) × AreParts (get nodes.old) near key far n f }
+    requires piece { IsPiece piece }
+    ensures joins { (n f : Shape) → AreParts (get nodes.old) near key far n f
+        → Joins (get nodes.old) (get nodes.new) before result key piece n f }
+    ensures count { KeepsCount nodes.old nodes.new }
+{
+    if far.height > near.height + 1 {
+        return graft_onto(nodes, !before, far, key, piece, near);
+    }
+    graft_onto(nodes, before, near, key, piece, far)
+}
+
+// The same, where the first is the higher one, or lower by one.
+fn graft_onto(
+    nodes: &mut Slab<Node>,
+    before: bool,
+    near: Top,
+    key: usize,
+    piece: Piece,
+    far: Top,
+) -> Top
+    requires parts { (n : Shape) × (f : Shape) × AreParts (get nodes.old) near key far n f × (height_of f ≤ height_of n + 1) }
+    requires piece { IsPiece piece }
+    ensures joins { (n f : Shape) → AreParts (get nodes.old) near key far n f
+        → Joins (get nodes.old) (get nodes.new) before result key piece n f }
+    ensures count { KeepsCount nodes.old nodes.new }
+{
+    if near.height <= far.height + 1 {
+        return link(nodes, before, near, key, piece, far);
+    }
+    let Some(top) = near.root else { unreachable!() };
+    let outer = open(nodes, before, top);
+    let below = graft_onto(nodes, before, outer.far, key, piece, far);
+    between(nodes, before, outer.near, top, outer.piece, below)
+}
+
+/// Makes a tree of one piece.
+#[inline(always)]
+pub(crate) fn leaf(nodes: &mut Slab<Node>, piece: Piece) -> Top
+    requires piece { IsPiece piece }
+    requires room { slab_len nodes.old < nodes.old.capacity }
+    ensures makes { Makes nodes.old nodes.new result Empty (piece ∷ []) }
+    ensures key { IsSome result.root }
+    ensures height { result.height ≡ 1 }
+{
+    let height = 1;
+    let longest = free_length(piece);
+    let key = nodes.insert_reserved(Node {
+        piece,
+        left: None,
+        right: None,
+        height,
+        longest,
+    });
+    Top {
+        root: Some(key),
+        height,
+        longest,
+    }
+}
+
+/// Adds a piece right behind a tree, or right before it, if there is one.
+pub(crate) fn add(nodes: &mut Slab<Node>, before: bool, tree: Top, piece: Option<Piece>) -> Top
+    requires tree { (t : Shape) × IsTree (get nodes.old) tree t × (length (items t) < MOST_PIECES) }
+    requires piece { IfSome piece IsPiece }
+    requires room { slab_len nodes.old + length (some_of piece) ≤ nodes.old.capacity }
+    ensures { (t : Shape) → IsTree (get nodes.old) tree t → Adds nodes.old nodes.new before result t piece }
+{
+    let Some(piece) = piece else { return tree };
+    let end = leaf(nodes, piece);
+    let Some(key) = end.root else { unreachable!() };
+    graft(nodes, before, tree, key, piece, NO_TREE)
+}
