@@ -9,7 +9,7 @@ TOP = os.path.dirname(os.path.dirname(os.path.abspath(__file__)))
 HEADER = f"{TOP}/c/vtdm.h"
 CRATES = f"{TOP}/crates"
 # The sources of the numbers that the header names, and the widths whose ends it names.
-LIMITS = ["dmatypes/src/limits.rt", "dmatypes/src/page.rt", "iova/src/space.rt", "driven/src/telling.rt"]
+LIMITS = ["dmatypes/src/limits.rt", "dmatypes/src/page.rt", "piece_tree/src/piece.rt", "driven/src/telling.rt"]
 WIDTH = "dmatypes/src/width.rt"
 ENDS = {"W39": "ADDRESSES_END", "W48": "WIDE_ADDRESSES_END"}
 REFUSALS = "dmatypes/src/refusal.rt"

@@ -4,7 +4,7 @@ use Rattle.dmatypes.specs.Page.{Range, levels, pages_end}
 use Rattle.dmatypes.specs.declared.call.Mode.{Mode}
 use Rattle.dmatypes.specs.declared.call.Mode.TheVariants.{Lazy, Strict}
 use Rattle.iova.specs.Space.{IsSpace}
-use Rattle.iova.specs.declared.piece.PageState.TheVariants.{Live}
+use Rattle.piece_tree.specs.declared.piece.PageState.TheVariants.{Live}
 use Rattle.tables.specs.Changes.{KeepsSpellings, TakesAndGivesFrames, UnmapsPages}
 use Rattle.tables.specs.Pool.{Pool}
 use Rattle.tables.specs.Spelled.{AreSpelled}

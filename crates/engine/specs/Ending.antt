@@ -14,8 +14,8 @@ use Rattle.dmatypes.specs.declared.call.Mode.TheVariants.{Strict, Lazy}
 use Rattle.dmatypes.specs.declared.refusal.Refusal.{Refusal}
 use Rattle.dmatypes.specs.declared.refusal.Refusal.TheVariants as refusals
 use Rattle.iova.specs.Changes.{Frees, FreesLive, Retires}
-use Rattle.iova.specs.declared.piece.PageState.TheVariants.{Free, Live, Retired}
-use Rattle.iova.specs.declared.piece.Piece.{Piece}
+use Rattle.piece_tree.specs.declared.piece.PageState.TheVariants.{Free, Live, Retired}
+use Rattle.piece_tree.specs.declared.piece.Piece.{Piece}
 use Rattle.iova.specs.Pieces.{AllIn, piece_of, state_at}
 use Rattle.iova.specs.Space.{Space, IsSpace, IsTooMany, MayRetire}
 use Rattle.queue.specs.Ring.{ring_of, with_last}

@@ -10,7 +10,7 @@ use Rattle.dmatypes.specs.Page.{Range, levels, pages_end}
 use Rattle.dmatypes.specs.declared.width.Width.{Width}
 use Rattle.dmatypes.specs.declared.width.Width.TheVariants.{W39, W48}
 use Rattle.iova.specs.Changes.{Takes}
-use Rattle.iova.specs.declared.piece.PageState.TheVariants.{Free}
+use Rattle.piece_tree.specs.declared.piece.PageState.TheVariants.{Free}
 use Rattle.iova.specs.Pieces.{state_at}
 use Rattle.iova.specs.Space.{IsFit, IsLowestFrom, IsSpace, IsTooMany}
 use Rattle.tables.specs.Changes.{KeepsSpellings, MakesTables, MapsPages, TakesAndGivesFrames}

@@ -8,8 +8,8 @@ use Rattle.dmatypes.specs.declared.width.Width.{Width}
 use Rattle.dmatypes.specs.Page.{Range, IsPageOf, IsWithin}
 use Rattle.dmatypes.specs.World.{World, Retired, IsFree, IsIn, IsLive, IsRetired}
 use Rattle.dmatypes.specs.World as world
-use Rattle.iova.specs.declared.piece.PageState.TheVariants.{Free, Live}
-use Rattle.iova.specs.declared.piece.PageState.TheVariants as pages
+use Rattle.piece_tree.specs.declared.piece.PageState.TheVariants.{Free, Live}
+use Rattle.piece_tree.specs.declared.piece.PageState.TheVariants as pages
 use Rattle.iova.specs.Pieces.{piece_of, state_at}
 use Rattle.iova.specs.Space.{Space, IsSpace}
 use Rattle.tables.specs.Pool.{Pool, memory, occurs, IsZeroed}

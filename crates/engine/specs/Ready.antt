@@ -7,7 +7,7 @@ use Rattle.dmatypes.specs.World.{IsIn}
 use Rattle.dmatypes.specs.declared.limits.TheConstants.{MOST_STEPS}
 use Rattle.dmatypes.specs.declared.page.TheConstants.{SPAN_ORDER}
 use Rattle.dmatypes.specs.declared.width.Width.{Width}
-use Rattle.iova.specs.declared.piece.PageState.TheVariants.{Live, Retired}
+use Rattle.piece_tree.specs.declared.piece.PageState.TheVariants.{Live, Retired}
 use Rattle.iova.specs.Pieces.{piece_of, state_at}
 use Rattle.iova.specs.Space.{Space, IsSpace, MayRetire}
 use Rattle.tables.specs.Pool.{Pool, memory, occurs, IsTree, IsZeroed}

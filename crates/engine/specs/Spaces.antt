@@ -1,6 +1,6 @@
 -- What whoever draws a domain's address space reads of the state.
 use Rattle.std.specs.Prelude.{ℕ, List, Option, None, Some, slice_get}
-use Rattle.iova.specs.declared.piece.Piece.{Piece}
+use Rattle.piece_tree.specs.declared.piece.Piece.{Piece}
 use Rattle.engine.specs.declared.record.Record.{Record}
 use Rattle.engine.specs.declared.state.spaces.RetiredRecord.{RetiredRecord}
 use Rattle.engine.specs.Domains.{Domain}

@@ -1,8 +1,8 @@
 -- What a report says of the state.
 use Rattle.std.specs.Prelude.{ℕ, ◌+◌, ◌-◌, List, Option, None, Some, length, sum_by}
-use Rattle.iova.specs.declared.piece.PageState.{PageState}
-use Rattle.iova.specs.declared.piece.PageState.TheVariants.{Free, Live, Retired}
-use Rattle.iova.specs.declared.piece.Piece.{Piece}
+use Rattle.piece_tree.specs.declared.piece.PageState.{PageState}
+use Rattle.piece_tree.specs.declared.piece.PageState.TheVariants.{Free, Live, Retired}
+use Rattle.piece_tree.specs.declared.piece.Piece.{Piece}
 use Rattle.engine.specs.declared.record.Record.{Record}
 use Rattle.engine.specs.declared.state.totals.DomainTotals.{DomainTotals}
 use Rattle.engine.specs.declared.state.totals.Totals.{Totals}

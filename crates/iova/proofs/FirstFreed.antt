@@ -1,12 +1,12 @@
 -- A piece that came free is the lowest fit for as many pages, where no free piece before it fits them.
 use Rattle.std.proofs.Common.{◌≡◌, ℕ, ◌+◌, ◌%◌, ◌<◌, ◌≤◌, refl, ap, ◌∙◌, inl, inr, subst, arith}
 use Rattle.dmatypes.specs.World.{IsIn}
-use Rattle.iova.specs.declared.beside.Ends.{Ends}
-use Rattle.iova.specs.declared.piece.PageState.TheVariants.{Free, Live}
-use Rattle.iova.specs.declared.piece.Piece.{Piece}
+use Rattle.iova.specs.declared.ends.Ends.{Ends}
+use Rattle.piece_tree.specs.declared.piece.PageState.TheVariants.{Free, Live}
+use Rattle.piece_tree.specs.declared.piece.Piece.{Piece}
 use Rattle.iova.specs.Pieces.{NoneFreeBelow, free_start, freed, with_free}
 use Rattle.iova.specs.Space.{Space, IsLowestFit, IsSpace}
-use Rattle.iova.specs.Way.{pages_as}
+use Rattle.iova.specs.Pieces.{pages_as}
 use Rattle.iova.proofs.Pieces.{order}
 use Rattle.iova.proofs.Among.{in_one, put_only, put_piece}
 use Rattle.iova.proofs.FreeRange.{free_start_free}

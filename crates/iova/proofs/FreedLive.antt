@@ -2,9 +2,11 @@
 use Rattle.std.proofs.Common.{◌≡◌, ℕ, ◌+◌, ◌-◌, ◌≤◌, false, List, [], ◌∷◌, ◌++◌, Some, refl, ap, sym, ◌∙◌, inl, inr, subst, arith}
 use Rattle.std.specs.List.{AllByRecursion}
 use Rattle.dmatypes.specs.Page.{Range}
-use Rattle.iova.specs.declared.piece.PageState.TheVariants.{Free, Live, Retired}
-use Rattle.iova.specs.declared.piece.Piece.{Piece}
-use Rattle.iova.specs.Pieces.{IsOrdered, free_end, free_start, is_free, part_above, part_below, piece_of, state_at, with_free, with_piece}
+use Rattle.piece_tree.specs.declared.piece.PageState.TheVariants.{Free, Live, Retired}
+use Rattle.piece_tree.specs.declared.piece.Piece.{Piece}
+use Rattle.iova.specs.Pieces.{IsOrdered, free_end, free_start, piece_of, state_at, with_free}
+use Rattle.piece_tree.specs.Pieces.{is_free}
+use Rattle.piece_tree.specs.Laid.{part_above, part_below, with_piece}
 use Rattle.iova.specs.Space.{Space, IsSpace, MayRetire}
 use Rattle.iova.specs.Changes.{FreesLive, Retires}
 use Rattle.iova.proofs.Pieces.{order, part_above-cut, part_above-keep, part_above-nil, part_above-skip, part_above_skip, part_below-cut}

@@ -1,16 +1,18 @@
 -- What freeing a run of pieces leaves of a space.
 use Rattle.std.proofs.Common.{◌≡◌, ◌≢◌, ℕ, ◌+◌, ◌-◌, ◌<◌, ◌≤◌, List, length, Some, IsSome, refl, ap, sym, ◌∙◌, inl, inr, subst}
 use Rattle.std.proofs.Common.{arith, lit≤}
-use Rattle.iova.specs.declared.space.TheConstants.{MOST_PIECES}
+use Rattle.piece_tree.specs.declared.piece.TheConstants.{MOST_PIECES}
 use Rattle.dmatypes.specs.Page.{IsWithin, Range}
 use Rattle.dmatypes.specs.World.{IsIn}
-use Rattle.iova.specs.declared.piece.PageState.{PageState}
-use Rattle.iova.specs.declared.piece.PageState.TheVariants.{Free, Live, Retired}
-use Rattle.iova.specs.declared.piece.Piece.{Piece}
-use Rattle.iova.specs.Pieces.{AllIn, Holds, IsOrdered, IsRun, free_end, free_start, piece_of, state_at, with_free, with_piece}
+use Rattle.piece_tree.specs.declared.piece.PageState.{PageState}
+use Rattle.piece_tree.specs.declared.piece.PageState.TheVariants.{Free, Live, Retired}
+use Rattle.piece_tree.specs.declared.piece.Piece.{Piece}
+use Rattle.iova.specs.Pieces.{AllIn, IsOrdered, IsRun, free_end, free_start, piece_of, state_at, with_free}
+use Rattle.piece_tree.specs.Pieces.{Holds}
+use Rattle.piece_tree.specs.Laid.{with_piece}
 use Rattle.iova.specs.Space.{Space, IsSpace, MayRetire}
 use Rattle.iova.specs.Changes.{Becomes, FreesRun, LosesRun}
-use Rattle.iova.specs.Tree.{IsPiece}
+use Rattle.piece_tree.specs.Pieces.{IsPiece}
 use Rattle.iova.proofs.Pieces.{order, put_inside, put_under, put_past}
 use Rattle.iova.proofs.Puts.{StandsAlone}
 use Rattle.iova.proofs.Among.{in_le, in_one, in_other, in_state, is_apart, put_keeps, put_only, put_piece}

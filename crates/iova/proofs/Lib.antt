@@ -2,6 +2,7 @@ pub mod Pieces
 pub mod Puts
 pub mod Among
 pub mod Keep
+pub mod Known
 pub mod NewSpace
 pub mod FirstFreed
 pub mod FreeRange
@@ -10,10 +11,11 @@ pub mod Freed
 pub mod Shown
 pub mod Taken
 pub mod LowestFree
-pub mod PutFree
 pub mod Same
-pub mod shapes
 pub mod parts
 pub mod searches
 pub mod carvings
 mod FreedLive
+pub mod Sorted
+pub mod Partition
+pub mod FreedPages

@@ -3,10 +3,11 @@ use Rattle.std.proofs.Common.{◌≡◌, ◌≢◌, ℕ, IsTrue, ◌+◌, ◌%�
 use Rattle.std.proofs.Common.{subst, arith}
 use Rattle.dmatypes.specs.Page.{Range}
 use Rattle.dmatypes.specs.World.{IsIn}
-use Rattle.iova.specs.declared.piece.PageState.{PageState}
-use Rattle.iova.specs.declared.piece.PageState.TheVariants.{Free}
-use Rattle.iova.specs.declared.piece.Piece.{Piece}
-use Rattle.iova.specs.Pieces.{AllIn, Holds, IsOrdered, NoneFreeBelow, is_free, state_at}
+use Rattle.piece_tree.specs.declared.piece.PageState.{PageState}
+use Rattle.piece_tree.specs.declared.piece.PageState.TheVariants.{Free}
+use Rattle.piece_tree.specs.declared.piece.Piece.{Piece}
+use Rattle.iova.specs.Pieces.{AllIn, IsOrdered, NoneFreeBelow, state_at}
+use Rattle.piece_tree.specs.Pieces.{Holds, is_free}
 use Rattle.iova.specs.Space.{IsFit, IsLowestFit}
 use Rattle.iova.proofs.Pieces.{put, order, state-here, state-past, state-under, state-nil}
 use Rattle.iova.proofs.Puts.{none_some}
@@ -54,17 +55,18 @@ none_below_used low first last s ps o w none used h q m free = elim (put_only fi
   ]
 ]
 
--- a free page is one that fits
-page_fits : (q : Piece) (ps : List Piece) → IsOrdered 1 ps → IsIn q ps → q.state ≡ Free → IsFit ps 1 1 q.first
-page_fits q ps o m free = record {
+-- as many pages as a free piece has fit at its first
+pub pages_fit : (q : Piece) (pages : ℕ) (ps : List Piece) → IsOrdered 1 ps → IsIn q ps → q.state ≡ Free → q.first + pages ≤ q.last + 1
+    → IsFit ps pages 1 q.first
+pages_fit q pages ps o m free h = record {
   aligned = omega arith;
-  free = λ page w.
-      in_state 1 q ps page o m w.0 (let a = in_le 1 q ps o m in omega (arith, w.1, a.1)) ∙ ap (λ s. Some s) free;
+  free = λ page w. in_state 1 q ps page o m w.0 (omega (arith, w.1, h)) ∙ ap (λ s. Some s) free;
 }
 
 -- no free piece begins below the lowest free page
 pub none_below_lowest : (start : ℕ) (ps : List Piece) → IsOrdered 1 ps → IsLowestFit ps 1 1 start → NoneFreeBelow start ps
-none_below_lowest start ps o i q m free = i.lowest q.first (page_fits q ps o m free)
+none_below_lowest start ps o i q m free =
+    let w = in_le 1 q ps o m in i.lowest q.first (pages_fit q 1 ps o m free (omega (arith, w.1)))
 
 -- the piece that a page with a state lies in
 pub holding : (ps : List Piece) (page : ℕ) (s : PageState) → state_at ps page ≡ Some s
@@ -127,9 +129,3 @@ front_first p pages unit ps o m free none some room aligned = record {
         absurd (next_not_free 1 h.0 ps o h.1 h.3 (fit.free (h.0.last + 1) (omega (arith, h.2.1), omega (arith, h.2.0))))
   ];
 }
-
--- and so of the lowest free piece
-pub front_lowest : (p : Piece) (pages unit : ℕ) (ps : List Piece) → IsOrdered 1 ps → IsIn p ps → p.state ≡ Free → NoneFreeBelow p.first ps
-    → 1 ≤ pages → p.first + pages ≤ p.last + 1 → p.first % unit ≡ 0 → IsLowestFit ps pages unit p.first
-front_lowest p pages unit ps o m free none some room aligned =
-    front_first p pages unit ps o m free (λ q n f h. let a = none q n f in absurd (omega arith)) some room aligned

@@ -1,26 +1,23 @@
--- What a space shows while a piece that came free is in mind, which its tree has as live.
-use Rattle.std.proofs.Common.{◌≡◌, ◌≢◌, ℕ, ◌+◌, ◌-◌, ◌<◌, ◌≤◌, ◌⊎◌, ◌↔◌, List, [], ◌∷◌, ◌++◌, length, Option, Some}
-use Rattle.std.proofs.Common.{refl, ap, sym, ◌∙◌, inl, inr, subst, arith, append-nil, append_assoc, length-append}
+-- What a space shows while it knows a piece that came free, which its tree has as live.
+use Rattle.std.proofs.Common.{◌≡◌, ◌≢◌, ℕ, ◌+◌, ◌-◌, ◌<◌, ◌≤◌, ◌⊎◌, ◌↔◌, List, [], ◌∷◌, ◌++◌, length, Option, Some, None}
+use Rattle.std.proofs.Common.{IfSome, refl, ap, sym, ◌∙◌, inl, inr, subst, arith, append-nil, append_assoc, length-append}
 use Rattle.std.specs.List.{AllByRecursion}
-use Rattle.slab.specs.Slab.{Slab}
 use Rattle.dmatypes.specs.Page.{Range}
 use Rattle.dmatypes.specs.World.{IsIn}
-use Rattle.iova.specs.declared.beside.Ends.{Ends}
-use Rattle.iova.specs.declared.node.Node.{Node}
-use Rattle.iova.specs.declared.node.TheConstants.{NUMBERS_END}
-use Rattle.iova.specs.declared.piece.PageState.{PageState}
-use Rattle.iova.specs.declared.piece.PageState.TheVariants.{Free, Live}
-use Rattle.iova.specs.declared.piece.Piece.{Piece}
-use Rattle.iova.specs.declared.way.InMind.{InMind}
-use Rattle.iova.specs.declared.way.InMind.TheVariants.{Nothing, Judged, Lowest, Freed, Open}
-use Rattle.iova.specs.declared.way.Known.{Known}
-use Rattle.iova.specs.declared.way.Step.{Step}
-use Rattle.iova.specs.Pieces.{Holds, IsOrdered, free_end, free_start, freed, part_above, piece_of, state_at, with_free, with_piece}
+use Rattle.iova.specs.declared.ends.Ends.{Ends}
+use Rattle.piece_tree.specs.declared.piece.TheConstants.{NUMBERS_END}
+use Rattle.piece_tree.specs.declared.piece.PageState.{PageState}
+use Rattle.piece_tree.specs.declared.piece.PageState.TheVariants.{Free, Live}
+use Rattle.piece_tree.specs.declared.piece.Piece.{Piece}
+use Rattle.piece_tree.specs.Pieces.{Holds}
+use Rattle.iova.specs.Pieces.{IsOrdered, free_end, free_start, freed, piece_of, state_at, with_free}
+use Rattle.piece_tree.specs.Laid.{part_above, with_piece}
 use Rattle.iova.specs.Space.{Space, IsSpace}
 use Rattle.iova.specs.Changes.{Frees, Takes}
-use Rattle.iova.specs.Stored.{IsInMind, TakesPlace, pieces_of, seen, shown, stored}
-use Rattle.iova.specs.Tree.{IsPiece, rest_above, rest_below}
-use Rattle.iova.specs.Way.{pages_as}
+use Rattle.iova.specs.Stored.{AreLive, TakesPlace, shown, stored}
+use Rattle.piece_tree.specs.Pieces.{IsPiece}
+use Rattle.piece_tree.specs.Laid.{rest_above, rest_below}
+use Rattle.iova.specs.Pieces.{pages_as}
 use Rattle.iova.proofs.Pieces.{order}
 use Rattle.iova.proofs.Puts.{ordered_put}
 use Rattle.iova.proofs.Among.{in_le, in_one, in_state, put_piece}
@@ -258,51 +255,42 @@ module _ (a : Space) (pages : Ends) (sp : IsSpace a) (i : IsIn (pages_as pages L
             }
       ]
 
--- where none came free, the tree's pieces are shown
-pub unfreed : (m : InMind)
-    → (m ≡ Nothing) ⊎ (((k : Known) × (m ≡ Judged k)) ⊎ (((k : Known) × (m ≡ Lowest k)) ⊎ ((k : Known) × (m ≡ Open k)))) → (ps : List Piece)
-    → shown m ps ≡ ps
-unfreed m (inl e) ps = ap (λ x. shown x ps) e
-unfreed m (inr (inl w)) ps = ap (λ x. shown x ps) w.1
-unfreed m (inr (inr (inl w))) ps = ap (λ x. shown x ps) w.1
-unfreed m (inr (inr (inr w))) ps = ap (λ x. shown x ps) w.1
-
 -- ---- a space
 
-module _ (last : ℕ) (root : Option ℕ) (nodes : Slab Node) (way : List Step) (sp : IsSpace (stored last root nodes)) where
-  pub space_shown : (in_mind : InMind) → IsInMind nodes root way in_mind → IsSpace (seen last root nodes in_mind)
-  space_shown Nothing k = sp
-  space_shown (Judged known) k = sp
-  space_shown (Lowest known) k = sp
-  space_shown (Open known) k = sp
-  space_shown (Freed known) k = space_shown_free (stored last root nodes) known.pages sp k.there
+module _ (last : ℕ) (pieces : List Piece) (sp : IsSpace (stored last pieces)) where
+  pub space_shown : (freed : Option Ends) → AreLive freed pieces → IsSpace (stored last (shown freed pieces))
+  space_shown None k = sp
+  space_shown (Some pages) k = space_shown_free (stored last pieces) pages sp k
 
   -- no more pieces are shown than there are
-  pub few_shown : (in_mind : InMind) → IsInMind nodes root way in_mind
-      → length (shown in_mind (pieces_of nodes root)) ≤ length (pieces_of nodes root)
-  few_shown Nothing k = omega arith
-  few_shown (Judged known) k = omega arith
-  few_shown (Lowest known) k = omega arith
-  few_shown (Open known) k = omega arith
-  few_shown (Freed known) k = freed_fewer (stored last root nodes) known.pages sp k.there
+  pub few_shown : (freed : Option Ends) → AreLive freed pieces → length (shown freed pieces) ≤ length pieces
+  few_shown None k = omega arith
+  few_shown (Some pages) k = freed_fewer (stored last pieces) pages sp k
 
   -- a live piece of the tree is shown, if one of its pages is shown as it is in the tree
-  pub live_shown : (in_mind : InMind) → IsInMind nodes root way in_mind → (p : Piece) (page : ℕ) → IsIn p (pieces_of nodes root)
-      → Holds p page → p.state ≡ Live
-      → state_at (shown in_mind (pieces_of nodes root)) page ≡ state_at (pieces_of nodes root) page
-      → IsIn p (shown in_mind (pieces_of nodes root))
-  live_shown Nothing k p page i h l e = i
-  live_shown (Judged known) k p page i h l e = i
-  live_shown (Lowest known) k p page i h l e = i
-  live_shown (Open known) k p page i h l e = i
-  live_shown (Freed known) k p page i h l e =
-      let a : Space = stored last root nodes in
-      (freed_others a known.pages sp k.there p (λ f. absurd (cc))).1 (
+  pub live_shown : (freed : Option Ends) → AreLive freed pieces → (p : Piece) (page : ℕ) → IsIn p pieces
+      → Holds p page → p.state ≡ Live → state_at (shown freed pieces) page ≡ state_at pieces page → IsIn p (shown freed pieces)
+  live_shown None k p page i h l e = i
+  live_shown (Some pages) k p page i h l e =
+      let a : Space = stored last pieces in
+      (freed_others a pages sp k p (λ f. absurd (cc))).1 (
         i,
         (λ f.
-            let g : (known.pages.first ≤ page) × (page ≤ known.pages.last) =
+            let g : (pages.first ≤ page) × (page ≤ pages.last) =
             subst (λ (r : Piece). (r.first ≤ page) × (page ≤ r.last)) f h in
-            let x : Some Free ≡ Some Live = sym (freed_inside a known.pages sp k.there page g.0 g.1) ∙ e
+            let x : Some Free ≡ Some Live = sym (freed_inside a pages sp k page g.0 g.1) ∙ e
             ∙ in_state 1 p a.pieces page sp.ordered i h.0 h.1 ∙ ap (λ s. Some s) l in
             absurd (cc)),
       )
+
+  -- a page of the piece that came free is free, and any other is what it is in the tree
+  pub state_inside : (freed : Option Ends) → AreLive freed pieces → (pages : Ends) (page : ℕ) → freed ≡ Some pages → pages.first ≤ page
+      → page ≤ pages.last → state_at (shown freed pieces) page ≡ Some Free
+  state_inside freed k pages page e l h =
+      subst (λ f. state_at (shown f pieces) page ≡ Some Free) (sym e)
+      (freed_inside (stored last pieces) pages sp (subst (λ f. AreLive f pieces) e k) page l h)
+
+  pub state_outside : (freed : Option Ends) → AreLive freed pieces → (page : ℕ)
+      → IfSome freed (λ pages. (page < pages.first) ⊎ (pages.last < page)) → state_at (shown freed pieces) page ≡ state_at pieces page
+  state_outside None k page x = refl
+  state_outside (Some pages) k page x = freed_outside (stored last pieces) pages sp k page x

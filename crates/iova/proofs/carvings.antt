@@ -14,3 +14,4 @@ pub mod PageIn
 pub mod PieceAt
 pub mod Placed
 pub mod Run
+pub mod Row

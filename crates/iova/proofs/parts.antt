@@ -1,16 +1,4 @@
 pub mod Parts
-pub mod Ends
-pub mod Trims
 pub mod Added
 pub mod Over
-pub mod Covered
-pub mod PutIn
-pub mod PutUp
-pub mod Renewed
-pub mod StillThere
-pub mod PutWhole
-pub mod PutFront
-pub mod OverLeaf
-pub mod CutFront
-pub mod PutLast
 pub mod Filled

@@ -3,18 +3,18 @@
 -- found for, or one page. With the pieces put over those of the tree, that is what the space is. As a list, the pieces and what is left on
 -- both sides of them stand in the place of the stock (`in_place_of`).
 use Rattle.std.specs.Prelude.{ℕ, ◌≡◌, ◌≢◌, ◌+◌, ◌^◌, ◌≤◌, ◌⊎◌, max, List, [], ◌∷◌, ◌++◌, nat_eq, if◌then◌else◌, length, Option, Some, None}
-use Rattle.iova.specs.declared.piece.PageState.{PageState}
-use Rattle.iova.specs.declared.piece.Piece.{Piece}
-use Rattle.iova.specs.declared.piece.PageState.TheVariants.{Free}
-use Rattle.iova.specs.declared.beside.Ends.{Ends}
+use Rattle.piece_tree.specs.declared.piece.PageState.{PageState}
+use Rattle.piece_tree.specs.declared.piece.Piece.{Piece}
+use Rattle.piece_tree.specs.declared.piece.PageState.TheVariants.{Free}
+use Rattle.iova.specs.declared.ends.Ends.{Ends}
 use Rattle.iova.specs.declared.carved.Stock.{Stock}
 use Rattle.iova.specs.declared.carved.Sought.{Sought}
-use Rattle.iova.specs.declared.space.TheConstants.{MOST_PIECES}
+use Rattle.piece_tree.specs.declared.piece.TheConstants.{MOST_PIECES}
 use Rattle.dmatypes.specs.declared.limits.TheConstants.{MOST_ORDER}
 use Rattle.dmatypes.specs.declared.page.TheConstants.{MOST_PAGES}
-use Rattle.iova.specs.Pieces.{with_piece}
+use Rattle.piece_tree.specs.Laid.{with_piece}
 use Rattle.iova.specs.Space.{Space, IsFit}
-use Rattle.iova.specs.Way.{pages_as}
+use Rattle.iova.specs.Pieces.{pages_as}
 use Rattle.dmatypes.specs.World.{IsIn}
 
 -- the pieces once others are put over them, one after the other

@@ -7,18 +7,16 @@ ghost use Rattle.iova.specs.Pieces.{piece_of};
 ghost use Rattle.dmatypes.specs.World.{IsIn};
 ghost use Rattle.iova.specs.Carved.{AreCarved, CanCarve, FollowOn, IsAt, IsCarved, IsSought, LosesEnd, NoneBelow, free_of};
 ghost use Rattle.iova.specs.Carved.{in_place_of, with_carved, with_pieces};
-ghost use Rattle.iova.specs.Search.{piece_at};
+ghost use Rattle.piece_tree.specs.Pieces.{piece_at};
 ghost use Rattle.iova.specs.Space.{IsFit, IsLowestFrom, IsSpace, IsTooMany, Space};
-ghost use Rattle.iova.specs.Way.{pages_as};
+ghost use Rattle.iova.specs.Pieces.{pages_as};
 
-use crate::beside::Ends;
 use crate::chain::Chain;
-use crate::node::NUMBERS_END;
-use crate::piece::{PageState, Piece};
-use crate::piece_tree::PieceTree;
-use crate::search::round_up;
+use crate::ends::Ends;
+use crate::fits::Found;
+use crate::page_tree::PageTree;
 use crate::space::{MOST_PIECES_TO_CUT, TakeError};
-use crate::way::Found;
+use piece_tree::{NUMBERS_END, PageState, Piece, round_up};
 
 /// What was looked for: so many free pages, from a floor on, whose first is a multiple of the unit.
 #[derive(Clone, Copy)]
@@ -320,36 +318,28 @@ pub(crate) fn more(carved: &Carved) -> usize
     }
 }
 
-// Writes the pieces into the tree.
-fn put_all(tree: &mut PieceTree, pieces: &[Piece])
-    requires space { IsSpace tree.old }
-    requires carved { (stock : Stock) × AreCarved tree.old.pieces pieces.now stock }
-    ensures tree { tree.new ≡ with_carved pieces.now tree.old }
-    ensures space { IsSpace tree.new }
-{
-    for piece in pieces.iter() {
-        tree.put(*piece);
-    }
-}
-
 // Hands all pieces over to the tree, and forgets the free piece.
 #[inline(never)]
-fn hand_over_pieces(tree: &mut PieceTree, carved: &mut Carved)
+fn hand_over_pieces(tree: &mut PageTree, carved: &mut Carved)
     requires space { IsSpace tree.old }
     requires carved { (stock : Stock) × AreCarved tree.old.pieces carved.old.chain stock }
+    requires some { 0 < length carved.old.chain }
     ensures tree { tree.new ≡ with_carved carved.old.chain tree.old }
     ensures space { IsSpace tree.new }
     ensures chain { carved.new.chain ≡ [] }
     ensures stock { carved.new.stock ≡ None }
 {
-    put_all(tree, carved.chain.as_slice());
+    let Some(pages) = carved.ends() else {
+        unreachable!()
+    };
+    tree.put_row(carved.chain.as_slice(), pages);
     carved.chain.clear();
     carved.stock = None;
 }
 
 /// The same, where mostly there is none.
 #[inline(always)]
-pub(crate) fn hand_over(tree: &mut PieceTree, carved: &mut Carved)
+pub(crate) fn hand_over(tree: &mut PageTree, carved: &mut Carved)
     requires space { IsSpace tree.old }
     requires carved { IsCarved tree.old.pieces carved.old.chain carved.old.stock }
     ensures tree { tree.new ≡ with_carved carved.old.chain tree.old }
@@ -369,7 +359,7 @@ pub(crate) fn hand_over(tree: &mut PieceTree, carved: &mut Carved)
 /// Makes the lowest pages that are sought one live piece, where none is carved: the first of them.
 #[inline(always)]
 pub(crate) fn take(
-    tree: &mut PieceTree,
+    tree: &mut PageTree,
     carved: &mut Carved,
     sought: Sought,
 ) -> Result<u64, TakeError>
@@ -398,7 +388,7 @@ pub(crate) fn take(
 }
 
 // The same, where the pages are looked for.
-fn take_found(tree: &mut PieceTree, carved: &mut Carved, sought: Sought) -> Result<u64, TakeError>
+fn take_found(tree: &mut PageTree, carved: &mut Carved, sought: Sought) -> Result<u64, TakeError>
     requires sought { IsSought sought }
     requires space { IsSpace tree.old }
     requires chain { carved.old.chain ≡ [] }
@@ -427,17 +417,17 @@ fn take_found(tree: &mut PieceTree, carved: &mut Carved, sought: Sought) -> Resu
 
 // Whether the pages that were found cut a piece, and there are too many for that.
 #[inline(always)]
-fn is_too_many(tree: &PieceTree, sought: Sought, found: Found) -> bool
+fn is_too_many(tree: &PageTree, sought: Sought, found: Found) -> bool
     requires sought { IsSought sought }
     requires space { IsSpace tree.now }
-    requires there { IsIn (pages_as found.known.pages PageState.Free) tree.now.pieces }
-    requires inside { (found.known.pages.first ≤ found.start) × (found.start + sought.pages ≤ found.known.pages.last + 1) }
+    requires there { IsIn (pages_as found.pages PageState.Free) tree.now.pieces }
+    requires inside { (found.pages.first ≤ found.start) × (found.start + sought.pages ≤ found.pages.last + 1) }
     ensures { IsTrue result ↔ IsTooMany tree.now.pieces (record { first = found.start; pages = sought.pages }) }
 {
     if tree.most_pieces() <= MOST_PIECES_TO_CUT || tree.piece_count() <= MOST_PIECES_TO_CUT {
         return false;
     }
-    let pages = found.known.pages;
+    let pages = found.pages;
     if pages.first < found.start {
         return true;
     }
@@ -445,21 +435,21 @@ fn is_too_many(tree: &PieceTree, sought: Sought, found: Found) -> bool
 }
 
 // Makes the lowest pages, which were found, one live piece: what is left behind them may be taken next.
-fn put_found(tree: &mut PieceTree, carved: &mut Carved, sought: Sought, found: Found)
+fn put_found(tree: &mut PageTree, carved: &mut Carved, sought: Sought, found: Found)
     requires sought { IsSought sought }
     requires space { IsSpace tree.old }
     requires chain { carved.old.chain ≡ [] }
     requires stock { carved.old.stock ≡ None }
     requires lowest { IsLowestFrom sought.floor tree.old.pieces sought.pages sought.unit found.start }
-    requires there { IsIn (pages_as found.known.pages PageState.Free) tree.old.pieces }
-    requires inside { (found.known.pages.first ≤ found.start) × (found.start + sought.pages ≤ found.known.pages.last + 1) }
+    requires there { IsIn (pages_as found.pages PageState.Free) tree.old.pieces }
+    requires inside { (found.pages.first ≤ found.start) × (found.start + sought.pages ≤ found.pages.last + 1) }
     requires few { IsTooMany tree.old.pieces (record { first = found.start; pages = sought.pages }) → ⊥ }
     ensures taken { Takes tree.old (with_carved carved.new.chain tree.new) (record { first = found.start; pages = sought.pages }) }
     ensures space { IsSpace tree.new }
     ensures carved { IsCarved tree.new.pieces carved.new.chain carved.new.stock }
 {
     let start = found.start;
-    let pages = found.known.pages;
+    let pages = found.pages;
     // Where the same length doesn't fit behind them, with a page to spare, what is taken next mostly lies elsewhere: then the tree shows
     // them at once.
     let is_short = pages.last - start < 2 * sought.pages;
@@ -476,7 +466,7 @@ fn put_found(tree: &mut PieceTree, carved: &mut Carved, sought: Sought, found: F
 }
 
 // What of nothing begins before a free piece: any page, where it is known to be the lowest, else what was sought.
-fn least_sought(tree: &PieceTree, sought: Sought, first: u64) -> Sought
+fn least_sought(tree: &PageTree, sought: Sought, first: u64) -> Sought
     requires sought { IsSought sought }
     requires space { IsSpace tree.now }
     requires none { NoneBelow sought first tree.now.pieces }

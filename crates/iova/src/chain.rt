@@ -1,13 +1,11 @@
 //! Pieces in a chain, of which the first and the last ones can leave.
 
-ghost use Rattle.std.specs.Prelude.{◌≡◌, List, ℕ, [], ◌∷◌, ◌++◌, ◌+◌, ◌-◌, ◌≤◌, ◌<◌, Some, drop, length, slice_get, slice_set};
-ghost use Rattle.std.specs.Prelude.{◌↔◌, IfSome, IfNone, IfOk, IsTrue, true, false};
-ghost use Rattle.iova.specs.Carved.{FollowOn};
-ghost use Rattle.iova.specs.Search.{piece_at};
-ghost use Rattle.iova.specs.Way.{pages_as};
+ghost use Rattle.std.specs.Prelude.{◌≡◌, List, [], ◌∷◌, ◌++◌, ◌+◌, ◌-◌, ◌≤◌, ◌<◌, Some, drop, length};
+ghost use Rattle.std.specs.Prelude.{◌↔◌, IfSome, IfOk, IsTrue, true, false};
+ghost use Rattle.iova.specs.Pieces.{pages_as};
 
-use crate::beside::Ends;
-use crate::piece::{PageState, Piece};
+use crate::ends::Ends;
+use piece_tree::{PageState, Piece};
 use std::alloc::{AllocError, Global};
 use std::marker::Model;
 
@@ -25,7 +23,7 @@ pub(crate) struct Chain {
 
 impl Model for Chain {
     ghost use Rattle.std.specs.Prelude.{List, ◌≡◌, ◌≤◌, drop, length, vec_capacity};
-    ghost use Rattle.iova.specs.declared.piece.Piece.{Piece};
+    ghost use Rattle.piece_tree.specs.declared.piece.Piece.{Piece};
     ghost use Rattle.iova.specs.declared.chain.TheConstants.{MOST_IN_CHAIN};
 
     ghost Value = { List Piece };

@@ -1,89 +1,135 @@
-//! A piece added at an end of a tree.
+//! The pages from a first to a last one, and how far what is free beside them goes.
 
-ghost use Rattle.std.specs.Prelude.{ℕ, ◌<◌, ◌++◌, ◌∷◌, []};
-ghost use Rattle.slab.specs.Slab.{get, slab_len};
-ghost use Rattle.iova.specs.Tree.{Empty, IsLow, IsPiece, Leaves, Shape, items};
+ghost use Rattle.std.specs.Prelude.{◌≡◌, ◌+◌, ◌-◌, ◌<◌, ◌≤◌, ◌↔◌, IfSome, IsSome, IsTrue};
+ghost use Rattle.dmatypes.specs.Page.{IsPageRange};
+ghost use Rattle.piece_tree.specs.Pieces.{IsPiece, piece_at};
+ghost use Rattle.iova.specs.Pieces.{IsOrdered, end_by, free_end, free_start, pages_as, piece_of, start_by};
 
-use crate::links::free_length;
-use crate::node::Node;
-use crate::piece::Piece;
-use crate::settle::{set_left, set_right, settle};
-use slab::Slab;
+use dmatypes::PageRange;
+use piece_tree::{NUMBERS_END, PageState, Piece, PieceTree};
 
-/// Makes a tree of one piece.
-#[inline(always)]
-pub(crate) fn leaf(nodes: &mut Slab<Node>, piece: &Piece) -> Option<usize>
-    requires piece { IsPiece piece.now }
-    requires room { slab_len nodes.old < nodes.old.capacity }
-    ensures { Leaves nodes.old nodes.new result Empty (piece.now ∷ []) 1 }
-{
-    let longest = free_length(*piece);
-    let key = nodes.insert_reserved(Node {
-        piece: *piece,
-        left: None,
-        right: None,
-        height: 1,
-        longest,
-    });
-    Some(key)
+/// The pages from a first to a last one.
+#[derive(Clone, Copy)]
+pub(crate) struct Ends {
+    pub(crate) first: u64,
+    pub(crate) last: u64,
 }
 
-/// Adds a piece behind a tree: mostly there is none.
-#[inline(always)]
-pub(crate) fn add_last(nodes: &mut Slab<Node>, root: Option<usize>, piece: &Piece) -> Option<usize>
-    requires tree { (t : Shape) × IsLow (get nodes.old) root t }
-    requires piece { IsPiece piece.now }
-    requires room { slab_len nodes.old < nodes.old.capacity }
-    ensures { (t : Shape) → IsLow (get nodes.old) root t → Leaves nodes.old nodes.new result t (items t ++ piece.now ∷ []) 1 }
-{
-    if root.is_none() {
-        return leaf(nodes, piece);
+impl Ends {
+    /// The pages as one piece in a state.
+    #[inline(always)]
+    pub(crate) fn in_state(self, state: PageState) -> Piece
+        ensures { result ≡ pages_as self state }
+    {
+        Piece {
+            first: self.first,
+            last: self.last,
+            state,
+        }
     }
-    add_last_below(nodes, root, piece)
-}
 
-/// Adds a piece behind a tree, apart.
-fn add_last_below(nodes: &mut Slab<Node>, root: Option<usize>, piece: &Piece) -> Option<usize>
-    requires tree { (t : Shape) × IsLow (get nodes.old) root t }
-    requires piece { IsPiece piece.now }
-    requires room { slab_len nodes.old < nodes.old.capacity }
-    ensures { (t : Shape) → IsLow (get nodes.old) root t → Leaves nodes.old nodes.new result t (items t ++ piece.now ∷ []) 1 }
-{
-    let Some(key) = root else {
-        return leaf(nodes, piece);
-    };
-    let right = nodes[key].right;
-    let behind = add_last_below(nodes, right, piece);
-    set_right(nodes, key, behind);
-    settle(nodes, key)
-}
-
-/// Adds a piece before a tree: mostly there is none.
-#[inline(always)]
-pub(crate) fn add_first(nodes: &mut Slab<Node>, root: Option<usize>, piece: &Piece) -> Option<usize>
-    requires tree { (t : Shape) × IsLow (get nodes.old) root t }
-    requires piece { IsPiece piece.now }
-    requires room { slab_len nodes.old < nodes.old.capacity }
-    ensures { (t : Shape) → IsLow (get nodes.old) root t → Leaves nodes.old nodes.new result t (piece.now ∷ items t) 1 }
-{
-    if root.is_none() {
-        return leaf(nodes, piece);
+    /// The pages of a piece.
+    #[inline(always)]
+    pub(crate) fn of(piece: Piece) -> Ends
+        ensures { pages_as result piece.state ≡ piece }
+    {
+        Ends {
+            first: piece.first,
+            last: piece.last,
+        }
     }
-    add_first_below(nodes, root, piece)
+
+    /// Whether they are those that are known, if some are.
+    #[inline(always)]
+    pub(crate) fn are(self, known: Option<Ends>) -> bool
+        ensures { IsTrue result ↔ (known ≡ Some self) }
+    {
+        match known {
+            Some(pages) => pages.first == self.first && pages.last == self.last,
+            None => false,
+        }
+    }
+
+    /// Whether a page is one of them.
+    #[inline(always)]
+    pub(crate) fn hold(self, page: u64) -> bool
+        ensures { IsTrue result ↔ ((self.first ≤ page) × (page ≤ self.last)) }
+    {
+        self.first <= page && page <= self.last
+    }
 }
 
-/// Adds a piece before a tree, apart.
-fn add_first_below(nodes: &mut Slab<Node>, root: Option<usize>, piece: &Piece) -> Option<usize>
-    requires tree { (t : Shape) × IsLow (get nodes.old) root t }
-    requires piece { IsPiece piece.now }
-    requires room { slab_len nodes.old < nodes.old.capacity }
-    ensures { (t : Shape) → IsLow (get nodes.old) root t → Leaves nodes.old nodes.new result t (piece.now ∷ items t) 1 }
+// The first page of a piece that is free and ends just before a page, or that page.
+#[inline(always)]
+fn start(before: Option<Piece>, first: u64) -> u64
+    requires { IfSome before IsPiece }
+    ensures { result ≡ start_by before first }
 {
-    let Some(key) = root else {
-        return leaf(nodes, piece);
-    };
-    let left = nodes[key].left;
-    let before = add_first_below(nodes, left, piece);
-    set_left(nodes, key, before);
-    settle(nodes, key)
+    match before {
+        Some(piece) if piece.is_free() && piece.last + 1 == first => piece.first,
+        _ => first,
+    }
+}
+
+// The last page of a piece that is free and begins just after a page, or that page.
+#[inline(always)]
+fn end(behind: Option<Piece>, last: u64) -> u64
+    requires { last < NUMBERS_END }
+    ensures { result ≡ end_by behind last }
+{
+    match behind {
+        Some(piece) if piece.is_free() && piece.first == last + 1 => piece.last,
+        _ => last,
+    }
+}
+
+/// The pages from the first of the free piece that ends just before some pages to the last of the one that begins just after them: by the
+/// pieces beside those that their ends lie in, of which one is at hand mostly.
+#[inline(always)]
+pub(crate) fn with_free_ends(tree: &mut PieceTree, pages: Ends) -> Ends
+    requires ordered { IsOrdered 1 tree.old }
+    requires first { IsSome (piece_at tree.old pages.first) }
+    requires last { IsSome (piece_at tree.old pages.last) }
+    requires narrow { pages.last < NUMBERS_END }
+    ensures first { result.first ≡ free_start tree.old pages.first }
+    ensures last { result.last ≡ free_end tree.old pages.last }
+    ensures unchanged { tree.new ≡ tree.old }
+{
+    let before = tree.free_beside(pages.first, true);
+    let behind = tree.free_beside(pages.last, false);
+    Ends {
+        first: start(before, pages.first),
+        last: end(behind, pages.last),
+    }
+}
+
+/// The same, looked for by the pages beside them.
+pub(crate) fn free_ends_at(tree: &PieceTree, pages: Ends) -> Ends
+    requires ordered { IsOrdered 1 tree.now }
+    requires some { 1 ≤ pages.first }
+    requires narrow { pages.last < NUMBERS_END }
+    ensures first { result.first ≡ free_start tree.now pages.first }
+    ensures last { result.last ≡ free_end tree.now pages.last }
+{
+    let before = tree.piece_at(pages.first - 1);
+    let behind = tree.piece_at(pages.last + 1);
+    Ends {
+        first: start(before, pages.first),
+        last: end(behind, pages.last),
+    }
+}
+
+/// The first and the last page of a range.
+#[inline(always)]
+pub(crate) fn ends_of(range: PageRange) -> Ends
+    ensures first { result.first ≡ range.first }
+    ensures last { result.last ≡ range.first + range.pages - 1 }
+    ensures piece { (state : PageState) → pages_as result state ≡ piece_of range state }
+    ensures range { IsPageRange range }
+{
+    let first = range.first();
+    Ends {
+        first,
+        last: first + range.pages() - 1,
+    }
 }

@@ -3,11 +3,10 @@
 ghost use Rattle.std.specs.Iterator.{UpTo, YieldsFirst, at_most, item_count};
 ghost use Rattle.std.specs.Iterator.SizeHint.{IsWithinCount};
 ghost use Rattle.std.specs.Prelude.{◌≡◌, IfSome, Some, length};
-ghost use Rattle.iova.specs.Way.{pages_as};
 
-use crate::beside::Ends;
-use crate::piece::{PageState, Piece};
+use crate::ends::Ends;
 use crate::tree_iter::TreeIter;
+use piece_tree::{PageState, Piece};
 use std::iter::FusedIterator;
 use std::marker::Model;
 
@@ -21,7 +20,7 @@ pub struct Iter<'a> {
 
 impl<'a> Model for Iter<'a> {
     ghost use Rattle.std.specs.Prelude.{List, ◌≡◌, length};
-    ghost use Rattle.iova.specs.declared.piece.Piece.{Piece};
+    ghost use Rattle.piece_tree.specs.declared.piece.Piece.{Piece};
 
     ghost Value = { List Piece };
 
@@ -76,7 +75,7 @@ pub(crate) struct Coming<'a> {
 
 impl<'a> Model for Coming<'a> {
     ghost use Rattle.std.specs.Prelude.{List, ◌++◌, if◌then◌else◌};
-    ghost use Rattle.iova.specs.declared.piece.Piece.{Piece};
+    ghost use Rattle.piece_tree.specs.declared.piece.Piece.{Piece};
     ghost use Rattle.iova.specs.Carved.{free_of, in_place_of};
 
     ghost Value = { List Piece };
@@ -102,7 +101,7 @@ impl<'a> Iterator for Coming<'a> {
         }
         if let Some(ends) = self.before {
             self.before = None;
-            return Some(free_piece(ends));
+            return Some(ends.in_state(PageState::Free));
         }
         if let Some((piece, behind)) = self.chain.split_first() {
             self.chain = behind;
@@ -110,19 +109,8 @@ impl<'a> Iterator for Coming<'a> {
         }
         if let Some(ends) = self.behind {
             self.behind = None;
-            return Some(free_piece(ends));
+            return Some(ends.in_state(PageState::Free));
         }
         self.tree.next()
-    }
-}
-
-// The pages as a free piece.
-fn free_piece(ends: Ends) -> Piece
-    ensures { result ≡ pages_as ends PageState.Free }
-{
-    Piece {
-        first: ends.first,
-        last: ends.last,
-        state: PageState::Free,
     }
 }

@@ -1,5 +1,22 @@
 //! The address space of a domain: which pages of device addresses are free, live (mapped), or retired (unmapped, and a cached
-//! translation may still reach them). It is a balanced tree of at most 1,024 pieces, each a run of pages of one state.
+//! translation may still reach them). A space is at most 1,024 pieces, each a run of pages of one state: those of a tree, but for what
+//! the tree isn't told at once. What was taken last is carved out of one free piece, a chain of pieces that mostly come free at its ends.
+//! What asks for other pages first hands the chain over to the tree, as one row:
+//!
+//! ```text
+//!     the tree     1..4 live   5..8 live   9..20 free
+//!     carved                               9..9 live   10..11 retired
+//!     the space    1..4 live   5..8 live   9..9 live   10..11 retired   12..20 free
+//! ```
+//!
+//! A live piece of the tree that comes free is mostly taken again. What asks for other pages first lays it there, as one with the free
+//! pieces beside it. While there is such a piece, none is carved:
+//!
+//! ```text
+//!     the tree     1..4 live   5..8 live   9..9 live   10..11 retired   12..20 free
+//!     came free                5..8
+//!     the space    1..4 live   5..8 free   9..9 live   10..11 retired   12..20 free
+//! ```
 //!
 //! ```rust
 //! use dmatypes::PageRange;
@@ -19,31 +36,17 @@
 //! ```
 #![tactic(auto)]
 
-mod before;
-mod beside;
 mod carved;
 mod chain;
 mod ends;
 mod fits;
-mod grow;
+mod freeing;
 mod iter;
-mod links;
-mod look;
-mod node;
-mod pending;
-mod piece;
-mod piece_tree;
-mod put;
+mod page_tree;
 mod refusals;
-mod search;
-mod settle;
 mod space;
-mod store;
 mod tree_iter;
-mod trims;
-mod turns;
-mod way;
 
 pub use iter::Iter;
-pub use piece::{PageState, Piece};
+pub use piece_tree::{PageState, Piece};
 pub use space::{RetireError, Space, TakeError};

@@ -2,24 +2,20 @@
 
 ghost use Rattle.std.specs.Prelude.{◌≡◌, ◌≢◌, ℕ, ◌+◌, ◌^◌, ◌<◌, ◌≤◌, ◌↔◌, length, Some, None, IsSome, IfSome, IfNone, IfOk, OnErr};
 ghost use Rattle.dmatypes.specs.Page.{IsPageRange};
-ghost use Rattle.std.specs.Prelude.{◌-◌, IsOk, IsTrue, Ok, Err, vec_capacity};
+ghost use Rattle.std.specs.Prelude.{◌-◌, IsOk, IsTrue, Ok, Err};
 
-use crate::beside::Ends;
 use crate::carved;
 use crate::carved::{Carved, Sought};
 use crate::chain::Chain;
+use crate::ends::ends_of;
 use crate::iter::{Coming, Iter};
-use crate::node::NUMBERS_END;
-use crate::piece::{PageState, Piece};
-use crate::piece_tree::PieceTree;
+use crate::page_tree::PageTree;
 use dmatypes::{MOST_PAGES, PAGES_END, Page, PageRange};
+use piece_tree::{MOST_PIECES, NUMBERS_END, PageState, Piece};
 use std::alloc::{AllocError, Global};
 use std::fmt;
 use std::marker::Model;
 use thiserror::Error;
-
-/// How many pieces a space has room for (own).
-pub(crate) const MOST_PIECES: usize = 1024;
 
 /// How many pieces may be there where one is cut (own): a cut can make two more.
 pub(crate) const MOST_PIECES_TO_CUT: usize = MOST_PIECES - 2;
@@ -46,25 +42,11 @@ pub enum RetireError {
     TooManyPieces,
 }
 
-// The first and the last page of a range.
-#[inline(always)]
-fn ends_of(range: PageRange) -> Ends
-    ensures first { result.first ≡ range.first }
-    ensures last { result.last ≡ range.first + range.pages - 1 }
-    ensures range { IsPageRange range }
-{
-    let first = range.first();
-    Ends {
-        first,
-        last: first + range.pages() - 1,
-    }
-}
-
 /// The pages of a domain's addresses, as at most 1,024 pieces (own). A live piece is made by one `take`, a
 /// retired piece is one retired range, and free neighbours are one piece.
 #[derive(Drop)]
 pub struct Space {
-    tree: PieceTree,
+    tree: PageTree,
     // What was taken last out of one free piece, and mostly comes free before the tree has to show it.
     carved: Carved,
 }
@@ -84,7 +66,8 @@ impl Space {
     ghost use Rattle.dmatypes.specs.Page.{IsWithin, Range};
     ghost use Rattle.dmatypes.specs.World.{IsIn};
     ghost use Rattle.dmatypes.specs.declared.limits.TheConstants.{MOST_ORDER};
-    ghost use Rattle.iova.specs.Pieces.{AllIn, Holds, IsRun, piece_of, state_at};
+    ghost use Rattle.iova.specs.Pieces.{AllIn, IsRun, piece_of, state_at};
+    ghost use Rattle.piece_tree.specs.Pieces.{Holds};
     ghost use Rattle.iova.specs.Space.{Space, AllFree, IsFit, IsLowestFit, IsLowestFrom, IsSpace, IsTooMany, CutsPiece};
     ghost use Rattle.iova.specs.Space.{MayRetire, new_space};
     ghost use Rattle.iova.specs.Carved.{IsSought};
@@ -99,7 +82,7 @@ impl Space {
         ensures free { IfOk result AllFree }
         ensures space { IfOk result IsSpace }
     {
-        let tree = PieceTree::new(alloc, last)?;
+        let tree = PageTree::new(alloc, last)?;
         let chain = Chain::new(alloc)?;
         Ok(Space {
             tree,
@@ -258,7 +241,8 @@ impl Space {
         Some(Page::new(start).unwrap())
     }
 
-    // Whether there are so few pieces that one can be cut. Most often so many nodes and carved pieces show it, with no look at them.
+    // Whether there are so few pieces that one can be cut. Most often the counts of those in the tree and of those carved out of one show
+    // it, with no look at any.
     #[inline(always)]
     fn has_few_pieces(&self) -> bool
         ensures { IsTrue result ↔ (length self.now.pieces ≤ MOST_PIECES_TO_CUT) }
@@ -338,8 +322,8 @@ impl Space {
         low.first < first || last < high.last
     }
 
-    /// Whether a range can be retired, as `may_retire`. Where it is one live piece, the space keeps in mind where that lies: what
-    /// is done to it next, if nothing is done before, need not look for it.
+    /// Whether a range can be retired, as `may_retire`. What is done next to a live piece that
+    /// was judged, if nothing is done before, need not look for it.
     #[inline(always)]
     pub fn judge(&mut self, range: PageRange) -> Result<(), RetireError>
         ensures ok { IsOk result ↔ MayRetire self.old.pieces range }
@@ -387,12 +371,7 @@ impl Space {
         if self.carved.give_back(pages) {
             return;
         }
-        let was_carved = !self.carved.chain.is_empty();
         carved::hand_over(&mut self.tree, &mut self.carved);
-        // It was judged in the chain, so the tree has not looked for it yet.
-        if was_carved {
-            self.tree.hold_live(pages);
-        }
         self.tree.free_live(range);
     }
 

@@ -14,7 +14,7 @@ use Rattle.dmatypes.specs.declared.call.Mode.{Mode}
 use Rattle.dmatypes.specs.declared.call.Mode.TheVariants.{Strict, Lazy}
 use Rattle.dmatypes.specs.declared.call.Segment.{Segment}
 use Rattle.dmatypes.specs.declared.reply.Reply.TheVariants.{Mapped, Unmapped}
-use Rattle.iova.specs.declared.piece.PageState.TheVariants.{Live}
+use Rattle.piece_tree.specs.declared.piece.PageState.TheVariants.{Live}
 use Rattle.tables.specs.Changes.{UnmapsPages}
 use Rattle.tables.specs.Tree.{uses}
 use Rattle.tables.specs.Pool.{Pool, memory, occurs, word}

@@ -9,7 +9,7 @@ use Rattle.dmatypes.specs.declared.limits.TheConstants.{MOST_DOMAINS}
 use Rattle.dmatypes.specs.declared.width.Width.{Width}
 use Rattle.iova.specs.Pieces.{state_at}
 use Rattle.iova.specs.Space.{IsSpace, Space}
-use Rattle.iova.specs.declared.piece.PageState.{PageState}
+use Rattle.piece_tree.specs.declared.piece.PageState.{PageState}
 use Rattle.vtdbits.specs.Entry.{look}
 use Rattle.tables.specs.declared.entries.TheConstants.{TABLE_ENTRIES}
 use Rattle.tables.specs.Tree.{leaf_from, stated, uses}

@@ -5,7 +5,7 @@ use Rattle.std.proofs.lemmas.Option.{none-some}
 use Rattle.dmatypes.specs.Page.{levels, pages_end}
 use Rattle.dmatypes.specs.World.{IsIn, World}
 use Rattle.dmatypes.specs.declared.limits.TheConstants.{MOST_DOMAINS}
-use Rattle.iova.specs.declared.piece.PageState.TheVariants as pages
+use Rattle.piece_tree.specs.declared.piece.PageState.TheVariants as pages
 use Rattle.tables.proofs.walks.Near.{span_pos}
 use Rattle.tables.specs.Pool.{memory, occurs}
 use Rattle.tables.specs.Tree.{leaf_from, stated, table_from, uses}

@@ -9,8 +9,8 @@ use Rattle.dmatypes.specs.World.{Target, AreFreePages, empty_domain, mapped, pla
 use Rattle.dmatypes.specs.World as world
 use Rattle.dmatypes.specs.declared.call.Segment.{Segment}
 use Rattle.dmatypes.proofs.numbers.Ranges.{within_or_not}
-use Rattle.iova.specs.declared.piece.PageState.{PageState}
-use Rattle.iova.specs.declared.piece.PageState.TheVariants.{Free, Live, Retired}
+use Rattle.piece_tree.specs.declared.piece.PageState.{PageState}
+use Rattle.piece_tree.specs.declared.piece.PageState.TheVariants.{Free, Live, Retired}
 use Rattle.iova.specs.Changes.{Takes}
 use Rattle.iova.specs.Pieces.{piece_of, state_at}
 use Rattle.iova.specs.Space.{Space, AllFree, IsFit, IsSpace}

@@ -7,9 +7,9 @@ use Rattle.std.proofs.lemmas.List.Sums.{sum_by-cons}
 use Rattle.dmatypes.specs.Page.{Range, IsWithin}
 use Rattle.dmatypes.specs.World.{Retired, IsIn, flushed}
 use Rattle.dmatypes.specs.World as world
-use Rattle.iova.specs.declared.piece.PageState.TheVariants.{Live}
-use Rattle.iova.specs.declared.piece.PageState.TheVariants as pages
-use Rattle.iova.specs.declared.piece.Piece.{Piece}
+use Rattle.piece_tree.specs.declared.piece.PageState.TheVariants.{Live}
+use Rattle.piece_tree.specs.declared.piece.PageState.TheVariants as pages
+use Rattle.piece_tree.specs.declared.piece.Piece.{Piece}
 use Rattle.iova.specs.Pieces.{IsOrdered, piece_of}
 use Rattle.iova.specs.Space.{Space, IsSpace, MayRetire}
 use Rattle.tables.specs.Lacks.{leaves_splitting}

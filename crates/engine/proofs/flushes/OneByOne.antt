@@ -7,9 +7,9 @@ use Rattle.dmatypes.specs.Page.{Range, IsWithin}
 use Rattle.dmatypes.specs.World.{Retired, World, IsIn, flushed, put}
 use Rattle.dmatypes.specs.World as world
 use Rattle.dmatypes.proofs.numbers.Ranges.{within_or_not}
-use Rattle.iova.specs.declared.piece.PageState.TheVariants.{Free}
-use Rattle.iova.specs.declared.piece.PageState.TheVariants as pages
-use Rattle.iova.specs.declared.piece.Piece.{Piece}
+use Rattle.piece_tree.specs.declared.piece.PageState.TheVariants.{Free}
+use Rattle.piece_tree.specs.declared.piece.PageState.TheVariants as pages
+use Rattle.piece_tree.specs.declared.piece.Piece.{Piece}
 use Rattle.iova.specs.Pieces.{piece_of, state_at}
 use Rattle.iova.specs.Space.{Space, MayRetire}
 use Rattle.tables.specs.Pool.{Pool, memory, occurs, IsZeroed}

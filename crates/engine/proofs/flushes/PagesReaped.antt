@@ -3,8 +3,8 @@ use Rattle.std.proofs.Common.{◌≡◌, ℕ, inl, inr, Bool, not, List, filter,
 use Rattle.dmatypes.specs.World.{Retired, IsIn}
 use Rattle.dmatypes.specs.World as world
 use Rattle.dmatypes.proofs.lists.Filtered.{in_filter}
-use Rattle.iova.specs.declared.piece.PageState.TheVariants.{Free}
-use Rattle.iova.specs.declared.piece.PageState.TheVariants as pages
+use Rattle.piece_tree.specs.declared.piece.PageState.TheVariants.{Free}
+use Rattle.piece_tree.specs.declared.piece.PageState.TheVariants as pages
 use Rattle.iova.specs.Pieces.{piece_of, state_at}
 use Rattle.iova.specs.Space.{Space, IsSpace}
 use Rattle.engine.specs.Quarantine.{PartsPages}

@@ -6,7 +6,7 @@ use Rattle.dmatypes.specs.Page.{Range, IsWithin}
 use Rattle.dmatypes.specs.World.{Retired, World, IsIn, is_before, put, reaped, without_ticket}
 use Rattle.dmatypes.specs.World as world
 use Rattle.dmatypes.proofs.lists.Filtered.{in_filter}
-use Rattle.iova.specs.declared.piece.PageState.TheVariants as pages
+use Rattle.piece_tree.specs.declared.piece.PageState.TheVariants as pages
 use Rattle.iova.specs.Pieces.{piece_of}
 use Rattle.iova.specs.Space.{Space}
 use Rattle.tables.specs.Pool.{Pool, memory, IsZeroed}

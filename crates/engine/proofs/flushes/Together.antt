@@ -9,9 +9,10 @@ use Rattle.dmatypes.specs.Page.{Range, IsWithin}
 use Rattle.dmatypes.specs.World.{IsIn}
 use Rattle.dmatypes.proofs.numbers.Ranges.{within_or_not}
 use Rattle.iova.specs.Changes.{FreesRun}
-use Rattle.iova.specs.declared.piece.PageState.TheVariants.{Free, Retired}
-use Rattle.iova.specs.declared.piece.Piece.{Piece}
-use Rattle.iova.specs.Pieces.{Holds, IsRun, piece_of, state_at}
+use Rattle.piece_tree.specs.declared.piece.PageState.TheVariants.{Free, Retired}
+use Rattle.piece_tree.specs.declared.piece.Piece.{Piece}
+use Rattle.piece_tree.specs.Pieces.{Holds}
+use Rattle.iova.specs.Pieces.{IsRun, piece_of, state_at}
 use Rattle.iova.specs.Space.{Space, IsSpace, MayRetire}
 use Rattle.iova.proofs.Among.{in_one}
 use Rattle.tables.specs.Pool.{Pool, IsZeroed, occurs}

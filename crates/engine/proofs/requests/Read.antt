@@ -7,8 +7,8 @@ use Rattle.std.proofs.lemmas.Option.{none-some}
 use Rattle.dmatypes.specs.Page.{Range}
 use Rattle.dmatypes.specs.World.{Target, IsIn, IsRetired}
 use Rattle.dmatypes.specs.World as world
-use Rattle.iova.specs.declared.piece.PageState.TheVariants.{Live}
-use Rattle.iova.specs.declared.piece.PageState.TheVariants as pages
+use Rattle.piece_tree.specs.declared.piece.PageState.TheVariants.{Live}
+use Rattle.piece_tree.specs.declared.piece.PageState.TheVariants as pages
 use Rattle.iova.specs.Pieces.{state_at}
 use Rattle.iova.specs.Space.{Space}
 use Rattle.tables.proofs.pools.Kept.{span-levels}

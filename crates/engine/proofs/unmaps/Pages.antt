@@ -5,10 +5,10 @@ use Rattle.dmatypes.specs.Page.{Range, IsPageOf, IsPageRange, IsWithin}
 use Rattle.dmatypes.specs.World.{Target, Retired, IsIn, flushed, put_off, record_of, restricted, unmapped, without}
 use Rattle.dmatypes.specs.World as world
 use Rattle.dmatypes.proofs.numbers.Ranges.{HasEnds, to_ends, within_is, within_not, within_or_not}
-use Rattle.iova.specs.declared.piece.PageState.{PageState}
-use Rattle.iova.specs.declared.piece.PageState.TheVariants.{Free, Live}
-use Rattle.iova.specs.declared.piece.PageState.TheVariants as pages
-use Rattle.iova.specs.declared.piece.Piece.{Piece}
+use Rattle.piece_tree.specs.declared.piece.PageState.{PageState}
+use Rattle.piece_tree.specs.declared.piece.PageState.TheVariants.{Free, Live}
+use Rattle.piece_tree.specs.declared.piece.PageState.TheVariants as pages
+use Rattle.piece_tree.specs.declared.piece.Piece.{Piece}
 use Rattle.iova.specs.Changes.{Frees, Retires}
 use Rattle.iova.specs.Pieces.{AllIn, piece_of, state_at}
 use Rattle.iova.specs.Space.{Space, IsSpace}

@@ -14,7 +14,7 @@ use Rattle.dmatypes.specs.Page.{Fits, IsPageRange, IsWithin, Range, range_at}
 use Rattle.dmatypes.specs.Step.{Answers, IsStep, IsUnmapAnswer, next}
 use Rattle.dmatypes.specs.World.{Target, World, flushed, put, put_off, unmapped, unmapped_by}
 use Rattle.dmatypes.specs.World as world
-use Rattle.iova.specs.declared.piece.PageState.TheVariants.{Live}
+use Rattle.piece_tree.specs.declared.piece.PageState.TheVariants.{Live}
 use Rattle.iova.specs.Pieces.{AllIn, state_at}
 use Rattle.iova.specs.Space.{Space}
 use Rattle.tables.specs.Pool.{Pool}

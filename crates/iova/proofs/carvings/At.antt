@@ -1,13 +1,13 @@
 -- Where a piece of the chain lies.
 use Rattle.std.proofs.Common.{◌≡◌, ℕ, zero, suc, ◌+◌, ◌-◌, ◌<◌, List, [], ◌∷◌, ◌++◌, length, get_or, slice_get, Some}
-use Rattle.std.proofs.Common.{refl, ap, sym, ◌∙◌, subst, inl, inr, arith, drop, append-nil, length-append}
+use Rattle.std.proofs.Common.{refl, ap, sym, ◌∙◌, subst, inl, arith, drop}
 use Rattle.std.proofs.Math.Seq.{get_or-append_seam}
 use Rattle.dmatypes.specs.World.{IsIn}
-use Rattle.iova.specs.declared.beside.Ends.{Ends}
-use Rattle.iova.specs.declared.piece.PageState.TheVariants.{Live}
-use Rattle.iova.specs.declared.piece.Piece.{Piece}
+use Rattle.iova.specs.declared.ends.Ends.{Ends}
+use Rattle.piece_tree.specs.declared.piece.PageState.TheVariants.{Live}
+use Rattle.piece_tree.specs.declared.piece.Piece.{Piece}
 use Rattle.iova.specs.Carved.{FollowOn, IsAt, LosesEnd}
-use Rattle.iova.specs.Way.{pages_as}
+use Rattle.iova.specs.Pieces.{pages_as}
 use Rattle.iova.proofs.Among.{in_append_right}
 
 -- a piece that begins and ends with the pages lies at its place
@@ -69,16 +69,3 @@ first_lost chain now pages at e =
     let none : at.0 ≡ [] = no_more at.0 (sym at.4) in
     let parts : chain ≡ pages_as pages at.1 ∷ at.2 = at.3 ∙ ap (λ l. l ++ pages_as pages at.1 ∷ at.2) none in
     ([], at.1, at.2, parts, inl refl, e ∙ ap (λ l. drop 1 l) parts)
-
-pub last_lost : (chain now : List Piece) (pages : Ends) (place : ℕ) → IsAt chain pages place → place + 1 ≡ length chain
-    → ((before : List Piece) (last : Piece) → chain ≡ before ++ last ∷ [] → now ≡ before) → LosesEnd chain now pages
-last_lost chain now pages place at e left =
-    let none : at.2 ≡ [] = no_more at.2 (omega (
-      arith,
-      e,
-      at.4,
-      ap (λ (l : List Piece). length l) at.3,
-      length-append at.0 (pages_as pages at.1 ∷ at.2),
-    )) in
-    let parts : chain ≡ at.0 ++ pages_as pages at.1 ∷ [] = at.3 ∙ ap (λ l. at.0 ++ pages_as pages at.1 ∷ l) none in
-    (at.0, at.1, [], parts, inr refl, left at.0 (pages_as pages at.1) parts ∙ sym (append-nil at.0))

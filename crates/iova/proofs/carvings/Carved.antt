@@ -1,9 +1,9 @@
 -- What is known of the chain where pieces are carved.
 use Rattle.std.proofs.Common.{◌≡◌, ℕ, ◌+◌, ◌<◌, ◌≤◌, List, max, ◌∷◌, Option, Some, sym, ◌∙◌, subst, arith}
-use Rattle.iova.specs.declared.beside.Ends.{Ends}
+use Rattle.iova.specs.declared.ends.Ends.{Ends}
 use Rattle.iova.specs.declared.carved.Stock.{Stock}
-use Rattle.iova.specs.declared.node.TheConstants.{NUMBERS_END}
-use Rattle.iova.specs.declared.piece.Piece.{Piece}
+use Rattle.piece_tree.specs.declared.piece.TheConstants.{NUMBERS_END}
+use Rattle.piece_tree.specs.declared.piece.Piece.{Piece}
 use Rattle.iova.specs.Carved.{AreCarved, FollowOn, IsCarved}
 use Rattle.iova.specs.Space.{Space, IsSpace}
 use Rattle.iova.proofs.Shown.{in_narrow}

@@ -3,12 +3,12 @@ use Rattle.std.proofs.Common.{◌≡◌, ℕ, ◌+◌, ◌≤◌, List, [], ◌�
 use Rattle.std.proofs.Common.{Option, None, Some, sym}
 use Rattle.iova.specs.declared.carved.Stock.{Stock}
 use Rattle.iova.specs.Carved.{IsCarved}
-use Rattle.iova.specs.declared.piece.Piece.{Piece}
-use Rattle.iova.specs.declared.space.TheConstants.{MOST_PIECES}
+use Rattle.piece_tree.specs.declared.piece.Piece.{Piece}
+use Rattle.piece_tree.specs.declared.piece.TheConstants.{MOST_PIECES}
 use Rattle.iova.specs.Carved.{FollowOn, with_pieces}
 use Rattle.iova.specs.Pieces.{IsOrdered}
 use Rattle.iova.specs.Space.{Space, IsSpace}
-use Rattle.iova.specs.Tree.{rest_below}
+use Rattle.piece_tree.specs.Laid.{rest_below}
 use Rattle.iova.proofs.Pieces.{order}
 use Rattle.iova.proofs.Shown.{parted}
 use Rattle.iova.proofs.parts.Added.{rest_below-none, rest_below-some}

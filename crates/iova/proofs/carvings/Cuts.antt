@@ -1,7 +1,7 @@
 -- Whether a range of free pages cuts the free piece that it lies in, and so any.
 use Rattle.std.proofs.Common.{ℕ, ◌+◌, ◌<◌, ◌≤◌, ◌⊎◌, List, ap, inl, inr, arith}
 use Rattle.dmatypes.specs.World.{IsIn}
-use Rattle.iova.specs.declared.piece.Piece.{Piece}
+use Rattle.piece_tree.specs.declared.piece.Piece.{Piece}
 use Rattle.iova.specs.Pieces.{IsOrdered}
 use Rattle.iova.specs.Space.{CutsPiece}
 use Rattle.iova.proofs.Among.{in_one}

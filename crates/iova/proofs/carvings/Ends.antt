@@ -3,16 +3,16 @@ use Rattle.std.proofs.Common.{◌≡◌, ℕ, ◌+◌, ◌-◌, ◌<◌, ◌≤�
 use Rattle.std.proofs.Common.{Option, None, Some, append-nil, length-append}
 use Rattle.dmatypes.specs.Page.{Range}
 use Rattle.dmatypes.specs.World.{IsIn}
-use Rattle.iova.specs.declared.beside.Ends.{Ends}
+use Rattle.iova.specs.declared.ends.Ends.{Ends}
 use Rattle.iova.specs.declared.carved.Stock.{Stock}
-use Rattle.iova.specs.declared.piece.PageState.{PageState}
-use Rattle.iova.specs.declared.piece.PageState.TheVariants.{Live}
-use Rattle.iova.specs.declared.piece.Piece.{Piece}
+use Rattle.piece_tree.specs.declared.piece.PageState.{PageState}
+use Rattle.piece_tree.specs.declared.piece.PageState.TheVariants.{Live}
+use Rattle.piece_tree.specs.declared.piece.Piece.{Piece}
 use Rattle.iova.specs.Carved.{AreCarved, FollowOn, IsCarved, LosesEnd, with_carved, with_pieces}
 use Rattle.iova.specs.Changes.{Frees, FreesLive}
 use Rattle.iova.specs.Pieces.{piece_of, with_free}
 use Rattle.iova.specs.Space.{Space, IsSpace, MayRetire}
-use Rattle.iova.specs.Way.{pages_as}
+use Rattle.iova.specs.Pieces.{pages_as}
 use Rattle.iova.proofs.Among.{in_append_cases, in_append_left, in_append_right, in_one, in_state}
 use Rattle.iova.proofs.Freed.{frees, one_run}
 use Rattle.iova.proofs.FreedLive.{frees_live}

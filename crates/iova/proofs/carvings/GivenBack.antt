@@ -2,11 +2,12 @@
 use Rattle.std.proofs.Common.{◌≡◌, ℕ, ◌+◌, ◌<◌, ◌≤◌, ◌⊎◌, List, [], ◌∷◌, refl, sym, ◌∙◌, inl, inr, ap, arith}
 use Rattle.dmatypes.specs.Page.{Range}
 use Rattle.dmatypes.specs.World.{IsIn}
-use Rattle.iova.specs.declared.piece.PageState.{PageState}
-use Rattle.iova.specs.declared.piece.Piece.{Piece}
+use Rattle.piece_tree.specs.declared.piece.PageState.{PageState}
+use Rattle.piece_tree.specs.declared.piece.Piece.{Piece}
 use Rattle.iova.specs.Carved.{with_carved, with_pieces}
 use Rattle.iova.specs.Changes.{FreesRun}
-use Rattle.iova.specs.Pieces.{Holds, IsRun, piece_of, state_at, with_free}
+use Rattle.piece_tree.specs.Pieces.{Holds}
+use Rattle.iova.specs.Pieces.{IsRun, piece_of, state_at, with_free}
 use Rattle.iova.specs.Space.{Space, IsSpace}
 use Rattle.iova.proofs.Pieces.{order}
 use Rattle.iova.proofs.Among.{in_one, in_state}

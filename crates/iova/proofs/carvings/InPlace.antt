@@ -1,14 +1,16 @@
 -- Pieces that are carved out of a free piece stand in its place, with what is left of it before and behind them.
 use Rattle.std.proofs.Common.{◌≡◌, ◌≢◌, ℕ, ◌+◌, ◌<◌, ◌≤◌, List, [], ◌∷◌, ◌++◌, length, IsTrue, refl, ap, sym, ◌∙◌, inl, inr, subst, arith}
 use Rattle.std.proofs.Common.{append-nil, append_assoc, length-append}
-use Rattle.iova.specs.declared.piece.PageState.{PageState}
-use Rattle.iova.specs.declared.piece.PageState.TheVariants.{Free, Live, Retired}
-use Rattle.iova.specs.declared.piece.Piece.{Piece}
+use Rattle.piece_tree.specs.declared.piece.PageState.{PageState}
+use Rattle.piece_tree.specs.declared.piece.PageState.TheVariants.{Free, Live, Retired}
+use Rattle.piece_tree.specs.declared.piece.Piece.{Piece}
 use Rattle.iova.specs.declared.carved.Stock.{Stock}
 use Rattle.iova.specs.Carved.{AreCarved, FollowOn, with_pieces}
-use Rattle.iova.specs.Pieces.{IsOrdered, is_free, part_above, with_piece}
+use Rattle.iova.specs.Pieces.{IsOrdered}
+use Rattle.piece_tree.specs.Pieces.{is_free}
+use Rattle.piece_tree.specs.Laid.{part_above, with_piece}
 use Rattle.iova.specs.Space.{Space, IsSpace}
-use Rattle.iova.specs.Tree.{rest_above, rest_below}
+use Rattle.piece_tree.specs.Laid.{rest_above, rest_below}
 use Rattle.iova.proofs.Pieces.{order}
 use Rattle.iova.proofs.Shown.{parted}
 use Rattle.iova.proofs.Puts.{ordered_put}

@@ -2,11 +2,12 @@
 use Rattle.std.proofs.Common.{◌≡◌, ◌≢◌, ℕ, List, Option, Some, None, ap, sym, ◌∙◌, subst}
 use Rattle.dmatypes.specs.World.{IsIn}
 use Rattle.iova.specs.declared.carved.Stock.{Stock}
-use Rattle.iova.specs.declared.piece.PageState.TheVariants.{Free}
-use Rattle.iova.specs.declared.piece.Piece.{Piece}
+use Rattle.piece_tree.specs.declared.piece.PageState.TheVariants.{Free}
+use Rattle.piece_tree.specs.declared.piece.Piece.{Piece}
 use Rattle.iova.specs.Carved.{FollowOn, IsCarved, with_carved}
-use Rattle.iova.specs.Pieces.{Holds, state_at}
-use Rattle.iova.specs.Search.{piece_at}
+use Rattle.piece_tree.specs.Pieces.{Holds}
+use Rattle.iova.specs.Pieces.{state_at}
+use Rattle.piece_tree.specs.Pieces.{piece_at}
 use Rattle.iova.specs.Space.{Space, IsSpace}
 use Rattle.iova.proofs.Among.{in_state}
 use Rattle.iova.proofs.Puts.{none_some}

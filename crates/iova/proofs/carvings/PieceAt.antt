@@ -4,12 +4,13 @@ use Rattle.std.proofs.Common.{Some, None, IsTrue}
 use Rattle.std.proofs.Common.{refl, ap, sym, ltb-true, ltb-false, ◌∙◌, arith}
 use Rattle.std.specs.List.Sorted.{IsPartitionedBy, IsPartitionPoint, IsNonDecreasingBy}
 use Rattle.std.proofs.lemmas.List.Sorted.{IsPartitionedBy-ltb}
-use Rattle.iova.specs.declared.piece.PageState.{PageState}
-use Rattle.iova.specs.declared.piece.PageState.TheVariants.{Free, Live, Retired}
-use Rattle.iova.specs.declared.piece.Piece.{Piece}
+use Rattle.piece_tree.specs.declared.piece.PageState.{PageState}
+use Rattle.piece_tree.specs.declared.piece.PageState.TheVariants.{Free, Live, Retired}
+use Rattle.piece_tree.specs.declared.piece.Piece.{Piece}
 use Rattle.iova.specs.Carved.{FollowOn}
-use Rattle.iova.specs.Pieces.{Holds, IsOrdered, Touches, is_free}
-use Rattle.iova.specs.Search.{piece_at}
+use Rattle.piece_tree.specs.Pieces.{Holds, is_free}
+use Rattle.iova.specs.Pieces.{IsOrdered, Touches}
+use Rattle.piece_tree.specs.Pieces.{piece_at}
 use Rattle.iova.proofs.Pieces.{from_le}
 use Rattle.iova.proofs.searches.Found.{at-nil, at-here, at-under, at-past, at_none}
 

@@ -2,14 +2,14 @@
 use Rattle.std.proofs.Common.{◌≡◌, ℕ, ◌+◌, ◌-◌, ◌<◌, ◌≤◌, List, [], ◌∷◌, ◌++◌, Option, Some, None, IfSome, IfNone, ap, sym, ◌∙◌, arith}
 use Rattle.std.proofs.Common.{append_assoc}
 use Rattle.std.proofs.lemmas.Bool.Decides.{nat_tests}
-use Rattle.iova.specs.declared.beside.Ends.{Ends}
+use Rattle.iova.specs.declared.ends.Ends.{Ends}
 use Rattle.iova.specs.declared.carved.Stock.{Stock}
-use Rattle.iova.specs.declared.piece.PageState.TheVariants.{Free}
-use Rattle.iova.specs.declared.piece.Piece.{Piece}
+use Rattle.piece_tree.specs.declared.piece.PageState.TheVariants.{Free}
+use Rattle.piece_tree.specs.declared.piece.Piece.{Piece}
 use Rattle.iova.specs.Carved.{AreCarved, free_of, in_place_of, with_pieces}
 use Rattle.iova.specs.Pieces.{IsOrdered}
 use Rattle.iova.specs.Space.{Space, IsSpace}
-use Rattle.iova.specs.Tree.{rest_below}
+use Rattle.piece_tree.specs.Laid.{rest_below}
 use Rattle.iova.proofs.parts.Added.{rest_below-none, rest_below-some}
 use Rattle.iova.proofs.parts.Parts.{first_from}
 use Rattle.iova.proofs.carvings.InPlace.{before, behind, free_piece, is_row, was, was_ordered}

@@ -3,17 +3,18 @@ use Rattle.std.proofs.Common.{◌≡◌, ℕ, ◌+◌, ◌-◌, ◌≤◌, List,
 use Rattle.std.proofs.Common.{length-append}
 use Rattle.std.proofs.Common.{Option, None, Some}
 use Rattle.dmatypes.specs.Page.{Range}
-use Rattle.iova.specs.declared.beside.Ends.{Ends}
+use Rattle.iova.specs.declared.ends.Ends.{Ends}
 use Rattle.iova.specs.declared.carved.Stock.{Stock}
-use Rattle.iova.specs.declared.piece.PageState.{PageState}
-use Rattle.iova.specs.declared.piece.PageState.TheVariants.{Retired}
-use Rattle.iova.specs.declared.piece.Piece.{Piece}
+use Rattle.piece_tree.specs.declared.piece.PageState.{PageState}
+use Rattle.piece_tree.specs.declared.piece.PageState.TheVariants.{Retired}
+use Rattle.piece_tree.specs.declared.piece.Piece.{Piece}
 use Rattle.iova.specs.Carved.{AreCarved, FollowOn, IsAt, IsCarved, with_carved, with_pieces}
 use Rattle.iova.specs.Changes.{Retires}
-use Rattle.iova.specs.Pieces.{IsOrdered, part_above, piece_of, with_piece}
+use Rattle.iova.specs.Pieces.{IsOrdered, piece_of}
+use Rattle.piece_tree.specs.Laid.{part_above, with_piece}
 use Rattle.iova.specs.Space.{Space, IsSpace, MayRetire}
-use Rattle.iova.specs.Tree.{rest_below}
-use Rattle.iova.specs.Way.{pages_as}
+use Rattle.piece_tree.specs.Laid.{rest_below}
+use Rattle.iova.specs.Pieces.{pages_as}
 use Rattle.iova.proofs.Taken.{retires}
 use Rattle.iova.proofs.parts.Parts.{above_past, below_before, below_whole, some_page}
 use Rattle.iova.proofs.Shown.{parted}

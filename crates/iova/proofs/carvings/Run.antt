@@ -4,10 +4,10 @@ use Rattle.std.proofs.Common.{Option, Some, None, slice_get, ap, sym, ◌∙◌,
 use Rattle.std.proofs.lemmas.List.{length-drop, take-append-drop}
 use Rattle.dmatypes.specs.Page.{Range}
 use Rattle.dmatypes.specs.World.{IsIn}
-use Rattle.iova.specs.declared.beside.Ends.{Ends}
+use Rattle.iova.specs.declared.ends.Ends.{Ends}
 use Rattle.iova.specs.declared.carved.Stock.{Stock}
-use Rattle.iova.specs.declared.piece.PageState.TheVariants.{Retired}
-use Rattle.iova.specs.declared.piece.Piece.{Piece}
+use Rattle.piece_tree.specs.declared.piece.PageState.TheVariants.{Retired}
+use Rattle.piece_tree.specs.declared.piece.Piece.{Piece}
 use Rattle.iova.specs.Carved.{AreCarved, FollowOn, IsCarved, with_carved, with_pieces}
 use Rattle.iova.specs.Changes.{FreesRun}
 use Rattle.iova.specs.Pieces.{IsRun, piece_of}

@@ -7,11 +7,11 @@ use Rattle.std.proofs.Math.Nat.{zero-mod}
 use Rattle.std.proofs.Math.Pow.{mod-mod-pow, pow_mono}
 use Rattle.iova.specs.declared.carved.Stock.{Stock}
 use Rattle.iova.specs.declared.carved.Sought.{Sought}
-use Rattle.iova.specs.declared.piece.PageState.TheVariants.{Free}
-use Rattle.iova.specs.declared.piece.Piece.{Piece}
+use Rattle.piece_tree.specs.declared.piece.PageState.TheVariants.{Free}
+use Rattle.piece_tree.specs.declared.piece.Piece.{Piece}
 use Rattle.iova.specs.Carved.{AreCarved, FollowOn, IsSought, with_pieces}
 use Rattle.iova.specs.Pieces.{state_at}
-use Rattle.iova.specs.Search.{IsRoundUp}
+use Rattle.piece_tree.specs.Search.{IsRoundUp}
 use Rattle.iova.specs.Space.{Space, IsFit, IsLowestFrom, IsSpace}
 use Rattle.iova.proofs.Pieces.{order}
 use Rattle.iova.proofs.carvings.InPlace.{follow_le}

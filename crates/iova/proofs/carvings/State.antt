@@ -4,14 +4,16 @@ use Rattle.std.proofs.Common.{inr, subst, arith}
 use Rattle.std.proofs.Common.{length-append}
 use Rattle.dmatypes.specs.World.{IsIn}
 use Rattle.iova.specs.declared.carved.Stock.{Stock}
-use Rattle.iova.specs.declared.piece.PageState.{PageState}
-use Rattle.iova.specs.declared.piece.PageState.TheVariants.{Free}
-use Rattle.iova.specs.declared.piece.Piece.{Piece}
-use Rattle.iova.specs.declared.space.TheConstants.{MOST_PIECES}
+use Rattle.piece_tree.specs.declared.piece.PageState.{PageState}
+use Rattle.piece_tree.specs.declared.piece.PageState.TheVariants.{Free}
+use Rattle.piece_tree.specs.declared.piece.Piece.{Piece}
+use Rattle.piece_tree.specs.declared.piece.TheConstants.{MOST_PIECES}
 use Rattle.iova.specs.Carved.{AreCarved, FollowOn, IsCarved, with_carved, with_pieces}
-use Rattle.iova.specs.Pieces.{Holds, IsOrdered, state_at, with_piece}
+use Rattle.piece_tree.specs.Pieces.{Holds}
+use Rattle.iova.specs.Pieces.{IsOrdered, state_at}
+use Rattle.piece_tree.specs.Laid.{with_piece}
 use Rattle.iova.specs.Space.{Space, IsSpace}
-use Rattle.iova.specs.Tree.{rest_below}
+use Rattle.piece_tree.specs.Laid.{rest_below}
 use Rattle.iova.proofs.Pieces.{order, put_past, put_under}
 use Rattle.iova.proofs.Among.{in_append_right, in_le, in_one, in_state, is_apart, put_keeps, put_only}
 use Rattle.iova.proofs.Among.{put_piece}
@@ -42,7 +44,7 @@ carving a chain stock sp c = record {
 -- ---- the first of them
 
 module _ (a : Space) (first last : ℕ) (e : Piece) (es : List Piece) (begin end : ℕ) (c : Carving a first last (e ∷ es) begin end) where
-  abbrev now : Space
+  abbrev pub now : Space
   now = record a { pieces = with_piece e a.pieces }
 
   e_left : e.last < last

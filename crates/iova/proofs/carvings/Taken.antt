@@ -4,17 +4,19 @@ use Rattle.std.proofs.Common.{Option, Some}
 use Rattle.dmatypes.specs.Page.{IsPageRange, Range}
 use Rattle.dmatypes.specs.World.{IsIn}
 use Rattle.dmatypes.specs.declared.page.TheConstants.{MOST_PAGES}
-use Rattle.iova.specs.declared.beside.Ends.{Ends}
+use Rattle.iova.specs.declared.ends.Ends.{Ends}
 use Rattle.iova.specs.declared.carved.Stock.{Stock}
 use Rattle.iova.specs.declared.carved.Sought.{Sought}
-use Rattle.iova.specs.declared.piece.PageState.TheVariants.{Free, Live}
-use Rattle.iova.specs.declared.piece.Piece.{Piece}
-use Rattle.iova.specs.declared.space.TheConstants.{MOST_PIECES, MOST_PIECES_TO_CUT}
+use Rattle.piece_tree.specs.declared.piece.PageState.TheVariants.{Free, Live}
+use Rattle.piece_tree.specs.declared.piece.Piece.{Piece}
+use Rattle.piece_tree.specs.declared.piece.TheConstants.{MOST_PIECES}
+use Rattle.iova.specs.declared.space.TheConstants.{MOST_PIECES_TO_CUT}
 use Rattle.iova.specs.Changes.{Takes}
 use Rattle.iova.specs.Carved.{AreCarved, CanCarve, IsCarved, IsSought, NoneBelow, with_carved, with_pieces}
-use Rattle.iova.specs.Pieces.{AllIn, IsOrdered, NoneFreeBelow, piece_of, with_piece}
+use Rattle.iova.specs.Pieces.{AllIn, IsOrdered, NoneFreeBelow, piece_of}
+use Rattle.piece_tree.specs.Laid.{with_piece}
 use Rattle.iova.specs.Space.{Space, IsSpace, IsTooMany}
-use Rattle.iova.specs.Way.{pages_as}
+use Rattle.iova.specs.Pieces.{pages_as}
 use Rattle.iova.proofs.Among.{in_state}
 use Rattle.iova.proofs.LowestFree.{holding}
 use Rattle.iova.proofs.Taken.{page_range, space_taken, takes}

@@ -1,14 +1,11 @@
--- A piece under a new key, and what is left of a place.
-use Rattle.std.proofs.Common.{◌≡◌, ℕ, ◌+◌, ◌-◌, ◌<◌, ◌≤◌, List, [], ◌∷◌, ◌++◌, length, Option, refl, ap, sym}
+-- What is left of a piece that another is put over.
+use Rattle.std.proofs.Common.{◌≡◌, ℕ, ◌+◌, ◌-◌, ◌<◌, ◌≤◌, List, [], ◌∷◌, ◌++◌, ap, sym}
 use Rattle.std.proofs.Common.{◌∙◌, inl, inr, arith, append-nil}
 use Rattle.std.proofs.lemmas.Bool.Decides.{nat_tests}
-use Rattle.slab.specs.Slab.{Slab, get}
-use Rattle.iova.specs.declared.piece.Piece.{Piece}
-use Rattle.iova.specs.declared.node.Node.{Node}
-use Rattle.iova.specs.declared.node.Top.{Top}
-use Rattle.iova.specs.Pieces.{IsOrdered, part_below, part_above, with_piece}
-use Rattle.iova.specs.Tree.{Shape, items, uses, IsTree, top_of, Makes}
-use Rattle.iova.specs.Tree.{rest_below, rest_above, IsLow, Leaves}
+use Rattle.piece_tree.specs.declared.piece.Piece.{Piece}
+use Rattle.iova.specs.Pieces.{IsOrdered}
+use Rattle.piece_tree.specs.Laid.{part_below, part_above, with_piece}
+use Rattle.piece_tree.specs.Laid.{rest_below, rest_above}
 use Rattle.iova.proofs.Pieces.{order}
 use Rattle.iova.proofs.parts.Parts.{below_within, below_before, below_whole, above_past, above_within, above_whole, ordered_behind}
 
@@ -56,42 +53,3 @@ pub with_over : (from : ℕ) (xs : List Piece) (q : Piece) (ys : List Piece) (p 
 with_over from xs q ys p o h k =
     ap (λ l. l ++ p ∷ part_above p.last (xs ++ q ∷ ys)) (below_meets from xs q ys p.first o h)
     ∙ ap (λ l. (part_below p.first xs ++ rest_below p.first q) ++ p ∷ l) (above_meets from xs q ys p.last o k)
-
--- a tree that stays
-pub stays : (old : Slab Node) (root : Top) (t : Shape) (pieces : List Piece) (more : ℕ) → IsTree (get old) root t
-    → ((k : ℕ) → uses t k ≤ 1) → items t ≡ pieces → Makes old old root t pieces more
-stays old root t pieces more i once e = record {
-  shape = t;
-  tree = i;
-  all = e;
-  once = once;
-  apart = λ k z s. (refl, z);
-  low = omega arith;
-  len = omega (arith, ap (λ ps. length ps) e);
-  capacity = refl;
-}
-
-pub low_stays : (old : Slab Node) (root : Option ℕ) (t : Shape) (pieces : List Piece) (more : ℕ) → IsLow (get old) root t → items t ≡ pieces
-    → Leaves old old root t pieces more
-low_stays old root t pieces more w e = record {
-  top = top_of t;
-  here = sym w.here;
-  makes = stays old (top_of t) t pieces more w.tree w.once e;
-}
-
-pub more_leaves : (old new : Slab Node) (root : Option ℕ) (t : Shape) (pieces : List Piece) → Leaves old new root t pieces 0
-    → Leaves old new root t pieces 1
-more_leaves old new root t pieces v = record {
-  top = v.top;
-  here = v.here;
-  makes = record {
-    shape = v.makes.shape;
-    tree = v.makes.tree;
-    all = v.makes.all;
-    once = v.makes.once;
-    apart = v.makes.apart;
-    low = omega (arith, v.makes.low);
-    len = v.makes.len;
-    capacity = v.makes.capacity;
-  };
-}

@@ -1,8 +1,9 @@
 -- Pieces in order, parted at one of them.
 use Rattle.std.proofs.Common.{◌≡◌, ℕ, ◌+◌, ◌-◌, ◌<◌, ◌≤◌, List, [], ◌∷◌, ◌++◌, ap, sym, ◌∙◌, inl, inr, arith, append-nil}
 use Rattle.std.specs.List.{AllByRecursion}
-use Rattle.iova.specs.declared.piece.Piece.{Piece}
-use Rattle.iova.specs.Pieces.{IsOrdered, part_below, part_above}
+use Rattle.piece_tree.specs.declared.piece.Piece.{Piece}
+use Rattle.iova.specs.Pieces.{IsOrdered}
+use Rattle.piece_tree.specs.Laid.{part_below, part_above}
 use Rattle.iova.proofs.Pieces.{order, part_below-nil, part_below-keep, part_below-cut, part_below-none, part_above-nil, part_above-skip}
 use Rattle.iova.proofs.Pieces.{part_above-cut, part_above-keep, part_below_skip, part_above_skip}
 

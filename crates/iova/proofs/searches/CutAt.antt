@@ -1,16 +1,17 @@
 -- Whether a range cuts a piece, by the pieces of its first and of its last page; and no fit where no piece has room.
-use Rattle.std.proofs.Common.{◌≡◌, ℕ, ◌+◌, ◌<◌, ◌≤◌, ◌⊎◌, List, [], ◌∷◌, ◌++◌, Option, Some, None, IfSome, true, ap, sym}
+use Rattle.std.proofs.Common.{◌≡◌, ℕ, ◌+◌, ◌<◌, ◌≤◌, List, [], ◌∷◌, Option, Some, None, IfSome, true, ap, sym}
 use Rattle.std.proofs.Common.{◌∙◌, ◌↔◌, IsTrue, nat_lt, lt-ltb, ltb-true, inl, inr, subst, arith}
 use Rattle.std.specs.List.{AllByRecursion}
 use Rattle.dmatypes.specs.Page.{Range}
 use Rattle.dmatypes.specs.World.{IsIn}
-use Rattle.iova.specs.declared.piece.Piece.{Piece}
-use Rattle.iova.specs.declared.piece.PageState.TheVariants.{Free}
-use Rattle.iova.specs.Pieces.{Holds, IsOrdered}
+use Rattle.piece_tree.specs.declared.piece.Piece.{Piece}
+use Rattle.piece_tree.specs.declared.piece.PageState.TheVariants.{Free}
+use Rattle.piece_tree.specs.Pieces.{Holds}
+use Rattle.iova.specs.Pieces.{IsOrdered}
 use Rattle.iova.specs.Space.{CutsPiece, IsFit}
-use Rattle.iova.specs.Search.{piece_at, HasNoRoom}
+use Rattle.piece_tree.specs.Pieces.{piece_at}
+use Rattle.piece_tree.specs.Search.{HasNoRoom}
 use Rattle.std.specs.Option.{is_some}
-use Rattle.iova.specs.Tree.{Shape, Empty, Fork, items, ArePieces, IsPiece}
 use Rattle.iova.proofs.Pieces.{order, state-nil}
 use Rattle.iova.proofs.Puts.{none_some}
 use Rattle.iova.proofs.Among.{in_one}
@@ -92,20 +93,6 @@ pub no_fit : (floor from pages unit : ℕ) (ps : List Piece) → IsOrdered from 
 no_fit floor from pages unit [] o pos n t f high = none_some [] t Free (state-nil t) (f.free t (omega arith, omega arith))
 no_fit floor from pages unit (p ∷ ps) o pos n t f high = no_fit floor (p.last + 1) pages unit ps o.3 pos n.1 t
     (fits_tail floor from p ps pages unit t o n.0 pos f high) high
-
-pub in_split : (xs ys : List Piece) (q : Piece) → IsIn q (xs ++ ys) → IsIn q xs ⊎ IsIn q ys
-in_split [] ys q i = inr i
-in_split (x ∷ xs) ys q (inl e) = inl (inl e)
-in_split (x ∷ xs) ys q (inr i) = elim (in_split xs ys q i) [ inl a ↦ inl (inr a) | inr b ↦ inr b ]
-
-pub items_fine : (t : Shape) (q : Piece) → ArePieces t → IsIn q (items t) → IsPiece q
-items_fine Empty q a i = absurd i
-items_fine (Fork k p l r) q a i =
-    elim (in_split (items l) (p ∷ items r) q i) [
-      | inl x ↦ items_fine l q a.1 x
-      | inr (inl e) ↦ subst (λ z. IsPiece z) (sym e) a.0
-      | inr (inr y) ↦ items_fine r q a.2 y
-    ]
 
 pub witness : (o : Option ℕ) (P Q : ℕ → Type 0) → is_some o ≡ true → IfSome o P → IfSome o Q → (x : ℕ) × P x × Q x
 witness None P Q e p q = absurd (cc)

@@ -4,12 +4,13 @@ use Rattle.std.proofs.Common.{inr}
 use Rattle.std.proofs.Common.{refl, arith, IsTrue, false, ◌-◌, ◌^◌, bit_and}
 use Rattle.std.proofs.lemmas.Nat.{and_mask}
 use Rattle.std.proofs.Math.Nat.{div-add-mod, mul-mod_right, mul-le-mul_left, lt_of_mul-lt-mul_left}
-use Rattle.iova.specs.declared.piece.PageState.{PageState}
-use Rattle.iova.specs.declared.piece.PageState.TheVariants.{Free, Live, Retired}
-use Rattle.iova.specs.declared.piece.Piece.{Piece}
-use Rattle.iova.specs.Pieces.{is_free, state_at, Touches, IsOrdered}
+use Rattle.piece_tree.specs.declared.piece.PageState.{PageState}
+use Rattle.piece_tree.specs.declared.piece.PageState.TheVariants.{Free, Live, Retired}
+use Rattle.piece_tree.specs.declared.piece.Piece.{Piece}
+use Rattle.piece_tree.specs.Pieces.{is_free}
+use Rattle.iova.specs.Pieces.{state_at, Touches, IsOrdered}
 use Rattle.iova.specs.Space.{IsFit}
-use Rattle.iova.specs.Search.{IsRoundUp, HasNoRoom}
+use Rattle.piece_tree.specs.Search.{IsRoundUp, HasNoRoom}
 use Rattle.iova.proofs.Pieces.{order, state-here, state-past, state-nil, state_none}
 use Rattle.iova.proofs.Puts.{none_some}
 

@@ -2,12 +2,12 @@
 use Rattle.std.proofs.Common.{◌≡◌, ℕ, ◌+◌, ◌<◌, ◌≤◌, List, [], ◌∷◌, Some, ap, sym, ◌∙◌, inl, inr, subst}
 use Rattle.std.proofs.Common.{arith}
 use Rattle.dmatypes.specs.World.{IsIn}
-use Rattle.iova.specs.declared.piece.Piece.{Piece}
-use Rattle.iova.specs.declared.piece.PageState.TheVariants.{Free}
+use Rattle.piece_tree.specs.declared.piece.Piece.{Piece}
+use Rattle.piece_tree.specs.declared.piece.PageState.TheVariants.{Free}
 use Rattle.iova.specs.Pieces.{IsOrdered, free_start, free_end}
 use Rattle.iova.specs.Space.{Space, IsSpace}
-use Rattle.iova.specs.Search.{piece_at}
-use Rattle.iova.specs.Tree.{IsPiece}
+use Rattle.piece_tree.specs.Pieces.{piece_at}
+use Rattle.piece_tree.specs.Pieces.{IsPiece}
 use Rattle.iova.proofs.Among.{in_le}
 use Rattle.iova.proofs.FreeRange.{free_start-other, free_start-nil, free_end-other, free_end-nil}
 use Rattle.iova.proofs.Freed.{one_run}

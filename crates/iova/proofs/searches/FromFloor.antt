@@ -1,7 +1,7 @@
 -- The lowest start at or above a floor, or else of all.
 use Rattle.std.proofs.Common.{◌≡◌, ℕ, ◌≤◌, List, inl, inr, arith}
-use Rattle.iova.specs.declared.piece.PageState.TheVariants.{Free}
-use Rattle.iova.specs.declared.piece.Piece.{Piece}
+use Rattle.piece_tree.specs.declared.piece.PageState.TheVariants.{Free}
+use Rattle.piece_tree.specs.declared.piece.Piece.{Piece}
 use Rattle.iova.specs.Pieces.{IsOrdered}
 use Rattle.iova.specs.Space.{IsFit, IsLowestFit, IsLowestFrom}
 use Rattle.iova.proofs.Pieces.{order, state_none}

@@ -3,20 +3,18 @@ use Rattle.std.proofs.Common.{◌≡◌, ◌≢◌, ℕ, ◌+◌, ◌<◌, ◌�
 use Rattle.std.proofs.Common.{refl, ap, sym, ◌∙◌, inl, inr, subst, arith}
 use Rattle.std.proofs.lemmas.List.{append_assoc}
 use Rattle.std.specs.List.{AllByRecursion}
-use Rattle.slab.specs.Slab.{Slab, get}
-use Rattle.iova.specs.declared.beside.Ends.{Ends}
-use Rattle.iova.specs.declared.node.Node.{Node}
-use Rattle.iova.specs.declared.node.TheConstants.{NUMBERS_END}
-use Rattle.iova.specs.declared.piece.PageState.TheVariants.{Free}
-use Rattle.iova.specs.declared.piece.Piece.{Piece}
+use Rattle.iova.specs.declared.ends.Ends.{Ends}
+use Rattle.piece_tree.specs.declared.piece.TheConstants.{NUMBERS_END}
+use Rattle.piece_tree.specs.declared.piece.PageState.TheVariants.{Free}
+use Rattle.piece_tree.specs.declared.piece.Piece.{Piece}
 use Rattle.iova.specs.Pieces.{IsOrdered}
-use Rattle.iova.specs.Search.{first_or, pieces_from}
-use Rattle.iova.specs.Stored.{CanList, IsFirstOrNone, IsListed, TakesPlace, pieces_of, with_freed}
-use Rattle.iova.specs.Tree.{Shape, IsBelow, items}
-use Rattle.iova.specs.Way.{pages_as}
+use Rattle.piece_tree.specs.Search.{first_or, pieces_from}
+use Rattle.iova.specs.Stored.{CanList, IsFirstOrNone, TakesPlace, with_freed}
+use Rattle.piece_tree.specs.Pieces.{AreSorted}
+use Rattle.iova.specs.Pieces.{pages_as}
 use Rattle.iova.proofs.Pieces.{order}
 use Rattle.iova.proofs.parts.Parts.{first_from, some_page}
-use Rattle.iova.proofs.searches.Walked.{from-here, from-nil, from-past, from_before, from_behind, from_found, listed_is, listed_piece}
+use Rattle.iova.proofs.searches.Walked.{from-here, from-nil, from-past, from_before, from_behind, from_found, from_narrow}
 
 -- those that begin below the page are none of them
 from_all_below : (xs ys : List Piece) (page : ℕ) → AllByRecursion (λ p. p.first < page) xs
@@ -97,33 +95,27 @@ module _ (ends : Ends) (ps : List Piece) (o : IsOrdered 1 ps) (new : IsOrdered 1
 
 -- ---- the pieces of a space
 
-module _ (nodes : Slab Node) (root : Option ℕ) (page : ℕ) (found : Option Piece)
-    (is : (t : Shape) (from : ℕ) → IsBelow (get nodes) root t from → found ≡ first_of page (items t)) where
+module _ (ps : List Piece) (page : ℕ) (found : Option Piece) (is : found ≡ first_of page ps) where
   abbrev first_shown : Option Ends → Option Piece
-  first_shown freed = first_of page (with_freed freed (pieces_of nodes root))
+  first_shown freed = first_of page (with_freed freed ps)
 
-  found_is : (freed : Option Ends) → CanList nodes root freed page → found ≡ first_of page (pieces_of nodes root)
-  found_is freed c = is c.listed.shape 1 c.listed.below ∙ sym (ap (first_of page) (listed_is nodes root c.listed))
-
-  found_answers : (ends : Ends) → CanList nodes root (Some ends) page → Answers ends found (first_shown (Some ends))
+  found_answers : (ends : Ends) → CanList ps (Some ends) page → Answers ends found (first_shown (Some ends))
   found_answers ends c =
-      let ps = pieces_of nodes root in
-      let o : IsOrdered 1 ps = subst (λ l. IsOrdered 1 l) (sym (listed_is nodes root c.listed)) c.listed.below.whole.ordered in
-      subst (λ f. Answers ends f (first_shown (Some ends))) (sym (found_is (Some ends) c)) (elim c.outside [
-        | inl h ↦ answers_under ends ps o c.ordered c.place page h
-        | inr h ↦ answers_past ends ps o c.ordered c.place page h
+      subst (λ f. Answers ends f (first_shown (Some ends))) (sym is) (elim c.outside [
+        | inl h ↦ answers_under ends ps c.kept c.ordered c.place page h
+        | inr h ↦ answers_past ends ps c.kept c.ordered c.place page h
       ])
 
-  pub shown_none : (freed : Option Ends) → CanList nodes root freed page → found ≡ None → first_shown freed ≡ None
-  shown_none None c e = sym (found_is None c) ∙ e
+  pub shown_none : (freed : Option Ends) → CanList ps freed page → found ≡ None → first_shown freed ≡ None
+  shown_none None c e = sym is ∙ e
   shown_none (Some ends) c e = elim (found_answers ends c) [ inl a ↦ absurd (let f = a.1 in cc) | inr a ↦ a.0 ∙ e ]
 
   module _ (p : Piece) (e : found ≡ Some p) where
-    found_narrow : (l : IsListed nodes root) → p.last < NUMBERS_END
-    found_narrow l = (listed_piece nodes root page p l (sym (is l.shape 1 l.below) ∙ e)).1
+    found_narrow : AreSorted 0 ps → p.last < NUMBERS_END
+    found_narrow s = (from_narrow ps page p s (sym is ∙ e)).1
 
     -- it begins where the free one does, and that is shown
-    pub shown_freed : (ends : Ends) → CanList nodes root (Some ends) page → p.first ≡ ends.first
+    pub shown_freed : (ends : Ends) → CanList ps (Some ends) page → p.first ≡ ends.first
         → first_shown (Some ends) ≡ Some (pages_as ends Free)
     shown_freed ends c h = elim (found_answers ends c) [ inl a ↦ a.3 | inr a ↦ absurd ((a.1 p e).0 h) ]
 
@@ -131,14 +123,14 @@ module _ (nodes : Slab Node) (root : Option ℕ) (page : ℕ) (found : Option Pi
     pub record ShowsSame (freed : Option Ends) : Type 0 where
       pub first : first_shown freed ≡ Some p
       pub narrow : p.last < NUMBERS_END
-      pub goes_on : CanList nodes root freed (p.last + 1)
+      pub goes_on : CanList ps freed (p.last + 1)
 
-    pub shown_same : (freed : Option Ends) → CanList nodes root freed page → ((ends : Ends) → freed ≡ Some ends → p.first ≢ ends.first)
+    pub shown_same : (freed : Option Ends) → CanList ps freed page → ((ends : Ends) → freed ≡ Some ends → p.first ≢ ends.first)
         → ShowsSame freed
     shown_same None c h = record {
-      first = sym (found_is None c) ∙ e;
-      narrow = found_narrow c.listed;
-      goes_on = record { listed = c.listed; ordered = c.ordered; place = tt; narrow = tt; outside = tt };
+      first = sym is ∙ e;
+      narrow = found_narrow c.sorted;
+      goes_on = record { kept = c.kept; sorted = c.sorted; ordered = c.ordered; place = tt; narrow = tt; outside = tt };
     }
     shown_same (Some ends) c h =
         let s : (first_shown (Some ends) ≡ Some p) × IsFirstOrNone ends (p.last + 1) = elim (found_answers ends c) [
@@ -147,6 +139,13 @@ module _ (nodes : Slab Node) (root : Option ℕ) (page : ℕ) (found : Option Pi
         ] in
         record {
           first = s.0;
-          narrow = found_narrow c.listed;
-          goes_on = record { listed = c.listed; ordered = c.ordered; place = c.place; narrow = c.narrow; outside = s.1 };
+          narrow = found_narrow c.sorted;
+          goes_on = record {
+            kept = c.kept;
+            sorted = c.sorted;
+            ordered = c.ordered;
+            place = c.place;
+            narrow = c.narrow;
+            outside = s.1;
+          };
         }

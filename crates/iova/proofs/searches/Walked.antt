@@ -1,18 +1,13 @@
 -- The pieces from a page on.
 use Rattle.std.proofs.Common.{◌≡◌, ℕ, ◌+◌, ◌<◌, ◌≤◌, List, [], ◌∷◌, ◌++◌, Option, Some, None, refl, ap, sym, ◌∙◌, inl, inr, subst, arith}
 use Rattle.std.proofs.lemmas.Bool.Decides.{nat_tests}
-use Rattle.slab.specs.Slab.{Slab, get}
-use Rattle.iova.specs.declared.piece.Piece.{Piece}
-use Rattle.iova.specs.declared.node.Node.{Node}
+use Rattle.piece_tree.specs.declared.piece.Piece.{Piece}
 use Rattle.iova.specs.Pieces.{IsOrdered}
-use Rattle.iova.specs.Search.{first_or, pieces_from}
-use Rattle.iova.specs.Stored.{IsListed, pieces_of}
-use Rattle.iova.specs.Tree.{Look, Shape, Fork, items, height_of, IsBelow, IsPiece, at_root}
+use Rattle.piece_tree.specs.Search.{first_or, pieces_from}
+use Rattle.piece_tree.specs.Pieces.{AreSorted, IsPiece}
 use Rattle.iova.proofs.Pieces.{order}
 use Rattle.iova.proofs.parts.Parts.{first_from}
-use Rattle.iova.proofs.searches.Found.{Passes, passes, one_tree, empty_items, node_height, search_height}
-use Rattle.iova.proofs.shapes.Tall.{contents_is}
-use Rattle.iova.proofs.searches.CutAt.{items_fine}
+use Rattle.iova.proofs.Sorted.{sorted_in}
 use Rattle.dmatypes.specs.World.{IsIn}
 
 pub from-nil : (page : ℕ) → pieces_from page [] ≡ []
@@ -97,69 +92,7 @@ from_none (x ∷ xs) page e =
       | inr k ↦ from-past x xs page k ∙ from_none xs page (sym (ap (λ ps. first_or ps None) (from-past x xs page k)) ∙ e)
     ]
 
--- ---- down a tree
-
--- what is left of a way down to the first piece from a page on
-pub record IsLeft (look : Look) (root now : Option ℕ) (page : ℕ) (found : Option Piece) : Type 0 where
-  pub t : Shape
-  pub from : ℕ
-  pub below : IsBelow look now t from
-  pub same : (s : Shape) (start : ℕ) → IsBelow look root s start
-      → first_or (pieces_from page (items s)) None ≡ first_or (pieces_from page (items t)) found
-
-pub left_start : (look : Look) (root : Option ℕ) (page : ℕ) (t : Shape) (from : ℕ) → IsBelow look root t from
-    → IsLeft look root root page None
-left_start look root page t from w = record {
-  t = t;
-  from = from;
-  below = w;
-  same = λ s start v. ap (λ ps. first_or (pieces_from page ps) None)
-      (one_tree look root s t v.here v.whole.tree.nodes w.here w.whole.tree.nodes);
-}
-
-module _ (look : Look) (root now : Option ℕ) (page key : ℕ) (found : Option Piece) (node : Node) (i : IsLeft look root now page found)
-    (e : now ≡ Some key)
-    (f : look key ≡ Some node) where
-  s : Passes look key node i.t i.from
-  s = passes look now key node i.t i.from i.below e f
-
-  pub left-falls : (node_height (at_root look node.left) < node_height (at_root look now))
-      × (node_height (at_root look node.right) < node_height (at_root look now))
-  left-falls =
-      let a = search_height look node.left s.l i.from s.before in
-      let b = search_height look node.right s.r (node.piece.last + 1) s.behind in
-      let c = search_height look now i.t i.from i.below in
-      let d : height_of i.t ≡ height_of (Fork key node.piece s.l s.r) = ap height_of s.is in
-      (omega arith, omega arith)
-
-  pub left-right : node.piece.first < page → IsLeft look root node.right page found
-  left-right h = record {
-    t = s.r;
-    from = node.piece.last + 1;
-    below = s.behind;
-    same = λ x start v. i.same x start v ∙ ap (λ y. first_or (pieces_from page (items y)) found) s.is
-        ∙ ap (λ ps. first_or ps found) (from_behind i.from (items s.l) node.piece (items s.r) page s.ordered h);
-  }
-
-  pub left-left : page ≤ node.piece.first → IsLeft look root node.left page (Some node.piece)
-  left-left h = record {
-    t = s.l;
-    from = i.from;
-    below = s.before;
-    same = λ x start v. i.same x start v ∙ ap (λ y. first_or (pieces_from page (items y)) found) s.is
-        ∙ from_before (items s.l) node.piece (items s.r) page found h;
-  }
-
-pub left-end : (look : Look) (root now : Option ℕ) (page : ℕ) (found : Option Piece) → IsLeft look root now page found → now ≡ None
-    → (x : Shape) (start : ℕ) → IsBelow look root x start → found ≡ first_or (pieces_from page (items x)) None
-left-end look root now page found i e x start v =
-    sym (i.same x start v ∙ ap (λ ps. first_or (pieces_from page ps) found) (empty_items now i.t i.below.here e)
-    ∙ ap (λ ps. first_or ps found) (from-nil page))
-
--- ---- the pieces of a space
-
-pub listed_is : (nodes : Slab Node) (root : Option ℕ) (i : IsListed nodes root) → pieces_of nodes root ≡ items i.shape
-listed_is nodes root i = contents_is (get nodes) 14 root i.shape i.below.here i.below.whole.tree.nodes i.height
+-- ---- what is found
 
 from_in : (ps : List Piece) (page : ℕ) (p : Piece) → first_or (pieces_from page ps) None ≡ Some p → IsIn p ps
 from_in [] page p e = absurd (let f : first_or (pieces_from page []) None ≡ None = ap (λ ps. first_or ps None) (from-nil page) in cc)
@@ -172,6 +105,6 @@ from_in (x ∷ xs) page p e =
       | inr k ↦ inr (from_in xs page p (sym (ap (λ ps. first_or ps None) (from-past x xs page k)) ∙ e))
     ]
 
-pub listed_piece : (nodes : Slab Node) (root : Option ℕ) (page : ℕ) (p : Piece) (i : IsListed nodes root)
-    → first_or (pieces_from page (items i.shape)) None ≡ Some p → IsPiece p
-listed_piece nodes root page p i e = items_fine i.shape p i.below.whole.tree.pieces (from_in (items i.shape) page p e)
+-- what is found is the number of a page
+pub from_narrow : (ps : List Piece) (page : ℕ) (p : Piece) → AreSorted 0 ps → first_or (pieces_from page ps) None ≡ Some p → IsPiece p
+from_narrow ps page p s e = sorted_in 0 ps p s (from_in ps page p e)

@@ -1,7 +1,7 @@
 use Rattle.std.proofs.Common.{◌≡◌, ◌≤◌, ◌∙◌, ◌∷◌, ◌++◌, [], ap, sym, subst, arith}
 use Rattle.dmatypes.specs.Page.{Range}
 use Rattle.iova.specs.declared.carved.Stock.{Stock}
-use Rattle.iova.specs.declared.piece.PageState.TheVariants.{Live}
+use Rattle.piece_tree.specs.declared.piece.PageState.TheVariants.{Live}
 use Rattle.iova.specs.Carved.{AreCarved, with_carved}
 use Rattle.iova.specs.Changes.{Takes}
 use Rattle.iova.specs.Pieces.{piece_of}
@@ -41,11 +41,11 @@ returns-clause-taken c =
     let a : Space = c.args.tree.now in
     let f = c.args.found in
     let least = c.least_sought-sought.ensures in
-    let stock : Stock = record { pages = f.known.pages; sought = c.least_sought-sought.result } in
+    let stock : Stock = record { pages = f.pages; sought = c.least_sought-sought.result } in
     let above : c.least_sought-sought.result.floor ≤ f.start = omega (arith, least.floor, c.if-start-sought.false) in
-    let free = uncarved a c.requires.space f.known.pages c.least_sought-sought.result least.sought f.start c.args.sought.pages
+    let free = uncarved a c.requires.space f.pages c.least_sought-sought.result least.sought f.start c.args.sought.pages
     c.requires.there least.none above c.requires.inside.0 (omega (arith, c.if-is_short.false, c.requires.sought.some)) in
-    let can = can_carve a c.requires.space f.known.pages c.least_sought-sought.result least.sought f.start c.args.sought.pages
+    let can = can_carve a c.requires.space f.pages c.least_sought-sought.result least.sought f.start c.args.sought.pages
     c.requires.there least.none above c.requires.inside.0 (omega (arith, c.if-is_short.false, c.requires.sought.some)) in
     let is : c.carve.new.self.chain ≡ piece_of (record { first = f.start; pages = c.args.sought.pages }) Live ∷ [] =
     c.carve.ensures.carved c.if-not-carve.false
@@ -58,11 +58,11 @@ returns-clause-carved c =
     let a : Space = c.args.tree.now in
     let f = c.args.found in
     let least = c.least_sought-sought.ensures in
-    let stock : Stock = record { pages = f.known.pages; sought = c.least_sought-sought.result } in
+    let stock : Stock = record { pages = f.pages; sought = c.least_sought-sought.result } in
     let above : c.least_sought-sought.result.floor ≤ f.start = omega (arith, least.floor, c.if-start-sought.false) in
-    let free = uncarved a c.requires.space f.known.pages c.least_sought-sought.result least.sought f.start c.args.sought.pages
+    let free = uncarved a c.requires.space f.pages c.least_sought-sought.result least.sought f.start c.args.sought.pages
     c.requires.there least.none above c.requires.inside.0 (omega (arith, c.if-is_short.false, c.requires.sought.some)) in
-    let can = can_carve a c.requires.space f.known.pages c.least_sought-sought.result least.sought f.start c.args.sought.pages
+    let can = can_carve a c.requires.space f.pages c.least_sought-sought.result least.sought f.start c.args.sought.pages
     c.requires.there least.none above c.requires.inside.0 (omega (arith, c.if-is_short.false, c.requires.sought.some)) in
     let is : c.carve.new.self.chain ≡ piece_of (record { first = f.start; pages = c.args.sought.pages }) Live ∷ [] =
     c.carve.ensures.carved c.if-not-carve.false

@@ -1,6 +1,6 @@
 use Rattle.std.proofs.Common.{rules, ◌∙◌, sym, ap, arith, nat_lt}
 use Rattle.std.proofs.lemmas.List.Sorted.{IsPartitionPoint-from_clause}
-use Rattle.iova.specs.declared.piece.PageState.TheVariants.{Free}
+use Rattle.piece_tree.specs.declared.piece.PageState.TheVariants.{Free}
 use Rattle.iova.proofs.carvings.PieceAt.{at_point, none_at_point, ends_parted, follow_ordered}
 use Rattle.iova.proofs.carved.search.Goals as goal
 

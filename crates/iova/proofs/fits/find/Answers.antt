@@ -1,72 +1,60 @@
-use Rattle.std.proofs.Common.{◌≡◌, ◌+◌, ◌≤◌, ℕ, IfSome, IfNone, Option, List, Some, None, arith, subst, sym}
-use Rattle.std.specs.List.{AllByRecursion}
-use Rattle.slab.specs.Slab.{Slab}
-use Rattle.dmatypes.specs.Page.{Range}
-use Rattle.dmatypes.specs.World.{IsIn}
-use Rattle.iova.specs.declared.node.Node.{Node}
-use Rattle.iova.specs.declared.node.TheConstants.{NUMBERS_END}
-use Rattle.iova.specs.declared.piece.PageState.TheVariants.{Free}
-use Rattle.iova.specs.declared.piece.Piece.{Piece}
-use Rattle.iova.specs.declared.way.Spot.{Spot}
-use Rattle.iova.specs.Pieces.{AllIn, IsOrdered}
-use Rattle.iova.specs.Search.{IsFound, HasNoRoom}
+use Rattle.std.proofs.Common.{◌≡◌, ◌∙◌, ℕ, IfNone, ap, arith, subst, sym}
+use Rattle.piece_tree.specs.declared.piece.Piece.{Piece}
 use Rattle.iova.specs.Space.{IsFit, IsLowestFrom}
-use Rattle.iova.specs.Stored.{IsTreeOf, pieces_of}
-use Rattle.iova.proofs.LowestFree.{holding_all}
-use Rattle.iova.proofs.searches.CutAt.{items_fine, no_fit}
+use Rattle.iova.proofs.searches.CutAt.{no_fit}
+use Rattle.iova.proofs.searches.FirstLong.{found_long, pages_long, short_no_room}
+use Rattle.iova.proofs.searches.FitPiece.{as_free, fit_piece, fit_piece_some}
+use Rattle.iova.proofs.searches.Fit.{free_state}
 use Rattle.iova.proofs.searches.Found.{found_lowest}
 use Rattle.iova.proofs.searches.FromFloor.{from_first}
-use Rattle.iova.proofs.shapes.Tall.{kept_below}
+use Rattle.iova.proofs.searches.Narrow.{in_middle}
 use Rattle.iova.proofs.fits.find.Goals as goal
 
--- the first of all is the lowest from a floor that no page is below
-lowest : (o : Option Spot) (floor pages unit : ℕ) (ps : List Piece) → IsOrdered 1 ps → 1 ≤ pages → floor ≡ 1 → unit ≡ 1
-    → IfSome o (λ s. IsFound 0 pages 1 ps s.start) → IfSome o (λ s. IsLowestFrom floor ps pages unit s.start)
-lowest None floor pages unit ps o pos e g f = tt
-lowest (Some s) floor pages unit ps o pos e g f =
-    subst (λ u. IsLowestFrom floor ps pages u s.start) (sym g)
-    (from_first floor pages 1 s.start ps (omega arith) o pos (found_lowest 1 pages 1 ps s.start o pos f))
-
-none : (o : Option Spot) (pages unit : ℕ) (ps : List Piece) → IsOrdered 1 ps → 1 ≤ pages → unit ≡ 1
-    → IfNone o (AllByRecursion (HasNoRoom 0 pages 1) ps) → IfNone o ((start : ℕ) → IsFit ps pages unit start → ⊥)
-none None pages unit ps o pos g f =
-    subst (λ u. (start : ℕ) → IsFit ps pages u start → ⊥) (sym g) (λ start fit. no_fit 0 1 pages 1 ps o pos f start fit (omega arith))
-none (Some s) pages unit ps o pos g f = tt
-
--- the numbers of free pages are below the end of the numbers
-narrow : (root : Option ℕ) (nodes : Slab Node) (range : Range) → IsTreeOf root nodes (pieces_of nodes root)
-    → IsOrdered 1 (pieces_of nodes root) → 1 ≤ range.pages → AllIn Free range (pieces_of nodes root)
-    → range.first + range.pages ≤ NUMBERS_END
-narrow root nodes range k o some free =
-    let q = holding_all (pieces_of nodes root) range o some free in
-    let i = items_fine k.shape q.0 k.tree.pieces (subst (λ l. IsIn q.0 l) (sym k.all) q.1) in
-    omega (arith, i.1, q.4)
+pub returns-in_err-piece-clause-none : goal.returns-in_err-piece-clause-none
+returns-in_err-piece-clause-none c =
+    let ps = c.args.tree.now in
+    let pages = c.args.sought.pages in
+    subst (λ o. IfNone o ((start : ℕ) → IsFit ps pages c.args.sought.unit start → ⊥)) (sym c.from_residual.ensures)
+    (subst (λ u. (start : ℕ) → IsFit ps pages u start → ⊥) (sym c.if-sought-eq1.true)
+    (λ start fit. no_fit 0 1 pages 1 ps c.requires.ordered c.requires.sought.some (short_no_room pages ps c.in_err-piece.ensures.none)
+    start fit
+    (omega arith)))
 
 pub returns-then-sought-eq1-2-clause-lowest : goal.returns-then-sought-eq1-2-clause-lowest
 returns-then-sought-eq1-2-clause-lowest c =
-    let ps = pieces_of c.args.nodes.now c.args.root in
-    lowest c.first_free.result c.args.sought.floor c.args.sought.pages c.args.sought.unit ps c.requires.ordered c.requires.sought.some
-    c.if-sought-eq1-2.true c.if-sought-eq1.true
-    (subst (λ l. IfSome c.first_free.result (λ s. IsFound 0 c.args.sought.pages 1 l s.start)) c.requires.kept.all
-    (c.first_free.ensures.found c.requires.kept.shape 1
-    (kept_below c.args.root c.args.nodes.now ps c.requires.kept c.requires.ordered)))
+    let ps = c.args.tree.now in
+    let pages = c.args.sought.pages in
+    let p = c.in_ok-piece.piece in
+    subst (λ u. IsLowestFrom c.args.sought.floor ps pages u p.first) (sym c.if-sought-eq1.true)
+    (from_first c.args.sought.floor pages 1 p.first ps (omega (arith, c.if-sought-eq1-2.true)) c.requires.ordered c.requires.sought.some
+    (found_lowest 1 pages 1 ps p.first c.requires.ordered c.requires.sought.some
+    (found_long pages ps p c.requires.sought.some c.in_ok-piece.ensures.some)))
 
-pub returns-then-sought-eq1-2-clause-none : goal.returns-then-sought-eq1-2-clause-none
-returns-then-sought-eq1-2-clause-none c =
-    let ps = pieces_of c.args.nodes.now c.args.root in
-    none c.first_free.result c.args.sought.pages c.args.sought.unit ps c.requires.ordered c.requires.sought.some c.if-sought-eq1.true
-    (subst (λ l. IfNone c.first_free.result (AllByRecursion (HasNoRoom 0 c.args.sought.pages 1) l)) c.requires.kept.all
-    (c.first_free.ensures.none c.requires.kept.shape 1
-    (kept_below c.args.root c.args.nodes.now ps c.requires.kept c.requires.ordered)))
+pub returns-then-sought-eq1-2-clause-there : goal.returns-then-sought-eq1-2-clause-there
+returns-then-sought-eq1-2-clause-there c =
+    let ps = c.args.tree.now in
+    let p = c.in_ok-piece.piece in
+    let long = c.in_ok-piece.ensures.some in
+    let whole = pages_long p c.args.sought.pages c.requires.sought.some long.long in
+    as_free c.of.result p ps c.of.ensures (free_state p.state whole.0) (in_middle ps long.before p long.behind long.parts)
 
-pub overflow_add-piece : goal.overflow_add-piece
-overflow_add-piece c =
-    let n = narrow c.args.root c.args.nodes.now (record { first = c.in_ok-start.start; pages = c.args.sought.pages }) c.requires.kept
-    c.requires.ordered c.requires.sought.some c.in_ok-start.ensures.lowest.fit.free in
-    omega (arith, n)
+pub unreachable-requires : goal.unreachable-requires
+unreachable-requires c =
+    fit_piece_some (record { first = c.in_ok-start.start; pages = c.args.sought.pages }) c.args.tree.now c.requires.ordered
+    c.requires.sought.some c.in_ok-start.ensures.lowest.fit.free (sym c.seek.ensures.piece ∙ c.in_default.is)
 
-pub walk-place-requires-clause-piece : goal.walk-place-requires-clause-piece
-walk-place-requires-clause-piece c =
-    let n = narrow c.args.root c.args.nodes.now (record { first = c.in_ok-start.start; pages = c.args.sought.pages }) c.requires.kept
-    c.requires.ordered c.requires.sought.some c.in_ok-start.ensures.lowest.fit.free in
-    (omega (arith, c.requires.sought.some), omega (arith, c.requires.sought.some, n))
+pub returns-clause-there : goal.returns-clause-there
+returns-clause-there c =
+    let p = c.in-Some.piece in
+    let around = fit_piece (record { first = c.in_ok-start.start; pages = c.args.sought.pages }) c.args.tree.now c.requires.ordered
+    c.requires.sought.some c.in_ok-start.ensures.lowest.fit.free p (sym c.seek.ensures.piece ∙ c.in-Some.is) in
+    as_free c.of-2.result p c.args.tree.now c.of-2.ensures around.free around.there
+
+pub returns-clause-inside : goal.returns-clause-inside
+returns-clause-inside c =
+    let p = c.in-Some.piece in
+    let around = fit_piece (record { first = c.in_ok-start.start; pages = c.args.sought.pages }) c.args.tree.now c.requires.ordered
+    c.requires.sought.some c.in_ok-start.ensures.lowest.fit.free p (sym c.seek.ensures.piece ∙ c.in-Some.is) in
+    let a : c.of-2.result.first ≡ p.first = ap (λ (q : Piece). q.first) c.of-2.ensures in
+    let b : c.of-2.result.last ≡ p.last = ap (λ (q : Piece). q.last) c.of-2.ensures in
+    (omega (arith, a, around.low), omega (arith, b, around.high))

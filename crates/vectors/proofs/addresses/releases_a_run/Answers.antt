@@ -1,7 +1,7 @@
 use Rattle.std.proofs.Common.{rules, ◌≡◌, refl, ap, inl, inr, arith}
 use Rattle.dmatypes.specs.Page.{Range}
 use Rattle.dmatypes.specs.World.{IsIn}
-use Rattle.iova.specs.declared.piece.PageState.TheVariants.{Retired}
+use Rattle.piece_tree.specs.declared.piece.PageState.TheVariants.{Retired}
 use Rattle.iova.specs.Pieces.{piece_of}
 use Rattle.iova.proofs.Pieces.{order}
 use Rattle.vectors.proofs.addresses.releases_a_run.Goals as goal

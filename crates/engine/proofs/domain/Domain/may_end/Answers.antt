@@ -4,7 +4,7 @@ use Rattle.dmatypes.specs.Page.{Fits, IsWithin, Range}
 use Rattle.iova.specs.Pieces.{AllIn, state_at}
 use Rattle.iova.specs.Refusals.{refusal_of_retire}
 use Rattle.iova.specs.Space.{IsTooMany}
-use Rattle.iova.specs.declared.piece.PageState.TheVariants.{Live}
+use Rattle.piece_tree.specs.declared.piece.PageState.TheVariants.{Live}
 use Rattle.iova.specs.declared.space.RetireError.{RetireError}
 use Rattle.iova.specs.declared.space.RetireError.TheVariants as retires
 use Rattle.tables.specs.Pool.{Pool}

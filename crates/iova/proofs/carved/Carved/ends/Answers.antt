@@ -1,5 +1,5 @@
 use Rattle.std.proofs.Common.{◌-◌, List, length, slice_get, ap, sym, ◌∙◌}
-use Rattle.iova.specs.declared.piece.Piece.{Piece}
+use Rattle.piece_tree.specs.declared.piece.Piece.{Piece}
 use Rattle.iova.proofs.carvings.At.{follow_got}
 use Rattle.iova.proofs.carved.Carved.ends.Goals as goal
 

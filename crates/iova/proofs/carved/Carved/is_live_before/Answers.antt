@@ -1,7 +1,7 @@
 use Rattle.std.proofs.Common.{ap, sym, ◌∙◌, get_or, subst}
 use Rattle.iova.specs.Carved.{IsAt}
-use Rattle.iova.specs.declared.piece.PageState.TheVariants.{Free}
-use Rattle.iova.specs.declared.piece.Piece.{Piece}
+use Rattle.piece_tree.specs.declared.piece.PageState.TheVariants.{Free}
+use Rattle.piece_tree.specs.declared.piece.Piece.{Piece}
 use Rattle.iova.proofs.carvings.At.{live_there}
 use Rattle.iova.proofs.carved.Carved.is_live_before.Goals as goal
 

@@ -1,6 +1,6 @@
 use Rattle.std.proofs.Common.{◌≡◌, ◌+◌, ◌%◌, max, sym, subst, arith}
 use Rattle.iova.specs.Carved.{with_pieces}
-use Rattle.iova.specs.Search.{IsRoundUp}
+use Rattle.piece_tree.specs.Search.{IsRoundUp}
 use Rattle.iova.specs.Space.{IsLowestFrom}
 use Rattle.iova.proofs.carvings.Carved.{stock_narrow, carved_in, same_ends}
 use Rattle.iova.proofs.carvings.Sought.{digits_zero, first_lowest, is_more, next_lowest, some_carved, unit_small}

@@ -1,6 +1,6 @@
 use Rattle.std.proofs.Common.{◌≡◌, ◌+◌, ◌-◌, ◌++◌, List, [], ◌∷◌, refl, sym, ◌∙◌, subst, arith}
 use Rattle.iova.specs.declared.carved.Stock.{Stock}
-use Rattle.iova.specs.declared.piece.Piece.{Piece}
+use Rattle.piece_tree.specs.declared.piece.Piece.{Piece}
 use Rattle.iova.specs.Carved.{AreCarved, FollowOn, free_of, in_place_of, with_pieces}
 use Rattle.iova.proofs.carvings.Carved.{stock_narrow, carved_in, chain_within, same_ends}
 use Rattle.iova.proofs.carvings.Placed.{Between, all_placed}

@@ -1,11 +1,11 @@
 use Rattle.std.proofs.Common.{◌≡◌, ℕ, ◌+◌, List, ◌∷◌, ◌++◌, drop, length, get_or, slice_set, ap, sym, ◌∙◌}
 use Rattle.std.proofs.Math.Seq.{get_or-append_seam, set-append_seam}
 use Rattle.std.proofs.lemmas.List.{drop-set-add, get_or-drop}
-use Rattle.iova.specs.declared.beside.Ends.{Ends}
-use Rattle.iova.specs.declared.piece.PageState.{PageState}
-use Rattle.iova.specs.declared.piece.PageState.TheVariants.{Retired}
-use Rattle.iova.specs.declared.piece.Piece.{Piece}
-use Rattle.iova.specs.Way.{pages_as}
+use Rattle.iova.specs.declared.ends.Ends.{Ends}
+use Rattle.piece_tree.specs.declared.piece.PageState.{PageState}
+use Rattle.piece_tree.specs.declared.piece.PageState.TheVariants.{Retired}
+use Rattle.piece_tree.specs.declared.piece.Piece.{Piece}
+use Rattle.iova.specs.Pieces.{pages_as}
 use Rattle.iova.proofs.chain.Chain.retire.Goals as goal
 
 -- the piece at a place behind the first few is made retired

@@ -1,5 +1,5 @@
 use Rattle.std.proofs.Common.{◌≡◌, ◌+◌, ◌-◌, Option, Some, IfSome, subst, arith}
-use Rattle.iova.specs.declared.piece.Piece.{Piece}
+use Rattle.piece_tree.specs.declared.piece.Piece.{Piece}
 use Rattle.iova.proofs.searches.CutAt.{cut_by_first, cut_by_last}
 use Rattle.iova.proofs.space.Space.cuts_piece.Goals as goal
 

@@ -1,6 +1,6 @@
 use Rattle.std.proofs.Common.{◌≡◌, ◌∙◌, refl, subst}
 use Rattle.dmatypes.specs.World.{IsIn}
-use Rattle.iova.specs.declared.piece.PageState.TheVariants.{Live}
+use Rattle.piece_tree.specs.declared.piece.PageState.TheVariants.{Live}
 use Rattle.iova.specs.Pieces.{piece_of}
 use Rattle.iova.specs.Space.{Space, MayRetire}
 use Rattle.iova.proofs.carvings.Ends.{as_piece, live_may}

@@ -1,11 +1,11 @@
 use Rattle.std.proofs.Common.{◌≡◌, ◌≢◌, ℕ, ◌⊎◌, inl, inr, ◌∙◌, Option, Some, None, IfSome, IfNone, ap, sym, subst}
 use Rattle.dmatypes.specs.World.{IsIn}
-use Rattle.iova.specs.declared.piece.PageState.{PageState}
-use Rattle.iova.specs.declared.piece.PageState.TheVariants.{Free, Live, Retired}
-use Rattle.iova.specs.declared.piece.Piece.{Piece}
+use Rattle.piece_tree.specs.declared.piece.PageState.{PageState}
+use Rattle.piece_tree.specs.declared.piece.PageState.TheVariants.{Free, Live, Retired}
+use Rattle.piece_tree.specs.declared.piece.Piece.{Piece}
 use Rattle.iova.specs.Carved.{FollowOn}
 use Rattle.iova.specs.Pieces.{state_at}
-use Rattle.iova.specs.Search.{piece_at}
+use Rattle.piece_tree.specs.Pieces.{piece_at}
 use Rattle.iova.specs.Space.{Space, IsSpace}
 use Rattle.iova.proofs.carvings.PageIn.{found_in, found_state, lies_as, stays_in}
 use Rattle.iova.proofs.carvings.State.{follows, view_space}

@@ -2,7 +2,7 @@ use Rattle.std.proofs.Common.{◌≡◌, ◌≢◌, ◌∙◌, Some, refl, sym, 
 use Rattle.iova.proofs.carvings.Ends.{live_may}
 use Rattle.iova.proofs.carvings.State.{follows}
 use Rattle.dmatypes.specs.Page.{IsWithin, Range}
-use Rattle.iova.specs.declared.piece.PageState.TheVariants.{Live}
+use Rattle.piece_tree.specs.declared.piece.PageState.TheVariants.{Live}
 use Rattle.iova.specs.Pieces.{state_at}
 use Rattle.iova.proofs.Taken.{same_range}
 use Rattle.iova.proofs.searches.CutAt.{witness}

@@ -1,5 +1,5 @@
 use Rattle.std.proofs.Common.{◌≡◌, ℕ, ◌-◌, ◌<◌, ◌≤◌, Some}
-use Rattle.iova.specs.declared.piece.PageState.TheVariants.{Live}
+use Rattle.piece_tree.specs.declared.piece.PageState.TheVariants.{Live}
 use Rattle.iova.specs.Pieces.{state_at}
 use Rattle.iova.proofs.space.Space.not_live.Given as goal
 

@@ -1,9 +1,9 @@
 use Rattle.std.proofs.Common.{◌≡◌, ℕ, List, [], ◌∷◌, ◌++◌, ◌==◌, Bool, true, false, if◌then◌else◌, Option, None, length}
 use Rattle.std.proofs.Common.{◌∙◌, refl, ap, subst, sym, arith}
 use Rattle.std.proofs.lemmas.Bool.Decides.{nat_tests}
-use Rattle.iova.specs.declared.beside.Ends.{Ends}
+use Rattle.iova.specs.declared.ends.Ends.{Ends}
 use Rattle.iova.specs.declared.carved.Parts.{Parts}
-use Rattle.iova.specs.declared.piece.Piece.{Piece}
+use Rattle.piece_tree.specs.declared.piece.Piece.{Piece}
 use Rattle.iova.specs.Carved.{free_of, in_place_of, with_carved, with_pieces}
 use Rattle.iova.specs.Space.{Space, IsSpace}
 use Rattle.iova.proofs.carvings.State.{view_space}

@@ -1,5 +1,5 @@
 use Rattle.std.proofs.Common.{◌≡◌, ◌∙◌, sym, subst}
-use Rattle.iova.specs.declared.piece.PageState.TheVariants.{Retired}
+use Rattle.piece_tree.specs.declared.piece.PageState.TheVariants.{Retired}
 use Rattle.iova.specs.Carved.{with_carved}
 use Rattle.iova.specs.Pieces.{IsRun, piece_of}
 use Rattle.iova.specs.Space.{Space, MayRetire}

@@ -1,6 +1,6 @@
 use Rattle.std.proofs.Common.{◌≡◌, ◌∙◌, Some, None, ap, refl, sym, subst}
 use Rattle.iova.specs.Pieces.{state_at}
-use Rattle.iova.specs.Search.{piece_at}
+use Rattle.piece_tree.specs.Pieces.{piece_at}
 use Rattle.iova.specs.Space.{Space, IsSpace}
 use Rattle.iova.proofs.carvings.PageIn.{found_state, lies_as}
 use Rattle.iova.proofs.carvings.State.{view_space}

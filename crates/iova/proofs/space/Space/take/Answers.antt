@@ -1,5 +1,5 @@
 use Rattle.std.proofs.Common.{◌≡◌, ◌^◌, ◌*◌, ◌%◌, ◌≤◌, ℕ, List, Result, Ok, Err, IfOk, sym, subst, arith}
-use Rattle.iova.specs.declared.piece.Piece.{Piece}
+use Rattle.piece_tree.specs.declared.piece.Piece.{Piece}
 use Rattle.iova.specs.Pieces.{IsOrdered}
 use Rattle.iova.specs.Space.{IsLowestFit, IsLowestFrom}
 use Rattle.iova.proofs.Taken.{unit_is}

@@ -1,6 +1,6 @@
 use Rattle.std.proofs.Common.{sym, subst, arith}
 use Rattle.dmatypes.specs.Page.{IsPageRange}
-use Rattle.iova.specs.declared.piece.PageState.TheVariants.{Free}
+use Rattle.piece_tree.specs.declared.piece.PageState.TheVariants.{Free}
 use Rattle.iova.proofs.Taken.{page_range, start_is}
 use Rattle.iova.proofs.carvings.State.{view_space}
 use Rattle.iova.proofs.space.Space.take_sought.Goals as goal

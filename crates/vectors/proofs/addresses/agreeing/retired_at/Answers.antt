@@ -1,8 +1,8 @@
 use Rattle.std.proofs.Common.{◌≡◌, ◌+◌, ◌-◌, ◌≤◌, Option, None, Some, IfSome, inl, inr, refl, ap, sym, subst, arith, ◌∙◌}
 use Rattle.dmatypes.specs.Page.{Range}
 use Rattle.dmatypes.specs.World.{IsIn}
-use Rattle.iova.specs.declared.piece.Piece.{Piece}
-use Rattle.iova.specs.declared.piece.PageState.TheVariants.{Retired}
+use Rattle.piece_tree.specs.declared.piece.Piece.{Piece}
+use Rattle.piece_tree.specs.declared.piece.PageState.TheVariants.{Retired}
 use Rattle.iova.specs.Pieces.{piece_of}
 use Rattle.vectors.proofs.addresses.agreeing.retired_at.Goals as goal
 

@@ -2,7 +2,7 @@ use Rattle.std.proofs.Common.{◌≡◌, ◌-◌, Option, None, Some, IsSome, If
 use Rattle.std.proofs.lemmas.Bool.{cases_lt}
 use Rattle.dmatypes.specs.Page.{Range}
 use Rattle.dmatypes.specs.World.{IsIn}
-use Rattle.iova.specs.declared.piece.PageState.TheVariants.{Retired}
+use Rattle.piece_tree.specs.declared.piece.PageState.TheVariants.{Retired}
 use Rattle.iova.specs.Pieces.{IsRun, piece_of}
 use Rattle.vectors.proofs.addresses.agreeing.retired_run.Goals as goal
 

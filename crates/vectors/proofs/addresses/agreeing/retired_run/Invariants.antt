@@ -1,8 +1,8 @@
 use Rattle.std.proofs.Common.{◌≡◌, ℕ, ◌<◌, ◌≤◌, length}
 use Rattle.dmatypes.specs.World.{IsIn}
-use Rattle.iova.specs.Pieces.{Holds}
-use Rattle.iova.specs.declared.piece.Piece.{Piece}
-use Rattle.iova.specs.declared.piece.PageState.TheVariants.{Retired}
+use Rattle.piece_tree.specs.Pieces.{Holds}
+use Rattle.piece_tree.specs.declared.piece.Piece.{Piece}
+use Rattle.piece_tree.specs.declared.piece.PageState.TheVariants.{Retired}
 use Rattle.vectors.proofs.addresses.agreeing.retired_run.Given as goal
 
 -- the pieces that are left are pieces of the space, and each page of the run lies in a retired piece of it that is within the run
