@@ -17,3 +17,4 @@ pub mod Trees
 pub mod Fills
 pub mod Moments
 pub mod Detached
+pub mod Stepped

@@ -2,3 +2,4 @@ pub mod Ways
 pub mod Effects
 pub mod Laws
 pub mod Telling
+pub mod UpTo

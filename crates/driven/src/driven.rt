@@ -1,6 +1,6 @@
 //! A state that tells what each call asks.
 
-ghost use Rattle.std.specs.Prelude.{◌≡◌, ◌+◌, ◌<◌, ◌≤◌, [], length, IfOk, true, false};
+ghost use Rattle.std.specs.Prelude.{◌≡◌, ◌+◌, ◌<◌, ◌≤◌, ◌↔◌, [], length, IfOk, IfSome, IsNone, true, false};
 ghost use Rattle.dmatypes.specs.Conditions.{total_pages};
 ghost use Rattle.dmatypes.specs.declared.call.Call.TheVariants as calls;
 ghost use Rattle.dmatypes.specs.declared.page.TheConstants.{MOST_PAGES};
@@ -13,11 +13,13 @@ ghost use Rattle.engine.specs.Steps.{Does};
 ghost use Rattle.engine.specs.Quarantine.{Quarantine};
 ghost use Rattle.dmatypes.specs.World.{empty};
 ghost use Rattle.driven.specs.Effects.{AreEffects, DetachesAll};
+ghost use Rattle.driven.specs.UpTo.{DoesUpTo};
 ghost use Rattle.driven.specs.declared.telling.TheConstants.{MOST_EFFECTS};
 
 use crate::detaching::{tell_detach, tell_flush};
 use crate::effect::Effect;
 use crate::noting::{Noted, note_map, note_unmap, tell_map, tell_unmap};
+use crate::stepping::do_oldest;
 use crate::telling::{Effects, bring_frames, send};
 use arrayvec::ArrayVec;
 use dmatypes::{
@@ -28,7 +30,8 @@ use std::alloc::{AllocError, Global};
 use std::marker::Model;
 
 /// A state whose tables and queue a unit reads that isn't its own, and what the last call asks of whoever brings them there (own). Each
-/// call does what the state's call of the same name does, and `detach_all` two of them. None takes memory.
+/// call does what the state's call of the same name does; `detach_all` does two of them, and `done_up_to` steps of the unit. None takes
+/// memory.
 #[derive(Drop)]
 pub struct Driven {
     // In a place of its own, since it is large and whoever has a driven state moves it.
@@ -227,6 +230,28 @@ impl Driven {
         let state: &mut State = &mut self.state;
         state.keeps();
         state.unit_step()
+    }
+
+    /// Does what waits up to the wait of this number, as by `unit_step`: once the unit has done that wait. Answers how many descriptors it
+    /// did, each by a call. Answers `None` exactly where no such wait was sent, and changes nothing then. It asks nothing.
+    pub fn done_up_to(&mut self, wait: u64) -> Option<u64>
+        requires { self.old.state.calls + length self.old.state.iommu.ring.waiting ≤ CALLS_END }
+        ensures none { IsNone result ↔ self.old.state.iommu.sent < wait }
+        ensures same { IsNone result → self.new ≡ self.old }
+        ensures does { IfSome result (λ steps. DoesUpTo self.old.state wait steps self.new.state) }
+        ensures tells { self.new.tells ≡ self.old.tells }
+        ensures quiet { IfSome result (λ steps. self.new.effects ≡ []) }
+    {
+        let Driven { state, effects, .. } = self;
+        let state: &mut State = state;
+        state.keeps();
+        let later = state.waits().checked_sub(wait)?;
+        // A descriptor and a wait were sent for each wait after it.
+        let steps = state.totals().pending.saturating_sub(2 * later);
+        do_oldest(state, steps);
+        state.keeps();
+        effects.clear();
+        Some(steps)
     }
 
     /// A device's request at a byte address, made of the state's own unit as by `State::dma`: the host byte address with the frame and the

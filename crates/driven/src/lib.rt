@@ -7,6 +7,7 @@ mod driven;
 mod effect;
 pub mod laws;
 mod noting;
+mod stepping;
 mod telling;
 #[cfg(test)]
 mod tests;

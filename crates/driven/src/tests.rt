@@ -1,7 +1,9 @@
 //! What calls ask, effect by effect.
 
+ghost use Rattle.std.specs.Prelude.{◌+◌, ◌<◌, ◌≤◌};
+
 use crate::{Driven, Effect};
-use dmatypes::{Access, Cache, Frame, Mode, Refusal, Whim, Width};
+use dmatypes::{Access, Cache, Frame, Mode, Progress, Refusal, Whim, Width};
 use std::test::Fail;
 
 // The words of a descriptor and of the first wait.
@@ -144,5 +146,41 @@ fn requests_and_evictions_ask_nothing(rt: HostRuntime) -> Result<(), Fail> {
     assert_eq!(rt; driven.attach(4, 1), Ok(()));
     driven.evict(Cache::Leaf, 0);
     assert!(rt; driven.effects().is_empty());
+    Ok(())
+}
+
+// As `done_up_to` does it, in a state with calls enough left: no more descriptors wait than those of 64 tickets.
+fn done(driven: &mut Driven, wait: u64) -> Option<u64>
+    requires { driven.old.state.calls < 2000 }
+    ensures { driven.new.state.calls ≤ driven.old.state.calls + 128 }
+{
+    driven.state().keeps();
+    driven.done_up_to(wait)
+}
+
+#[test]
+fn what_waits_is_done_up_to_a_wait(rt: HostRuntime) -> Result<(), Fail> {
+    let mut driven = Driven::new(rt.alloc(), 16, false)?;
+    assert_eq!(rt; driven.domain(Mode::Lazy, Width::W39), Ok(1));
+    assert_eq!(rt; done(&mut driven, 0), Some(0));
+    assert_eq!(rt; done(&mut driven, 1), None);
+    assert_eq!(rt; driven.begin(1), Ok(1));
+    assert_eq!(rt; driven.begin(1), Ok(2));
+    assert_eq!(rt; driven.begin(1), Ok(3));
+    // What the last call asks stays where the wait was never sent.
+    assert_eq!(rt; done(&mut driven, 4), None);
+    assert_eq!(rt; driven.effects().len(), 2);
+    assert_eq!(rt; done(&mut driven, 0), Some(0));
+    assert!(rt; driven.effects().is_empty());
+    assert_eq!(rt; done(&mut driven, 1), Some(2));
+    assert_eq!(rt; driven.reap(1, 2), Ok(None));
+    assert_eq!(rt; driven.reap(1, 1), Ok(Some(0)));
+    assert_eq!(rt; driven.unit_step(), Progress::Did);
+    assert_eq!(rt; done(&mut driven, 1), Some(0));
+    assert_eq!(rt; done(&mut driven, 2), Some(1));
+    assert_eq!(rt; done(&mut driven, 3), Some(2));
+    assert_eq!(rt; done(&mut driven, 3), Some(0));
+    assert_eq!(rt; driven.reap(1, 3), Ok(Some(0)));
+    assert_eq!(rt; driven.unit_step(), Progress::Idle);
     Ok(())
 }

@@ -1,4 +1,4 @@
-use Rattle.std.proofs.Common.{true, ◌∙◌, refl, ap}
+use Rattle.std.proofs.Common.{true, refl}
 use Rattle.std.proofs.lemmas.Result.{err_from_is_err_and}
 use Rattle.dmatypes.specs.declared.call.Call.TheVariants as calls
 use Rattle.dmatypes.specs.declared.reply.Reply.TheVariants as replies

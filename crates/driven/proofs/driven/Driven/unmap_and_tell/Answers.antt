@@ -1,5 +1,5 @@
 use Rattle.std.proofs.Common.{◌≡◌, ℕ, zero, suc, ◌+◌, ◌-◌, ◌/◌, ◌<◌, ◌≤◌, ◌⊎◌, inl, inr, true, List, ◌++◌, length, Option, None, Some}
-use Rattle.std.proofs.Common.{◌∙◌, refl, sym, ap, subst, arith}
+use Rattle.std.proofs.Common.{◌∙◌, refl, sym, subst, arith}
 use Rattle.std.specs.Prelude.{IfSome, IsNone}
 use Rattle.std.proofs.lemmas.Result.{err_from_is_err_and}
 use Rattle.dmatypes.specs.Page.{IsPageRange, range_at}
