@@ -55,7 +55,8 @@
  * that names it, is how the code is.
  *
  * IT DOES NOT WEAR OUT. A manager answers VTDM_CALLS_END calls, 2^56, and VTDM_SPENT to each further one, since its counts have 64
- * bits. Nobody gets there: at a billion calls a second it takes more than two years. Readers are not counted.
+ * bits. Nobody gets there: at a billion calls a second it takes more than two years. Readers are not counted; vtdm_detach_all counts
+ * for two calls, and vtdm_done_up_to for each step of the unit.
  *
  * WAITING. A call returns when the unit has done what the call needs of it. Two calls leave work for later: vtdm_begin, and
  * vtdm_unmap in a lazy domain. Of a manager of vtdm_create_driven that is the library's own unit: where a function says *when it
@@ -154,7 +155,8 @@ enum vtdm_status {
     VTDM_NO_DESCRIPTOR = 73, /* vtdm_sent: none was sent so long ago, or the queue holds it no more */
     VTDM_NOT_DRIVEN = 74,    /* vtdm_effects: the manager was not made by vtdm_create_driven */
     VTDM_FEW_PLACES = 75,    /* vtdm_effects: there are more effects than places */
-    VTDM_BAD_ADDRESS = 76    /* vtdm_create_driven: the status address is no multiple of 4 */
+    VTDM_BAD_ADDRESS = 76,   /* vtdm_create_driven: the status address is no multiple of 4 */
+    VTDM_NO_WAIT = 77        /* vtdm_done_up_to: no wait of this number was sent */
 };
 
 /* What a device may do with a page: one of these, or both by `|`. */
@@ -250,6 +252,11 @@ struct vtdm_answer vtdm_begin(struct vtdm *manager, uint64_t domain);
 /* Has the unit do the first descriptor of its queue. Answers 1 where it did one, 0 where the queue was empty. */
 struct vtdm_answer vtdm_unit(struct vtdm *manager);
 
+/* Has the unit do its queue up to the wait of this number (vtdm_waits), and answers how many descriptors it did: each counts as a call, and
+ * there is none where the wait is done already. After it there are no effects. VTDM_SPENT also where fewer calls are left than descriptors
+ * wait. VTDM_NO_WAIT. */
+struct vtdm_answer vtdm_done_up_to(struct vtdm *manager, uint64_t wait);
+
 /* Ends a begun flush, by domain and number of its ticket: releases the ranges that were retired before it was begun, answers how many
  * there were, and closes the ticket. At VTDM_PENDING let the unit work (vtdm_unit, or any call that waits for it), and reap again.
  * VTDM_BAD_TICKET, VTDM_PENDING. */
@@ -329,9 +336,9 @@ struct vtdm_answer vtdm_width_of(struct vtdm *manager, uint64_t domain);
  * domain with VTDM_MOST_RECORDS retired ranges (vtdm_domain_totals): call vtdm_flush before, with its effects.
  *
  * WHERE A CALL NEEDS MORE.
- *  - vtdm_dma, vtdm_evict and vtdm_unit are of the library's own unit here too. They have no effects.
- *  - vtdm_begin asks for no wait. Before vtdm_reap let the library's unit do what yours has done, and no more. S is the number of the
- *    last wait that yours has done: call vtdm_unit as long as `pending` of vtdm_totals is above 2 * (vtdm_waits - S).
+ *  - vtdm_dma, vtdm_evict, vtdm_unit and vtdm_done_up_to are of the library's own unit here too. They have no effects.
+ *  - vtdm_begin asks for no wait. Before vtdm_reap let the library's unit do what yours has done, and no more: call vtdm_done_up_to with
+ *    the number of the last wait that yours has done.
  *  - A detach sends the descriptor of the context alone. Where your unit finds cached translations by the device too, use
  *    vtdm_detach_all.
  *  - An attach sends nothing, and a unit with Caching Mode may remember that the device had no context entry. So after its effects give
@@ -372,8 +379,9 @@ struct vtdm_effect {
 
 /* Tells what the last call asks: writes its effects to the first places of `to`, and answers how many there are, 0 to VTDM_MOST_EFFECTS.
  * They are told once: after that there are none until the next call. The next call that is counted forgets those that nobody took, also
- * where it is refused, and then there are none; VTDM_SPENT, VTDM_MANY_SEGMENTS and VTDM_BAD_CACHE leave them. It is not counted itself.
- * Where they are more than `count`, it writes nothing, and they can be taken still. VTDM_ABSENT, VTDM_NOT_DRIVEN, VTDM_FEW_PLACES. */
+ * where it is refused, and then there are none; VTDM_SPENT, VTDM_MANY_SEGMENTS, VTDM_BAD_CACHE and VTDM_NO_WAIT leave them. It is not
+ * counted itself. Where they are more than `count`, it writes nothing, and they can be taken still. VTDM_ABSENT, VTDM_NOT_DRIVEN,
+ * VTDM_FEW_PLACES. */
 struct vtdm_answer vtdm_effects(struct vtdm *manager, struct vtdm_effect *to, size_t count);
 
 /* The number of the table frame that is the root of a domain. VTDM_NO_DOMAIN. */

@@ -244,8 +244,8 @@ static void begin_some(struct vtdm *manager) {
 static void reap_some(struct vtdm *manager) {
     if (!begun)
         return;
-    while (vtdm_totals(manager).pending > 2 * (waits_sent - unit_waits))
-        ANSWERS(followed(manager, vtdm_unit(manager)), VTDM_OK, 1);
+    CHECK(followed(manager, vtdm_done_up_to(manager, unit_waits)).status == VTDM_OK);
+    CHECK(vtdm_totals(manager).pending <= 2 * (waits_sent - unit_waits));
     size_t one = pick(begun);
     struct vtdm_answer answer = followed(manager, vtdm_reap(manager, tickets[one].domain, tickets[one].number));
     CHECK(answer.status == VTDM_OK || (answer.status == VTDM_PENDING && unit_tail != unit_head));

@@ -160,15 +160,15 @@ static void words_in_order(uint64_t frames, enum creation how) {
 
 /* Every function but the creations. */
 enum function {
-    DOMAIN, DOMAIN_WIDE, DROP, ATTACH, DETACH, DETACH_ALL, MAP, MAP_LIST, UNMAP, FLUSH, BEGIN, UNIT, REAP, DMA, EVICT,
+    DOMAIN, DOMAIN_WIDE, DROP, ATTACH, DETACH, DETACH_ALL, MAP, MAP_LIST, UNMAP, FLUSH, BEGIN, UNIT, DONE_UP_TO, REAP, DMA, EVICT,
     TOTALS, DOMAIN_TOTALS, DOMAIN_OF, DEVICES_OF, MODE_OF, WIDTH_OF, EFFECTS, ROOT_OF, TABLE_WORD, WORDS,
     CONTEXT, SENT, WAITS, DESTROY, FUNCTIONS
 };
 
 static const char *const names[FUNCTIONS] = {
-    "domain", "domain_wide", "drop", "attach", "detach", "detach_all", "map", "map_list", "unmap", "flush", "begin", "unit", "reap", "dma",
-    "evict", "totals", "domain_totals", "domain_of", "devices_of", "mode_of", "width_of", "effects", "root_of", "table_word", "words",
-    "context", "sent", "waits", "destroy",
+    "domain", "domain_wide", "drop", "attach", "detach", "detach_all", "map", "map_list", "unmap", "flush", "begin", "unit", "done_up_to",
+    "reap", "dma", "evict", "totals", "domain_totals", "domain_of", "devices_of", "mode_of", "width_of", "effects", "root_of", "table_word",
+    "words", "context", "sent", "waits", "destroy",
 };
 
 /* How often each function was called, and how often it answered VTDM_OK. */
@@ -262,6 +262,7 @@ static uint64_t call(struct vtdm *manager, enum function function) {
     case FLUSH: return vtdm_flush(manager, any_domain()).status;
     case BEGIN: return begin(manager);
     case UNIT: return vtdm_unit(manager).status;
+    case DONE_UP_TO: return vtdm_done_up_to(manager, vtdm_waits(manager).value + 1 - pick(4)).status;
     case REAP: return reap(manager);
     case DMA: return request(manager);
     case EVICT: return vtdm_evict(manager, pick(4), pick(64)).status;

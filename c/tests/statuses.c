@@ -23,6 +23,7 @@ static void check_absent(struct vtdm *manager) {
     ANSWERS(vtdm_flush(manager, 1), VTDM_ABSENT, 0);
     ANSWERS(vtdm_begin(manager, 1), VTDM_ABSENT, 0);
     ANSWERS(vtdm_unit(manager), VTDM_ABSENT, 0);
+    ANSWERS(vtdm_done_up_to(manager, 0), VTDM_ABSENT, 0);
     ANSWERS(vtdm_reap(manager, 1, 1), VTDM_ABSENT, 0);
     ANSWERS(vtdm_dma(manager, 0, 0x1000, false, true, true), VTDM_ABSENT, 0);
     ANSWERS(vtdm_evict(manager, VTDM_CACHE_LEAF, 0), VTDM_ABSENT, 0);
@@ -386,6 +387,35 @@ static void check_effects(void) {
     ANSWERS(vtdm_effects(&manager, effects, VTDM_MOST_EFFECTS), VTDM_ABSENT, 0);
 }
 
+/* What waits is done up to a wait: some of it, all, nothing where that is done already or where the wait was never sent. */
+static void check_done_up_to(void) {
+    struct vtdm manager = VTDM_INIT;
+    CHECK(vtdm_create_driven(&manager, 64, false, 0) == VTDM_OK);
+    ANSWERS(vtdm_domain(&manager, true), VTDM_OK, 1);
+    ANSWERS(vtdm_done_up_to(&manager, 0), VTDM_OK, 0);
+    ANSWERS(vtdm_done_up_to(&manager, 1), VTDM_NO_WAIT, 0);
+    for (uint64_t number = 1; number <= 4; number++)
+        ANSWERS(vtdm_begin(&manager, 1), VTDM_OK, number);
+    ANSWERS(vtdm_done_up_to(&manager, 5), VTDM_NO_WAIT, 0);
+    ANSWERS(vtdm_done_up_to(&manager, UINT64_MAX), VTDM_NO_WAIT, 0);
+    ANSWERS(vtdm_effects(&manager, (struct vtdm_effect[]){none}, 0), VTDM_FEW_PLACES, 0);
+    ANSWERS(vtdm_done_up_to(&manager, 0), VTDM_OK, 0);
+    ANSWERS(vtdm_effects(&manager, (struct vtdm_effect[]){none}, 0), VTDM_OK, 0);
+    CHECK(vtdm_totals(&manager).pending == 8);
+    ANSWERS(vtdm_done_up_to(&manager, 2), VTDM_OK, 4);
+    ANSWERS(vtdm_reap(&manager, 1, 3), VTDM_PENDING, 0);
+    ANSWERS(vtdm_reap(&manager, 1, 2), VTDM_OK, 0);
+    ANSWERS(vtdm_unit(&manager), VTDM_OK, 1);
+    ANSWERS(vtdm_done_up_to(&manager, 2), VTDM_OK, 0);
+    ANSWERS(vtdm_done_up_to(&manager, 3), VTDM_OK, 1);
+    ANSWERS(vtdm_reap(&manager, 1, 4), VTDM_PENDING, 0);
+    ANSWERS(vtdm_done_up_to(&manager, 4), VTDM_OK, 2);
+    ANSWERS(vtdm_reap(&manager, 1, 4), VTDM_OK, 0);
+    ANSWERS(vtdm_unit(&manager), VTDM_OK, 0);
+    ANSWERS(vtdm_done_up_to(&manager, 5), VTDM_NO_WAIT, 0);
+    vtdm_destroy(&manager);
+}
+
 /* The struct is as at its beginning. */
 static bool is_empty(const struct vtdm *manager) {
     return manager->at == NULL && !manager->live;
@@ -437,6 +467,7 @@ int main(void) {
     check_not_driven(false);
     check_not_driven(true);
     check_effects();
+    check_done_up_to();
     check_addresses();
     CHECK(vtdm_totals(&other).free == 4096);
     vtdm_destroy(&manager);

@@ -285,7 +285,7 @@ static void tickets(void) {
     text("reap before the wait is done");
     verdict(vtdm_reap(&manager, 2, ticket).status == VTDM_PENDING);
     unit_step();
-    vtdm_unit(&manager);
+    unit_tell_done(&manager);
     called("reap", vtdm_reap(&manager, 2, ticket));
     requests(B, page);
 }

@@ -79,6 +79,12 @@ bool unit_step(void) {
     return true;
 }
 
+/* Of the number of a wait its status is the low 32 bits. */
+void unit_tell_done(struct vtdm *manager) {
+    uint64_t sent = vtdm_waits(manager).value;
+    vtdm_done_up_to(manager, sent - (uint32_t)(sent - *word32(unit.status)));
+}
+
 void unit_forget(uint64_t domain) {
     queue(0xe2 | domain << 16, 0); /* IOTLB invalidate, domain-selective, both drained */
     wait_apart();

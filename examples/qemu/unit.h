@@ -23,6 +23,9 @@ void unit_follow(struct vtdm *manager);
 /* Lets the unit do the next descriptor that is queued, if there is one. */
 bool unit_step(void);
 
+/* Has the library's unit do what this one has done, up to its last wait. */
+void unit_tell_done(struct vtdm *manager);
+
 /* Has the unit forget what it cached of a domain, or that a device had no context entry, by a descriptor that the manager hasn't sent. */
 void unit_forget(uint64_t domain);
 void unit_forget_absence(uint64_t device);

@@ -12,13 +12,14 @@ use Rattle.engine.specs.State.{IsNew, State, flushed_reply}
 use Rattle.engine.specs.Steps.{Does}
 use Rattle.dmatypes.specs.declared.refusal.Refusal.{Refusal}
 use Rattle.driven.specs.Effects.{AreEffects, DetachesAll}
+use Rattle.driven.specs.UpTo.{DoesUpTo}
 use Rattle.driven.specs.declared.telling.TheConstants.{MOST_EFFECTS}
 use Rattle.vtdm_c.specs.Answers.{answer_of, lone, told}
 use Rattle.vtdm_c.specs.Effects.{AreTold}
 use Rattle.vtdm_c.specs.Segments.{named}
 use Rattle.vtdm_c.specs.declared.answer.Answer.{Answer}
 use Rattle.vtdm_c.specs.declared.answer.TheConstants.Answer.{ABSENT, BAD_ADDRESS, BAD_CACHE, BAD_FRAMES, FEW_PLACES, MANY_SEGMENTS}
-use Rattle.vtdm_c.specs.declared.answer.TheConstants.Answer.{NOT_DRIVEN, NO_MEMORY, OK, PRESENT, SPENT}
+use Rattle.vtdm_c.specs.declared.answer.TheConstants.Answer.{NOT_DRIVEN, NO_MEMORY, NO_WAIT, OK, PRESENT, SPENT}
 use Rattle.vtdm_c.specs.declared.effect.Effect.{Effect}
 use Rattle.vtdm_c.specs.declared.segments.Segment.{Segment}
 use Rattle.vtdm_c.specs.declared.session.Session.{Session}
@@ -47,6 +48,14 @@ pub record AnsweredAll (s : Session) (device : ℕ) (answer : Answer) (t : Sessi
       → (result : Result ℕ Refusal) × (answer ≡ answer_of (flushed_reply result))
       × DetachesAll (state_of s) device result (state_of t) t.driven.effects × IsSame s t
 
+-- what waits up to a wait that was sent is done, where a call for each that waits can be answered still. After it nothing is asked
+pub record AnsweredUpTo (s : Session) (wait : ℕ) (answer : Answer) (t : Session) : Type 0 where
+  pub spent : CALLS_END < (state_of s).calls + length (state_of s).iommu.ring.waiting → (answer ≡ lone SPENT) × (t ≡ s)
+  pub none : (state_of s).calls + length (state_of s).iommu.ring.waiting ≤ CALLS_END → (state_of s).iommu.sent < wait
+      → (answer ≡ lone NO_WAIT) × (t ≡ s)
+  pub does : (state_of s).calls + length (state_of s).iommu.ring.waiting ≤ CALLS_END → wait ≤ (state_of s).iommu.sent
+      → (steps : ℕ) × (answer ≡ told steps) × DoesUpTo (state_of s) wait steps (state_of t) × (t.driven.effects ≡ []) × IsSame s t
+
 -- what the last call asks is told once; where there are fewer places for it, it can be told still
 pub record Takes (s : Session) (old : List Effect) (answer : Answer) (new : List Effect) (t : Session) : Type 0 where
   pub alone : s.driven.tells ≡ false → (answer ≡ lone NOT_DRIVEN) × (new ≡ old) × (t ≡ s)
@@ -73,6 +82,11 @@ abbrev pub CallsAll : Option Session → ℕ → Answer → Option Session → T
 CallsAll None device answer after = (answer ≡ lone ABSENT) × (after ≡ None)
 CallsAll (Some s) device answer None = ⊥
 CallsAll (Some s) device answer (Some t) = AnsweredAll s device answer t
+
+abbrev pub CallsUpTo : Option Session → ℕ → Answer → Option Session → Type 0
+CallsUpTo None wait answer after = (answer ≡ lone ABSENT) × (after ≡ None)
+CallsUpTo (Some s) wait answer None = ⊥
+CallsUpTo (Some s) wait answer (Some t) = AnsweredUpTo s wait answer t
 
 abbrev pub TakesAt : Option Session → List Effect → Answer → List Effect → Option Session → Type 0
 TakesAt None old answer new after = (answer ≡ lone ABSENT) × (new ≡ old) × (after ≡ None)

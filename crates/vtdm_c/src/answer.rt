@@ -55,6 +55,8 @@ impl Answer {
     pub const FEW_PLACES: u64 = 75;
     /// The address of the waits' status is no multiple of 4.
     pub const BAD_ADDRESS: u64 = 76;
+    /// No wait of this number was sent.
+    pub const NO_WAIT: u64 = 77;
 
     /// A status with no number.
     pub(crate) fn lone(status: u64) -> Answer

@@ -7,7 +7,7 @@ ghost use Rattle.dmatypes.specs.declared.refusal.Refusal.{Refusal};
 ghost use Rattle.dmatypes.specs.declared.refusal.Refusal.TheVariants as refusals;
 ghost use Rattle.vtdm_c.specs.declared.answer.TheConstants.Answer.{ABSENT, BAD_ADDRESS, BAD_CACHE, BAD_FRAMES, FAULTS, FEW_PLACES};
 ghost use Rattle.vtdm_c.specs.declared.answer.TheConstants.Answer.{MANY_SEGMENTS, NOT_ATTACHED, NOT_DRIVEN, NO_DESCRIPTOR, NO_DEVICE};
-ghost use Rattle.vtdm_c.specs.declared.answer.TheConstants.Answer.{NO_DOMAIN, NO_MEMORY, NO_WORD, OK, PENDING, PRESENT, SPENT};
+ghost use Rattle.vtdm_c.specs.declared.answer.TheConstants.Answer.{NO_DOMAIN, NO_MEMORY, NO_WAIT, NO_WORD, OK, PENDING, PRESENT, SPENT};
 
 /// A status names one thing: no two refusals have the same, and no two faults; those of refusals lie behind that of a call
 /// that was done and before those of faults, and these before those of the interface itself, which ascend too. What a reader
@@ -19,7 +19,8 @@ pub fn statuses()
     ensures faults_apart { (f g : Fault) → FAULTS + fault_number f ≡ FAULTS + fault_number g → f ≡ g }
     ensures own { (ABSENT < SPENT) × (SPENT < PRESENT) × (PRESENT < BAD_FRAMES) × (BAD_FRAMES < NO_MEMORY)
         × (NO_MEMORY < MANY_SEGMENTS) × (MANY_SEGMENTS < PENDING) × (PENDING < NO_WORD) × (NO_WORD < BAD_CACHE)
-        × (BAD_CACHE < NO_DESCRIPTOR) × (NO_DESCRIPTOR < NOT_DRIVEN) × (NOT_DRIVEN < FEW_PLACES) × (FEW_PLACES < BAD_ADDRESS) }
+        × (BAD_CACHE < NO_DESCRIPTOR) × (NO_DESCRIPTOR < NOT_DRIVEN) × (NOT_DRIVEN < FEW_PLACES) × (FEW_PLACES < BAD_ADDRESS)
+        × (BAD_ADDRESS < NO_WAIT) }
     ensures domain { NO_DOMAIN ≡ refusal_number refusals.NoDomain }
     ensures device { NO_DEVICE ≡ refusal_number refusals.NoDevice }
     ensures attached { NOT_ATTACHED ≡ refusal_number refusals.NotAttached }

@@ -1,6 +1,6 @@
 //! What a manager of C's does, by calls that are refused where its state has answered all that it can.
 
-ghost use Rattle.std.specs.Prelude.{◌≡◌, ◌+◌, ◌≤◌, ◌↔◌, IsTrue};
+ghost use Rattle.std.specs.Prelude.{◌≡◌, ◌+◌, ◌<◌, ◌≤◌, ◌↔◌, IsTrue, length};
 ghost use Rattle.dmatypes.specs.declared.call.Call.TheVariants as calls;
 ghost use Rattle.dmatypes.specs.declared.limits.TheConstants.{CALLS_END};
 
@@ -13,7 +13,8 @@ use driven::Driven;
 mod reading;
 
 /// What a handle holds: a state that tells what calls ask, or one that doesn't, and the host address to which the unit writes the status
-/// of a wait. Each method is refused exactly where the state has answered all that it can, and then changes nothing.
+/// of a wait. Each method is refused where the state has answered all that it can, `detach_all` and `done_up_to` also where it could not
+/// answer all of theirs, and then changes nothing.
 #[derive(Drop)]
 pub struct Session {
     driven: Driven,
@@ -21,7 +22,7 @@ pub struct Session {
 }
 
 impl Session {
-    ghost use Rattle.vtdm_c.specs.Called.{Answered, AnsweredAll, Takes, state_of};
+    ghost use Rattle.vtdm_c.specs.Called.{Answered, AnsweredAll, AnsweredUpTo, Takes, state_of};
 
     pub(crate) fn new(driven: Driven, status: u64) -> Session
         ensures { (result.driven ≡ driven) × (result.status ≡ status) }
@@ -41,6 +42,14 @@ impl Session {
         ensures { IsTrue result ↔ CALLS_END ≤ (state_of self.now).calls + 1 }
     {
         CALLS_END - 1 <= self.driven.state().calls()
+    }
+
+    // Whether it can't answer one more for each descriptor that waits.
+    fn is_spent_for_waiting(&self) -> bool
+        ensures { IsTrue result ↔ CALLS_END < (state_of self.now).calls + length (state_of self.now).iommu.ring.waiting }
+    {
+        let state = self.driven.state();
+        state.calls().saturating_add(state.totals().pending) > CALLS_END
     }
 
     pub(crate) fn domain(&mut self, mode: Mode, width: Width) -> Answer
@@ -153,6 +162,15 @@ impl Session {
             return Answer::lone(Answer::SPENT);
         }
         Answer::stepped(self.driven.unit_step())
+    }
+
+    pub(crate) fn done_up_to(&mut self, wait: u64) -> Answer
+        ensures { AnsweredUpTo self.old wait result self.new }
+    {
+        if self.is_spent_for_waiting() {
+            return Answer::lone(Answer::SPENT);
+        }
+        Answer::found(self.driven.done_up_to(wait), Answer::NO_WAIT)
     }
 
     pub(crate) fn reap(&mut self, domain: u64, number: u64) -> Answer

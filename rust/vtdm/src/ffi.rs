@@ -147,6 +147,7 @@ unsafe extern "C" {
     pub(crate) safe fn vtdm_flush(manager: &mut Handle, domain: u64) -> Answer;
     pub(crate) safe fn vtdm_begin(manager: &mut Handle, domain: u64) -> Answer;
     pub(crate) safe fn vtdm_unit(manager: &mut Handle) -> Answer;
+    pub(crate) safe fn vtdm_done_up_to(manager: &mut Handle, wait: u64) -> Answer;
     pub(crate) safe fn vtdm_reap(manager: &mut Handle, domain: u64, number: u64) -> Answer;
     pub(crate) safe fn vtdm_dma(
         manager: &mut Handle,

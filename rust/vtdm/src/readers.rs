@@ -127,9 +127,8 @@ impl Manager {
 ///
 /// Some calls need more:
 ///
-/// - [`Manager::begin`] asks for no wait. Before [`Manager::reap`] let the library's unit do what yours has done, and no more. S is the
-///   number of the last wait that yours has done: call [`Manager::unit`] as long as the `pending` of [`Manager::totals`] is above
-///   2 × ([`Manager::waits`] - S).
+/// - [`Manager::begin`] asks for no wait. Before [`Manager::reap`] let the library's unit do what yours has done, and no more: call
+///   [`Manager::done_up_to`] with the number of the last wait that yours has done.
 /// - [`Manager::detach`] sends the descriptor of the context alone. Where your unit finds cached translations by the device too, use
 ///   [`Manager::detach_all`].
 /// - An attach sends nothing, and a unit with Caching Mode may remember that the device had no context entry. So after its effects give it
@@ -184,6 +183,28 @@ impl Manager {
         let mut told = [ffi::Effect::NONE; PLACES];
         let count = ffi::effects(self.handle(), &mut told).value()?;
         Effects::of(&told, count)
+    }
+
+    /// Has the library's unit do its queue up to the wait of this number ([`Manager::waits`]), and answers how many descriptors it did:
+    /// each counts as a call, and there is none where the wait is done already. After it nothing is asked.
+    ///
+    /// # Errors
+    ///
+    /// [`Refused::NoWait`].
+    ///
+    /// ```
+    /// # use vtdm::{Manager, Mode, Reaped, Refused, Width};
+    /// # let mut manager = Manager::new(64)?;
+    /// # let domain = manager.domain(Mode::Lazy, Width::W39)?;
+    /// let ticket = manager.begin(domain)?;
+    /// let wait = manager.waits()?;
+    /// assert_eq!(manager.done_up_to(wait)?, 2);
+    /// assert_eq!(manager.reap(ticket)?, Reaped::Released(0));
+    /// assert_eq!(manager.done_up_to(wait + 1), Err(Refused::NoWait));
+    /// # Ok::<(), Refused>(())
+    /// ```
+    pub fn done_up_to(&mut self, wait: u64) -> Result<u64, Refused> {
+        ffi::vtdm_done_up_to(self.handle(), wait).value()
     }
 
     /// The table frame that is the root of a domain.

@@ -88,6 +88,8 @@ pub enum Refused {
     FewPlaces = 75,
     /// The address of the status is no multiple of 4.
     BadAddress = 76,
+    /// No wait of this number was sent.
+    NoWait = 77,
 
     /// The library answered a number that this crate doesn't know: it was made from another header.
     Unknown = u64::MAX,
@@ -95,7 +97,7 @@ pub enum Refused {
 
 impl Refused {
     /// All that the header names.
-    pub const ALL: [Refused; 31] = [
+    pub const ALL: [Refused; 32] = [
         Refused::NoDomain,
         Refused::NoDevice,
         Refused::Busy,
@@ -127,6 +129,7 @@ impl Refused {
         Refused::NotDriven,
         Refused::FewPlaces,
         Refused::BadAddress,
+        Refused::NoWait,
     ];
 
     /// Its number in `enum vtdm_status` of the header.
@@ -193,6 +196,7 @@ impl Refused {
             Refused::NotDriven => "not a driven manager",
             Refused::FewPlaces => "more effects than places",
             Refused::BadAddress => "bad address of a status",
+            Refused::NoWait => "no such wait",
             Refused::Unknown => "a number of another header",
         }
     }

@@ -248,6 +248,27 @@ fn a_begun_flush_is_not_waited_for() {
 }
 
 #[test]
+fn what_waits_is_done_up_to_a_wait() {
+    let (mut manager, domain) = begun(Mode::Lazy, Width::W39);
+    assert_eq!(manager.done_up_to(0), Ok(0));
+    let tickets: Vec<_> = (0..3).map(|_| manager.begin(domain).unwrap()).collect();
+    for never_sent in [4, u64::MAX] {
+        assert_eq!(manager.done_up_to(never_sent), Err(Refused::NoWait));
+    }
+    assert_eq!(asked(&mut manager), sent_last(&manager)[..2]);
+    assert_eq!(manager.done_up_to(0), Ok(0));
+    assert_eq!(manager.done_up_to(1), Ok(2));
+    assert_eq!(manager.reap(tickets[1]), Ok(Reaped::Pending));
+    assert_eq!(manager.reap(tickets[0]), Ok(Reaped::Released(0)));
+    assert_eq!(manager.unit(), Ok(Progress::Did));
+    for (wait, done) in [(1, 0), (2, 1), (3, 2), (3, 0)] {
+        assert_eq!(manager.done_up_to(wait), Ok(done));
+    }
+    assert_eq!(manager.reap(tickets[2]), Ok(Reaped::Released(0)));
+    assert_eq!(manager.totals().unwrap().pending, 0);
+}
+
+#[test]
 fn a_drop_brings_all_words_once_its_wait_is_done() {
     let (mut manager, domain) = begun(Mode::Lazy, Width::W39);
     map(&mut manager, domain, 0x100, 1, Order::PAGE);

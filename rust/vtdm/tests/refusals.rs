@@ -90,6 +90,7 @@ fn of_tickets_and_requests() -> Vec<Refused> {
 fn of_driven_managers() -> Vec<Refused> {
     let mut all = vec![Manager::driven(64, true, HostAddress::new(0x8001)).unwrap_err()];
     all.extend(begun(64).effects().err());
+    all.extend(begun(64).done_up_to(1).err());
     all
 }
 

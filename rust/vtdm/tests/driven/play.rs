@@ -161,10 +161,8 @@ impl Play {
         if self.tickets.is_empty() {
             return;
         }
-        let ahead = |it: &Play| 2 * (it.manager.waits().unwrap() - it.unit.done);
-        while self.manager.totals().unwrap().pending > ahead(self) {
-            self.call(Manager::unit);
-        }
+        let done = self.unit.done;
+        self.call(|it| it.done_up_to(done));
         let one = self.random.below(self.tickets.len() as u64) as usize;
         let ticket = self.tickets[one];
         if let Some(Reaped::Released(_)) = self.call(|it| it.reap(ticket)) {

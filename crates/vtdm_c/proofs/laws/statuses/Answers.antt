@@ -21,6 +21,7 @@ returns c = record {
     omega arith,
     omega arith,
     omega arith,
+    omega arith,
   );
   domain = refl;
   device = refl;
