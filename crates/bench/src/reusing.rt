@@ -20,6 +20,9 @@ const MOST_TAKEN: u64 = 64;
 // Pages that are live before every second of them comes free.
 const BEFORE_HOLES: u64 = 1000;
 
+// Free ranges of four pages each that begin at no multiple of four.
+const ASKEW: u64 = 500;
+
 // Ranges of a burst.
 const BURST: u64 = 255;
 
@@ -140,6 +143,37 @@ impl Work for Holes {
         let range = take(&mut self.space, 2, 0)?;
         check(range.first() == BEFORE_HOLES + 1)?;
         free(&mut self.space, range)
+    }
+}
+
+/// Takes a page, and then four at a multiple of four, which lie behind 500 free ranges of four that begin elsewhere, and frees both.
+#[derive(Drop)]
+pub(crate) struct Askew {
+    space: Space,
+}
+
+impl Askew {
+    pub(crate) fn new(alloc: Global) -> Result<Askew, Trouble> {
+        let mut space = Space::new(alloc, LAST_PAGE)?;
+        let _ = take(&mut space, 1, 0)?;
+        for _ in 0..2 * ASKEW {
+            let _ = take(&mut space, 4, 0)?;
+        }
+        for range in 0..ASKEW {
+            let hole = PageRange::new(8 * range + 2, 4).ok_or(Trouble::Wrong)?;
+            free(&mut space, hole)?;
+        }
+        Ok(Askew { space })
+    }
+}
+
+impl Work for Askew {
+    fn once(&mut self) -> Result<(), Trouble> {
+        let page = take(&mut self.space, 1, 0)?;
+        let range = take(&mut self.space, 4, 2)?;
+        check(range.first() == 8 * ASKEW + 4)?;
+        free(&mut self.space, range)?;
+        free(&mut self.space, page)
     }
 }
 

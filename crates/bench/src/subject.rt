@@ -10,7 +10,7 @@ use crate::loading::time_loads;
 use crate::managing::{Locks, time_manager};
 use crate::mapping::{Deferred, Flushing, Listing, Mapping, SelfFlushing, Shape, Splitting};
 use crate::request::Request;
-use crate::reusing::{Bursts, Freed, Holes, Reusing, Sizes};
+use crate::reusing::{Askew, Bursts, Freed, Holes, Reusing, Sizes};
 use crate::scripting::{Lines, time_script};
 use crate::storming::time_storm;
 use crate::taking::Taking;
@@ -45,6 +45,7 @@ enum Kind {
     // While this number of ranges are live.
     Reuse(u32, Freed, Sizes),
     TakeBehindHoles,
+    TakeBehindAskew,
     TakeBursts,
     // Of a tree of this width.
     Walk(Width),
@@ -67,7 +68,7 @@ const LAST_DEVICE: u64 = DEVICES - 1;
 
 /// All that is measured, in the table's order. The maps begin at frames behind the table frames; leaves of 2 MiB
 /// come where the frame is a multiple of a span's pages.
-pub(crate) const SUBJECTS: [Subject; 67] = [
+pub(crate) const SUBJECTS: [Subject; 68] = [
     Subject {
         name: "map and unmap 1 page",
         kind: Kind::Map(Shape {
@@ -213,6 +214,10 @@ pub(crate) const SUBJECTS: [Subject; 67] = [
     Subject {
         name: "take and release 2 pages behind 500 holes",
         kind: Kind::TakeBehindHoles,
+    },
+    Subject {
+        name: "take 4 pages behind 500 askew, 1 before",
+        kind: Kind::TakeBehindAskew,
     },
     Subject {
         name: "255 takes, then their 255 releases",
@@ -466,6 +471,7 @@ impl Subject {
                 time(clock, rounds, &mut reusing)
             }
             Kind::TakeBehindHoles => time(clock, rounds, &mut Holes::new(alloc)?),
+            Kind::TakeBehindAskew => time(clock, rounds, &mut Askew::new(alloc)?),
             Kind::TakeBursts => time(clock, rounds, &mut Bursts::new(alloc)?),
             Kind::Walk(width) => time(clock, rounds, &mut Walking::new(alloc, width)?),
             Kind::Request(look) => time(clock, rounds, &mut Request::new(alloc, look)?),

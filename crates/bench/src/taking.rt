@@ -11,8 +11,7 @@ use std::alloc::Global;
 // The last page of a domain.
 const LAST_PAGE: u64 = PAGES_END - 1;
 
-/// Takes the first page behind a number of live pieces of one page each, and releases it. That is the longest search
-/// for a page: it goes by all the live pieces.
+/// Takes the first page behind a number of live pieces of one page each, and releases it.
 #[derive(Drop)]
 pub(crate) struct Taking {
     space: Space,
