@@ -1,14 +1,13 @@
--- Trees put together at a key, and taken apart at a page.
-use Rattle.std.specs.Prelude.{ℕ, ◌≡◌, ◌+◌, ◌≤◌, Bool, true, false, List, [], ◌∷◌, ◌++◌, length, Option, Some, None, IsSome}
+-- Trees put together at a key, and pieces put over others of a tree.
+use Rattle.std.specs.Prelude.{ℕ, ◌≡◌, ◌+◌, ◌<◌, ◌≤◌, Bool, true, false, List, [], ◌∷◌, ◌++◌, length, Option, Some, None, IsSome}
 use Rattle.slab.specs.Slab.{Slab, get, slab_len}
 use Rattle.piece_tree.specs.declared.piece.Piece.{Piece}
-use Rattle.piece_tree.specs.declared.piece.TheConstants.{MOST_PIECES}
+use Rattle.piece_tree.specs.declared.piece.TheConstants.{MOST_PIECES, NUMBERS_END}
 use Rattle.piece_tree.specs.declared.node.Node.{Node}
 use Rattle.piece_tree.specs.declared.node.Top.{Top}
-use Rattle.piece_tree.specs.declared.severing.Severed.{Severed}
-use Rattle.piece_tree.specs.declared.severing.Passed.{Passed}
-use Rattle.piece_tree.specs.Pieces.{AreSorted, Holds, piece_at}
-use Rattle.piece_tree.specs.Tree.{Look, Shape, IsBelow, Stands, items, height_of, one, uses, top_of}
+use Rattle.piece_tree.specs.Laid.{IsRow, part_beside, with_row}
+use Rattle.piece_tree.specs.Pieces.{AreSorted, HasAny}
+use Rattle.piece_tree.specs.Tree.{Look, Shape, AreParts, IsBelow, Stands, items, height_of, one, uses, top_of}
 
 -- a tree that is handed on, of so few pieces that it is low, with no key in two places
 pub record IsTree (look : Look) (top : Top) (t : Shape) : Type 0 where
@@ -44,31 +43,7 @@ pub record Adds (old new : Slab Node) (before : Bool) (top : Top) (t : Shape) (p
   pub tall : height_of t ≤ height_of makes.shape
   pub short : height_of makes.shape ≤ height_of t + 1
 
--- ---- a tree taken apart
-
--- a piece of the tree below a root holds the page
-pub record CanSever (look : Look) (root : Option ℕ) (page : ℕ) (t : Shape) : Type 0 where
-  pub below : IsBelow look root t
-  pub once : (k : ℕ) → uses t k ≤ 1
-  pub few : length (items t) ≤ MOST_PIECES
-  pub from : ℕ
-  pub sorted : AreSorted from (items t)
-  pub holds : IsSome (piece_at (items t) page)
-
--- it was taken apart at that piece: what lies before it is a tree, and what lies behind it. No other key changed
-pub record Severs (old new : Look) (page : ℕ) (severed : Severed) (t : Shape) : Type 0 where
-  pub near : Shape
-  pub far : Shape
-  pub near_is : severed.before ≡ top_of near
-  pub far_is : severed.behind ≡ top_of far
-  pub near_stands : Stands new near
-  pub far_stands : Stands new far
-  pub here : IsSome (new severed.key)
-  pub holds : Holds severed.piece page
-  pub all : items t ≡ items near ++ severed.piece ∷ items far
-  pub keys : (k : ℕ) → uses t k ≡ one severed.key k + uses near k + uses far k
-  pub others : (k : ℕ) → uses t k ≡ 0 → new k ≡ old k
-  pub low : (height_of near ≤ height_of t) × (height_of far ≤ height_of t)
+-- ---- pieces taken out
 
 -- no key of the tree has a node any more, and no other key changed
 pub record Removes (old new : Slab Node) (t : Shape) : Type 0 where
@@ -76,25 +51,51 @@ pub record Removes (old new : Slab Node) (t : Shape) : Type 0 where
   pub len : slab_len new + length (items t) ≡ slab_len old
   pub capacity : new.capacity ≡ old.capacity
 
--- the piece of a key that was cut off, or one of the tree behind it, holds the page
-pub record IsCutOff (look : Look) (low : Severed) (page : ℕ) (t : Shape) : Type 0 where
-  pub is : low.behind ≡ top_of t
-  pub stands : Stands look t
-  pub once : (k : ℕ) → one low.key k + uses t k ≤ 1
+-- ---- what stays on a side of a page
+
+-- the page lies on one side of a piece, before it or behind it
+abbrev pub LiesBeside : (before : Bool) → Piece → ℕ → Type 0
+LiesBeside true p page = page < p.first
+LiesBeside false p page = p.last < page
+
+-- it doesn't
+abbrev pub LiesOff : (before : Bool) → Piece → ℕ → Type 0
+LiesOff true p page = p.first ≤ page
+LiesOff false p page = page ≤ p.last
+
+-- a tree on a side of a piece. If a page doesn't lie on that side of the piece, the tree lies on that side of the page
+pub record CanKeep (look : Look) (before : Bool) (top : Top) (beside : Piece) (page : ℕ) (t : Shape) : Type 0 where
+  pub tree : IsTree look top t
+  pub from : ℕ
+  pub sorted : AreSorted from (items t)
+  pub all : LiesOff before beside page → part_beside before page (items t) ≡ items t
+
+-- ---- pieces put over others
+
+-- what was made of a tree so far: a key, and the trees on its two sides. No key beside it changed or came into them
+pub record Halved (old new : Slab Node) (near : Top) (key : ℕ) (far : Top) (t n f : Shape) : Type 0 where
+  pub parts : AreParts (get new) near key far n f
+  pub apart : (k : ℕ) → uses t k ≡ 0 → IsSome (get old k) → (get new k ≡ get old k) × (one key k + uses n k + uses f k ≡ 0)
+  pub len : slab_len new + length (items t) ≡ slab_len old + (length (items n) + 1 + length (items f))
+  pub capacity : new.capacity ≡ old.capacity
+
+-- and with these between the pieces of the two trees they are all
+pub record Flanked (old new : Slab Node) (near : Top) (key : ℕ) (far : Top) (t : Shape) (between all : List Piece) : Type 0 where
+  pub n : Shape
+  pub f : Shape
+  pub halved : Halved old new near key far t n f
+  pub view : all ≡ items n ++ (between ++ items f)
+
+-- a row can be put over pages from a first to a last one, of which the piece at the root has one
+pub record CanReplace (nodes : Slab Node) (key : ℕ) (first : ℕ) (row : List Piece) (last : ℕ) (t : Shape) : Type 0 where
+  pub below : IsBelow (get nodes) (Some key) t
+  pub once : (k : ℕ) → uses t k ≤ 1
   pub few : length (items t) ≤ MOST_PIECES
   pub from : ℕ
-  pub sorted : AreSorted from (low.piece ∷ items t)
-  pub holds : IsSome (piece_at (low.piece ∷ items t) page)
-
--- the pieces before the one that holds the page are gone, and what lies behind it is a tree
-pub record PassesTo (old new : Slab Node) (low : Severed) (page : ℕ) (passed : Passed) (t : Shape) : Type 0 where
-  pub gone : List Piece
-  pub far : Shape
-  pub far_is : passed.behind ≡ top_of far
-  pub far_stands : Stands (get new) far
-  pub holds : Holds passed.piece page
-  pub all : low.piece ∷ items t ≡ gone ++ passed.piece ∷ items far
-  pub keys : (k : ℕ) → uses far k ≤ uses t k
-  pub others : (k : ℕ) → uses t k ≡ 0 → get new k ≡ get old k
-  pub len : slab_len new + length gone ≡ slab_len old
-  pub capacity : new.capacity ≡ old.capacity
+  pub sorted : AreSorted from (items t)
+  pub root : (node : Node) → get nodes key ≡ Some node → HasAny node.piece first last
+  pub is_row : IsRow first row (last + 1)
+  pub some : first ≤ last
+  pub narrow : last < NUMBERS_END
+  pub short : length (with_row first row last (items t)) ≤ MOST_PIECES
+  pub room : slab_len nodes + length (with_row first row last (items t)) ≤ nodes.capacity + length (items t)

@@ -1,5 +1,5 @@
 -- A piece put over others, and a row of pieces.
-use Rattle.std.specs.Prelude.{ℕ, ◌≡◌, ◌+◌, ◌-◌, ◌≤◌, nat_lt, nat_le, if◌then◌else◌, List, [], ◌∷◌, ◌++◌}
+use Rattle.std.specs.Prelude.{ℕ, ◌≡◌, ◌+◌, ◌-◌, ◌≤◌, nat_lt, nat_le, Bool, true, false, if◌then◌else◌, List, [], ◌∷◌, ◌++◌}
 use Rattle.piece_tree.specs.declared.piece.Piece.{Piece}
 
 -- what is left of a piece below a page, and above one
@@ -22,6 +22,16 @@ part_above page [] = []
 part_above page (p ∷ ps) =
     if nat_le p.last page then part_above page ps
     else (if nat_le p.first page then record p { first = page + 1 } ∷ ps else p ∷ ps)
+
+-- the same by a side, before the page or behind it
+abbrev pub rest_beside : (before : Bool) → ℕ → Piece → List Piece
+rest_beside true page p = rest_below page p
+rest_beside false page p = rest_above page p
+
+-- the same by a side
+abbrev pub part_beside : (before : Bool) → ℕ → List Piece → List Piece
+part_beside true page ps = part_below page ps
+part_beside false page ps = part_above page ps
 
 -- the pieces once the pages of this one are this one, and all other pages lie as before
 abbrev pub with_piece : Piece → List Piece → List Piece

@@ -4,4 +4,3 @@ pub mod Way
 pub mod Search
 pub mod Laid
 pub mod Graft
-pub mod Neighbours

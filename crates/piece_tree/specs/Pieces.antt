@@ -18,6 +18,10 @@ IsPiece p = (p.first ≤ p.last) × (p.last < NUMBERS_END)
 abbrev pub Holds : Piece → ℕ → Type 0
 Holds p page = (p.first ≤ page) × (page ≤ p.last)
 
+-- the piece has a page of those from a first to a last one
+abbrev pub HasAny : Piece → (first last : ℕ) → Type 0
+HasAny p first last = (p.first ≤ last) × (first ≤ p.last)
+
 -- pieces, none below this page, and each behind the one before it
 abbrev pub AreSorted : ℕ → List Piece → Type 0
 AreSorted from [] = Unit {0}

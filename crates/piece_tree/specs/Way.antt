@@ -1,5 +1,5 @@
 -- Ways down a tree: what lies above a place in it. A way is the steps from the root down, and `Above` is what lies beside them.
-use Rattle.std.specs.Prelude.{ℕ, ◌≡◌, ◌+◌, ◌<◌, ◌≤◌, Bool, true, false, not, List, [], ◌∷◌, ◌++◌, Option, Some, IfSome, slice_index_or}
+use Rattle.std.specs.Prelude.{ℕ, ◌≡◌, ◌+◌, ◌*◌, ◌<◌, ◌≤◌, Bool, true, false, not, List, [], ◌∷◌, ◌++◌, Option, Some, IfSome, slice_index_or}
 use Rattle.std.specs.List.{AllByRecursion}
 use Rattle.slab.specs.Slab.{Slab, get}
 use Rattle.piece_tree.specs.declared.piece.Piece.{Piece}
@@ -93,12 +93,11 @@ pub record IsStepAbove (way : List Step) (before : Bool) (depth : ℕ) (path : A
 
 -- ---- a tree hung below a key
 
--- a tree can be hung where a step goes to, in the place of one that was nearly as high
+-- a tree can be hung where a step goes to, in the place of another one
 pub record CanHang (look : Look) (step : Step) (tree : Top) (piece : Piece) (was n f : Shape) : Type 0 where
   pub here : look step.key ≡ Some (joint_at step.before piece (top_of was) (top_of f))
   pub fine : IsPiece piece
   pub near : AreNear was f
-  pub close : AreNear was n
   pub tree_is : tree ≡ top_of n
   pub stands : Stands look n
   pub beside : Stands look f
@@ -118,7 +117,7 @@ pub record Hangs (old new : Look) (step : Step) (hung : Hung) (piece : Piece) (w
 
 -- ---- and up
 
--- at the end of the way lies another tree than what the keys above it show, nearly as high
+-- at the end of the way lies another tree than what the keys above it show. None of them is so high that the whole gets too high
 pub record CanMend (look : Look) (way : List Step) (depth : ℕ) (root : Option ℕ) (top : Top) (path : Above) (t new : Shape) : Type 0 where
   pub steps : AreSteps way depth path
   pub above : AreAbove look path t
@@ -126,8 +125,8 @@ pub record CanMend (look : Look) (way : List Step) (depth : ℕ) (root : Option 
   pub is : top ≡ top_of new
   pub stands : Stands look new
   pub once : (k : ℕ) → uses_above path k + uses new k ≤ 1
-  pub close : AreNear t new
   pub low : height_of (plug path t) ≤ MOST_HEIGHT
+  pub fair : height_of new + depth ≤ 2 * MOST_HEIGHT
 
 -- and it has the root and the height of the one that was there, where what is longest was so long and is so long now
 pub record CanLift (look : Look) (way : List Step) (depth : ℕ) (root : Option ℕ) (path : Above) (t new : Shape) (was now : ℕ) : Type 0 where
@@ -149,18 +148,18 @@ pub record Mends (old new : Look) (root : Option ℕ) (path : Above) (t end : Sh
 
 -- ---- down
 
--- at this place of the tree a page lies: what comes before it ends below the page, and what comes behind begins above it
-pub record Lies (page : ℕ) (at : Option ℕ) (t : Shape) : Type 0 where
+-- at this place of the tree lie pages from a first to a last one: what comes before it ends below them, and what comes behind begins above
+pub record Lies (first last : ℕ) (at : Option ℕ) (t : Shape) : Type 0 where
   pub path : Above
   pub there : Shape
   pub is : t ≡ plug path there
   pub root : at ≡ root_of there
-  pub before : AllByRecursion (λ q. q.last < page) (front path)
-  pub behind : AllByRecursion (λ q. page < q.first) (back path)
+  pub before : AllByRecursion (λ q. q.last < first) (front path)
+  pub behind : AllByRecursion (λ q. last < q.first) (back path)
 
 -- and the way leads there
-pub record Leads (way : List Step) (page : ℕ) (place : Place) (t : Shape) : Type 0 where
-  pub lies : Lies page place.at t
+pub record Leads (way : List Step) (first last : ℕ) (place : Place) (t : Shape) : Type 0 where
+  pub lies : Lies first last place.at t
   pub steps : AreSteps way place.depth lies.path
 
 -- the way leads to a key of the tree below the root, which has a piece between two trees

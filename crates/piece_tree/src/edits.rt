@@ -1,16 +1,17 @@
-//! What changes at a key to which a way leads: its piece is another, and others come beside it.
+//! What changes at a key to which a way leads: its piece is another, or is laid over those below it.
 
-ghost use Rattle.std.specs.Prelude.{◌≡◌, ◌+◌, ◌≤◌, ◌∷◌, ◌++◌, ℕ, Option, IfSome, length};
+ghost use Rattle.std.specs.Prelude.{◌≡◌, ◌+◌, ◌∷◌, ◌++◌, ℕ, Option, length};
 ghost use Rattle.slab.specs.Slab.{slab_len};
-ghost use Rattle.piece_tree.specs.Graft.{some_of};
+ghost use Rattle.piece_tree.specs.Graft.{CanReplace};
+ghost use Rattle.piece_tree.specs.Laid.{with_row};
 ghost use Rattle.piece_tree.specs.Pieces.{IsPiece};
 ghost use Rattle.piece_tree.specs.Tree.{Fork, KeepsCount, Shape, items};
 ghost use Rattle.piece_tree.specs.Way.{Above, Becomes, IsHeld, plug};
 
-use crate::grafts::{add, graft};
-use crate::links::{free_length, longest, open, read, set_piece};
+use crate::laying::replace;
+use crate::links::{free_length, longest, set_piece};
 use crate::node::Node;
-use crate::piece::{MOST_PIECES, Piece};
+use crate::piece::Piece;
 use crate::way::{Held, MOST_HEIGHT, Step, lift, mend};
 use slab::Slab;
 
@@ -32,28 +33,25 @@ pub(crate) fn renew(nodes: &mut Slab<Node>, way: &[Step; MOST_HEIGHT], held: Hel
     lift(nodes, way, held.depth, was, now);
 }
 
-/// Puts another piece under a key, and one right before it and one right behind it, where there are such.
-pub(crate) fn split(
+/// Puts a row of pieces over others, of which the one at a key is the highest.
+#[inline(always)]
+pub(crate) fn lay_over(
     nodes: &mut Slab<Node>,
     root: Option<usize>,
     way: &[Step; MOST_HEIGHT],
     held: Held,
-    below: Option<Piece>,
-    piece: Piece,
-    above: Option<Piece>,
+    row: &[Piece],
 ) -> Option<usize>
-    requires held { (path : Above) × (p : Piece) × (l : Shape) × (r : Shape) × IsHeld nodes.old root way.now held path p l r }
-    requires piece { IsPiece piece }
-    requires below { IfSome below IsPiece }
-    requires above { IfSome above IsPiece }
-    requires room { slab_len nodes.old + length (some_of below ++ some_of above) ≤ MOST_PIECES }
-    ensures becomes { (path : Above) (p : Piece) (l r : Shape) → IsHeld nodes.old root way.now held path p l r
-        → Becomes nodes.old nodes.new result path (items l ++ (some_of below ++ piece ∷ some_of above) ++ items r) }
-    ensures len { slab_len nodes.new ≡ slab_len nodes.old + length (some_of below ++ some_of above) }
+    requires { (path : Above) × (p : Piece) × (l : Shape) × (r : Shape) × (first : ℕ) × (last : ℕ)
+        × IsHeld nodes.old root way.now held path p l r × CanReplace nodes.old held.key first row.now last (Fork held.key p l r) }
+    ensures becomes { (path : Above) (p : Piece) (l r : Shape) (first last : ℕ) → IsHeld nodes.old root way.now held path p l r
+        → CanReplace nodes.old held.key first row.now last (Fork held.key p l r)
+        → Becomes nodes.old nodes.new result path (with_row first row.now last (items l ++ p ∷ items r)) }
+    ensures len { (path : Above) (p : Piece) (l r : Shape) (first last : ℕ) → IsHeld nodes.old root way.now held path p l r
+        → CanReplace nodes.old held.key first row.now last (Fork held.key p l r)
+        → slab_len nodes.new + length (items l ++ p ∷ items r)
+        ≡ slab_len nodes.old + length (with_row first row.now last (items l ++ p ∷ items r)) }
 {
-    let opened = open(nodes, true, held.key);
-    let near = add(nodes, true, opened.near, below);
-    let far = add(nodes, false, opened.far, above);
-    let top = graft(nodes, true, near, held.key, piece, far);
+    let top = replace(nodes, held.key, row);
     mend(nodes, way, held.depth, root, top)
 }

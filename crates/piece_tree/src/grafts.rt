@@ -39,6 +39,7 @@ pub(crate) fn between(
 }
 
 /// Joins two trees on the two sides of a key, of any heights: the lower one is hung where the other one's end is as low.
+#[inline(always)]
 pub(crate) fn graft(
     nodes: &mut Slab<Node>,
     before: bool,
@@ -56,7 +57,10 @@ pub(crate) fn graft(
     if far.height > near.height + 1 {
         return graft_onto(nodes, !before, far, key, piece, near);
     }
-    graft_onto(nodes, before, near, key, piece, far)
+    if near.height > far.height + 1 {
+        return graft_onto(nodes, before, near, key, piece, far);
+    }
+    link(nodes, before, near, key, piece, far)
 }
 
 // The same, where the first is the higher one, or lower by one.

@@ -12,22 +12,19 @@
 //!     height 1, longest 0                height 1, longest 5
 //! ```
 //!
-//! One way leads down to a page. A piece that is laid within another changes the tree at the end of that way: what is left of the other
-//! comes right before it and right behind it (`split`), and one way back up brings heights and lengths up to date, as far as they change.
-//! Two neighbours become one at the upper one's key: the other is at an end of a tree below it (`join`). Where a piece begins or ends
-//! within a neighbour, pages move between the two, and no node comes or goes (`move_end`). For a piece over more others the tree is taken
-//! apart at its first page and at its last one, and for a row within one piece at the first (`sever`). Pieces between the parts go or
-//! come, and the parts are put together at a key (`graft`): the lower one is hung where the end of the other is as low.
+//! One way leads down to a page. Pieces are laid over others at the highest of these in the tree: what is left of that one, and of the trees
+//! on its two sides, comes right before them and right behind them (`replace`), and one way back up brings heights and lengths up to date,
+//! as far as they change (`mend`). One way down takes out of a tree what lies on one side of a page (`trim`). Two trees and a key between
+//! them become one: the lower one is hung where the end of the other is as low (`graft`).
 #![tactic(auto)]
 
 mod edits;
 mod grafts;
-mod joins;
+mod laying;
 mod links;
 mod node;
 mod piece;
 mod search;
-mod severing;
 #[cfg(test)]
 mod tests;
 mod tree;

@@ -2,14 +2,14 @@
 
 ghost use Rattle.std.specs.Prelude.{◌≡◌, ◌<◌, ◌≤◌, not, ◌++◌, ◌∷◌, ℕ, List, Option, Some, IfSome, IfNone};
 ghost use Rattle.slab.specs.Slab.{get};
-ghost use Rattle.piece_tree.specs.Pieces.{AreSorted, Holds};
+ghost use Rattle.piece_tree.specs.Pieces.{AreSorted, HasAny};
 ghost use Rattle.piece_tree.specs.Search.{beside_of};
 ghost use Rattle.piece_tree.specs.Tree.{Empty, IsWhole, KeepsCount, Shape, items};
 ghost use Rattle.piece_tree.specs.Way.{Above, AreAbove, AreSteps, CanHang, CanLift, CanMend, Hangs, IsAtHand};
 ghost use Rattle.piece_tree.specs.Way.{GoesOn, IsHeld, IsStepAbove, Leads};
 ghost use Rattle.piece_tree.specs.Way.{Mends, back, front};
 
-use crate::grafts::between;
+use crate::grafts::graft;
 use crate::links::{free_length, link, longest, read, set_longest};
 use crate::node::{Node, Top};
 use crate::piece::Piece;
@@ -52,23 +52,24 @@ pub(crate) struct Hung {
     pub(crate) kept: Option<u64>,
 }
 
-/// Goes down to the piece that a page lies in, or to where it would be.
+/// Goes down to the highest piece that has one of the pages from a first to a last one, or to where they would be.
 pub(crate) fn walk(
     nodes: &Slab<Node>,
     root: Option<usize>,
-    page: u64,
+    first: u64,
+    last: u64,
     way: &mut [Step; MOST_HEIGHT],
 ) -> Place
     requires { (t : Shape) × IsWhole nodes.now root t }
-    ensures leads { (t : Shape) → IsWhole nodes.now root t → Leads way.new page result t }
-    ensures holds { IfSome result.at (λ key. (n : Node) × (get nodes.now key ≡ Some n) × Holds n.piece page) }
+    ensures leads { (t : Shape) → IsWhole nodes.now root t → Leads way.new first last result t }
+    ensures has { IfSome result.at (λ key. (n : Node) × (get nodes.now key ≡ Some n) × HasAny n.piece first last) }
 {
     let mut at = root;
     let mut depth = 0;
     while let Some(key) = at {
         let node = &nodes[key];
-        let before = page < node.piece.first;
-        if !before && page <= node.piece.last {
+        let before = last < node.piece.first;
+        if !before && first <= node.piece.last {
             return Place { at, depth };
         }
         way[depth] = Step { key, before };
@@ -82,24 +83,26 @@ pub(crate) fn walk(
 pub(crate) fn reach(
     nodes: &Slab<Node>,
     root: Option<usize>,
-    page: u64,
+    first: u64,
+    last: u64,
     way: &mut [Step; MOST_HEIGHT],
     hand: Option<Held>,
 ) -> Place
-    requires { (t : Shape) × IsWhole nodes.now root t × IsAtHand way.old hand t }
-    ensures leads { (t : Shape) → IsWhole nodes.now root t → IsAtHand way.old hand t → Leads way.new page result t }
-    ensures holds { IfSome result.at (λ key. (n : Node) × (get nodes.now key ≡ Some n) × Holds n.piece page) }
+    requires tree { (t : Shape) × IsWhole nodes.now root t × IsAtHand way.old hand t }
+    requires pages { first ≤ last }
+    ensures leads { (t : Shape) → IsWhole nodes.now root t → IsAtHand way.old hand t → Leads way.new first last result t }
+    ensures has { IfSome result.at (λ key. (n : Node) × (get nodes.now key ≡ Some n) × HasAny n.piece first last) }
 {
     if let Some(held) = hand {
         let piece = nodes[held.key].piece;
-        if piece.first <= page && page <= piece.last {
+        if piece.first <= first && last <= piece.last {
             return Place {
                 at: Some(held.key),
                 depth: held.depth,
             };
         }
     }
-    walk(nodes, root, page, way)
+    walk(nodes, root, first, last, way)
 }
 
 /// The last step that goes on before its key, or behind it: how many steps lead to that key.
@@ -135,7 +138,7 @@ pub(crate) fn piece_above(
     Some(nodes[way[depth].key].piece)
 }
 
-// Hangs a tree where a step goes to. It chooses as `between` does: from that it would have to compare roots to tell whether it turned.
+// Hangs a tree where a step goes to.
 fn hang(nodes: &mut Slab<Node>, step: Step, tree: Top) -> Hung
     requires { (piece : Piece) × (was : Shape) × (n : Shape) × (f : Shape) × CanHang (get nodes.old) step tree piece was n f }
     ensures hung { (piece : Piece) (was n f : Shape) → CanHang (get nodes.old) step tree piece was n f
@@ -148,7 +151,7 @@ fn hang(nodes: &mut Slab<Node>, step: Step, tree: Top) -> Hung
     let was_longest = node.longest;
     let other = read(nodes, node.child(!step.before));
     if tree.height > other.height + 1 || other.height > tree.height + 1 {
-        let top = between(nodes, step.before, tree, step.key, piece, other);
+        let top = graft(nodes, step.before, tree, step.key, piece, other);
         return Hung { top, kept: None };
     }
     let top = link(nodes, step.before, tree, step.key, piece, other);

@@ -1,12 +1,13 @@
 -- Pieces in order, once a row of others was put over some of their pages.
 use Rattle.std.proofs.Common.{◌≡◌, ℕ, ◌+◌, ◌-◌, ◌<◌, ◌≤◌, List, [], ◌∷◌, ◌++◌, refl, ap, sym, ◌∙◌, inl, inr, subst, arith, append_assoc}
 use Rattle.std.proofs.lemmas.Bool.Decides.{nat_tests}
+use Rattle.std.specs.List.{AllByRecursion}
 use Rattle.piece_tree.specs.declared.piece.Piece.{Piece}
 use Rattle.piece_tree.specs.declared.piece.TheConstants.{NUMBERS_END}
-use Rattle.piece_tree.specs.Laid.{IsRow, part_above, part_below, rest_above, rest_below, with_piece, with_row}
-use Rattle.piece_tree.specs.Pieces.{AreSorted, Holds, IsPiece}
-use Rattle.piece_tree.proofs.shapes.Laid.{above-at, below-at, row_rises}
-use Rattle.piece_tree.proofs.shapes.Sorted.{sorted_from}
+use Rattle.piece_tree.specs.Laid.{IsRow, part_above, part_below, rest_above, rest_below, with_row}
+use Rattle.piece_tree.specs.Pieces.{AreSorted, Holds}
+use Rattle.piece_tree.proofs.shapes.Laid.{above-at, above-back, above-front, below-at, below-back, below-front, row_rises}
+use Rattle.piece_tree.proofs.shapes.Sorted.{all_map, sorted_from}
 use Rattle.piece_tree.proofs.shapes.Tall.{order}
 
 -- ---- what is left of a piece
@@ -24,6 +25,19 @@ pub row-at : (from first last : ℕ) (row xs : List Piece) (p : Piece) (ys : Lis
 row-at from first last row xs p ys s h k =
     ap (λ l. l ++ (row ++ part_above last (xs ++ p ∷ ys))) (below-at from first xs p ys s h)
     ∙ ap (λ l. (xs ++ rest_below first p) ++ (row ++ l)) (above-at from last xs p ys s k) ∙ simp append_assoc
+
+-- a row over pages in the middle of a list
+pub row-within : (first last : ℕ) (row xs ms ys : List Piece) → AllByRecursion (λ q. q.last < first) xs
+    → AllByRecursion (λ q. last < q.first) ys → AreSorted 0 ys → first ≤ last
+    → with_row first row last (xs ++ (ms ++ ys)) ≡ xs ++ with_row first row last ms ++ ys
+row-within first last row xs ms ys a b s i =
+    let low = all_map (λ q. q.last < first) (λ q. q.last < last) (λ q h. omega (arith, h, i)) xs a in
+    let high = all_map (λ q. last < q.first) (λ q. first < q.first) (λ q h. omega (arith, h, i)) ys b in
+    ap (λ l. l ++ (row ++ part_above last (xs ++ (ms ++ ys))))
+    (below-back first xs (ms ++ ys) a ∙ ap (λ l. xs ++ l) (below-front first ms ys high s))
+    ∙ ap (λ l. (xs ++ part_below first ms) ++ (row ++ l))
+    (above-back last xs (ms ++ ys) low ∙ above-front last ms ys b s)
+    ∙ simp append_assoc
 
 -- ---- order
 
@@ -99,7 +113,3 @@ pub with_row-sorted : (from first last : ℕ) (row ps : List Piece) → AreSorte
 with_row-sorted from first last row ps s h r n =
     below-sorted from first ps (row ++ part_above last ps) s h
     (row-sorted first row (last + 1) (part_above last ps) r (omega (arith, n)) (above-sorted from last ps s))
-
-pub with_piece-sorted : (from : ℕ) (p : Piece) (ps : List Piece) → AreSorted from ps → from ≤ p.first → IsPiece p
-    → AreSorted from (with_piece p ps)
-with_piece-sorted from p ps s h i = with_row-sorted from p.first p.last (p ∷ []) ps s h (refl, i.0, refl) i.1

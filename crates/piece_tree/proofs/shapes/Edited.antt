@@ -1,34 +1,35 @@
 -- What changed at the end of a way, and the whole tree once that was gone back up.
 use Rattle.std.proofs.Common.{◌≡◌, ℕ, ◌+◌, ◌<◌, ◌≤◌, max, List, ◌∷◌, ◌++◌, Option, Some, refl}
-use Rattle.std.proofs.Common.{ap}
-use Rattle.std.proofs.Common.{◌∙◌, arith}
+use Rattle.std.proofs.Common.{ap, ◌∙◌, subst, arith}
 use Rattle.slab.specs.Slab.{Slab, Updates, get}
 use Rattle.piece_tree.specs.declared.piece.Piece.{Piece}
 use Rattle.piece_tree.specs.declared.node.Node.{Node}
 use Rattle.piece_tree.specs.declared.node.Top.{Top}
 use Rattle.piece_tree.specs.declared.way.Held.{Held}
 use Rattle.piece_tree.specs.declared.way.Step.{Step}
+use Rattle.piece_tree.specs.Graft.{Makes}
 use Rattle.piece_tree.specs.Pieces.{IsPiece}
-use Rattle.piece_tree.specs.Tree.{Shape, Fork, items, uses, AreNear, top_of, joint}
+use Rattle.piece_tree.specs.Tree.{Shape, Fork, items, height_of, uses, top_of, joint}
 use Rattle.piece_tree.specs.Tree.{Stands, IsBelow, IsWhole, free_pages, longest_of}
 use Rattle.piece_tree.specs.Way.{Above, plug, uses_above, AreSteps, CanLift, CanMend, Mends, Becomes, IsHeld}
+use Rattle.piece_tree.proofs.shapes.Apart.{IsApart, apart-same, apart-still, used-there}
 use Rattle.piece_tree.proofs.shapes.Forks.{one-same, differs, same_stands}
-use Rattle.piece_tree.proofs.shapes.Mended.{plug_stands, plug-uses, same_above}
-use Rattle.piece_tree.proofs.shapes.Tall.{whole-low}
+use Rattle.piece_tree.proofs.shapes.Mended.{plug_stands, plug-high, plug-uses, same_above, steps_few}
+use Rattle.piece_tree.proofs.shapes.Tall.{low_tree, whole-low}
 
 module _ (old mid : Slab Node) (root : Option ℕ) (way : List Step) (depth : ℕ) (path : Above) (was new : Shape) (top : Top)
     (w : IsWhole old root (plug path was)) (s : AreSteps way depth path) where
   pub edit-can : ((k : ℕ) → 0 < uses_above path k → get mid k ≡ get old k) → top ≡ top_of new → Stands (get mid) new
-      → ((k : ℕ) → uses_above path k + uses new k ≤ 1) → AreNear was new → CanMend (get mid) way depth root top path was new
-  edit-can same is stands once near = record {
+      → ((k : ℕ) → uses_above path k + uses new k ≤ 1) → height_of new ≤ 14 → CanMend (get mid) way depth root top path was new
+  edit-can same is stands once high = record {
     steps = s;
     above = same_above (get old) (get mid) path was (plug_stands (get old) path was w.stands).1 same;
     here = w.here;
     is = is;
     stands = stands;
     once = once;
-    close = near;
     low = whole-low old root (plug path was) w;
+    fair = omega (arith, high, steps_few way depth path was s, whole-low old root (plug path was) w);
   }
 
   pub edit-once : (k : ℕ) → uses_above path k + uses was k ≤ 1
@@ -98,7 +99,7 @@ module _ (nodes : Slab Node) (root : Option ℕ) (way : List Step) (held : Held)
                 kept-beside l (omega (arith, renew-once held.key)) stands.3,
                 kept-beside r (omega (arith, renew-once held.key)) stands.4,
               )
-              renew-once (omega arith, omega arith);
+              renew-once (omega (arith, plug-high path was, whole-low nodes root (plug path was) h.whole));
           same_root = refl;
           same_height = refl;
           was_is = ap (λ (n : Node). n.longest) is;
@@ -112,3 +113,27 @@ module _ (nodes : Slab Node) (root : Option ℕ) (way : List Step) (held : Held)
       edit-done nodes mid root way held.depth path was new (top_of new) h.whole h.steps end root renew-once m c,
       m.plain refl,
     )
+
+-- ---- a piece over others
+
+module _ {nodes : Slab Node} {root : Option ℕ} {way : List Step} {held : Held} {path : Above} {p : Piece} {l r : Shape}
+    (h : IsHeld nodes root way held path p l r) where
+  abbrev here : Shape
+  here = Fork held.key p l r
+
+  beside : IsApart (get nodes) (uses_above path) here
+  beside = record {
+    there = λ k g. used-there (get nodes) (plug path here) k h.whole.stands (omega (arith, plug-uses path here k));
+    once = edit-once nodes nodes root way held.depth path here here (top_of here) h.whole h.steps;
+  }
+
+  module _ {mid : Slab Node} {top : Top} {pieces : List Piece} (m : Makes nodes mid top here pieces) where
+    pub laid-can : CanMend (get mid) way held.depth root top path here m.shape
+    laid-can = edit-can nodes mid root way held.depth path here m.shape top h.whole h.steps (apart-same m beside) m.tree.is
+        m.tree.stands (apart-still m beside).once (low_tree (get mid) m.shape m.tree.stands m.tree.few)
+
+    pub laid-done : (now : Slab Node) (result : Option ℕ) → Mends (get mid) (get now) result path here m.shape
+        → now.capacity ≡ mid.capacity → Becomes nodes now result path pieces
+    laid-done now result w c = subst (λ ps. Becomes nodes now result path ps) m.all
+        (edit-done nodes mid root way held.depth path here m.shape top h.whole h.steps now result (apart-still m beside).once w
+        (c ∙ m.capacity))

@@ -6,9 +6,9 @@ use Rattle.piece_tree.specs.declared.piece.Piece.{Piece}
 use Rattle.piece_tree.specs.declared.piece.TheConstants.{MOST_PIECES}
 use Rattle.piece_tree.specs.declared.node.Node.{Node}
 use Rattle.piece_tree.specs.declared.node.Top.{Top}
-use Rattle.piece_tree.specs.Graft.{Adds, IsTree, Makes, some_of}
+use Rattle.piece_tree.specs.Graft.{Adds, Flanked, Halved, IsTree, Makes, some_of}
 use Rattle.piece_tree.specs.Tree.{Shape, Empty, items, AreParts, Joins, KeepsCount}
-use Rattle.piece_tree.proofs.shapes.Halved.{Halved, Parted, near-tree, far-tree, halved-near, halved-far, middle-join}
+use Rattle.piece_tree.proofs.shapes.Halved.{Parted, near-tree, far-tree, halved-near, halved-far, middle-join}
 use Rattle.piece_tree.proofs.shapes.Halved.{middle-parts, parted-key}
 
 -- all pieces are those of the trees, those that are left at their ends, and between these the ones that are to come
@@ -18,13 +18,6 @@ pub record Cleared (old new : Slab Node) (near : Top) (key : ℕ) (far : Top) (t
   pub f : Shape
   pub halved : Halved old new near key far t n f
   pub view : all ≡ (items n ++ below) ++ (between ++ (above ++ items f))
-
--- the trees have what is left
-pub record Flanked (old new : Slab Node) (near : Top) (key : ℕ) (far : Top) (t : Shape) (between all : List Piece) : Type 0 where
-  pub n : Shape
-  pub f : Shape
-  pub halved : Halved old new near key far t n f
-  pub view : all ≡ items n ++ (between ++ items f)
 
 -- there is room for those between, but for the one that goes under the key
 pub flanked-room : (old new : Slab Node) (near : Top) (key : ℕ) (far : Top) (t : Shape) (between all : List Piece)

@@ -1,17 +1,18 @@
 -- A key between two trees, which became parts of one tree or are going to: what becomes of them as others come.
-use Rattle.std.proofs.Common.{◌≡◌, ℕ, ◌+◌, ◌<◌, ◌≤◌, true, List, [], ◌∷◌, ◌++◌, length, Some, IsSome, refl, ap, sym, ◌∙◌, inl, inr, subst}
+use Rattle.std.proofs.Common.{◌≡◌, ℕ, ◌+◌, ◌<◌, ◌≤◌, Bool, true, false, List, [], ◌∷◌, ◌++◌, length, Some, IsSome, refl, ap, sym, ◌∙◌, inl, inr, subst}
 use Rattle.std.proofs.Common.{arith, length-append}
 use Rattle.std.proofs.lemmas.Bool.Decides.{nat_tests}
 use Rattle.slab.specs.Slab.{Slab, get, slab_len}
 use Rattle.piece_tree.specs.declared.piece.Piece.{Piece}
 use Rattle.piece_tree.specs.declared.piece.TheConstants.{MOST_PIECES}
 use Rattle.piece_tree.specs.declared.node.Node.{Node}
+use Rattle.piece_tree.specs.declared.node.Opened.{Opened}
 use Rattle.piece_tree.specs.declared.node.Top.{Top}
-use Rattle.piece_tree.specs.Graft.{IsTree, Makes}
-use Rattle.piece_tree.specs.Tree.{Look, Shape, Empty, items, height_of, root_of, one, uses, AreParts, Joins, KeepsCount}
+use Rattle.piece_tree.specs.Graft.{Halved, IsTree, Makes}
+use Rattle.piece_tree.specs.Tree.{Look, Shape, Empty, items, height_of, root_of, one, uses, fork, AreParts, Joins, KeepsCount, Opens}
 use Rattle.piece_tree.proofs.shapes.Apart.{IsApart, apart-still, apart-stands, root-used, used-there}
-use Rattle.piece_tree.proofs.shapes.Forks.{one-same, same_stands}
-use Rattle.piece_tree.proofs.shapes.Hung.{parts_flip}
+use Rattle.piece_tree.proofs.shapes.Forks.{StandsBy, one-same, opened-by, opened-there, opened-uses, same_stands}
+use Rattle.piece_tree.proofs.shapes.Hung.{joins-flip, parts_flip}
 use Rattle.piece_tree.proofs.shapes.Tall.{low_tree, order}
 
 same_key : (key k : ℕ) → 0 < one key k → k ≡ key
@@ -46,14 +47,7 @@ parts_apart look near key far n f a = record {
 
 -- ---- a key between two trees
 
--- what was made of a tree so far: a key, and the trees on its two sides. No key beside it changed or came into them
-pub record Halved (old new : Slab Node) (near : Top) (key : ℕ) (far : Top) (t n f : Shape) : Type 0 where
-  pub parts : AreParts (get new) near key far n f
-  pub apart : (k : ℕ) → uses t k ≡ 0 → IsSome (get old k) → (get new k ≡ get old k) × (one key k + uses n k + uses f k ≡ 0)
-  pub len : slab_len new + length (items t) ≡ slab_len old + (length (items n) + 1 + length (items f))
-  pub capacity : new.capacity ≡ old.capacity
-
-halved_flip : (old new : Slab Node) (near : Top) (key : ℕ) (far : Top) (t n f : Shape) → Halved old new near key far t n f
+pub halved_flip : (old new : Slab Node) (near : Top) (key : ℕ) (far : Top) (t n f : Shape) → Halved old new near key far t n f
     → Halved old new far key near t f n
 halved_flip old new near key far t n f h = record {
   parts = parts_flip (get new) near far key n f h.parts;
@@ -125,6 +119,50 @@ pub halved-far : (old mid : Slab Node) (near : Top) (key : ℕ) (far : Top) (t n
 halved-far old mid near key far t n f h new top ps m =
     halved_flip old new top key near t m.shape n
     (halved-near old mid far key near t f n (halved_flip old mid near key far t n f h) new top ps m)
+
+-- a tree that was opened
+module _ (nodes : Slab Node) {b : Bool} {top : Top} {key : ℕ} {t : Shape} {opened : Opened} (i : IsTree (get nodes) top t)
+    (o : Opens b key opened t) where
+  abbrev by : StandsBy (get nodes) b key opened.piece o.near o.far
+  by = opened-by (get nodes) b key opened t i.stands o
+
+  pub opened-long : length (items t) ≡ length (items o.near) + 1 + length (items o.far)
+  opened-long = ap (λ x. length (items x)) o.is ∙ sizes b
+    where
+      sizes : (b : Bool) → length (items (fork b key opened.piece o.near o.far)) ≡ length (items o.near) + 1 + length (items o.far)
+      sizes true = omega (arith, length-append (items o.near) (opened.piece ∷ items o.far))
+      sizes false = omega (arith, length-append (items o.far) (opened.piece ∷ items o.near))
+
+  pub halved-open : Halved nodes nodes opened.near key opened.far t o.near o.far
+  halved-open =
+      let uses-t = opened-uses (get nodes) b key opened t i.stands o in
+      let n = low_tree (get nodes) o.near by.one (omega (arith, i.few, opened-long)) in
+      let f = low_tree (get nodes) o.far by.other (omega (arith, i.few, opened-long)) in
+      record {
+        parts = record {
+          near_is = o.near_is;
+          far_is = o.far_is;
+          near_stands = by.one;
+          far_stands = by.other;
+          here = opened-there (get nodes) b key opened t i.stands o;
+          once = λ k. omega (arith, i.once k, uses-t k);
+          low = (omega (arith, n), omega (arith, f));
+        };
+        apart = λ k z e. (refl, omega (arith, uses-t k));
+        len = omega (arith, opened-long);
+        capacity = refl;
+      }
+
+-- both became one, by the side
+pub halved-side : (old mid : Slab Node) (near : Top) (key : ℕ) (far : Top) (t n f : Shape) → Halved old mid near key far t n f
+    → (b : Bool) (new : Slab Node) (top : Top) (p : Piece) → Joins (get mid) (get new) b top key p n f → KeepsCount mid new
+    → length (items n) + length (items f) < MOST_PIECES → Makes old new top t (items (fork b key p n f))
+halved-side old mid near key far t n f h true new top p j c few =
+    halved-join old mid near key far t n f h new top p (items n ++ p ∷ items f) j c refl
+    (omega (arith, few, length-append (items n) (p ∷ items f)))
+halved-side old mid near key far t n f h false new top p j c few =
+    halved-join old mid far key near t f n (halved_flip old mid near key far t n f h) new top p (items f ++ p ∷ items n)
+    (joins-flip (get mid) (get new) true top key p f n j) c refl (omega (arith, few, length-append (items f) (p ∷ items n)))
 
 -- ---- two trees
 

@@ -1,7 +1,6 @@
 -- A tree hung below a key, where another one was.
-use Rattle.std.proofs.Common.{◌≡◌, ◌≢◌, ℕ, ◌+◌, max, Bool, true, false, nat_eq, Option, None, Some, IfSome, refl, ap, sym, ◌∙◌, subst, arith}
+use Rattle.std.proofs.Common.{◌≡◌, ◌≢◌, ℕ, ◌+◌, max, Bool, true, false, Option, None, Some, IfSome, refl, ap, sym, ◌∙◌, subst, arith}
 use Rattle.std.specs.Prelude.{not}
-use Rattle.std.proofs.lemmas.Bool.Decides.{nat_tests}
 use Rattle.piece_tree.specs.declared.piece.Piece.{Piece}
 use Rattle.piece_tree.specs.declared.node.Node.{Node}
 use Rattle.piece_tree.specs.declared.node.Top.{Top}
@@ -13,9 +12,6 @@ use Rattle.piece_tree.specs.Way.{CanHang, Hangs, IsKept}
 use Rattle.piece_tree.proofs.shapes.Forks.{one-same, is_there, differs, same_stands, fork-height, fork-longest, fork-uses, fork-root}
 use Rattle.piece_tree.proofs.shapes.Forks.{fork-top}
 use Rattle.piece_tree.proofs.shapes.Forks.{by_stands}
-
-pub eq_true : (x y : ℕ) → nat_eq x y ≡ true → x ≡ y
-eq_true x y e = grind (arith, nat_tests)
 
 joint-piece : (b : Bool) (p : Piece) (near far : Top) → (joint_at b p near far).piece ≡ p
 joint-piece true p near far = refl
@@ -105,17 +101,10 @@ module _ (look : Look) (step : Step) (tree : Top) (piece : Piece) (was n f : Sha
     low = h.low;
   }
 
-  pub hung-flip : (other : Top) → other ≡ top_of f → AreParts look other step.key tree f n
-  hung-flip other i = parts_flip look tree other step.key n f (hung-parts other i)
-
   -- by turns
   pub hangs-turned : (new : Look) (top : Top) → Joins look new step.before top step.key node.piece n f
       → Hangs look new step (record { top = top; kept = None }) piece was n f
   hangs-turned new top j = record { joins = subst (λ q. Joins look new step.before top step.key q n f) piece_is j; kept = tt }
-
-  pub hangs-flipped : (new : Look) (top : Top) → Joins look new (not step.before) top step.key node.piece f n
-      → Hangs look new step (record { top = top; kept = None }) piece was n f
-  hangs-flipped new top j = hangs-turned new top (joins-flip look new step.before top step.key node.piece n f j)
 
   shown-height : node.height ≡ height_of (fork step.before step.key piece was f)
   shown-height = ap (λ (y : Node). y.height) node_is ∙ joint-height step.before piece (top_of was) (top_of f)

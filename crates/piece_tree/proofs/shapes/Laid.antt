@@ -1,15 +1,14 @@
 -- Pieces in order, at a page: what they have below it and above it, and on which side of a piece the page lies.
-use Rattle.std.proofs.Common.{◌≡◌, ℕ, ◌+◌, ◌<◌, ◌≤◌, Bool, true, false, List, [], ◌∷◌, ◌++◌, None, IsSome, refl}
-use Rattle.std.proofs.Common.{◌∙◌, inl, inr, subst, arith}
+use Rattle.std.proofs.Common.{◌≡◌, ℕ, ◌+◌, ◌<◌, ◌≤◌, Bool, true, false, List, [], ◌∷◌, ◌++◌, length, refl}
+use Rattle.std.proofs.Common.{inl, inr, arith}
 use Rattle.std.proofs.lemmas.Bool.Decides.{nat_tests}
 use Rattle.std.specs.List.{AllByRecursion}
 use Rattle.piece_tree.specs.declared.piece.Piece.{Piece}
 use Rattle.piece_tree.specs.declared.piece.TheConstants.{NUMBERS_END}
-use Rattle.piece_tree.specs.Laid.{IsRow, part_above, part_below, rest_above, rest_below}
-use Rattle.piece_tree.specs.Pieces.{AreSorted, Holds, IsPiece, piece_at}
+use Rattle.piece_tree.specs.Laid.{IsRow, part_above, part_below, part_beside, rest_above, rest_below}
+use Rattle.piece_tree.specs.Pieces.{AreSorted, Holds, IsPiece}
 use Rattle.piece_tree.specs.Tree.{Shape, fork, items}
-use Rattle.piece_tree.proofs.shapes.Placed.{at-none, at-skip}
-use Rattle.piece_tree.proofs.shapes.Sorted.{begins_above, ends_below, sorted_at, sorted_front}
+use Rattle.piece_tree.proofs.shapes.Sorted.{sorted_at, sorted_front}
 use Rattle.piece_tree.proofs.shapes.Tall.{order}
 
 -- ---- what lies below a page, and above one
@@ -52,35 +51,113 @@ above-at from page (x ∷ xs) p ys s h =
     let b : x.last < page = omega (arith, a.0, h.0) in
     grind (arith, nat_tests, above-at (x.last + 1) page xs p ys s.2 h, b)
 
--- ---- where a page lies
+-- ---- about a piece that reaches to the page
 
--- a page that lies in some piece isn't below all of them
-pub not_below : (from page : ℕ) (ps : List Piece) → AreSorted from ps → IsSome (piece_at ps page) → from ≤ page
-not_below from page ps s h =
-    elim (order from page) [
-      | inl a ↦ a
-      | inr a ↦
-          let n = at-none page ps (begins_above from page ps s a) in
-          absurd (let x : IsSome {T = Piece} None = subst (λ o. IsSome o) n h in cc)
+-- pieces that end below it are below it whole
+pub below-all : (page : ℕ) (ps : List Piece) → AllByRecursion (λ q. q.last < page) ps → part_below page ps ≡ ps
+unfolding part_below
+below-all page [] a = refl
+below-all page (p ∷ ps) a = grind (arith, nat_tests, below-all page ps a.1, a.0)
+
+pub below-mid : (from page : ℕ) (xs : List Piece) (p : Piece) (ys : List Piece) → AreSorted from (xs ++ p ∷ ys) → page ≤ p.last
+    → part_below page (xs ++ p ∷ ys) ≡ part_below page xs ++ rest_below page p
+unfolding part_below
+below-mid from page [] p ys s h = grind (arith, nat_tests, h)
+below-mid from page (x ∷ xs) p ys s h =
+    let a = sorted_at (x.last + 1) xs p ys s.2 in
+    elim (order page x.last) [
+      | inl b ↦
+          let c : page ≤ p.first = omega (arith, a.0, b) in
+          grind (arith, nat_tests, b, c)
+      | inr b ↦ grind (arith, nat_tests, below-mid (x.last + 1) page xs p ys s.2 h, b)
     ]
 
-at-before : (page : ℕ) (xs ys : List Piece) → AllByRecursion (λ q. page < q.first) ys → piece_at (xs ++ ys) page ≡ piece_at xs page
-unfolding piece_at
-at-before page [] ys a = at-none page ys a
-at-before page (x ∷ xs) ys a = grind (arith, nat_tests, at-before page xs ys a)
+pub above-mid : (from page : ℕ) (xs : List Piece) (p : Piece) (ys : List Piece) → AreSorted from (xs ++ p ∷ ys) → p.first ≤ page
+    → part_above page (xs ++ p ∷ ys) ≡ rest_above page p ++ part_above page ys
+unfolding part_above
+above-mid from page [] p ys s h =
+    elim (order p.last page) [
+      | inl a ↦ grind (arith, nat_tests, a)
+      | inr a ↦
+          let b = above-all (p.last + 1) page ys s.2 (omega (arith, a)) in
+          grind (arith, nat_tests, a, b, h)
+    ]
+above-mid from page (x ∷ xs) p ys s h =
+    let a = sorted_at (x.last + 1) xs p ys s.2 in
+    let b : x.last ≤ page = omega (arith, a.0, h) in
+    grind (arith, nat_tests, above-mid (x.last + 1) page xs p ys s.2 h, b)
 
--- a page that doesn't lie in a piece, but before it or behind it
-pub at-beside : (b : Bool) (from page key : ℕ) (p : Piece) (n f : Shape) → AreSorted from (items (fork b key p n f))
-    → (b ≡ true → page < p.first) → (b ≡ false → p.last < page) → piece_at (items (fork b key p n f)) page ≡ piece_at (items n) page
-at-beside true from page key p n f s on off =
-    let a = sorted_at from (items n) p (items f) s in
-    let c = on refl in
-    at-before page (items n) (p ∷ items f) (c, begins_above (p.last + 1) page (items f) a.2 (omega (arith, a.1)))
-at-beside false from page key p n f s on off =
-    let a = sorted_at from (items f) p (items n) s in
-    let c = off refl in
-    at-skip page (items f) (p ∷ items n) (ends_below from page (items f) p (items n) s (omega (arith, a.1)))
-    ∙ at-skip page (p ∷ []) (items n) (c, tt)
+-- ---- about pieces on both sides of the page
+
+-- pieces that begin above it are no matter
+pub below-front : (page : ℕ) (xs ys : List Piece) → AllByRecursion (λ q. page < q.first) ys → AreSorted 0 ys
+    → part_below page (xs ++ ys) ≡ part_below page xs
+unfolding part_below
+below-front page [] [] a s = refl
+below-front page [] (y ∷ ys) a s =
+    let b : page ≤ y.first = omega (arith, a.0) in
+    let c : page ≤ y.last = omega (arith, a.0, s.1) in
+    grind (arith, nat_tests, b, c)
+below-front page (x ∷ xs) ys a s = grind (arith, nat_tests, below-front page xs ys a s)
+
+-- nor are those that end below it
+pub above-back : (page : ℕ) (xs ys : List Piece) → AllByRecursion (λ q. q.last < page) xs → part_above page (xs ++ ys) ≡ part_above page ys
+unfolding part_above
+above-back page [] ys a = refl
+above-back page (x ∷ xs) ys a =
+    let b : x.last ≤ page = omega (arith, a.0) in
+    grind (arith, nat_tests, above-back page xs ys a.1, b)
+
+pub below-back : (page : ℕ) (xs ys : List Piece) → AllByRecursion (λ q. q.last < page) xs
+    → part_below page (xs ++ ys) ≡ xs ++ part_below page ys
+unfolding part_below
+below-back page [] ys a = refl
+below-back page (x ∷ xs) ys a = grind (arith, nat_tests, below-back page xs ys a.1, a.0)
+
+pub above-front : (page : ℕ) (xs ys : List Piece) → AllByRecursion (λ q. page < q.first) ys → AreSorted 0 ys
+    → part_above page (xs ++ ys) ≡ part_above page xs ++ ys
+unfolding part_above
+above-front page [] [] a s = refl
+above-front page [] (y ∷ ys) a s =
+    let b : page < y.first = a.0 in
+    let c : page < y.last = omega (arith, a.0, s.1) in
+    grind (arith, nat_tests, b, c)
+above-front page (x ∷ xs) ys a s = grind (arith, nat_tests, above-front page xs ys a s)
+
+-- ---- how many there are
+
+below-short : (page : ℕ) (ps : List Piece) → length (part_below page ps) ≤ length ps
+unfolding part_below
+below-short page [] = omega arith
+below-short page (p ∷ ps) = let r = below-short page ps in elim (order page p.last) [
+  | inl a ↦ elim (order page p.first) [
+    | inl b ↦ grind (arith, nat_tests, a, b)
+    | inr b ↦ grind (arith, nat_tests, a, b)
+  ]
+  | inr a ↦ grind (arith, nat_tests, a, r)
+]
+
+pub above-short : (page : ℕ) (ps : List Piece) → length (part_above page ps) ≤ length ps
+unfolding part_above
+above-short page [] = omega arith
+above-short page (p ∷ ps) = let r = above-short page ps in elim (order p.last page) [
+  | inl a ↦ grind (arith, nat_tests, a, r)
+  | inr a ↦ elim (order p.first page) [
+    | inl b ↦ grind (arith, nat_tests, a, b)
+    | inr b ↦ grind (arith, nat_tests, a, b)
+  ]
+]
+
+pub part-nil : (b : Bool) (page : ℕ) → part_beside b page [] ≡ []
+unfolding part_below part_above
+part-nil true page = refl
+part-nil false page = refl
+
+pub part-short : (b : Bool) (page : ℕ) (ps : List Piece) → length (part_beside b page ps) ≤ length ps
+part-short true page ps = below-short page ps
+part-short false page ps = above-short page ps
+
+-- ---- a tree beside a key
 
 pub sorted-beside : (b : Bool) (from key : ℕ) (p : Piece) (n f : Shape) → AreSorted from (items (fork b key p n f))
     → (low : ℕ) × AreSorted low (items n)

@@ -104,10 +104,10 @@ pub place-few : (way : List Step) (depth key : ℕ) (up : Above) (t : Shape) →
     → height_of (plug up t) ≤ 14 → depth < 14
 place-few way depth key up t s e h = omega (arith, steps_few way depth up t s, some_height t key e)
 
--- ---- down to a page
+-- ---- down to pages
 
-module _ (nodes : Slab Node) (root : Option ℕ) (page : ℕ) (at : Option ℕ) (key : ℕ) (t : Shape) (w : IsWhole nodes root t)
-    (q : Lies page at t) (e : at ≡ Some key) where
+module _ (nodes : Slab Node) (root : Option ℕ) (first last : ℕ) (at : Option ℕ) (key : ℕ) (t : Shape) (w : IsWhole nodes root t)
+    (q : Lies first last at t) (e : at ≡ Some key) where
   pub lies-root : root_of q.there ≡ Some key
   lies-root = sym q.root ∙ e
 
@@ -134,9 +134,9 @@ module _ (nodes : Slab Node) (root : Option ℕ) (page : ℕ) (at : Option ℕ) 
     beside true = lies-at.r
     beside false = lies-at.l
 
-    pub lies-on : (b : Bool) (child : Option ℕ) → (b ≡ true → page < node.piece.first) → (b ≡ false → node.piece.last < page)
+    pub lies-on : (b : Bool) (child : Option ℕ) → (b ≡ true → last < node.piece.first) → (b ≡ false → node.piece.last < first)
         → (b ≡ true → child ≡ node.left) → (b ≡ false → child ≡ node.right)
-        → (x : Lies page child t) × (x.path ≡ Beside b key node.piece (beside b) q.path)
+        → (x : Lies first last child t) × (x.path ≡ Beside b key node.piece (beside b) q.path)
     lies-on true child on off left right =
         let s = sorted_at lies-sorted.0 (items lies-at.l) node.piece (items lies-at.r) lies-sorted.1 in
         let h = on refl in (
@@ -148,8 +148,8 @@ module _ (nodes : Slab Node) (root : Option ℕ) (page : ℕ) (at : Option ℕ) 
             before = q.before;
             behind = (
               h,
-              all_append (λ x. page < x.first) (items lies-at.r) (back q.path)
-                  (begins_above (node.piece.last + 1) page (items lies-at.r) s.2 (omega (arith, s.1))) q.behind,
+              all_append (λ x. last < x.first) (items lies-at.r) (back q.path)
+                  (begins_above (node.piece.last + 1) last (items lies-at.r) s.2 (omega (arith, s.1))) q.behind,
             );
           },
           refl,
@@ -162,54 +162,59 @@ module _ (nodes : Slab Node) (root : Option ℕ) (page : ℕ) (at : Option ℕ) 
             there = lies-at.r;
             is = q.is ∙ ap (plug q.path) lies-at.is;
             root = right refl ∙ lies-at.right;
-            before = all_append (λ x. x.last < page) (front q.path) (items lies-at.l ++ node.piece ∷ []) q.before
-                (all_append (λ x. x.last < page) (items lies-at.l) (node.piece ∷ [])
-                (ends_below lies-sorted.0 page (items lies-at.l) node.piece (items lies-at.r) lies-sorted.1 (omega (arith, s.1))) (h, tt));
+            before = all_append (λ x. x.last < first) (front q.path) (items lies-at.l ++ node.piece ∷ []) q.before
+                (all_append (λ x. x.last < first) (items lies-at.l) (node.piece ∷ [])
+                (ends_below lies-sorted.0 first (items lies-at.l) node.piece (items lies-at.r) lies-sorted.1 (omega (arith, s.1))) (h, tt));
             behind = q.behind;
           },
           refl,
         )
 
 abbrev pub IsLooking : Slab Node → Option ℕ → ℕ → Option ℕ → Type 0
-IsLooking nodes root page at = (t : Shape) → IsWhole nodes root t → Lies page at t
+IsLooking nodes root page at = (t : Shape) → IsWhole nodes root t → Lies page page at t
 
 pub look_start : (nodes : Slab Node) (root : Option ℕ) (page : ℕ) → IsLooking nodes root page root
 look_start nodes root page t w = record { path = Whole; there = t; is = refl; root = w.here; before = tt; behind = tt }
 
-abbrev pub IsWalking : Slab Node → Option ℕ → ℕ → List Step → Option ℕ → ℕ → Type 0
-IsWalking nodes root page way at depth =
-    ((t : Shape) → IsWhole nodes root t → Leads way page (record { at = at; depth = depth }) t) × (length way ≡ 14)
+abbrev pub IsWalking : Slab Node → Option ℕ → ℕ → ℕ → List Step → Option ℕ → ℕ → Type 0
+IsWalking nodes root first last way at depth =
+    ((t : Shape) → IsWhole nodes root t → Leads way first last (record { at = at; depth = depth }) t) × (length way ≡ 14)
 
-pub walk_start : (nodes : Slab Node) (root : Option ℕ) (page : ℕ) (way : List Step) → length way ≡ 14
-    → IsWalking nodes root page way root 0
-unfolding look_start
-walk_start nodes root page way e = ((λ t w. record { lies = look_start nodes root page t w; steps = refl }), e)
+pub walk_start : (nodes : Slab Node) (root : Option ℕ) (first last : ℕ) (way : List Step) → length way ≡ 14
+    → IsWalking nodes root first last way root 0
+walk_start nodes root first last way e = (
+  (λ t w. record {
+    lies = record { path = Whole; there = t; is = refl; root = w.here; before = tt; behind = tt };
+    steps = refl;
+  }),
+  e,
+)
 
-module _ (nodes : Slab Node) (root : Option ℕ) (page : ℕ) (way : List Step) (at : Option ℕ) (depth key : ℕ)
-    (i : IsWalking nodes root page way at depth) (e : at ≡ Some key) (t : Shape) (w : IsWhole nodes root t) where
-  abbrev q : Leads way page (record { at = at; depth = depth }) t
+module _ (nodes : Slab Node) (root : Option ℕ) (first last : ℕ) (way : List Step) (at : Option ℕ) (depth key : ℕ)
+    (i : IsWalking nodes root first last way at depth) (e : at ≡ Some key) (t : Shape) (w : IsWhole nodes root t) where
+  abbrev q : Leads way first last (record { at = at; depth = depth }) t
   q = i.0 t w
 
   pub walk-there : IsSome (get nodes key)
-  walk-there = lies-there nodes root page at key t w q.lies e
+  walk-there = lies-there nodes root first last at key t w q.lies e
 
   pub walk-few : depth < 14
-  walk-few = place-few way depth key q.lies.path q.lies.there q.steps (lies-root nodes root page at key t w q.lies e)
+  walk-few = place-few way depth key q.lies.path q.lies.there q.steps (lies-root nodes root first last at key t w q.lies e)
       (subst (λ x. height_of x ≤ 14) q.lies.is (whole-low nodes root t w))
 
   module _ (node : Node) (f : get nodes key ≡ Some node) (b : Bool) (child : Option ℕ) (left : b ≡ true → child ≡ node.left)
       (right : b ≡ false → child ≡ node.right) where
     pub walk-smaller : node_height (at_root (get nodes) child) < node_height (at_root (get nodes) at)
-    walk-smaller = lies-smaller nodes root page at key t w q.lies e node f b child left right
+    walk-smaller = lies-smaller nodes root first last at key t w q.lies e node f b child left right
 
-    pub walk-leads : (b ≡ true → page < node.piece.first) → (b ≡ false → node.piece.last < page)
-        → Leads (slice_set way depth (record { key = key; before = b })) page (record { at = child; depth = depth + 1 }) t
+    pub walk-leads : (b ≡ true → last < node.piece.first) → (b ≡ false → node.piece.last < first)
+        → Leads (slice_set way depth (record { key = key; before = b })) first last (record { at = child; depth = depth + 1 }) t
     walk-leads on off =
-        let x = lies-on nodes root page at key t w q.lies e node f b child on off left right in
+        let x = lies-on nodes root first last at key t w q.lies e node f b child on off left right in
         record {
           lies = x.0;
           steps = subst (λ u. AreSteps (slice_set way depth (record { key = key; before = b })) (depth + 1) u) (sym x.1)
-              (steps_more way depth key b node.piece (beside nodes root page at key t w q.lies e node f b) q.lies.path q.steps (omega
+              (steps_more way depth key b node.piece (beside nodes root first last at key t w q.lies e node f b) q.lies.path q.steps (omega
               (arith, i.1, walk-few)));
         }
 
@@ -229,7 +234,7 @@ module _ (nodes : Slab Node) (root : Option ℕ) (way : List Step) (held : Held)
       let is : n ≡ joint h.piece (top_of h.left) (top_of h.right) = cc in
       ap (λ (x : Node). x.piece) is
 
-  module _ (n : Node) (f : get nodes held.key ≡ Some n) (page : ℕ) (low : n.piece.first ≤ page) (high : page ≤ n.piece.last) where
+  module _ (n : Node) (f : get nodes held.key ≡ Some n) (from end : ℕ) (low : n.piece.first ≤ from) (high : end ≤ n.piece.last) where
     same_piece : n.piece ≡ h.piece
     same_piece = hand-piece n f
 
@@ -240,23 +245,23 @@ module _ (nodes : Slab Node) (root : Option ℕ) (way : List Step) (held : Held)
     sorted : AreSorted 0 ((front h.path ++ items h.left) ++ h.piece ∷ (items h.right ++ back h.path))
     sorted = subst (λ l. AreSorted 0 l) all w.sorted
 
-    lo : h.piece.first ≤ page
-    lo = subst (λ (x : Piece). x.first ≤ page) same_piece low
+    lo : h.piece.first ≤ from
+    lo = subst (λ (x : Piece). x.first ≤ from) same_piece low
 
-    hi : page ≤ h.piece.last
-    hi = subst (λ (x : Piece). page ≤ x.last) same_piece high
+    hi : end ≤ h.piece.last
+    hi = subst (λ (x : Piece). end ≤ x.last) same_piece high
 
-    pub hand-leads : Leads way page (record { at = Some held.key; depth = held.depth }) t
+    pub hand-leads : Leads way from end (record { at = Some held.key; depth = held.depth }) t
     hand-leads = record {
       lies = record {
         path = h.path;
         there = Fork held.key h.piece h.left h.right;
         is = h.is;
         root = refl;
-        before = all_left (λ q. q.last < page) (front h.path) (items h.left)
-            (ends_below 0 page (front h.path ++ items h.left) h.piece (items h.right ++ back h.path) sorted lo);
-        behind = all_right (λ q. page < q.first) (items h.right) (back h.path)
-            (begins_above (h.piece.last + 1) page (items h.right ++ back h.path)
+        before = all_left (λ q. q.last < from) (front h.path) (items h.left)
+            (ends_below 0 from (front h.path ++ items h.left) h.piece (items h.right ++ back h.path) sorted lo);
+        behind = all_right (λ q. end < q.first) (items h.right) (back h.path)
+            (begins_above (h.piece.last + 1) end (items h.right ++ back h.path)
             (sorted_at 0 (front h.path ++ items h.left) h.piece (items h.right ++ back h.path) sorted).2 (omega (arith, hi)));
       };
       steps = h.steps;

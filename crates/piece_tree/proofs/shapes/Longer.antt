@@ -3,23 +3,13 @@ use Rattle.std.proofs.Common.{ℕ, ◌+◌, ◌≤◌, List, [], ◌∷◌, ◌+
 use Rattle.std.proofs.lemmas.Bool.Decides.{nat_tests}
 use Rattle.piece_tree.specs.declared.piece.Piece.{Piece}
 use Rattle.piece_tree.specs.Laid.{part_above, part_below, rest_below, with_row}
+use Rattle.piece_tree.proofs.shapes.Laid.{above-short}
 use Rattle.piece_tree.proofs.shapes.Tall.{order}
 
 rest-short : (page : ℕ) (p : Piece) → length (rest_below page p) ≤ 1
 rest-short page p = elim (order page p.first) [
   | inl a ↦ grind (arith, nat_tests, a)
   | inr a ↦ grind (arith, nat_tests, a)
-]
-
-above-short : (page : ℕ) (ps : List Piece) → length (part_above page ps) ≤ length ps
-unfolding part_above
-above-short page [] = omega arith
-above-short page (p ∷ ps) = let r = above-short page ps in elim (order p.last page) [
-  | inl a ↦ grind (arith, nat_tests, a, r)
-  | inr a ↦ elim (order p.first page) [
-    | inl b ↦ grind (arith, nat_tests, a, b)
-    | inr b ↦ grind (arith, nat_tests, a, b)
-  ]
 ]
 
 -- one piece alone is on both sides, at most

@@ -1,14 +1,13 @@
 -- A way back up a tree, where another tree lies at its end.
 use Rattle.std.proofs.Common.{◌≡◌, ℕ, ◌+◌, ◌-◌, ◌<◌, ◌≤◌, max, Bool, true, false, List, Option, Some, IfSome, refl, ap, sym, ◌∙◌}
-use Rattle.std.proofs.Common.{inl, inr, subst, arith}
-use Rattle.std.proofs.lemmas.Bool.{cases_eq}
+use Rattle.std.proofs.Common.{subst, arith}
 use Rattle.slab.specs.Slab.{Slab, get}
 use Rattle.piece_tree.specs.declared.piece.Piece.{Piece}
 use Rattle.piece_tree.specs.declared.node.Node.{Node}
 use Rattle.piece_tree.specs.declared.node.Top.{Top}
 use Rattle.piece_tree.specs.declared.way.Hung.{Hung}
 use Rattle.piece_tree.specs.declared.way.Step.{Step}
-use Rattle.piece_tree.specs.Tree.{Look, Shape, items, height_of, longest_of, free_pages, uses, AreNear, fork, top_of}
+use Rattle.piece_tree.specs.Tree.{Look, Shape, items, height_of, longest_of, free_pages, uses, fork, top_of}
 use Rattle.piece_tree.specs.Tree.{joint_at, Stands, Joins, KeepsCount}
 use Rattle.piece_tree.specs.Way.{Above, Whole, Beside, plug, among, uses_above, AreAbove, step_at, AreSteps, CanHang, Hangs, IsKept, CanLift, CanMend, Mends}
 use Rattle.piece_tree.proofs.shapes.Forks.{one-same, same_stands, fork-height, fork-uses, stands_by, by_stands}
@@ -190,12 +189,11 @@ module _ (old now : Slab Node) (way : List Step) (depth : ℕ) (root : Option �
         here = can.above.0;
         fine = can.above.1;
         near = can.above.2;
-        close = can.close;
         tree_is = can.is;
         stands = can.stands;
         beside = can.above.3;
         once = λ k. omega (arith, can.once k);
-        low = (omega (arith, can.low, can.close), omega (arith, can.low));
+        low = (omega (arith, can.fair), omega (arith, can.low));
       }
 
   module _ (next : Slab Node) (hung : Hung) (i : Hangs (get now) (get next) s hung la.piece m.there m.here la.other)
@@ -203,15 +201,10 @@ module _ (old now : Slab Node) (way : List Step) (depth : ℕ) (root : Option �
     abbrev j : Joins (get now) (get next) s.before hung.top s.key la.piece m.here la.other
     j = i.joins
 
-    stays-close : AreNear was j.shape
-    stays-close =
+    stays-fair : height_of j.shape + (depth - 1) ≤ 28
+    stays-fair =
         let e = fork-height s.before s.key la.piece m.there la.other in
-        elim (cases_eq (height_of m.here) (height_of la.other)) [
-          | inl x ↦
-              let y = ap height_of (j.plain (omega arith, omega arith)) ∙ fork-height s.before s.key la.piece m.here la.other in
-              (omega (arith, can.above.2, can.close), omega (arith, can.above.2, can.close))
-          | inr x ↦ (omega (arith, can.above.2, can.close, j.tall, j.short), omega (arith, can.above.2, can.close, j.tall, j.short))
-        ]
+        omega (arith, j.short, can.fair, can.low, steps_few way (depth - 1) la.more was la.steps)
 
     pub further : CanMend (get next) way (depth - 1) root hung.top la.more was j.shape
     further = record {
@@ -221,8 +214,8 @@ module _ (old now : Slab Node) (way : List Step) (depth : ℕ) (root : Option �
       is = j.is;
       stands = j.stands;
       once = λ k. omega (arith, can.once k, j.keys k);
-      close = stays-close;
       low = can.low;
+      fair = stays-fair;
     }
 
     among-hung : among la.more (items j.shape) ≡ among (Beside s.before s.key la.piece la.other la.more) (items m.here)

@@ -1,18 +1,21 @@
--- The whole tree, once a piece was put over one of its pieces, at the place of a page.
-use Rattle.std.proofs.Common.{◌≡◌, ℕ, ◌+◌, ◌<◌, ◌≤◌, List, [], ◌∷◌, ◌++◌, length, Option, Some, None, IsSome, refl, ap, sym, ◌∙◌}
+-- The whole tree, once a row was put over pieces of it.
+use Rattle.std.proofs.Common.{◌≡◌, ℕ, ◌+◌, ◌<◌, ◌≤◌, List, ◌∷◌, ◌++◌, length, Option, Some, None, IsSome, IfSome, refl, ap, sym, ◌∙◌}
 use Rattle.std.proofs.Common.{subst, arith, append_assoc, length-append}
 use Rattle.slab.specs.Slab.{Slab, get, slab_len}
 use Rattle.piece_tree.specs.declared.piece.Piece.{Piece}
 use Rattle.piece_tree.specs.declared.piece.TheConstants.{MOST_PIECES, NUMBERS_END}
 use Rattle.piece_tree.specs.declared.node.Node.{Node}
-use Rattle.piece_tree.specs.Graft.{CanSever, some_of}
-use Rattle.piece_tree.specs.Laid.{rest_above, rest_below, with_piece}
-use Rattle.piece_tree.specs.Pieces.{AreSorted, Holds, IsPiece, piece_at}
-use Rattle.piece_tree.specs.Tree.{Shape, items, IsWhole, KeepsCount, pieces_of}
-use Rattle.piece_tree.specs.Way.{among, front, back, Becomes, Lies}
-use Rattle.piece_tree.proofs.shapes.Covered.{above-none, below-none, row-at, with_piece-sorted}
-use Rattle.piece_tree.proofs.shapes.Placed.{before-it, behind-it, place-all, found_split, put-view, put-whole, whole-now, whole-view, x}
-use Rattle.piece_tree.proofs.shapes.Sorted.{plug-parts, sorted_at}
+use Rattle.piece_tree.specs.declared.way.Step.{Step}
+use Rattle.piece_tree.specs.Graft.{CanReplace}
+use Rattle.piece_tree.specs.Laid.{IsRow, rest_above, with_row}
+use Rattle.piece_tree.specs.Pieces.{AreSorted, HasAny, piece_at}
+use Rattle.piece_tree.specs.Tree.{Shape, Fork, items, IsWhole, KeepsCount, pieces_of}
+use Rattle.piece_tree.specs.Way.{among, front, back, plug, AreSteps, Becomes, IsHeld, Lies}
+use Rattle.piece_tree.proofs.shapes.Covered.{above-none, below-none, row-at, row-within, with_row-sorted}
+use Rattle.piece_tree.proofs.shapes.Led.{Roots, lies-at}
+use Rattle.piece_tree.proofs.shapes.Mended.{plug-items, plug-uses, plug_stands}
+use Rattle.piece_tree.proofs.shapes.Placed.{found_split, whole-now, whole-view}
+use Rattle.piece_tree.proofs.shapes.Sorted.{all_map, plug-parts, sorted_at, sorted_behind, sorted_there}
 
 -- a page that lies in a piece is the number of one
 pub at-narrow : (from page : ℕ) (ps : List Piece) → AreSorted from ps → IsSome (piece_at ps page) → page < NUMBERS_END
@@ -25,122 +28,161 @@ at-narrow from page ps s h = go (piece_at ps page) refl h
         let a = sorted_at from r.0 p r.1 (subst (λ l. AreSorted from l) r.2 s) in
         omega (arith, a.1, r.3)
 
--- a page of the whole tree, where that is taken apart
-pub whole-sever : (nodes : Slab Node) (root : Option ℕ) (page : ℕ) (t : Shape) → IsWhole nodes root t → IsSome (piece_at (items t) page)
-    → CanSever (get nodes) root page t
-whole-sever nodes root page t w h = record {
-  below = (w.here, w.stands);
-  once = w.once;
-  few = w.few;
-  from = 0;
-  sorted = w.sorted;
-  holds = h;
-}
+-- ---- a row over pieces of which one is the highest
 
-module _ (nodes : Slab Node) (root : Option ℕ) (page : ℕ) (at : Option ℕ) (t : Shape) (w : IsWhole nodes root t) (q : Lies page at t)
-    (key : ℕ) (here : at ≡ Some key) (n : Node) (f : get nodes key ≡ Some n) (holds : Holds n.piece page) (piece : Piece)
-    (first : piece.first ≡ page) (some : piece.first ≤ piece.last) where
-  abbrev xs : List Piece
-  xs = before-it nodes root page at t w q key here n f holds
+pub has_any : (nodes : Slab Node) (at : Option ℕ) (key first last : ℕ) → at ≡ Some key
+    → IfSome at (λ k. (n : Node) × (get nodes k ≡ Some n) × HasAny n.piece first last)
+    → (node : Node) → get nodes key ≡ Some node → HasAny node.piece first last
+has_any nodes at key first last e h node f =
+    let a = subst (λ o. IfSome o (λ k. (n : Node) × (get nodes k ≡ Some n) × HasAny n.piece first last)) e h in
+    let g = a.1 in
+    let same : a.0 ≡ node = cc in
+    subst (λ (n : Node). HasAny n.piece first last) same a.2
 
-  abbrev ys : List Piece
-  ys = behind-it nodes root page at t w q key here n f holds
+-- the node there
+pub node_at : (nodes : Slab Node) (at : Option ℕ) (key first last : ℕ) → at ≡ Some key
+    → IfSome at (λ k. (n : Node) × (get nodes k ≡ Some n) × HasAny n.piece first last) → (n : Node) × (get nodes key ≡ Some n)
+node_at nodes at key first last e h =
+    let a = subst (λ o. IfSome o (λ k. (n : Node) × (get nodes k ≡ Some n) × HasAny n.piece first last)) e h in
+    (a.0, a.1)
 
-  abbrev l : Shape
-  l = (x nodes root page at t w q key here n f holds).l
+module _ (first : ℕ) (row : List Piece) (last : ℕ) {nodes : Slab Node} {root at : Option ℕ} {t : Shape} (w : IsWhole nodes root t)
+    (q : Lies first last at t) (some : first ≤ last) where
+  -- the place is that of its first page too
+  pub lies-first : Lies first first at t
+  lies-first = record {
+    path = q.path;
+    there = q.there;
+    is = q.is;
+    root = q.root;
+    before = q.before;
+    behind = all_map (λ x. last < x.first) (λ x. first < x.first) (λ x h. omega (arith, h, some)) (back q.path) q.behind;
+  }
 
-  abbrev r : Shape
-  r = (x nodes root page at t w q key here n f holds).r
+  module _ {key : ℕ} (here : at ≡ Some key) {n : Node} (f : get nodes key ≡ Some n) where
+    abbrev pub x : Roots key n q.there
+    x = lies-at nodes root first last at key t w q here n f
 
-  is : items t ≡ xs ++ n.piece ∷ ys
-  is = place-all nodes root page at t w q key here n f holds
+    abbrev sub : Shape
+    sub = Fork key n.piece x.l x.r
 
-  sorted : AreSorted 0 (xs ++ n.piece ∷ ys)
-  sorted = subst (λ l. AreSorted 0 l) is w.sorted
+    shape : t ≡ plug q.path sub
+    shape = q.is ∙ ap (plug q.path) x.is
 
-  pub over-there : IsPiece n.piece
-  over-there = (sorted_at 0 xs n.piece ys sorted).1
+    whole : IsWhole nodes root (plug q.path sub)
+    whole = subst (λ y. IsWhole nodes root y) shape w
 
-  pub over-holds : Holds n.piece piece.first
-  over-holds = subst (λ m. Holds n.piece m) (sym first) holds
+    pub lay-held : {way : List Step} {depth : ℕ} → AreSteps way depth q.path
+        → IsHeld nodes root way (record { key = key; depth = depth }) q.path n.piece x.l x.r
+    lay-held s = record { whole = whole; steps = s }
 
-  module _ (inside : piece.last ≤ n.piece.last) where
-    pub over-last : Holds n.piece piece.last
-    over-last = (omega (arith, over-holds.0, some), inside)
+    all : items t ≡ front q.path ++ (items sub ++ back q.path)
+    all = ap items shape ∙ plug-items q.path sub ∙ plug-parts q.path (items sub) ∙ simp append_assoc
 
-    pub over-piece : IsPiece piece
-    over-piece = (some, omega (arith, inside, over-there))
+    sub-sorted : AreSorted 0 (among q.path (items sub))
+    sub-sorted = subst (λ l. AreSorted 0 l) (ap items shape ∙ plug-items q.path sub) w.sorted
 
-    covered : with_piece piece (items t)
-        ≡ xs ++ (rest_below piece.first n.piece ++ (piece ∷ []) ++ rest_above piece.last n.piece) ++ ys
-    covered = ap (λ l. with_piece piece l) is ∙ row-at 0 piece.first piece.last (piece ∷ []) xs n.piece ys sorted over-holds over-last
+    behind-sorted : AreSorted 0 (back q.path)
+    behind-sorted = sorted_behind (front q.path ++ items sub) (back q.path)
+        (subst (λ l. AreSorted 0 l) (all ∙ simp append_assoc) w.sorted)
 
-    all-sorted : AreSorted 0 (with_piece piece (items t))
-    all-sorted = with_piece-sorted 0 piece (items t) w.sorted (omega arith) over-piece
+    laid : with_row first row last (items t) ≡ among q.path (with_row first row last (items sub))
+    laid = ap (λ l. with_row first row last l) all
+        ∙ row-within first last row (front q.path) (items sub) (back q.path) q.before q.behind behind-sorted some
+        ∙ sym (plug-parts q.path (with_row first row last (items sub)))
 
-    -- it has all the pages of the piece
-    module _ (starts : n.piece.first ≡ piece.first) (ends : n.piece.last ≡ piece.last) (new : Slab Node)
-        (b : Becomes nodes new root q.path (items l ++ piece ∷ items r)) (c : KeepsCount nodes new) where
-      same : with_piece piece (items t) ≡ xs ++ piece ∷ ys
-      same = covered
-          ∙ ap (λ l. xs ++ (l ++ (piece ∷ []) ++ rest_above piece.last n.piece) ++ ys)
-          (below-none piece.first n.piece (omega (arith, starts)))
-          ∙ ap (λ l. xs ++ ((piece ∷ []) ++ l) ++ ys) (above-none piece.last n.piece (omega (arith, ends)))
-          ∙ simp append_assoc
+    sizes : (ps : List Piece) → length (among q.path ps) ≡ length (front q.path) + length ps + length (back q.path)
+    sizes ps = ap length (plug-parts q.path ps) ∙ omega (
+      arith,
+      length-append (front q.path) (ps ++ back q.path),
+      length-append ps (back q.path),
+      length-append (front q.path ++ ps) (back q.path),
+      length-append (front q.path) ps,
+    )
 
-      same-sorted : AreSorted 0 (xs ++ piece ∷ ys)
-      same-sorted = subst (λ l. AreSorted 0 l) same all-sorted
+    module _ (has : (node : Node) → get nodes key ≡ Some node → HasAny node.piece first last)
+        (fine : IsRow first row (last + 1)) (there : IsSome (piece_at (items t) last))
+        (few : length (with_row first row last (items t)) ≤ MOST_PIECES) where
+      narrow : last < NUMBERS_END
+      narrow = at-narrow 0 last (items t) w.sorted there
 
-      pub same-whole : IsWhole new root b.shape
-      same-whole = put-whole nodes root page at t w q key here n f holds xs n.piece ys is holds piece same-sorted new root b c
+      pub lay-can : CanReplace nodes key first row last sub
+      lay-can =
+          let stands = plug_stands (get nodes) q.path sub whole.stands in
+          let order = sorted_there q.path (items sub) 0 sub-sorted in
+          let a = sizes (with_row first row last (items sub)) in
+          let b = sizes (items sub) in
+          let c = ap length laid in
+          let d = ap length (ap items shape ∙ plug-items q.path sub) in
+          record {
+            below = (refl, stands.0);
+            once = λ k. omega (arith, whole.once k, plug-uses q.path sub k);
+            few = omega (arith, w.few, b, d);
+            from = order.0;
+            sorted = order.1;
+            root = has;
+            is_row = fine;
+            some = some;
+            narrow = narrow;
+            short = omega (arith, few, a, c);
+            room = omega (arith, few, w.room, w.count, a, b, c, d);
+          }
 
-      pub same-view : pieces_of new root ≡ with_piece piece (items t)
-      same-view = put-view nodes root page at t w q key here n f holds xs n.piece ys is holds piece same-sorted new root b c ∙ sym same
+      in-order : AreSorted 0 (with_row first row last (items t))
+      in-order = with_row-sorted 0 first last row (items t) w.sorted (omega arith) fine narrow
 
-    -- or some of them
-    module _ (few : length (with_piece piece (items t)) ≤ MOST_PIECES) (below above : Option Piece)
-        (lower : some_of below ≡ rest_below piece.first n.piece) (upper : some_of above ≡ rest_above piece.last n.piece) where
-      parts : among q.path (items l ++ (some_of below ++ piece ∷ some_of above) ++ items r) ≡ with_piece piece (items t)
-      parts = plug-parts q.path (items l ++ (some_of below ++ piece ∷ some_of above) ++ items r)
-          ∙ ap (λ v. front q.path ++ (items l ++ (v ++ piece ∷ some_of above) ++ items r) ++ back q.path) lower
-          ∙ ap (λ v. front q.path ++ (items l ++ (rest_below piece.first n.piece ++ piece ∷ v) ++ items r) ++ back q.path) upper
-          ∙ regroup (front q.path) (items l) (rest_below piece.first n.piece) (rest_above piece.last n.piece) (items r) (back q.path)
-          ∙ sym covered
-        where
-          regroup : (fs ls us vs rs ks : List Piece)
-              → fs ++ (ls ++ (us ++ piece ∷ vs) ++ rs) ++ ks ≡ (fs ++ ls) ++ (us ++ (piece ∷ []) ++ vs) ++ (rs ++ ks)
-          regroup fs ls us vs rs ks = simp append_assoc
+      module _ {new : Slab Node} {result : Option ℕ} (m : Becomes nodes new result q.path (with_row first row last (items sub)))
+          (len : slab_len new + length (items sub) ≡ slab_len nodes + length (with_row first row last (items sub))) where
+        count : slab_len new ≡ length (with_row first row last (items t))
+        count = omega (
+          arith,
+          len,
+          w.count,
+          sizes (with_row first row last (items sub)),
+          sizes (items sub),
+          ap length laid,
+          ap length (ap items shape ∙ plug-items q.path sub),
+        )
 
-      long : length (with_piece piece (items t)) ≡ length (items t) + length (some_of below ++ some_of above)
-      long = ap length (sym parts ∙ plug-parts q.path (items l ++ (some_of below ++ piece ∷ some_of above) ++ items r))
-          ∙ sizes (front q.path) (items l) (some_of below) (some_of above) (items r) (back q.path)
-          ∙ ap (λ n. n + length (some_of below ++ some_of above)) (sym (ap length is))
-        where
-          sizes : (fs ls us vs rs ks : List Piece) → length (fs ++ (ls ++ (us ++ piece ∷ vs) ++ rs) ++ ks)
-              ≡ length ((fs ++ ls) ++ n.piece ∷ (rs ++ ks)) + length (us ++ vs)
-          sizes fs ls us vs rs ks = omega (
-            arith,
-            length-append (fs ++ (ls ++ (us ++ piece ∷ vs) ++ rs)) ks,
-            length-append fs (ls ++ (us ++ piece ∷ vs) ++ rs),
-            length-append (ls ++ (us ++ piece ∷ vs)) rs,
-            length-append ls (us ++ piece ∷ vs),
-            length-append us (piece ∷ vs),
-            length-append (fs ++ ls) (n.piece ∷ (rs ++ ks)),
-            length-append fs ls,
-            length-append rs ks,
-            length-append us vs,
-          )
+        pub lay-whole : IsWhole new result m.shape
+        lay-whole = whole-now nodes new root result t w q.path _ (with_row first row last (items t)) m (sym laid) in-order count few
 
-      pub over-room : slab_len nodes + length (some_of below ++ some_of above) ≤ MOST_PIECES
-      over-room = omega (arith, w.count, long, few)
+        pub lay-view : pieces_of new result ≡ with_row first row last (items t)
+        lay-view = whole-view nodes new root result t w q.path _ (with_row first row last (items t)) m (sym laid) in-order count few
 
-      module _ (new : Slab Node) (result : Option ℕ)
-          (b : Becomes nodes new result q.path (items l ++ (some_of below ++ piece ∷ some_of above) ++ items r))
-          (len : slab_len new ≡ slab_len nodes + length (some_of below ++ some_of above)) where
-        pub over-whole : IsWhole new result b.shape
-        over-whole = whole-now nodes new root result t w q.path _ (with_piece piece (items t)) b parts all-sorted
-            (omega (arith, len, w.count, long)) few
+      -- it has all the pages of the highest one
+      module _ (starts : n.piece.first ≡ first) (ends : n.piece.last ≡ last) {new : Slab Node}
+          (m : Becomes nodes new root q.path (items x.l ++ (row ++ items x.r))) (c : KeepsCount nodes new) (one : length row ≡ 1) where
+        same : with_row first row last (items sub) ≡ items x.l ++ (row ++ items x.r)
+        same =
+            let order = sorted_there q.path (items sub) 0 sub-sorted in
+            row-at order.0 first last row (items x.l) n.piece (items x.r) order.1
+            (omega (arith, starts), omega (arith, some, ends)) (omega (arith, starts, some), omega (arith, ends))
+            ∙ ap (λ l. items x.l ++ (l ++ row ++ rest_above last n.piece) ++ items x.r)
+            (below-none first n.piece (omega (arith, starts)))
+            ∙ ap (λ l. items x.l ++ (row ++ l) ++ items x.r) (above-none last n.piece (omega (arith, ends)))
+            ∙ simp append_assoc
 
-        pub over-view : pieces_of new result ≡ with_piece piece (items t)
-        over-view = whole-view nodes new root result t w q.path _ (with_piece piece (items t)) b parts all-sorted
-            (omega (arith, len, w.count, long)) few
+        at-path : among q.path (items x.l ++ (row ++ items x.r)) ≡ with_row first row last (items t)
+        at-path = ap (among q.path) (sym same) ∙ sym laid
+
+        kept : slab_len new ≡ length (with_row first row last (items t))
+        kept = omega (
+          arith,
+          c.len,
+          w.count,
+          sizes (items x.l ++ (row ++ items x.r)),
+          sizes (items sub),
+          ap length at-path,
+          ap length (ap items shape ∙ plug-items q.path sub),
+          one,
+          length-append (items x.l) (row ++ items x.r),
+          length-append row (items x.r),
+          length-append (items x.l) (n.piece ∷ items x.r),
+        )
+
+        pub renew-whole : IsWhole new root m.shape
+        renew-whole = whole-now nodes new root root t w q.path _ (with_row first row last (items t)) m at-path in-order kept few
+
+        pub renew-view : pieces_of new root ≡ with_row first row last (items t)
+        renew-view = whole-view nodes new root root t w q.path _ (with_row first row last (items t)) m at-path in-order kept few

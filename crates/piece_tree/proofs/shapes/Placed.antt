@@ -1,6 +1,6 @@
 -- The list of a tree, at the place of a page.
 use Rattle.std.proofs.Common.{◌≡◌, ℕ, ◌<◌, ◌≤◌, List, [], ◌∷◌, ◌++◌, length, Option, Some, None, IfSome, refl, ap, sym, ◌∙◌, inl, inr}
-use Rattle.std.proofs.Common.{subst, arith, append_assoc, length-append}
+use Rattle.std.proofs.Common.{subst, arith, append_assoc}
 use Rattle.std.proofs.lemmas.Bool.Decides.{nat_tests}
 use Rattle.std.proofs.lemmas.List.{append-nil}
 use Rattle.std.specs.List.{AllByRecursion}
@@ -10,7 +10,7 @@ use Rattle.piece_tree.specs.declared.piece.TheConstants.{MOST_PIECES}
 use Rattle.piece_tree.specs.declared.node.Node.{Node}
 use Rattle.piece_tree.specs.declared.way.Step.{Step}
 use Rattle.piece_tree.specs.Pieces.{AreSorted, Holds, piece_at}
-use Rattle.piece_tree.specs.Tree.{Shape, Fork, items, KeepsCount, IsWhole, pieces_of}
+use Rattle.piece_tree.specs.Tree.{Shape, Fork, items, IsWhole, pieces_of}
 use Rattle.piece_tree.specs.Way.{Above, plug, among, front, back, AreSteps, Lies, IsHeld, Becomes}
 use Rattle.piece_tree.proofs.shapes.Led.{Roots, lies-at}
 use Rattle.piece_tree.proofs.shapes.Beside.{none_empty}
@@ -47,7 +47,7 @@ module _ (old new : Slab Node) (root result : Option ℕ) (t : Shape) (w : IsWho
 
 -- ---- where a piece is
 
-module _ (nodes : Slab Node) (root : Option ℕ) (page : ℕ) (at : Option ℕ) (t : Shape) (w : IsWhole nodes root t) (q : Lies page at t) where
+module _ (nodes : Slab Node) (root : Option ℕ) (page : ℕ) (at : Option ℕ) (t : Shape) (w : IsWhole nodes root t) (q : Lies page page at t) where
   -- the node of the piece that the page lies in
   pub at-node : (key : ℕ) → at ≡ Some key
       → IfSome at (λ k. (n : Node) × (get nodes k ≡ Some n) × Holds n.piece page)
@@ -56,7 +56,7 @@ module _ (nodes : Slab Node) (root : Option ℕ) (page : ℕ) (at : Option ℕ) 
 
   module _ (key : ℕ) (here : at ≡ Some key) (n : Node) (f : get nodes key ≡ Some n) (holds : Holds n.piece page) where
     abbrev pub x : Roots key n q.there
-    x = lies-at nodes root page at key t w q here n f
+    x = lies-at nodes root page page at key t w q here n f
 
     abbrev pub before-it : List Piece
     before-it = front q.path ++ items x.l
@@ -79,26 +79,6 @@ module _ (nodes : Slab Node) (root : Option ℕ) (page : ℕ) (at : Option ℕ) 
     place-split before p behind e h =
         same_split 0 page before-it n.piece behind-it before p behind (sym place-all ∙ e) (subst (λ l. AreSorted 0 l) place-all w.sorted)
         holds h
-
-    -- another piece there
-    module _ (before : List Piece) (p : Piece) (behind : List Piece) (e : items t ≡ before ++ p ∷ behind) (h : Holds p page)
-        (piece : Piece) (s : AreSorted 0 (before ++ piece ∷ behind)) (new : Slab Node) (result : Option ℕ)
-        (b : Becomes nodes new result q.path (items x.l ++ piece ∷ items x.r)) (c : KeepsCount nodes new) where
-      all : among q.path (items x.l ++ piece ∷ items x.r) ≡ before ++ piece ∷ behind
-      all =
-          let y = place-split before p behind e h in
-          parts q.path (items x.l) piece (items x.r) ∙ ap (λ l. l ++ piece ∷ behind-it) y.0 ∙ ap (λ l. before ++ piece ∷ l) y.2
-
-      long : length (before ++ piece ∷ behind) ≡ length (items t)
-      long = omega (arith, ap length e, length-append before (piece ∷ behind), length-append before (p ∷ behind))
-
-      pub put-whole : IsWhole new result b.shape
-      put-whole = whole-now nodes new root result t w q.path _ (before ++ piece ∷ behind) b all s
-          (omega (arith, c.len, w.count, long)) (omega (arith, w.few, long))
-
-      pub put-view : pieces_of new result ≡ before ++ piece ∷ behind
-      put-view = whole-view nodes new root result t w q.path _ (before ++ piece ∷ behind) b all s
-          (omega (arith, c.len, w.count, long)) (omega (arith, w.few, long))
 
 -- ---- what is found
 
@@ -148,7 +128,7 @@ found_split (q ∷ ps) page p e =
           (q ∷ r.0, r.1, ap (λ l. q ∷ l) r.2, r.3)
     ]
 
-module _ (nodes : Slab Node) (root : Option ℕ) (page : ℕ) (at : Option ℕ) (t : Shape) (w : IsWhole nodes root t) (q : Lies page at t) where
+module _ (nodes : Slab Node) (root : Option ℕ) (page : ℕ) (at : Option ℕ) (t : Shape) (w : IsWhole nodes root t) (q : Lies page page at t) where
   pub found-none : at ≡ None → None ≡ piece_at (pieces_of nodes root) page
   found-none none =
       let z = none_empty q.there (sym q.root ∙ none) in
@@ -160,7 +140,7 @@ module _ (nodes : Slab Node) (root : Option ℕ) (page : ℕ) (at : Option ℕ) 
   module _ (key : ℕ) (here : at ≡ Some key) (n : Node) (f : get nodes key ≡ Some n) (holds : Holds n.piece page) where
     pub found-some : Some n.piece ≡ piece_at (pieces_of nodes root) page
     found-some =
-        let x = lies-at nodes root page at key t w q here n f in
+        let x = lies-at nodes root page page at key t w q here n f in
         let all = place-all nodes root page at t w q key here n f holds in
         sym (ap (λ l. piece_at l page) (whole_view nodes root t w ∙ all)
         ∙ found_at 0 page (front q.path ++ items x.l) n.piece (items x.r ++ back q.path)

@@ -1,191 +1,115 @@
--- A piece put over others of a tree that was taken apart, and a row of pieces put over some pages of one.
-use Rattle.std.proofs.Common.{◌≡◌, ℕ, ◌+◌, ◌≤◌, List, [], ◌∷◌, ◌++◌, length, Option, Some, IsSome, ap, sym, ◌∙◌, subst, arith}
-use Rattle.std.proofs.Common.{append_assoc, length-append}
+-- A row put over pieces of a tree, of which one is at its root: what stays before it, and behind it.
+use Rattle.std.proofs.Common.{◌≡◌, ℕ, ◌+◌, ◌<◌, ◌≤◌, true, false, List, [], ◌∷◌, ◌++◌, length, refl, ap, sym, ◌∙◌, subst, arith}
 use Rattle.std.specs.List.{AllByRecursion}
 use Rattle.slab.specs.Slab.{Slab, get}
 use Rattle.piece_tree.specs.declared.piece.Piece.{Piece}
 use Rattle.piece_tree.specs.declared.node.Node.{Node}
-use Rattle.piece_tree.specs.declared.severing.Passed.{Passed}
-use Rattle.piece_tree.specs.declared.severing.Severed.{Severed}
-use Rattle.piece_tree.specs.Graft.{CanSever, IsCutOff, PassesTo, Severs}
-use Rattle.piece_tree.specs.Laid.{IsRow, part_above, part_below, rest_above, rest_below, with_piece, with_row}
-use Rattle.piece_tree.specs.Pieces.{AreSorted, Holds, IsPiece, piece_at}
-use Rattle.piece_tree.specs.Tree.{Shape, items, KeepsCount}
+use Rattle.piece_tree.specs.declared.node.Opened.{Opened}
+use Rattle.piece_tree.specs.declared.node.Top.{Top}
+use Rattle.piece_tree.specs.Graft.{CanKeep, CanReplace, Halved, IsTree, Makes}
+use Rattle.piece_tree.specs.Laid.{IsRow, part_above, part_below, rest_above, rest_below, with_row}
+use Rattle.piece_tree.specs.Pieces.{AreSorted, HasAny, IsPiece}
+use Rattle.piece_tree.specs.Tree.{Shape, items, top_of, Opens}
 use Rattle.piece_tree.proofs.shapes.Flanked.{Cleared}
-use Rattle.piece_tree.proofs.shapes.Forks.{one-same, same_stands}
-use Rattle.piece_tree.proofs.shapes.Halved.{Halved}
-use Rattle.piece_tree.proofs.shapes.Laid.{above-at, below-at, row_pieces, row_rises}
-use Rattle.piece_tree.proofs.shapes.Placed.{at-skip, found_at}
-use Rattle.piece_tree.proofs.shapes.Sorted.{all_left, all_right, ends_below, sorted_at}
-use Rattle.piece_tree.proofs.shapes.Tall.{low_tree}
+use Rattle.piece_tree.proofs.shapes.Forks.{opened-by}
+use Rattle.piece_tree.proofs.shapes.Halved.{far-tree, halved-far, halved-near, halved-open, near-tree, opened-long}
+use Rattle.piece_tree.proofs.shapes.Laid.{above-all, above-mid, below-all, below-mid, row_pieces}
+use Rattle.piece_tree.proofs.shapes.Rows.{row-ends, row-one}
+use Rattle.piece_tree.proofs.shapes.Sorted.{ends_below, sorted_at, sorted_front}
 
--- ---- a tree that was taken apart
+module _ {nodes : Slab Node} {key first last : ℕ} {row : List Piece} {t : Shape} (can : CanReplace nodes key first row last t)
+    {opened : Opened}
+    (o : Opens true key opened t) where
+  ordered : AreSorted can.from (items o.near ++ opened.piece ∷ items o.far)
+  ordered = subst (λ l. AreSorted can.from l) (ap items o.is) can.sorted
 
-module _ (old mid : Slab Node) (root : Option ℕ) (page : ℕ) (low : Severed) (t : Shape) (can : CanSever (get old) root page t)
-    (s : Severs (get old) (get mid) page low t) (count : KeepsCount old mid) where
-  pub low-sorted : AreSorted can.from (items s.near ++ low.piece ∷ items s.far)
-  low-sorted = subst (λ l. AreSorted can.from l) s.all can.sorted
+  at : (from : ℕ) × IsPiece opened.piece × AreSorted (opened.piece.last + 1) (items o.far)
+  at = let a = sorted_at can.from (items o.near) opened.piece (items o.far) ordered in (can.from, a.1, a.2)
 
-  pub low-piece : IsPiece low.piece
-  low-piece = (sorted_at can.from (items s.near) low.piece (items s.far) low-sorted).1
+  pub replace-piece : IsPiece opened.piece
+  replace-piece = at.1
 
-  low-length : length (items t) ≡ length (items s.near) + 1 + length (items s.far)
-  low-length = omega (arith, ap length s.all, length-append (items s.near) (low.piece ∷ items s.far))
+  tree : IsTree (get nodes) (top_of t) t
+  tree = record { is = refl; stands = can.below.1; once = can.once; few = can.few }
 
-  pub low-halved : Halved old mid low.before low.key low.behind t s.near s.far
-  low-halved =
-      let high = low_tree (get old) t can.below.1 can.few in
-      record {
-        parts = record {
-          near_is = s.near_is;
-          far_is = s.far_is;
-          near_stands = s.near_stands;
-          far_stands = s.far_stands;
-          here = s.here;
-          once = λ k. omega (arith, can.once k, s.keys k);
-          low = (omega (arith, s.low), omega (arith, s.low));
-        };
-        apart = λ k z e. (s.others k z, omega (arith, s.keys k));
-        len = omega (arith, count.len, low-length);
-        capacity = count.capacity;
-      }
+  pub replace-any : HasAny opened.piece first last
+  replace-any = can.root _ (opened-by (get nodes) true key opened t can.below.1 o).here
 
-  -- and the pieces behind it were passed up to another one
-  pub passed-halved : (last : ℕ) (next : Slab Node) (high : Passed) (p : PassesTo mid next low last high s.far)
-      → Halved old next low.before low.key high.behind t s.near p.far
-  passed-halved last next high p =
-      let h = low-halved in
-      let all = ap length p.all in
-      let long = length-append p.gone (high.piece ∷ items p.far) in
-      let tall = low_tree (get next) p.far p.far_stands (omega (arith, can.few, low-length)) in
-      record {
-        parts = record {
-          near_is = s.near_is;
-          far_is = p.far_is;
-          near_stands = same_stands (get mid) (get next) s.near s.near_stands
-              (λ k g. p.others k (omega (arith, can.once k, s.keys k)));
-          far_stands = p.far_stands;
-          here = subst (λ o. IsSome o)
-              (sym (p.others low.key (omega (arith, can.once low.key, s.keys low.key, one-same low.key)))) s.here;
-          once = λ k. omega (arith, can.once k, s.keys k, p.keys k);
-          low = (h.parts.low.0, omega arith);
-        };
-        apart = λ k z e.
-            (p.others k (omega (arith, s.keys k)) ∙ s.others k z, omega (arith, s.keys k, p.keys k));
-        len = omega (arith, h.len, p.len);
-        capacity = p.capacity ∙ count.capacity;
-      }
+  halved : Halved nodes nodes opened.near key opened.far t o.near o.far
+  halved = halved-open nodes tree o
 
--- ---- one piece
+  long : length (items t) ≡ length (items o.near) + 1 + length (items o.far)
+  long = opened-long nodes tree o
 
-module _ (old mid : Slab Node) (root : Option ℕ) (piece : Piece) (low : Severed) (t : Shape)
-    (can : CanSever (get old) root piece.first t) (i : IsPiece piece) (found : IsSome (piece_at (items t) piece.last))
-    (severs : (u : Shape) → CanSever (get old) root piece.first u → Severs (get old) (get mid) piece.first low u)
-    (count : KeepsCount old mid) where
-  abbrev s : Severs (get old) (get mid) piece.first low t
-  s = severs t can
+  pub replace-near : CanKeep (get nodes) true opened.near opened.piece first o.near
+  replace-near = record {
+    tree = near-tree nodes nodes opened.near key opened.far t o.near o.far halved (omega (arith, can.few, long));
+    from = can.from;
+    sorted = sorted_front can.from (items o.near) (opened.piece ∷ items o.far) ordered;
+    all = λ h. below-all first (items o.near) (ends_below can.from first (items o.near) opened.piece (items o.far) ordered h);
+  }
 
-  ordered : AreSorted can.from (items s.near ++ low.piece ∷ items s.far)
-  ordered = low-sorted old mid root piece.first low t can s count
+  module _ {mid : Slab Node} {near : Top} (m : Makes nodes mid near o.near (part_below first (items o.near))) where
+    half : Halved nodes mid near key opened.far t m.shape o.far
+    half = halved-near nodes nodes opened.near key opened.far t o.near o.far halved mid near _ m
 
-  pub replace-low : IsPiece low.piece × Holds low.piece piece.first
-  replace-low = (low-piece old mid root piece.first low t can s count, s.holds)
-
-  pub replace-cut : IsCutOff (get mid) low piece.last s.far
-  replace-cut =
-      let at = sorted_at can.from (items s.near) low.piece (items s.far) ordered in
-      record {
-        is = s.far_is;
-        stands = s.far_stands;
-        once = λ k. omega (arith, can.once k, s.keys k);
-        few = omega (arith, can.few, ap length s.all, length-append (items s.near) (low.piece ∷ items s.far));
-        from = low.piece.first;
-        sorted = (omega arith, at.1, at.2);
-        holds = subst (λ o. IsSome o) (ap (λ l. piece_at l piece.last) s.all
-            ∙ at-skip piece.last (items s.near) (low.piece ∷ items s.far)
-            (ends_below can.from piece.last (items s.near) low.piece (items s.far) ordered (omega (arith, i, s.holds)))) found;
-      }
-
-  module _ (next : Slab Node) (high : Passed)
-      (passes : (u : Shape) → IsCutOff (get mid) low piece.last u → PassesTo mid next low piece.last high u) where
-    abbrev p : PassesTo mid next low piece.last high s.far
-    p = passes s.far replace-cut
-
-    high-all : items t ≡ (items s.near ++ p.gone) ++ high.piece ∷ items p.far
-    high-all = s.all ∙ ap (λ l. items s.near ++ l) p.all ∙ simp append_assoc
-
-    high-sorted : AreSorted can.from ((items s.near ++ p.gone) ++ high.piece ∷ items p.far)
-    high-sorted = subst (λ l. AreSorted can.from l) high-all can.sorted
-
-    pub replace-high : IsPiece high.piece × Holds high.piece piece.last
-    replace-high = ((sorted_at can.from (items s.near ++ p.gone) high.piece (items p.far) high-sorted).1, p.holds)
-
-    pub replace-cleared : Cleared old next low.before low.key high.behind t (rest_below piece.first low.piece) (piece ∷ [])
-        (rest_above piece.last high.piece) (with_piece piece (items t))
-    replace-cleared = record {
-      n = s.near;
-      f = p.far;
-      halved = passed-halved old mid root piece.first low t can s count piece.last next high p;
-      view = ap (λ l. l ++ piece ∷ part_above piece.last (items t))
-          (ap (part_below piece.first) s.all
-          ∙ below-at can.from piece.first (items s.near) low.piece (items s.far) ordered s.holds)
-          ∙ ap (λ l. (items s.near ++ rest_below piece.first low.piece) ++ piece ∷ l)
-          (ap (part_above piece.last) high-all
-          ∙ above-at can.from piece.last (items s.near ++ p.gone) high.piece (items p.far) high-sorted p.holds);
+    pub replace-far : CanKeep (get mid) false opened.far opened.piece last o.far
+    replace-far = record {
+      tree = far-tree nodes mid near key opened.far t m.shape o.far half (omega (arith, can.few, long));
+      from = opened.piece.last + 1;
+      sorted = at.2;
+      all = λ h. above-all (opened.piece.last + 1) last (items o.far) at.2 (omega (arith, h));
     }
 
--- ---- a row
+    pub replace-cleared : {next : Slab Node} {far : Top} (w : Makes mid next far o.far (part_above last (items o.far)))
+        → Cleared nodes next near key far t (rest_below first opened.piece) row
+        (rest_above last opened.piece) (with_row first row last (items t))
+    replace-cleared {next} {far} w = record {
+      n = m.shape;
+      f = w.shape;
+      halved = halved-far nodes mid near key opened.far t m.shape o.far half next far _ w;
+      view = ap (λ x. with_row first row last (items x)) o.is
+          ∙ ap (λ l. l ++ (row ++ part_above last (items o.near ++ opened.piece ∷ items o.far)))
+          (below-mid can.from first (items o.near) opened.piece (items o.far) ordered replace-any.1
+          ∙ ap (λ l. l ++ rest_below first opened.piece) (sym m.all))
+          ∙ ap (λ l. (items m.shape ++ rest_below first opened.piece) ++ (row ++ l))
+          (above-mid can.from last (items o.near) opened.piece (items o.far) ordered replace-any.0
+          ∙ ap (λ l. rest_above last opened.piece ++ l) (sym w.all));
+    }
 
-module _ (old mid : Slab Node) (root : Option ℕ) (first last : Piece) (others : List Piece) (low : Severed) (t : Shape)
-    (can : CanSever (get old) root first.first t) (p : Piece) (at : piece_at (items t) first.first ≡ Some p) (inside : last.last ≤ p.last)
-    (row : IsRow first.first (first ∷ others ++ last ∷ []) (last.last + 1))
-    (severs : (u : Shape) → CanSever (get old) root first.first u → Severs (get old) (get mid) first.first low u)
-    (count : KeepsCount old mid) where
-  abbrev v : Severs (get old) (get mid) first.first low t
-  v = severs t can
+-- ---- the row
 
-  in_order : AreSorted can.from (items v.near ++ low.piece ∷ items v.far)
-  in_order = subst (λ l. AreSorted can.from l) v.all can.sorted
+row_some : (first end : ℕ) (row : List Piece) → IsRow first row end → first < end → 1 ≤ length row
+row_some first end [] r h = absurd (omega (arith, r))
+row_some first end (p ∷ ps) r h = omega arith
 
-  pub row-low : IsPiece low.piece × Holds low.piece first.first
-  row-low = (low-piece old mid root first.first low t can v count, v.holds)
+module _ {nodes : Slab Node} {key first last : ℕ} {row : List Piece} {t : Shape} (can : CanReplace nodes key first row last t) where
+  pub replace-some : 1 ≤ length row
+  replace-some = row_some first (last + 1) row can.is_row (omega (arith, can.some))
 
-  same : p ≡ low.piece
-  same =
-      let a = ap (λ l. piece_at l first.first) v.all
-      ∙ found_at can.from first.first (items v.near) low.piece (items v.far) in_order v.holds in
-      cc
+  pub replace-all : AllByRecursion IsPiece row
+  replace-all = row_pieces first row (last + 1) can.is_row (omega (arith, can.narrow))
 
-  within : last.last ≤ low.piece.last
-  within = subst (λ (q : Piece). last.last ≤ q.last) same inside
+  -- the ends of the row are the pages' own
+  pub replace-as : (row' : List Piece) (from end : ℕ) → row ≡ row' → from ≡ first → end ≡ last
+      → CanReplace nodes key from row' end t × (with_row from row' end (items t) ≡ with_row first row last (items t))
+  replace-as row' from end e f g = (
+    subst (λ n. CanReplace nodes key n row' end t) (sym f)
+        (subst (λ n. CanReplace nodes key first row' n t) (sym g) (subst (λ l. CanReplace nodes key first l last t) e can)),
+    ap (λ n. with_row n row' end (items t)) f ∙ ap (λ n. with_row first row' n (items t)) g
+        ∙ ap (λ l. with_row first l last (items t)) (sym e),
+  )
 
-  pub row-holds : Holds low.piece last.last
-  row-holds =
-      let a = row_rises (first.last + 1) (others ++ last ∷ []) (last.last + 1) row.2 in
-      (omega (arith, v.holds, row.1), within)
+  pub replace-one : (p : Piece) (rest : List Piece) → row ≡ p ∷ rest → length rest ≡ 0
+      → CanReplace nodes key p.first (p ∷ []) p.last t
+      × (with_row p.first (p ∷ []) p.last (items t) ≡ with_row first row last (items t))
+  replace-one p rest e none =
+      let r = row-one first last row p rest e none can.is_row in
+      replace-as (p ∷ []) p.first p.last r.2 r.0 r.1
 
-  row-all : AllByRecursion IsPiece (first ∷ others ++ last ∷ [])
-  row-all = row_pieces first.first (first ∷ others ++ last ∷ []) (last.last + 1) row (omega (arith, within, row-low.0))
-
-  pub row-first : IsPiece first
-  row-first = row-all.0
-
-  pub row-others : AllByRecursion IsPiece others
-  row-others = all_left IsPiece others (last ∷ []) row-all.1
-
-  pub row-last : IsPiece last
-  row-last = (all_right IsPiece others (last ∷ []) row-all.1).0
-
-  pub row-cleared : Cleared old mid low.before low.key low.behind t (rest_below first.first low.piece) (first ∷ others ++ last ∷ [])
-      (rest_above last.last low.piece) (with_row first.first (first ∷ others ++ last ∷ []) last.last (items t))
-  row-cleared = record {
-    n = v.near;
-    f = v.far;
-    halved = low-halved old mid root first.first low t can v count;
-    view = ap (λ l. l ++ ((first ∷ others ++ last ∷ []) ++ part_above last.last (items t)))
-        (ap (part_below first.first) v.all
-        ∙ below-at can.from first.first (items v.near) low.piece (items v.far) in_order v.holds)
-        ∙ ap (λ l. (items v.near ++ rest_below first.first low.piece) ++ ((first ∷ others ++ last ∷ []) ++ l))
-        (ap (part_above last.last) v.all
-        ∙ above-at can.from last.last (items v.near) low.piece (items v.far) in_order row-holds);
-  }
+  pub replace-ends : (p : Piece) (rest others : List Piece) (q : Piece) → row ≡ p ∷ rest → rest ≡ others ++ q ∷ []
+      → CanReplace nodes key p.first (p ∷ others ++ q ∷ []) q.last t
+      × (with_row p.first (p ∷ others ++ q ∷ []) q.last (items t) ≡ with_row first row last (items t))
+  replace-ends p rest others q e f =
+      let r = row-ends first last row p rest others q e f can.is_row in
+      replace-as (p ∷ others ++ q ∷ []) p.first q.last r.2 r.0 r.1

@@ -1,10 +1,10 @@
 -- The first piece of a row, and the last one.
-use Rattle.std.proofs.Common.{◌≡◌, ℕ, ◌+◌, ◌≤◌, List, [], ◌∷◌, ◌++◌, length, Option, Some, None, IsSome, refl, ap, sym, ◌∙◌, subst, arith}
+use Rattle.std.proofs.Common.{◌≡◌, ℕ, suc, ◌+◌, ◌-◌, ◌<◌, ◌≤◌, slice_index_or, List, [], ◌∷◌, ◌++◌, length, Option, Some, None, IsSome, refl, ap, sym, ◌∙◌, subst, arith}
 use Rattle.std.proofs.lemmas.Bool.Decides.{nat_tests}
 use Rattle.piece_tree.specs.declared.piece.Piece.{Piece}
 use Rattle.piece_tree.specs.Laid.{IsRow}
-use Rattle.piece_tree.specs.Pieces.{AreSorted, Holds, piece_at}
-use Rattle.piece_tree.proofs.shapes.Placed.{found_at, found_split}
+use Rattle.piece_tree.specs.Pieces.{Holds, piece_at}
+use Rattle.piece_tree.proofs.shapes.Placed.{found_split}
 
 no_others : (ps : List Piece) → length ps ≡ 0 → ps ≡ []
 no_others [] e = refl
@@ -32,13 +32,33 @@ row-ends from last row first rest others final e f r =
     let k = row-end (first.last + 1) (last + 1) others final s.2 in
     (s.0, omega (arith, k), is)
 
--- a later page of a piece lies in it too
-pub at-later : (from first last : ℕ) (ps : List Piece) (p : Piece) → AreSorted from ps → piece_at ps first ≡ Some p → first ≤ last
-    → last ≤ p.last → piece_at ps last ≡ Some p
-at-later from first last ps p s e h k =
-    let r = found_split ps first p e in
-    ap (λ l. piece_at l last) r.2
-    ∙ found_at from last r.0 p r.1 (subst (λ l. AreSorted from l) r.2 s) (omega (arith, r.3, h), k)
+-- where the first piece begins, and the last one ends
+row-begins : (from end : ℕ) (row : List Piece) (p d : Piece) → IsRow from row end → 0 < length row → p ≡ slice_index_or row 0 d
+    → p.first ≡ from
+row-begins from end [] p d r h e = absurd (omega arith)
+row-begins from end (x ∷ xs) p d r h e = ap (λ (y : Piece). y.first) e ∙ r.0
+
+row-finishes : (from last : ℕ) (row : List Piece) (q d : Piece) → IsRow from row (last + 1) → 0 < length row
+    → q ≡ slice_index_or row (length row - 1) d → q.last ≡ last
+row-finishes from last [] q d r h e = absurd (omega arith)
+row-finishes from last (x ∷ []) q d r h e = ap (λ (y : Piece). y.last) e ∙ omega (arith, r.2)
+row-finishes from last (x ∷ y ∷ ys) q d r h e = row-finishes (x.last + 1) last (y ∷ ys) q d r.2 (omega arith) (e ∙ step)
+  where
+    step : slice_index_or (x ∷ y ∷ ys) (length (x ∷ y ∷ ys) - 1) d ≡ slice_index_or (y ∷ ys) (length (y ∷ ys) - 1) d
+    step =
+        let n : length (x ∷ y ∷ ys) - 1 ≡ suc (length ys) = omega arith in
+        let m : length (y ∷ ys) - 1 ≡ length ys = omega arith in
+        ap (λ i. slice_index_or (x ∷ y ∷ ys) i d) n ∙ sym (ap (λ i. slice_index_or (y ∷ ys) i d) m)
+
+-- the row by its own ends
+pub row-is : (from last : ℕ) (row : List Piece) (p q : Piece) → IsRow from row (last + 1)
+    → (0 < length row) × ((d : Piece) → p ≡ slice_index_or row 0 d)
+    → (0 < length row) × ((d : Piece) → q ≡ slice_index_or row (length row - 1) d)
+    → (p.first ≡ from) × (q.last ≡ last) × IsRow p.first row (q.last + 1)
+row-is from last row p q r a b =
+    let e = row-begins from (last + 1) row p p r a.0 (a.1 p) in
+    let f = row-finishes from last row q q r b.0 (b.1 q) in
+    (e, f, subst (λ n. IsRow n row (q.last + 1)) (sym e) (subst (λ n. IsRow from row (n + 1)) (sym f) r))
 
 pub some_at : (o : Option Piece) (p : Piece) → o ≡ Some p → IsSome o
 some_at None p e = absurd (cc)

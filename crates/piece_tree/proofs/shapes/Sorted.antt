@@ -19,6 +19,10 @@ pub all_right : (P : Piece → Type 0) (xs ys : List Piece) → AllByRecursion P
 all_right P [] ys a = a
 all_right P (x ∷ xs) ys a = all_right P xs ys a.1
 
+pub all_map : (P Q : Piece → Type 0) → ((p : Piece) → P p → Q p) → (ps : List Piece) → AllByRecursion P ps → AllByRecursion Q ps
+all_map P Q f [] a = tt
+all_map P Q f (p ∷ ps) a = (f p a.0, all_map P Q f ps a.1)
+
 pub sorted_from : (low from : ℕ) (ps : List Piece) → low ≤ from → AreSorted from ps → AreSorted low ps
 sorted_from low from [] h s = tt
 sorted_from low from (p ∷ ps) h s = (omega (arith, s.0), s.1, s.2)
@@ -26,6 +30,13 @@ sorted_from low from (p ∷ ps) h s = (omega (arith, s.0), s.1, s.2)
 pub sorted_front : (from : ℕ) (xs ys : List Piece) → AreSorted from (xs ++ ys) → AreSorted from xs
 sorted_front from [] ys s = tt
 sorted_front from (x ∷ xs) ys s = (s.0, s.1, sorted_front (x.last + 1) xs ys s.2)
+
+pub sorted_behind : (xs ys : List Piece) → AreSorted 0 (xs ++ ys) → AreSorted 0 ys
+sorted_behind xs ys s = go 0 xs s
+  where
+    go : (from : ℕ) (xs : List Piece) → AreSorted from (xs ++ ys) → AreSorted 0 ys
+    go from [] s = sorted_from 0 from ys (omega arith) s
+    go from (x ∷ xs) s = go (x.last + 1) xs s.2
 
 pub sorted_at : (from : ℕ) (xs : List Piece) (p : Piece) (ys : List Piece) → AreSorted from (xs ++ p ∷ ys)
     → (from ≤ p.first) × IsPiece p × AreSorted (p.last + 1) ys

@@ -1,11 +1,11 @@
 -- A tree is low, and has the pieces that its look-ups give.
-use Rattle.std.proofs.Common.{◌≡◌, ℕ, zero, suc, ◌+◌, ◌<◌, ◌≤◌, ◌∷◌, ◌++◌, length, [], Option, None, refl, ap, sym, ◌∙◌, inl, inr, ◌⊎◌}
+use Rattle.std.proofs.Common.{◌≡◌, ℕ, zero, suc, ◌+◌, ◌<◌, ◌≤◌, ◌∷◌, ◌++◌, length, [], Option, None, refl, ap, ◌∙◌, inl, inr, ◌⊎◌}
 use Rattle.std.proofs.Common.{arith, length-append}
 use Rattle.std.proofs.lemmas.Bool.Decides.{leb_tells}
 use Rattle.slab.specs.Slab.{Slab, get}
 use Rattle.piece_tree.specs.declared.node.Node.{Node}
 use Rattle.piece_tree.specs.Tree.{Look, Shape, Empty, Fork, items, height_of, root_of, Stands, at_root, around, contents, pieces_of}
-use Rattle.piece_tree.specs.Tree.{IsBelow, IsWhole}
+use Rattle.piece_tree.specs.Tree.{IsWhole}
 
 pub order : (a b : ℕ) → (a ≤ b) ⊎ (b < a)
 order a b = elim (leb_tells a b) [ inl h ↦ inl h.1 | inr h ↦ inr h.1 ]
@@ -62,9 +62,3 @@ whole_view nodes root t w = contents_is (get nodes) 14 root t w.here w.stands (w
 pub none_view : (nodes : Slab Node) → pieces_of nodes None ≡ []
 unfolding contents
 none_view nodes = refl
-
--- of a root there is one tree alone, as far as its pieces go
-pub same_items : (look : Look) (root : Option ℕ) (s t : Shape) → IsBelow look root s → IsBelow look root t → length (items s) ≤ 1024
-    → length (items t) ≤ 1024 → items s ≡ items t
-same_items look root s t a b h g =
-    sym (contents_is look 14 root s a.0 a.1 (low_tree look s a.1 h)) ∙ contents_is look 14 root t b.0 b.1 (low_tree look t b.1 g)

@@ -11,7 +11,7 @@ loop-at-init c = look_start c.args.nodes.now c.args.root c.args.page
 pub index-node-requires : goal.index-node-requires
 index-node-requires c =
     let q = c.requires in
-    lies-there c.args.nodes.now c.args.root c.args.page c.loop-at.at c.in-Some.key q.0 q.1 (c.loop-at.invariant q.0 q.1) c.in-Some.is
+    lies-there c.args.nodes.now c.args.root c.args.page c.args.page c.loop-at.at c.in-Some.key q.0 q.1 (c.loop-at.invariant q.0 q.1) c.in-Some.is
 
 pub returns-then-page-node : goal.returns-then-page-node
 returns-then-page-node c =
@@ -22,12 +22,12 @@ returns-then-page-node c =
 pub loop-at-smaller : goal.loop-at-smaller
 loop-at-smaller c =
     let q = c.requires in
-    lies-smaller c.args.nodes.now c.args.root c.args.page c.loop-at.at c.in-Some.key q.0 q.1 (c.loop-at.invariant q.0 q.1) c.in-Some.is
+    lies-smaller c.args.nodes.now c.args.root c.args.page c.args.page c.loop-at.at c.in-Some.key q.0 q.1 (c.loop-at.invariant q.0 q.1) c.in-Some.is
     c.index-node.result.now c.index-node.ensures _ c.child-at.result c.child-at.ensures.before c.child-at.ensures.behind
 
 pub loop-at-preserved : goal.loop-at-preserved
 loop-at-preserved c t w =
-    (lies-on c.args.nodes.now c.args.root c.args.page c.loop-at.at c.in-Some.key t w (c.loop-at.invariant t w) c.in-Some.is
+    (lies-on c.args.nodes.now c.args.root c.args.page c.args.page c.loop-at.at c.in-Some.key t w (c.loop-at.invariant t w) c.in-Some.is
     c.index-node.result.now c.index-node.ensures _ c.child-at.result
     (λ e. grind (arith, nat_tests))
     (λ e. elim c.else-not-before.branch [

@@ -23,8 +23,8 @@ free_piece_beside-requires c =
     let a = c.self.inside in
     let l = c.reach-place.ensures.leads i.0 i.1 i.2 in
     let n = at-node a.nodes a.root c.args.page c.reach-place.result.at i.0 i.1 l.lies c.in-Some.key c.in-Some.is
-    c.reach-place.ensures.holds in
-    let x = lies-at a.nodes a.root c.args.page c.reach-place.result.at c.in-Some.key i.0 i.1 l.lies c.in-Some.is n.0 n.1 in (
+    c.reach-place.ensures.has in
+    let x = lies-at a.nodes a.root c.args.page c.args.page c.reach-place.result.at c.in-Some.key i.0 i.1 l.lies c.in-Some.is n.0 n.1 in (
       a.root,
       l.lies.path,
       n.0.piece,
@@ -40,8 +40,8 @@ returns-clause-beside c xs p ys is h =
     let a = c.self.inside in
     let l = c.reach-place.ensures.leads i.0 i.1 i.2 in
     let n = at-node a.nodes a.root c.args.page c.reach-place.result.at i.0 i.1 l.lies c.in-Some.key c.in-Some.is
-    c.reach-place.ensures.holds in
-    let x = lies-at a.nodes a.root c.args.page c.reach-place.result.at c.in-Some.key i.0 i.1 l.lies c.in-Some.is n.0 n.1 in
+    c.reach-place.ensures.has in
+    let x = lies-at a.nodes a.root c.args.page c.args.page c.reach-place.result.at c.in-Some.key i.0 i.1 l.lies c.in-Some.is n.0 n.1 in
     let held = place-held a.nodes a.root c.args.page c.reach-place.result.at i.0 i.1 l.lies c.in-Some.key c.in-Some.is n.0 n.1 n.2
     c.reach-place.new.way c.reach-place.result.depth l.steps in
     let e = sym (whole_view a.nodes a.root i.0 i.1) ∙ c.self.view_is ∙ is in

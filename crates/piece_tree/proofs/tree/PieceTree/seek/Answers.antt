@@ -26,7 +26,7 @@ pub returns-clause-piece : goal.returns-clause-piece
 returns-clause-piece c =
     let i = c.self.invariant in
     let n = at-node c.self.inside.nodes c.self.inside.root c.args.page c.reach-place.result.at i.0 i.1
-    (c.reach-place.ensures.leads i.0 i.1 i.2).lies c.in-Some.key c.in-Some.is c.reach-place.ensures.holds in
+    (c.reach-place.ensures.leads i.0 i.1 i.2).lies c.in-Some.key c.in-Some.is c.reach-place.ensures.has in
     ap (λ x. Some x) (same_piece c.in-Some.key n.0 c.index.result.now n.1 c.index.ensures)
     ∙ found-some c.self.inside.nodes c.self.inside.root c.args.page c.reach-place.result.at i.0 i.1
     (c.reach-place.ensures.leads i.0 i.1 i.2).lies c.in-Some.key c.in-Some.is n.0 n.1 n.2 ∙ ap (λ l. piece_at l c.args.page) c.self.view_is

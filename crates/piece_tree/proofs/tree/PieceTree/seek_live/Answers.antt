@@ -17,7 +17,7 @@ pub returns-clause-live : goal.returns-clause-live
 returns-clause-live c =
     let i = c.self.invariant in
     let n = at-node c.self.inside.nodes c.self.inside.root c.args.first c.walk-place.result.at i.0 i.1
-    (c.walk-place.ensures.leads i.0 i.1).lies c.in-Some.key c.in-Some.is c.walk-place.ensures.holds in
+    (c.walk-place.ensures.leads i.0 i.1).lies c.in-Some.key c.in-Some.is c.walk-place.ensures.has in
     let there : Some n.0.piece ≡ piece_at c.args.self.now c.args.first =
     found-some c.self.inside.nodes c.self.inside.root c.args.first c.walk-place.result.at i.0 i.1
     (c.walk-place.ensures.leads i.0 i.1).lies c.in-Some.key c.in-Some.is n.0 n.1 n.2 ∙ ap (λ l. piece_at l c.args.first) c.self.view_is
