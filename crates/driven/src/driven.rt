@@ -233,7 +233,7 @@ impl Driven {
     }
 
     /// Does what waits up to the wait of this number, as by `unit_step`: once the unit has done that wait. Answers how many descriptors it
-    /// did, each by a call. Answers `None` exactly where no such wait was sent, and changes nothing then. It asks nothing.
+    /// did, each by a call. Answers `None` exactly where fewer waits were sent, and changes nothing then. It asks nothing.
     pub fn done_up_to(&mut self, wait: u64) -> Option<u64>
         requires { self.old.state.calls + length self.old.state.iommu.ring.waiting ≤ CALLS_END }
         ensures none { IsNone result ↔ self.old.state.iommu.sent < wait }

@@ -1,4 +1,4 @@
-//! What changes at a key to which a way leads: its piece is another, or is laid over those below it.
+//! What changes at a key to which a way leads: its piece is another, or a row is laid over it and those below it.
 
 ghost use Rattle.std.specs.Prelude.{◌≡◌, ◌+◌, ◌∷◌, ◌++◌, ℕ, Option, length};
 ghost use Rattle.slab.specs.Slab.{slab_len};

@@ -1,13 +1,13 @@
 //! Trees put together at a key between them, and pieces added at an end of a tree.
 
-ghost use Rattle.std.specs.Prelude.{◌≡◌, ◌+◌, ◌<◌, ◌≤◌, ◌∷◌, [], IfSome, IsSome, length};
+ghost use Rattle.std.specs.Prelude.{◌≡◌, ◌+◌, ◌<◌, ◌≤◌, ◌∷◌, [], IfSome, IsSome, Some, length};
 ghost use Rattle.slab.specs.Slab.{get, slab_len};
 ghost use Rattle.piece_tree.specs.Pieces.{IsPiece};
-ghost use Rattle.piece_tree.specs.Graft.{Adds, IsTree, Makes, some_of};
+ghost use Rattle.piece_tree.specs.Graft.{Adds, CanRegraft, IsTree, Makes, some_of};
 ghost use Rattle.piece_tree.specs.Tree.{AreParts, Empty, Joins, KeepsCount, Shape, height_of, items};
 
-use crate::links::{free_length, link, open};
-use crate::node::{NO_TREE, Node, Top};
+use crate::links::{free_length, link, open, set_longest};
+use crate::node::{Node, Opened, Top};
 use crate::piece::{MOST_PIECES, Piece};
 use crate::turn::turn;
 use slab::Slab;
@@ -112,7 +112,47 @@ pub(crate) fn leaf(nodes: &mut Slab<Node>, piece: Piece) -> Top
     }
 }
 
-/// Adds a piece right behind a tree, or right before it, if there is one.
+/// Puts another tree on the far side of a key that was opened. One with the root and the height of what was there changes at most what is
+/// longest from the key down.
+#[inline(always)]
+pub(crate) fn regraft(
+    nodes: &mut Slab<Node>,
+    before: bool,
+    tree: Top,
+    key: usize,
+    opened: Opened,
+    far: Top,
+) -> Top
+    requires { (n : Shape) × (f : Shape) × (g : Shape) × CanRegraft (get nodes.old) before tree key opened far n f g }
+    ensures joins { (n f g : Shape) → CanRegraft (get nodes.old) before tree key opened far n f g
+        → Joins (get nodes.old) (get nodes.new) before result key opened.piece n g }
+    ensures count { KeepsCount nodes.old nodes.new }
+{
+    if far.root == opened.far.root && far.height == opened.far.height {
+        let longest = free_length(opened.piece).max(opened.near.longest.max(far.longest));
+        set_longest(nodes, key, longest);
+        return Top { longest, ..tree };
+    }
+    graft(nodes, before, opened.near, key, opened.piece, far)
+}
+
+// Adds a piece right behind a tree, or right before it.
+fn add_end(nodes: &mut Slab<Node>, before: bool, tree: Top, piece: Piece) -> Top
+    requires tree { (t : Shape) × IsTree (get nodes.old) tree t × (length (items t) < MOST_PIECES) }
+    requires piece { IsPiece piece }
+    requires room { slab_len nodes.old < nodes.old.capacity }
+    ensures { (t : Shape) → IsTree (get nodes.old) tree t → Adds nodes.old nodes.new before result t (Some piece) }
+{
+    let Some(key) = tree.root else {
+        return leaf(nodes, piece);
+    };
+    let opened = open(nodes, before, key);
+    let far = add_end(nodes, before, opened.far, piece);
+    regraft(nodes, before, tree, key, opened, far)
+}
+
+/// The same, if there is a piece.
+#[inline(always)]
 pub(crate) fn add(nodes: &mut Slab<Node>, before: bool, tree: Top, piece: Option<Piece>) -> Top
     requires tree { (t : Shape) × IsTree (get nodes.old) tree t × (length (items t) < MOST_PIECES) }
     requires piece { IfSome piece IsPiece }
@@ -120,7 +160,5 @@ pub(crate) fn add(nodes: &mut Slab<Node>, before: bool, tree: Top, piece: Option
     ensures { (t : Shape) → IsTree (get nodes.old) tree t → Adds nodes.old nodes.new before result t piece }
 {
     let Some(piece) = piece else { return tree };
-    let end = leaf(nodes, piece);
-    let Some(key) = end.root else { unreachable!() };
-    graft(nodes, before, tree, key, piece, NO_TREE)
+    add_end(nodes, before, tree, piece)
 }

@@ -9,7 +9,7 @@ ghost use Rattle.piece_tree.specs.declared.piece.Piece.{Piece};
 ghost use Rattle.piece_tree.specs.Pieces.{AreSorted, Holds, IsPiece};
 ghost use Rattle.piece_tree.specs.Tree.{Empty, IsBelow, Shape, items, uses};
 
-use crate::grafts::{add, graft, leaf};
+use crate::grafts::{add, graft, leaf, regraft};
 use crate::links::open;
 use crate::node::{NO_TREE, Node, Top};
 use crate::piece::{MOST_PIECES, Piece};
@@ -120,7 +120,7 @@ fn trim(nodes: &mut Slab<Node>, before: bool, tree: Top, page: u64) -> Top
     let opened = open(nodes, before, key);
     if lies_beside(opened.piece, !before, page) {
         let far = trim(nodes, before, opened.far, page);
-        return graft(nodes, before, opened.near, key, opened.piece, far);
+        return regraft(nodes, before, tree, key, opened, far);
     }
     remove_below(nodes, opened.far.root);
     if lies_beside(opened.piece, before, page) {

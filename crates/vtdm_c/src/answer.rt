@@ -31,7 +31,7 @@ impl Answer {
     pub const FAULTS: u64 = 32;
     /// There is no manager at the handle.
     pub const ABSENT: u64 = 64;
-    /// The manager has answered all calls that it can, 2^56.
+    /// The manager has answered all calls that it can, 2^56, or could not answer all that this one counts for.
     pub const SPENT: u64 = 65;
     /// There is a manager at the handle already.
     pub const PRESENT: u64 = 66;
@@ -55,7 +55,7 @@ impl Answer {
     pub const FEW_PLACES: u64 = 75;
     /// The address of the waits' status is no multiple of 4.
     pub const BAD_ADDRESS: u64 = 76;
-    /// No wait of this number was sent.
+    /// Fewer waits than this number were sent.
     pub const NO_WAIT: u64 = 77;
 
     /// A status with no number.

@@ -13,7 +13,7 @@ use driven::Driven;
 mod reading;
 
 /// What a handle holds: a state that tells what calls ask, or one that doesn't, and the host address to which the unit writes the status
-/// of a wait. Each method is refused where the state has answered all that it can, `detach_all` and `done_up_to` also where it could not
+/// of a wait. Each method is refused where the state has answered all that it can, but `detach_all` and `done_up_to` where it could not
 /// answer all of theirs, and then changes nothing.
 #[derive(Drop)]
 pub struct Session {

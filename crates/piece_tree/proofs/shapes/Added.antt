@@ -1,20 +1,21 @@
 -- A tree of one piece, and a piece added at an end of a tree.
-use Rattle.std.proofs.Common.{◌≡◌, ◌≢◌, ℕ, ◌+◌, ◌<◌, ◌≤◌, Bool, true, false, List, [], ◌∷◌, length, Some, None, refl}
-use Rattle.std.proofs.Common.{ap, sym, ◌∙◌, arith, length-append}
+use Rattle.std.proofs.Common.{◌≡◌, ◌≢◌, ℕ, ◌+◌, ◌<◌, ◌≤◌, max, Bool, true, false, List, [], ◌∷◌, ◌++◌, length, Some, None, refl}
+use Rattle.std.proofs.Common.{ap, sym, ◌∙◌, inl, inr, subst, arith, append_assoc, length-append}
 use Rattle.std.proofs.lemmas.List.{append-nil}
 use Rattle.slab.specs.Slab.{Slab, Updates, get, slab_len}
 use Rattle.piece_tree.specs.declared.piece.Piece.{Piece}
 use Rattle.piece_tree.specs.declared.piece.TheConstants.{MOST_PIECES}
 use Rattle.piece_tree.specs.declared.node.Node.{Node}
+use Rattle.piece_tree.specs.declared.node.Opened.{Opened}
 use Rattle.piece_tree.specs.declared.node.Top.{Top}
 use Rattle.piece_tree.specs.Graft.{Adds, IsTree, Makes, side_by_side}
 use Rattle.piece_tree.specs.Pieces.{IsPiece}
-use Rattle.piece_tree.specs.Tree.{Look, Shape, Empty, Fork, items, root_of, uses, one, fork, top_of, AreParts, Joins, KeepsCount}
+use Rattle.piece_tree.specs.Tree.{Look, Shape, Empty, Fork, items, height_of, root_of, fork, top_of, AreNear, Joins, KeepsCount, Opens}
 use Rattle.piece_tree.specs.Tree.{free_pages, Stands}
-use Rattle.piece_tree.proofs.shapes.Apart.{IsApart, apart-still, apart-stands, root-used, used-there}
-use Rattle.piece_tree.proofs.shapes.Forks.{one-other}
-use Rattle.piece_tree.proofs.shapes.Led.{root_there}
-use Rattle.piece_tree.proofs.shapes.Tall.{contents_is, low_tree}
+use Rattle.piece_tree.proofs.shapes.Beside.{none_empty}
+use Rattle.piece_tree.proofs.shapes.Forks.{fork-height, one-other, opened-by, opened-height}
+use Rattle.piece_tree.proofs.shapes.Halved.{halved-side, opened-half, opened-long}
+use Rattle.piece_tree.proofs.shapes.Tall.{contents_is, low_tree, order}
 
 -- ---- a tree of one piece
 
@@ -83,65 +84,61 @@ same_length {look} {top} {s} {t} x y =
     let g = ap (λ (v : Top). v.root) y.is in
     ap length (sym (contents_is look 14 top.root s h x.stands a) ∙ contents_is look 14 top.root t g y.stands b)
 
-added : (b : Bool) (key : ℕ) (p : Piece) (t : Shape) → items (fork b key p t Empty) ≡ side_by_side b (items t) (p ∷ [])
-added true key p t = refl
-added false key p t = refl
+-- no tree
+pub adds-leaf : {old new : Slab Node} (b : Bool) {tree top : Top} {t : Shape} {p : Piece} → IsTree (get old) tree t → root_of t ≡ None
+    → Makes old new top Empty (p ∷ []) → top.height ≡ 1 → Adds old new b top t (Some p)
+adds-leaf {old} {new} b {tree} {top} {t} {p} i none m high = subst (λ x. Adds old new b top x (Some p)) (sym (none_empty t none)) (leafs b)
+  where
+    tall : height_of m.shape ≡ 1
+    tall = sym (ap (λ (v : Top). v.height) m.tree.is) ∙ high
+
+    leafs : (b : Bool) → Adds old new b top Empty (Some p)
+    leafs true = record { makes = m; tall = omega arith; short = omega (arith, tall) }
+    leafs false = record { makes = m; tall = omega arith; short = omega (arith, tall) }
+
+added : (b : Bool) (key : ℕ) (p q : Piece) (n f s : Shape) → items s ≡ side_by_side b (items f) (q ∷ [])
+    → items (fork b key p n s) ≡ side_by_side b (items (fork b key p n f)) (q ∷ [])
+added true key p q n f s e = ap (λ l. items n ++ p ∷ l) e ∙ simp append_assoc
+added false key p q n f s e = ap (λ l. l ++ p ∷ items n) e
 
 added_length : (b : Bool) (ps : List Piece) (p : Piece) → length (side_by_side b ps (p ∷ [])) ≡ length ps + 1
 added_length true ps p = omega (arith, length-append ps (p ∷ []))
 added_length false ps p = omega arith
 
-module _ {old mid : Slab Node} {top end : Top} {key : ℕ} {p : Piece} {t : Shape} (is : IsTree (get old) top t)
-    (m : Makes old mid end Empty (p ∷ [])) (e : end.root ≡ Some key) where
-  root : root_of m.shape ≡ Some key
-  root = sym (ap (λ (v : Top). v.root) m.tree.is) ∙ e
+-- a tree, to that on whose far side it was added
+module _ (nodes : Slab Node) {b : Bool} {top : Top} {key : ℕ} {t : Shape} {opened : Opened} (i : IsTree (get nodes) top t)
+    (o : Opens b key opened t) {mid : Slab Node} {far : Top} {p : Piece} (a : Adds nodes mid b far o.far (Some p)) {new : Slab Node}
+    {all : Top} (j : Joins (get mid) (get new) b all key opened.piece o.near a.makes.shape) (c : KeepsCount mid new)
+    (room : length (items t) < MOST_PIECES) where
+  few : length (items o.near) + length (items a.makes.shape) < MOST_PIECES
+  few = omega (arith, room, opened-long nodes i o, ap length a.makes.all, added_length b (items o.far) p)
 
-  beside : IsApart (get old) (uses t) Empty
-  beside = record { there = λ k. used-there (get old) t k is.stands; once = λ k. omega (arith, is.once k) }
+  made : Makes nodes new all t (side_by_side b (items t) (p ∷ []))
+  made = subst (λ l. Makes nodes new all t l)
+      (added b key opened.piece p o.near o.far a.makes.shape a.makes.all
+      ∙ ap (λ x. side_by_side b (items x) (p ∷ [])) (sym o.is))
+      (halved-side nodes mid opened.near key far t o.near a.makes.shape (opened-half nodes i o a.makes) b new all opened.piece j c few)
 
-  -- the tree doesn't use the new key
-  once : (k : ℕ) → one key k + uses t k ≤ 1
-  once k = omega (
-    arith,
-    (apart-still m beside).once k,
-    root-used m.shape key k root,
-  )
+  shown : height_of made.shape ≡ height_of j.shape
+  shown = sym (ap (λ (v : Top). v.height) made.tree.is) ∙ ap (λ (v : Top). v.height) j.is
 
-  pub add-parts : (far : Top) → far ≡ top_of Empty → AreParts (get mid) top key far t Empty
-  add-parts far none =
-      let low = low_tree (get old) t is.stands is.few in
-      record {
-        near_is = is.is;
-        far_is = none;
-        near_stands = apart-stands m beside t is.stands (λ k. omega arith);
-        far_stands = tt;
-        here = root_there (get mid) key m.shape root m.tree.stands;
-        once = λ k. omega (arith, once k);
-        low = (omega arith, omega arith);
-      }
+  high : height_of t ≡ 1 + max (height_of o.near) (height_of o.far)
+  high = opened-height (get nodes) b key opened t i.stands o
 
-  pub adds-some : {b : Bool} {new : Slab Node} {all : Top} → Joins (get mid) (get new) b all key p t Empty → KeepsCount mid new
-      → length (items t) < MOST_PIECES → Adds old new b all t (Some p)
-  adds-some {b} {new} {all} j count room =
-      let pieces = j.all ∙ added b key p t in
-      let long = ap length pieces ∙ added_length b (items t) p in
-      record {
-        makes = record {
-          shape = j.shape;
-          tree = record {
-            is = j.is;
-            stands = j.stands;
-            once = λ k. omega (arith, once k, j.keys k);
-            few = omega (arith, long);
-          };
-          all = pieces;
-          apart = λ k z there.
-              let beside = m.apart k refl there in
-              let none = root-used m.shape key k root in
-              (j.others k (omega (arith, beside.1)) ∙ beside.0, omega (arith, beside.1, j.keys k));
-          len = omega (arith, m.len, count.len, added_length b (items t) p);
-          capacity = count.capacity ∙ m.capacity;
-        };
-        tall = j.tall.0;
-        short = omega (arith, j.short);
-      }
+  near : AreNear o.near o.far
+  near = (opened-by (get nodes) b key opened t i.stands o).near
+
+  grown : height_of t ≤ height_of j.shape
+  grown = elim (order (height_of a.makes.shape) (height_of o.near + 1)) [
+    | inl x ↦
+        let e = ap height_of (j.plain (omega (arith, near, a.tall), x)) ∙ fork-height b key opened.piece o.near a.makes.shape in
+        omega (arith, high, a.tall)
+    | inr x ↦ omega (arith, high, near, a.short, j.tall)
+  ]
+
+  pub adds-far : Adds nodes new b all t (Some p)
+  adds-far = record {
+    makes = made;
+    tall = omega (arith, shown, grown);
+    short = omega (arith, shown, high, a.short, j.short);
+  }

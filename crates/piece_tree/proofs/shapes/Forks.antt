@@ -1,6 +1,7 @@
 -- A key with a tree on each of its sides, by the side: what it shows, and how it is written.
 use Rattle.std.proofs.Common.{◌≡◌, ◌≢◌, ℕ, ◌+◌, ◌<◌, max, Bool, true, false, Option, Some, None, IsSome, refl}
 use Rattle.std.proofs.Common.{ap, sym, ◌∙◌, subst, arith}
+use Rattle.std.specs.Option.{option_eq}
 use Rattle.slab.specs.Slab.{Slab, Updates, get}
 use Rattle.piece_tree.specs.declared.piece.Piece.{Piece}
 use Rattle.piece_tree.specs.declared.node.Node.{Node}
@@ -112,6 +113,25 @@ joint-by false p near far sides height longest on off h l =
     let second : sides.1 ≡ near.root = ap (λ (s : Option ℕ × Option ℕ). s.1) (off refl) in
     let a : height ≡ 1 + max far.height near.height = omega (arith, h) in
     let c : longest ≡ max (free_pages p) (max far.longest near.longest) = omega (arith, l) in
+    cc
+
+-- roots that compare as the same are the same
+pub root-same : (E : ℕ → ℕ → Bool) → ((a b : ℕ) → E a b ≡ true → a ≡ b) → (x y : Option ℕ) → true ≡ option_eq E x y → x ≡ y
+root-same E f None None e = refl
+root-same E f None (Some y) e = absurd (cc)
+root-same E f (Some x) None e = absurd (cc)
+root-same E f (Some x) (Some y) e = ap (λ n. Some n) (f x y (sym e))
+
+-- the node for another tree on the far side, with the root and the height of the one that was there
+pub joint-other : (b : Bool) (p : Piece) (near far other : Top) (longest : ℕ) → other.root ≡ far.root → other.height ≡ far.height
+    → longest ≡ max (free_pages p) (max near.longest other.longest)
+    → record (joint_at b p near far) { longest = longest } ≡ joint_at b p near other
+joint-other true p near far other longest r h l =
+    let height : 1 + max near.height far.height ≡ 1 + max near.height other.height = omega (arith, h) in
+    cc
+joint-other false p near far other longest r h l =
+    let height : 1 + max far.height near.height ≡ 1 + max other.height near.height = omega (arith, h) in
+    let is : longest ≡ max (free_pages p) (max other.longest near.longest) = omega (arith, l) in
     cc
 
 -- two trees that are nearly as high, and a key with the node of a piece between them

@@ -8,8 +8,8 @@ use Rattle.piece_tree.specs.declared.piece.TheConstants.{MOST_PIECES}
 use Rattle.piece_tree.specs.declared.node.Node.{Node}
 use Rattle.piece_tree.specs.declared.node.Opened.{Opened}
 use Rattle.piece_tree.specs.declared.node.Top.{Top}
-use Rattle.piece_tree.specs.Graft.{Halved, IsTree, Makes}
-use Rattle.piece_tree.specs.Tree.{Look, Shape, Empty, items, height_of, root_of, one, uses, fork, AreParts, Joins, KeepsCount, Opens}
+use Rattle.piece_tree.specs.Graft.{CanRegraft, Halved, IsTree, Makes}
+use Rattle.piece_tree.specs.Tree.{Look, Shape, Empty, items, height_of, root_of, one, uses, fork, top_of, AreParts, Joins, KeepsCount, Opens}
 use Rattle.piece_tree.proofs.shapes.Apart.{IsApart, apart-still, apart-stands, root-used, used-there}
 use Rattle.piece_tree.proofs.shapes.Forks.{StandsBy, one-same, opened-by, opened-there, opened-uses, same_stands}
 use Rattle.piece_tree.proofs.shapes.Hung.{joins-flip, parts_flip}
@@ -152,6 +152,24 @@ module _ (nodes : Slab Node) {b : Bool} {top : Top} {key : ℕ} {t : Shape} {ope
         len = omega (arith, opened-long);
         capacity = refl;
       }
+
+  pub opened-far : IsTree (get nodes) opened.far o.far
+  opened-far = far-tree nodes nodes opened.near key opened.far t o.near o.far halved-open (omega (arith, i.few, opened-long))
+
+  -- the tree on the far side became another one
+  module _ {mid : Slab Node} {far : Top} {ps : List Piece} (m : Makes nodes mid far o.far ps) where
+    pub opened-half : Halved nodes mid opened.near key far t o.near m.shape
+    opened-half = halved-far nodes nodes opened.near key opened.far t o.near o.far halved-open mid far ps m
+
+    pub regraft-can : CanRegraft (get mid) b top key opened far o.near o.far m.shape
+    regraft-can = record {
+      here = (m.apart key (omega (arith, halved-open.parts.once key, one-same key)) halved-open.parts.here).0 ∙ by.here;
+      fine = by.piece;
+      near = by.near;
+      was = i.is ∙ ap top_of o.is;
+      was_far = o.far_is;
+      parts = opened-half.parts;
+    }
 
 -- both became one, by the side
 pub halved-side : (old mid : Slab Node) (near : Top) (key : ℕ) (far : Top) (t n f : Shape) → Halved old mid near key far t n f

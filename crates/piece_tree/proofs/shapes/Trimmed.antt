@@ -15,7 +15,7 @@ use Rattle.piece_tree.specs.Pieces.{AreSorted, Holds, IsPiece}
 use Rattle.piece_tree.specs.Tree.{Shape, Empty, items, root_of, one, uses, top_of, fork, AreParts, IsBelow, Joins, KeepsCount, Opens}
 use Rattle.piece_tree.proofs.shapes.Beside.{none_empty}
 use Rattle.piece_tree.proofs.shapes.Forks.{one-same, opened-by, opened-uses}
-use Rattle.piece_tree.proofs.shapes.Halved.{far-tree, halved-far, halved-open, halved-side, opened-long}
+use Rattle.piece_tree.proofs.shapes.Halved.{halved-open, halved-side, opened-far, opened-half, opened-long}
 use Rattle.piece_tree.proofs.shapes.Laid.{above-at, above-back, above-front, below-at, below-back, below-front, part-nil, part-short, sorted-beside}
 use Rattle.piece_tree.proofs.shapes.Removed.{beside_key, beside_removed}
 use Rattle.piece_tree.proofs.shapes.Sorted.{all_append, begins_above, ends_below, sorted_at}
@@ -124,26 +124,20 @@ module _ (nodes : Slab Node) (page from : ℕ) {b : Bool} {top : Top} {key : ℕ
   pub trim-far : IsTree (get nodes) opened.far o.far × (low : ℕ) × AreSorted low (items o.far)
   trim-far =
       let a = sorted_far b o.far o.near fork-sorted in
-      (far-tree nodes nodes opened.near key opened.far t o.near o.far h (omega (arith, i.few, opened-long nodes i o)), a.0, a.1)
+      (opened-far nodes i o, a.0, a.1)
     where
       sorted_far : (b : Bool) (f n : Shape) → AreSorted from (items (fork b key opened.piece n f)) → (low : ℕ) × AreSorted low (items f)
       sorted_far true f n s = sorted-beside false from key opened.piece f n s
       sorted_far false f n s = sorted-beside true from key opened.piece f n s
 
   module _ {mid : Slab Node} {far : Top} (m : Makes nodes mid far o.far (part_beside b page (items o.far))) where
-    half : Halved nodes mid opened.near key far t o.near m.shape
-    half = halved-far nodes nodes opened.near key opened.far t o.near o.far h mid far _ m
-
-    pub trim-parts : AreParts (get mid) opened.near key far o.near m.shape
-    trim-parts = half.parts
-
     pub trim-joined : LiesBeside (not b) opened.piece page → {new : Slab Node} {all : Top}
         → Joins (get mid) (get new) b all key opened.piece o.near m.shape → KeepsCount mid new
         → Makes nodes new all t (part_beside b page (items t))
     trim-joined on {new} {all} j c = subst (λ l. Makes nodes new all t l)
         (part-far b from page key opened.piece o.near o.far m.shape fork-sorted on m.all
         ∙ ap (λ x. part_beside b page (items x)) (sym o.is))
-        (halved-side nodes mid opened.near key far t o.near m.shape half b new all opened.piece j c
+        (halved-side nodes mid opened.near key far t o.near m.shape (opened-half nodes i o m) b new all opened.piece j c
         (omega (arith, i.few, opened-long nodes i o, ap length m.all, part-short b page (items o.far))))
 
   -- it goes

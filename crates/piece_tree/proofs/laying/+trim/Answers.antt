@@ -2,8 +2,9 @@ use Rattle.std.proofs.Common.{sym, ap, ◌∙◌, arith}
 use Rattle.slab.specs.Slab.{get}
 use Rattle.piece_tree.specs.declared.node.Top.{Top}
 use Rattle.piece_tree.proofs.shapes.Forks.{opened-height}
+use Rattle.piece_tree.proofs.shapes.Halved.{regraft-can}
 use Rattle.piece_tree.proofs.shapes.Trimmed.{off-holds, trim-below, trim-empty, trim-far, trim-joined, trim-near, trim-nearer}
-use Rattle.piece_tree.proofs.shapes.Trimmed.{trim-none, trim-once, trim-parts, trim-piece, trim-rest, trim-rest_parts, trim-there}
+use Rattle.piece_tree.proofs.shapes.Trimmed.{trim-none, trim-once, trim-piece, trim-rest, trim-rest_parts, trim-there}
 use Rattle.piece_tree.proofs.shapes.Turned.{below_top, shows_height}
 use Rattle.piece_tree.proofs.laying.+trim.Goals as goal
 
@@ -21,26 +22,20 @@ trim-far-requires t c =
     let g = trim-far c.args.nodes.now c.args.page q.2 q.1 q.3 o in
     (omega (arith, c.decreases), (o.far, g.0, g.1, g.2))
 
-pub graft-requires-clause-parts : goal.graft-requires-clause-parts
-graft-requires-clause-parts t c =
+pub regraft-requires : goal.regraft-requires
+regraft-requires t c =
     let q = c.requires in
     let o = c.open-opened.ensures q.0 (below_top (get c.args.nodes.now) c.args.tree c.in-Some.key q.0 q.1.is c.in-Some.is q.1.stands) in
     let g = trim-far c.args.nodes.now c.args.page q.2 q.1 q.3 o in
-    (_, _, trim-parts c.args.nodes.now c.args.page q.2 q.1 q.3 o (c.trim-far.ensures o.far g.1 g.0 g.2))
-
-pub graft-requires-clause-piece : goal.graft-requires-clause-piece
-graft-requires-clause-piece t c =
-    let q = c.requires in
-    trim-piece c.args.nodes.now c.args.page q.2 q.1 q.3 (c.open-opened.ensures q.0 (below_top (get c.args.nodes.now) c.args.tree c.in-Some.key q.0 q.1.is c.in-Some.is
-    q.1.stands))
+    (_, _, _, regraft-can c.args.nodes.now q.1 o (c.trim-far.ensures o.far g.1 g.0 g.2))
 
 pub returns-then-lies_beside : goal.returns-then-lies_beside
 returns-then-lies_beside t c x from i s =
     let o = c.open-opened.ensures x (below_top (get c.args.nodes.now) c.args.tree c.in-Some.key x i.is c.in-Some.is i.stands) in
     let g = trim-far c.args.nodes.now c.args.page from i s o in
     let m = c.trim-far.ensures o.far g.1 g.0 g.2 in
-    trim-joined c.args.nodes.now c.args.page from i s o m (c.lies_beside.ensures.on c.if-lies_beside.true) (c.graft.ensures.joins _ _ (trim-parts c.args.nodes.now c.args.page from i s o m))
-    c.graft.ensures.count
+    trim-joined c.args.nodes.now c.args.page from i s o m (c.lies_beside.ensures.on c.if-lies_beside.true)
+    (c.regraft.ensures.joins _ _ _ (regraft-can c.args.nodes.now i o m)) c.regraft.ensures.count
 
 pub remove_below-requires : goal.remove_below-requires
 remove_below-requires t c =
@@ -98,8 +93,8 @@ returns-in_default-rest_beside t c x from i s =
     c.remove-in_default-rest_beside.ensures.capacity (c.lies_beside.ensures.off c.if-lies_beside.false)
     (c.lies_beside-2.ensures.off c.if-lies_beside-2.false) c.rest_beside.result c.in_default-rest_beside.is c.rest_beside.ensures.rest
 
-pub graft-requires-2-clause-parts : goal.graft-requires-2-clause-parts
-graft-requires-2-clause-parts t c =
+pub graft-requires-clause-parts : goal.graft-requires-clause-parts
+graft-requires-clause-parts t c =
     let q = c.requires in
     let o = c.open-opened.ensures q.0 (below_top (get c.args.nodes.now) c.args.tree c.in-Some.key q.0 q.1.is c.in-Some.is q.1.stands) in
     (_, _, trim-rest_parts c.args.nodes.now c.args.page q.2 q.1 q.3 o (c.remove_below.ensures o.far (trim-below c.args.nodes.now c.args.page q.2 q.1 q.3 o) (trim-once c.args.nodes.now c.args.page q.2 q.1 q.3 o)))
@@ -110,4 +105,4 @@ returns t c x from i s =
     let r = c.remove_below.ensures o.far (trim-below c.args.nodes.now c.args.page from i s o) (trim-once c.args.nodes.now c.args.page from i s o) in
     trim-rest c.args.nodes.now c.args.page from i s o r (c.lies_beside.ensures.off c.if-lies_beside.false) (c.lies_beside-2.ensures.off c.if-lies_beside-2.false)
     c.rest_beside.result c.in-Some-rest_beside.rest c.in-Some-rest_beside.is c.rest_beside.ensures.rest
-    (c.graft-2.ensures.joins _ _ (trim-rest_parts c.args.nodes.now c.args.page from i s o r)) c.graft-2.ensures.count
+    (c.graft.ensures.joins _ _ (trim-rest_parts c.args.nodes.now c.args.page from i s o r)) c.graft.ensures.count
