@@ -56,7 +56,7 @@
  *
  * IT DOES NOT WEAR OUT. A manager answers VTDM_CALLS_END calls, 2^56, and VTDM_SPENT to each further one, since its counts have 64
  * bits. Nobody gets there: at a billion calls a second it takes more than two years. Readers are not counted; vtdm_detach_all counts
- * for two calls, and vtdm_done_up_to for each step of the unit.
+ * for two calls, or for one where it is refused, and vtdm_done_up_to for each descriptor that it has done.
  *
  * WAITING. A call returns when the unit has done what the call needs of it. Two calls leave work for later: vtdm_begin, and
  * vtdm_unmap in a lazy domain. Of a manager of vtdm_create_driven that is the library's own unit: where a function says *when it
@@ -144,7 +144,7 @@ enum vtdm_status {
 
     /* Of this interface itself. Nothing has changed; of these VTDM_PENDING alone counts as a call. */
     VTDM_ABSENT = 64,        /* there is no manager at the struct */
-    VTDM_SPENT = 65,         /* the manager has answered VTDM_CALLS_END calls */
+    VTDM_SPENT = 65,         /* the manager has answered VTDM_CALLS_END calls, or can't answer all that this one counts for */
     VTDM_PRESENT = 66,       /* a creation: there is a manager at the struct already */
     VTDM_BAD_FRAMES = 67,    /* a creation: the number of table frames is outside its limits */
     VTDM_NO_MEMORY = 68,     /* a creation: malloc or realloc gave none, what was taken is freed */
@@ -156,7 +156,7 @@ enum vtdm_status {
     VTDM_NOT_DRIVEN = 74,    /* vtdm_effects: the manager was not made by vtdm_create_driven */
     VTDM_FEW_PLACES = 75,    /* vtdm_effects: there are more effects than places */
     VTDM_BAD_ADDRESS = 76,   /* vtdm_create_driven: the status address is no multiple of 4 */
-    VTDM_NO_WAIT = 77        /* vtdm_done_up_to: no wait of this number was sent */
+    VTDM_NO_WAIT = 77        /* vtdm_done_up_to: fewer waits than this number were sent */
 };
 
 /* What a device may do with a page: one of these, or both by `|`. */
@@ -253,13 +253,13 @@ struct vtdm_answer vtdm_begin(struct vtdm *manager, uint64_t domain);
 struct vtdm_answer vtdm_unit(struct vtdm *manager);
 
 /* Has the unit do its queue up to the wait of this number (vtdm_waits), and answers how many descriptors it did: each counts as a call, and
- * there is none where the wait is done already. After it there are no effects. VTDM_SPENT also where fewer calls are left than descriptors
- * wait. VTDM_NO_WAIT. */
+ * there is none where the wait is done already, or for 0. After it there are no effects. VTDM_SPENT exactly where fewer calls are left than
+ * descriptors wait in its queue. VTDM_NO_WAIT. */
 struct vtdm_answer vtdm_done_up_to(struct vtdm *manager, uint64_t wait);
 
 /* Ends a begun flush, by domain and number of its ticket: releases the ranges that were retired before it was begun, answers how many
- * there were, and closes the ticket. At VTDM_PENDING let the unit work (vtdm_unit, or any call that waits for it), and reap again.
- * VTDM_BAD_TICKET, VTDM_PENDING. */
+ * there were, and closes the ticket. At VTDM_PENDING let the unit work (vtdm_unit, or any call that waits for it; where yours has worked,
+ * vtdm_done_up_to), and reap again. VTDM_BAD_TICKET, VTDM_PENDING. */
 struct vtdm_answer vtdm_reap(struct vtdm *manager, uint64_t domain, uint64_t number);
 
 /* A request of a device at a device address, to write or to read, as the unit translates it: the host address, or a fault. With
@@ -338,7 +338,8 @@ struct vtdm_answer vtdm_width_of(struct vtdm *manager, uint64_t domain);
  * WHERE A CALL NEEDS MORE.
  *  - vtdm_dma, vtdm_evict, vtdm_unit and vtdm_done_up_to are of the library's own unit here too. They have no effects.
  *  - vtdm_begin asks for no wait. Before vtdm_reap let the library's unit do what yours has done, and no more: call vtdm_done_up_to with
- *    the number of the last wait that yours has done.
+ *    the number of the last wait that yours has done. Where W is what vtdm_waits answers and S the status that yours wrote last, that
+ *    number is W - (uint32_t)(W - S).
  *  - A detach sends the descriptor of the context alone. Where your unit finds cached translations by the device too, use
  *    vtdm_detach_all.
  *  - An attach sends nothing, and a unit with Caching Mode may remember that the device had no context entry. So after its effects give
@@ -379,9 +380,9 @@ struct vtdm_effect {
 
 /* Tells what the last call asks: writes its effects to the first places of `to`, and answers how many there are, 0 to VTDM_MOST_EFFECTS.
  * They are told once: after that there are none until the next call. The next call that is counted forgets those that nobody took, also
- * where it is refused, and then there are none; VTDM_SPENT, VTDM_MANY_SEGMENTS, VTDM_BAD_CACHE and VTDM_NO_WAIT leave them. It is not
- * counted itself. Where they are more than `count`, it writes nothing, and they can be taken still. VTDM_ABSENT, VTDM_NOT_DRIVEN,
- * VTDM_FEW_PLACES. */
+ * where it is refused, and then there are none; so does vtdm_done_up_to that did no descriptor. VTDM_SPENT, VTDM_MANY_SEGMENTS,
+ * VTDM_BAD_CACHE and VTDM_NO_WAIT leave them. It is not counted itself. Where they are more than `count`, it writes nothing, and they can
+ * be taken still. VTDM_ABSENT, VTDM_NOT_DRIVEN, VTDM_FEW_PLACES. */
 struct vtdm_answer vtdm_effects(struct vtdm *manager, struct vtdm_effect *to, size_t count);
 
 /* The number of the table frame that is the root of a domain. VTDM_NO_DOMAIN. */

@@ -141,7 +141,8 @@ pub enum Reaped {
     /// So many ranges were released, those that were retired before the flush was begun, and the ticket is closed. No device reaches
     /// their pages.
     Released(u64),
-    /// The unit hasn't done the ticket's wait, and nothing was released. Let the unit work, and reap again.
+    /// The unit hasn't done the ticket's wait, and nothing was released. Let the unit work ([`Manager::unit`](crate::Manager::unit), or
+    /// any call that waits for it; where yours has worked, [`Manager::done_up_to`](crate::Manager::done_up_to)), and reap again.
     Pending,
 }
 

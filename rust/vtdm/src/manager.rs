@@ -367,6 +367,7 @@ impl Manager {
     }
 
     /// Ends a begun flush: releases the ranges that were retired before it was begun, and closes the ticket. [`Manager::begin`] shows it.
+    /// Of a manager of [`Manager::driven`], [`Manager::done_up_to`] comes before it.
     ///
     /// # Errors
     ///

@@ -128,7 +128,8 @@ impl Manager {
 /// Some calls need more:
 ///
 /// - [`Manager::begin`] asks for no wait. Before [`Manager::reap`] let the library's unit do what yours has done, and no more: call
-///   [`Manager::done_up_to`] with the number of the last wait that yours has done.
+///   [`Manager::done_up_to`] with the number of the last wait that yours has done. Where w is what [`Manager::waits`] answers and s the
+///   status that yours wrote last, that number is w - ((w - s) mod 2^32).
 /// - [`Manager::detach`] sends the descriptor of the context alone. Where your unit finds cached translations by the device too, use
 ///   [`Manager::detach_all`].
 /// - An attach sends nothing, and a unit with Caching Mode may remember that the device had no context entry. So after its effects give it
@@ -139,7 +140,8 @@ impl Manager {
 /// and what is proved of it.
 impl Manager {
     /// Takes what the last call asks, in order. It is told once: after that nothing is asked until the next call. The next call that is
-    /// counted forgets what nobody took, also where it is refused, and then asks nothing. This itself is not counted as a call.
+    /// counted forgets what nobody took, also where it is refused, and then asks nothing; so does [`Manager::done_up_to`] that did no
+    /// descriptor. This itself is not counted as a call.
     ///
     /// # Errors
     ///
@@ -186,11 +188,11 @@ impl Manager {
     }
 
     /// Has the library's unit do its queue up to the wait of this number ([`Manager::waits`]), and answers how many descriptors it did:
-    /// each counts as a call, and there is none where the wait is done already. After it nothing is asked.
+    /// each counts as a call, and there is none where the wait is done already, or for 0. After it nothing is asked.
     ///
     /// # Errors
     ///
-    /// [`Refused::NoWait`].
+    /// [`Refused::Spent`], exactly where fewer calls are left than descriptors wait in its queue; [`Refused::NoWait`].
     ///
     /// ```
     /// # use vtdm::{Manager, Mode, Reaped, Refused, Width};

@@ -63,7 +63,7 @@ pub enum Refused {
 
     /// There is no manager. No call of this crate is answered so: a [`Manager`](crate::Manager) is one as long as it lives.
     Absent = 64,
-    /// The manager has answered 2^56 calls.
+    /// The manager has answered 2^56 calls, or can't answer all that this one counts for.
     Spent = 65,
     /// There is a manager already. No call of this crate is answered so: each creation has a place of its own.
     Present = 66,
@@ -88,7 +88,7 @@ pub enum Refused {
     FewPlaces = 75,
     /// The address of the status is no multiple of 4.
     BadAddress = 76,
-    /// No wait of this number was sent.
+    /// Fewer waits than this number were sent.
     NoWait = 77,
 
     /// The library answered a number that this crate doesn't know: it was made from another header.
