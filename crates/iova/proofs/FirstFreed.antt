@@ -4,7 +4,8 @@ use Rattle.dmatypes.specs.World.{IsIn}
 use Rattle.iova.specs.declared.ends.Ends.{Ends}
 use Rattle.piece_tree.specs.declared.piece.PageState.TheVariants.{Free, Live}
 use Rattle.piece_tree.specs.declared.piece.Piece.{Piece}
-use Rattle.iova.specs.Pieces.{NoneFreeBelow, free_start, freed, with_free}
+use Rattle.piece_tree.specs.Freed.{free_start, freed, with_free}
+use Rattle.iova.specs.Pieces.{NoneFreeBelow}
 use Rattle.iova.specs.Space.{Space, IsLowestFit, IsSpace}
 use Rattle.iova.specs.Pieces.{pages_as}
 use Rattle.iova.proofs.Pieces.{order}

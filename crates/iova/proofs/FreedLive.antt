@@ -4,7 +4,8 @@ use Rattle.std.specs.List.{AllByRecursion}
 use Rattle.dmatypes.specs.Page.{Range}
 use Rattle.piece_tree.specs.declared.piece.PageState.TheVariants.{Free, Live, Retired}
 use Rattle.piece_tree.specs.declared.piece.Piece.{Piece}
-use Rattle.iova.specs.Pieces.{IsOrdered, free_end, free_start, piece_of, state_at, with_free}
+use Rattle.piece_tree.specs.Freed.{free_end, free_start, with_free}
+use Rattle.iova.specs.Pieces.{IsOrdered, piece_of, state_at}
 use Rattle.piece_tree.specs.Pieces.{is_free}
 use Rattle.piece_tree.specs.Laid.{part_above, part_below, with_piece}
 use Rattle.iova.specs.Space.{Space, IsSpace, MayRetire}

@@ -1,28 +1,22 @@
 -- Where pages lie that come free: each of them, and of the free pieces that they touch, lies in a piece.
 use Rattle.std.proofs.Common.{ℕ, ◌<◌, ◌≤◌, List, Option, Some, None, IsSome, refl, sym, inl, inr, subst, arith}
-use Rattle.dmatypes.specs.World.{IsIn}
 use Rattle.iova.specs.declared.ends.Ends.{Ends}
 use Rattle.piece_tree.specs.declared.piece.PageState.TheVariants.{Free}
 use Rattle.piece_tree.specs.declared.piece.Piece.{Piece}
 use Rattle.piece_tree.specs.declared.piece.TheConstants.{NUMBERS_END}
 use Rattle.piece_tree.specs.Pieces.{piece_at}
-use Rattle.iova.specs.Pieces.{IsOrdered, free_end, free_start, freed, pages_as, with_free}
+use Rattle.piece_tree.specs.Freed.{free_end, free_start, freed, with_free}
+use Rattle.iova.specs.Pieces.{IsOrdered, pages_as}
 use Rattle.iova.specs.Space.{IsPageTo, IsSpace}
 use Rattle.iova.specs.Stored.{stored}
 use Rattle.iova.proofs.FreeRange.{free_end_ge, free_start_before, free_start_le}
 use Rattle.iova.proofs.Keep.{is_some}
 use Rattle.iova.proofs.Pieces.{order, put_inside}
 use Rattle.iova.proofs.parts.Filled.{its_state, state_is}
-use Rattle.iova.proofs.searches.FreeEnds.{at_of}
 
 has_piece : (o : Option Piece) → IsSome (its_state o) → IsSome o
 has_piece None h = absurd (cc)
 has_piece (Some p) h = refl
-
--- a page of a piece lies in one
-pub piece_there : (q : Piece) (ps : List Piece) (page : ℕ) → IsOrdered 1 ps → IsIn q ps → q.first ≤ page → page ≤ q.last
-    → IsSome (piece_at ps page)
-piece_there q ps page o i l h = subst (λ r. IsSome r) (sym (at_of 1 q ps page o i l h)) refl
 
 start_least : (ps : List Piece) (first : ℕ) → IsOrdered 1 ps → free_start ps first ≤ first
 start_least ps first o = elim (order 1 first) [

@@ -7,7 +7,8 @@ use Rattle.dmatypes.specs.World.{IsIn}
 use Rattle.piece_tree.specs.declared.piece.PageState.{PageState}
 use Rattle.piece_tree.specs.declared.piece.PageState.TheVariants.{Free, Live, Retired}
 use Rattle.piece_tree.specs.declared.piece.Piece.{Piece}
-use Rattle.iova.specs.Pieces.{AllIn, IsOrdered, IsRun, free_end, free_start, piece_of, state_at, with_free}
+use Rattle.piece_tree.specs.Freed.{free_end, free_start, with_free}
+use Rattle.iova.specs.Pieces.{AllIn, IsOrdered, IsRun, piece_of, state_at}
 use Rattle.piece_tree.specs.Pieces.{Holds}
 use Rattle.piece_tree.specs.Laid.{with_piece}
 use Rattle.iova.specs.Space.{Space, IsSpace, MayRetire}

@@ -56,7 +56,7 @@ none_below_used low first last s ps o w none used h q m free = elim (put_only fi
 ]
 
 -- as many pages as a free piece has fit at its first
-pub pages_fit : (q : Piece) (pages : ℕ) (ps : List Piece) → IsOrdered 1 ps → IsIn q ps → q.state ≡ Free → q.first + pages ≤ q.last + 1
+pages_fit : (q : Piece) (pages : ℕ) (ps : List Piece) → IsOrdered 1 ps → IsIn q ps → q.state ≡ Free → q.first + pages ≤ q.last + 1
     → IsFit ps pages 1 q.first
 pages_fit q pages ps o m free h = record {
   aligned = omega arith;

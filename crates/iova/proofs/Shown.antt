@@ -10,7 +10,8 @@ use Rattle.piece_tree.specs.declared.piece.PageState.{PageState}
 use Rattle.piece_tree.specs.declared.piece.PageState.TheVariants.{Free, Live}
 use Rattle.piece_tree.specs.declared.piece.Piece.{Piece}
 use Rattle.piece_tree.specs.Pieces.{Holds}
-use Rattle.iova.specs.Pieces.{IsOrdered, free_end, free_start, freed, piece_of, state_at, with_free}
+use Rattle.piece_tree.specs.Freed.{free_end, free_start, freed, with_free}
+use Rattle.iova.specs.Pieces.{IsOrdered, piece_of, state_at}
 use Rattle.piece_tree.specs.Laid.{part_above, with_piece}
 use Rattle.iova.specs.Space.{Space, IsSpace}
 use Rattle.iova.specs.Changes.{Frees, Takes}

@@ -3,7 +3,8 @@
 ghost use Rattle.std.specs.Prelude.{◌≡◌, ◌+◌, ◌-◌, ◌<◌, ◌≤◌, ◌↔◌, IfSome, IsSome, IsTrue};
 ghost use Rattle.dmatypes.specs.Page.{IsPageRange};
 ghost use Rattle.piece_tree.specs.Pieces.{IsPiece, piece_at};
-ghost use Rattle.iova.specs.Pieces.{IsOrdered, end_by, free_end, free_start, pages_as, piece_of, start_by};
+ghost use Rattle.piece_tree.specs.Freed.{free_end, free_start};
+ghost use Rattle.iova.specs.Pieces.{IsOrdered, end_by, pages_as, piece_of, start_by};
 
 use dmatypes::PageRange;
 use piece_tree::{NUMBERS_END, PageState, Piece, PieceTree};
@@ -83,24 +84,13 @@ fn end(behind: Option<Piece>, last: u64) -> u64
     }
 }
 
-/// The pages from the first of the free piece that ends just before some pages to the last of the one that begins just after them: by the
-/// pieces beside those that their ends lie in, of which one is at hand mostly.
-#[inline(always)]
-pub(crate) fn with_free_ends(tree: &mut PieceTree, pages: Ends) -> Ends
-    requires ordered { IsOrdered 1 tree.old }
-    requires first { IsSome (piece_at tree.old pages.first) }
-    requires last { IsSome (piece_at tree.old pages.last) }
-    requires narrow { pages.last < NUMBERS_END }
-    ensures first { result.first ≡ free_start tree.old pages.first }
-    ensures last { result.last ≡ free_end tree.old pages.last }
-    ensures unchanged { tree.new ≡ tree.old }
+/// The first page of the free piece that ends just before a page, or that page.
+pub(crate) fn free_start_at(tree: &PieceTree, first: u64) -> u64
+    requires ordered { IsOrdered 1 tree.now }
+    requires some { 1 ≤ first }
+    ensures { result ≡ free_start tree.now first }
 {
-    let before = tree.free_beside(pages.first, true);
-    let behind = tree.free_beside(pages.last, false);
-    Ends {
-        first: start(before, pages.first),
-        last: end(behind, pages.last),
-    }
+    start(tree.piece_at(first - 1), first)
 }
 
 /// The same, looked for by the pages beside them.
@@ -111,10 +101,9 @@ pub(crate) fn free_ends_at(tree: &PieceTree, pages: Ends) -> Ends
     ensures first { result.first ≡ free_start tree.now pages.first }
     ensures last { result.last ≡ free_end tree.now pages.last }
 {
-    let before = tree.piece_at(pages.first - 1);
     let behind = tree.piece_at(pages.last + 1);
     Ends {
-        first: start(before, pages.first),
+        first: free_start_at(tree, pages.first),
         last: end(behind, pages.last),
     }
 }

@@ -3,11 +3,12 @@
 ghost use Rattle.std.specs.Prelude.{◌≡◌, ◌≢◌, ℕ, ◌+◌, ◌^◌, ◌<◌, ◌≤◌, ◌⊎◌, length, IsTrue, IfSome, IfNone, None, Some, false};
 ghost use Rattle.dmatypes.specs.World.{IsIn};
 ghost use Rattle.piece_tree.specs.Pieces.{Holds};
-ghost use Rattle.iova.specs.Pieces.{IsOrdered, NoneFreeBelow, free_start, pages_as, state_at, with_free};
+ghost use Rattle.piece_tree.specs.Freed.{free_start, with_free};
+ghost use Rattle.iova.specs.Pieces.{NoneFreeBelow, pages_as, state_at};
 ghost use Rattle.iova.specs.Space.{IsLowestFit, IsSpace};
 ghost use Rattle.iova.specs.Stored.{AreLive, TakesPlace, shown, stored, with_freed};
 
-use crate::ends::{Ends, free_ends_at, with_free_ends};
+use crate::ends::{Ends, free_ends_at, free_start_at};
 use crate::space::MOST_PIECES_TO_CUT;
 use piece_tree::{NUMBERS_END, PageState, Piece, PieceTree};
 
@@ -22,9 +23,7 @@ pub(crate) fn set_free(tree: &mut PieceTree, low: u64, pages: Ends) -> u64
     ensures tree { tree.new ≡ with_free (pages_as pages PageState.Free) tree.old }
     ensures low { NoneFreeBelow result tree.new }
 {
-    let whole = with_free_ends(tree, pages);
-    tree.lay(whole.in_state(PageState::Free));
-    low.min(whole.first)
+    low.min(tree.free(pages.first, pages.last))
 }
 
 /// Tells the tree of the piece that came free, if there is one: its pieces are then those that the space shows.
@@ -49,40 +48,27 @@ pub(crate) struct Fit {
     pub(crate) low: u64,
 }
 
-// Whether no free piece of so many pages begins before a page.
-fn is_none_before(tree: &PieceTree, first: u64, pages: u64) -> bool
-    requires ordered { IsOrdered 1 tree.now }
-    requires some { 1 ≤ pages }
-    requires few { pages < NUMBERS_END }
-    ensures { IsTrue result → (p : Piece) → IsIn p tree.now → p.state ≡ PageState.Free → p.first < first → p.last + 1 < p.first + pages }
-{
-    match tree.first_fit(0, pages, 1) {
-        Some(start) => first <= start,
-        None => true,
-    }
-}
-
 // A page below which no free piece begins, where the piece that came free is the first of so many free pages: no free one before it has
 // so many, and none touches it. Where none is free before it at all it is the piece's own page, so that this is found out once.
 #[inline(never)]
-fn low_of_first(tree: &mut PieceTree, low: u64, freed: Ends, pages: u64) -> Option<u64>
-    requires space { (last : ℕ) × IsSpace (stored last tree.old) }
-    requires low { NoneFreeBelow low tree.old }
-    requires freed { AreLive (Some freed) tree.old }
-    requires some { 1 ≤ pages }
-    requires few { pages < NUMBERS_END }
-    ensures alone { IfSome result (λ _. free_start tree.old freed.first ≡ freed.first) }
-    ensures first { IfSome result (λ _. (p : Piece) → IsIn p tree.old → p.state ≡ PageState.Free
+fn low_of_first(tree: &PieceTree, low: u64, freed: Ends, pages: u64) -> Option<u64>
+    requires space { (last : ℕ) × IsSpace (stored last tree.now) }
+    requires low { NoneFreeBelow low tree.now }
+    requires freed { AreLive (Some freed) tree.now }
+    ensures alone { IfSome result (λ _. free_start tree.now freed.first ≡ freed.first) }
+    ensures first { IfSome result (λ _. (p : Piece) → IsIn p tree.now → p.state ≡ PageState.Free
         → p.first < freed.first → p.last + 1 < p.first + pages) }
-    ensures low { IfSome result (λ page. NoneFreeBelow page tree.old) }
-    ensures unchanged { tree.new ≡ tree.old }
+    ensures low { IfSome result (λ page. NoneFreeBelow page tree.now) }
 {
-    let whole = with_free_ends(tree, freed);
-    if whole.first != freed.first || !is_none_before(tree, freed.first, pages) {
+    if !tree.are_short_before(freed.first, pages) {
         return None;
     }
-    if is_none_before(tree, freed.first, 1) {
+    // Where no page before it is free, none touches it.
+    if pages == 1 || tree.are_short_before(freed.first, 1) {
         return Some(freed.first);
+    }
+    if free_start_at(tree, freed.first) != freed.first {
+        return None;
     }
     Some(low)
 }
@@ -91,23 +77,22 @@ fn low_of_first(tree: &mut PieceTree, low: u64, freed: Ends, pages: u64) -> Opti
 /// first that has so many. It isn't told where there are so many pieces that a cut might be refused.
 #[inline(always)]
 pub(crate) fn fit_freed(
-    tree: &mut PieceTree,
+    tree: &PieceTree,
     low: u64,
     pages: u64,
     unit: u64,
     freed: Option<Ends>,
 ) -> Option<Fit>
-    requires space { (last : ℕ) × IsSpace (stored last tree.old) }
-    requires low { NoneFreeBelow low tree.old }
+    requires space { (last : ℕ) × IsSpace (stored last tree.now) }
+    requires low { NoneFreeBelow low tree.now }
     requires some_pages { 1 ≤ pages }
     requires unit { (order : ℕ) × (unit ≡ 2 ^ order) }
-    requires freed { AreLive freed tree.old }
+    requires freed { AreLive freed tree.now }
     ensures freed { IfSome result (λ fit. freed ≡ Some fit.pages) }
     ensures pages { IfSome result (λ fit. fit.pages.last + 1 ≡ fit.pages.first + pages) }
-    ensures lowest { IfSome result (λ fit. IsLowestFit (shown freed tree.old) pages unit fit.pages.first) }
-    ensures few { IfSome result (λ _. length tree.old ≤ MOST_PIECES_TO_CUT) }
-    ensures low { IfSome result (λ fit. NoneFreeBelow fit.low tree.old) }
-    ensures unchanged { tree.new ≡ tree.old }
+    ensures lowest { IfSome result (λ fit. IsLowestFit (shown freed tree.now) pages unit fit.pages.first) }
+    ensures few { IfSome result (λ _. length tree.now ≤ MOST_PIECES_TO_CUT) }
+    ensures low { IfSome result (λ fit. NoneFreeBelow fit.low tree.now) }
 {
     let ends = freed?;
     if pages != ends.last - ends.first + 1

@@ -72,7 +72,8 @@ impl PageTree {
     ghost use Rattle.dmatypes.specs.World.{IsIn};
     ghost use Rattle.piece_tree.specs.Laid.{with_piece};
     ghost use Rattle.piece_tree.specs.Pieces.{Holds};
-    ghost use Rattle.iova.specs.Pieces.{IsRun, NoneFreeBelow, pages_as, piece_of, state_at, with_free};
+    ghost use Rattle.piece_tree.specs.Freed.{with_free};
+    ghost use Rattle.iova.specs.Pieces.{IsRun, NoneFreeBelow, pages_as, piece_of, state_at};
     ghost use Rattle.iova.specs.Space.{Space, AllFree, IsFit, IsLowestFit, IsLowestFrom, IsSpace, IsTooMany, MayRetire};
     ghost use Rattle.iova.specs.Carved.{AreCarved, FollowOn, IsSought, with_carved};
     ghost use Rattle.iova.specs.declared.carved.Stock.{Stock};
@@ -169,7 +170,7 @@ impl PageTree {
         ensures few { IfSome result (λ start. IsTooMany self.old.pieces (record { first = start; pages = pages }) → ⊥) }
         ensures unchanged { IfNone result (self.new ≡ self.old) }
     {
-        let fit = freeing::fit_freed(&mut self.tree, self.low, pages, unit, self.freed)?;
+        let fit = freeing::fit_freed(&self.tree, self.low, pages, unit, self.freed)?;
         self.low = fits::low_behind(fit.low, fit.pages.in_state(PageState::Live));
         self.freed = None;
         self.judged = Some(fit.pages);

@@ -16,7 +16,10 @@ pub mod Placed
 pub mod Sought
 pub mod Room
 pub mod Fitting
-pub mod Free
+pub mod Edges
+pub mod Edging
+pub mod Grown
+pub mod Shorter
 pub mod Laid
 pub mod Halved
 pub mod Removed

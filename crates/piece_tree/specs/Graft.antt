@@ -4,11 +4,10 @@ use Rattle.slab.specs.Slab.{Slab, get, slab_len}
 use Rattle.piece_tree.specs.declared.piece.Piece.{Piece}
 use Rattle.piece_tree.specs.declared.piece.TheConstants.{MOST_PIECES, NUMBERS_END}
 use Rattle.piece_tree.specs.declared.node.Node.{Node}
-use Rattle.piece_tree.specs.declared.node.Opened.{Opened}
 use Rattle.piece_tree.specs.declared.node.Top.{Top}
 use Rattle.piece_tree.specs.Laid.{IsRow, part_beside, with_row}
-use Rattle.piece_tree.specs.Pieces.{AreSorted, HasAny, IsPiece}
-use Rattle.piece_tree.specs.Tree.{Look, Shape, AreNear, AreParts, IsBelow, Stands, fork, items, height_of, joint_at, one, uses, top_of}
+use Rattle.piece_tree.specs.Pieces.{AreSorted, HasAny}
+use Rattle.piece_tree.specs.Tree.{Look, Shape, AreParts, IsBelow, Stands, items, height_of, one, uses, top_of}
 
 -- a tree that is handed on, of so few pieces that it is low, with no key in two places
 pub record IsTree (look : Look) (top : Top) (t : Shape) : Type 0 where
@@ -16,15 +15,6 @@ pub record IsTree (look : Look) (top : Top) (t : Shape) : Type 0 where
   pub stands : Stands look t
   pub once : (k : ℕ) → uses t k ≤ 1
   pub few : length (items t) ≤ MOST_PIECES
-
--- a key was opened, and another tree can come on its far side
-pub record CanRegraft (look : Look) (before : Bool) (tree : Top) (key : ℕ) (opened : Opened) (far : Top) (n f g : Shape) : Type 0 where
-  pub here : look key ≡ Some (joint_at before opened.piece (top_of n) (top_of f))
-  pub fine : IsPiece opened.piece
-  pub near : AreNear n f
-  pub was : tree ≡ top_of (fork before key opened.piece n f)
-  pub was_far : opened.far ≡ top_of f
-  pub parts : AreParts look opened.near key far n g
 
 -- the tree became one of these pieces. No key beside it changed or came into it
 pub record Makes (old new : Slab Node) (top : Top) (t : Shape) (pieces : List Piece) : Type 0 where

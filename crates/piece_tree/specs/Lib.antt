@@ -4,3 +4,5 @@ pub mod Way
 pub mod Search
 pub mod Laid
 pub mod Graft
+pub mod Freed
+pub mod Spans

@@ -1,5 +1,5 @@
 -- What a search in pieces finds.
-use Rattle.std.specs.Prelude.{ℕ, ◌≡◌, ◌+◌, ◌%◌, ◌<◌, ◌≤◌, max, nat_le, Bool, true, false, IsTrue}
+use Rattle.std.specs.Prelude.{ℕ, ◌≡◌, ◌+◌, ◌%◌, ◌<◌, ◌≤◌, max, nat_le, IsTrue}
 use Rattle.std.specs.Prelude.{if◌then◌else◌, List, [], ◌∷◌, ◌++◌, Option, Some, None}
 use Rattle.std.specs.List.{AllByRecursion}
 use Rattle.piece_tree.specs.declared.piece.Piece.{Piece}
@@ -14,37 +14,18 @@ first_or (p ∷ ps) other = Some p
 abbrev pub first_of : List Piece → Option Piece
 first_of ps = first_or ps None
 
--- and the last one
-abbrev pub last_or : List Piece → Option Piece → Option Piece
-last_or [] other = other
-last_or (p ∷ ps) other = last_or ps (Some p)
-
-abbrev pub last_of : List Piece → Option Piece
-last_of ps = last_or ps None
-
--- the last of some pieces, or the first
-abbrev pub end_or : (last : Bool) → List Piece → Option Piece → Option Piece
-end_or true ps other = last_or ps other
-end_or false ps other = first_or ps other
-
--- of pieces on both sides of a place, the one right before it or the one right behind
-abbrev pub beside_of : (before : Bool) → List Piece → List Piece → Option Piece
-beside_of true xs ys = last_of xs
-beside_of false xs ys = first_of ys
-
 -- the pieces that begin at a page or behind it
 unfoldable pub pieces_from : ℕ → List Piece → List Piece
 pieces_from page [] = []
 pieces_from page (p ∷ ps) = if nat_le page p.first then p ∷ ps else pieces_from page ps
 
--- the piece, if it is free
-abbrev pub free_of : Option Piece → Option Piece
-free_of None = None
-free_of (Some p) = if is_free p.state then Some p else None
-
 -- fewer pages of it are free
 abbrev pub IsShort : ℕ → Piece → Type 0
 IsShort pages p = free_pages p < pages
+
+-- it begins at the page or behind it, or fewer pages of it are free
+abbrev pub IsShortBefore : (page pages : ℕ) → Piece → Type 0
+IsShortBefore page pages p = p.first < page → free_pages p < pages
 
 -- the first piece with so many free pages
 pub record IsFirstLong (pages : ℕ) (ps : List Piece) (p : Piece) : Type 0 where

@@ -1,5 +1,5 @@
 -- Pieces in a balanced tree: nodes of a slab, named by their keys. The pieces before a node's own lie on its left, and those behind it on
--- its right. Each node has the height of the tree from it down, and the greatest length of a free piece in it.
+-- its right. Each node has what is handed on of these two trees.
 use Rattle.std.specs.Prelude.{ℕ, zero, suc, ◌≡◌, ◌≢◌, ◌+◌, ◌-◌, ◌≤◌, ◌==◌, max, Bool, true, false, if◌then◌else◌, List, [], ◌∷◌, ◌++◌}
 use Rattle.std.specs.Prelude.{length, Option}
 use Rattle.std.specs.Prelude.{Some, None, IsSome}
@@ -68,15 +68,17 @@ fork false key piece near far = Fork key piece far near
 abbrev pub top_of : Shape → Top
 top_of t = record { root = root_of t; height = height_of t; longest = longest_of t }
 
+-- the tree that a node is the root of
+abbrev pub tree_at : ℕ → Node → Top
+tree_at key node = record {
+  root = Some key;
+  height = 1 + max node.left.height node.right.height;
+  longest = max (free_pages node.piece) (max node.left.longest node.right.longest);
+}
+
 -- the node of a piece between two trees
 abbrev pub joint : Piece → Top → Top → Node
-joint piece left right = record {
-  piece = piece;
-  left = left.root;
-  right = right.root;
-  height = 1 + max left.height right.height;
-  longest = max (free_pages piece) (max left.longest right.longest);
-}
+joint piece left right = record { piece = piece; left = left; right = right }
 
 abbrev pub joint_at : (before : Bool) → Piece → Top → Top → Node
 joint_at true piece near far = joint piece near far
@@ -90,6 +92,9 @@ Stands look (Fork key piece left right) = (look key ≡ Some (joint piece (top_o
 
 abbrev pub IsBelow : Look → Option ℕ → Shape → Type 0
 IsBelow look root t = (root ≡ root_of t) × Stands look t
+
+abbrev pub IsTop : Look → Top → Shape → Type 0
+IsTop look top t = (top ≡ top_of t) × Stands look t
 
 -- what lies at a key, by a side
 pub record Opens (before : Bool) (key : ℕ) (opened : Opened) (t : Shape) : Type 0 where
@@ -132,6 +137,24 @@ pub record Joins (old new : Look) (before : Bool) (top : Top) (key : ℕ) (piece
   pub short : height_of shape ≤ 1 + max (height_of n) (height_of f)
   pub plain : AreNear n f → shape ≡ fork before key piece n f
 
+-- a tree can come on a side of a key, in the place of another one
+pub record CanHang (look : Look) (before : Bool) (key : ℕ) (tree : Top) (piece : Piece) (was n f : Shape) : Type 0 where
+  pub here : look key ≡ Some (joint_at before piece (top_of was) (top_of f))
+  pub fine : IsPiece piece
+  pub near : AreNear was f
+  pub tree_is : tree ≡ top_of n
+  pub stands : Stands look n
+  pub beside : Stands look f
+  pub once : (k : ℕ) → one key k + uses n k + uses f k ≤ 1
+  pub low : (height_of n ≤ 100) × (height_of f ≤ 100)
+
+-- the tree has the root and the height of the other one, and so much is longest in it
+pub record CanShow (look : Look) (before : Bool) (key longest : ℕ) (piece : Piece) (was n f : Shape) : Type 0 where
+  pub can : CanHang look before key (top_of n) piece was n f
+  pub same_root : root_of n ≡ root_of was
+  pub same_height : height_of n ≡ height_of was
+  pub is : longest ≡ longest_of n
+
 -- ---- the whole tree
 
 -- what stands at a root
@@ -141,7 +164,7 @@ at_root look (Some key) = look key
 
 abbrev pub around : Option Node → (Option ℕ → List Piece) → List Piece
 around None below = []
-around (Some node) below = below node.left ++ node.piece ∷ below node.right
+around (Some node) below = below node.left.root ++ node.piece ∷ below node.right.root
 
 -- the pieces below a root, in order, so many nodes deep
 unfoldable pub contents : Look → ℕ → Option ℕ → List Piece
@@ -149,12 +172,12 @@ contents look zero root = []
 contents look (suc depth) root = around (at_root look root) (contents look depth)
 
 -- all the pieces
-abbrev pub pieces_of : Slab Node → Option ℕ → List Piece
-pieces_of nodes root = contents (get nodes) MOST_HEIGHT root
+abbrev pub pieces_of : Slab Node → Top → List Piece
+pieces_of nodes root = contents (get nodes) MOST_HEIGHT root.root
 
 -- a tree of pieces in order stands below the root, at most 14 high, with no key in two places, and there is room for all pieces
-pub record IsWhole (nodes : Slab Node) (root : Option ℕ) (t : Shape) : Type 0 where
-  pub here : root ≡ root_of t
+pub record IsWhole (nodes : Slab Node) (root : Top) (t : Shape) : Type 0 where
+  pub here : root ≡ top_of t
   pub stands : Stands (get nodes) t
   pub once : (k : ℕ) → uses t k ≤ 1
   pub low : height_of t ≤ MOST_HEIGHT

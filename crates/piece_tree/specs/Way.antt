@@ -6,13 +6,12 @@ use Rattle.piece_tree.specs.declared.piece.Piece.{Piece}
 use Rattle.piece_tree.specs.declared.node.Node.{Node}
 use Rattle.piece_tree.specs.declared.node.Top.{Top}
 use Rattle.piece_tree.specs.declared.way.Held.{Held}
-use Rattle.piece_tree.specs.declared.way.Hung.{Hung}
 use Rattle.piece_tree.specs.declared.way.Place.{Place}
 use Rattle.piece_tree.specs.declared.way.Step.{Step}
 use Rattle.piece_tree.specs.declared.way.TheConstants.{MOST_HEIGHT}
 use Rattle.piece_tree.specs.Pieces.{IsPiece}
 use Rattle.piece_tree.specs.Tree.{Look, Shape, Fork, items, height_of, longest_of, root_of, top_of, one, uses, fork, joint_at}
-use Rattle.piece_tree.specs.Tree.{AreNear, Stands, Joins}
+use Rattle.piece_tree.specs.Tree.{AreNear, Stands}
 use Rattle.piece_tree.specs.Tree.{IsWhole}
 
 -- nothing, or a key above a place, which lies before it or behind it, with its piece and the tree on its other side
@@ -91,55 +90,30 @@ pub record IsStepAbove (way : List Step) (before : Bool) (depth : ℕ) (path : A
   pub step : step_at way depth ≡ record { key = key; before = before }
   pub steps : AreSteps way depth up
 
--- ---- a tree hung below a key
-
--- a tree can be hung where a step goes to, in the place of another one
-pub record CanHang (look : Look) (step : Step) (tree : Top) (piece : Piece) (was n f : Shape) : Type 0 where
-  pub here : look step.key ≡ Some (joint_at step.before piece (top_of was) (top_of f))
-  pub fine : IsPiece piece
-  pub near : AreNear was f
-  pub tree_is : tree ≡ top_of n
-  pub stands : Stands look n
-  pub beside : Stands look f
-  pub once : (k : ℕ) → one step.key k + uses n k + uses f k ≤ 1
-  pub low : (height_of n ≤ 100) × (height_of f ≤ 100)
-
--- a tree has the root and the height of another one, which had a longest free piece of so many pages
-pub record IsKept (now was : Shape) (longest : ℕ) : Type 0 where
-  pub root : root_of now ≡ root_of was
-  pub height : height_of now ≡ height_of was
-  pub shown : longest ≡ longest_of was
-
--- it hangs there, and where something is `kept`, the key is at the top still, and as high: so much it showed as longest
-pub record Hangs (old new : Look) (step : Step) (hung : Hung) (piece : Piece) (was n f : Shape) : Type 0 where
-  pub joins : Joins old new step.before hung.top step.key piece n f
-  pub kept : IfSome hung.kept (IsKept joins.shape (fork step.before step.key piece was f))
-
--- ---- and up
+-- ---- up
 
 -- at the end of the way lies another tree than what the keys above it show. None of them is so high that the whole gets too high
-pub record CanMend (look : Look) (way : List Step) (depth : ℕ) (root : Option ℕ) (top : Top) (path : Above) (t new : Shape) : Type 0 where
+pub record CanMend (look : Look) (way : List Step) (depth : ℕ) (root : Top) (top : Top) (path : Above) (t new : Shape) : Type 0 where
   pub steps : AreSteps way depth path
   pub above : AreAbove look path t
-  pub here : root ≡ root_of (plug path t)
+  pub here : root ≡ top_of (plug path t)
   pub is : top ≡ top_of new
   pub stands : Stands look new
   pub once : (k : ℕ) → uses_above path k + uses new k ≤ 1
   pub low : height_of (plug path t) ≤ MOST_HEIGHT
   pub fair : height_of new + depth ≤ 2 * MOST_HEIGHT
 
--- and it has the root and the height of the one that was there, where what is longest was so long and is so long now
-pub record CanLift (look : Look) (way : List Step) (depth : ℕ) (root : Option ℕ) (path : Above) (t new : Shape) (was now : ℕ) : Type 0 where
+-- and it has the root and the height of the one that was there, and so much is longest
+pub record CanLift (look : Look) (way : List Step) (depth : ℕ) (root : Top) (longest : ℕ) (path : Above) (t new : Shape) : Type 0 where
   pub can : CanMend look way depth root (top_of new) path t new
   pub same_root : root_of new ≡ root_of t
   pub same_height : height_of new ≡ height_of t
-  pub was_is : was ≡ longest_of t
-  pub now_is : now ≡ longest_of new
+  pub is : longest ≡ longest_of new
 
 -- the tree below the root is the whole one with the other tree's pieces at the place
-pub record Mends (old new : Look) (root : Option ℕ) (path : Above) (t end : Shape) : Type 0 where
+pub record Mends (old new : Look) (root : Top) (path : Above) (t end : Shape) : Type 0 where
   pub shape : Shape
-  pub here : root ≡ root_of shape
+  pub here : root ≡ top_of shape
   pub stands : Stands new shape
   pub all : items shape ≡ among path (items end)
   pub keys : (k : ℕ) → uses shape k ≡ uses_above path k + uses end k
@@ -163,7 +137,7 @@ pub record Leads (way : List Step) (first last : ℕ) (place : Place) (t : Shape
   pub steps : AreSteps way place.depth lies.path
 
 -- the way leads to a key of the tree below the root, which has a piece between two trees
-pub record IsHeld (nodes : Slab Node) (root : Option ℕ) (way : List Step) (held : Held) (path : Above) (p : Piece) (l r : Shape)
+pub record IsHeld (nodes : Slab Node) (root : Top) (way : List Step) (held : Held) (path : Above) (p : Piece) (l r : Shape)
     : Type 0 where
   pub whole : IsWhole nodes root (plug path (Fork held.key p l r))
   pub steps : AreSteps way held.depth path
@@ -183,9 +157,9 @@ IsAtHand way hand t = IfSome hand (λ held. IsHand way held t)
 -- ---- a change at the end of a way
 
 -- the tree below the root is the one with these pieces at the place, and there is as much room
-pub record Becomes (old new : Slab Node) (root : Option ℕ) (path : Above) (pieces : List Piece) : Type 0 where
+pub record Becomes (old new : Slab Node) (root : Top) (path : Above) (pieces : List Piece) : Type 0 where
   pub shape : Shape
-  pub here : root ≡ root_of shape
+  pub here : root ≡ top_of shape
   pub stands : Stands (get new) shape
   pub once : (k : ℕ) → uses shape k ≤ 1
   pub all : items shape ≡ among path pieces

@@ -1,47 +1,59 @@
 //! What changes at a key to which a way leads: its piece is another, or a row is laid over it and those below it.
 
-ghost use Rattle.std.specs.Prelude.{◌≡◌, ◌+◌, ◌∷◌, ◌++◌, ℕ, Option, length};
+ghost use Rattle.std.specs.Prelude.{◌≡◌, ◌+◌, ◌≤◌, ◌∷◌, ◌++◌, ℕ, length};
 ghost use Rattle.slab.specs.Slab.{slab_len};
 ghost use Rattle.piece_tree.specs.Graft.{CanReplace};
-ghost use Rattle.piece_tree.specs.Laid.{with_row};
+ghost use Rattle.piece_tree.specs.Laid.{with_piece, with_row};
 ghost use Rattle.piece_tree.specs.Pieces.{IsPiece};
-ghost use Rattle.piece_tree.specs.Tree.{Fork, KeepsCount, Shape, items};
+ghost use Rattle.piece_tree.specs.declared.piece.TheConstants.{MOST_PIECES};
+ghost use Rattle.piece_tree.specs.Spans.{Covers, LaysOver, pages_of};
+ghost use Rattle.piece_tree.specs.Tree.{Fork, IsWhole, KeepsCount, Shape, items};
 ghost use Rattle.piece_tree.specs.Way.{Above, Becomes, IsHeld, plug};
 
 use crate::laying::replace;
-use crate::links::{free_length, longest, set_piece};
-use crate::node::Node;
-use crate::piece::Piece;
+use crate::links::set_piece;
+use crate::node::{Node, Top};
+use crate::piece::{PageState, Piece};
+use crate::spans::Span;
 use crate::way::{Held, MOST_HEIGHT, Step, lift, mend};
 use slab::Slab;
 
-/// Puts another piece under a key. No tree is higher or lower for it, so the root stays, and the way still leads there.
-pub(crate) fn renew(nodes: &mut Slab<Node>, way: &[Step; MOST_HEIGHT], held: Held, piece: Piece)
-    requires held { (root : Option ℕ) × (path : Above) × (p : Piece) × (l : Shape) × (r : Shape)
-        × IsHeld nodes.old root way.now held path p l r }
+/// The root of a tree that was changed, and what is at hand in it.
+#[derive(Clone, Copy)]
+pub(crate) struct Laid {
+    pub(crate) root: Top,
+    pub(crate) hand: Option<Held>,
+}
+
+/// Puts another piece under a key. No tree is higher or lower for it, so the way still leads there.
+#[inline(always)]
+pub(crate) fn renew(
+    nodes: &mut Slab<Node>,
+    root: Top,
+    way: &[Step; MOST_HEIGHT],
+    held: Held,
+    piece: Piece,
+) -> Top
+    requires held { (path : Above) × (p : Piece) × (l : Shape) × (r : Shape) × IsHeld nodes.old root way.now held path p l r }
     requires piece { IsPiece piece }
-    ensures becomes { (root : Option ℕ) (path : Above) (p : Piece) (l r : Shape) → IsHeld nodes.old root way.now held path p l r
-        → (b : Becomes nodes.old nodes.new root path (items l ++ piece ∷ items r))
+    ensures becomes { (path : Above) (p : Piece) (l r : Shape) → IsHeld nodes.old root way.now held path p l r
+        → (b : Becomes nodes.old nodes.new result path (items l ++ piece ∷ items r))
         × (b.shape ≡ plug path (Fork held.key piece l r)) }
     ensures count { KeepsCount nodes.old nodes.new }
 {
-    let node = &nodes[held.key];
-    let was = node.longest;
-    let below = longest(nodes, node.left).max(longest(nodes, node.right));
-    let now = free_length(piece).max(below);
-    set_piece(nodes, held.key, piece, now);
-    lift(nodes, way, held.depth, was, now);
+    let longest = set_piece(nodes, held.key, piece);
+    lift(nodes, way, held.depth, root, longest)
 }
 
 /// Puts a row of pieces over others, of which the one at a key is the highest.
 #[inline(always)]
 pub(crate) fn lay_over(
     nodes: &mut Slab<Node>,
-    root: Option<usize>,
+    root: Top,
     way: &[Step; MOST_HEIGHT],
     held: Held,
     row: &[Piece],
-) -> Option<usize>
+) -> Top
     requires { (path : Above) × (p : Piece) × (l : Shape) × (r : Shape) × (first : ℕ) × (last : ℕ)
         × IsHeld nodes.old root way.now held path p l r × CanReplace nodes.old held.key first row.now last (Fork held.key p l r) }
     ensures becomes { (path : Above) (p : Piece) (l r : Shape) (first last : ℕ) → IsHeld nodes.old root way.now held path p l r
@@ -54,4 +66,36 @@ pub(crate) fn lay_over(
 {
     let top = replace(nodes, held.key, row);
     mend(nodes, way, held.depth, root, top)
+}
+
+/// Makes the pages of a span one piece in a state.
+#[inline(always)]
+pub(crate) fn lay_span(
+    nodes: &mut Slab<Node>,
+    root: Top,
+    way: &[Step; MOST_HEIGHT],
+    span: Span,
+    state: PageState,
+) -> Laid
+    requires { (t : Shape) × IsWhole nodes.old root t × Covers nodes.old way.now span t
+        × (length (with_piece (pages_of span state) (items t)) ≤ MOST_PIECES) }
+    ensures { (t : Shape) → IsWhole nodes.old root t → Covers nodes.old way.now span t
+        → length (with_piece (pages_of span state) (items t)) ≤ MOST_PIECES
+        → LaysOver nodes.new result way.now (with_piece (pages_of span state) (items t)) }
+{
+    let piece = Piece {
+        first: span.first,
+        last: span.last,
+        state,
+    };
+    let there = nodes[span.held.key].piece;
+    if there.first == piece.first && there.last == piece.last {
+        let root = renew(nodes, root, way, span.held, piece);
+        return Laid {
+            root,
+            hand: Some(span.held),
+        };
+    }
+    let root = lay_over(nodes, root, way, span.held, &[piece]);
+    Laid { root, hand: None }
 }

@@ -3,11 +3,11 @@
 ghost use Rattle.std.specs.Prelude.{◌≡◌, ◌+◌, ◌<◌, ◌≤◌, ◌∷◌, [], IfSome, IsSome, Some, length};
 ghost use Rattle.slab.specs.Slab.{get, slab_len};
 ghost use Rattle.piece_tree.specs.Pieces.{IsPiece};
-ghost use Rattle.piece_tree.specs.Graft.{Adds, CanRegraft, IsTree, Makes, some_of};
-ghost use Rattle.piece_tree.specs.Tree.{AreParts, Empty, Joins, KeepsCount, Shape, height_of, items};
+ghost use Rattle.piece_tree.specs.Graft.{Adds, IsTree, Makes, some_of};
+ghost use Rattle.piece_tree.specs.Tree.{AreParts, CanHang, Empty, Joins, KeepsCount, Shape, height_of, items};
 
-use crate::links::{free_length, link, open, set_longest};
-use crate::node::{Node, Opened, Top};
+use crate::links::{free_length, link, open, set_child};
+use crate::node::{NO_TREE, Node, Top};
 use crate::piece::{MOST_PIECES, Piece};
 use crate::turn::turn;
 use slab::Slab;
@@ -96,44 +96,33 @@ pub(crate) fn leaf(nodes: &mut Slab<Node>, piece: Piece) -> Top
     ensures key { IsSome result.root }
     ensures height { result.height ≡ 1 }
 {
-    let height = 1;
-    let longest = free_length(piece);
     let key = nodes.insert_reserved(Node {
         piece,
-        left: None,
-        right: None,
-        height,
-        longest,
+        left: NO_TREE,
+        right: NO_TREE,
     });
     Top {
         root: Some(key),
-        height,
-        longest,
+        height: 1,
+        longest: free_length(piece),
     }
 }
 
-/// Puts another tree on the far side of a key that was opened. One with the root and the height of what was there changes at most what is
-/// longest from the key down.
+/// Puts another tree on a side of a key, of any height.
 #[inline(always)]
-pub(crate) fn regraft(
-    nodes: &mut Slab<Node>,
-    before: bool,
-    tree: Top,
-    key: usize,
-    opened: Opened,
-    far: Top,
-) -> Top
-    requires { (n : Shape) × (f : Shape) × (g : Shape) × CanRegraft (get nodes.old) before tree key opened far n f g }
-    ensures joins { (n f g : Shape) → CanRegraft (get nodes.old) before tree key opened far n f g
-        → Joins (get nodes.old) (get nodes.new) before result key opened.piece n g }
+pub(crate) fn regraft(nodes: &mut Slab<Node>, before: bool, key: usize, tree: Top) -> Top
+    requires { (piece : Piece) × (was : Shape) × (n : Shape) × (f : Shape) × CanHang (get nodes.old) before key tree piece was n f }
+    ensures joins { (piece : Piece) (was n f : Shape) → CanHang (get nodes.old) before key tree piece was n f
+        → Joins (get nodes.old) (get nodes.new) before result key piece n f }
     ensures count { KeepsCount nodes.old nodes.new }
 {
-    if far.root == opened.far.root && far.height == opened.far.height {
-        let longest = free_length(opened.piece).max(opened.near.longest.max(far.longest));
-        set_longest(nodes, key, longest);
-        return Top { longest, ..tree };
+    let node = &nodes[key];
+    let other = node.child(!before);
+    if tree.height > other.height + 1 || other.height > tree.height + 1 {
+        let piece = node.piece;
+        return graft(nodes, before, tree, key, piece, other);
     }
-    graft(nodes, before, opened.near, key, opened.piece, far)
+    set_child(nodes, before, key, tree)
 }
 
 // Adds a piece right behind a tree, or right before it.
@@ -148,7 +137,7 @@ fn add_end(nodes: &mut Slab<Node>, before: bool, tree: Top, piece: Piece) -> Top
     };
     let opened = open(nodes, before, key);
     let far = add_end(nodes, before, opened.far, piece);
-    regraft(nodes, before, tree, key, opened, far)
+    regraft(nodes, !before, key, far)
 }
 
 /// The same, if there is a piece.

@@ -29,8 +29,8 @@ pub(crate) fn remove_below(nodes: &mut Slab<Node>, root: Option<usize>)
 {
     let Some(key) = root else { return };
     let node = nodes.remove(key);
-    remove_below(nodes, node.left);
-    remove_below(nodes, node.right);
+    remove_below(nodes, node.left.root);
+    remove_below(nodes, node.right.root);
 }
 
 /// Makes a tree of pieces: the middle one is its root.
@@ -120,7 +120,7 @@ fn trim(nodes: &mut Slab<Node>, before: bool, tree: Top, page: u64) -> Top
     let opened = open(nodes, before, key);
     if lies_beside(opened.piece, !before, page) {
         let far = trim(nodes, before, opened.far, page);
-        return regraft(nodes, before, tree, key, opened, far);
+        return regraft(nodes, !before, key, far);
     }
     remove_below(nodes, opened.far.root);
     if lies_beside(opened.piece, before, page) {

@@ -1,40 +1,15 @@
 //! Nodes put under others.
 
-ghost use Rattle.std.specs.Prelude.{◌≡◌, IsSome, Some};
+ghost use Rattle.std.specs.Prelude.{◌≡◌, IsSome, Some, max};
 ghost use Rattle.slab.specs.Slab.{Updates, get};
 ghost use Rattle.piece_tree.specs.Pieces.{IsPiece};
 ghost use Rattle.piece_tree.specs.declared.node.Node.{Node};
-ghost use Rattle.piece_tree.specs.Tree.{AreNear, AreParts, IsBelow, KeepsCount, Links, Opens, Shape, free_pages, longest_of, top_of};
+ghost use Rattle.piece_tree.specs.Tree.{AreNear, AreParts, CanHang, CanShow, IsBelow, KeepsCount, Links, Opens, Shape, fork, free_pages};
+ghost use Rattle.piece_tree.specs.Tree.{longest_of, top_of};
 
-use crate::node::{NO_TREE, Node, Opened, Top};
+use crate::node::{Node, Opened, Top};
 use crate::piece::Piece;
 use slab::Slab;
-
-/// The tree below a root.
-pub(crate) fn read(nodes: &Slab<Node>, root: Option<usize>) -> Top
-    requires { (t : Shape) × IsBelow (get nodes.now) root t }
-    ensures { (t : Shape) → IsBelow (get nodes.now) root t → result ≡ top_of t }
-{
-    match root {
-        Some(key) => Top {
-            root,
-            height: nodes[key].height,
-            longest: nodes[key].longest,
-        },
-        None => NO_TREE,
-    }
-}
-
-/// The greatest length of a free piece below a root.
-pub(crate) fn longest(nodes: &Slab<Node>, root: Option<usize>) -> u64
-    requires { (t : Shape) × IsBelow (get nodes.now) root t }
-    ensures { (t : Shape) → IsBelow (get nodes.now) root t → result ≡ longest_of t }
-{
-    match root {
-        Some(key) => nodes[key].longest,
-        None => 0,
-    }
-}
 
 /// The pages of a piece, if they are free.
 pub(crate) fn free_length(piece: Piece) -> u64
@@ -49,6 +24,7 @@ pub(crate) fn free_length(piece: Piece) -> u64
 }
 
 /// What lies at a key.
+#[inline(always)]
 pub(crate) fn open(nodes: &Slab<Node>, before: bool, key: usize) -> Opened
     requires { (t : Shape) × IsBelow (get nodes.now) (Some key) t }
     ensures { (t : Shape) → IsBelow (get nodes.now) (Some key) t → Opens before key result t }
@@ -56,8 +32,8 @@ pub(crate) fn open(nodes: &Slab<Node>, before: bool, key: usize) -> Opened
     let node = &nodes[key];
     Opened {
         piece: node.piece,
-        near: read(nodes, node.child(before)),
-        far: read(nodes, node.child(!before)),
+        near: node.child(before),
+        far: node.child(!before),
     }
 }
 
@@ -76,47 +52,74 @@ pub(crate) fn link(
         → Links (get nodes.old) (get nodes.new) before result key piece n f }
     ensures count { KeepsCount nodes.old nodes.new }
 {
-    let height = 1 + near.height.max(far.height);
-    let below = near.longest.max(far.longest);
-    let longest = free_length(piece).max(below);
-    let (left, right) = if before {
-        (near.root, far.root)
-    } else {
-        (far.root, near.root)
-    };
-    nodes[key] = Node {
-        piece,
-        left,
-        right,
-        height,
-        longest,
-    };
-    Top {
-        root: Some(key),
-        height,
-        longest,
-    }
+    let node = Node::joint_at(before, piece, near, far);
+    nodes[key] = node;
+    node.tree(key)
 }
 
-/// Writes the piece at a key, and what is longest below it.
+/// Puts another piece under a key. Answers how much is longest from there down then.
 #[inline(always)]
-pub(crate) fn set_piece(nodes: &mut Slab<Node>, key: usize, piece: Piece, longest: u64)
-    requires { IsSome (get nodes.old key) }
-    ensures updates { (n : Node) → get nodes.old key ≡ Some n
-        → Updates nodes.old nodes.new key (Some (record n { piece = piece; longest = longest })) }
+pub(crate) fn set_piece(nodes: &mut Slab<Node>, key: usize, piece: Piece) -> u64
+    requires there { IsSome (get nodes.old key) }
+    requires piece { IsPiece piece }
+    ensures updates { (n : Node) → get nodes.old key ≡ Some n → Updates nodes.old nodes.new key (Some (record n { piece = piece })) }
+    ensures longest { (n : Node) → get nodes.old key ≡ Some n
+        → result ≡ max (free_pages piece) (max n.left.longest n.right.longest) }
     ensures count { KeepsCount nodes.old nodes.new }
 {
     let node = &mut nodes[key];
     node.piece = piece;
-    node.longest = longest;
+    let below = node.left.longest.max(node.right.longest);
+    free_length(piece).max(below)
 }
 
-/// Writes what is longest below a key.
+/// Puts another tree on a side of a key.
 #[inline(always)]
-pub(crate) fn set_longest(nodes: &mut Slab<Node>, key: usize, longest: u64)
-    requires { IsSome (get nodes.old key) }
-    ensures updates { (n : Node) → get nodes.old key ≡ Some n → Updates nodes.old nodes.new key (Some (record n { longest = longest })) }
+pub(crate) fn set_child(nodes: &mut Slab<Node>, before: bool, key: usize, tree: Top) -> Top
+    requires { (piece : Piece) × (was : Shape) × (n : Shape) × (f : Shape) × CanHang (get nodes.old) before key tree piece was n f
+        × AreNear n f }
+    ensures links { (piece : Piece) (was n f : Shape) → CanHang (get nodes.old) before key tree piece was n f → AreNear n f
+        → Links (get nodes.old) (get nodes.new) before result key piece n f }
     ensures count { KeepsCount nodes.old nodes.new }
 {
-    nodes[key].longest = longest;
+    let node = &mut nodes[key];
+    if before {
+        node.left = tree;
+    } else {
+        node.right = tree;
+    }
+    node.tree(key)
+}
+
+/// How much was longest from a key down, and how much is now.
+#[derive(Clone, Copy)]
+pub(crate) struct Longest {
+    pub(crate) was: u64,
+    pub(crate) now: u64,
+}
+
+/// Writes how much is longest in the tree on a side of a key, which has the root and the height that it had.
+#[inline(always)]
+pub(crate) fn set_longest(nodes: &mut Slab<Node>, before: bool, key: usize, longest: u64) -> Longest
+    requires { (piece : Piece) × (was : Shape) × (n : Shape) × (f : Shape) × CanShow (get nodes.old) before key longest piece was n f }
+    ensures links { (piece : Piece) (was n f : Shape) → CanShow (get nodes.old) before key longest piece was n f
+        → Links (get nodes.old) (get nodes.new) before (top_of (fork before key piece n f)) key piece n f }
+    ensures was { (piece : Piece) (was n f : Shape) → CanShow (get nodes.old) before key longest piece was n f
+        → result.was ≡ longest_of (fork before key piece was f) }
+    ensures now { (piece : Piece) (was n f : Shape) → CanShow (get nodes.old) before key longest piece was n f
+        → result.now ≡ longest_of (fork before key piece n f) }
+    ensures count { KeepsCount nodes.old nodes.new }
+{
+    let node = &mut nodes[key];
+    let least = free_length(node.piece).max(node.child(!before).longest);
+    let was = least.max(node.child(before).longest);
+    if before {
+        node.left.longest = longest;
+    } else {
+        node.right.longest = longest;
+    }
+    Longest {
+        was,
+        now: least.max(longest),
+    }
 }

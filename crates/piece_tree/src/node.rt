@@ -1,40 +1,28 @@
 //! Nodes of the tree of pieces.
 
-ghost use Rattle.std.specs.Prelude.{◌≡◌, true, false};
+ghost use Rattle.std.specs.Prelude.{◌≡◌, ◌<◌, ◌↔◌, IsTrue, true, false};
+ghost use Rattle.piece_tree.specs.Pieces.{IsPiece};
+ghost use Rattle.piece_tree.specs.Tree.{joint_at, tree_at};
 
+use crate::links::free_length;
 use crate::piece::Piece;
 
-/// A piece in the tree, named by its key. The children are named by theirs.
-#[derive(Clone, Copy)]
-pub(crate) struct Node {
-    pub(crate) piece: Piece,
-    pub(crate) left: Option<usize>,
-    pub(crate) right: Option<usize>,
-    /// How many nodes lie on the longest way down from here.
-    pub(crate) height: u64,
-    /// The greatest length of a free piece from here down.
-    pub(crate) longest: u64,
-}
-
-impl Node {
-    /// The child on a side. A place is chosen and then read, with no branch: which side a step goes to is as good as random, and a branch
-    /// on it is mostly foreseen wrong.
-    #[inline(always)]
-    pub(crate) fn child(&self, before: bool) -> Option<usize>
-        ensures before { before ≡ true → result ≡ self.now.left }
-        ensures behind { before ≡ false → result ≡ self.now.right }
-    {
-        let child = if before { &self.left } else { &self.right };
-        *child
-    }
-}
-
-/// A tree as it is handed on: the key of its root, and what stands there, so that no node is read twice.
+/// A tree as it is handed on: the key of its root, how many nodes lie on the longest way down, and the greatest length of a free piece.
 #[derive(Clone, Copy)]
 pub(crate) struct Top {
     pub(crate) root: Option<usize>,
     pub(crate) height: u64,
     pub(crate) longest: u64,
+}
+
+impl Top {
+    /// Whether it has the root and the height of another one.
+    #[inline(always)]
+    pub(crate) fn stands_as(self, other: Top) -> bool
+        ensures { IsTrue result ↔ ((self.root ≡ other.root) × (self.height ≡ other.height)) }
+    {
+        self.root == other.root && self.height == other.height
+    }
 }
 
 /// The top of the tree that has no piece.
@@ -43,6 +31,62 @@ pub(crate) const NO_TREE: Top = Top {
     height: 0,
     longest: 0,
 };
+
+/// A piece in the tree, named by its key, and the trees before it and behind it: so no child is read but on the way down to it.
+#[derive(Clone, Copy)]
+pub(crate) struct Node {
+    pub(crate) piece: Piece,
+    pub(crate) left: Top,
+    pub(crate) right: Top,
+}
+
+impl Node {
+    /// A piece between two trees, by a side.
+    #[inline(always)]
+    pub(crate) fn joint_at(before: bool, piece: Piece, near: Top, far: Top) -> Node
+        ensures { result ≡ joint_at before piece near far }
+    {
+        if before {
+            return Node {
+                piece,
+                left: near,
+                right: far,
+            };
+        }
+        Node {
+            piece,
+            left: far,
+            right: near,
+        }
+    }
+
+    /// The tree on a side. A place is chosen and then read, with no branch: which side a step goes to is as good as random, and a branch
+    /// on it is mostly foreseen wrong.
+    #[inline(always)]
+    pub(crate) fn child(&self, before: bool) -> Top
+        ensures before { before ≡ true → result ≡ self.now.left }
+        ensures behind { before ≡ false → result ≡ self.now.right }
+    {
+        let child = if before { &self.left } else { &self.right };
+        *child
+    }
+
+    /// The tree that it is the root of, under its key.
+    #[inline(always)]
+    pub(crate) fn tree(&self, key: usize) -> Top
+        requires piece { IsPiece self.now.piece }
+        requires left { self.now.left.height < 1000 }
+        requires right { self.now.right.height < 1000 }
+        ensures { result ≡ tree_at key self.now }
+    {
+        let below = self.left.longest.max(self.right.longest);
+        Top {
+            root: Some(key),
+            height: 1 + self.left.height.max(self.right.height),
+            longest: free_length(self.piece).max(below),
+        }
+    }
+}
 
 /// What lies at a key, by a side: a piece, the tree on that side, and the one on the other side.
 #[derive(Clone, Copy)]

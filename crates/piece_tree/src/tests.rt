@@ -38,10 +38,14 @@ fn lays_row(tree: &mut PieceTree, first: u64, last: u64, row: &[Piece]) -> bool
     true
 }
 
-// The piece beside the one that a page lies in, if it is free.
-fn beside(tree: &mut PieceTree, page: u64, before: bool) -> Option<Piece> {
-    tree.seek(page)?;
-    tree.free_beside(page, before)
+// Makes pages free, where there are few enough pieces.
+fn frees(tree: &mut PieceTree, first: u64, last: u64) -> Option<u64> {
+    if tree.len() + 2 > MOST_PIECES || first > last {
+        return None;
+    }
+    tree.piece_at(first)?;
+    tree.piece_at(last)?;
+    Some(tree.free(first, last))
 }
 
 // The first start of so many free pages that is a multiple of four.
@@ -82,6 +86,9 @@ fn lay_over(rt: &impl Abort, tree: &mut PieceTree) {
     assert!(rt; lays(tree, 5, 20, PageState::Free));
     assert!(rt; tree.seek_long(16) == piece(5, 20, PageState::Free));
     assert!(rt; tree.seek_long(17) == None);
+    assert!(rt; tree.are_short_before(32, 17));
+    assert!(rt; tree.are_short_before(5, 16));
+    assert!(rt; !tree.are_short_before(6, 16));
     assert!(rt; fits(tree, 6, 8) == Some(8));
     assert!(rt; fits(tree, 14, 8) == Some(32));
     assert!(rt; fits(tree, 14, 9) == None);
@@ -99,7 +106,7 @@ fn lays_rows(rt: HostRuntime) -> Result<(), Fail> {
         state: PageState::Live,
     });
     lay_rows(&rt, &mut tree);
-    look_beside(&rt, &mut tree);
+    free_pages(&rt, &mut tree);
     Ok(())
 }
 
@@ -141,18 +148,26 @@ fn lay_rows(rt: &impl Abort, tree: &mut PieceTree) {
     assert!(rt; tree.piece_at(91) == piece(91, 100, PageState::Free));
 }
 
-fn look_beside(rt: &impl Abort, tree: &mut PieceTree) {
-    assert!(rt; beside(tree, 5, true) == None);
-    assert!(rt; beside(tree, 5, false) == piece(11, 20, PageState::Free));
-    assert!(rt; beside(tree, 11, true) == None);
-    assert!(rt; beside(tree, 20, false) == None);
-    assert!(rt; beside(tree, 21, true) == piece(11, 20, PageState::Free));
-    assert!(rt; beside(tree, 30, false) == piece(31, 40, PageState::Free));
-    assert!(rt; beside(tree, 60, true) == piece(31, 40, PageState::Free));
-    assert!(rt; beside(tree, 60, false) == piece(91, 100, PageState::Free));
-    assert!(rt; beside(tree, 95, true) == None);
-    assert!(rt; beside(tree, 95, false) == None);
-    assert!(rt; beside(tree, 101, true) == None);
+// Pages come free, as one piece with what is free beside them, on either side and on both.
+fn free_pages(rt: &impl Abort, tree: &mut PieceTree) {
+    assert!(rt; frees(tree, 60, 69) == Some(60));
+    assert!(rt; tree.piece_at(60) == piece(60, 69, PageState::Free));
+    assert!(rt; tree.len() == 8);
+    assert!(rt; frees(tree, 21, 30) == Some(11));
+    assert!(rt; tree.piece_at(25) == piece(11, 40, PageState::Free));
+    assert!(rt; tree.len() == 6);
+    assert!(rt; frees(tree, 41, 50) == Some(11));
+    assert!(rt; tree.piece_at(50) == piece(11, 50, PageState::Free));
+    assert!(rt; tree.piece_at(51) == piece(51, 59, PageState::Live));
+    assert!(rt; frees(tree, 85, 90) == Some(85));
+    assert!(rt; tree.piece_at(90) == piece(85, 100, PageState::Free));
+    assert!(rt; tree.len() == 6);
+    assert!(rt; frees(tree, 51, 84) == Some(11));
+    assert!(rt; tree.piece_at(100) == piece(11, 100, PageState::Free));
+    assert!(rt; frees(tree, 101, 101) == None);
+    assert!(rt; frees(tree, 1, 10) == Some(1));
+    assert!(rt; tree.seek_long(100) == piece(1, 100, PageState::Free));
+    assert!(rt; tree.len() == 1);
 }
 
 // As many pieces as there can be: each is found.
@@ -181,7 +196,6 @@ fn find_each(rt: &impl Abort, tree: &mut PieceTree) {
     for number in 0..511u64 {
         let free = piece(4 * number, 4 * number + 1, PageState::Free);
         assert!(rt; tree.piece_at(4 * number + 1) == free);
-        assert!(rt; beside(tree, 4 * number + 2, true) == free);
     }
     assert!(rt; tree.seek_long(3) == piece(2044, 2047, PageState::Free));
 }
@@ -230,6 +244,26 @@ fn join_at(rt: &impl Abort, tree: &mut PieceTree, pieces: u64, first: u64, end: 
     assert!(rt; tree.seek_long(10 * (end - first) + 1) == None);
     stay(rt, tree, 0, first);
     stay(rt, tree, end, pieces);
+    free_beside(rt, tree, pieces, first, end);
+}
+
+// What comes free beside the free piece is one with it: the page before it, and the ten behind it.
+fn free_beside(rt: &impl Abort, tree: &mut PieceTree, pieces: u64, first: u64, end: u64)
+    requires some { first < end }
+    requires pieces { pieces ≤ 20 }
+    requires end { end ≤ pieces }
+{
+    let mut low = 10 * first;
+    if 0 < low {
+        assert!(rt; frees(tree, low - 1, low - 1) == Some(low - 1));
+        low -= 1;
+    }
+    let mut high = 10 * end;
+    if end < pieces {
+        assert!(rt; frees(tree, high, high + 9) == Some(low));
+        high += 10;
+    }
+    assert!(rt; tree.piece_at(low) == piece(low, high - 1, PageState::Free));
 }
 
 // Pieces of ten pages each, and one with the pages behind them.

@@ -3,12 +3,12 @@
 ghost use Rattle.std.specs.Prelude.{◌≡◌, ◌+◌, ◌^◌, ◌<◌, ◌≤◌, ◌↔◌, [], ◌∷◌, ◌++◌, ℕ, List, length, IfOk, IfSome, IfNone, IsSome, IsTrue};
 ghost use Rattle.std.specs.Prelude.{Some, true, false};
 
-use crate::edits::{lay_over, renew};
+use crate::edits::{lay_over, lay_span};
 use crate::grafts::add;
-use crate::links::read;
-use crate::node::Node;
+use crate::node::{NO_TREE, Node, Top};
 use crate::piece::{MOST_PIECES, NUMBERS_END, PageState, Piece};
-use crate::search::{find, first_from, fit_between, free_piece_beside, go_long};
+use crate::search::{are_short_before, find, first_from, fit_between, go_long};
+use crate::spans::{Span, with_free_ends};
 use crate::way::{Held, MOST_HEIGHT, NO_STEP, Step, reach, walk};
 use slab::Slab;
 use std::alloc::{AllocError, Global};
@@ -18,7 +18,7 @@ use std::marker::Model;
 /// steps for each level of the tree, and for each piece that comes or goes; `first_fit` also looks where pages lie askew.
 #[derive(Drop)]
 pub struct PieceTree {
-    root: Option<usize>,
+    root: Top,
     nodes: Slab<Node>,
     // The steps of the last way down.
     way: [Step; MOST_HEIGHT],
@@ -40,9 +40,10 @@ impl Model for PieceTree {
 }
 
 impl PieceTree {
-    ghost use Rattle.piece_tree.specs.Pieces.{AreSorted, Holds, piece_at};
+    ghost use Rattle.piece_tree.specs.Freed.{free_start, with_free};
+    ghost use Rattle.piece_tree.specs.Pieces.{AreSorted, piece_at};
     ghost use Rattle.piece_tree.specs.Laid.{IsRow, with_piece, with_row};
-    ghost use Rattle.piece_tree.specs.Search.{HasNoRoom, IsFirstLong, IsFound, IsShort, beside_of, first_of, free_of, pieces_from};
+    ghost use Rattle.piece_tree.specs.Search.{HasNoRoom, IsFirstLong, IsFound, IsShort, IsShortBefore, first_of, pieces_from};
     ghost use Rattle.std.specs.List.{AllByRecursion};
 
     /// No pieces.
@@ -50,7 +51,7 @@ impl PieceTree {
         ensures { IfOk result (λ tree. tree ≡ []) }
     {
         Ok(PieceTree {
-            root: None,
+            root: NO_TREE,
             nodes: Slab::with_capacity(alloc, MOST_PIECES)?,
             way: [NO_STEP; MOST_HEIGHT],
             hand: None,
@@ -62,7 +63,7 @@ impl PieceTree {
         ensures { self.new ≡ [] }
     {
         self.nodes.clear();
-        self.root = None;
+        self.root = NO_TREE;
         self.hand = None;
     }
 
@@ -81,9 +82,8 @@ impl PieceTree {
         requires room { length self.old < MOST_PIECES }
         ensures { self.new ≡ self.old ++ piece ∷ [] }
     {
-        let top = read(&self.nodes, self.root);
         self.hand = None;
-        self.root = add(&mut self.nodes, true, top, Some(piece)).root;
+        self.root = add(&mut self.nodes, true, self.root, Some(piece));
     }
 
     /// The piece that a page lies in. It is at hand then: the next call that asks for it finds it at once.
@@ -149,6 +149,13 @@ impl PieceTree {
         Some(self.nodes[held.key].piece)
     }
 
+    /// Whether all free pieces that begin before a page have fewer pages than so many.
+    pub fn are_short_before(&self, page: u64, pages: u64) -> bool
+        ensures { IsTrue result ↔ AllByRecursion (IsShortBefore page pages) self.now }
+    {
+        are_short_before(&self.nodes, self.root, page, pages)
+    }
+
     /// The first start of so many free pages from a floor on that is a multiple of a unit, a power of two.
     pub fn first_fit(&self, floor: u64, pages: u64, unit: u64) -> Option<u64>
         requires floor { floor ≤ NUMBERS_END }
@@ -161,23 +168,6 @@ impl PieceTree {
         ensures sorted { AreSorted 0 self.now }
     {
         fit_between(&self.nodes, self.root, floor, NUMBERS_END, pages, unit)
-    }
-
-    /// The piece right before the one that a page lies in, or the one right behind it, if it is free. The page's own is at hand then.
-    pub fn free_beside(&mut self, page: u64, before: bool) -> Option<Piece>
-        requires { IsSome (piece_at self.old page) }
-        ensures beside { (xs : List Piece) (p : Piece) (ys : List Piece) → self.old ≡ xs ++ p ∷ ys → Holds p page
-            → result ≡ free_of (beside_of before xs ys) }
-        ensures unchanged { self.new ≡ self.old }
-        ensures sorted { AreSorted 0 self.old }
-    {
-        let place = reach(&self.nodes, self.root, page, page, &mut self.way, self.hand);
-        let Some(key) = place.at else { unreachable!() };
-        self.hand = Some(Held {
-            key,
-            depth: place.depth,
-        });
-        free_piece_beside(&self.nodes, &self.way, key, place.depth, before)
     }
 
     /// Puts a piece over those that are there: its first page lies in one of them, and its last page. What is left of these stays.
@@ -197,18 +187,57 @@ impl PieceTree {
             self.hand,
         );
         let Some(key) = place.at else { unreachable!() };
-        let held = Held {
-            key,
-            depth: place.depth,
+        let span = Span {
+            held: Held {
+                key,
+                depth: place.depth,
+            },
+            first: piece.first,
+            last: piece.last,
         };
-        let there = self.nodes[key].piece;
-        if there.first == piece.first && there.last == piece.last {
-            self.hand = Some(held);
-            renew(&mut self.nodes, &self.way, held, piece);
-            return;
-        }
-        self.hand = None;
-        self.root = lay_over(&mut self.nodes, self.root, &self.way, held, &[piece]);
+        let laid = lay_span(&mut self.nodes, self.root, &self.way, span, piece.state);
+        self.root = laid.root;
+        self.hand = laid.hand;
+    }
+
+    /// Makes the pages from a first to a last one free, as one piece with the free ones that they touch: each of the two lies in a piece.
+    /// Answers the first page of that piece.
+    pub fn free(&mut self, first: u64, last: u64) -> u64
+        requires first { IsSome (piece_at self.old first) }
+        requires last { IsSome (piece_at self.old last) }
+        requires some { first ≤ last }
+        requires room { length (with_free (record { first = first; last = last; state = PageState.Free }) self.old) ≤ MOST_PIECES }
+        ensures free { self.new ≡ with_free (record { first = first; last = last; state = PageState.Free }) self.old }
+        ensures first { result ≡ free_start self.old first }
+    {
+        let place = reach(
+            &self.nodes,
+            self.root,
+            first,
+            last,
+            &mut self.way,
+            self.hand,
+        );
+        let Some(key) = place.at else { unreachable!() };
+        let span = Span {
+            held: Held {
+                key,
+                depth: place.depth,
+            },
+            first,
+            last,
+        };
+        let whole = with_free_ends(&self.nodes, &self.way, span);
+        let laid = lay_span(
+            &mut self.nodes,
+            self.root,
+            &self.way,
+            whole,
+            PageState::Free,
+        );
+        self.root = laid.root;
+        self.hand = laid.hand;
+        whole.first
     }
 
     /// Puts a row of pieces, each right behind the one before it, over some pages of one piece. What is left of it stays.

@@ -2,17 +2,13 @@
 
 ghost use Rattle.std.specs.Prelude.{◌≡◌, ◌<◌, ◌≤◌, not, ◌++◌, ◌∷◌, ℕ, List, Option, Some, IfSome, IfNone};
 ghost use Rattle.slab.specs.Slab.{get};
-ghost use Rattle.piece_tree.specs.Pieces.{AreSorted, HasAny};
-ghost use Rattle.piece_tree.specs.Search.{beside_of};
-ghost use Rattle.piece_tree.specs.Tree.{Empty, IsWhole, KeepsCount, Shape, items};
-ghost use Rattle.piece_tree.specs.Way.{Above, AreAbove, AreSteps, CanHang, CanLift, CanMend, Hangs, IsAtHand};
-ghost use Rattle.piece_tree.specs.Way.{GoesOn, IsHeld, IsStepAbove, Leads};
-ghost use Rattle.piece_tree.specs.Way.{Mends, back, front};
+ghost use Rattle.piece_tree.specs.Pieces.{HasAny};
+ghost use Rattle.piece_tree.specs.Tree.{IsWhole, KeepsCount, Shape};
+ghost use Rattle.piece_tree.specs.Way.{Above, AreSteps, CanLift, CanMend, GoesOn, IsAtHand, IsStepAbove, Leads, Mends};
 
-use crate::grafts::graft;
-use crate::links::{free_length, link, longest, read, set_longest};
+use crate::grafts::regraft;
+use crate::links::set_longest;
 use crate::node::{Node, Top};
-use crate::piece::Piece;
 use slab::Slab;
 
 /// The greatest height of a tree, and so the most steps of a way down.
@@ -45,17 +41,10 @@ pub(crate) struct Held {
     pub(crate) depth: usize,
 }
 
-/// What lies at a key once a tree was hung below it; where the key is at the top still, and as high, also what it showed as longest.
-#[derive(Clone, Copy)]
-pub(crate) struct Hung {
-    pub(crate) top: Top,
-    pub(crate) kept: Option<u64>,
-}
-
 /// Goes down to the highest piece that has one of the pages from a first to a last one, or to where they would be.
 pub(crate) fn walk(
     nodes: &Slab<Node>,
-    root: Option<usize>,
+    root: Top,
     first: u64,
     last: u64,
     way: &mut [Step; MOST_HEIGHT],
@@ -64,7 +53,7 @@ pub(crate) fn walk(
     ensures leads { (t : Shape) → IsWhole nodes.now root t → Leads way.new first last result t }
     ensures has { IfSome result.at (λ key. (n : Node) × (get nodes.now key ≡ Some n) × HasAny n.piece first last) }
 {
-    let mut at = root;
+    let mut at = root.root;
     let mut depth = 0;
     while let Some(key) = at {
         let node = &nodes[key];
@@ -73,7 +62,7 @@ pub(crate) fn walk(
             return Place { at, depth };
         }
         way[depth] = Step { key, before };
-        at = node.child(before);
+        at = node.child(before).root;
         depth += 1;
     }
     Place { at, depth }
@@ -82,7 +71,7 @@ pub(crate) fn walk(
 /// The same, where it may be the piece at hand.
 pub(crate) fn reach(
     nodes: &Slab<Node>,
-    root: Option<usize>,
+    root: Top,
     first: u64,
     last: u64,
     way: &mut [Step; MOST_HEIGHT],
@@ -123,55 +112,15 @@ pub(crate) fn step_above(way: &[Step; MOST_HEIGHT], steps: usize, before: bool) 
     None
 }
 
-/// The piece right before a place, or right behind it, of those that the way there passes.
-pub(crate) fn piece_above(
-    nodes: &Slab<Node>,
-    way: &[Step; MOST_HEIGHT],
-    steps: usize,
-    before: bool,
-) -> Option<Piece>
-    requires { (t : Shape) × (path : Above) × AreAbove (get nodes.now) path t × AreSteps way.now steps path × (steps ≤ MOST_HEIGHT) }
-    ensures { (t : Shape) (path : Above) → AreAbove (get nodes.now) path t → AreSteps way.now steps path
-        → result ≡ beside_of before (front path) (back path) }
-{
-    let depth = step_above(way, steps, !before)?;
-    Some(nodes[way[depth].key].piece)
-}
-
-// Hangs a tree where a step goes to.
-fn hang(nodes: &mut Slab<Node>, step: Step, tree: Top) -> Hung
-    requires { (piece : Piece) × (was : Shape) × (n : Shape) × (f : Shape) × CanHang (get nodes.old) step tree piece was n f }
-    ensures hung { (piece : Piece) (was n f : Shape) → CanHang (get nodes.old) step tree piece was n f
-        → Hangs (get nodes.old) (get nodes.new) step result piece was n f }
-    ensures count { KeepsCount nodes.old nodes.new }
-{
-    let node = &nodes[step.key];
-    let piece = node.piece;
-    let was_height = node.height;
-    let was_longest = node.longest;
-    let other = read(nodes, node.child(!step.before));
-    if tree.height > other.height + 1 || other.height > tree.height + 1 {
-        let top = graft(nodes, step.before, tree, step.key, piece, other);
-        return Hung { top, kept: None };
-    }
-    let top = link(nodes, step.before, tree, step.key, piece, other);
-    let kept = if top.height == was_height {
-        Some(was_longest)
-    } else {
-        None
-    };
-    Hung { top, kept }
-}
-
-/// Brings a tree up to date from the end of a way on, where another tree lies now. From the first key on that is as high as it was, only
-/// what is longest changes.
+/// Brings a tree up to date from the end of a way on, where another tree lies now. From the first key on that has one with its root and
+/// height there, only what is longest changes.
 pub(crate) fn mend(
     nodes: &mut Slab<Node>,
     way: &[Step; MOST_HEIGHT],
     steps: usize,
-    root: Option<usize>,
+    root: Top,
     end: Top,
-) -> Option<usize>
+) -> Top
     requires { (path : Above) × (t : Shape) × (new : Shape) × CanMend (get nodes.old) way.now steps root end path t new }
     ensures mended { (path : Above) (t new : Shape) → CanMend (get nodes.old) way.now steps root end path t new
         → Mends (get nodes.old) (get nodes.new) result path t new }
@@ -180,51 +129,43 @@ pub(crate) fn mend(
     let mut depth = steps;
     let mut top = end;
     while depth > 0 {
-        depth -= 1;
-        let hung = hang(nodes, way[depth], top);
-        top = hung.top;
-        if let Some(was) = hung.kept {
-            lift(nodes, way, depth, was, top.longest);
-            return root;
+        let step = way[depth - 1];
+        if nodes[step.key].child(step.before).stands_as(top) {
+            return lift(nodes, way, depth, root, top.longest);
         }
+        top = regraft(nodes, step.before, step.key, top);
+        depth -= 1;
     }
-    top.root
+    top
 }
 
-/// Brings a tree up to date from the end of a way on, where the tree has the root and the height that it had, and what is longest there
-/// `was` so long and is so long `now`: up to the first key that shows what it did. It ends at once at a key that shows no less than is
-/// longest now, and something else than what was longest.
+/// Brings a tree up to date from the end of a way on, where the tree has the root and the height that it had, and what is longest there is
+/// so long now: up to the first key from which on down as much is longest as it was.
 pub(crate) fn lift(
     nodes: &mut Slab<Node>,
     way: &[Step; MOST_HEIGHT],
     steps: usize,
-    was: u64,
-    now: u64,
-)
-    requires { (root : Option ℕ) × (path : Above) × (t : Shape) × (new : Shape)
-        × CanLift (get nodes.old) way.now steps root path t new was now }
-    ensures lifted { (root : Option ℕ) (path : Above) (t new : Shape) → CanLift (get nodes.old) way.now steps root path t new was now
-        → Mends (get nodes.old) (get nodes.new) root path t new }
+    root: Top,
+    longest: u64,
+) -> Top
+    requires { (path : Above) × (t : Shape) × (new : Shape) × CanLift (get nodes.old) way.now steps root longest path t new }
+    ensures lifted { (path : Above) (t new : Shape) → CanLift (get nodes.old) way.now steps root longest path t new
+        → Mends (get nodes.old) (get nodes.new) result path t new }
     ensures count { KeepsCount nodes.old nodes.new }
 {
     let mut depth = steps;
-    let mut was = was;
-    let mut now = now;
+    let mut now = longest;
     while depth > 0 {
         depth -= 1;
         let step = way[depth];
-        let node = &nodes[step.key];
-        let shown = node.longest;
-        if now <= shown && shown != was {
-            return;
+        let below = set_longest(nodes, step.before, step.key, now);
+        if below.now == below.was {
+            return root;
         }
-        let other = longest(nodes, node.child(!step.before));
-        let then = now.max(free_length(node.piece).max(other));
-        if then == shown {
-            return;
-        }
-        set_longest(nodes, step.key, then);
-        was = shown;
-        now = then;
+        now = below.now;
+    }
+    Top {
+        longest: now,
+        ..root
     }
 }

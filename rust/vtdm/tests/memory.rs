@@ -6,7 +6,7 @@ use std::process::Command;
 use vtdm::limits::MOST_TABLE_FRAMES;
 use vtdm::{HostAddress, Manager, Mode, Refused, Width};
 
-/// KiB of address space: a manager with the most table frames takes about 17,600.
+/// KiB of address space: a manager with the most table frames takes about 18,200.
 const ADDRESS_SPACE: u64 = 400_000;
 /// More managers than fit there at one time.
 const MANAGERS: usize = 100;

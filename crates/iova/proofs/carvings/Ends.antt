@@ -10,7 +10,8 @@ use Rattle.piece_tree.specs.declared.piece.PageState.TheVariants.{Live}
 use Rattle.piece_tree.specs.declared.piece.Piece.{Piece}
 use Rattle.iova.specs.Carved.{AreCarved, FollowOn, IsCarved, LosesEnd, with_carved, with_pieces}
 use Rattle.iova.specs.Changes.{Frees, FreesLive}
-use Rattle.iova.specs.Pieces.{piece_of, with_free}
+use Rattle.piece_tree.specs.Freed.{with_free}
+use Rattle.iova.specs.Pieces.{piece_of}
 use Rattle.iova.specs.Space.{Space, IsSpace, MayRetire}
 use Rattle.iova.specs.Pieces.{pages_as}
 use Rattle.iova.proofs.Among.{in_append_cases, in_append_left, in_append_right, in_one, in_state}

@@ -7,7 +7,8 @@ use Rattle.piece_tree.specs.declared.piece.Piece.{Piece}
 use Rattle.iova.specs.Carved.{with_carved, with_pieces}
 use Rattle.iova.specs.Changes.{FreesRun}
 use Rattle.piece_tree.specs.Pieces.{Holds}
-use Rattle.iova.specs.Pieces.{IsRun, piece_of, state_at, with_free}
+use Rattle.piece_tree.specs.Freed.{with_free}
+use Rattle.iova.specs.Pieces.{IsRun, piece_of, state_at}
 use Rattle.iova.specs.Space.{Space, IsSpace}
 use Rattle.iova.proofs.Pieces.{order}
 use Rattle.iova.proofs.Among.{in_one, in_state}

@@ -1,6 +1,7 @@
 -- The first piece that is long enough is where the first start was found, of pages that may begin anywhere.
-use Rattle.std.proofs.Common.{◌≡◌, ℕ, IsTrue, ◌+◌, ◌-◌, ◌≤◌, List, [], ◌∷◌, if◌then◌else◌, ap, inl, inr, arith}
+use Rattle.std.proofs.Common.{◌≡◌, ℕ, IsTrue, ◌+◌, ◌-◌, ◌<◌, ◌≤◌, List, [], ◌∷◌, if◌then◌else◌, refl, ap, sym, inl, inr, subst, arith}
 use Rattle.std.specs.List.{AllByRecursion}
+use Rattle.piece_tree.specs.declared.piece.PageState.TheVariants.{Free}
 use Rattle.piece_tree.specs.declared.piece.Piece.{Piece}
 use Rattle.piece_tree.specs.Pieces.{is_free}
 use Rattle.piece_tree.specs.Search.{HasNoRoom, IsFirstLong, IsFound, IsShort}
@@ -9,6 +10,10 @@ use Rattle.iova.proofs.FreeRange.{free_cases}
 
 pages_free : (p : Piece) → IsTrue (is_free p.state) → free_pages p ≡ p.last + 1 - p.first
 pages_free p f = ap (λ b. if b then p.last + 1 - p.first else 0) f
+
+-- a free piece that is short ends before so many pages of it would
+pub short_ends : (pages : ℕ) (p : Piece) → free_pages p < pages → p.state ≡ Free → p.last + 1 < p.first + pages
+short_ends pages p short free = omega (arith, short, pages_free p (subst (λ s. IsTrue (is_free s)) (sym free) refl))
 
 pub pages_long : (p : Piece) (pages : ℕ) → 1 ≤ pages → pages ≤ free_pages p → IsTrue (is_free p.state) × (p.first + pages ≤ p.last + 1)
 pages_long p pages some h = elim (free_cases p.state) [

@@ -4,7 +4,8 @@ use Rattle.std.proofs.Common.{arith}
 use Rattle.dmatypes.specs.World.{IsIn}
 use Rattle.piece_tree.specs.declared.piece.Piece.{Piece}
 use Rattle.piece_tree.specs.declared.piece.PageState.TheVariants.{Free}
-use Rattle.iova.specs.Pieces.{IsOrdered, free_start, free_end}
+use Rattle.piece_tree.specs.Freed.{free_start, free_end}
+use Rattle.iova.specs.Pieces.{IsOrdered}
 use Rattle.iova.specs.Space.{Space, IsSpace}
 use Rattle.piece_tree.specs.Pieces.{piece_at}
 use Rattle.piece_tree.specs.Pieces.{IsPiece}

@@ -10,8 +10,8 @@ use Rattle.piece_tree.specs.declared.node.Opened.{Opened}
 use Rattle.piece_tree.specs.declared.node.Top.{Top}
 use Rattle.piece_tree.specs.Graft.{Adds, IsTree, Makes, side_by_side}
 use Rattle.piece_tree.specs.Pieces.{IsPiece}
-use Rattle.piece_tree.specs.Tree.{Look, Shape, Empty, Fork, items, height_of, root_of, fork, top_of, AreNear, Joins, KeepsCount, Opens}
-use Rattle.piece_tree.specs.Tree.{free_pages, Stands}
+use Rattle.piece_tree.specs.Tree.{Look, Shape, Empty, Fork, items, height_of, root_of, fork, joint, top_of, AreNear, Joins, KeepsCount, Opens}
+use Rattle.piece_tree.specs.Tree.{free_pages}
 use Rattle.piece_tree.proofs.shapes.Beside.{none_empty}
 use Rattle.piece_tree.proofs.shapes.Forks.{fork-height, one-other, opened-by, opened-height}
 use Rattle.piece_tree.proofs.shapes.Halved.{halved-side, opened-half, opened-long}
@@ -19,30 +19,14 @@ use Rattle.piece_tree.proofs.shapes.Tall.{contents_is, low_tree, order}
 
 -- ---- a tree of one piece
 
-leaf_top : (p : Piece) (key longest : ℕ) → longest ≡ free_pages p
-    → record { root = Some key; height = 1; longest = longest } ≡ top_of (Fork key p Empty Empty)
-leaf_top p key longest e = ap (λ n. record { root = Some key; height = 1; longest = n }) (omega (arith, e))
-
-leaf_stands : (old new : Slab Node) (p : Piece) (key longest : ℕ) → IsPiece p
-    → Updates old new key (Some (record { piece = p; left = None; right = None; height = 1; longest = longest }))
-    → longest ≡ free_pages p → Stands (get new) (Fork key p Empty Empty)
-leaf_stands old new p key longest i u e = (
-  u.changed ∙ ap (λ n. Some (record { piece = p; left = None; right = None; height = 1; longest = n })) (omega (arith, e)),
-  i,
-  (omega arith, omega arith),
-  tt,
-  tt,
-)
-
 pub leaf-makes : (old new : Slab Node) (p : Piece) (key longest : ℕ) → IsPiece p → get old key ≡ None
-    → Updates old new key (Some (record { piece = p; left = None; right = None; height = 1; longest = longest }))
-    → longest ≡ free_pages p → slab_len new ≡ slab_len old + 1 → new.capacity ≡ old.capacity
-    → Makes old new (record { root = Some key; height = 1; longest = longest }) Empty (p ∷ [])
+    → Updates old new key (Some (joint p (top_of Empty) (top_of Empty))) → longest ≡ free_pages p → slab_len new ≡ slab_len old + 1
+    → new.capacity ≡ old.capacity → Makes old new (record { root = Some key; height = 1; longest = longest }) Empty (p ∷ [])
 leaf-makes old new p key longest i none u e len capacity = record {
   shape = Fork key p Empty Empty;
   tree = record {
-    is = leaf_top p key longest e;
-    stands = leaf_stands old new p key longest i u e;
+    is = ap (λ n. record { root = Some key; height = 1; longest = n }) (omega (arith, e));
+    stands = (u.changed, i, (omega arith, omega arith), tt, tt);
     once = λ k. grind arith;
     few = omega arith;
   };

@@ -1,5 +1,5 @@
 -- What changed at the end of a way, and the whole tree once that was gone back up.
-use Rattle.std.proofs.Common.{◌≡◌, ℕ, ◌+◌, ◌<◌, ◌≤◌, max, List, ◌∷◌, ◌++◌, Option, Some, refl}
+use Rattle.std.proofs.Common.{◌≡◌, ℕ, ◌+◌, ◌<◌, ◌≤◌, max, List, ◌∷◌, ◌++◌, Some, refl}
 use Rattle.std.proofs.Common.{ap, ◌∙◌, subst, arith}
 use Rattle.slab.specs.Slab.{Slab, Updates, get}
 use Rattle.piece_tree.specs.declared.piece.Piece.{Piece}
@@ -10,14 +10,14 @@ use Rattle.piece_tree.specs.declared.way.Step.{Step}
 use Rattle.piece_tree.specs.Graft.{Makes}
 use Rattle.piece_tree.specs.Pieces.{IsPiece}
 use Rattle.piece_tree.specs.Tree.{Shape, Fork, items, height_of, uses, top_of, joint}
-use Rattle.piece_tree.specs.Tree.{Stands, IsBelow, IsWhole, free_pages, longest_of}
+use Rattle.piece_tree.specs.Tree.{Stands, IsWhole, free_pages}
 use Rattle.piece_tree.specs.Way.{Above, plug, uses_above, AreSteps, CanLift, CanMend, Mends, Becomes, IsHeld}
 use Rattle.piece_tree.proofs.shapes.Apart.{IsApart, apart-same, apart-still, used-there}
 use Rattle.piece_tree.proofs.shapes.Forks.{one-same, differs, same_stands}
 use Rattle.piece_tree.proofs.shapes.Mended.{plug_stands, plug-high, plug-uses, same_above, steps_few}
 use Rattle.piece_tree.proofs.shapes.Tall.{low_tree, whole-low}
 
-module _ (old mid : Slab Node) (root : Option ℕ) (way : List Step) (depth : ℕ) (path : Above) (was new : Shape) (top : Top)
+module _ (old mid : Slab Node) (root : Top) (way : List Step) (depth : ℕ) (path : Above) (was new : Shape) (top : Top)
     (w : IsWhole old root (plug path was)) (s : AreSteps way depth path) where
   pub edit-can : ((k : ℕ) → 0 < uses_above path k → get mid k ≡ get old k) → top ≡ top_of new → Stands (get mid) new
       → ((k : ℕ) → uses_above path k + uses new k ≤ 1) → height_of new ≤ 14 → CanMend (get mid) way depth root top path was new
@@ -35,7 +35,7 @@ module _ (old mid : Slab Node) (root : Option ℕ) (way : List Step) (depth : �
   pub edit-once : (k : ℕ) → uses_above path k + uses was k ≤ 1
   edit-once k = omega (arith, w.once k, plug-uses path was k)
 
-  pub edit-done : (now : Slab Node) (result : Option ℕ) → ((k : ℕ) → uses_above path k + uses new k ≤ 1)
+  pub edit-done : (now : Slab Node) (result : Top) → ((k : ℕ) → uses_above path k + uses new k ≤ 1)
       → Mends (get mid) (get now) result path was new → now.capacity ≡ old.capacity → Becomes old now result path (items new)
   edit-done now result once m c = record {
     shape = m.shape;
@@ -48,7 +48,7 @@ module _ (old mid : Slab Node) (root : Option ℕ) (way : List Step) (depth : �
 
 -- ---- another piece
 
-module _ (nodes : Slab Node) (root : Option ℕ) (way : List Step) (held : Held) (path : Above) (p q : Piece) (l r : Shape)
+module _ (nodes : Slab Node) (root : Top) (way : List Step) (held : Held) (path : Above) (p q : Piece) (l r : Shape)
     (h : IsHeld nodes root way held path p l r) where
   abbrev was : Shape
   was = Fork held.key p l r
@@ -56,17 +56,12 @@ module _ (nodes : Slab Node) (root : Option ℕ) (way : List Step) (held : Held)
   stands : Stands (get nodes) was
   stands = (plug_stands (get nodes) path was h.whole.stands).0
 
-  pub renew-left : (node : Node) → get nodes held.key ≡ Some node → IsBelow (get nodes) node.left l
-  renew-left node f = let a = stands.0 in
-      let is : node ≡ joint p (top_of l) (top_of r) = cc in (ap (λ (n : Node). n.left) is, stands.3)
+  pub renew-there : get nodes held.key ≡ Some (joint p (top_of l) (top_of r))
+  renew-there = stands.0
 
-  pub renew-right : (node : Node) → get nodes held.key ≡ Some node → IsBelow (get nodes) node.right r
-  renew-right node f = let a = stands.0 in
-      let is : node ≡ joint p (top_of l) (top_of r) = cc in (ap (λ (n : Node). n.right) is, stands.4)
-
-  module _ (node : Node) (f : get nodes held.key ≡ Some node) (i : IsPiece q) (now : ℕ)
-      (e : now ≡ max (free_pages q) (max (longest_of l) (longest_of r))) (mid : Slab Node)
-      (u : Updates nodes mid held.key (Some (record node { piece = q; longest = now }))) where
+  module _ (node : Node) (f : get nodes held.key ≡ Some node) (i : IsPiece q) (longest : ℕ) (mid : Slab Node)
+      (u : Updates nodes mid held.key (Some (record node { piece = q })))
+      (e : longest ≡ max (free_pages q) (max node.left.longest node.right.longest)) where
     abbrev new : Shape
     new = Fork held.key q l r
 
@@ -80,10 +75,9 @@ module _ (nodes : Slab Node) (root : Option ℕ) (way : List Step) (held : Held)
     written =
         let a = stands.0 in
         let is : node ≡ joint p (top_of l) (top_of r) = cc in
-        u.changed ∙ ap (λ (n : Node). Some (record n { piece = q; longest = now })) is
-        ∙ ap (λ n. Some (record (joint p (top_of l) (top_of r)) { piece = q; longest = n })) e
+        u.changed ∙ ap (λ (n : Node). Some (record n { piece = q })) is
 
-    pub renew-can : CanLift (get mid) way held.depth root path was new node.longest now
+    pub renew-can : CanLift (get mid) way held.depth root longest path was new
     renew-can =
         let a = stands.0 in
         let is : node ≡ joint p (top_of l) (top_of r) = cc in
@@ -102,21 +96,20 @@ module _ (nodes : Slab Node) (root : Option ℕ) (way : List Step) (held : Held)
               renew-once (omega (arith, plug-high path was, whole-low nodes root (plug path was) h.whole));
           same_root = refl;
           same_height = refl;
-          was_is = ap (λ (n : Node). n.longest) is;
-          now_is = e;
+          is = e ∙ ap (λ (n : Node). max (free_pages q) (max n.left.longest n.right.longest)) is;
         }
 
-    pub renew-done : (end : Slab Node) → Mends (get mid) (get end) root path was new → end.capacity ≡ nodes.capacity
-        → (b : Becomes nodes end root path (items l ++ q ∷ items r)) × (b.shape ≡ plug path new)
+    pub renew-done : (end : Slab Node) (result : Top) → Mends (get mid) (get end) result path was new → end.capacity ≡ nodes.capacity
+        → (b : Becomes nodes end result path (items l ++ q ∷ items r)) × (b.shape ≡ plug path new)
     unfolding edit-done
-    renew-done end m c = (
-      edit-done nodes mid root way held.depth path was new (top_of new) h.whole h.steps end root renew-once m c,
+    renew-done end result m c = (
+      edit-done nodes mid root way held.depth path was new (top_of new) h.whole h.steps end result renew-once m c,
       m.plain refl,
     )
 
 -- ---- a piece over others
 
-module _ {nodes : Slab Node} {root : Option ℕ} {way : List Step} {held : Held} {path : Above} {p : Piece} {l r : Shape}
+module _ {nodes : Slab Node} {root : Top} {way : List Step} {held : Held} {path : Above} {p : Piece} {l r : Shape}
     (h : IsHeld nodes root way held path p l r) where
   abbrev here : Shape
   here = Fork held.key p l r
@@ -132,7 +125,7 @@ module _ {nodes : Slab Node} {root : Option ℕ} {way : List Step} {held : Held}
     laid-can = edit-can nodes mid root way held.depth path here m.shape top h.whole h.steps (apart-same m beside) m.tree.is
         m.tree.stands (apart-still m beside).once (low_tree (get mid) m.shape m.tree.stands m.tree.few)
 
-    pub laid-done : (now : Slab Node) (result : Option ℕ) → Mends (get mid) (get now) result path here m.shape
+    pub laid-done : (now : Slab Node) (result : Top) → Mends (get mid) (get now) result path here m.shape
         → now.capacity ≡ mid.capacity → Becomes nodes now result path pieces
     laid-done now result w c = subst (λ ps. Becomes nodes now result path ps) m.all
         (edit-done nodes mid root way held.depth path here m.shape top h.whole h.steps now result (apart-still m beside).once w

@@ -1,36 +1,37 @@
 -- The way down to the first aligned range: what it finds in what is left, all has.
-use Rattle.std.proofs.Common.{◌≡◌, ℕ, ◌+◌, ◌<◌, ◌≤◌, ◌∷◌, ◌++◌, max, Option, Some, None, IsSome, IsTrue, refl, sym, ◌∙◌, subst, arith}
+use Rattle.std.proofs.Common.{◌≡◌, ℕ, ◌+◌, ◌<◌, ◌≤◌, ◌∷◌, ◌++◌, max, Some, None, IsSome, IsTrue, refl, ap, sym, ◌∙◌, subst, arith}
 use Rattle.std.specs.List.{AllByRecursion}
 use Rattle.slab.specs.Slab.{Slab, get}
 use Rattle.piece_tree.specs.declared.node.Node.{Node}
+use Rattle.piece_tree.specs.declared.node.Top.{Top}
 use Rattle.piece_tree.specs.declared.piece.TheConstants.{NUMBERS_END}
 use Rattle.piece_tree.specs.Pieces.{AreSorted, IsPiece, is_free}
 use Rattle.piece_tree.specs.Search.{HasNoRoom, IsFound, IsRoundUp}
-use Rattle.piece_tree.specs.Tree.{Shape, Fork, IsBelow, Stands, at_root, items, longest_of}
+use Rattle.piece_tree.specs.Tree.{Shape, Fork, IsTop, Stands, at_root, items}
 use Rattle.piece_tree.proofs.shapes.Beside.{none_empty}
 use Rattle.piece_tree.proofs.shapes.Led.{Roots, node_height, root-falls, root_there, roots}
-use Rattle.piece_tree.proofs.shapes.Sought.{shows_longest}
+use Rattle.piece_tree.proofs.shapes.Sought.{top_root}
 use Rattle.piece_tree.proofs.shapes.Room.{all_behind, found_before, found_behind, found_raised, none_append, none_between, none_raised}
 use Rattle.piece_tree.proofs.shapes.Room.{none_short}
 use Rattle.piece_tree.proofs.shapes.Sorted.{ends_below, sorted_at, sorted_front}
 
 -- what is left lies below the place that was come to, and no aligned range is before it
-pub record Fits (nodes : Slab Node) (root at : Option ℕ) (floor low end pages unit : ℕ) (t : Shape) : Type 0 where
+pub record Fits (nodes : Slab Node) (root at : Top) (floor low end pages unit : ℕ) (t : Shape) : Type 0 where
   pub there : Shape
   pub from : ℕ
-  pub below : IsBelow (get nodes) at there
+  pub below : IsTop (get nodes) at there
   pub sorted : AreSorted from (items there)
-  pub high : node_height (at_root (get nodes) at) ≤ node_height (at_root (get nodes) root)
+  pub high : node_height (at_root (get nodes) at.root) ≤ node_height (at_root (get nodes) root.root)
   pub found : (start : ℕ) → IsFound low pages unit (items there) start → IsFound floor pages unit (items t) start
   pub none : AllByRecursion (λ p. p.last < end) (items t) → AllByRecursion (HasNoRoom low pages unit) (items there)
       → AllByRecursion (HasNoRoom floor pages unit) (items t)
   pub ends : AllByRecursion (λ p. p.last < end) (items t) → AllByRecursion (λ p. p.last < end) (items there)
 
-abbrev pub IsFitting : Slab Node → Option ℕ → Option ℕ → ℕ → ℕ → ℕ → ℕ → ℕ → Type 0
-IsFitting nodes root at floor low end pages unit = ((t : Shape) (from : ℕ) → IsBelow (get nodes) root t → AreSorted from (items t)
+abbrev pub IsFitting : Slab Node → Top → Top → ℕ → ℕ → ℕ → ℕ → ℕ → Type 0
+IsFitting nodes root at floor low end pages unit = ((t : Shape) (from : ℕ) → IsTop (get nodes) root t → AreSorted from (items t)
     → Fits nodes root at floor low end pages unit t) × (low ≤ NUMBERS_END)
 
-pub fitting_start : (nodes : Slab Node) (root : Option ℕ) (floor end pages unit : ℕ) → floor ≤ NUMBERS_END
+pub fitting_start : (nodes : Slab Node) (root : Top) (floor end pages unit : ℕ) → floor ≤ NUMBERS_END
     → IsFitting nodes root root floor floor end pages unit
 fitting_start nodes root floor end pages unit narrow = (
   λ t from b s. record {
@@ -47,23 +48,29 @@ fitting_start nodes root floor end pages unit narrow = (
 )
 
 -- nothing is left
-pub fitting_end : (nodes : Slab Node) (root at : Option ℕ) (floor low end pages unit : ℕ) (t : Shape)
-    → Fits nodes root at floor low end pages unit t → at ≡ None → AllByRecursion (λ p. p.last < end) (items t)
+pub fitting_end : (nodes : Slab Node) (root at : Top) (floor low end pages unit : ℕ) (t : Shape)
+    → Fits nodes root at floor low end pages unit t → at.root ≡ None → AllByRecursion (λ p. p.last < end) (items t)
     → AllByRecursion (HasNoRoom floor pages unit) (items t)
 fitting_end nodes root at floor low end pages unit t i e ends =
     i.none ends (subst (λ x. AllByRecursion (HasNoRoom low pages unit) (items x))
-    (sym (none_empty i.there (sym i.below.0 ∙ e))) tt)
+    (sym (none_empty i.there (top_root i.there i.below.0 ∙ e))) tt)
+
+-- all that is free there is too short
+pub fit_short : (nodes : Slab Node) (root at : Top) (floor low end pages unit : ℕ) (t : Shape)
+    (i : Fits nodes root at floor low end pages unit t) → at.longest < pages → AllByRecursion (HasNoRoom low pages unit) (items i.there)
+fit_short nodes root at floor low end pages unit t i h =
+    none_short low pages unit i.there (omega (arith, h, ap (λ (v : Top). v.longest) i.below.0))
 
 -- ---- at a node
 
-module _ (nodes : Slab Node) (root at : Option ℕ) (floor low end pages unit key : ℕ) (t : Shape)
-    (i : Fits nodes root at floor low end pages unit t) (e : at ≡ Some key) where
+module _ (nodes : Slab Node) (root at : Top) (floor low end pages unit key : ℕ) (t : Shape)
+    (i : Fits nodes root at floor low end pages unit t) (e : at.root ≡ Some key) where
   pub fit-there : IsSome (get nodes key)
-  fit-there = root_there (get nodes) key i.there (sym i.below.0 ∙ e) i.below.1
+  fit-there = root_there (get nodes) key i.there (top_root i.there i.below.0 ∙ e) i.below.1
 
   module _ (node : Node) (f : get nodes key ≡ Some node) where
     abbrev pub z : Roots key node i.there
-    z = roots (get nodes) key node i.there (sym i.below.0 ∙ e) i.below.1 f
+    z = roots (get nodes) key node i.there (top_root i.there i.below.0 ∙ e) i.below.1 f
 
     stands : Stands (get nodes) (Fork key node.piece z.l z.r)
     stands = subst (λ x. Stands (get nodes) x) z.is i.below.1
@@ -71,7 +78,7 @@ module _ (nodes : Slab Node) (root at : Option ℕ) (floor low end pages unit ke
     sorted : AreSorted i.from (items z.l ++ node.piece ∷ items z.r)
     sorted = subst (λ x. AreSorted i.from (items x)) z.is i.sorted
 
-    pub fit-left : IsBelow (get nodes) node.left z.l
+    pub fit-left : IsTop (get nodes) node.left z.l
     fit-left = (z.left, stands.3)
 
     pub fit-left_sorted : AreSorted i.from (items z.l)
@@ -83,27 +90,21 @@ module _ (nodes : Slab Node) (root at : Option ℕ) (floor low end pages unit ke
     pub fit-piece : IsPiece node.piece
     fit-piece = stands.1
 
-    pub fit-falls : (node_height (at_root (get nodes) node.left) < node_height (at_root (get nodes) at))
-        × (node_height (at_root (get nodes) node.right) < node_height (at_root (get nodes) at))
-    fit-falls = root-falls (get nodes) at key node i.there e z i.below.1 f
+    pub fit-falls : (node_height (at_root (get nodes) node.left.root) < node_height (at_root (get nodes) at.root))
+        × (node_height (at_root (get nodes) node.right.root) < node_height (at_root (get nodes) at.root))
+    fit-falls = root-falls (get nodes) at.root key node i.there e z i.below.1 f
 
     -- what lies before the node ends there
     pub left_ends : AllByRecursion (λ p. p.last < node.piece.first) (items z.l)
     left_ends = ends_below i.from node.piece.first (items z.l) node.piece (items z.r) sorted (omega arith)
-
-    -- all that is free is too short
-    pub fit-short : node.longest < pages → AllByRecursion (HasNoRoom low pages unit) (items i.there)
-    fit-short h =
-        none_short low pages unit i.there
-        (omega (arith, h, shows_longest (get nodes) key node i.there (sym i.below.0 ∙ e) i.below.1 f))
 
     pub found-left : (start : ℕ) → IsFound low pages unit (items z.l) start → IsFound floor pages unit (items t) start
     found-left start g =
         i.found start (subst (λ x. IsFound low pages unit (items x) start) (sym z.is)
         (found_before low pages unit (items z.l) node.piece (items z.r) start g))
 
-    pub none-left_short : longest_of z.l < pages → AllByRecursion (HasNoRoom low pages unit) (items z.l)
-    none-left_short h = none_short low pages unit z.l h
+    pub none-left_short : node.left.longest < pages → AllByRecursion (HasNoRoom low pages unit) (items z.l)
+    none-left_short h = none_short low pages unit z.l (omega (arith, h, ap (λ (v : Top). v.longest) z.left))
 
     pub none-left_under : (least : ℕ) → IsRoundUp low unit least → node.piece.first < least + pages
         → AllByRecursion (HasNoRoom low pages unit) (items z.l)

@@ -1,7 +1,6 @@
 -- A key with a tree on each of its sides, by the side: what it shows, and how it is written.
 use Rattle.std.proofs.Common.{◌≡◌, ◌≢◌, ℕ, ◌+◌, ◌<◌, max, Bool, true, false, Option, Some, None, IsSome, refl}
-use Rattle.std.proofs.Common.{ap, sym, ◌∙◌, subst, arith}
-use Rattle.std.specs.Option.{option_eq}
+use Rattle.std.proofs.Common.{ap, ◌∙◌, subst, arith}
 use Rattle.slab.specs.Slab.{Slab, Updates, get}
 use Rattle.piece_tree.specs.declared.piece.Piece.{Piece}
 use Rattle.piece_tree.specs.declared.node.Node.{Node}
@@ -9,7 +8,7 @@ use Rattle.piece_tree.specs.declared.node.Opened.{Opened}
 use Rattle.piece_tree.specs.declared.node.Top.{Top}
 use Rattle.piece_tree.specs.Pieces.{IsPiece}
 use Rattle.piece_tree.specs.Tree.{Look, Shape, Empty, Fork, height_of, longest_of, free_pages, root_of, one, uses, AreNear, fork, top_of}
-use Rattle.piece_tree.specs.Tree.{joint_at, Stands, Opens, AreParts, Links}
+use Rattle.piece_tree.specs.Tree.{joint_at, tree_at, Stands, Opens, AreParts, Links}
 
 -- ---- keys
 
@@ -57,14 +56,10 @@ pub fork-root : (b : Bool) (key : ℕ) (p : Piece) (n f : Shape) → root_of (fo
 fork-root true key p n f = refl
 fork-root false key p n f = refl
 
-pub fork-top : (b : Bool) (key : ℕ) (p : Piece) (n f : Shape) (height longest : ℕ) → height ≡ 1 + max (height_of n) (height_of f)
-    → longest ≡ max (free_pages p) (max (longest_of n) (longest_of f))
-    → record { root = Some key; height = height; longest = longest } ≡ top_of (fork b key p n f)
-fork-top b key p n f height longest h l =
-    ap (λ (r : Option ℕ). record { root = r; height = height; longest = longest }) (sym (fork-root b key p n f))
-    ∙ ap (λ (x : ℕ). record { root = root_of (fork b key p n f); height = x; longest = longest }) (h ∙ sym (fork-height b key p n f))
-    ∙ ap (λ (x : ℕ). record { root = root_of (fork b key p n f); height = height_of (fork b key p n f); longest = x })
-    (l ∙ sym (fork-longest b key p n f))
+pub fork-top : (b : Bool) (key : ℕ) (p : Piece) (n f : Shape)
+    → tree_at key (joint_at b p (top_of n) (top_of f)) ≡ top_of (fork b key p n f)
+fork-top true key p n f = refl
+fork-top false key p n f = refl
 
 -- the parts of it
 pub record StandsBy (look : Look) (b : Bool) (key : ℕ) (p : Piece) (n f : Shape) : Type 0 where
@@ -99,61 +94,20 @@ module _ (look : Look) (b : Bool) (key : ℕ) (opened : Opened) (t : Shape) (s :
 
 -- ---- written
 
--- the node with its heights in any order
-joint-by : (b : Bool) (p : Piece) (near far : Top) (sides : Option ℕ × Option ℕ) (height longest : ℕ)
-    → (b ≡ true → sides ≡ (near.root, far.root)) → (b ≡ false → sides ≡ (far.root, near.root))
-    → height ≡ 1 + max near.height far.height → longest ≡ max (free_pages p) (max near.longest far.longest)
-    → record { piece = p; left = sides.0; right = sides.1; height = height; longest = longest } ≡ joint_at b p near far
-joint-by true p near far sides height longest on off h l =
-    let first : sides.0 ≡ near.root = ap (λ (s : Option ℕ × Option ℕ). s.0) (on refl) in
-    let second : sides.1 ≡ far.root = ap (λ (s : Option ℕ × Option ℕ). s.1) (on refl) in
-    cc
-joint-by false p near far sides height longest on off h l =
-    let first : sides.0 ≡ far.root = ap (λ (s : Option ℕ × Option ℕ). s.0) (off refl) in
-    let second : sides.1 ≡ near.root = ap (λ (s : Option ℕ × Option ℕ). s.1) (off refl) in
-    let a : height ≡ 1 + max far.height near.height = omega (arith, h) in
-    let c : longest ≡ max (free_pages p) (max far.longest near.longest) = omega (arith, l) in
-    cc
-
--- roots that compare as the same are the same
-pub root-same : (E : ℕ → ℕ → Bool) → ((a b : ℕ) → E a b ≡ true → a ≡ b) → (x y : Option ℕ) → true ≡ option_eq E x y → x ≡ y
-root-same E f None None e = refl
-root-same E f None (Some y) e = absurd (cc)
-root-same E f (Some x) None e = absurd (cc)
-root-same E f (Some x) (Some y) e = ap (λ n. Some n) (f x y (sym e))
-
--- the node for another tree on the far side, with the root and the height of the one that was there
-pub joint-other : (b : Bool) (p : Piece) (near far other : Top) (longest : ℕ) → other.root ≡ far.root → other.height ≡ far.height
-    → longest ≡ max (free_pages p) (max near.longest other.longest)
-    → record (joint_at b p near far) { longest = longest } ≡ joint_at b p near other
-joint-other true p near far other longest r h l =
-    let height : 1 + max near.height far.height ≡ 1 + max near.height other.height = omega (arith, h) in
-    cc
-joint-other false p near far other longest r h l =
-    let height : 1 + max far.height near.height ≡ 1 + max other.height near.height = omega (arith, h) in
-    let is : longest ≡ max (free_pages p) (max other.longest near.longest) = omega (arith, l) in
-    cc
-
 -- two trees that are nearly as high, and a key with the node of a piece between them
-pub linked : (old new : Slab Node) (b : Bool) (near far : Top) (key : ℕ) (p : Piece) (n f : Shape) (sides : Option ℕ × Option ℕ)
-    (height longest : ℕ) → AreParts (get old) near key far n f → IsPiece p → AreNear n f
-    → (b ≡ true → sides ≡ (near.root, far.root)) → (b ≡ false → sides ≡ (far.root, near.root))
-    → height ≡ 1 + max near.height far.height → longest ≡ max (free_pages p) (max near.longest far.longest)
-    → Updates old new key (Some (record { piece = p; left = sides.0; right = sides.1; height = height; longest = longest }))
-    → Links (get old) (get new) b (record { root = Some key; height = height; longest = longest }) key p n f
-linked old new b near far key p n f sides height longest a i w on off h l u =
+pub linked : (old new : Slab Node) (b : Bool) (near far : Top) (key : ℕ) (p : Piece) (n f : Shape) (node : Node)
+    → AreParts (get old) near key far n f → IsPiece p → AreNear n f → node ≡ joint_at b p near far → Updates old new key (Some node)
+    → Links (get old) (get new) b (tree_at key node) key p n f
+linked old new b near far key p n f node a i w e u =
     let none : (t : Shape) → uses t key ≡ 0 → (x : ℕ) → 0 < uses t x → get new x ≡ get old x =
     λ t z x g. u.others x (differs key x t z g) in
     let own = one-same key in
-    let hn : near.height ≡ height_of n = ap (λ (v : Top). v.height) a.near_is in
-    let hf : far.height ≡ height_of f = ap (λ (v : Top). v.height) a.far_is in
-    let ln : near.longest ≡ longest_of n = ap (λ (v : Top). v.longest) a.near_is in
-    let lf : far.longest ≡ longest_of f = ap (λ (v : Top). v.longest) a.far_is in
+    let is : node ≡ joint_at b p (top_of n) (top_of f) =
+    e ∙ ap (λ x. joint_at b p x far) a.near_is ∙ ap (λ x. joint_at b p (top_of n) x) a.far_is in
     record {
-      is = fork-top b key p n f height longest (omega (arith, h)) (omega (arith, l));
+      is = ap (tree_at key) is ∙ fork-top b key p n f;
       stands = by_stands (get new) b key p n f (record {
-        here = u.changed ∙ ap (λ x. Some x) (joint-by b p near far sides height longest on off h l)
-            ∙ ap (λ x. Some (joint_at b p x far)) a.near_is ∙ ap (λ x. Some (joint_at b p (top_of n) x)) a.far_is;
+        here = u.changed ∙ ap (λ x. Some x) is;
         piece = i;
         near = w;
         one = same_stands (get old) (get new) n a.near_stands (none n (omega (arith, a.once key)));

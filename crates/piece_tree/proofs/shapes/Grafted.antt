@@ -1,15 +1,12 @@
 -- A tree hung where the end of a higher one is nearly as low: what lies below the higher one's root becomes one with it, and then the root
 -- and that.
-use Rattle.std.proofs.Common.{◌≡◌, ◌≢◌, ℕ, ◌+◌, ◌≤◌, max, Bool, true, false, ◌∷◌, ◌++◌, Some, IsSome, ap, sym, ◌∙◌, inl, inr, subst, arith}
+use Rattle.std.proofs.Common.{◌≡◌, ℕ, ◌+◌, ◌≤◌, max, Bool, true, false, ◌∷◌, ◌++◌, IsSome, ap, sym, ◌∙◌, inl, inr, subst, arith}
 use Rattle.piece_tree.specs.declared.piece.Piece.{Piece}
-use Rattle.piece_tree.specs.declared.node.Node.{Node}
 use Rattle.piece_tree.specs.declared.node.Opened.{Opened}
 use Rattle.piece_tree.specs.declared.node.Top.{Top}
-use Rattle.piece_tree.specs.Graft.{CanRegraft}
-use Rattle.piece_tree.specs.Tree.{Look, Shape, items, height_of, longest_of, free_pages, root_of, one, uses, fork, top_of}
+use Rattle.piece_tree.specs.Tree.{Look, Shape, items, height_of, one, uses, fork}
 use Rattle.piece_tree.specs.Tree.{Opens, AreParts, Joins}
-use Rattle.piece_tree.proofs.shapes.Forks.{one-same, differs, same_stands, fork-height, fork-root, fork-top, by_stands, joint-other}
-use Rattle.piece_tree.proofs.shapes.Hung.{link_joins}
+use Rattle.piece_tree.proofs.shapes.Forks.{one-same, same_stands, fork-height}
 use Rattle.piece_tree.proofs.shapes.Forks.{StandsBy, opened-by, opened-there, opened-uses, opened-height}
 use Rattle.piece_tree.proofs.shapes.Tall.{order}
 use Rattle.piece_tree.proofs.shapes.Turned.{once_items}
@@ -87,46 +84,3 @@ module _ {old : Look} {b : Bool} {near far : Top} {key top : ℕ} {outer : Opene
         short = omega (arith, graft-short, tall);
         plain = λ w. absurd (omega (arith, w.0, tall));
       }
-
--- ---- another tree on the far side of a key
-
-module _ {look new : Look} {b : Bool} {tree : Top} {key : ℕ} {opened : Opened} {far : Top} {n f g : Shape}
-    (can : CanRegraft look b tree key opened far n f g) (root : far.root ≡ opened.far.root) (height : far.height ≡ opened.far.height)
-    (longest : ℕ) (most : longest ≡ max (free_pages opened.piece) (max opened.near.longest far.longest))
-    (writes : (node : Node) → look key ≡ Some node
-    → (new key ≡ Some (record node { longest = longest })) × ((k : ℕ) → k ≢ key → new k ≡ look k)) where
-  same-root : root_of g ≡ root_of f
-  same-root = sym (ap (λ (v : Top). v.root) can.parts.far_is) ∙ root ∙ ap (λ (v : Top). v.root) can.was_far
-
-  same-height : height_of g ≡ height_of f
-  same-height = sym (ap (λ (v : Top). v.height) can.parts.far_is) ∙ height ∙ ap (λ (v : Top). v.height) can.was_far
-
-  long : longest ≡ max (free_pages opened.piece) (max (longest_of n) (longest_of g))
-  long = omega (arith, most, ap (λ (v : Top). v.longest) can.parts.near_is, ap (λ (v : Top). v.longest) can.parts.far_is)
-
-  high : tree.height ≡ 1 + max (height_of n) (height_of g)
-  high = omega (arith, ap (λ (v : Top). v.height) can.was, fork-height b key opened.piece n f, same-height)
-
-  first : tree.root ≡ Some key
-  first = ap (λ (v : Top). v.root) can.was ∙ fork-root b key opened.piece n f
-
-  others : (k : ℕ) → k ≢ key → new k ≡ look k
-  others = (writes _ can.here).1
-
-  -- with the root and the height of the one that was there
-  pub regraft-stays : Joins look new b (record tree { longest = longest }) key opened.piece n g
-  regraft-stays = link_joins look new b _ key opened.piece n g (record {
-    is = ap (λ r. record { root = r; height = tree.height; longest = longest }) first
-        ∙ fork-top b key opened.piece n g tree.height longest high long;
-    stands = by_stands new b key opened.piece n g (record {
-      here = (writes _ can.here).0
-          ∙ ap (λ v. Some v) (joint-other b opened.piece (top_of n) (top_of f) (top_of g) longest same-root same-height long);
-      piece = can.fine;
-      near = (omega (arith, can.near, same-height), omega (arith, can.near, same-height));
-      one = same_stands look new n can.parts.near_stands
-          (λ k h. others k (differs key k n (omega (arith, can.parts.once key, one-same key)) h));
-      other = same_stands look new g can.parts.far_stands
-          (λ k h. others k (differs key k g (omega (arith, can.parts.once key, one-same key)) h));
-    });
-    others = others;
-  })

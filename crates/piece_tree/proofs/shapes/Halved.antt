@@ -2,17 +2,18 @@
 use Rattle.std.proofs.Common.{◌≡◌, ℕ, ◌+◌, ◌<◌, ◌≤◌, Bool, true, false, List, [], ◌∷◌, ◌++◌, length, Some, IsSome, refl, ap, sym, ◌∙◌, inl, inr, subst}
 use Rattle.std.proofs.Common.{arith, length-append}
 use Rattle.std.proofs.lemmas.Bool.Decides.{nat_tests}
+use Rattle.std.specs.Prelude.{not}
 use Rattle.slab.specs.Slab.{Slab, get, slab_len}
 use Rattle.piece_tree.specs.declared.piece.Piece.{Piece}
 use Rattle.piece_tree.specs.declared.piece.TheConstants.{MOST_PIECES}
 use Rattle.piece_tree.specs.declared.node.Node.{Node}
 use Rattle.piece_tree.specs.declared.node.Opened.{Opened}
 use Rattle.piece_tree.specs.declared.node.Top.{Top}
-use Rattle.piece_tree.specs.Graft.{CanRegraft, Halved, IsTree, Makes}
-use Rattle.piece_tree.specs.Tree.{Look, Shape, Empty, items, height_of, root_of, one, uses, fork, top_of, AreParts, Joins, KeepsCount, Opens}
+use Rattle.piece_tree.specs.Graft.{Halved, IsTree, Makes}
+use Rattle.piece_tree.specs.Tree.{Look, Shape, Empty, items, height_of, root_of, one, uses, fork, top_of, AreParts, CanHang, Joins, KeepsCount, Opens}
 use Rattle.piece_tree.proofs.shapes.Apart.{IsApart, apart-still, apart-stands, root-used, used-there}
 use Rattle.piece_tree.proofs.shapes.Forks.{StandsBy, one-same, opened-by, opened-there, opened-uses, same_stands}
-use Rattle.piece_tree.proofs.shapes.Hung.{joins-flip, parts_flip}
+use Rattle.piece_tree.proofs.shapes.Hung.{joins-flip, joint-flip, parts_flip}
 use Rattle.piece_tree.proofs.shapes.Tall.{low_tree, order}
 
 same_key : (key k : ℕ) → 0 < one key k → k ≡ key
@@ -161,15 +162,20 @@ module _ (nodes : Slab Node) {b : Bool} {top : Top} {key : ℕ} {t : Shape} {ope
     pub opened-half : Halved nodes mid opened.near key far t o.near m.shape
     opened-half = halved-far nodes nodes opened.near key opened.far t o.near o.far halved-open mid far ps m
 
-    pub regraft-can : CanRegraft (get mid) b top key opened far o.near o.far m.shape
-    regraft-can = record {
-      here = (m.apart key (omega (arith, halved-open.parts.once key, one-same key)) halved-open.parts.here).0 ∙ by.here;
-      fine = by.piece;
-      near = by.near;
-      was = i.is ∙ ap top_of o.is;
-      was_far = o.far_is;
-      parts = opened-half.parts;
-    }
+    pub regraft-can : CanHang (get mid) (not b) key far opened.piece o.far m.shape o.near
+    regraft-can =
+        let parts = opened-half.parts in
+        record {
+          here = (m.apart key (omega (arith, halved-open.parts.once key, one-same key)) halved-open.parts.here).0 ∙ by.here
+              ∙ ap (λ n. Some n) (sym (joint-flip b opened.piece (top_of o.near) (top_of o.far)));
+          fine = by.piece;
+          near = (by.near.1, by.near.0);
+          tree_is = m.tree.is;
+          stands = m.tree.stands;
+          beside = parts.near_stands;
+          once = λ k. omega (arith, parts.once k);
+          low = (parts.low.1, parts.low.0);
+        }
 
 -- both became one, by the side
 pub halved-side : (old mid : Slab Node) (near : Top) (key : ℕ) (far : Top) (t n f : Shape) → Halved old mid near key far t n f

@@ -1,8 +1,9 @@
 -- Ways down a tree.
-use Rattle.std.proofs.Common.{◌≡◌, ℕ, ◌+◌, ◌<◌, ◌≤◌, Bool, true, false, List, [], ◌∷◌, ◌++◌, length, Option, Some, None, refl}
+use Rattle.std.proofs.Common.{◌≡◌, ℕ, ◌+◌, ◌<◌, ◌≤◌, max, Bool, true, false, List, [], ◌∷◌, ◌++◌, length, Option, Some, None, refl}
 use Rattle.std.proofs.Common.{ap, sym}
 use Rattle.std.proofs.Common.{◌∙◌, subst, arith, append_assoc, get_or-set_same, get_or-set_other, slice_set, IsSome}
 use Rattle.slab.specs.Slab.{Slab, get}
+use Rattle.piece_tree.specs.declared.node.Top.{Top}
 use Rattle.piece_tree.specs.declared.piece.Piece.{Piece}
 use Rattle.piece_tree.specs.declared.node.Node.{Node}
 use Rattle.piece_tree.specs.declared.way.Held.{Held}
@@ -19,16 +20,16 @@ use Rattle.piece_tree.proofs.shapes.Tall.{whole-low}
 
 abbrev pub node_height : Option Node → ℕ
 node_height None = 0
-node_height (Some node) = node.height
+node_height (Some node) = 1 + max node.left.height node.right.height
 
 -- a node, and the trees below it
 pub record Roots (key : ℕ) (node : Node) (t : Shape) : Type 0 where
   pub l : Shape
   pub r : Shape
   pub is : t ≡ Fork key node.piece l r
-  pub left : node.left ≡ root_of l
-  pub right : node.right ≡ root_of r
-  pub height : node.height ≡ height_of t
+  pub left : node.left ≡ top_of l
+  pub right : node.right ≡ top_of r
+  pub height : 1 + max node.left.height node.right.height ≡ height_of t
 
 pub roots : (look : Look) (key : ℕ) (node : Node) (t : Shape) → root_of t ≡ Some key → Stands look t → look key ≡ Some node
     → Roots key node t
@@ -45,7 +46,7 @@ roots look key node (Fork k p l r) e s f =
       is = ap (λ x. Fork x p l r) same ∙ ap (λ x. Fork key x l r) (sym piece);
       left = ap (λ (n : Node). n.left) is;
       right = ap (λ (n : Node). n.right) is;
-      height = ap (λ (n : Node). n.height) is;
+      height = ap (λ (n : Node). 1 + max n.left.height n.right.height) is;
     }
 
 pub root_there : (look : Look) (key : ℕ) (t : Shape) → root_of t ≡ Some key → Stands look t → IsSome (look key)
@@ -59,24 +60,26 @@ root_height look (Fork k p l r) s = ap node_height s.0
 -- a child is lower
 pub root-falls : (look : Look) (at : Option ℕ) (key : ℕ) (node : Node) (t : Shape) → at ≡ Some key → Roots key node t → Stands look t
     → look key ≡ Some node
-    → (node_height (at_root look node.left) < node_height (at_root look at))
-    × (node_height (at_root look node.right) < node_height (at_root look at))
+    → (node_height (at_root look node.left.root) < node_height (at_root look at))
+    × (node_height (at_root look node.right.root) < node_height (at_root look at))
 root-falls look at key node t e x s f =
     let w = subst (λ y. Stands look y) x.is s in
-    let a = ap (λ o. node_height (at_root look o)) x.left ∙ root_height look x.l w.3 in
-    let b = ap (λ o. node_height (at_root look o)) x.right ∙ root_height look x.r w.4 in
-    let c : node_height (at_root look at) ≡ node.height = ap (λ o. node_height (at_root look o)) e ∙ ap node_height f in
+    let a = ap (λ (v : Top). node_height (at_root look v.root)) x.left ∙ root_height look x.l w.3 in
+    let b = ap (λ (v : Top). node_height (at_root look v.root)) x.right ∙ root_height look x.r w.4 in
+    let c : node_height (at_root look at) ≡ 1 + max node.left.height node.right.height = ap (λ o. node_height (at_root look o)) e ∙ ap node_height f in
     let d = x.height ∙ ap height_of x.is in
     (omega arith, omega arith)
 
 -- on either side
 pub child-falls : (look : Look) (at : Option ℕ) (key : ℕ) (node : Node) (t : Shape) → at ≡ Some key → Roots key node t → Stands look t
-    → look key ≡ Some node → (b : Bool) (child : Option ℕ) → (b ≡ true → child ≡ node.left) → (b ≡ false → child ≡ node.right)
-    → node_height (at_root look child) < node_height (at_root look at)
+    → look key ≡ Some node → (b : Bool) (child : Top) → (b ≡ true → child ≡ node.left) → (b ≡ false → child ≡ node.right)
+    → node_height (at_root look child.root) < node_height (at_root look at)
 child-falls look at key node t e x s f true child left right =
-    subst (λ o. node_height (at_root look o) < node_height (at_root look at)) (sym (left refl)) (root-falls look at key node t e x s f).0
+    subst (λ (v : Top). node_height (at_root look v.root) < node_height (at_root look at)) (sym (left refl))
+    (root-falls look at key node t e x s f).0
 child-falls look at key node t e x s f false child left right =
-    subst (λ o. node_height (at_root look o) < node_height (at_root look at)) (sym (right refl)) (root-falls look at key node t e x s f).1
+    subst (λ (v : Top). node_height (at_root look v.root) < node_height (at_root look at)) (sym (right refl))
+    (root-falls look at key node t e x s f).1
 
 -- ---- steps
 
@@ -106,7 +109,7 @@ place-few way depth key up t s e h = omega (arith, steps_few way depth up t s, s
 
 -- ---- down to pages
 
-module _ (nodes : Slab Node) (root : Option ℕ) (first last : ℕ) (at : Option ℕ) (key : ℕ) (t : Shape) (w : IsWhole nodes root t)
+module _ (nodes : Slab Node) (root : Top) (first last : ℕ) (at : Option ℕ) (key : ℕ) (t : Shape) (w : IsWhole nodes root t)
     (q : Lies first last at t) (e : at ≡ Some key) where
   pub lies-root : root_of q.there ≡ Some key
   lies-root = sym q.root ∙ e
@@ -121,8 +124,8 @@ module _ (nodes : Slab Node) (root : Option ℕ) (first last : ℕ) (at : Option
     pub lies-at : Roots key node q.there
     lies-at = roots (get nodes) key node q.there lies-root lies-stands f
 
-    pub lies-smaller : (b : Bool) (child : Option ℕ) → (b ≡ true → child ≡ node.left) → (b ≡ false → child ≡ node.right)
-        → node_height (at_root (get nodes) child) < node_height (at_root (get nodes) at)
+    pub lies-smaller : (b : Bool) (child : Top) → (b ≡ true → child ≡ node.left) → (b ≡ false → child ≡ node.right)
+        → node_height (at_root (get nodes) child.root) < node_height (at_root (get nodes) at)
     lies-smaller = child-falls (get nodes) at key node q.there e lies-at lies-stands f
 
     pub lies-sorted : (low : ℕ) × AreSorted low (items lies-at.l ++ node.piece ∷ items lies-at.r)
@@ -134,9 +137,9 @@ module _ (nodes : Slab Node) (root : Option ℕ) (first last : ℕ) (at : Option
     beside true = lies-at.r
     beside false = lies-at.l
 
-    pub lies-on : (b : Bool) (child : Option ℕ) → (b ≡ true → last < node.piece.first) → (b ≡ false → node.piece.last < first)
+    pub lies-on : (b : Bool) (child : Top) → (b ≡ true → last < node.piece.first) → (b ≡ false → node.piece.last < first)
         → (b ≡ true → child ≡ node.left) → (b ≡ false → child ≡ node.right)
-        → (x : Lies first last child t) × (x.path ≡ Beside b key node.piece (beside b) q.path)
+        → (x : Lies first last child.root t) × (x.path ≡ Beside b key node.piece (beside b) q.path)
     lies-on true child on off left right =
         let s = sorted_at lies-sorted.0 (items lies-at.l) node.piece (items lies-at.r) lies-sorted.1 in
         let h = on refl in (
@@ -144,7 +147,7 @@ module _ (nodes : Slab Node) (root : Option ℕ) (first last : ℕ) (at : Option
             path = Beside true key node.piece lies-at.r q.path;
             there = lies-at.l;
             is = q.is ∙ ap (plug q.path) lies-at.is;
-            root = left refl ∙ lies-at.left;
+            root = ap (λ (v : Top). v.root) (left refl ∙ lies-at.left);
             before = q.before;
             behind = (
               h,
@@ -161,7 +164,7 @@ module _ (nodes : Slab Node) (root : Option ℕ) (first last : ℕ) (at : Option
             path = Beside false key node.piece lies-at.l q.path;
             there = lies-at.r;
             is = q.is ∙ ap (plug q.path) lies-at.is;
-            root = right refl ∙ lies-at.right;
+            root = ap (λ (v : Top). v.root) (right refl ∙ lies-at.right);
             before = all_append (λ x. x.last < first) (front q.path) (items lies-at.l ++ node.piece ∷ []) q.before
                 (all_append (λ x. x.last < first) (items lies-at.l) (node.piece ∷ [])
                 (ends_below lies-sorted.0 first (items lies-at.l) node.piece (items lies-at.r) lies-sorted.1 (omega (arith, s.1))) (h, tt));
@@ -170,27 +173,27 @@ module _ (nodes : Slab Node) (root : Option ℕ) (first last : ℕ) (at : Option
           refl,
         )
 
-abbrev pub IsLooking : Slab Node → Option ℕ → ℕ → Option ℕ → Type 0
+abbrev pub IsLooking : Slab Node → Top → ℕ → Option ℕ → Type 0
 IsLooking nodes root page at = (t : Shape) → IsWhole nodes root t → Lies page page at t
 
-pub look_start : (nodes : Slab Node) (root : Option ℕ) (page : ℕ) → IsLooking nodes root page root
-look_start nodes root page t w = record { path = Whole; there = t; is = refl; root = w.here; before = tt; behind = tt }
+pub look_start : (nodes : Slab Node) (root : Top) (page : ℕ) → IsLooking nodes root page root.root
+look_start nodes root page t w = record { path = Whole; there = t; is = refl; root = ap (λ (v : Top). v.root) w.here; before = tt; behind = tt }
 
-abbrev pub IsWalking : Slab Node → Option ℕ → ℕ → ℕ → List Step → Option ℕ → ℕ → Type 0
+abbrev pub IsWalking : Slab Node → Top → ℕ → ℕ → List Step → Option ℕ → ℕ → Type 0
 IsWalking nodes root first last way at depth =
     ((t : Shape) → IsWhole nodes root t → Leads way first last (record { at = at; depth = depth }) t) × (length way ≡ 14)
 
-pub walk_start : (nodes : Slab Node) (root : Option ℕ) (first last : ℕ) (way : List Step) → length way ≡ 14
-    → IsWalking nodes root first last way root 0
+pub walk_start : (nodes : Slab Node) (root : Top) (first last : ℕ) (way : List Step) → length way ≡ 14
+    → IsWalking nodes root first last way root.root 0
 walk_start nodes root first last way e = (
   (λ t w. record {
-    lies = record { path = Whole; there = t; is = refl; root = w.here; before = tt; behind = tt };
+    lies = record { path = Whole; there = t; is = refl; root = ap (λ (v : Top). v.root) w.here; before = tt; behind = tt };
     steps = refl;
   }),
   e,
 )
 
-module _ (nodes : Slab Node) (root : Option ℕ) (first last : ℕ) (way : List Step) (at : Option ℕ) (depth key : ℕ)
+module _ (nodes : Slab Node) (root : Top) (first last : ℕ) (way : List Step) (at : Option ℕ) (depth key : ℕ)
     (i : IsWalking nodes root first last way at depth) (e : at ≡ Some key) (t : Shape) (w : IsWhole nodes root t) where
   abbrev q : Leads way first last (record { at = at; depth = depth }) t
   q = i.0 t w
@@ -202,13 +205,13 @@ module _ (nodes : Slab Node) (root : Option ℕ) (first last : ℕ) (way : List 
   walk-few = place-few way depth key q.lies.path q.lies.there q.steps (lies-root nodes root first last at key t w q.lies e)
       (subst (λ x. height_of x ≤ 14) q.lies.is (whole-low nodes root t w))
 
-  module _ (node : Node) (f : get nodes key ≡ Some node) (b : Bool) (child : Option ℕ) (left : b ≡ true → child ≡ node.left)
+  module _ (node : Node) (f : get nodes key ≡ Some node) (b : Bool) (child : Top) (left : b ≡ true → child ≡ node.left)
       (right : b ≡ false → child ≡ node.right) where
-    pub walk-smaller : node_height (at_root (get nodes) child) < node_height (at_root (get nodes) at)
+    pub walk-smaller : node_height (at_root (get nodes) child.root) < node_height (at_root (get nodes) at)
     walk-smaller = lies-smaller nodes root first last at key t w q.lies e node f b child left right
 
     pub walk-leads : (b ≡ true → last < node.piece.first) → (b ≡ false → node.piece.last < first)
-        → Leads (slice_set way depth (record { key = key; before = b })) first last (record { at = child; depth = depth + 1 }) t
+        → Leads (slice_set way depth (record { key = key; before = b })) first last (record { at = child.root; depth = depth + 1 }) t
     walk-leads on off =
         let x = lies-on nodes root first last at key t w q.lies e node f b child on off left right in
         record {
@@ -220,7 +223,7 @@ module _ (nodes : Slab Node) (root : Option ℕ) (first last : ℕ) (way : List 
 
 -- ---- what is at hand
 
-module _ (nodes : Slab Node) (root : Option ℕ) (way : List Step) (held : Held) (t : Shape) (w : IsWhole nodes root t)
+module _ (nodes : Slab Node) (root : Top) (way : List Step) (held : Held) (t : Shape) (w : IsWhole nodes root t)
     (h : IsHand way held t) where
   hand-stands : Stands (get nodes) (Fork held.key h.piece h.left h.right)
   hand-stands = (plug_stands (get nodes) h.path (Fork held.key h.piece h.left h.right) (subst (λ x. Stands (get nodes) x) h.is w.stands)).0

@@ -1,15 +1,14 @@
 -- A way back up a tree, where another tree lies at its end.
-use Rattle.std.proofs.Common.{◌≡◌, ℕ, ◌+◌, ◌-◌, ◌<◌, ◌≤◌, max, Bool, true, false, List, Option, Some, IfSome, refl, ap, sym, ◌∙◌}
+use Rattle.std.proofs.Common.{◌≡◌, ℕ, ◌+◌, ◌-◌, ◌<◌, ◌≤◌, max, Bool, true, false, List, Some, refl, ap, sym, ◌∙◌}
 use Rattle.std.proofs.Common.{subst, arith}
 use Rattle.slab.specs.Slab.{Slab, get}
 use Rattle.piece_tree.specs.declared.piece.Piece.{Piece}
 use Rattle.piece_tree.specs.declared.node.Node.{Node}
 use Rattle.piece_tree.specs.declared.node.Top.{Top}
-use Rattle.piece_tree.specs.declared.way.Hung.{Hung}
 use Rattle.piece_tree.specs.declared.way.Step.{Step}
 use Rattle.piece_tree.specs.Tree.{Look, Shape, items, height_of, longest_of, free_pages, uses, fork, top_of}
-use Rattle.piece_tree.specs.Tree.{joint_at, Stands, Joins, KeepsCount}
-use Rattle.piece_tree.specs.Way.{Above, Whole, Beside, plug, among, uses_above, AreAbove, step_at, AreSteps, CanHang, Hangs, IsKept, CanLift, CanMend, Mends}
+use Rattle.piece_tree.specs.Tree.{joint_at, CanHang, Stands, Joins, KeepsCount}
+use Rattle.piece_tree.specs.Way.{Above, Whole, Beside, plug, among, uses_above, AreAbove, step_at, AreSteps, CanLift, CanMend, Mends}
 use Rattle.piece_tree.proofs.shapes.Forks.{one-same, same_stands, fork-height, fork-uses, stands_by, by_stands}
 
 -- ---- what lies above a place
@@ -105,21 +104,21 @@ counts_twice old mid new a b = record { len = b.len ∙ a.len; capacity = b.capa
 -- ---- up
 
 -- so far: what lies at a place further up, and what becomes of the whole
-pub record Mending (old now : Slab Node) (way : List Step) (depth : ℕ) (root : Option ℕ) (top : Top) (path : Above) (t new : Shape)
+pub record Mending (old now : Slab Node) (way : List Step) (depth : ℕ) (root : Top) (top : Top) (path : Above) (t new : Shape)
     : Type 0 where
   pub up : Above
   pub there : Shape
   pub here : Shape
   pub can : CanMend (get now) way depth root top up there here
-  pub back : (then : Slab Node) (whole : Option ℕ) → Mends (get now) (get then) whole up there here
+  pub back : (then : Slab Node) (whole : Top) → Mends (get now) (get then) whole up there here
       → Mends (get old) (get then) whole path t new
   pub count : KeepsCount old now
 
-abbrev pub IsMending : Slab Node → Slab Node → List Step → ℕ → Option ℕ → Top → ℕ → Top → Type 0
+abbrev pub IsMending : Slab Node → Slab Node → List Step → ℕ → Top → Top → ℕ → Top → Type 0
 IsMending old now way steps root end depth top = (path : Above) (t new : Shape) → CanMend (get old) way steps root end path t new
     → Mending old now way depth root top path t new
 
-unfoldable pub mending_start : (old : Slab Node) (way : List Step) (steps : ℕ) (root : Option ℕ) (end : Top)
+unfoldable pub mending_start : (old : Slab Node) (way : List Step) (steps : ℕ) (root : Top) (end : Top)
     → IsMending old old way steps root end steps end
 mending_start old way steps root end path t new can = record {
   up = path;
@@ -130,11 +129,11 @@ mending_start old way steps root end path t new can = record {
   count = record { len = refl; capacity = refl };
 }
 
-mended_end : (look : Look) (way : List Step) (root : Option ℕ) (top : Top) (up : Above) (there here : Shape)
-    → CanMend look way 0 root top up there here → Mends look look top.root up there here
+mended_end : (look : Look) (way : List Step) (root : Top) (top : Top) (up : Above) (there here : Shape)
+    → CanMend look way 0 root top up there here → Mends look look top up there here
 mended_end look way root top Whole there here can = record {
   shape = here;
-  here = ap (λ (v : Top). v.root) can.is;
+  here = can.is;
   stands = can.stands;
   all = refl;
   keys = λ k. omega arith;
@@ -143,20 +142,20 @@ mended_end look way root top Whole there here can = record {
 }
 mended_end look way root top (Beside b key p o up) there here can = absurd (omega (arith, can.steps.1))
 
-pub mending_end : (old now : Slab Node) (way : List Step) (depth : ℕ) (root : Option ℕ) (top : Top) (path : Above) (t new : Shape)
-    → Mending old now way depth root top path t new → depth ≡ 0 → Mends (get old) (get now) top.root path t new
+pub mending_end : (old now : Slab Node) (way : List Step) (depth : ℕ) (root : Top) (top : Top) (path : Above) (t new : Shape)
+    → Mending old now way depth root top path t new → depth ≡ 0 → Mends (get old) (get now) top path t new
 mending_end old now way depth root top path t new m e =
-    m.back now top.root (mended_end (get now) way root top m.up m.there m.here
+    m.back now top (mended_end (get now) way root top m.up m.there m.here
     (subst (λ d. CanMend (get now) way d root top m.up m.there m.here) e m.can))
 
 -- where the tree shows what was there, the whole is up to date
-stopped : (look : Look) (way : List Step) (depth : ℕ) (root : Option ℕ) (top : Top) (up : Above) (there here : Shape)
+pub stopped : (look : Look) (way : List Step) (depth : ℕ) (root : Top) (top : Top) (up : Above) (there here : Shape)
     → CanMend look way depth root top up there here → top_of here ≡ top_of there → Mends look look root up there here
 stopped look way depth root top up there here can e =
     let s = stops look up there here can.above can.stands e in
     record {
       shape = plug up here;
-      here = can.here ∙ sym (ap (λ (v : Top). v.root) s.1);
+      here = can.here ∙ sym s.1;
       stands = s.0;
       all = plug-items up here;
       keys = λ k. plug-uses up here k;
@@ -164,7 +163,7 @@ stopped look way depth root top up there here can e =
       plain = λ h. refl;
     }
 
-module _ (old now : Slab Node) (way : List Step) (depth : ℕ) (root : Option ℕ) (top : Top) (path : Above) (t new : Shape)
+module _ (old now : Slab Node) (way : List Step) (depth : ℕ) (root : Top) (top : Top) (path : Above) (t new : Shape)
     (m : Mending old now way depth root top path t new) (pos : 0 < depth) where
   pub mending-few : depth ≤ 14
   mending-few = omega (arith, steps_few way depth m.up m.there m.can.steps, m.can.low)
@@ -181,7 +180,7 @@ module _ (old now : Slab Node) (way : List Step) (depth : ℕ) (root : Option �
   can : CanMend (get now) way depth root top (Beside s.before s.key la.piece la.other la.more) m.there m.here
   can = subst (λ u. CanMend (get now) way depth root top u m.there m.here) la.is m.can
 
-  pub mending-can : CanHang (get now) s top la.piece m.there m.here la.other
+  pub mending-can : CanHang (get now) s.before s.key top la.piece m.there m.here la.other
   mending-can =
       let h = plug-high la.more was in
       let e = fork-height s.before s.key la.piece m.there la.other in
@@ -196,17 +195,24 @@ module _ (old now : Slab Node) (way : List Step) (depth : ℕ) (root : Option �
         low = (omega (arith, can.fair), omega (arith, can.low));
       }
 
-  module _ (next : Slab Node) (hung : Hung) (i : Hangs (get now) (get next) s hung la.piece m.there m.here la.other)
-      (c : KeepsCount now next) where
-    abbrev j : Joins (get now) (get next) s.before hung.top s.key la.piece m.here la.other
-    j = i.joins
+  -- the key has a tree with that root and that height there
+  pub mending-lifts : (on : Top) → on ≡ top_of m.there → on.root ≡ top.root → on.height ≡ top.height
+      → CanLift (get now) way depth root top.longest m.up m.there m.here
+  mending-lifts on e r h = record {
+    can = subst (λ v. CanMend (get now) way depth root v m.up m.there m.here) m.can.is m.can;
+    same_root = sym (ap (λ (v : Top). v.root) m.can.is) ∙ sym r ∙ ap (λ (v : Top). v.root) e;
+    same_height = sym (ap (λ (v : Top). v.height) m.can.is) ∙ sym h ∙ ap (λ (v : Top). v.height) e;
+    is = ap (λ (v : Top). v.longest) m.can.is;
+  }
 
+  module _ (next : Slab Node) (then : Top) (j : Joins (get now) (get next) s.before then s.key la.piece m.here la.other)
+      (c : KeepsCount now next) where
     stays-fair : height_of j.shape + (depth - 1) ≤ 28
     stays-fair =
         let e = fork-height s.before s.key la.piece m.there la.other in
         omega (arith, j.short, can.fair, can.low, steps_few way (depth - 1) la.more was la.steps)
 
-    pub further : CanMend (get next) way (depth - 1) root hung.top la.more was j.shape
+    pub further : CanMend (get next) way (depth - 1) root then la.more was j.shape
     further = record {
       steps = la.steps;
       above = same_above (get now) (get next) la.more was can.above.4 (λ k g. j.others k (omega (arith, can.once k)));
@@ -226,9 +232,9 @@ module _ (old now : Slab Node) (way : List Step) (depth : ℕ) (root : Option �
         sides true = refl
         sides false = refl
 
-    pub back : (then : Slab Node) (whole : Option ℕ) → Mends (get next) (get then) whole la.more was j.shape
-        → Mends (get old) (get then) whole path t new
-    back then whole n = m.back then whole (subst (λ u. Mends (get now) (get then) whole u m.there m.here) (sym la.is) (record {
+    pub back : (end : Slab Node) (whole : Top) → Mends (get next) (get end) whole la.more was j.shape
+        → Mends (get old) (get end) whole path t new
+    back end whole n = m.back end whole (subst (λ u. Mends (get now) (get end) whole u m.there m.here) (sym la.is) (record {
       shape = n.shape;
       here = n.here;
       stands = n.stands;
@@ -242,7 +248,7 @@ module _ (old now : Slab Node) (way : List Step) (depth : ℕ) (root : Option �
           n.plain (ap height_of x ∙ omega arith) ∙ ap (λ y. plug la.more y) x;
     }))
 
-    unfoldable pub mending-next : Mending old next way (depth - 1) root hung.top path t new
+    unfoldable pub mending-next : Mending old next way (depth - 1) root then path t new
     mending-next = record {
       up = la.more;
       there = was;
@@ -251,19 +257,3 @@ module _ (old now : Slab Node) (way : List Step) (depth : ℕ) (root : Option �
       back = back;
       count = counts_twice old now next m.count c;
     }
-
-    pub mending-stops : top_of j.shape ≡ top_of was → Mends (get old) (get next) root path t new
-    mending-stops e = back next root (stopped (get next) way (depth - 1) root hung.top la.more was j.shape further e)
-
-    -- from a key on that is as high as it was what is longest alone may change
-    pub mending-lifts : (longest : ℕ) → hung.kept ≡ Some longest
-        → CanLift (get next) way (depth - 1) root la.more was j.shape longest hung.top.longest
-    mending-lifts longest e =
-        let k : IsKept j.shape was longest = subst (λ o. IfSome o (IsKept j.shape was)) e i.kept in
-        record {
-          can = subst (λ v. CanMend (get next) way (depth - 1) root v la.more was j.shape) j.is further;
-          same_root = k.root;
-          same_height = k.height;
-          was_is = k.shown;
-          now_is = ap (λ (v : Top). v.longest) j.is;
-        }

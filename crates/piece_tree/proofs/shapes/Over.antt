@@ -1,21 +1,25 @@
 -- The whole tree, once a row was put over pieces of it.
-use Rattle.std.proofs.Common.{◌≡◌, ℕ, ◌+◌, ◌<◌, ◌≤◌, List, ◌∷◌, ◌++◌, length, Option, Some, None, IsSome, IfSome, refl, ap, sym, ◌∙◌}
+use Rattle.std.proofs.Common.{◌≡◌, ℕ, ◌+◌, ◌<◌, ◌≤◌, List, [], ◌∷◌, ◌++◌, length, Option, Some, None, IsSome, IfSome, refl, ap, sym, ◌∙◌}
 use Rattle.std.proofs.Common.{subst, arith, append_assoc, length-append}
 use Rattle.slab.specs.Slab.{Slab, get, slab_len}
+use Rattle.piece_tree.specs.declared.node.Top.{Top}
 use Rattle.piece_tree.specs.declared.piece.Piece.{Piece}
 use Rattle.piece_tree.specs.declared.piece.TheConstants.{MOST_PIECES, NUMBERS_END}
 use Rattle.piece_tree.specs.declared.node.Node.{Node}
+use Rattle.piece_tree.specs.declared.way.Place.{Place}
 use Rattle.piece_tree.specs.declared.way.Step.{Step}
 use Rattle.piece_tree.specs.Graft.{CanReplace}
 use Rattle.piece_tree.specs.Laid.{IsRow, rest_above, with_row}
 use Rattle.piece_tree.specs.Pieces.{AreSorted, HasAny, piece_at}
+use Rattle.piece_tree.specs.Spans.{Covers}
 use Rattle.piece_tree.specs.Tree.{Shape, Fork, items, IsWhole, KeepsCount, pieces_of}
-use Rattle.piece_tree.specs.Way.{among, front, back, plug, AreSteps, Becomes, IsHeld, Lies}
+use Rattle.piece_tree.specs.Way.{among, front, back, plug, AreSteps, Becomes, IsHeld, Leads, Lies}
 use Rattle.piece_tree.proofs.shapes.Covered.{above-none, below-none, row-at, row-within, with_row-sorted}
 use Rattle.piece_tree.proofs.shapes.Led.{Roots, lies-at}
 use Rattle.piece_tree.proofs.shapes.Mended.{plug-items, plug-uses, plug_stands}
-use Rattle.piece_tree.proofs.shapes.Placed.{found_split, whole-now, whole-view}
+use Rattle.piece_tree.proofs.shapes.Placed.{found-none, found_split, whole-all, whole-now, whole-view}
 use Rattle.piece_tree.proofs.shapes.Sorted.{all_map, plug-parts, sorted_at, sorted_behind, sorted_there}
+use Rattle.piece_tree.proofs.shapes.Tall.{whole_view}
 
 -- a page that lies in a piece is the number of one
 pub at-narrow : (from page : ℕ) (ps : List Piece) → AreSorted from ps → IsSome (piece_at ps page) → page < NUMBERS_END
@@ -46,7 +50,7 @@ node_at nodes at key first last e h =
     let a = subst (λ o. IfSome o (λ k. (n : Node) × (get nodes k ≡ Some n) × HasAny n.piece first last)) e h in
     (a.0, a.1)
 
-module _ (first : ℕ) (row : List Piece) (last : ℕ) {nodes : Slab Node} {root at : Option ℕ} {t : Shape} (w : IsWhole nodes root t)
+module _ (first : ℕ) (row : List Piece) (last : ℕ) {nodes : Slab Node} {root : Top} {at : Option ℕ} {t : Shape} (w : IsWhole nodes root t)
     (q : Lies first last at t) (some : first ≤ last) where
   -- the place is that of its first page too
   pub lies-first : Lies first first at t
@@ -101,11 +105,8 @@ module _ (first : ℕ) (row : List Piece) (last : ℕ) {nodes : Slab Node} {root
     )
 
     module _ (has : (node : Node) → get nodes key ≡ Some node → HasAny node.piece first last)
-        (fine : IsRow first row (last + 1)) (there : IsSome (piece_at (items t) last))
+        (fine : IsRow first row (last + 1)) (narrow : last < NUMBERS_END)
         (few : length (with_row first row last (items t)) ≤ MOST_PIECES) where
-      narrow : last < NUMBERS_END
-      narrow = at-narrow 0 last (items t) w.sorted there
-
       pub lay-can : CanReplace nodes key first row last sub
       lay-can =
           let stands = plug_stands (get nodes) q.path sub whole.stands in
@@ -131,7 +132,7 @@ module _ (first : ℕ) (row : List Piece) (last : ℕ) {nodes : Slab Node} {root
       in-order : AreSorted 0 (with_row first row last (items t))
       in-order = with_row-sorted 0 first last row (items t) w.sorted (omega arith) fine narrow
 
-      module _ {new : Slab Node} {result : Option ℕ} (m : Becomes nodes new result q.path (with_row first row last (items sub)))
+      module _ {new : Slab Node} {result : Top} (m : Becomes nodes new result q.path (with_row first row last (items sub)))
           (len : slab_len new + length (items sub) ≡ slab_len nodes + length (with_row first row last (items sub))) where
         count : slab_len new ≡ length (with_row first row last (items t))
         count = omega (
@@ -147,12 +148,15 @@ module _ (first : ℕ) (row : List Piece) (last : ℕ) {nodes : Slab Node} {root
         pub lay-whole : IsWhole new result m.shape
         lay-whole = whole-now nodes new root result t w q.path _ (with_row first row last (items t)) m (sym laid) in-order count few
 
+        pub lay-all : items m.shape ≡ with_row first row last (items t)
+        lay-all = whole-all nodes new root result t w q.path _ (with_row first row last (items t)) m (sym laid) in-order count few
+
         pub lay-view : pieces_of new result ≡ with_row first row last (items t)
         lay-view = whole-view nodes new root result t w q.path _ (with_row first row last (items t)) m (sym laid) in-order count few
 
       -- it has all the pages of the highest one
-      module _ (starts : n.piece.first ≡ first) (ends : n.piece.last ≡ last) {new : Slab Node}
-          (m : Becomes nodes new root q.path (items x.l ++ (row ++ items x.r))) (c : KeepsCount nodes new) (one : length row ≡ 1) where
+      module _ (starts : n.piece.first ≡ first) (ends : n.piece.last ≡ last) {new : Slab Node} {result : Top}
+          (m : Becomes nodes new result q.path (items x.l ++ (row ++ items x.r))) (c : KeepsCount nodes new) (one : length row ≡ 1) where
         same : with_row first row last (items sub) ≡ items x.l ++ (row ++ items x.r)
         same =
             let order = sorted_there q.path (items sub) 0 sub-sorted in
@@ -181,8 +185,34 @@ module _ (first : ℕ) (row : List Piece) (last : ℕ) {nodes : Slab Node} {root
           length-append (items x.l) (n.piece ∷ items x.r),
         )
 
-        pub renew-whole : IsWhole new root m.shape
-        renew-whole = whole-now nodes new root root t w q.path _ (with_row first row last (items t)) m at-path in-order kept few
+        pub renew-whole : IsWhole new result m.shape
+        renew-whole = whole-now nodes new root result t w q.path _ (with_row first row last (items t)) m at-path in-order kept few
 
-        pub renew-view : pieces_of new root ≡ with_row first row last (items t)
-        renew-view = whole-view nodes new root root t w q.path _ (with_row first row last (items t)) m at-path in-order kept few
+        pub renew-all : items m.shape ≡ with_row first row last (items t)
+        renew-all = whole-all nodes new root result t w q.path _ (with_row first row last (items t)) m at-path in-order kept few
+
+-- ---- what a way down came to
+
+module _ (first last : ℕ) {nodes : Slab Node} {root : Top} {t : Shape} (w : IsWhole nodes root t) (some : first ≤ last) where
+  -- nothing lies there, though a piece has the first page
+  pub reached-none : {at : Option ℕ} → Lies first last at t → at ≡ None → IsSome (piece_at (pieces_of nodes root) first) → ⊥
+  reached-none q e h =
+      let n = found-none nodes root first _ t w (lies-first first [] last w q some) e in
+      let x : IsSome {T = Piece} None = subst (λ o. IsSome o) (sym n) h in
+      cc
+
+  -- the highest piece that has some of the pages
+  pub reached : {way : List Step} {place : Place} (q : Leads way first last place t) {key : ℕ} → place.at ≡ Some key
+      → IfSome place.at (λ k. (n : Node) × (get nodes k ≡ Some n) × HasAny n.piece first last)
+      → IsSome (piece_at (pieces_of nodes root) last)
+      → Covers nodes way (record { held = record { key = key; depth = place.depth }; first = first; last = last }) t
+  reached {way = way} {place = place} q {key = key} e h there =
+      let n = subst (λ o. IfSome o (λ k. (n : Node) × (get nodes k ≡ Some n) × HasAny n.piece first last)) e h in
+      record {
+        leads = subst (λ a. Leads way first last (record { at = a; depth = place.depth }) t) e q;
+        node = n.0;
+        there = n.1;
+        has = n.2;
+        some = some;
+        narrow = at-narrow 0 last (items t) w.sorted (subst (λ l. IsSome (piece_at l last)) (whole_view nodes root t w) there);
+      }

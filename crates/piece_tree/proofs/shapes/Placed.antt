@@ -5,17 +5,17 @@ use Rattle.std.proofs.lemmas.Bool.Decides.{nat_tests}
 use Rattle.std.proofs.lemmas.List.{append-nil}
 use Rattle.std.specs.List.{AllByRecursion}
 use Rattle.slab.specs.Slab.{Slab, get, slab_len}
+use Rattle.piece_tree.specs.declared.node.Top.{Top}
 use Rattle.piece_tree.specs.declared.piece.Piece.{Piece}
 use Rattle.piece_tree.specs.declared.piece.TheConstants.{MOST_PIECES}
 use Rattle.piece_tree.specs.declared.node.Node.{Node}
-use Rattle.piece_tree.specs.declared.way.Step.{Step}
 use Rattle.piece_tree.specs.Pieces.{AreSorted, Holds, piece_at}
 use Rattle.piece_tree.specs.Tree.{Shape, Fork, items, IsWhole, pieces_of}
-use Rattle.piece_tree.specs.Way.{Above, plug, among, front, back, AreSteps, Lies, IsHeld, Becomes}
+use Rattle.piece_tree.specs.Way.{Above, plug, among, front, back, Lies, Becomes}
 use Rattle.piece_tree.proofs.shapes.Led.{Roots, lies-at}
 use Rattle.piece_tree.proofs.shapes.Beside.{none_empty}
 use Rattle.piece_tree.proofs.shapes.Mended.{plug-items}
-use Rattle.piece_tree.proofs.shapes.Sorted.{plug-parts, same_split, ends_below}
+use Rattle.piece_tree.proofs.shapes.Sorted.{plug-parts, ends_below}
 use Rattle.piece_tree.proofs.shapes.Tall.{low_tree, order, whole_view}
 
 pub parts : (path : Above) (xs : List Piece) (p : Piece) (ys : List Piece)
@@ -24,7 +24,7 @@ parts path xs p ys = plug-parts path (xs ++ p ∷ ys) ∙ simp append_assoc
 
 -- ---- the whole then
 
-module _ (old new : Slab Node) (root result : Option ℕ) (t : Shape) (w : IsWhole old root t) (path : Above) (ps all : List Piece)
+module _ (old new : Slab Node) (root result : Top) (t : Shape) (w : IsWhole old root t) (path : Above) (ps all : List Piece)
     (b : Becomes old new result path ps) (e : among path ps ≡ all) (s : AreSorted 0 all) (len : slab_len new ≡ length all)
     (few : length all ≤ MOST_PIECES) where
   pub whole-all : items b.shape ≡ all
@@ -47,7 +47,7 @@ module _ (old new : Slab Node) (root result : Option ℕ) (t : Shape) (w : IsWho
 
 -- ---- where a piece is
 
-module _ (nodes : Slab Node) (root : Option ℕ) (page : ℕ) (at : Option ℕ) (t : Shape) (w : IsWhole nodes root t) (q : Lies page page at t) where
+module _ (nodes : Slab Node) (root : Top) (page : ℕ) (at : Option ℕ) (t : Shape) (w : IsWhole nodes root t) (q : Lies page page at t) where
   -- the node of the piece that the page lies in
   pub at-node : (key : ℕ) → at ≡ Some key
       → IfSome at (λ k. (n : Node) × (get nodes k ≡ Some n) × Holds n.piece page)
@@ -67,18 +67,8 @@ module _ (nodes : Slab Node) (root : Option ℕ) (page : ℕ) (at : Option ℕ) 
     shape : t ≡ plug q.path (Fork key n.piece x.l x.r)
     shape = q.is ∙ ap (plug q.path) x.is
 
-    pub place-held : (way : List Step) (depth : ℕ) → AreSteps way depth q.path
-        → IsHeld nodes root way (record { key = key; depth = depth }) q.path n.piece x.l x.r
-    place-held way depth s = record { whole = subst (λ y. IsWhole nodes root y) shape w; steps = s }
-
     pub place-all : items t ≡ before-it ++ n.piece ∷ behind-it
     place-all = ap items shape ∙ plug-items q.path (Fork key n.piece x.l x.r) ∙ parts q.path (items x.l) n.piece (items x.r)
-
-    pub place-split : (before : List Piece) (p : Piece) (behind : List Piece) → items t ≡ before ++ p ∷ behind → Holds p page
-        → (before-it ≡ before) × (n.piece ≡ p) × (behind-it ≡ behind)
-    place-split before p behind e h =
-        same_split 0 page before-it n.piece behind-it before p behind (sym place-all ∙ e) (subst (λ l. AreSorted 0 l) place-all w.sorted)
-        holds h
 
 -- ---- what is found
 
@@ -128,7 +118,7 @@ found_split (q ∷ ps) page p e =
           (q ∷ r.0, r.1, ap (λ l. q ∷ l) r.2, r.3)
     ]
 
-module _ (nodes : Slab Node) (root : Option ℕ) (page : ℕ) (at : Option ℕ) (t : Shape) (w : IsWhole nodes root t) (q : Lies page page at t) where
+module _ (nodes : Slab Node) (root : Top) (page : ℕ) (at : Option ℕ) (t : Shape) (w : IsWhole nodes root t) (q : Lies page page at t) where
   pub found-none : at ≡ None → None ≡ piece_at (pieces_of nodes root) page
   found-none none =
       let z = none_empty q.there (sym q.root ∙ none) in

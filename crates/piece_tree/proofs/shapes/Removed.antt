@@ -2,6 +2,7 @@
 use Rattle.std.proofs.Common.{◌≡◌, ◌≢◌, ℕ, ◌+◌, ◌<◌, ◌≤◌, ◌∷◌, length, Option, Some, None, ap, sym, ◌∙◌, subst, arith, length-append}
 use Rattle.slab.specs.Slab.{Slab, Updates, get, slab_len}
 use Rattle.piece_tree.specs.declared.node.Node.{Node}
+use Rattle.piece_tree.specs.declared.node.Top.{Top}
 use Rattle.piece_tree.specs.Graft.{Removes}
 use Rattle.piece_tree.specs.Tree.{Shape, Fork, items, height_of, one, uses, at_root, Stands, IsBelow}
 use Rattle.piece_tree.proofs.shapes.Forks.{one-same, differs, same_stands}
@@ -34,21 +35,21 @@ module _ (old mid : Slab Node) (root : Option ℕ) (key : ℕ) (t : Shape) (b : 
   height-t : node_height (at_root (get old) root) ≡ height_of t
   height-t = ap (λ o. node_height (at_root (get old) o)) b.0 ∙ root_height (get old) t b.1
 
-  pub remove-left : IsBelow (get mid) node.left x.l
-  remove-left = (x.left, beside_key old mid key x.l u whole.3 (omega (arith, once key, uses-t key, one-same key)))
+  pub remove-left : IsBelow (get mid) node.left.root x.l
+  remove-left = (ap (λ (v : Top). v.root) x.left, beside_key old mid key x.l u whole.3 (omega (arith, once key, uses-t key, one-same key)))
 
   pub remove-left_once : (k : ℕ) → uses x.l k ≤ 1
   remove-left_once k = omega (arith, once k, uses-t k)
 
-  pub remove-left_falls : node_height (at_root (get mid) node.left) < node_height (at_root (get old) root)
+  pub remove-left_falls : node_height (at_root (get mid) node.left.root) < node_height (at_root (get old) root)
   remove-left_falls =
-      let l = ap (λ o. node_height (at_root (get mid) o)) x.left ∙ root_height (get mid) x.l remove-left.1 in
+      let l = ap (λ (v : Top). node_height (at_root (get mid) v.root)) x.left ∙ root_height (get mid) x.l remove-left.1 in
       omega (arith, height-t, ap height_of x.is)
 
   module _ (next : Slab Node) (r : Removes mid next x.l) where
-    pub remove-right : IsBelow (get next) node.right x.r
+    pub remove-right : IsBelow (get next) node.right.root x.r
     remove-right = (
-      x.right,
+      ap (λ (v : Top). v.root) x.right,
       beside_removed mid next x.l x.r r
           (beside_key old mid key x.r u whole.4 (omega (arith, once key, uses-t key, one-same key)))
           (λ k. omega (arith, once k, uses-t k)),
@@ -57,9 +58,9 @@ module _ (old mid : Slab Node) (root : Option ℕ) (key : ℕ) (t : Shape) (b : 
     pub remove-right_once : (k : ℕ) → uses x.r k ≤ 1
     remove-right_once k = omega (arith, once k, uses-t k)
 
-    pub remove-right_falls : node_height (at_root (get next) node.right) < node_height (at_root (get old) root)
+    pub remove-right_falls : node_height (at_root (get next) node.right.root) < node_height (at_root (get old) root)
     remove-right_falls =
-        let l = ap (λ o. node_height (at_root (get next) o)) x.right ∙ root_height (get next) x.r remove-right.1 in
+        let l = ap (λ (v : Top). node_height (at_root (get next) v.root)) x.right ∙ root_height (get next) x.r remove-right.1 in
         omega (arith, height-t, ap height_of x.is)
 
     pub remove-done : (new : Slab Node) → Removes next new x.r → slab_len mid + 1 ≡ slab_len old → mid.capacity ≡ old.capacity

@@ -1,14 +1,12 @@
 -- The last step of a way to a side, and the piece at its key.
-use Rattle.std.proofs.Common.{◌≡◌, ℕ, ◌-◌, ◌<◌, ◌≤◌, Bool, true, false, List, [], ◌∷◌, ◌++◌, Some, None, refl, ap, sym, ◌∙◌}
+use Rattle.std.proofs.Common.{◌≡◌, ℕ, ◌-◌, ◌<◌, ◌≤◌, Bool, true, false, List, [], ◌∷◌, ◌++◌, Some, refl, ap, sym, ◌∙◌}
 use Rattle.std.proofs.Common.{subst, arith, append_assoc, IsSome}
 use Rattle.std.proofs.lemmas.List.{append-nil}
 use Rattle.std.specs.Prelude.{not}
 use Rattle.piece_tree.specs.declared.node.Node.{Node}
 use Rattle.piece_tree.specs.declared.way.Step.{Step}
-use Rattle.piece_tree.specs.Search.{beside_of}
 use Rattle.piece_tree.specs.Tree.{Look, Shape, items, top_of, joint_at}
 use Rattle.piece_tree.specs.Way.{Above, Whole, Beside, plug, front, back, step_at, AreAbove, AreSteps, GoesOn, IsStepAbove, within}
-use Rattle.piece_tree.proofs.shapes.Beside.{last-append, last-skip}
 use Rattle.piece_tree.proofs.shapes.Forks.{is_there}
 use Rattle.piece_tree.proofs.shapes.Mended.{Last, last_step}
 
@@ -129,21 +127,3 @@ module _ (look : Look) (way : List Step) (depth : ℕ) (path : Above) (t : Shape
         shows : (x : Bool) → look s.key ≡ Some (joint_at x s.piece (top_of (plug s.inner t)) (top_of s.other)) → node.piece ≡ s.piece
         shows true h = cc
         shows false h = cc
-
--- it is the one beside the place
-pub above-beside : (way : List Step) (depth : ℕ) (path : Above) (b : Bool) (s : IsStepAbove way (not b) depth path)
-    → Some s.piece ≡ beside_of b (front path) (back path)
-above-beside way depth path true s = sym (ap (λ u. beside_of true (front u) []) s.is
-    ∙ ap (λ l. beside_of true l []) (within-front s.inner (Beside false s.key s.piece s.other s.up))
-    ∙ ap (λ l. beside_of true (front (Beside false s.key s.piece s.other s.up) ++ l) []) (on-front s.inner s.on)
-    ∙ ap (λ l. beside_of true l []) (append-nil (front s.up ++ (items s.other ++ s.piece ∷ [])))
-    ∙ last-append (front s.up) (items s.other ++ s.piece ∷ []) None
-    ∙ last-skip (items s.other) s.piece [] _)
-above-beside way depth path false s = sym (ap (λ u. beside_of false [] (back u)) s.is
-    ∙ ap (λ l. beside_of false [] l) (within-back s.inner (Beside true s.key s.piece s.other s.up))
-    ∙ ap (λ l. beside_of false [] (l ++ back (Beside true s.key s.piece s.other s.up))) (on-back s.inner s.on))
-
--- or none is
-pub none-beside : (path : Above) (b : Bool) → GoesOn (not (not b)) path → None ≡ beside_of b (front path) (back path)
-none-beside path true g = sym (ap (λ l. beside_of true l []) (on-front path g))
-none-beside path false g = sym (ap (λ l. beside_of false [] l) (on-back path g))

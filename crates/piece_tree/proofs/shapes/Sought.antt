@@ -5,12 +5,13 @@ use Rattle.std.proofs.lemmas.Bool.Decides.{nat_tests}
 use Rattle.std.proofs.lemmas.List.{append-nil}
 use Rattle.std.specs.List.{AllByRecursion}
 use Rattle.slab.specs.Slab.{Slab, get}
+use Rattle.piece_tree.specs.declared.node.Top.{Top}
 use Rattle.piece_tree.specs.declared.piece.Piece.{Piece}
 use Rattle.piece_tree.specs.declared.node.Node.{Node}
 use Rattle.piece_tree.specs.declared.way.Step.{Step}
 use Rattle.piece_tree.specs.Pieces.{AreSorted, IsPiece}
 use Rattle.piece_tree.specs.Search.{IsFirstLong, IsShort, first_of, pieces_from}
-use Rattle.piece_tree.specs.Tree.{Look, Shape, Empty, Fork, items, height_of, longest_of, free_pages, root_of, at_root, Stands, IsBelow}
+use Rattle.piece_tree.specs.Tree.{Shape, Empty, Fork, items, height_of, longest_of, free_pages, root_of, top_of, at_root, Stands}
 use Rattle.piece_tree.specs.Tree.{IsWhole}
 use Rattle.piece_tree.specs.Tree.{pieces_of}
 use Rattle.piece_tree.specs.Way.{Above, Whole, Beside, plug, front, back, AreSteps, IsHand}
@@ -42,13 +43,14 @@ pub record Narrows (page : ℕ) (at : Option ℕ) (found : Option Piece) (t : Sh
   pub behind : found ≡ first_of (back path)
   pub from : IfSome found (λ p. page ≤ p.first)
 
-abbrev pub IsNarrowing : Slab Node → Option ℕ → ℕ → Option ℕ → Option Piece → Type 0
+abbrev pub IsNarrowing : Slab Node → Top → ℕ → Option ℕ → Option Piece → Type 0
 IsNarrowing nodes root page at found = (t : Shape) → IsWhole nodes root t → Narrows page at found t
 
-pub narrow_start : (nodes : Slab Node) (root : Option ℕ) (page : ℕ) → IsNarrowing nodes root page root None
-narrow_start nodes root page t w = record { path = Whole; there = t; is = refl; root = w.here; before = tt; behind = refl; from = tt }
+pub narrow_start : (nodes : Slab Node) (root : Top) (page : ℕ) → IsNarrowing nodes root page root.root None
+narrow_start nodes root page t w =
+    record { path = Whole; there = t; is = refl; root = ap (λ (v : Top). v.root) w.here; before = tt; behind = refl; from = tt }
 
-module _ (nodes : Slab Node) (root : Option ℕ) (page : ℕ) (at : Option ℕ) (found : Option Piece) (key : ℕ) (t : Shape)
+module _ (nodes : Slab Node) (root : Top) (page : ℕ) (at : Option ℕ) (found : Option Piece) (key : ℕ) (t : Shape)
     (w : IsWhole nodes root t) (q : Narrows page at found t) (e : at ≡ Some key) where
   narrow-root : root_of q.there ≡ Some key
   narrow-root = sym q.root ∙ e
@@ -63,8 +65,8 @@ module _ (nodes : Slab Node) (root : Option ℕ) (page : ℕ) (at : Option ℕ) 
     abbrev x : Roots key node q.there
     x = roots (get nodes) key node q.there narrow-root narrow-stands f
 
-    pub narrow-falls : (node_height (at_root (get nodes) node.left) < node_height (at_root (get nodes) at))
-        × (node_height (at_root (get nodes) node.right) < node_height (at_root (get nodes) at))
+    pub narrow-falls : (node_height (at_root (get nodes) node.left.root) < node_height (at_root (get nodes) at))
+        × (node_height (at_root (get nodes) node.right.root) < node_height (at_root (get nodes) at))
     narrow-falls = root-falls (get nodes) at key node q.there e x narrow-stands f
 
     ordered : (low : ℕ) × AreSorted low (items x.l ++ node.piece ∷ items x.r)
@@ -72,12 +74,12 @@ module _ (nodes : Slab Node) (root : Option ℕ) (page : ℕ) (at : Option ℕ) 
         (subst (λ ps. AreSorted 0 ps) (ap items q.is ∙ ap (λ y. items (plug q.path y)) x.is
         ∙ plug-items q.path (Fork key node.piece x.l x.r)) w.sorted)
 
-    pub narrow-right : node.piece.first < page → Narrows page node.right found t
+    pub narrow-right : node.piece.first < page → Narrows page node.right.root found t
     narrow-right h = record {
       path = Beside false key node.piece x.l q.path;
       there = x.r;
       is = q.is ∙ ap (plug q.path) x.is;
-      root = x.right;
+      root = ap (λ (v : Top). v.root) x.right;
       before = all_append (λ y. y.first < page) (front q.path) (items x.l ++ node.piece ∷ []) q.before
           (all_append (λ y. y.first < page) (items x.l) (node.piece ∷ [])
           (begins_below ordered.0 page (items x.l) node.piece (items x.r) ordered.1 h) (h, tt));
@@ -91,18 +93,18 @@ module _ (nodes : Slab Node) (root : Option ℕ) (page : ℕ) (at : Option ℕ) 
         begins_below from page (x ∷ xs) p ys s h =
             (let a = sorted_at (x.last + 1) xs p ys s.2 in omega (arith, a.0, s.1), begins_below (x.last + 1) page xs p ys s.2 h)
 
-    pub narrow-left : page ≤ node.piece.first → Narrows page node.left (Some node.piece) t
+    pub narrow-left : page ≤ node.piece.first → Narrows page node.left.root (Some node.piece) t
     narrow-left h = record {
       path = Beside true key node.piece x.r q.path;
       there = x.l;
       is = q.is ∙ ap (plug q.path) x.is;
-      root = x.left;
+      root = ap (λ (v : Top). v.root) x.left;
       before = q.before;
       behind = refl;
       from = h;
     }
 
-pub narrow-end : (nodes : Slab Node) (root : Option ℕ) (page : ℕ) (at : Option ℕ) (found : Option Piece) (t : Shape)
+pub narrow-end : (nodes : Slab Node) (root : Top) (page : ℕ) (at : Option ℕ) (found : Option Piece) (t : Shape)
     → IsWhole nodes root t → Narrows page at found t → at ≡ None → found ≡ first_of (pieces_from page (pieces_of nodes root))
 narrow-end nodes root page at found t w q e =
     let z = none_empty q.there (sym q.root ∙ e) in
@@ -119,22 +121,9 @@ short-all pages Empty h = tt
 short-all pages (Fork key p l r) h =
     all_append (IsShort pages) (items l) (p ∷ items r) (short-all pages l (omega arith)) (omega arith, short-all pages r (omega arith))
 
--- what is longest is shown
-pub shows_longest : (look : Look) (key : ℕ) (node : Node) (t : Shape) → root_of t ≡ Some key → Stands look t → look key ≡ Some node
-    → node.longest ≡ longest_of t
-shows_longest look key node Empty e s f = absurd (cc)
-shows_longest look key node (Fork k p l r) e s f =
-    let same : k ≡ key = cc in
-    let at : look k ≡ Some node = ap look same ∙ f in
-    let here = s.0 in
-    let is : node ≡ record {
-      piece = p;
-      left = root_of l;
-      right = root_of r;
-      height = 1 + max (height_of l) (height_of r);
-      longest = max (free_pages p) (max (longest_of l) (longest_of r));
-    } = cc in
-    ap (λ (n : Node). n.longest) is
+-- the root that is shown
+pub top_root : {top : Top} (t : Shape) → top ≡ top_of t → root_of t ≡ top.root
+top_root t e = sym (ap (λ (v : Top). v.root) e)
 
 -- so far: what comes before a place is short, and the tree there isn't
 pub record GoesLong (way : List Step) (pages : ℕ) (at : Option ℕ) (depth : ℕ) (t : Shape) : Type 0 where
@@ -146,26 +135,26 @@ pub record GoesLong (way : List Step) (pages : ℕ) (at : Option ℕ) (depth : �
   pub short : AllByRecursion (IsShort pages) (front path)
   pub long : pages ≤ longest_of there
 
-abbrev pub IsGoingLong : Slab Node → Option ℕ → ℕ → List Step → Option ℕ → ℕ → Type 0
+abbrev pub IsGoingLong : Slab Node → Top → ℕ → List Step → Option ℕ → ℕ → Type 0
 IsGoingLong nodes root pages way at depth =
     ((t : Shape) → IsWhole nodes root t → GoesLong way pages at depth t) × (length way ≡ 14)
 
-pub long_start : (nodes : Slab Node) (root : Option ℕ) (pages : ℕ) (way : List Step) → length way ≡ 14 → (n : ℕ)
-    → ((t : Shape) → IsBelow (get nodes) root t → n ≡ longest_of t) → pages ≤ n → IsGoingLong nodes root pages way root 0
-long_start nodes root pages way e n is h = (
+pub long_start : (nodes : Slab Node) (root : Top) (pages : ℕ) (way : List Step) → length way ≡ 14 → pages ≤ root.longest
+    → IsGoingLong nodes root pages way root.root 0
+long_start nodes root pages way e h = (
   (λ t w. record {
     path = Whole;
     there = t;
     is = refl;
-    root = w.here;
+    root = ap (λ (v : Top). v.root) w.here;
     steps = refl;
     short = tt;
-    long = omega (arith, is t (w.here, w.stands));
+    long = omega (arith, h, ap (λ (v : Top). v.longest) w.here);
   }),
   e,
 )
 
-module _ (nodes : Slab Node) (root : Option ℕ) (pages : ℕ) (way : List Step) (at : Option ℕ) (depth key : ℕ)
+module _ (nodes : Slab Node) (root : Top) (pages : ℕ) (way : List Step) (at : Option ℕ) (depth key : ℕ)
     (i : IsGoingLong nodes root pages way at depth) (e : at ≡ Some key) (t : Shape) (w : IsWhole nodes root t) where
   abbrev g : GoesLong way pages at depth t
   g = i.0 t w
@@ -189,8 +178,8 @@ module _ (nodes : Slab Node) (root : Option ℕ) (pages : ℕ) (way : List Step)
     stands-at : Stands (get nodes) (Fork key node.piece y.l y.r)
     stands-at = subst (λ x. Stands (get nodes) x) y.is long-stands
 
-    pub long-left : IsBelow (get nodes) node.left y.l
-    long-left = (y.left, stands-at.3)
+    pub long-left : node.left.longest ≡ longest_of y.l
+    long-left = ap (λ (v : Top). v.longest) y.left
 
     pub long-piece : IsPiece node.piece
     long-piece = stands-at.1
@@ -198,18 +187,18 @@ module _ (nodes : Slab Node) (root : Option ℕ) (pages : ℕ) (way : List Step)
     long-is : pages ≤ max (free_pages node.piece) (max (longest_of y.l) (longest_of y.r))
     long-is = subst (λ x. pages ≤ longest_of x) y.is g.long
 
-    pub long-smaller : (b : Bool) (child : Option ℕ) → (b ≡ true → child ≡ node.left) → (b ≡ false → child ≡ node.right)
-        → node_height (at_root (get nodes) child) < node_height (at_root (get nodes) at)
+    pub long-smaller : (b : Bool) (child : Top) → (b ≡ true → child ≡ node.left) → (b ≡ false → child ≡ node.right)
+        → node_height (at_root (get nodes) child.root) < node_height (at_root (get nodes) at)
     long-smaller = child-falls (get nodes) at key node g.there e y long-stands f
 
-    pub long-on : (b : Bool) (child : Option ℕ) → (b ≡ true → child ≡ node.left) → (b ≡ false → child ≡ node.right)
+    pub long-on : (b : Bool) (child : Top) → (b ≡ true → child ≡ node.left) → (b ≡ false → child ≡ node.right)
         → (b ≡ true → pages ≤ longest_of y.l) → (b ≡ false → (longest_of y.l < pages) × (free_pages node.piece < pages))
-        → GoesLong (slice_set way depth (record { key = key; before = b })) pages child (depth + 1) t
+        → GoesLong (slice_set way depth (record { key = key; before = b })) pages child.root (depth + 1) t
     long-on true child left right on off = record {
       path = Beside true key node.piece y.r g.path;
       there = y.l;
       is = g.is ∙ ap (plug g.path) y.is;
-      root = left refl ∙ y.left;
+      root = ap (λ (v : Top). v.root) (left refl ∙ y.left);
       steps = steps_more way depth key true node.piece y.r g.path g.steps (omega (arith, i.1, long-few));
       short = g.short;
       long = on refl;
@@ -220,7 +209,7 @@ module _ (nodes : Slab Node) (root : Option ℕ) (pages : ℕ) (way : List Step)
           path = Beside false key node.piece y.l g.path;
           there = y.r;
           is = g.is ∙ ap (plug g.path) y.is;
-          root = right refl ∙ y.right;
+          root = ap (λ (v : Top). v.root) (right refl ∙ y.right);
           steps = steps_more way depth key false node.piece y.l g.path g.steps (omega (arith, i.1, long-few));
           short = all_append (IsShort pages) (front g.path) (items y.l ++ node.piece ∷ []) g.short
               (all_append (IsShort pages) (items y.l) (node.piece ∷ []) (short-all pages y.l h.0) (h.1, tt));

@@ -1,10 +1,11 @@
 -- A tree is low, and has the pieces that its look-ups give.
-use Rattle.std.proofs.Common.{◌≡◌, ℕ, zero, suc, ◌+◌, ◌<◌, ◌≤◌, ◌∷◌, ◌++◌, length, [], Option, None, refl, ap, ◌∙◌, inl, inr, ◌⊎◌}
+use Rattle.std.proofs.Common.{◌≡◌, ℕ, zero, suc, ◌+◌, ◌<◌, ◌≤◌, ◌∷◌, ◌++◌, length, [], Option, refl, ap, ◌∙◌, inl, inr, ◌⊎◌}
 use Rattle.std.proofs.Common.{arith, length-append}
 use Rattle.std.proofs.lemmas.Bool.Decides.{leb_tells}
 use Rattle.slab.specs.Slab.{Slab, get}
 use Rattle.piece_tree.specs.declared.node.Node.{Node}
-use Rattle.piece_tree.specs.Tree.{Look, Shape, Empty, Fork, items, height_of, root_of, Stands, at_root, around, contents, pieces_of}
+use Rattle.piece_tree.specs.declared.node.Top.{Top}
+use Rattle.piece_tree.specs.Tree.{Look, Shape, Empty, Fork, items, height_of, root_of, top_of, Stands, at_root, around, contents, pieces_of}
 use Rattle.piece_tree.specs.Tree.{IsWhole}
 
 pub order : (a b : ℕ) → (a ≤ b) ⊎ (b < a)
@@ -40,7 +41,7 @@ low_tree look t s h =
       | inr x ↦ let e : 1596 ≤ length (items t) = tall_least look 15 t s x in absurd (omega arith)
     ]
 
-pub whole-low : (nodes : Slab Node) (root : Option ℕ) (t : Shape) → IsWhole nodes root t → height_of t ≤ 14
+pub whole-low : (nodes : Slab Node) (root : Top) (t : Shape) → IsWhole nodes root t → height_of t ≤ 14
 whole-low nodes root t w = w.low
 
 pub contents_is : (look : Look) (depth : ℕ) (root : Option ℕ) (t : Shape) → root ≡ root_of t → Stands look t → height_of t ≤ depth
@@ -56,9 +57,10 @@ contents_is look (suc depth) root (Fork k p l r) e s h =
     ∙ ap (λ ys. items l ++ p ∷ ys) (contents_is look depth (root_of r) r refl s.4 (omega arith))
 
 -- what is kept is what is seen
-pub whole_view : (nodes : Slab Node) (root : Option ℕ) (t : Shape) → IsWhole nodes root t → pieces_of nodes root ≡ items t
-whole_view nodes root t w = contents_is (get nodes) 14 root t w.here w.stands (whole-low nodes root t w)
+pub whole_view : (nodes : Slab Node) (root : Top) (t : Shape) → IsWhole nodes root t → pieces_of nodes root ≡ items t
+whole_view nodes root t w =
+    contents_is (get nodes) 14 root.root t (ap (λ (v : Top). v.root) w.here) w.stands (whole-low nodes root t w)
 
-pub none_view : (nodes : Slab Node) → pieces_of nodes None ≡ []
+pub none_view : (nodes : Slab Node) → pieces_of nodes (top_of Empty) ≡ []
 unfolding contents
 none_view nodes = refl

@@ -5,7 +5,8 @@ use Rattle.piece_tree.specs.declared.piece.PageState.TheVariants.{Free, Live}
 use Rattle.piece_tree.specs.declared.piece.Piece.{Piece}
 use Rattle.piece_tree.specs.declared.piece.TheConstants.{NUMBERS_END}
 use Rattle.iova.specs.declared.ends.Ends.{Ends}
-use Rattle.iova.specs.Pieces.{free_start, pages_as}
+use Rattle.piece_tree.specs.Freed.{free_start}
+use Rattle.iova.specs.Pieces.{pages_as}
 use Rattle.iova.specs.Space.{Space, IsLowestFit, IsSpace}
 use Rattle.iova.specs.Stored.{AreLive, shown, stored}
 use Rattle.iova.proofs.Among.{in_le}
@@ -66,12 +67,6 @@ returns-then-ends-low-clause-lowest c =
     c.requires.unit c.requires.some_pages c.if-ends-unit-ne0.false
     (alone_lowest a ends s.1 i c.args.low c.requires.low c.if-ends-low.true)
     (λ p m free less. absurd (omega (arith, c.requires.low p m free, less, c.if-ends-low.true)))
-
-pub low_of_first-requires-clause-few : goal.low_of_first-requires-clause-few
-low_of_first-requires-clause-few c =
-    let s = c.requires.space in
-    let n = numbers (stored s.0 c.args.tree.now) c.in_ok-ends.ends c.args.freed c.in_ok-ends.was s.1 c.requires.freed in
-    omega (arith, n, c.if-pages-ends.false)
 
 pub returns-clause-pages : goal.returns-clause-pages
 returns-clause-pages c =

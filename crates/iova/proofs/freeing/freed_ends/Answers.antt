@@ -1,7 +1,8 @@
 use Rattle.std.proofs.Common.{◌≡◌, ◌∙◌, ℕ, ap, arith, subst, sym}
 use Rattle.piece_tree.specs.declared.piece.PageState.TheVariants.{Live}
 use Rattle.iova.specs.declared.ends.Ends.{Ends}
-use Rattle.iova.specs.Pieces.{free_end, free_start, pages_as}
+use Rattle.piece_tree.specs.Freed.{free_end, free_start}
+use Rattle.iova.specs.Pieces.{pages_as}
 use Rattle.iova.specs.Space.{Space}
 use Rattle.iova.specs.Stored.{AreLive, TakesPlace, stored}
 use Rattle.iova.proofs.Among.{in_le}

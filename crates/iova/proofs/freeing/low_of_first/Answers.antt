@@ -1,40 +1,57 @@
-use Rattle.std.proofs.Common.{arith, inl, inr, subst, sym}
+use Rattle.std.proofs.Common.{◌≡◌, ℕ, ◌+◌, ◌<◌, List, arith, inl, inr, subst}
+use Rattle.std.specs.List.{AllByRecursion}
 use Rattle.dmatypes.specs.World.{IsIn}
-use Rattle.piece_tree.specs.declared.piece.PageState.TheVariants.{Live}
-use Rattle.iova.specs.Pieces.{pages_as}
+use Rattle.piece_tree.specs.declared.piece.PageState.TheVariants.{Free, Live}
+use Rattle.piece_tree.specs.declared.piece.Piece.{Piece}
+use Rattle.piece_tree.specs.Search.{IsShortBefore}
+use Rattle.iova.specs.Pieces.{IsOrdered, NoneFreeBelow, pages_as}
 use Rattle.iova.specs.Stored.{stored}
-use Rattle.iova.proofs.Among.{in_le}
-use Rattle.iova.proofs.FreedPages.{piece_there}
+use Rattle.iova.proofs.Among.{in_all, in_le}
+use Rattle.iova.proofs.FirstFreed.{alone_lowest}
 use Rattle.iova.proofs.Pieces.{order}
-use Rattle.iova.proofs.Shown.{in_narrow, wide}
+use Rattle.iova.proofs.searches.FirstLong.{short_ends}
 use Rattle.iova.proofs.freeing.low_of_first.Goals as goal
+use Rattle.iova.proofs.freeing.low_of_first.Goals.{then-pages-eq1-via-then-pages-eq1}
+use Rattle.iova.proofs.freeing.low_of_first.Goals.{then-pages-eq1-via-else-pages-eq1+then-are_short_before}
 
-pub with_free_ends-whole-requires-clause-first : goal.with_free_ends-whole-requires-clause-first
-with_free_ends-whole-requires-clause-first c =
+ends_before : (page pages : ℕ) (ps : List Piece) → AllByRecursion (IsShortBefore page pages) ps → (p : Piece) → IsIn p ps → p.state ≡ Free
+    → p.first < page → p.last + 1 < p.first + pages
+ends_before page pages ps short p m free before = short_ends pages p (in_all (IsShortBefore page pages) p ps short m before) free
+
+-- where no free piece before the page has a page, none begins before it
+none_before : (page : ℕ) (ps : List Piece) → IsOrdered 1 ps → AllByRecursion (IsShortBefore page 1) ps → NoneFreeBelow page ps
+none_before page ps o short p m free = elim (order page p.first) [
+  | inl h ↦ h
+  | inr h ↦ absurd (omega (arith, ends_before page 1 ps short p m free h, in_le 1 p ps o m))
+]
+
+-- all that a space has lies behind page 0
+pub free_start_at-requires-clause-some : goal.free_start_at-requires-clause-some
+free_start_at-requires-clause-some c =
     let s = c.requires.space in
-    let pages = c.args.freed in
-    piece_there (pages_as pages Live) c.args.tree.now pages.first s.1.ordered c.requires.freed (omega arith)
-    (wide (stored s.0 c.args.tree.now) pages s.1 c.requires.freed)
+    (in_le 1 (pages_as c.args.freed Live) c.args.tree.now s.1.ordered c.requires.freed).0
 
-pub with_free_ends-whole-requires-clause-last : goal.with_free_ends-whole-requires-clause-last
-with_free_ends-whole-requires-clause-last c =
+pub returns-then-pages-eq1-clause-low : goal.returns-then-pages-eq1-clause-low
+returns-then-pages-eq1-clause-low c =
+    let ps = c.args.tree.now in
+    none_before c.args.freed.first ps c.requires.space.1.ordered (elim c.then-pages-eq1.branch [
+      | then-pages-eq1-via-then-pages-eq1 v ↦
+          subst (λ n. AllByRecursion (IsShortBefore c.args.freed.first n) ps) v.if-pages-eq1.true
+          (c.are_short_before.ensures.0 c.if-not-are_short_before.false)
+      | then-pages-eq1-via-else-pages-eq1+then-are_short_before v ↦
+          v.are_short_before-else-pages-eq1.ensures.0 v.if-are_short_before.true
+    ])
+
+pub returns-then-pages-eq1-clause-alone : goal.returns-then-pages-eq1-clause-alone
+returns-then-pages-eq1-clause-alone c =
     let s = c.requires.space in
-    let pages = c.args.freed in
-    piece_there (pages_as pages Live) c.args.tree.now pages.last s.1.ordered c.requires.freed
-    (wide (stored s.0 c.args.tree.now) pages s.1 c.requires.freed) (omega arith)
+    alone_lowest (stored s.0 c.args.tree.now) c.args.freed s.1 c.requires.freed c.args.freed.first
+    (returns-then-pages-eq1-clause-low c) (omega arith)
 
-pub with_free_ends-whole-requires-clause-narrow : goal.with_free_ends-whole-requires-clause-narrow
-with_free_ends-whole-requires-clause-narrow c =
-    let s = c.requires.space in
-    in_narrow (stored s.0 c.args.tree.now) (pages_as c.args.freed Live) s.1 c.requires.freed
+pub returns-then-pages-eq1-clause-first : goal.returns-then-pages-eq1-clause-first
+returns-then-pages-eq1-clause-first c =
+    ends_before c.args.freed.first c.args.pages c.args.tree.now (c.are_short_before.ensures.0 c.if-not-are_short_before.false)
 
-pub returns-then-is_none_before-clause-low : goal.returns-then-is_none_before-clause-low
-returns-then-is_none_before-clause-low c p m f =
-    elim (order c.args.freed.first p.first) [
-      | inl h ↦ h
-      | inr h ↦
-          let n = c.is_none_before-2.ensures c.if-is_none_before.true p
-          (subst (λ l. IsIn p l) (sym c.with_free_ends-whole.ensures.unchanged) m)
-          f h in
-          absurd (omega (arith, n, in_le 1 p c.args.tree.now c.requires.space.1.ordered m))
-    ]
+pub returns-clause-first : goal.returns-clause-first
+returns-clause-first c =
+    ends_before c.args.freed.first c.args.pages c.args.tree.now (c.are_short_before.ensures.0 c.if-not-are_short_before.false)

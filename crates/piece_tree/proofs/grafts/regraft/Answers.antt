@@ -1,11 +1,26 @@
-use Rattle.std.proofs.Common.{arith}
-use Rattle.std.proofs.lemmas.Bool.{eqb-true}
-use Rattle.piece_tree.proofs.shapes.Forks.{root-same}
-use Rattle.piece_tree.proofs.shapes.Grafted.{regraft-stays}
+use Rattle.std.proofs.Common.{ap, arith}
+use Rattle.slab.specs.Slab.{get}
+use Rattle.piece_tree.specs.declared.node.Top.{Top}
+use Rattle.piece_tree.proofs.shapes.Hung.{hung-joins, hung-other, hung-parts, link_joins}
 use Rattle.piece_tree.proofs.grafts.regraft.Goals as goal
 
-pub returns-then-far-opened-clause-joins : goal.returns-then-far-opened-clause-joins
-returns-then-far-opened-clause-joins c n f g can =
-    regraft-stays can (root-same _ eqb-true _ _ c.if-eq.ensures) c.if-far-opened.true c.max-longest.result
-    (omega (arith, c.free_length.ensures, c.max.ensures, c.max-longest.ensures))
-    (λ node e. let u = c.set_longest.ensures.updates node e in (u.changed, u.others))
+pub returns-then-tree-other-clause-joins : goal.returns-then-tree-other-clause-joins
+returns-then-tree-other-clause-joins c piece was n f h =
+    let look = get c.args.nodes.now in
+    let node = c.index-node.result.now in
+    let there = c.index-node.ensures in
+    let other = hung-other look c.args.before c.args.key c.args.tree piece was n f h node there c.child-other.result
+    c.child-other.ensures.before c.child-other.ensures.behind in
+    hung-joins look c.args.before c.args.key c.args.tree piece was n f h node there (get c.graft.new.nodes) c.graft.result
+    (c.graft.ensures.joins n f (hung-parts look c.args.before c.args.key c.args.tree piece was n f h node there c.child-other.result other))
+
+pub returns-clause-joins : goal.returns-clause-joins
+returns-clause-joins c piece was n f h =
+    let look = get c.args.nodes.now in
+    let other = hung-other look c.args.before c.args.key c.args.tree piece was n f h c.index-node.result.now c.index-node.ensures
+    c.child-other.result c.child-other.ensures.before c.child-other.ensures.behind in
+    let a = ap (λ (v : Top). v.height) other in
+    let b = ap (λ (v : Top). v.height) h.tree_is in
+    link_joins look (get c.set_child.new.nodes) c.args.before c.set_child.result c.args.key piece n f
+    (c.set_child.ensures.links piece was n f h
+    (omega (arith, a, b, c.if-tree-other.false), omega (arith, a, b, c.if-other-tree.false)))

@@ -5,6 +5,7 @@ use Rattle.piece_tree.proofs.shapes.Forks.{opened-height}
 use Rattle.piece_tree.proofs.shapes.Halved.{regraft-can}
 use Rattle.piece_tree.proofs.shapes.Trimmed.{off-holds, trim-below, trim-empty, trim-far, trim-joined, trim-near, trim-nearer}
 use Rattle.piece_tree.proofs.shapes.Trimmed.{trim-none, trim-once, trim-piece, trim-rest, trim-rest_parts, trim-there}
+use Rattle.piece_tree.proofs.shapes.Hung.{joins-flip}
 use Rattle.piece_tree.proofs.shapes.Turned.{below_top, shows_height}
 use Rattle.piece_tree.proofs.laying.+trim.Goals as goal
 
@@ -27,7 +28,7 @@ regraft-requires t c =
     let q = c.requires in
     let o = c.open-opened.ensures q.0 (below_top (get c.args.nodes.now) c.args.tree c.in-Some.key q.0 q.1.is c.in-Some.is q.1.stands) in
     let g = trim-far c.args.nodes.now c.args.page q.2 q.1 q.3 o in
-    (_, _, _, regraft-can c.args.nodes.now q.1 o (c.trim-far.ensures o.far g.1 g.0 g.2))
+    (_, _, _, _, regraft-can c.args.nodes.now q.1 o (c.trim-far.ensures o.far g.1 g.0 g.2))
 
 pub returns-then-lies_beside : goal.returns-then-lies_beside
 returns-then-lies_beside t c x from i s =
@@ -35,7 +36,7 @@ returns-then-lies_beside t c x from i s =
     let g = trim-far c.args.nodes.now c.args.page from i s o in
     let m = c.trim-far.ensures o.far g.1 g.0 g.2 in
     trim-joined c.args.nodes.now c.args.page from i s o m (c.lies_beside.ensures.on c.if-lies_beside.true)
-    (c.regraft.ensures.joins _ _ _ (regraft-can c.args.nodes.now i o m)) c.regraft.ensures.count
+    (joins-flip _ _ c.args.before _ _ _ _ _ (c.regraft.ensures.joins _ _ _ _ (regraft-can c.args.nodes.now i o m))) c.regraft.ensures.count
 
 pub remove_below-requires : goal.remove_below-requires
 remove_below-requires t c =

@@ -2,12 +2,12 @@ use Rattle.std.proofs.Common.{◌≡◌, Option, IfSome, IfNone, None, Some, ari
 use Rattle.piece_tree.specs.Search.{IsRoundUp}
 use Rattle.piece_tree.specs.Tree.{items}
 use Rattle.piece_tree.proofs.shapes.Fitting.{Fits, fitting_start, fitting_end}
-use Rattle.piece_tree.proofs.shapes.Fitting.{fit-there, fit-left, fit-left_sorted, fit-piece, fit-falls, fit-short}
+use Rattle.piece_tree.proofs.shapes.Fitting.{fit-there, fit-left, fit-left_sorted, fit-piece, fit-falls, fit_short}
 use Rattle.piece_tree.proofs.shapes.Fitting.{left_ends, found-left, none-left_short, none-left_under, found-here, fit-right}
 use Rattle.piece_tree.proofs.shapes.Room.{no_room, no_room-unless_free, none_between}
 use Rattle.piece_tree.proofs.search.+fit_between.Goals as goal
-use Rattle.piece_tree.proofs.search.+fit_between.Goals.{then-least-pages+then-longest-pages+in_default-fit_between, else-least-pages}
-use Rattle.piece_tree.proofs.search.+fit_between.Goals.{else-least-pages-via-then-least-pages+else-longest-pages}
+use Rattle.piece_tree.proofs.search.+fit_between.Goals.{then-least-pages+then-node-pages+in_default-fit_between, else-least-pages}
+use Rattle.piece_tree.proofs.search.+fit_between.Goals.{else-least-pages-via-then-least-pages+else-node-pages}
 use Rattle.piece_tree.proofs.search.+fit_between.Goals.{else-least-pages-via-else-least-pages}
 use Rattle.piece_tree.proofs.search.+fit_between.Goals.{then-is_free+else-start-pages, else-is_free}
 
@@ -27,20 +27,11 @@ index-node-requires t c =
     fit-there c.args.nodes.now c.args.root c.loop-at.at c.args.floor c.loop-at.low c.args.end c.args.pages c.args.unit c.in-Some.key q.0 i
     c.in-Some.is
 
-pub longest-requires : goal.longest-requires
-longest-requires t c =
-    let q = c.requires.tree in
-    let i = c.loop-at.invariant.0 q.0 q.1 q.2 q.3 in (
-      _,
-      fit-left c.args.nodes.now c.args.root c.loop-at.at c.args.floor c.loop-at.low c.args.end c.args.pages c.args.unit c.in-Some.key q.0 i
-          c.in-Some.is c.index-node.result.now c.index-node.ensures,
-    )
-
-pub returns-then-node-pages-clause-none : goal.returns-then-node-pages-clause-none
-returns-then-node-pages-clause-none t c x from b s ends =
+pub returns-then-at-pages-clause-none : goal.returns-then-at-pages-clause-none
+returns-then-at-pages-clause-none t c x from b s ends =
     let i = c.loop-at.invariant.0 x from b s in
-    i.none ends (fit-short c.args.nodes.now c.args.root c.loop-at.at c.args.floor c.loop-at.low c.args.end c.args.pages c.args.unit
-    c.in-Some.key x i c.in-Some.is c.index-node.result.now c.index-node.ensures c.if-node-pages.true)
+    i.none ends (fit_short c.args.nodes.now c.args.root c.loop-at.at c.args.floor c.loop-at.low c.args.end c.args.pages c.args.unit x i
+    c.if-at-pages.true)
 
 pub returns-then-end-least-clause-none : goal.returns-then-end-least-clause-none
 returns-then-end-least-clause-none t c x from b s ends =
@@ -85,7 +76,7 @@ returns-then-start-pages-clause-found t c x from b s =
     found-here c.args.nodes.now c.args.root c.loop-at.at c.args.floor c.loop-at.low c.args.end c.args.pages c.args.unit c.in-Some.key x i
     c.in-Some.is c.index-node.result.now c.index-node.ensures c.round_up-start.result
     (elim c.if-least-pages.branch [
-      | then-least-pages+then-longest-pages+in_default-fit_between v ↦
+      | then-least-pages+then-node-pages+in_default-fit_between v ↦
           none_of v.fit_between.result _ v.in_default-fit_between.is (v.fit_between.ensures.none _ i.from
           (fit-left c.args.nodes.now c.args.root c.loop-at.at c.args.floor c.loop-at.low c.args.end c.args.pages c.args.unit
           c.in-Some.key x i c.in-Some.is c.index-node.result.now c.index-node.ensures)
@@ -94,12 +85,10 @@ returns-then-start-pages-clause-found t c x from b s =
           (left_ends c.args.nodes.now c.args.root c.loop-at.at c.args.floor c.loop-at.low c.args.end c.args.pages c.args.unit
           c.in-Some.key x i c.in-Some.is c.index-node.result.now c.index-node.ensures))
       | else-least-pages v ↦ elim v.else-least-pages.branch [
-        | else-least-pages-via-then-least-pages+else-longest-pages u ↦
+        | else-least-pages-via-then-least-pages+else-node-pages u ↦
             none-left_short c.args.nodes.now c.args.root c.loop-at.at c.args.floor c.loop-at.low c.args.end c.args.pages c.args.unit
             c.in-Some.key x i c.in-Some.is c.index-node.result.now c.index-node.ensures
-            (let n = u.longest.ensures _ (fit-left c.args.nodes.now c.args.root c.loop-at.at c.args.floor c.loop-at.low c.args.end
-            c.args.pages c.args.unit c.in-Some.key x i c.in-Some.is c.index-node.result.now c.index-node.ensures) in
-            omega (arith, n, u.if-longest-pages.false))
+            (omega (arith, u.if-node-pages.false))
         | else-least-pages-via-else-least-pages u ↦
             none-left_under c.args.nodes.now c.args.root c.loop-at.at c.args.floor c.loop-at.low c.args.end c.args.pages c.args.unit
             c.in-Some.key x i c.in-Some.is c.index-node.result.now c.index-node.ensures c.round_up-least.result
@@ -122,7 +111,7 @@ loop-at-preserved t c =
           (fit-right c.args.nodes.now c.args.root c.loop-at.at c.args.floor c.loop-at.low c.args.end c.args.pages c.args.unit
           c.in-Some.key x i c.in-Some.is c.index-node.result.now c.index-node.ensures
           (elim c.if-least-pages.branch [
-            | then-least-pages+then-longest-pages+in_default-fit_between v ↦
+            | then-least-pages+then-node-pages+in_default-fit_between v ↦
                 none_of v.fit_between.result _ v.in_default-fit_between.is (v.fit_between.ensures.none _ i.from
                 (fit-left c.args.nodes.now c.args.root c.loop-at.at c.args.floor c.loop-at.low c.args.end c.args.pages c.args.unit
                 c.in-Some.key x i c.in-Some.is c.index-node.result.now c.index-node.ensures)
@@ -131,13 +120,11 @@ loop-at-preserved t c =
                 (left_ends c.args.nodes.now c.args.root c.loop-at.at c.args.floor c.loop-at.low c.args.end c.args.pages c.args.unit
                 c.in-Some.key x i c.in-Some.is c.index-node.result.now c.index-node.ensures))
             | else-least-pages v ↦ elim v.else-least-pages.branch [
-              | else-least-pages-via-then-least-pages+else-longest-pages u ↦
+              | else-least-pages-via-then-least-pages+else-node-pages u ↦
                   none-left_short c.args.nodes.now c.args.root c.loop-at.at c.args.floor c.loop-at.low c.args.end c.args.pages
                   c.args.unit
                   c.in-Some.key x i c.in-Some.is c.index-node.result.now c.index-node.ensures
-                  (let n = u.longest.ensures _ (fit-left c.args.nodes.now c.args.root c.loop-at.at c.args.floor c.loop-at.low c.args.end
-                  c.args.pages c.args.unit c.in-Some.key x i c.in-Some.is c.index-node.result.now c.index-node.ensures) in
-                  omega (arith, n, u.if-longest-pages.false))
+                  (omega (arith, u.if-node-pages.false))
               | else-least-pages-via-else-least-pages u ↦
                   none-left_under c.args.nodes.now c.args.root c.loop-at.at c.args.floor c.loop-at.low c.args.end c.args.pages
                   c.args.unit

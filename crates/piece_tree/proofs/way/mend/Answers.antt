@@ -1,6 +1,9 @@
 use Rattle.std.proofs.Common.{arith}
-use Rattle.piece_tree.proofs.shapes.Mended.{counts_twice, la, mending_start, mending_end, mending-few, mending-can, mending-next}
-use Rattle.piece_tree.proofs.shapes.Mended.{back, mending-lifts}
+use Rattle.slab.specs.Slab.{get}
+use Rattle.piece_tree.proofs.shapes.Forks.{is_there}
+use Rattle.piece_tree.proofs.shapes.Hung.{hung-on}
+use Rattle.piece_tree.proofs.shapes.Mended.{counts_twice, mending_start, mending_end, mending-few, mending-can, mending-next}
+use Rattle.piece_tree.proofs.shapes.Mended.{mending-lifts}
 use Rattle.piece_tree.proofs.way.mend.Goals as goal
 
 pub loop-depth-init : goal.loop-depth-init
@@ -20,67 +23,65 @@ bounds-way-depth c =
     (c.loop-depth.invariant q.0 q.1 q.2 q.3) c.loop-depth-test.true in
     omega arith
 
-pub hang-hung-requires : goal.hang-hung-requires
-hang-hung-requires c =
+pub index-requires : goal.index-requires
+index-requires c =
     let q = c.requires in
     let m = c.loop-depth.invariant q.0 q.1 q.2 q.3 in
-    let l = la c.args.nodes.now c.loop-depth.nodes c.args.way.now c.loop-depth.depth c.args.root c.loop-depth.top q.0 q.1 q.2 m
-    c.loop-depth-test.true in (
-      l.piece,
-      m.there,
-      m.here,
-      l.other,
-      mending-can c.args.nodes.now c.loop-depth.nodes c.args.way.now c.loop-depth.depth c.args.root c.loop-depth.top q.0 q.1 q.2 m
-          c.loop-depth-test.true,
-    )
+    is_there _ _ (mending-can c.args.nodes.now c.loop-depth.nodes c.args.way.now c.loop-depth.depth c.args.root c.loop-depth.top q.0 q.1
+    q.2 m c.loop-depth-test.true).here
 
 pub lift-requires : goal.lift-requires
 lift-requires c =
     let q = c.requires in
     let m = c.loop-depth.invariant q.0 q.1 q.2 q.3 in
-    let l = la c.args.nodes.now c.loop-depth.nodes c.args.way.now c.loop-depth.depth c.args.root c.loop-depth.top q.0 q.1 q.2 m
-    c.loop-depth-test.true in (
-      c.args.root,
-      l.more,
-      _,
-      _,
+    let h = mending-can c.args.nodes.now c.loop-depth.nodes c.args.way.now c.loop-depth.depth c.args.root c.loop-depth.top q.0 q.1 q.2 m
+    c.loop-depth-test.true in
+    let on = hung-on (get c.loop-depth.nodes) _ _ c.loop-depth.top _ _ _ _ h c.index.result.now c.index.ensures c.child.result
+    c.child.ensures.before c.child.ensures.behind in
+    let same = c.stands_as.ensures.0 c.if-stands_as.true in (
+      m.up,
+      m.there,
+      m.here,
       mending-lifts c.args.nodes.now c.loop-depth.nodes c.args.way.now c.loop-depth.depth c.args.root c.loop-depth.top q.0 q.1 q.2 m
-          c.loop-depth-test.true c.hang-hung.new.nodes c.hang-hung.result
-          (c.hang-hung.ensures.hung l.piece m.there m.here l.other
-          (mending-can c.args.nodes.now c.loop-depth.nodes c.args.way.now c.loop-depth.depth c.args.root c.loop-depth.top q.0 q.1 q.2 m
-          c.loop-depth-test.true)) c.hang-hung.ensures.count c.in-Some.was c.in-Some.is,
+          c.loop-depth-test.true c.child.result on same.0 same.1,
     )
 
-pub returns-in-Some-clause-mended : goal.returns-in-Some-clause-mended
-returns-in-Some-clause-mended c path t new can =
+pub returns-then-stands_as-clause-mended : goal.returns-then-stands_as-clause-mended
+returns-then-stands_as-clause-mended c path t new can =
     let m = c.loop-depth.invariant path t new can in
-    let l = la c.args.nodes.now c.loop-depth.nodes c.args.way.now c.loop-depth.depth c.args.root c.loop-depth.top path t new m
+    let h = mending-can c.args.nodes.now c.loop-depth.nodes c.args.way.now c.loop-depth.depth c.args.root c.loop-depth.top path t new m
     c.loop-depth-test.true in
-    let h = c.hang-hung.ensures.hung l.piece m.there m.here l.other
-    (mending-can c.args.nodes.now c.loop-depth.nodes c.args.way.now c.loop-depth.depth c.args.root c.loop-depth.top path t new m
-    c.loop-depth-test.true) in
-    back c.args.nodes.now c.loop-depth.nodes c.args.way.now c.loop-depth.depth c.args.root c.loop-depth.top path t new m
-    c.loop-depth-test.true c.hang-hung.new.nodes c.hang-hung.result h c.hang-hung.ensures.count c.lift.new.nodes c.args.root
-    (c.lift.ensures.lifted c.args.root l.more _ _
+    let on = hung-on (get c.loop-depth.nodes) _ _ c.loop-depth.top _ _ _ _ h c.index.result.now c.index.ensures c.child.result
+    c.child.ensures.before c.child.ensures.behind in
+    let same = c.stands_as.ensures.0 c.if-stands_as.true in
+    m.back c.lift.new.nodes c.lift.result (c.lift.ensures.lifted m.up m.there m.here
     (mending-lifts c.args.nodes.now c.loop-depth.nodes c.args.way.now c.loop-depth.depth c.args.root c.loop-depth.top path t new m
-    c.loop-depth-test.true c.hang-hung.new.nodes c.hang-hung.result h c.hang-hung.ensures.count c.in-Some.was c.in-Some.is))
+    c.loop-depth-test.true c.child.result on same.0 same.1))
 
-pub returns-in-Some-clause-count : goal.returns-in-Some-clause-count
-returns-in-Some-clause-count c =
+pub returns-then-stands_as-clause-count : goal.returns-then-stands_as-clause-count
+returns-then-stands_as-clause-count c =
     let q = c.requires in
-    counts_twice c.args.nodes.now c.loop-depth.nodes c.lift.new.nodes (c.loop-depth.invariant q.0 q.1 q.2 q.3).count
-    (counts_twice c.loop-depth.nodes c.hang-hung.new.nodes c.lift.new.nodes c.hang-hung.ensures.count c.lift.ensures.count)
+    counts_twice c.args.nodes.now c.loop-depth.nodes c.lift.new.nodes (c.loop-depth.invariant q.0 q.1 q.2 q.3).count c.lift.ensures.count
+
+pub regraft-top-requires : goal.regraft-top-requires
+regraft-top-requires c =
+    let q = c.requires in
+    let m = c.loop-depth.invariant q.0 q.1 q.2 q.3 in (
+      _,
+      _,
+      _,
+      _,
+      mending-can c.args.nodes.now c.loop-depth.nodes c.args.way.now c.loop-depth.depth c.args.root c.loop-depth.top q.0 q.1 q.2 m
+          c.loop-depth-test.true,
+    )
 
 pub loop-depth-preserved : goal.loop-depth-preserved
 loop-depth-preserved c path t new can =
     let m = c.loop-depth.invariant path t new can in
-    let l = la c.args.nodes.now c.loop-depth.nodes c.args.way.now c.loop-depth.depth c.args.root c.loop-depth.top path t new m
+    let h = mending-can c.args.nodes.now c.loop-depth.nodes c.args.way.now c.loop-depth.depth c.args.root c.loop-depth.top path t new m
     c.loop-depth-test.true in
     mending-next c.args.nodes.now c.loop-depth.nodes c.args.way.now c.loop-depth.depth c.args.root c.loop-depth.top path t new m
-    c.loop-depth-test.true c.hang-hung.new.nodes c.hang-hung.result
-    (c.hang-hung.ensures.hung l.piece m.there m.here l.other
-    (mending-can c.args.nodes.now c.loop-depth.nodes c.args.way.now c.loop-depth.depth c.args.root c.loop-depth.top path t new m
-    c.loop-depth-test.true)) c.hang-hung.ensures.count
+    c.loop-depth-test.true c.regraft-top.new.nodes c.regraft-top.result (c.regraft-top.ensures.joins _ _ _ _ h) c.regraft-top.ensures.count
 
 pub returns-clause-mended : goal.returns-clause-mended
 returns-clause-mended c path t new can =

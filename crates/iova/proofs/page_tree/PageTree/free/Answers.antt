@@ -1,6 +1,7 @@
 use Rattle.std.proofs.Common.{◌∙◌, ap, subst, sym}
 use Rattle.piece_tree.specs.declared.piece.PageState.TheVariants.{Free}
-use Rattle.iova.specs.Pieces.{piece_of, with_free}
+use Rattle.piece_tree.specs.Freed.{with_free}
+use Rattle.iova.specs.Pieces.{piece_of}
 use Rattle.iova.specs.Space.{Space, IsSpace}
 use Rattle.iova.proofs.Freed.{frees, space_freed}
 use Rattle.iova.proofs.page_tree.PageTree.free.Goals as goal

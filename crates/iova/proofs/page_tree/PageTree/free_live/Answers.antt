@@ -5,7 +5,8 @@ use Rattle.piece_tree.specs.declared.piece.PageState.{PageState}
 use Rattle.piece_tree.specs.declared.piece.PageState.TheVariants.{Free, Live}
 use Rattle.iova.specs.declared.ends.Ends.{Ends}
 use Rattle.iova.specs.Changes.{FreesLive}
-use Rattle.iova.specs.Pieces.{NoneFreeBelow, pages_as, piece_of, with_free}
+use Rattle.piece_tree.specs.Freed.{with_free}
+use Rattle.iova.specs.Pieces.{NoneFreeBelow, pages_as, piece_of}
 use Rattle.iova.specs.Space.{Space, IsSpace, MayRetire}
 use Rattle.iova.specs.Stored.{shown, stored}
 use Rattle.iova.proofs.FreedLive.{frees_live, space_freed_live}

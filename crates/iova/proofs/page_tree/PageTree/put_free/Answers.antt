@@ -1,6 +1,7 @@
 use Rattle.std.proofs.Common.{◌≡◌, ◌∙◌, ap, subst, sym}
 use Rattle.piece_tree.specs.declared.piece.PageState.TheVariants.{Free}
-use Rattle.iova.specs.Pieces.{pages_as, with_free}
+use Rattle.piece_tree.specs.Freed.{with_free}
+use Rattle.iova.specs.Pieces.{pages_as}
 use Rattle.iova.specs.Space.{Space, IsSpace}
 use Rattle.iova.specs.Stored.{stored}
 use Rattle.iova.proofs.page_tree.PageTree.put_free.Goals as goal

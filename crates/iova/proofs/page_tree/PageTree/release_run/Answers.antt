@@ -1,7 +1,8 @@
 use Rattle.std.proofs.Common.{arith, ◌∙◌, ◌≤◌, ap, subst, sym}
 use Rattle.piece_tree.specs.declared.piece.Piece.{Piece}
 use Rattle.piece_tree.specs.declared.piece.PageState.TheVariants.{Free, Retired}
-use Rattle.iova.specs.Pieces.{piece_of, with_free}
+use Rattle.piece_tree.specs.Freed.{with_free}
+use Rattle.iova.specs.Pieces.{piece_of}
 use Rattle.iova.specs.Space.{Space, IsSpace}
 use Rattle.iova.proofs.FreedRun.{frees_run, may_still_run, space_freed}
 use Rattle.iova.proofs.page_tree.PageTree.release_run.Goals as goal

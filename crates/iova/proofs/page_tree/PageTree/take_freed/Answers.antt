@@ -29,23 +29,15 @@ low_behind-self-inside-requires-clause-narrow c =
 pub invariant_of-self : goal.invariant_of-self
 invariant_of-self c =
     let a = c.self.inside in
-    subst (λ l. IsSpace (stored a.last l) × NoneFreeBelow a.low l × AreLive a.freed l × AreLive a.judged l)
-    (sym c.fit_freed.ensures.unchanged) c.self.invariant
-
-pub invariant_of-self-2 : goal.invariant_of-self-2
-invariant_of-self-2 c =
-    let a = c.self.inside in
     let pages = c.in_ok-fit.fit.pages in
     let p = pages_as pages Live in
     let there : IsIn p a.tree = subst (λ f. AreLive f a.tree) c.in_ok-fit.ensures.freed c.self.invariant.2 in
     let o = c.self.invariant.0.ordered in
-    let narrow = in_narrow (stored a.last a.tree) p c.self.invariant.0 there in
-    let low = c.low_behind-self-inside.ensures.low a.tree o c.in_ok-fit.ensures.low in
-    subst (λ l. IsSpace (stored a.last l) × NoneFreeBelow c.low_behind-self-inside.result l × Unit {0} × IsIn (pages_as pages Live) l)
-    (sym c.fit_freed.ensures.unchanged) (
+    let narrow = in_narrow (stored a.last a.tree) p c.self.invariant.0 there in (
       c.self.invariant.0,
       subst (λ l. NoneFreeBelow c.low_behind-self-inside.result l)
-          (ap (λ q. with_piece q a.tree) c.in_state.ensures ∙ put_again 1 p a.tree o ((in_le 1 p a.tree o there).1, narrow) there) low,
+          (ap (λ q. with_piece q a.tree) c.in_state.ensures ∙ put_again 1 p a.tree o ((in_le 1 p a.tree o there).1, narrow) there)
+          (c.low_behind-self-inside.ensures.low a.tree o c.in_ok-fit.ensures.low),
       tt,
       there,
     )
@@ -65,9 +57,8 @@ returns-clause-taken c =
     subst (λ f. with_piece (pages_as pages Live) (shown f t.tree) ≡ t.tree) (sym is) (taken_back new pages c.self.invariant.0 there) in
     let same : t.tree ≡ with_piece (piece_of range Live) (shown t.freed t.tree) =
     sym back ∙ ap (λ n. with_piece (record { first = pages.first; last = n; state = Live }) (shown t.freed t.tree)) last in
-    subst (λ l. Takes c.args.self.now (stored t.last l) range) (sym c.fit_freed.ensures.unchanged)
-    (subst (λ v. Takes v new range) c.self.view_is
-    (takes a new range sp c.requires.some_pages c.in_ok-fit.ensures.lowest.fit.free (ap (λ l. record a { pieces = l }) same)))
+    subst (λ v. Takes v new range) c.self.view_is
+    (takes a new range sp c.requires.some_pages c.in_ok-fit.ensures.lowest.fit.free (ap (λ l. record a { pieces = l }) same))
 
 pub returns-clause-few : goal.returns-clause-few
 returns-clause-few c =

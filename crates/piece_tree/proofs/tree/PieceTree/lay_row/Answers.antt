@@ -4,7 +4,7 @@ use Rattle.piece_tree.specs.declared.piece.TheConstants.{MOST_PIECES}
 use Rattle.piece_tree.specs.Laid.{with_row}
 use Rattle.piece_tree.specs.Pieces.{piece_at}
 use Rattle.piece_tree.specs.Tree.{items, pieces_of}
-use Rattle.piece_tree.proofs.shapes.Over.{has_any, lay-can, lay-held, lay-view, lay-whole, lies-first, node_at}
+use Rattle.piece_tree.proofs.shapes.Over.{at-narrow, has_any, lay-can, lay-held, lay-view, lay-whole, lies-first, node_at}
 use Rattle.piece_tree.proofs.shapes.Placed.{found-none}
 use Rattle.piece_tree.proofs.shapes.Rows.{row-is, some-later, some_at}
 use Rattle.piece_tree.proofs.shapes.Tall.{whole_view}
@@ -52,8 +52,8 @@ lay_over-self-inside-requires c =
       lay-can first c.args.row.now last i.1 l.lies some c.in-Some.is n.1
           (has_any c.self.inside.nodes c.reach-place.result.at c.in-Some.key first last c.in-Some.is c.reach-place.ensures.has)
           r.2
-          (subst (λ k. IsSome (piece_at (items i.0) k)) (sym r.1)
-          (subst (λ v. IsSome (piece_at v q.1)) (sym e) (some-later q.0 q.1 c.args.self.now q.2 q.5 q.3 q.6)))
+          (at-narrow 0 last (items i.0) i.1.sorted (subst (λ k. IsSome (piece_at (items i.0) k)) (sym r.1)
+          (subst (λ v. IsSome (piece_at v q.1)) (sym e) (some-later q.0 q.1 c.args.self.now q.2 q.5 q.3 q.6))))
           (subst (λ v. length (with_row first c.args.row.now last v) ≤ MOST_PIECES) (sym e)
           (subst (λ k. length (with_row k c.args.row.now last c.args.self.now) ≤ MOST_PIECES) (sym r.0)
           (subst (λ k. length (with_row q.0 c.args.row.now k c.args.self.now) ≤ MOST_PIECES) (sym r.1) q.7))),
@@ -72,15 +72,15 @@ invariant_of-self c =
     let l = c.reach-place.ensures.leads i.0 i.1 i.2 in
     let n = node_at c.self.inside.nodes c.reach-place.result.at c.in-Some.key first last c.in-Some.is c.reach-place.ensures.has in
     let has = has_any c.self.inside.nodes c.reach-place.result.at c.in-Some.key first last c.in-Some.is c.reach-place.ensures.has in
-    let there = subst (λ k. IsSome (piece_at (items i.0) k)) (sym r.1)
-    (subst (λ v. IsSome (piece_at v q.1)) (sym e) (some-later q.0 q.1 c.args.self.now q.2 q.5 q.3 q.6)) in
+    let narrow = at-narrow 0 last (items i.0) i.1.sorted (subst (λ k. IsSome (piece_at (items i.0) k)) (sym r.1)
+    (subst (λ v. IsSome (piece_at v q.1)) (sym e) (some-later q.0 q.1 c.args.self.now q.2 q.5 q.3 q.6))) in
     let few = subst (λ v. length (with_row first c.args.row.now last v) ≤ MOST_PIECES) (sym e)
     (subst (λ k. length (with_row k c.args.row.now last c.args.self.now) ≤ MOST_PIECES) (sym r.0)
     (subst (λ k. length (with_row q.0 c.args.row.now k c.args.self.now) ≤ MOST_PIECES) (sym r.1) q.7)) in
     let h = lay-held first c.args.row.now last i.1 l.lies some c.in-Some.is n.1 l.steps in
-    let can = lay-can first c.args.row.now last i.1 l.lies some c.in-Some.is n.1 has r.2 there few in (
+    let can = lay-can first c.args.row.now last i.1 l.lies some c.in-Some.is n.1 has r.2 narrow few in (
       _,
-      lay-whole first c.args.row.now last i.1 l.lies some c.in-Some.is n.1 has r.2 there few
+      lay-whole first c.args.row.now last i.1 l.lies some c.in-Some.is n.1 has r.2 narrow few
           (c.lay_over-self-inside.ensures.becomes _ _ _ _ _ _ h can) (c.lay_over-self-inside.ensures.len _ _ _ _ _ _ h can),
       tt,
     )
@@ -100,14 +100,14 @@ returns c from end rises given =
     let l = c.reach-place.ensures.leads i.0 i.1 i.2 in
     let n = node_at c.self.inside.nodes c.reach-place.result.at c.in-Some.key first last c.in-Some.is c.reach-place.ensures.has in
     let has = has_any c.self.inside.nodes c.reach-place.result.at c.in-Some.key first last c.in-Some.is c.reach-place.ensures.has in
-    let there = subst (λ k. IsSome (piece_at (items i.0) k)) (sym r.1)
-    (subst (λ v. IsSome (piece_at v q.1)) (sym e) (some-later q.0 q.1 c.args.self.now q.2 q.5 q.3 q.6)) in
+    let narrow = at-narrow 0 last (items i.0) i.1.sorted (subst (λ k. IsSome (piece_at (items i.0) k)) (sym r.1)
+    (subst (λ v. IsSome (piece_at v q.1)) (sym e) (some-later q.0 q.1 c.args.self.now q.2 q.5 q.3 q.6))) in
     let few = subst (λ v. length (with_row first c.args.row.now last v) ≤ MOST_PIECES) (sym e)
     (subst (λ k. length (with_row k c.args.row.now last c.args.self.now) ≤ MOST_PIECES) (sym r.0)
     (subst (λ k. length (with_row q.0 c.args.row.now k c.args.self.now) ≤ MOST_PIECES) (sym r.1) q.7)) in
     let h = lay-held first c.args.row.now last i.1 l.lies some c.in-Some.is n.1 l.steps in
-    let can = lay-can first c.args.row.now last i.1 l.lies some c.in-Some.is n.1 has r.2 there few in
-    lay-view first c.args.row.now last i.1 l.lies some c.in-Some.is n.1 has r.2 there few
+    let can = lay-can first c.args.row.now last i.1 l.lies some c.in-Some.is n.1 has r.2 narrow few in
+    lay-view first c.args.row.now last i.1 l.lies some c.in-Some.is n.1 has r.2 narrow few
     (c.lay_over-self-inside.ensures.becomes _ _ _ _ _ _ h can) (c.lay_over-self-inside.ensures.len _ _ _ _ _ _ h can)
     ∙ ap (λ v. with_row first c.args.row.now last v) e
     ∙ ap (λ k. with_row k c.args.row.now last c.args.self.now) g.0

@@ -7,21 +7,21 @@ use Rattle.piece_tree.proofs.shapes.Sorted.{sorted_at}
 use Rattle.piece_tree.proofs.shapes.Tall.{whole_view}
 use Rattle.piece_tree.proofs.tree.PieceTree.push.Goals as goal
 
-pub add-requires-clause-tree : goal.add-requires-clause-tree
-add-requires-clause-tree c =
+pub add-self-inside-requires-clause-tree : goal.add-self-inside-requires-clause-tree
+add-self-inside-requires-clause-tree c =
     let i = c.self.invariant in
     let a = c.self.inside in
     let e = sym (whole_view a.nodes a.root i.0 i.1) ∙ c.self.view_is in (
       i.0,
-      whole_tree a.nodes a.root i.0 c.read-top.result i.1 (c.read-top.ensures i.0 (i.1.here, i.1.stands)),
+      whole_tree a.nodes a.root i.0 a.root i.1 i.1.here,
       subst (λ l. length l < MOST_PIECES) (sym e) c.requires.room,
     )
 
-pub add-requires-clause-piece : goal.add-requires-clause-piece
-add-requires-clause-piece c = (sorted_at 0 c.args.self.now c.args.piece [] c.requires.behind).1
+pub add-self-inside-requires-clause-piece : goal.add-self-inside-requires-clause-piece
+add-self-inside-requires-clause-piece c = (sorted_at 0 c.args.self.now c.args.piece [] c.requires.behind).1
 
-pub add-requires-clause-room : goal.add-requires-clause-room
-add-requires-clause-room c =
+pub add-self-inside-requires-clause-room : goal.add-self-inside-requires-clause-room
+add-self-inside-requires-clause-room c =
     let i = c.self.invariant in
     let a = c.self.inside in
     let e = sym (whole_view a.nodes a.root i.0 i.1) ∙ c.self.view_is in
@@ -32,9 +32,9 @@ invariant_of-self c =
     let i = c.self.invariant in
     let a = c.self.inside in
     let e = sym (whole_view a.nodes a.root i.0 i.1) ∙ c.self.view_is in
-    let m = c.add.ensures i.0 (whole_tree a.nodes a.root i.0 c.read-top.result i.1 (c.read-top.ensures i.0 (i.1.here, i.1.stands))) in (
+    let m = c.add-self-inside.ensures i.0 (whole_tree a.nodes a.root i.0 a.root i.1 i.1.here) in (
       m.makes.shape,
-      made-whole a.nodes c.add.new.nodes a.root i.0 i.1 c.add.result (items i.0 ++ c.args.piece ∷ []) m.makes
+      made-whole a.nodes c.add-self-inside.new.nodes a.root i.0 i.1 c.add-self-inside.result (items i.0 ++ c.args.piece ∷ []) m.makes
           (subst (λ l. AreSorted 0 (l ++ c.args.piece ∷ [])) (sym e) c.requires.behind),
       tt,
     )
@@ -44,7 +44,7 @@ returns c =
     let i = c.self.invariant in
     let a = c.self.inside in
     let e = sym (whole_view a.nodes a.root i.0 i.1) ∙ c.self.view_is in
-    let m = c.add.ensures i.0 (whole_tree a.nodes a.root i.0 c.read-top.result i.1 (c.read-top.ensures i.0 (i.1.here, i.1.stands))) in
-    made-view a.nodes c.add.new.nodes a.root i.0 i.1 c.add.result (items i.0 ++ c.args.piece ∷ []) m.makes
+    let m = c.add-self-inside.ensures i.0 (whole_tree a.nodes a.root i.0 a.root i.1 i.1.here) in
+    made-view a.nodes c.add-self-inside.new.nodes a.root i.0 i.1 c.add-self-inside.result (items i.0 ++ c.args.piece ∷ []) m.makes
     (subst (λ l. AreSorted 0 (l ++ c.args.piece ∷ [])) (sym e) c.requires.behind)
     ∙ ap (λ l. l ++ c.args.piece ∷ []) e
