@@ -101,7 +101,7 @@ impl<B: Owner> Device<B> {
         let _ = manager.call(rt, rows, &mut self.share, request);
     }
 
-    // Reads the pages by turns, by the port before and behind each request.
+    // Reads the pages by turns, by the port before and after each request.
     fn read_all<R: Wait>(&mut self, rt: &R, manager: &Manager<B>, rows: &Rows<B>) {
         for round in 0..ROUNDS {
             let address = PAGE_BYTES * (1 + round % PAGES) + round;

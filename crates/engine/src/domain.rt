@@ -198,7 +198,7 @@ impl Domain {
     {
         let released = self.make_room(pool, iommu, id);
         let last = self.end(pool, iommu, range);
-        self.put_aside(last);
+        self.records.push_reserved(last);
         released
     }
 
@@ -272,14 +272,6 @@ impl Domain {
             space: self.space,
             records: self.records,
         }
-    }
-
-    // A record is the last.
-    fn put_aside(&mut self, retired: Record)
-        requires { length self.old.records < MOST_RECORDS }
-        ensures { self.new ≡ record self.old { records = self.old.records ++ retired ∷ [] } }
-    {
-        self.records.push_reserved(retired);
     }
 
     // Whether a range may end: `NotLive` where a page of it isn't live, else `TooManyPieces` where the address space would

@@ -230,7 +230,7 @@ impl Iommu {
         self.unit.step(&mut self.ring)
     }
 
-    /// The number of the last wait that is done: as many were sent behind it as the status is behind the last one's.
+    /// The number of the last wait that is done: as many were sent after it as the status is short of the last one's.
     pub(crate) fn last_done(&self) -> u64
         ensures { result ≡ last_done self.now }
     {

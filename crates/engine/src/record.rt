@@ -11,6 +11,6 @@ pub(crate) struct Record {
     pub(crate) mark: u64,
     pub(crate) cut: Cut,
     // Only a wait that is sent later frees the pages: until their entries were cleared, a request could bring them back
-    // behind an earlier one.
+    // after an earlier one.
     pub(crate) sent: u64,
 }

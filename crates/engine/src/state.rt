@@ -252,6 +252,7 @@ impl State {
         self.map_segments(domain, order, rights, segments.as_slice())
     }
 
+    // Maps the pages of segments in a domain, where there is one of this id.
     fn map_segments(
         &mut self,
         domain: u64,

@@ -82,7 +82,7 @@ pub(crate) fn map_extent(pool: &mut Pool, level: u64, table: Frame, extent: &Ext
     ensures pool { IsPool pool.new }
 {
     if level == 1 {
-        // By value into what writes the pool: a loop would read the fields anew behind each write.
+        // By value into what writes the pool: a loop would read the fields anew after each write.
         write_run(pool, table, *extent);
         return;
     }

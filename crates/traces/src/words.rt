@@ -50,7 +50,7 @@ impl fmt::Display for PageBefore {
                 let first = first.saturating_mul(PAGE_BYTES);
                 write!(
                     f,
-                    "retired, by an unmap of {first:#x} {pages} behind {mark} begun flushes"
+                    "retired, by an unmap of {first:#x} {pages} after {mark} begun flushes"
                 )
             }
         }

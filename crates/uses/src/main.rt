@@ -56,7 +56,7 @@ fn two_drivers<B: Owner + Send + Sync, R: Threads + Wait + Sync, W: Write>(
     }
     let (host, _) = port.hit(&rows, 0x1000, Access::Read);
     writeln!(output, "hit without the lock: {:#x}", host.unwrap_or(0))?;
-    // Behind an unmap, the port never again answers by that page once it has checked in.
+    // After an unmap, the port never again answers by that page once it has checked in.
     call(rt, &manager, &rows, &mut mine, b"unmap 1 0x1000 1");
     manager.check_in(rt, &rows, &mut mine, &mut port);
     for share in [one, two, mine] {

@@ -153,7 +153,7 @@ what the page was that it rests on, and then the replies that would have been
 allowed: all of them for a device's request, else one:
 
   line 4: map 0x1000 is not allowed: page 0x1000 of domain 1 is retired, by an
-  unmap of 0x1000 1 behind 0 begun flushes; allowed: map 0x2000
+  unmap of 0x1000 1 after 0 begun flushes; allowed: map 0x2000
 
 (in one line). A line has at most 600 bytes. It is a bad line where the reply is
 'refused 15', or isn't spelled as 'vtdm run' spells it.
