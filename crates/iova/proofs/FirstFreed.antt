@@ -4,7 +4,7 @@ use Rattle.dmatypes.specs.World.{IsIn}
 use Rattle.iova.specs.declared.ends.Ends.{Ends}
 use Rattle.piece_tree.specs.declared.piece.PageState.TheVariants.{Free, Live}
 use Rattle.piece_tree.specs.declared.piece.Piece.{Piece}
-use Rattle.piece_tree.specs.Freed.{free_start, freed, with_free}
+use Rattle.piece_tree.specs.Freed.{free_start, widened, with_free}
 use Rattle.iova.specs.Pieces.{NoneFreeBelow}
 use Rattle.iova.specs.Space.{Space, IsLowestFit, IsSpace}
 use Rattle.iova.specs.Pieces.{pages_as}
@@ -16,7 +16,7 @@ use Rattle.iova.proofs.Shown.{bounds, space_shown_free, wide}
 
 module _ (a : Space) (pages : Ends) (sp : IsSpace a) (i : IsIn (pages_as pages Live) a.pieces) where
   abbrev m : Piece
-  m = freed (pages_as pages Live) a.pieces
+  m = widened (pages_as pages Live) a.pieces
 
   -- it touches no free piece before it, if none begins below it
   pub alone_lowest : (low : ℕ) → NoneFreeBelow low a.pieces → pages.first ≤ low → free_start a.pieces pages.first ≡ pages.first

@@ -5,7 +5,7 @@ use Rattle.piece_tree.specs.declared.piece.PageState.TheVariants.{Free}
 use Rattle.piece_tree.specs.declared.piece.Piece.{Piece}
 use Rattle.piece_tree.specs.declared.piece.TheConstants.{NUMBERS_END}
 use Rattle.piece_tree.specs.Pieces.{piece_at}
-use Rattle.piece_tree.specs.Freed.{free_end, free_start, freed, with_free}
+use Rattle.piece_tree.specs.Freed.{free_end, free_start, widened, with_free}
 use Rattle.iova.specs.Pieces.{IsOrdered, pages_as}
 use Rattle.iova.specs.Space.{IsPageTo, IsSpace}
 use Rattle.iova.specs.Stored.{stored}
@@ -27,7 +27,7 @@ start_least ps first o = elim (order 1 first) [
 module _ (last : ℕ) (ps : List Piece) (pages : Ends) (sp : IsSpace (stored last ps))
     (new : IsSpace (stored last (with_free (pages_as pages Free) ps))) where
   abbrev whole : Piece
-  whole = freed (pages_as pages Free) ps
+  whole = widened (pages_as pages Free) ps
 
   pub around : (free_start ps pages.first ≤ pages.first) × (pages.last ≤ free_end ps pages.last)
   around = (start_least ps pages.first sp.ordered, free_end_ge 1 pages.last ps sp.ordered)

@@ -10,7 +10,7 @@ use Rattle.piece_tree.specs.declared.piece.PageState.{PageState}
 use Rattle.piece_tree.specs.declared.piece.PageState.TheVariants.{Free, Live}
 use Rattle.piece_tree.specs.declared.piece.Piece.{Piece}
 use Rattle.piece_tree.specs.Pieces.{Holds}
-use Rattle.piece_tree.specs.Freed.{free_end, free_start, freed, with_free}
+use Rattle.piece_tree.specs.Freed.{free_end, free_start, widened, with_free}
 use Rattle.iova.specs.Pieces.{IsOrdered, piece_of, state_at}
 use Rattle.piece_tree.specs.Laid.{part_above, with_piece}
 use Rattle.iova.specs.Space.{Space, IsSpace}
@@ -69,7 +69,7 @@ module _ (a : Space) (pages : Ends) (sp : IsSpace a) (i : IsIn (pages_as pages L
 
   -- the free piece that it is by then
   abbrev m : Piece
-  m = freed q a.pieces
+  m = widened q a.pieces
 
   abbrev b : Space
   b = record a { pieces = with_free q a.pieces }

@@ -21,9 +21,9 @@ free_edge true pieces page = free_start pieces page
 free_edge false pieces page = free_end pieces page
 
 -- the pages of this one and of the free ones that it touches, as one free piece
-abbrev pub freed : Piece → List Piece → Piece
-freed p pieces = record { first = free_start pieces p.first; last = free_end pieces p.last; state = Free }
+abbrev pub widened : Piece → List Piece → Piece
+widened p pieces = record { first = free_start pieces p.first; last = free_end pieces p.last; state = Free }
 
 -- the pieces once the pages of this one are free, as one piece with the free ones that it touches
 abbrev pub with_free : Piece → List Piece → List Piece
-with_free p pieces = with_piece (freed p pieces) pieces
+with_free p pieces = with_piece (widened p pieces) pieces

@@ -5,4 +5,4 @@ pub mod Search
 pub mod Laid
 pub mod Graft
 pub mod Freed
-pub mod Spans
+pub mod Stretches

@@ -6,7 +6,7 @@ ghost use Rattle.piece_tree.specs.Graft.{CanReplace};
 ghost use Rattle.piece_tree.specs.Laid.{with_piece, with_row};
 ghost use Rattle.piece_tree.specs.Pieces.{IsPiece};
 ghost use Rattle.piece_tree.specs.declared.piece.TheConstants.{MOST_PIECES};
-ghost use Rattle.piece_tree.specs.Spans.{Covers, LaysOver, pages_of};
+ghost use Rattle.piece_tree.specs.Stretches.{Covers, LaysOver, pages_of};
 ghost use Rattle.piece_tree.specs.Tree.{Fork, IsWhole, KeepsCount, Shape, items};
 ghost use Rattle.piece_tree.specs.Way.{Above, Becomes, IsHeld, plug};
 
@@ -14,7 +14,7 @@ use crate::laying::replace;
 use crate::links::set_piece;
 use crate::node::{Node, Top};
 use crate::piece::{PageState, Piece};
-use crate::spans::Span;
+use crate::stretches::Stretch;
 use crate::way::{Held, MOST_HEIGHT, Step, lift, mend};
 use slab::Slab;
 
@@ -68,34 +68,34 @@ pub(crate) fn lay_over(
     mend(nodes, way, held.depth, root, top)
 }
 
-/// Makes the pages of a span one piece in a state.
+/// Makes the pages of a stretch one piece in a state.
 #[inline(always)]
-pub(crate) fn lay_span(
+pub(crate) fn lay_stretch(
     nodes: &mut Slab<Node>,
     root: Top,
     way: &[Step; MOST_HEIGHT],
-    span: Span,
+    stretch: Stretch,
     state: PageState,
 ) -> Laid
-    requires { (t : Shape) × IsWhole nodes.old root t × Covers nodes.old way.now span t
-        × (length (with_piece (pages_of span state) (items t)) ≤ MOST_PIECES) }
-    ensures { (t : Shape) → IsWhole nodes.old root t → Covers nodes.old way.now span t
-        → length (with_piece (pages_of span state) (items t)) ≤ MOST_PIECES
-        → LaysOver nodes.new result way.now (with_piece (pages_of span state) (items t)) }
+    requires { (t : Shape) × IsWhole nodes.old root t × Covers nodes.old way.now stretch t
+        × (length (with_piece (pages_of stretch state) (items t)) ≤ MOST_PIECES) }
+    ensures { (t : Shape) → IsWhole nodes.old root t → Covers nodes.old way.now stretch t
+        → length (with_piece (pages_of stretch state) (items t)) ≤ MOST_PIECES
+        → LaysOver nodes.new result way.now (with_piece (pages_of stretch state) (items t)) }
 {
     let piece = Piece {
-        first: span.first,
-        last: span.last,
+        first: stretch.first,
+        last: stretch.last,
         state,
     };
-    let there = nodes[span.held.key].piece;
+    let there = nodes[stretch.held.key].piece;
     if there.first == piece.first && there.last == piece.last {
-        let root = renew(nodes, root, way, span.held, piece);
+        let root = renew(nodes, root, way, stretch.held, piece);
         return Laid {
             root,
-            hand: Some(span.held),
+            hand: Some(stretch.held),
         };
     }
-    let root = lay_over(nodes, root, way, span.held, &[piece]);
+    let root = lay_over(nodes, root, way, stretch.held, &[piece]);
     Laid { root, hand: None }
 }

@@ -23,7 +23,7 @@ mod links;
 mod node;
 mod piece;
 mod search;
-mod spans;
+mod stretches;
 #[cfg(test)]
 mod tests;
 mod tree;

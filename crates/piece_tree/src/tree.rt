@@ -3,12 +3,12 @@
 ghost use Rattle.std.specs.Prelude.{◌≡◌, ◌+◌, ◌^◌, ◌<◌, ◌≤◌, ◌↔◌, [], ◌∷◌, ◌++◌, ℕ, List, length, IfOk, IfSome, IfNone, IsSome, IsTrue};
 ghost use Rattle.std.specs.Prelude.{Some, true, false};
 
-use crate::edits::{lay_over, lay_span};
+use crate::edits::{lay_over, lay_stretch};
 use crate::grafts::add;
 use crate::node::{NO_TREE, Node, Top};
 use crate::piece::{MOST_PIECES, NUMBERS_END, PageState, Piece};
 use crate::search::{are_short_before, find, first_from, fit_between, go_long};
-use crate::spans::{Span, with_free_ends};
+use crate::stretches::{Stretch, with_free_ends};
 use crate::way::{Held, MOST_HEIGHT, NO_STEP, Step, reach, walk};
 use slab::Slab;
 use std::alloc::{AllocError, Global};
@@ -187,7 +187,7 @@ impl PieceTree {
             self.hand,
         );
         let Some(key) = place.at else { unreachable!() };
-        let span = Span {
+        let stretch = Stretch {
             held: Held {
                 key,
                 depth: place.depth,
@@ -195,7 +195,7 @@ impl PieceTree {
             first: piece.first,
             last: piece.last,
         };
-        let laid = lay_span(&mut self.nodes, self.root, &self.way, span, piece.state);
+        let laid = lay_stretch(&mut self.nodes, self.root, &self.way, stretch, piece.state);
         self.root = laid.root;
         self.hand = laid.hand;
     }
@@ -219,7 +219,7 @@ impl PieceTree {
             self.hand,
         );
         let Some(key) = place.at else { unreachable!() };
-        let span = Span {
+        let stretch = Stretch {
             held: Held {
                 key,
                 depth: place.depth,
@@ -227,8 +227,8 @@ impl PieceTree {
             first,
             last,
         };
-        let whole = with_free_ends(&self.nodes, &self.way, span);
-        let laid = lay_span(
+        let whole = with_free_ends(&self.nodes, &self.way, stretch);
+        let laid = lay_stretch(
             &mut self.nodes,
             self.root,
             &self.way,

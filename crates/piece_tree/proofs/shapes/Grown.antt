@@ -9,11 +9,11 @@ use Rattle.piece_tree.specs.declared.node.Top.{Top}
 use Rattle.piece_tree.specs.declared.node.Node.{Node}
 use Rattle.piece_tree.specs.declared.piece.Piece.{Piece}
 use Rattle.piece_tree.specs.declared.piece.TheConstants.{NUMBERS_END}
-use Rattle.piece_tree.specs.declared.spans.Span.{Span}
+use Rattle.piece_tree.specs.declared.stretches.Stretch.{Stretch}
 use Rattle.piece_tree.specs.declared.way.Step.{Step}
 use Rattle.piece_tree.specs.Freed.{free_edge}
 use Rattle.piece_tree.specs.Pieces.{AreSorted, IsPiece}
-use Rattle.piece_tree.specs.Spans.{Covers, Grows, page_on, up_to}
+use Rattle.piece_tree.specs.Stretches.{Covers, Grows, page_on, up_to}
 use Rattle.piece_tree.specs.Tree.{IsTop, IsWhole, Shape, Fork, fork, items}
 use Rattle.piece_tree.specs.Way.{Above, AreAbove, Beside, IsHeld, IsStepAbove, GoesOn, back, front, plug, side}
 use Rattle.piece_tree.proofs.shapes.Beside.{held-child}
@@ -29,24 +29,24 @@ sorted_on : (from : ℕ) (xs ys : List Piece) → AreSorted from (xs ++ ys) → 
 sorted_on from [] ys s = (from, s)
 sorted_on from (x ∷ xs) ys s = sorted_on (x.last + 1) xs ys s.2
 
-module _ (nodes : Slab Node) (way : List Step) (span : Span) {root : Top} {t : Shape} (w : IsWhole nodes root t)
-    (k : Covers nodes way span t) where
+module _ (nodes : Slab Node) (way : List Step) (stretch : Stretch) {root : Top} {t : Shape} (w : IsWhole nodes root t)
+    (k : Covers nodes way stretch t) where
   abbrev path : Above
   path = k.leads.lies.path
 
   abbrev p : Piece
   p = k.node.piece
 
-  abbrev x : Roots span.held.key k.node k.leads.lies.there
-  x = lies-at nodes root span.first span.last (Some span.held.key) span.held.key t w k.leads.lies refl k.node k.there
+  abbrev x : Roots stretch.held.key k.node k.leads.lies.there
+  x = lies-at nodes root stretch.first stretch.last (Some stretch.held.key) stretch.held.key t w k.leads.lies refl k.node k.there
 
   abbrev sub : Shape
-  sub = Fork span.held.key p x.l x.r
+  sub = Fork stretch.held.key p x.l x.r
 
   shape : t ≡ plug path sub
   shape = k.leads.lies.is ∙ ap (plug path) x.is
 
-  pub grown-held : IsHeld nodes root way span.held path p x.l x.r
+  pub grown-held : IsHeld nodes root way stretch.held path p x.l x.r
   grown-held = record { whole = subst (λ y. IsWhole nodes root y) shape w; steps = k.leads.steps }
 
   all : items t ≡ (front path ++ items x.l) ++ p ∷ (items x.r ++ back path)
@@ -64,7 +64,7 @@ module _ (nodes : Slab Node) (way : List Step) (span : Span) {root : Top} {t : S
   behind-sorted : AreSorted (p.last + 1) (items x.r ++ back path)
   behind-sorted = (sorted_at 0 (front path ++ items x.l) p (items x.r ++ back path) sorted).2
 
-  pub grown-narrow : (b : Bool) → page_on b span < NUMBERS_END
+  pub grown-narrow : (b : Bool) → page_on b stretch < NUMBERS_END
   grown-narrow true = omega (arith, k.some, k.narrow)
   grown-narrow false = k.narrow
 
@@ -72,9 +72,9 @@ module _ (nodes : Slab Node) (way : List Step) (span : Span) {root : Top} {t : S
   abbrev pub grown-beside : Bool → Shape
   grown-beside b = side b x.l x.r
 
-  pub grown-below : (node : Node) → get nodes span.held.key ≡ Some node → (b : Bool) (child : Top) → (b ≡ true → child ≡ node.left)
+  pub grown-below : (node : Node) → get nodes stretch.held.key ≡ Some node → (b : Bool) (child : Top) → (b ≡ true → child ≡ node.left)
       → (b ≡ false → child ≡ node.right) → IsTop (get nodes) child (grown-beside b)
-  grown-below = held-child nodes root way span.held path p x.l x.r grown-held
+  grown-below = held-child nodes root way stretch.held path p x.l x.r grown-held
 
   pub grown-sorted : (b : Bool) → (from : ℕ) × AreSorted from (items (grown-beside b))
   grown-sorted true = sorted_on 0 (front path) (items x.l) before-sorted
@@ -94,9 +94,9 @@ module _ (nodes : Slab Node) (way : List Step) (span : Span) {root : Top} {t : S
     front-own : IsPiece a.piece
     front-own = (sorted_at 0 (front a.up ++ items a.other) a.piece [] front-sorted).1
 
-    front-under : a.piece.last < span.first
-    front-under = (all_right (λ q. q.last < span.first) (front a.up ++ items a.other) (a.piece ∷ [])
-        (subst (λ l. AllByRecursion (λ q. q.last < span.first) l) front-is k.leads.lies.before)).0
+    front-under : a.piece.last < stretch.first
+    front-under = (all_right (λ q. q.last < stretch.first) (front a.up ++ items a.other) (a.piece ∷ [])
+        (subst (λ l. AllByRecursion (λ q. q.last < stretch.first) l) front-is k.leads.lies.before)).0
 
   abbrev back-part : (low : ℕ) × AreSorted low (back path)
   back-part = sorted_on (p.last + 1) (items x.r) (back path) behind-sorted
@@ -112,33 +112,33 @@ module _ (nodes : Slab Node) (way : List Step) (span : Span) {root : Top} {t : S
     back-own : IsPiece a.piece
     back-own = back-sorted.1
 
-    back-under : span.last < a.piece.first
-    back-under = (subst (λ l. AllByRecursion (λ q. span.last < q.first) l) back-is k.leads.lies.behind).0
+    back-under : stretch.last < a.piece.first
+    back-under = (subst (λ l. AllByRecursion (λ q. stretch.last < q.first) l) back-is k.leads.lies.behind).0
 
   -- ---- what touches the pages
 
   abbrev LiesThere : (b : Bool) → Type 0
-  LiesThere true = free_edge true (items t) span.first ≡ free_edge true (front path ++ items x.l) span.first
-  LiesThere false = free_edge false (items t) span.last ≡ free_edge false (items x.r ++ back path) span.last
+  LiesThere true = free_edge true (items t) stretch.first ≡ free_edge true (front path ++ items x.l) stretch.first
+  LiesThere false = free_edge false (items t) stretch.last ≡ free_edge false (items x.r ++ back path) stretch.last
 
   lies_there : (b : Bool) → LiesThere b
-  lies_there true = ap (λ l. free_edge true l span.first) all
-      ∙ at-over span.first 0 (front path ++ items x.l) p (items x.r ++ back path) sorted true k.has.1
-  lies_there false = ap (λ l. free_edge false l span.last) all
-      ∙ at-over span.last 0 (front path ++ items x.l) p (items x.r ++ back path) sorted false k.has.0
+  lies_there true = ap (λ l. free_edge true l stretch.first) all
+      ∙ at-over stretch.first 0 (front path ++ items x.l) p (items x.r ++ back path) sorted true k.has.1
+  lies_there false = ap (λ l. free_edge false l stretch.last) all
+      ∙ at-over stretch.last 0 (front path ++ items x.l) p (items x.r ++ back path) sorted false k.has.0
 
   -- it lies in the tree on that side
-  pub grown-in : (b : Bool) (s : Shape) → s ≡ side b x.l x.r → free_edge b (items s) (page_on b span) ≢ page_on b span
-      → Grows nodes way b span (up_to b span (free_edge b (items s) (page_on b span)) span.held) t
+  pub grown-in : (b : Bool) (s : Shape) → s ≡ side b x.l x.r → free_edge b (items s) (page_on b stretch) ≢ page_on b stretch
+      → Grows nodes way b stretch (up_to b stretch (free_edge b (items s) (page_on b stretch)) stretch.held) t
   grown-in true s e n =
-      let q = touched true span.first (items s) n in
+      let q = touched true stretch.first (items s) n in
       let parts : front path ++ items x.l ≡ (front path ++ q.before) ++ q.piece ∷ q.behind =
       ap (λ y. front path ++ items y) (sym e) ∙ ap (λ l. front path ++ l) q.parts ∙ sym (append_assoc (front path) q.before (q.piece ∷ q.behind)) in
       let s' = subst (λ l. AreSorted 0 l) parts before-sorted in
       let own = sorted_at 0 (front path ++ q.before) q.piece q.behind s' in
-      let edge = lies_there true ∙ ap (λ l. free_edge true l span.first) parts
-      ∙ at-on span.first 0 (front path ++ q.before) q.piece q.behind s' true q.on in
-      subst (λ page. Grows nodes way true span (up_to true span page span.held) t) (sym q.edge)
+      let edge = lies_there true ∙ ap (λ l. free_edge true l stretch.first) parts
+      ∙ at-on stretch.first 0 (front path ++ q.before) q.piece q.behind s' true q.on in
+      subst (λ page. Grows nodes way true stretch (up_to true stretch page stretch.held) t) (sym q.edge)
       (record {
         covers = record {
           leads = record {
@@ -163,14 +163,14 @@ module _ (nodes : Slab Node) (way : List Step) (span : Span) {root : Top} {t : S
         other = refl;
       })
   grown-in false s e n =
-      let q = touched false span.last (items s) n in
+      let q = touched false stretch.last (items s) n in
       let parts : items x.r ++ back path ≡ q.before ++ q.piece ∷ (q.behind ++ back path) =
       ap (λ y. items y ++ back path) (sym e) ∙ ap (λ l. l ++ back path) q.parts ∙ append_assoc q.before (q.piece ∷ q.behind) (back path) in
       let s' = subst (λ l. AreSorted (p.last + 1) l) parts behind-sorted in
       let own = sorted_at (p.last + 1) q.before q.piece (q.behind ++ back path) s' in
-      let edge = lies_there false ∙ ap (λ l. free_edge false l span.last) parts
-      ∙ at-on span.last (p.last + 1) q.before q.piece (q.behind ++ back path) s' false q.on in
-      subst (λ page. Grows nodes way false span (up_to false span page span.held) t) (sym q.edge)
+      let edge = lies_there false ∙ ap (λ l. free_edge false l stretch.last) parts
+      ∙ at-on stretch.last (p.last + 1) q.before q.piece (q.behind ++ back path) s' false q.on in
+      subst (λ page. Grows nodes way false stretch (up_to false stretch page stretch.held) t) (sym q.edge)
       (record {
         covers = record {
           leads = record {
@@ -197,34 +197,34 @@ module _ (nodes : Slab Node) (way : List Step) (span : Span) {root : Top} {t : S
 
   -- ---- or above it
 
-  module _ (b : Bool) (s : Shape) (e : s ≡ side b x.l x.r) (none : free_edge b (items s) (page_on b span) ≡ page_on b span) where
+  module _ (b : Bool) (s : Shape) (e : s ≡ side b x.l x.r) (none : free_edge b (items s) (page_on b stretch) ≡ page_on b stretch) where
     abbrev LiesAbove : (b : Bool) → Type 0
-    LiesAbove true = free_edge true (items t) span.first ≡ free_edge true (front path) span.first
-    LiesAbove false = free_edge false (items t) span.last ≡ free_edge false (back path) span.last
+    LiesAbove true = free_edge true (items t) stretch.first ≡ free_edge true (front path) stretch.first
+    LiesAbove false = free_edge false (items t) stretch.last ≡ free_edge false (back path) stretch.last
 
     lies_above : LiesAbove b
     lies_above = go b e none
       where
-        go : (b : Bool) → s ≡ side b x.l x.r → free_edge b (items s) (page_on b span) ≡ page_on b span → LiesAbove b
+        go : (b : Bool) → s ≡ side b x.l x.r → free_edge b (items s) (page_on b stretch) ≡ page_on b stretch → LiesAbove b
         go true e n =
             let r = sorted_on 0 (front path) (items x.l) before-sorted in
-            lies_there true ∙ edge-front true span.first (front path) (items x.l)
-            (all_off true span.first r.0 (items x.l) r.1 (ap (λ y. free_edge true (items y) span.first) (sym e) ∙ n))
+            lies_there true ∙ edge-front true stretch.first (front path) (items x.l)
+            (all_off true stretch.first r.0 (items x.l) r.1 (ap (λ y. free_edge true (items y) stretch.first) (sym e) ∙ n))
         go false e n =
-            lies_there false ∙ edge-skip false span.last (items x.r) (back path)
-            (all_off false span.last (p.last + 1) (items x.r) (sorted_front (p.last + 1) (items x.r) (back path) behind-sorted)
-            (ap (λ y. free_edge false (items y) span.last) (sym e) ∙ n))
+            lies_there false ∙ edge-skip false stretch.last (items x.r) (back path)
+            (all_off false stretch.last (p.last + 1) (items x.r) (sorted_front (p.last + 1) (items x.r) (back path) behind-sorted)
+            (ap (λ y. free_edge false (items y) stretch.last) (sym e) ∙ n))
 
-    stays : free_edge b (items t) (page_on b span) ≡ page_on b span → Grows nodes way b span span t
+    stays : free_edge b (items t) (page_on b stretch) ≡ page_on b stretch → Grows nodes way b stretch stretch t
     stays h = record { covers = k; here = sym h; other = refl }
 
     -- no piece is there
-    pub grown-alone : GoesOn (not (not b)) path → Grows nodes way b span span t
+    pub grown-alone : GoesOn (not (not b)) path → Grows nodes way b stretch stretch t
     grown-alone on = stays (go b lies_above on)
       where
-        go : (b : Bool) → LiesAbove b → GoesOn (not (not b)) path → free_edge b (items t) (page_on b span) ≡ page_on b span
-        go true l on = l ∙ ap (λ ps. free_edge true ps span.first) (on-front path on) ∙ edge-nil true span.first
-        go false l on = l ∙ ap (λ ps. free_edge false ps span.last) (on-back path on) ∙ edge-nil false span.last
+        go : (b : Bool) → LiesAbove b → GoesOn (not (not b)) path → free_edge b (items t) (page_on b stretch) ≡ page_on b stretch
+        go true l on = l ∙ ap (λ ps. free_edge true ps stretch.first) (on-front path on) ∙ edge-nil true stretch.first
+        go false l on = l ∙ ap (λ ps. free_edge false ps stretch.last) (on-back path on) ∙ edge-nil false stretch.last
 
     module _ (depth : ℕ) (a : IsStepAbove way (not b) depth path) where
       above : AreAbove (get nodes) path sub
@@ -248,32 +248,32 @@ module _ (nodes : Slab Node) (way : List Step) (span : Span) {root : Top} {t : S
             go false a = back-own a
 
         -- it doesn't touch them
-        pub grown-off : free_edge b (node.piece ∷ []) (page_on b span) ≡ page_on b span → Grows nodes way b span span t
-        grown-off h = stays (go b a lies_above (subst (λ q. IsOff b (page_on b span) q) piece_is
-            (one-off b (page_on b span) node.piece grown-piece h)))
+        pub grown-off : free_edge b (node.piece ∷ []) (page_on b stretch) ≡ page_on b stretch → Grows nodes way b stretch stretch t
+        grown-off h = stays (go b a lies_above (subst (λ q. IsOff b (page_on b stretch) q) piece_is
+            (one-off b (page_on b stretch) node.piece grown-piece h)))
           where
-            go : (b : Bool) (a : IsStepAbove way (not b) depth path) → LiesAbove b → IsOff b (page_on b span) a.piece
-                → free_edge b (items t) (page_on b span) ≡ page_on b span
-            go true a l off = l ∙ ap (λ ps. free_edge true ps span.first) (front-is a)
-                ∙ at-under span.first 0 (front a.up ++ items a.other) a.piece [] (front-sorted a) true (front-under a) off
-                ∙ edge-nil true span.first
-            go false a l off = l ∙ ap (λ ps. free_edge false ps span.last) (back-is a)
-                ∙ at-under span.last back-part.0 [] a.piece (items a.other ++ back a.up) (back-sorted a) false (back-under a) off
-                ∙ edge-nil false span.last
+            go : (b : Bool) (a : IsStepAbove way (not b) depth path) → LiesAbove b → IsOff b (page_on b stretch) a.piece
+                → free_edge b (items t) (page_on b stretch) ≡ page_on b stretch
+            go true a l off = l ∙ ap (λ ps. free_edge true ps stretch.first) (front-is a)
+                ∙ at-under stretch.first 0 (front a.up ++ items a.other) a.piece [] (front-sorted a) true (front-under a) off
+                ∙ edge-nil true stretch.first
+            go false a l off = l ∙ ap (λ ps. free_edge false ps stretch.last) (back-is a)
+                ∙ at-under stretch.last back-part.0 [] a.piece (items a.other ++ back a.up) (back-sorted a) false (back-under a) off
+                ∙ edge-nil false stretch.last
 
         -- or it does
-        pub grown-on : free_edge b (node.piece ∷ []) (page_on b span) ≢ page_on b span → (key : ℕ) → a.key ≡ key
-            → Grows nodes way b span (up_to b span (free_edge b (node.piece ∷ []) (page_on b span)) (record { key = key; depth = depth })) t
+        pub grown-on : free_edge b (node.piece ∷ []) (page_on b stretch) ≢ page_on b stretch → (key : ℕ) → a.key ≡ key
+            → Grows nodes way b stretch (up_to b stretch (free_edge b (node.piece ∷ []) (page_on b stretch)) (record { key = key; depth = depth })) t
         grown-on n key e =
-            let o = one-on b (page_on b span) node.piece n in
-            subst (λ page. Grows nodes way b span (up_to b span page (record { key = key; depth = depth })) t)
+            let o = one-on b (page_on b stretch) node.piece n in
+            subst (λ page. Grows nodes way b stretch (up_to b stretch page (record { key = key; depth = depth })) t)
             (sym (o.1 ∙ ap (far b) piece_is))
-            (go b a lies_above whole-above (ap (get nodes) (sym e) ∙ f) e piece_is (subst (λ q. IsOn b (page_on b span) q) piece_is o.0))
+            (go b a lies_above whole-above (ap (get nodes) (sym e) ∙ f) e piece_is (subst (λ q. IsOn b (page_on b stretch) q) piece_is o.0))
           where
             go : (b : Bool) (a : IsStepAbove way (not b) depth path) → LiesAbove b
                 → t ≡ plug a.up (fork (not b) a.key a.piece (plug a.inner sub) a.other) → get nodes key ≡ Some node → a.key ≡ key
-                → node.piece ≡ a.piece → IsOn b (page_on b span) a.piece
-                → Grows nodes way b span (up_to b span (far b a.piece) (record { key = key; depth = depth })) t
+                → node.piece ≡ a.piece → IsOn b (page_on b stretch) a.piece
+                → Grows nodes way b stretch (up_to b stretch (far b a.piece) (record { key = key; depth = depth })) t
             go true a l is g e same on =
                 let own = front-own a in
                 let first : node.piece.first ≡ a.piece.first = ap (λ (q : Piece). q.first) same in
@@ -288,8 +288,8 @@ module _ (nodes : Slab Node) (way : List Step) (span : Span) {root : Top} {t : S
                         root = ap (λ x. Some x) (sym e);
                         before = all_left (λ q. q.last < a.piece.first) (front a.up) (items a.other)
                             (ends_below 0 a.piece.first (front a.up ++ items a.other) a.piece [] (front-sorted a) (omega arith));
-                        behind = all_right (λ q. span.last < q.first) (back a.inner) (back a.up)
-                            (subst (λ l. AllByRecursion (λ q. span.last < q.first) l)
+                        behind = all_right (λ q. stretch.last < q.first) (back a.inner) (back a.up)
+                            (subst (λ l. AllByRecursion (λ q. stretch.last < q.first) l)
                             (ap back a.is ∙ within-back a.inner (Beside false a.key a.piece a.other a.up)) k.leads.lies.behind);
                       };
                       steps = a.steps;
@@ -300,8 +300,8 @@ module _ (nodes : Slab Node) (way : List Step) (span : Span) {root : Top} {t : S
                     some = omega (arith, own, on.1, k.some);
                     narrow = k.narrow;
                   };
-                  here = sym (l ∙ ap (λ ps. free_edge true ps span.first) (front-is a)
-                      ∙ at-on span.first 0 (front a.up ++ items a.other) a.piece [] (front-sorted a) true on);
+                  here = sym (l ∙ ap (λ ps. free_edge true ps stretch.first) (front-is a)
+                      ∙ at-on stretch.first 0 (front a.up ++ items a.other) a.piece [] (front-sorted a) true on);
                   other = refl;
                 }
             go false a l is g e same on =
@@ -316,8 +316,8 @@ module _ (nodes : Slab Node) (way : List Step) (span : Span) {root : Top} {t : S
                         there = fork true a.key a.piece (plug a.inner sub) a.other;
                         is = is;
                         root = ap (λ x. Some x) (sym e);
-                        before = all_left (λ q. q.last < span.first) (front a.up) (front a.inner)
-                            (subst (λ l. AllByRecursion (λ q. q.last < span.first) l)
+                        before = all_left (λ q. q.last < stretch.first) (front a.up) (front a.inner)
+                            (subst (λ l. AllByRecursion (λ q. q.last < stretch.first) l)
                             (ap front a.is ∙ within-front a.inner (Beside true a.key a.piece a.other a.up)) k.leads.lies.before);
                         behind = all_right (λ q. a.piece.last < q.first) (items a.other) (back a.up)
                             (begins_above (a.piece.last + 1) a.piece.last (items a.other ++ back a.up) (back-sorted a).2 (omega arith));
@@ -330,7 +330,7 @@ module _ (nodes : Slab Node) (way : List Step) (span : Span) {root : Top} {t : S
                     some = omega (arith, own, on.1, k.some);
                     narrow = own.1;
                   };
-                  here = sym (l ∙ ap (λ ps. free_edge false ps span.last) (back-is a)
-                      ∙ at-on span.last back-part.0 [] a.piece (items a.other ++ back a.up) (back-sorted a) false on);
+                  here = sym (l ∙ ap (λ ps. free_edge false ps stretch.last) (back-is a)
+                      ∙ at-on stretch.last back-part.0 [] a.piece (items a.other ++ back a.up) (back-sorted a) false on);
                   other = refl;
                 }

@@ -11,7 +11,7 @@ use Rattle.piece_tree.specs.declared.way.Step.{Step}
 use Rattle.piece_tree.specs.Graft.{CanReplace}
 use Rattle.piece_tree.specs.Laid.{IsRow, rest_above, with_row}
 use Rattle.piece_tree.specs.Pieces.{AreSorted, HasAny, piece_at}
-use Rattle.piece_tree.specs.Spans.{Covers}
+use Rattle.piece_tree.specs.Stretches.{Covers}
 use Rattle.piece_tree.specs.Tree.{Shape, Fork, items, IsWhole, KeepsCount, pieces_of}
 use Rattle.piece_tree.specs.Way.{among, front, back, plug, AreSteps, Becomes, IsHeld, Leads, Lies}
 use Rattle.piece_tree.proofs.shapes.Covered.{above-none, below-none, row-at, row-within, with_row-sorted}

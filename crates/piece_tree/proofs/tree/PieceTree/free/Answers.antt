@@ -2,11 +2,11 @@ use Rattle.std.proofs.Common.{◌≡◌, ◌≤◌, ℕ, List, IsSome, length, a
 use Rattle.piece_tree.specs.declared.piece.PageState.TheVariants.{Free}
 use Rattle.piece_tree.specs.declared.piece.Piece.{Piece}
 use Rattle.piece_tree.specs.declared.piece.TheConstants.{MOST_PIECES}
-use Rattle.piece_tree.specs.declared.spans.Span.{Span}
-use Rattle.piece_tree.specs.Freed.{free_end, free_start, freed, with_free}
+use Rattle.piece_tree.specs.declared.stretches.Stretch.{Stretch}
+use Rattle.piece_tree.specs.Freed.{free_end, free_start, widened, with_free}
 use Rattle.piece_tree.specs.Laid.{with_piece}
 use Rattle.piece_tree.specs.Pieces.{piece_at}
-use Rattle.piece_tree.specs.Spans.{pages_of}
+use Rattle.piece_tree.specs.Stretches.{pages_of}
 use Rattle.piece_tree.specs.Tree.{items}
 use Rattle.piece_tree.proofs.shapes.Over.{reached, reached-none}
 use Rattle.piece_tree.proofs.shapes.Tall.{whole_view}
@@ -29,14 +29,14 @@ with_free_ends-whole-requires c =
     )
 
 -- the pages with what is free beside them are the one piece
-whole_is : (ps : List Piece) (first last : ℕ) (whole : Span) → whole.first ≡ free_start ps first → whole.last ≡ free_end ps last
-    → pages_of whole Free ≡ freed (record { first = first; last = last; state = Free }) ps
+whole_is : (ps : List Piece) (first last : ℕ) (whole : Stretch) → whole.first ≡ free_start ps first → whole.last ≡ free_end ps last
+    → pages_of whole Free ≡ widened (record { first = first; last = last; state = Free }) ps
 whole_is ps first last whole e f =
     ap (λ n. record { first = n; last = whole.last; state = Free }) e
     ∙ ap (λ n. record { first = free_start ps first; last = n; state = Free }) f
 
-pub lay_span-laid-requires : goal.lay_span-laid-requires
-lay_span-laid-requires c =
+pub lay_stretch-laid-requires : goal.lay_stretch-laid-requires
+lay_stretch-laid-requires c =
     let i = c.self.invariant in
     let root = c.self.inside.root in
     let e = sym (whole_view c.self.inside.nodes root i.0 i.1) ∙ c.self.view_is in
@@ -63,7 +63,7 @@ invariant_of-self c =
     let whole = c.with_free_ends-whole in
     let is = whole_is (items i.0) c.args.first c.args.last whole.result (whole.ensures.first root i.0 i.1 k)
     (whole.ensures.last root i.0 i.1 k) in
-    let m = c.lay_span-laid.ensures i.0 i.1 (whole.ensures.covers root i.0 i.1 k)
+    let m = c.lay_stretch-laid.ensures i.0 i.1 (whole.ensures.covers root i.0 i.1 k)
     (subst (λ p. length (with_piece p (items i.0)) ≤ MOST_PIECES) (sym is)
     (subst (λ l. length (with_free (record { first = c.args.first; last = c.args.last; state = Free }) l) ≤ MOST_PIECES) (sym e)
     c.requires.room)) in
@@ -79,11 +79,11 @@ returns-clause-free c =
     let whole = c.with_free_ends-whole in
     let is = whole_is (items i.0) c.args.first c.args.last whole.result (whole.ensures.first root i.0 i.1 k)
     (whole.ensures.last root i.0 i.1 k) in
-    let m = c.lay_span-laid.ensures i.0 i.1 (whole.ensures.covers root i.0 i.1 k)
+    let m = c.lay_stretch-laid.ensures i.0 i.1 (whole.ensures.covers root i.0 i.1 k)
     (subst (λ p. length (with_piece p (items i.0)) ≤ MOST_PIECES) (sym is)
     (subst (λ l. length (with_free (record { first = c.args.first; last = c.args.last; state = Free }) l) ≤ MOST_PIECES) (sym e)
     c.requires.room)) in
-    whole_view c.lay_span-laid.new.nodes c.lay_span-laid.result.root m.shape m.whole ∙ m.all
+    whole_view c.lay_stretch-laid.new.nodes c.lay_stretch-laid.result.root m.shape m.whole ∙ m.all
     ∙ ap (λ p. with_piece p (items i.0)) is
     ∙ ap (λ l. with_free (record { first = c.args.first; last = c.args.last; state = Free }) l) e
 

@@ -2,7 +2,7 @@ use Rattle.slab.specs.Slab.{get}
 use Rattle.piece_tree.specs.Tree.{at_root}
 use Rattle.piece_tree.proofs.shapes.Edging.{IsEdging}
 use Rattle.piece_tree.proofs.shapes.Led.{node_height}
-use Rattle.piece_tree.proofs.spans.free_edge.Given as goal
+use Rattle.piece_tree.proofs.stretches.free_edge.Given as goal
 
 -- what touches the page is where was come to
 abbrev pub invariant-loop-at : goal.invariant-loop-at

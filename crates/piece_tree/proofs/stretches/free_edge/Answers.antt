@@ -6,8 +6,8 @@ use Rattle.slab.specs.Slab.{get}
 use Rattle.piece_tree.proofs.shapes.Edges.{one-off, one-on}
 use Rattle.piece_tree.proofs.shapes.Edging.{Goes, edging_start, edging_end, edging-there, edging-piece, edging_none, edging-here}
 use Rattle.piece_tree.proofs.shapes.Edging.{edging-falls, edging-on}
-use Rattle.piece_tree.proofs.spans.free_edge.Goals as goal
-use Rattle.piece_tree.proofs.spans.free_edge.Goals.{then-before, else-before}
+use Rattle.piece_tree.proofs.stretches.free_edge.Goals as goal
+use Rattle.piece_tree.proofs.stretches.free_edge.Goals.{then-before, else-before}
 
 pub loop-at-init : goal.loop-at-init
 loop-at-init c = edging_start (get c.args.nodes.now) c.args.root c.args.before c.args.page

@@ -1,10 +1,10 @@
 use Rattle.std.proofs.Common.{[], ◌≡◌, ◌∷◌, true, false, sym, ◌∙◌, inl, inr, subst}
 use Rattle.piece_tree.specs.Freed.{free_edge}
 use Rattle.piece_tree.proofs.shapes.Edges.{edge-here, edge-none}
-use Rattle.piece_tree.proofs.spans.edge_of.Goals as goal
-use Rattle.piece_tree.proofs.spans.edge_of.Goals.{else-piece-page-via-then-piece-page+else-is_free, else-piece-page-via-else-piece-page}
-use Rattle.piece_tree.proofs.spans.edge_of.Goals.{else-piece-page-2-via-then-piece-page-2+else-is_free-2}
-use Rattle.piece_tree.proofs.spans.edge_of.Goals.{else-piece-page-2-via-else-piece-page-2}
+use Rattle.piece_tree.proofs.stretches.edge_of.Goals as goal
+use Rattle.piece_tree.proofs.stretches.edge_of.Goals.{else-piece-page-via-then-piece-page+else-is_free, else-piece-page-via-else-piece-page}
+use Rattle.piece_tree.proofs.stretches.edge_of.Goals.{else-piece-page-2-via-then-piece-page-2+else-is_free-2}
+use Rattle.piece_tree.proofs.stretches.edge_of.Goals.{else-piece-page-2-via-else-piece-page-2}
 
 pub returns-then-is_free : goal.returns-then-is_free
 returns-then-is_free c =

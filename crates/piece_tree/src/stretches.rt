@@ -5,7 +5,7 @@ ghost use Rattle.slab.specs.Slab.{get};
 ghost use Rattle.piece_tree.specs.declared.piece.TheConstants.{NUMBERS_END};
 ghost use Rattle.piece_tree.specs.Freed.{free_edge, free_end, free_start};
 ghost use Rattle.piece_tree.specs.Pieces.{AreSorted, IsPiece};
-ghost use Rattle.piece_tree.specs.Spans.{Covers, Grows, page_on, up_to};
+ghost use Rattle.piece_tree.specs.Stretches.{Covers, Grows, page_on, up_to};
 ghost use Rattle.piece_tree.specs.Tree.{IsTop, IsWhole, Shape, items};
 
 use crate::node::{Node, Top};
@@ -15,13 +15,13 @@ use slab::Slab;
 
 /// The pages from a first to a last one, and the highest of the pieces that have some of them.
 #[derive(Clone, Copy)]
-pub(crate) struct Span {
+pub(crate) struct Stretch {
     pub(crate) held: Held,
     pub(crate) first: u64,
     pub(crate) last: u64,
 }
 
-impl Span {
+impl Stretch {
     // The first of the pages, or the last.
     #[inline(always)]
     fn page_on(self, before: bool) -> u64
@@ -35,17 +35,17 @@ impl Span {
 
     // The same, but up to another page on a side, and with another piece as the highest.
     #[inline(always)]
-    fn up_to(self, before: bool, page: u64, held: Held) -> Span
+    fn up_to(self, before: bool, page: u64, held: Held) -> Stretch
         ensures { result ≡ up_to before self page held }
     {
         if before {
-            return Span {
+            return Stretch {
                 held,
                 first: page,
                 ..self
             };
         }
-        Span {
+        Stretch {
             held,
             last: page,
             ..self
@@ -102,39 +102,39 @@ pub(crate) fn free_edge(nodes: &Slab<Node>, root: Top, before: bool, page: u64) 
 // The pages with the free piece that ends just before them, or begins just behind them. It lies in the tree on that side of the highest
 // one, or else it is the first one above on that side.
 #[inline(always)]
-fn grow(nodes: &Slab<Node>, way: &[Step; MOST_HEIGHT], span: Span, before: bool) -> Span
-    requires { (root : Top) × (t : Shape) × IsWhole nodes.now root t × Covers nodes.now way.now span t }
-    ensures { (root : Top) (t : Shape) → IsWhole nodes.now root t → Covers nodes.now way.now span t
-        → Grows nodes.now way.now before span result t }
+fn grow(nodes: &Slab<Node>, way: &[Step; MOST_HEIGHT], stretch: Stretch, before: bool) -> Stretch
+    requires { (root : Top) × (t : Shape) × IsWhole nodes.now root t × Covers nodes.now way.now stretch t }
+    ensures { (root : Top) (t : Shape) → IsWhole nodes.now root t → Covers nodes.now way.now stretch t
+        → Grows nodes.now way.now before stretch result t }
 {
-    let page = span.page_on(before);
-    let child = nodes[span.held.key].child(before);
+    let page = stretch.page_on(before);
+    let child = nodes[stretch.held.key].child(before);
     let edge = free_edge(nodes, child, before, page);
     if edge != page {
-        return span.up_to(before, edge, span.held);
+        return stretch.up_to(before, edge, stretch.held);
     }
-    let Some(depth) = step_above(way, span.held.depth, !before) else {
-        return span;
+    let Some(depth) = step_above(way, stretch.held.depth, !before) else {
+        return stretch;
     };
     let key = way[depth].key;
     let edge = edge_of(nodes[key].piece, before, page);
     if edge == page {
-        return span;
+        return stretch;
     }
-    span.up_to(before, edge, Held { key, depth })
+    stretch.up_to(before, edge, Held { key, depth })
 }
 
 /// The pages with the free pieces that end just before them and begin just behind them.
 #[inline(always)]
-pub(crate) fn with_free_ends(nodes: &Slab<Node>, way: &[Step; MOST_HEIGHT], span: Span) -> Span
-    requires { (root : Top) × (t : Shape) × IsWhole nodes.now root t × Covers nodes.now way.now span t }
-    ensures covers { (root : Top) (t : Shape) → IsWhole nodes.now root t → Covers nodes.now way.now span t
+pub(crate) fn with_free_ends(nodes: &Slab<Node>, way: &[Step; MOST_HEIGHT], stretch: Stretch) -> Stretch
+    requires { (root : Top) × (t : Shape) × IsWhole nodes.now root t × Covers nodes.now way.now stretch t }
+    ensures covers { (root : Top) (t : Shape) → IsWhole nodes.now root t → Covers nodes.now way.now stretch t
         → Covers nodes.now way.now result t }
-    ensures first { (root : Top) (t : Shape) → IsWhole nodes.now root t → Covers nodes.now way.now span t
-        → result.first ≡ free_start (items t) span.first }
-    ensures last { (root : Top) (t : Shape) → IsWhole nodes.now root t → Covers nodes.now way.now span t
-        → result.last ≡ free_end (items t) span.last }
+    ensures first { (root : Top) (t : Shape) → IsWhole nodes.now root t → Covers nodes.now way.now stretch t
+        → result.first ≡ free_start (items t) stretch.first }
+    ensures last { (root : Top) (t : Shape) → IsWhole nodes.now root t → Covers nodes.now way.now stretch t
+        → result.last ≡ free_end (items t) stretch.last }
 {
-    let low = grow(nodes, way, span, true);
+    let low = grow(nodes, way, stretch, true);
     grow(nodes, way, low, false)
 }

@@ -1,20 +1,20 @@
 use Rattle.std.proofs.Common.{◌≡◌, List, Some, [], ◌∷◌, refl, subst}
 use Rattle.slab.specs.Slab.{Slab, get}
 use Rattle.piece_tree.specs.declared.node.Node.{Node}
-use Rattle.piece_tree.specs.declared.spans.Span.{Span}
+use Rattle.piece_tree.specs.declared.stretches.Stretch.{Stretch}
 use Rattle.piece_tree.specs.declared.way.Step.{Step}
 use Rattle.piece_tree.specs.Pieces.{HasAny}
-use Rattle.piece_tree.specs.Spans.{Covers, pages_of}
+use Rattle.piece_tree.specs.Stretches.{Covers, pages_of}
 use Rattle.piece_tree.specs.Tree.{Shape}
 use Rattle.piece_tree.proofs.shapes.Over.{lay-all, lay-can, lay-held, lay-whole, renew-all, renew-whole}
-use Rattle.piece_tree.proofs.edits.lay_span.Goals as goal
+use Rattle.piece_tree.proofs.edits.lay_stretch.Goals as goal
 
-has : {nodes : Slab Node} {way : List Step} {span : Span} {t : Shape} → Covers nodes way span t → (node : Node)
-    → get nodes span.held.key ≡ Some node → HasAny node.piece span.first span.last
-has {span = span} k node f =
+has : {nodes : Slab Node} {way : List Step} {stretch : Stretch} {t : Shape} → Covers nodes way stretch t → (node : Node)
+    → get nodes stretch.held.key ≡ Some node → HasAny node.piece stretch.first stretch.last
+has {stretch = stretch} k node f =
     let there = k.there in
     let same : k.node ≡ node = cc in
-    subst (λ (n : Node). HasAny n.piece span.first span.last) same k.has
+    subst (λ (n : Node). HasAny n.piece stretch.first stretch.last) same k.has
 
 pub renew-root-requires-clause-held : goal.renew-root-requires-clause-held
 renew-root-requires-clause-held c =
@@ -24,15 +24,15 @@ renew-root-requires-clause-held c =
       _,
       _,
       _,
-      lay-held c.args.span.first (pages_of c.args.span c.args.state ∷ []) c.args.span.last q.1 k.leads.lies k.some refl c.index.ensures
+      lay-held c.args.stretch.first (pages_of c.args.stretch c.args.state ∷ []) c.args.stretch.last q.1 k.leads.lies k.some refl c.index.ensures
           k.leads.steps,
     )
 
 pub returns-then-there-piece-2 : goal.returns-then-there-piece-2
 returns-then-there-piece-2 c t w k few =
-    let row = pages_of c.args.span c.args.state ∷ [] in
-    let first = c.args.span.first in
-    let last = c.args.span.last in
+    let row = pages_of c.args.stretch c.args.state ∷ [] in
+    let first = c.args.stretch.first in
+    let last = c.args.stretch.last in
     let b = c.renew-root.ensures.becomes _ _ _ _ (lay-held first row last w k.leads.lies k.some refl c.index.ensures k.leads.steps) in
     record {
       shape = b.0.shape;
@@ -42,7 +42,7 @@ returns-then-there-piece-2 c t w k few =
           c.if-there-piece.true c.if-there-piece-2.true b.0 c.renew-root.ensures.count refl;
       hand = record {
         path = _;
-        piece = pages_of c.args.span c.args.state;
+        piece = pages_of c.args.stretch c.args.state;
         left = _;
         right = _;
         is = b.1;
@@ -56,9 +56,9 @@ pub lay_over-root-requires : goal.lay_over-root-requires
 lay_over-root-requires c =
     let q = c.requires in
     let k = q.2 in
-    let row = pages_of c.args.span c.args.state ∷ [] in
-    let first = c.args.span.first in
-    let last = c.args.span.last in (
+    let row = pages_of c.args.stretch c.args.state ∷ [] in
+    let first = c.args.stretch.first in
+    let last = c.args.stretch.last in (
       _,
       _,
       _,
@@ -71,9 +71,9 @@ lay_over-root-requires c =
 
 pub returns : goal.returns
 returns c t w k few =
-    let row = pages_of c.args.span c.args.state ∷ [] in
-    let first = c.args.span.first in
-    let last = c.args.span.last in
+    let row = pages_of c.args.stretch c.args.state ∷ [] in
+    let first = c.args.stretch.first in
+    let last = c.args.stretch.last in
     let h = lay-held first row last w k.leads.lies k.some refl c.index.ensures k.leads.steps in
     let can = lay-can first row last w k.leads.lies k.some refl c.index.ensures (has k) (refl, k.some, refl) k.narrow few in
     let m = c.lay_over-root.ensures.becomes _ _ _ _ _ _ h can in

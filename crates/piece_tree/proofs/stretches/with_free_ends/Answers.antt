@@ -1,7 +1,7 @@
 use Rattle.std.proofs.Common.{false, ap, ◌∙◌}
 use Rattle.piece_tree.specs.Freed.{free_edge}
 use Rattle.piece_tree.specs.Tree.{items}
-use Rattle.piece_tree.proofs.spans.with_free_ends.Goals as goal
+use Rattle.piece_tree.proofs.stretches.with_free_ends.Goals as goal
 
 pub grow-requires : goal.grow-requires
 grow-requires c = let q = c.requires in (q.0, q.1, q.2, (c.grow-low.ensures q.0 q.1 q.2 q.3).covers)
