@@ -1,5 +1,5 @@
-//! Limits, as the header of the C library has them. Those that are own, and neither of VT-d nor of Linux, are named so in the glossary
-//! of the repository.
+//! Limits, as the header of the C library has them. The README of the repository, *Limits*, tells which this project chose, and neither
+//! VT-d nor Linux says: it marks them as *own*.
 
 /// Bytes of a page, and of a frame.
 pub const PAGE_BYTES: u64 = 4096;
