@@ -88,6 +88,7 @@
 )]
 
 mod choices;
+mod creation;
 mod effects;
 #[allow(unsafe_code, reason = "the only module that calls C")]
 mod ffi;
