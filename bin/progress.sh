@@ -1,4 +1,4 @@
-# How far a proof of crates is, for the programs of this folder: sourced by them.
+# When what was built is proved and built again, and how far a proof of crates is: for the programs of this folder, which source it.
 
 # The crates that one stands on, and itself, by the list of crates: how many they are.
 crates_below() {
@@ -13,29 +13,45 @@ crates_below() {
         END { add(top); print found }' "$2"
 }
 
-# Proves and builds a crate by the command that follows, in the crate's folder, and shows on a terminal how many of the crates are done,
-# how many functions of the next one are, and how long it has taken. Elsewhere nothing is shown. Where the command fails, what it said
-# last stands on standard error.
+# Whether a built file isn't there, or something is newer: a source, a folder of sources (one was added or removed), the list of crates.
+# A crate's own folder is left out, since rt makes out/ in it; so are the edits that the prover must refuse.
+is_old() {
+    local top=$1 built=$2
+    [ ! -f "$built" ] || [ -n "$(
+        find "$top/crates.txt" -newer "$built"
+        find "$top/crates" -mindepth 2 \( -name out -o -name must-fail \) -prune -o \
+            -newer "$built" \( -name '*.rt' -o -name '*.antt' -o -type d \) -print
+    )" ]
+}
+
+# Proves a crate and builds a file of it by the command that follows, in the crate's folder, and shows on a terminal how many of the
+# crates are done, which one is in work, how many functions of it are done, and how long it has taken. Elsewhere nothing is shown. Where
+# the command fails, what it said last stands on standard error. `rt run` says this on standard error, `rt lib` on standard output.
 proved() {
-    local top=$1 name=$2 said all line done=0 functions='' status=0
-    shift 2
+    local top=$1 name=$2 built=$3 begun said all line done=0 crate='' functions='' status=0
+    shift 3
+    begun=$(mktemp)
     said=$(mktemp)
     all=$(crates_below "$name" "$top/crates.txt")
     SECONDS=0
     while IFS= read -r line; do
         case $line in
-            logic=proved*) done=$((done + 1)) functions='' ;;
+            'rt: chose --jobs '*' for '*) crate=", now ${line##* for }" functions='' ;;
             'so far: '*' functions checked'*) functions=", ${line#so far: }" functions=${functions%%;*} ;;
+            logic=proved*) done=$((done + 1)) crate='' functions='' ;;
         esac
         if [ -t 2 ]; then
-            printf '\r\033[K%s' "$done of $all crates are proved$functions: $((SECONDS / 60)) min $((SECONDS % 60)) s" >&2
+            printf '\r\033[K%s' "$done of $all crates proved$crate$functions: $((SECONDS / 60)) min $((SECONDS % 60)) s" >&2
         fi
-    done < <( (cd "$top/crates/$name" && "$@" 2>&1 > /dev/null < /dev/null || echo "failed $?") | tee "$said")
+    done < <( (cd "$top/crates/$name" && "$@" 2>&1 < /dev/null || echo "failed $?") | tee "$said")
     if [ -t 2 ]; then printf '\r\033[K' >&2; fi
     if [[ $(tail -n 1 "$said") =~ ^failed\ ([0-9]+)$ ]]; then
         status=${BASH_REMATCH[1]}
         tail -n 20 "$said" >&2
+    else
+        # Sources that were changed during the build are newer than what was built.
+        touch -r "$begun" "$built"
     fi
-    rm -f "$said"
+    rm -f "$begun" "$said"
     return "$status"
 }
