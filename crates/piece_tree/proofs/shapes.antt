@@ -22,6 +22,7 @@ pub mod Grown
 pub mod Shorter
 pub mod Laid
 pub mod Halved
+pub mod Crowned
 pub mod Removed
 pub mod Made
 pub mod Covered

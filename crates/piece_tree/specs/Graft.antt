@@ -1,5 +1,5 @@
 -- Trees put together at a key, and pieces put over others of a tree.
-use Rattle.std.specs.Prelude.{ℕ, ◌≡◌, ◌+◌, ◌<◌, ◌≤◌, Bool, true, false, List, [], ◌∷◌, ◌++◌, length, Option, Some, None, IsSome}
+use Rattle.std.specs.Prelude.{ℕ, ◌≡◌, ◌+◌, ◌*◌, ◌^◌, ◌<◌, ◌≤◌, Bool, true, false, List, [], ◌∷◌, ◌++◌, length, Option, Some, None, IsSome}
 use Rattle.slab.specs.Slab.{Slab, get, slab_len}
 use Rattle.piece_tree.specs.declared.piece.Piece.{Piece}
 use Rattle.piece_tree.specs.declared.piece.TheConstants.{MOST_PIECES, NUMBERS_END}
@@ -24,6 +24,21 @@ pub record Makes (old new : Slab Node) (top : Top) (t : Shape) (pieces : List Pi
   pub apart : (k : ℕ) → uses t k ≡ 0 → IsSome (get old k) → (get new k ≡ get old k) × (uses shape k ≡ 0)
   pub len : slab_len new + length (items t) ≡ slab_len old + length pieces
   pub capacity : new.capacity ≡ old.capacity
+
+-- ---- a piece between two trees
+
+-- what was made of a tree so far: two trees. No key beside it changed or came into them
+pub record Parted (old new : Slab Node) (near far : Top) (t n f : Shape) : Type 0 where
+  pub near_tree : IsTree (get new) near n
+  pub far_tree : IsTree (get new) far f
+  pub once : (k : ℕ) → uses n k + uses f k ≤ 1
+  pub apart : (k : ℕ) → uses t k ≡ 0 → IsSome (get old k) → (get new k ≡ get old k) × (uses n k + uses f k ≡ 0)
+  pub len : slab_len new + length (items t) ≡ slab_len old + (length (items n) + length (items f))
+  pub capacity : new.capacity ≡ old.capacity
+
+-- the height of the lowest tree of so many pieces
+abbrev pub IsLeastHeight : (pieces height : ℕ) → Type 0
+IsLeastHeight pieces height = (pieces < 2 ^ height) × (2 ^ height ≤ 2 * pieces + 1)
 
 -- ---- a piece added at an end
 

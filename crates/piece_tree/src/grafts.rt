@@ -1,12 +1,13 @@
 //! Trees put together at a key between them, and pieces added at an end of a tree.
 
-ghost use Rattle.std.specs.Prelude.{◌≡◌, ◌+◌, ◌<◌, ◌≤◌, ◌∷◌, [], IfSome, IsSome, Some, length};
+ghost use Rattle.std.specs.Prelude.{◌≡◌, ◌+◌, ◌<◌, ◌≤◌, ◌∷◌, ◌++◌, [], IfSome, IsSome, Some, length, max};
 ghost use Rattle.slab.specs.Slab.{get, slab_len};
+ghost use Rattle.slab.specs.Slab as slabs;
 ghost use Rattle.piece_tree.specs.Pieces.{IsPiece};
-ghost use Rattle.piece_tree.specs.Graft.{Adds, IsTree, Makes, some_of};
-ghost use Rattle.piece_tree.specs.Tree.{AreParts, CanHang, Empty, Joins, KeepsCount, Shape, height_of, items};
+ghost use Rattle.piece_tree.specs.Graft.{Adds, IsTree, Makes, Parted, some_of};
+ghost use Rattle.piece_tree.specs.Tree.{AreNear, AreParts, CanHang, Empty, Joins, KeepsCount, Shape, height_of, items};
 
-use crate::links::{free_length, link, open, set_child};
+use crate::links::{link, open, set_child};
 use crate::node::{NO_TREE, Node, Top};
 use crate::piece::{MOST_PIECES, Piece};
 use crate::turn::turn;
@@ -87,6 +88,27 @@ fn graft_onto(
     between(nodes, before, outer.near, top, outer.piece, below)
 }
 
+/// Makes a tree of a new piece between two trees.
+#[inline(always)]
+pub(crate) fn crown(nodes: &mut Slab<Node>, near: Top, piece: Piece, far: Top) -> Top
+    requires parts { (was : slabs.Slab Node) × (n : Shape) × (f : Shape) × Parted was nodes.old near far Empty n f × AreNear n f
+        × (length (items n) + length (items f) < MOST_PIECES) }
+    requires piece { IsPiece piece }
+    requires room { slab_len nodes.old < nodes.old.capacity }
+    ensures makes { (was : slabs.Slab Node) (n f : Shape) → Parted was nodes.old near far Empty n f → AreNear n f
+        → length (items n) + length (items f) < MOST_PIECES → Makes was nodes.new result Empty (items n ++ piece ∷ items f) }
+    ensures key { IsSome result.root }
+    ensures height { result.height ≡ 1 + max near.height far.height }
+{
+    let node = Node {
+        piece,
+        left: near,
+        right: far,
+    };
+    let key = nodes.insert_reserved(node);
+    node.tree(key)
+}
+
 /// Makes a tree of one piece.
 #[inline(always)]
 pub(crate) fn leaf(nodes: &mut Slab<Node>, piece: Piece) -> Top
@@ -96,16 +118,7 @@ pub(crate) fn leaf(nodes: &mut Slab<Node>, piece: Piece) -> Top
     ensures key { IsSome result.root }
     ensures height { result.height ≡ 1 }
 {
-    let key = nodes.insert_reserved(Node {
-        piece,
-        left: NO_TREE,
-        right: NO_TREE,
-    });
-    Top {
-        root: Some(key),
-        height: 1,
-        longest: free_length(piece),
-    }
+    crown(nodes, NO_TREE, piece, NO_TREE)
 }
 
 /// Puts another tree on a side of a key, of any height.

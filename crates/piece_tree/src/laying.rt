@@ -3,13 +3,13 @@
 ghost use Rattle.std.specs.Prelude.{ℕ, ◌≡◌, ◌+◌, ◌≤◌, true, false, List, IfSome, length};
 ghost use Rattle.std.specs.List.{AllByRecursion};
 ghost use Rattle.slab.specs.Slab.{get, slab_len};
-ghost use Rattle.piece_tree.specs.Graft.{CanKeep, CanReplace, Flanked, IsTree, LiesBeside, LiesOff, Makes, Removes, some_of};
+ghost use Rattle.piece_tree.specs.Graft.{CanKeep, CanReplace, Flanked, IsLeastHeight, IsTree, LiesBeside, LiesOff, Makes, Removes, some_of};
 ghost use Rattle.piece_tree.specs.Laid.{part_beside, rest_above, rest_below, rest_beside, with_row};
 ghost use Rattle.piece_tree.specs.declared.piece.Piece.{Piece};
 ghost use Rattle.piece_tree.specs.Pieces.{AreSorted, Holds, IsPiece};
 ghost use Rattle.piece_tree.specs.Tree.{Empty, IsBelow, Shape, items, uses};
 
-use crate::grafts::{add, graft, leaf, regraft};
+use crate::grafts::{add, crown, graft, leaf, regraft};
 use crate::links::open;
 use crate::node::{NO_TREE, Node, Top};
 use crate::piece::{MOST_PIECES, Piece};
@@ -38,7 +38,8 @@ pub(crate) fn build(nodes: &mut Slab<Node>, pieces: &[Piece]) -> Top
     requires pieces { AllByRecursion IsPiece pieces.now }
     requires few { length pieces.now ≤ MOST_PIECES }
     requires room { slab_len nodes.old + length pieces.now ≤ nodes.old.capacity }
-    ensures { Makes nodes.old nodes.new result Empty pieces.now }
+    ensures makes { Makes nodes.old nodes.new result Empty pieces.now }
+    ensures height { IsLeastHeight (length pieces.now) result.height }
 {
     if pieces.is_empty() {
         return NO_TREE;
@@ -46,10 +47,7 @@ pub(crate) fn build(nodes: &mut Slab<Node>, pieces: &[Piece]) -> Top
     let middle = pieces.len() / 2;
     let near = build(nodes, &pieces[..middle]);
     let far = build(nodes, &pieces[middle + 1..]);
-    let piece = pieces[middle];
-    let at = leaf(nodes, piece);
-    let Some(key) = at.root else { unreachable!() };
-    graft(nodes, true, near, key, piece, far)
+    crown(nodes, near, pieces[middle], far)
 }
 
 /// What is left of a piece below a page.

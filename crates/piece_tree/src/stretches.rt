@@ -126,7 +126,11 @@ fn grow(nodes: &Slab<Node>, way: &[Step; MOST_HEIGHT], stretch: Stretch, before:
 
 /// The pages with the free pieces that end just before them and begin just behind them.
 #[inline(always)]
-pub(crate) fn with_free_ends(nodes: &Slab<Node>, way: &[Step; MOST_HEIGHT], stretch: Stretch) -> Stretch
+pub(crate) fn with_free_ends(
+    nodes: &Slab<Node>,
+    way: &[Step; MOST_HEIGHT],
+    stretch: Stretch,
+) -> Stretch
     requires { (root : Top) × (t : Shape) × IsWhole nodes.now root t × Covers nodes.now way.now stretch t }
     ensures covers { (root : Top) (t : Shape) → IsWhole nodes.now root t → Covers nodes.now way.now stretch t
         → Covers nodes.now way.now result t }

@@ -1,41 +1,19 @@
--- A tree of one piece, and a piece added at an end of a tree.
-use Rattle.std.proofs.Common.{◌≡◌, ◌≢◌, ℕ, ◌+◌, ◌<◌, ◌≤◌, max, Bool, true, false, List, [], ◌∷◌, ◌++◌, length, Some, None, refl}
+-- A piece added at an end of a tree.
+use Rattle.std.proofs.Common.{◌≡◌, ℕ, ◌+◌, ◌<◌, ◌≤◌, max, Bool, true, false, List, [], ◌∷◌, ◌++◌, length, Some, None, refl}
 use Rattle.std.proofs.Common.{ap, sym, ◌∙◌, inl, inr, subst, arith, append_assoc, length-append}
 use Rattle.std.proofs.lemmas.List.{append-nil}
-use Rattle.slab.specs.Slab.{Slab, Updates, get, slab_len}
+use Rattle.slab.specs.Slab.{Slab, get}
 use Rattle.piece_tree.specs.declared.piece.Piece.{Piece}
 use Rattle.piece_tree.specs.declared.piece.TheConstants.{MOST_PIECES}
 use Rattle.piece_tree.specs.declared.node.Node.{Node}
 use Rattle.piece_tree.specs.declared.node.Opened.{Opened}
 use Rattle.piece_tree.specs.declared.node.Top.{Top}
 use Rattle.piece_tree.specs.Graft.{Adds, IsTree, Makes, side_by_side}
-use Rattle.piece_tree.specs.Pieces.{IsPiece}
-use Rattle.piece_tree.specs.Tree.{Look, Shape, Empty, Fork, items, height_of, root_of, fork, joint, top_of, AreNear, Joins, KeepsCount, Opens}
-use Rattle.piece_tree.specs.Tree.{free_pages}
+use Rattle.piece_tree.specs.Tree.{Look, Shape, Empty, items, height_of, root_of, fork, AreNear, Joins, KeepsCount, Opens}
 use Rattle.piece_tree.proofs.shapes.Beside.{none_empty}
-use Rattle.piece_tree.proofs.shapes.Forks.{fork-height, one-other, opened-by, opened-height}
+use Rattle.piece_tree.proofs.shapes.Forks.{fork-height, opened-by, opened-height}
 use Rattle.piece_tree.proofs.shapes.Halved.{halved-side, opened-half, opened-long}
 use Rattle.piece_tree.proofs.shapes.Tall.{contents_is, low_tree, order}
-
--- ---- a tree of one piece
-
-pub leaf-makes : (old new : Slab Node) (p : Piece) (key longest : ℕ) → IsPiece p → get old key ≡ None
-    → Updates old new key (Some (joint p (top_of Empty) (top_of Empty))) → longest ≡ free_pages p → slab_len new ≡ slab_len old + 1
-    → new.capacity ≡ old.capacity → Makes old new (record { root = Some key; height = 1; longest = longest }) Empty (p ∷ [])
-leaf-makes old new p key longest i none u e len capacity = record {
-  shape = Fork key p Empty Empty;
-  tree = record {
-    is = ap (λ n. record { root = Some key; height = 1; longest = n }) (omega (arith, e));
-    stands = (u.changed, i, (omega arith, omega arith), tt, tt);
-    once = λ k. grind arith;
-    few = omega arith;
-  };
-  all = refl;
-  apart = λ k z there. let other : k ≢ key = λ x. let y : get old k ≡ get old key = ap (get old) x in absurd (cc) in
-      (u.others k other, omega (arith, one-other key k other));
-  len = omega (arith, len);
-  capacity = capacity;
-}
 
 -- ---- no piece
 

@@ -6,9 +6,9 @@ use Rattle.piece_tree.specs.declared.piece.Piece.{Piece}
 use Rattle.piece_tree.specs.declared.piece.TheConstants.{MOST_PIECES}
 use Rattle.piece_tree.specs.declared.node.Node.{Node}
 use Rattle.piece_tree.specs.declared.node.Top.{Top}
-use Rattle.piece_tree.specs.Graft.{Adds, Flanked, Halved, IsTree, Makes, some_of}
+use Rattle.piece_tree.specs.Graft.{Adds, Flanked, Halved, IsTree, Makes, Parted, some_of}
 use Rattle.piece_tree.specs.Tree.{Shape, Empty, items, AreParts, Joins, KeepsCount}
-use Rattle.piece_tree.proofs.shapes.Halved.{Parted, near-tree, far-tree, halved-near, halved-far, middle-join}
+use Rattle.piece_tree.proofs.shapes.Halved.{near-tree, far-tree, halved-near, halved-far, middle-join}
 use Rattle.piece_tree.proofs.shapes.Halved.{middle-parts, parted-key}
 
 -- all pieces are those of the trees, those that are left at their ends, and between these the ones that are to come

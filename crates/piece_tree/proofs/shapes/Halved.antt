@@ -3,13 +3,13 @@ use Rattle.std.proofs.Common.{◌≡◌, ℕ, ◌+◌, ◌<◌, ◌≤◌, Bool,
 use Rattle.std.proofs.Common.{arith, length-append}
 use Rattle.std.proofs.lemmas.Bool.Decides.{nat_tests}
 use Rattle.std.specs.Prelude.{not}
-use Rattle.slab.specs.Slab.{Slab, get, slab_len}
+use Rattle.slab.specs.Slab.{Slab, get}
 use Rattle.piece_tree.specs.declared.piece.Piece.{Piece}
 use Rattle.piece_tree.specs.declared.piece.TheConstants.{MOST_PIECES}
 use Rattle.piece_tree.specs.declared.node.Node.{Node}
 use Rattle.piece_tree.specs.declared.node.Opened.{Opened}
 use Rattle.piece_tree.specs.declared.node.Top.{Top}
-use Rattle.piece_tree.specs.Graft.{Halved, IsTree, Makes}
+use Rattle.piece_tree.specs.Graft.{Halved, IsTree, Makes, Parted}
 use Rattle.piece_tree.specs.Tree.{Look, Shape, Empty, items, height_of, root_of, one, uses, fork, top_of, AreParts, CanHang, Joins, KeepsCount, Opens}
 use Rattle.piece_tree.proofs.shapes.Apart.{IsApart, apart-still, apart-stands, root-used, used-there}
 use Rattle.piece_tree.proofs.shapes.Forks.{StandsBy, one-same, opened-by, opened-there, opened-uses, same_stands}
@@ -189,15 +189,6 @@ halved-side old mid near key far t n f h false new top p j c few =
     (joins-flip (get mid) (get new) true top key p f n j) c refl (omega (arith, few, length-append (items f) (p ∷ items n)))
 
 -- ---- two trees
-
--- what was made of a tree so far: two trees. No key beside it changed or came into them
-pub record Parted (old new : Slab Node) (near far : Top) (t n f : Shape) : Type 0 where
-  pub near_tree : IsTree (get new) near n
-  pub far_tree : IsTree (get new) far f
-  pub once : (k : ℕ) → uses n k + uses f k ≤ 1
-  pub apart : (k : ℕ) → uses t k ≡ 0 → IsSome (get old k) → (get new k ≡ get old k) × (uses n k + uses f k ≡ 0)
-  pub len : slab_len new + length (items t) ≡ slab_len old + (length (items n) + length (items f))
-  pub capacity : new.capacity ≡ old.capacity
 
 pub parted-two : (old mid new : Slab Node) (near far : Top) (xs ys : List Piece) (m : Makes old mid near Empty xs)
     (w : Makes mid new far Empty ys) → Parted old new near far Empty m.shape w.shape

@@ -1,8 +1,11 @@
-use Rattle.piece_tree.proofs.shapes.Added.{leaf-makes}
+use Rattle.std.proofs.Common.{arith}
+use Rattle.piece_tree.specs.Tree.{Empty}
+use Rattle.piece_tree.proofs.shapes.Crowned.{parted-none}
 use Rattle.piece_tree.proofs.grafts.leaf.Goals as goal
+
+pub crown-requires-clause-parts : goal.crown-requires-clause-parts
+crown-requires-clause-parts c = (c.args.nodes.now, Empty, Empty, parted-none c.args.nodes.now, (omega arith, omega arith), omega arith)
 
 pub returns-clause-makes : goal.returns-clause-makes
 returns-clause-makes c =
-    leaf-makes c.args.nodes.now c.insert_reserved-key.new.self c.args.piece c.insert_reserved-key.result c.free_length.result
-    c.requires.piece c.insert_reserved-key.ensures.was_vacant c.insert_reserved-key.ensures.updates c.free_length.ensures
-    c.insert_reserved-key.ensures.len c.insert_reserved-key.ensures.capacity
+    c.crown.ensures.makes c.args.nodes.now Empty Empty (parted-none c.args.nodes.now) (omega arith, omega arith) (omega arith)

@@ -1,9 +1,16 @@
-use Rattle.std.proofs.Common.{◌≡◌, ℕ, ◌+◌, ◌-◌, ◌/◌, ◌<◌, List, ◌∷◌, ◌++◌, length, get_or, take, drop, ap, sym, ◌∙◌, add-one, arith}
+use Rattle.std.proofs.Common.{◌≡◌, ℕ, ◌+◌, ◌-◌, ◌/◌, ◌<◌, ◌≤◌, ◌==◌, max, Bool, false, List, ◌∷◌, ◌++◌, length, get_or, take, drop, ap, sym, subst, ◌∙◌, add-one, arith}
 use Rattle.std.proofs.Common.{drop-cons}
 use Rattle.std.proofs.lemmas.Bool.Decides.{nat_tests}
-use Rattle.std.proofs.lemmas.List.{take-append-drop, take_rest}
+use Rattle.std.proofs.lemmas.List.{length-drop, length-take-le, take-append-drop, take_rest}
 use Rattle.piece_tree.specs.declared.piece.Piece.{Piece}
-use Rattle.piece_tree.proofs.shapes.Halved.{parted-two, parted-key, halved-join}
+use Rattle.piece_tree.specs.declared.node.Top.{Top}
+use Rattle.slab.specs.Slab.{Slab}
+use Rattle.piece_tree.specs.declared.node.Node.{Node}
+use Rattle.piece_tree.specs.declared.piece.TheConstants.{MOST_PIECES}
+use Rattle.piece_tree.specs.Graft.{IsLeastHeight, Makes, Parted}
+use Rattle.piece_tree.specs.Tree.{AreNear, Empty, items}
+use Rattle.piece_tree.proofs.shapes.Crowned.{least-crown, least-far, least-near}
+use Rattle.piece_tree.proofs.shapes.Halved.{parted-two}
 use Rattle.piece_tree.proofs.laying.+build.Goals as goal
 
 -- a list by one of its elements
@@ -13,16 +20,74 @@ around_one ps xs ys i d h e f =
     ap (λ l. l ++ get_or ps i d ∷ ys) e ∙ ap (λ l. take i ps ++ get_or ps i d ∷ l) (f ∙ take_rest ps (i + 1))
     ∙ ap (λ l. take i ps ++ l) (ap (λ n. get_or ps i d ∷ drop n ps) (add-one i) ∙ sym (drop-cons ps i d h)) ∙ take-append-drop i ps
 
-pub graft-requires-clause-parts : goal.graft-requires-clause-parts
-graft-requires-clause-parts t c =
-    let w = parted-two _ _ _ _ _ _ _ c.build-near.ensures c.build-far.ensures in
-    let h = parted-key _ _ _ _ _ _ _ _ _ _ _ w c.leaf-at.ensures.makes c.in-Some.is in
-    (_, _, h.parts)
+-- the two halves beside the middle one
+halves : (ps : List Piece) → 0 < length ps → let i = length ps / 2 in let f = length ps - (i + 1) in
+    (length (take f (drop (i + 1) ps)) ≤ length (take i ps)) × (length (take i ps) ≤ length (take f (drop (i + 1) ps)) + 1)
+    × (length (take i ps) + 1 + length (take f (drop (i + 1) ps)) ≡ length ps)
+halves ps some =
+    let i = length ps / 2 in
+    let f = length ps - (i + 1) in
+    let a : length (take i ps) ≡ i = length-take-le i ps (omega arith) in
+    let b : length (drop (i + 1) ps) ≡ f = length-drop (i + 1) ps in
+    let d : length (take f (drop (i + 1) ps)) ≡ f = length-take-le f (drop (i + 1) ps) (omega (arith, b)) in
+    (omega (arith, a, d, some), omega (arith, a, d, some), omega (arith, a, d, some))
 
-pub returns : goal.returns
-returns t c =
-    let w = parted-two _ _ _ _ _ _ _ c.build-near.ensures c.build-far.ensures in
-    let h = parted-key _ _ _ _ _ _ _ _ _ _ _ w c.leaf-at.ensures.makes c.in-Some.is in
-    let i : length c.args.pieces.now / 2 < length c.args.pieces.now = grind (arith, nat_tests) in
-    halved-join _ _ _ _ _ _ _ _ h _ _ _ _ (c.graft.ensures.joins _ _ h.parts) c.graft.ensures.count
-    (around_one c.args.pieces.now _ _ _ _ i c.build-near.ensures.all c.build-far.ensures.all) c.requires.few
+some_pieces : (n : ℕ) (empty : Bool) → empty ≡ (n == 0) → empty ≡ false → 0 < n
+some_pieces n empty e h = let z : (n == 0) ≡ false = sym e ∙ h in grind (arith, nat_tests)
+
+-- trees of the two halves
+module _ (old mid new : Slab Node) (near far : Top) (ps : List Piece) (some : 0 < length ps) (few : length ps ≤ MOST_PIECES)
+    (n : Makes old mid near Empty (take (length ps / 2) ps))
+    (f : Makes mid new far Empty (take (length ps - (length ps / 2 + 1)) (drop (length ps / 2 + 1) ps)))
+    (ln : IsLeastHeight (length (take (length ps / 2) ps)) near.height)
+    (lf : IsLeastHeight (length (take (length ps - (length ps / 2 + 1)) (drop (length ps / 2 + 1) ps))) far.height) where
+  half_near : AreNear n.shape f.shape
+  half_near =
+      let h = halves ps some in
+      let a = ap (λ (v : Top). v.height) n.tree.is in
+      let b = ap (λ (v : Top). v.height) f.tree.is in
+      (omega (arith, a, b, least-near _ _ _ _ ln lf h.0 h.1), omega (arith, a, b, least-far _ _ _ _ ln lf h.0 h.1))
+
+  half_few : length (items n.shape) + length (items f.shape) < MOST_PIECES
+  half_few = let h = halves ps some in omega (arith, ap length n.all, ap length f.all, h.2, few)
+
+  half_parts : Parted old new near far Empty n.shape f.shape
+  half_parts = parted-two _ _ _ _ _ _ _ n f
+
+pub crown-requires-clause-parts : goal.crown-requires-clause-parts
+crown-requires-clause-parts t c =
+    let ps = c.args.pieces.now in
+    let some = some_pieces (length ps) c.is_empty.result c.is_empty.ensures c.if-is_empty.false in
+    let n = c.build-near.ensures in
+    let f = c.build-far.ensures in (
+      _,
+      n.makes.shape,
+      f.makes.shape,
+      half_parts _ _ _ _ _ ps some c.requires.few n.makes f.makes n.height f.height,
+      half_near _ _ _ _ _ ps some c.requires.few n.makes f.makes n.height f.height,
+      half_few _ _ _ _ _ ps some c.requires.few n.makes f.makes n.height f.height,
+    )
+
+pub returns-clause-makes : goal.returns-clause-makes
+returns-clause-makes t c =
+    let ps = c.args.pieces.now in
+    let some = some_pieces (length ps) c.is_empty.result c.is_empty.ensures c.if-is_empty.false in
+    let n = c.build-near.ensures in
+    let f = c.build-far.ensures in
+    subst (λ l. Makes c.args.nodes.now c.crown.new.nodes c.crown.result Empty l)
+    (around_one ps (items n.makes.shape) (items f.makes.shape) (length ps / 2) _ (omega (arith, some)) n.makes.all f.makes.all)
+    (c.crown.ensures.makes _ n.makes.shape f.makes.shape
+    (half_parts _ _ _ _ _ ps some c.requires.few n.makes f.makes n.height f.height)
+    (half_near _ _ _ _ _ ps some c.requires.few n.makes f.makes n.height f.height)
+    (half_few _ _ _ _ _ ps some c.requires.few n.makes f.makes n.height f.height))
+
+pub returns-clause-height : goal.returns-clause-height
+returns-clause-height t c =
+    let ps = c.args.pieces.now in
+    let some = some_pieces (length ps) c.is_empty.result c.is_empty.ensures c.if-is_empty.false in
+    let h = halves ps some in
+    let n = c.build-near.ensures in
+    let f = c.build-far.ensures in
+    subst (λ k. IsLeastHeight (length ps) k) (sym c.crown.ensures.height)
+    (subst (λ m. IsLeastHeight m (1 + max c.build-near.result.height c.build-far.result.height)) h.2
+    (least-crown _ _ _ _ n.height f.height h.0 h.1))

@@ -82,7 +82,7 @@ graft-near-requires-clause-parts c =
     let r = replace-ends q.3 c.in-Some.first.now c.in-Some.rest.now c.in-Some-split_last.others.now c.in-Some-split_last.last.now
     (c.in-Some.ensures).cases.0 (c.in-Some-split_last.ensures).cases.0 in
     let w = c.clear_pages-flanks-2.ensures q.0 _ r.0 in
-    (_, _, middle-parts _ c.clear_pages-flanks-2.new.nodes c.build-middle.new.nodes _ _ _ _ _ _ w.halved _ _ c.build-middle.ensures)
+    (_, _, middle-parts _ c.clear_pages-flanks-2.new.nodes c.build-middle.new.nodes _ _ _ _ _ _ w.halved _ _ c.build-middle.ensures.makes)
 
 pub graft-near-requires-clause-piece : goal.graft-near-requires-clause-piece
 graft-near-requires-clause-piece c =
@@ -108,8 +108,8 @@ leaf-end-requires-clause-room c =
     omega (
       arith,
       length-append c.in-Some-split_last.others.now (c.in-Some-split_last.last.now ∷ []),
-      c.build-middle.ensures.len,
-      c.build-middle.ensures.capacity,
+      c.build-middle.ensures.makes.len,
+      c.build-middle.ensures.makes.capacity,
       c.graft-near.ensures.count.len,
       c.graft-near.ensures.count.capacity,
     )
@@ -120,7 +120,7 @@ graft-requires-2-clause-parts c =
     let r = replace-ends q.3 c.in-Some.first.now c.in-Some.rest.now c.in-Some-split_last.others.now c.in-Some-split_last.last.now
     (c.in-Some.ensures).cases.0 (c.in-Some-split_last.ensures).cases.0 in
     let b = row-flanked _ c.clear_pages-flanks-2.new.nodes c.build-middle.new.nodes c.graft-near.new.nodes _ _ _ _ _ _ _ _
-    (c.clear_pages-flanks-2.ensures q.0 _ r.0) r.0.short _ _ c.build-middle.ensures c.graft-near.ensures.joins c.graft-near.ensures.count
+    (c.clear_pages-flanks-2.ensures q.0 _ r.0) r.0.short _ _ c.build-middle.ensures.makes c.graft-near.ensures.joins c.graft-near.ensures.count
     c.leaf-end.new.nodes _ _ c.leaf-end.ensures.makes c.in-Some-root.is in
     (b.n, b.f, b.halved.parts)
 
@@ -129,7 +129,7 @@ returns c t from end can =
     let r = replace-ends can c.in-Some.first.now c.in-Some.rest.now c.in-Some-split_last.others.now c.in-Some-split_last.last.now
     (c.in-Some.ensures).cases.0 (c.in-Some-split_last.ensures).cases.0 in
     let b = row-flanked _ c.clear_pages-flanks-2.new.nodes c.build-middle.new.nodes c.graft-near.new.nodes _ _ _ _ _ _ _ _
-    (c.clear_pages-flanks-2.ensures t _ r.0) r.0.short _ _ c.build-middle.ensures c.graft-near.ensures.joins c.graft-near.ensures.count
+    (c.clear_pages-flanks-2.ensures t _ r.0) r.0.short _ _ c.build-middle.ensures.makes c.graft-near.ensures.joins c.graft-near.ensures.count
     c.leaf-end.new.nodes _ _ c.leaf-end.ensures.makes c.in-Some-root.is in
     subst (λ l. Makes c.args.nodes.now c.graft-2.new.nodes c.graft-2.result t l) r.1
     (halved-join _ c.leaf-end.new.nodes _ _ _ _ _ _ b.halved c.graft-2.new.nodes _ _ _
