@@ -35,8 +35,8 @@
  *  - It is not copied. After vtdm_destroy on one copy, the other still has the address, and a call on it would use freed memory.
  *    It may be moved between two calls, since nothing points to it, if the old place is not used again.
  *  - vtdm_destroy is called before the struct goes away. Otherwise its memory is lost: nothing else frees it.
- *  - One call at a time on one manager, readers too: take a lock of your own around each call, since each call takes the manager
- *    out of the struct and puts it back at its end. Any thread may call. Two managers share nothing, and need no common lock.
+ *  - One call at a time on one manager, readers too, since each call takes the manager out of the struct and puts it back at its end:
+ *    take a lock of your own around each call. Any thread may call. Two managers share nothing, and need no common lock.
  *  - A pointer to a `struct vtdm` is not null and is aligned, since a call reads it at once. `segments` is not null and is aligned
  *    even where `count` is 0, and `count` segments can be read there, also where they are more than VTDM_MOST_SEGMENTS and are
  *    refused. A call writes no segment, and keeps no pointer. `to` of vtdm_words and of vtdm_effects is not null and is aligned in the
@@ -48,11 +48,11 @@
  *
  * MEMORY. The creation of a manager takes all that it ever needs, about 1.8 MiB and VTDM_PAGE_BYTES more for each table frame;
  * vtdm_destroy gives it back, and no other function asks for any. The words of the table frames are one block of it,
- * asked for by one malloc of VTDM_PAGE_BYTES times the frames and written whole before a creation returns: those of frame F begin
+ * asked for by one malloc of VTDM_PAGE_BYTES times the frames and written whole before a creation returns. Those of frame F begin
  * F * VTDM_PAGE_BYTES bytes behind those of frame 0, where the block begins. So an allocator that puts this block at host address 0
  * lets a unit walk the tables in place (see *A unit of your own*). A contract says that the words of one frame lie one after the other.
- * How the frames lie, that a word is stored at once, and that a table which takes the place of a leaf of 2 MiB is filled before the word
- * that names it, is how the code is.
+ * Three more things are how the code is: how the frames lie, that a word is stored at once, and that a table which takes the place of a
+ * leaf of 2 MiB is filled before the word that names it.
  *
  * IT DOES NOT WEAR OUT. A manager answers VTDM_CALLS_END calls, 2^56, and VTDM_SPENT to each further one, since its counts have 64
  * bits. Nobody gets there: at a billion calls a second it takes more than two years. Readers are not counted; vtdm_detach_all counts
@@ -180,7 +180,7 @@ enum vtdm_cache { VTDM_CACHE_LEAF = 0, VTDM_CACHE_NON_LEAF = 1, VTDM_CACHE_CONTE
 uint64_t vtdm_create(struct vtdm *manager, uint64_t frames);
 
 /* Makes a manager whose unit has Caching Mode (capability bit 7), as the emulated unit of a hypervisor may: it may remember that a
- * page is absent, and vtdm_map and vtdm_map_list have it forget that of the pages which they map before they return. What waits in
+ * page is absent. vtdm_map and vtdm_map_list have it forget that of the pages which they map, before they return. What waits in
  * the queue is done before. Otherwise as vtdm_create. */
 uint64_t vtdm_create_caching(struct vtdm *manager, uint64_t frames);
 
@@ -218,8 +218,8 @@ struct vtdm_answer vtdm_detach(struct vtdm *manager, uint64_t device);
 struct vtdm_answer vtdm_detach_all(struct vtdm *manager, uint64_t device);
 
 /* Maps 1 to VTDM_MOST_PAGES pages to the host frames from `frame` on, and answers the device address of the first page: the lowest
- * free one that is a multiple of 2^order pages; in a 48-bit domain the lowest at VTDM_ADDRESSES_END (512 GiB) or above, and where
- * there is none there the lowest of all. `order` is at most VTDM_MOST_ORDER, and the frames are below VTDM_FRAMES_END.
+ * free one that is a multiple of 2^order pages. In a 48-bit domain it is the lowest at VTDM_ADDRESSES_END (512 GiB) or above, and
+ * where there is none there the lowest of all. `order` is at most VTDM_MOST_ORDER, and the frames are below VTDM_FRAMES_END.
  * Where page and frame are multiples of 512, 512 pages are mapped by one leaf of 2 MiB, unless an earlier map left a table there.
  * `rights` are of enum vtdm_rights.
  * VTDM_NO_DOMAIN, VTDM_BAD_RANGE, VTDM_FRAME_OWNED, VTDM_NO_RANGE, VTDM_TOO_MANY_PIECES, VTDM_NO_FRAMES. */
@@ -252,7 +252,7 @@ struct vtdm_answer vtdm_begin(struct vtdm *manager, uint64_t domain);
 /* Has the unit do the first descriptor of its queue. Answers 1 where it did one, 0 where the queue was empty. */
 struct vtdm_answer vtdm_unit(struct vtdm *manager);
 
-/* Has the unit do its queue up to the wait of this number (vtdm_waits), and answers how many descriptors it did: each counts as a call, and
+/* Has the unit do its queue up to the wait of this number (vtdm_waits), and answers how many descriptors it did. Each counts as a call;
  * there is none where the wait is done already, or for 0. After it there are no effects. VTDM_SPENT exactly where fewer calls are left than
  * descriptors wait in its queue. VTDM_NO_WAIT. */
 struct vtdm_answer vtdm_done_up_to(struct vtdm *manager, uint64_t wait);
@@ -264,7 +264,7 @@ struct vtdm_answer vtdm_reap(struct vtdm *manager, uint64_t domain, uint64_t num
 
 /* A request of a device at a device address, to write or to read, as the unit translates it: the host address, or a fault. With
  * `look` cached entries are used, otherwise the tables are walked. With `fill` the entries that were used are cached.
- * The host address holds as long as you hold your lock: after that another thread's vtdm_unmap may end the page, and its memory be
+ * The host address holds as long as you hold your lock. After that another thread's vtdm_unmap may end the page, and its memory be
  * used for something else, also where the device was detached in between. So use the memory under the lock, or have that thread wait
  * until you have done with it.
  * VTDM_NO_DEVICE, VTDM_WINDOW (also where the device is not attached), VTDM_FAULT_NOT_ATTACHED, VTDM_FAULT_BEYOND_WIDTH,
@@ -388,8 +388,8 @@ struct vtdm_answer vtdm_effects(struct vtdm *manager, struct vtdm_effect *to, si
 /* The number of the table frame that is the root of a domain. VTDM_NO_DOMAIN. */
 struct vtdm_answer vtdm_root_of(struct vtdm *manager, uint64_t domain);
 
-/* The word of a table frame at an index, 0 to 511. In a table it is a second-stage entry: 0 where nothing is present; else bit 0 is
- * the right to read, bit 1 the right to write, bit 7 says that it is a leaf of 2 MiB, and bits 12 and up are the frame of the next
+/* The word of a table frame at an index, 0 to 511. In a table it is a second-stage entry, 0 where nothing is present. Else bit 0 is
+ * the right to read, bit 1 the right to write, and bit 7 says that it is a leaf of 2 MiB. Bits 12 and up are the frame of the next
  * table or of the first page. The words of a frame that no table uses mean nothing. VTDM_NO_WORD. */
 struct vtdm_answer vtdm_table_word(struct vtdm *manager, uint64_t frame, uint64_t index);
 
@@ -397,9 +397,9 @@ struct vtdm_answer vtdm_table_word(struct vtdm *manager, uint64_t frame, uint64_
  * vtdm_table_word answers. Where they aren't all of the frame, or there is no such frame, it writes nothing and answers VTDM_NO_WORD. */
 uint64_t vtdm_words(struct vtdm *manager, uint64_t frame, uint64_t first, uint64_t *to, size_t count);
 
-/* The two words of the context entry of a device, in legacy mode: both 0 where it is attached to no domain; else bit 0 of the low
- * word is set and its bits 12 and up are the root's frame, and the high word has the address width (AGAW) in bits 0 to 2 (1: 39
- * bits, the root is a table of level 3; 2: 48 bits, level 4) and the id of the domain in bits 8 to 23. VTDM_NO_DEVICE. */
+/* The two words of the context entry of a device, in legacy mode, both 0 where it is attached to no domain. Else bit 0 of the low word
+ * is set, and its bits 12 and up are the root's frame. The high word has the address width (AGAW) in bits 0 to 2 and the id of the
+ * domain in bits 8 to 23. The width is 1 (39 bits, the root is a table of level 3) or 2 (48 bits, level 4). VTDM_NO_DEVICE. */
 struct vtdm_context_answer {
     uint64_t status;
     uint64_t low;
@@ -407,7 +407,7 @@ struct vtdm_context_answer {
 };
 struct vtdm_context_answer vtdm_context(struct vtdm *manager, uint64_t device);
 
-/* The two words of a descriptor that was sent, as the VT-d specification lays them out: of the last one where `back` is 0, of the one
+/* The two words of a descriptor that was sent, as the VT-d specification lays them out. It is the last one where `back` is 0, the one
  * before it where it is 1, and so on. The queue holds the last 256. A wait is an invalidation wait descriptor: its low word has
  * 5 in bits 0 to 3 and the status that it writes in bits 32 to 63. Its high word is the address to which the library's unit writes the
  * status, 2^36, which is beyond all host frames; vtdm_effects tells yours in its place. VTDM_NO_DESCRIPTOR. */
@@ -420,7 +420,7 @@ struct vtdm_sent_answer vtdm_sent(struct vtdm *manager, uint64_t back);
 
 /* How many waits were sent: the number of the last one, 0 before the first. The status that a wait writes is the low 32 bits of its
  * number. Each wait follows one other descriptor. So where this was A before a call and is B after it, the call has sent 2 * (B - A)
- * descriptors, and the oldest of them is vtdm_sent(manager, 2 * (B - A) - 1). */
+ * descriptors. The oldest of them is vtdm_sent(manager, 2 * (B - A) - 1). */
 struct vtdm_answer vtdm_waits(struct vtdm *manager);
 
 #ifdef __cplusplus
