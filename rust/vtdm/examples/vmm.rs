@@ -1,4 +1,4 @@
-//! How a virtual machine monitor gives a guest's memory to a device: requests to map and to unmap come from the guest's processors, in
+//! How a virtual machine monitor gives a guest's memory to a device. Requests to map and to unmap come from the guest's processors, in
 //! batches, as by the queue of a virtio-iommu, and the monitor answers them under a lock of its own. (A virtio-iommu's guest chooses
 //! the address. Here the manager does, and the reply has it.)
 //!

@@ -185,8 +185,8 @@ pub struct Context {
 
 /// A descriptor of the unit's queue, by its two words, as the VT-d specification lays them out.
 ///
-/// A wait has 5 in bits 0 to 3 of the low word, and in bits 32 to 63 the status that it writes. The high word is then the address to
-/// which it writes: of [`Manager::effects`](crate::Manager::effects) the one that the manager was made with, and of
+/// A wait has 5 in bits 0 to 3 of the low word, and in bits 32 to 63 the status that it writes. The high word is then the address to which
+/// it writes. Of [`Manager::effects`](crate::Manager::effects) it is the one that the manager was made with, of
 /// [`Manager::sent`](crate::Manager::sent) that of the library's unit, 2^36, which is beyond all host frames.
 #[derive(Clone, Copy, Debug, PartialEq, Eq, Hash)]
 pub struct Descriptor {

@@ -10,8 +10,8 @@ impl Manager {
     /// Makes a manager with 16 to 4096 table frames: no domain, no device attached, nothing mapped. It takes about 1.8 MiB, and 4 KiB
     /// more for each table frame, and no call takes more.
     ///
-    /// The table frames are host frames 0 to `frames` - 1; no map takes them. A domain needs one for its root, a 48-bit domain one more
-    /// for each 512 GiB of addresses in use, and each domain one for each 1 GiB of them and one for each 2 MiB of them that is not
+    /// The table frames are host frames 0 to `frames` - 1; no map takes them. A domain needs one for its root, and a 48-bit domain one more
+    /// for each 512 GiB of addresses in use. Each domain needs one for each 1 GiB of them, and one for each 2 MiB of them that is not
     /// mapped by a leaf of 2 MiB.
     ///
     /// # Errors
@@ -29,8 +29,8 @@ impl Manager {
         made(|handle| ffi::vtdm_create(handle, frames))
     }
 
-    /// Makes a manager whose unit has Caching Mode, as the emulated unit of a hypervisor may: it may remember that a page is absent, and a
-    /// map has it forget that of its pages before it returns. What waits in the queue is done before.
+    /// Makes a manager whose unit has Caching Mode, as the emulated unit of a hypervisor may: it may remember that a page is absent. A map
+    /// has it forget that of its pages before it returns. What waits in the queue is done before.
     ///
     /// # Errors
     ///

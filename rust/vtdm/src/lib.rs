@@ -58,9 +58,9 @@
 //!
 //! # A unit of your own
 //!
-//! A manager of [`Manager::driven`] is in charge of a unit that isn't the library's own, emulated or real: [`Manager::effects`] tells
-//! after each call what it asks ([`Effect`]), and you do that before you release your lock. Until then devices may reach what the call set
-//! free, in a strict domain too. How that goes stands at the methods of [`Manager`] for such a unit.
+//! A manager of [`Manager::driven`] is in charge of a unit that isn't the library's own, emulated or real. [`Manager::effects`] tells after
+//! each call what it asks ([`Effect`]), and you do that before you release your lock. Until then devices may reach what the call set free,
+//! in a strict domain too. How that goes stands at the methods of [`Manager`] for such a unit.
 //!
 //! # Numbers
 //!

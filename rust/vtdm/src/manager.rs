@@ -144,10 +144,10 @@ impl Manager {
         ffi::vtdm_detach_all(self.handle(), device.get()).value()
     }
 
-    /// Maps 1 to 4096 pages to the host frames from `frame` on, and answers the device address of the first page: the lowest free one
-    /// that is a multiple of 2^`order` pages; in a 48-bit domain the lowest at 512 GiB or above, and where there is none there the
-    /// lowest of all. Where page and frame are multiples of 512, 512 pages are mapped by one leaf of 2 MiB, unless an earlier map left a
-    /// table there.
+    /// Maps 1 to 4096 pages to the host frames from `frame` on, and answers the device address of the first page: the lowest free one that
+    /// is a multiple of 2^`order` pages. In a 48-bit domain it is the lowest at 512 GiB or above, and where there is none there the lowest
+    /// of all. Where page and frame are multiples of 512, 512 pages are mapped by one leaf of 2 MiB, unless an earlier map left a table
+    /// there.
     ///
     /// # Errors
     ///
@@ -310,9 +310,9 @@ impl Manager {
 
     /// A request of a device at a device address, as the unit translates it.
     ///
-    /// The host address holds as long as you hold your lock: after that another thread's unmap may end the page, and its memory be used
-    /// for something else, also where the device was detached in between. So use the memory under the lock, or have that thread wait
-    /// until you have done with it.
+    /// The host address holds as long as you hold your lock. After that another thread's unmap may end the page, and its memory be used for
+    /// something else, also where the device was detached in between. So use the memory under the lock, or have that thread wait until you
+    /// have done with it.
     ///
     /// # Errors
     ///

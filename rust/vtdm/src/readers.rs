@@ -187,8 +187,8 @@ impl Manager {
         Effects::of(&told, count)
     }
 
-    /// Has the library's unit do its queue up to the wait of this number ([`Manager::waits`]), and answers how many descriptors it did:
-    /// each counts as a call, and there is none where the wait is done already, or for 0. After it nothing is asked.
+    /// Has the library's unit do its queue up to the wait of this number ([`Manager::waits`]), and answers how many descriptors it did.
+    /// Each counts as a call; there is none where the wait is done already, or for 0. After it nothing is asked.
     ///
     /// # Errors
     ///
@@ -229,8 +229,8 @@ impl Manager {
         self.read(|handle| ffi::vtdm_root_of(handle, domain.get())).value().map(Frame::new)
     }
 
-    /// The word of a table frame at an index, 0 to 511. In a table it is a second-stage entry: 0 where nothing is present; else bit 0 is
-    /// the right to read, bit 1 the right to write, bit 7 says that it is a leaf of 2 MiB, and bits 12 and up are the frame of the next
+    /// The word of a table frame at an index, 0 to 511. In a table it is a second-stage entry, 0 where nothing is present. Else bit 0 is
+    /// the right to read, bit 1 the right to write, and bit 7 says that it is a leaf of 2 MiB. Bits 12 and up are the frame of the next
     /// table or of the first page. The words of a frame that no table uses mean nothing. [`Manager::root_of`] shows it.
     ///
     /// # Errors
