@@ -1,8 +1,8 @@
 // Preloaded into a program, sees each of its requests for memory, and refuses one: the one whose number, from 1, stands in REFUSE.
 // Likewise it refuses the thread whose number stands in REFUSE_THREAD. At the program's end it writes five numbers into the file
-// that REFUSE_LOG names: the requests; those before the first thread was asked for; those that the C library made while it made
-// threads; the blocks that weren't given back, but for those of the latter, which the C library keeps; and the threads that were
-// joined.
+// that REFUSE_LOG names. They are the requests, those before the first thread was asked for, those that the C library made while it made
+// threads, the blocks that weren't given back, and the threads that were joined. Blocks of the C library's own requests don't count, which
+// it keeps.
 #define _GNU_SOURCE
 #include <dlfcn.h>
 #include <errno.h>

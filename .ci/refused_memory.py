@@ -25,8 +25,8 @@ SMALL = ["--frames", "16", "--calls", "100"]
 STORM = [VTDM, "storm", "--drivers", "2", "--devices", "2", "--calls", "3"]
 STORM_THREADS = 5
 SMALL_STORM = [VTDM, "storm", "--drivers", "1", "--devices", "1", "--calls", "1"]
-# What is asked for at the making of a thread: by the toolchain, before it asks for the thread, and then by the C library at most,
-# which also uses again what a thread had that has ended.
+# What is asked for at the making of a thread: by the toolchain, before it asks for the thread, and then by the C library at most. The
+# latter also uses again what a thread had that has ended.
 TOOLCHAIN_REQUESTS = 1
 C_LIBRARY_REQUESTS = 1
 WAYS = ("malloc", "calloc", "realloc", "posix_memalign", "aligned_alloc", "memalign")
@@ -38,8 +38,8 @@ OTHER_WAYS = {
 SCRIPT = b"domain strict\nattach 3 1\nmap 1 0x400 512 9 rw\nunmap 1 0x201000 1\ndma 3 0x202000 r look fill\n"
 TRACE = b"domain lazy => domain 1\nmap 1 0x100 1 0 rw => map 0x1000\nunmap 1 0x1000 1 => unmapped 0\n"
 REUSED = b"map 1 0x200 1 0 rw => map 0x1000\n"
-# Segments of maps that lie side by side, each a frame and its pages, whose frames don't follow one another, so that each is a run of its
-# own; as many as an unmap takes in one call; and how many a map has at most.
+# Segments of maps that lie side by side, each a frame and its pages. Their frames don't follow one another, so that each is a run of its
+# own. They are as many as an unmap takes in one call. And how many a map has at most.
 SEGMENTS = [(0x100, 2), *[(0x200 + 2 * at, 1) for at in range(31)], (0x300, 2)]
 MOST_SEGMENTS, PAGE_BYTES = 16, 4096
 # An address space of as many KiB is given to a command; and how far they lie apart, from the least one tried on: a page. Past the one
@@ -154,7 +154,7 @@ def fault_of_requests(ample):
     if not 1 <= ample.in_making <= STORM_THREADS * C_LIBRARY_REQUESTS:
         return f"the C library asks {ample.in_making} times for {STORM_THREADS} threads"
     others = ample.asked - ample.before - ample.in_making - (STORM_THREADS - 1) * TOOLCHAIN_REQUESTS
-    return f"{others} requests behind the first thread are for none" if others else None
+    return f"{others} requests after the first thread are for none" if others else None
 
 
 def fault_of_threads(room):

@@ -35,7 +35,7 @@ LOOP = re.compile(r"@ (\d+)\.\.(\d+)")
 FULL = "refused 15"
 # The rows whose scripts are cut at each byte.
 CUT = ["split-leaf.row", "lazy-reuse.row"]
-# What asks for Caching Mode, and the runs, by file and number, where it changes an answer: a map comes while descriptors wait, and
+# What asks for Caching Mode, and the runs, by file and number, where it changes an answer. There a map comes while descriptors wait, and
 # works them off with its own, and a step of the unit is asked for later.
 CACHING_MODE = "--caching-mode"
 RING_ASKED = [("begun-flush-and-a-device.row", 1), ("caching-mode.row", 6)]

@@ -1,5 +1,5 @@
 // Preloaded into a program, moves at most PART bytes at a time through its input, output and standard error, and makes one call of
-// each go wrong: of stream N, from 0, the call whose number, from 1, stands in BAD_N. It fails, where HITCH is `interruption` as a
+// each go wrong. Of stream N, from 0, it is the call whose number, from 1, stands in BAD_N. It fails, where HITCH is `interruption` as a
 // call does that a signal interrupts, or where it is `nothing` takes nothing. At the program's end it writes a word for each call
 // into the file that STREAMS_LOG names: the stream's letter and how many newlines it moved, or the letter and `!`.
 #define _GNU_SOURCE

@@ -181,7 +181,7 @@ def reads_fail(room):
 
 def writes_go_wrong(room):
     """Where a write to the output goes wrong, what was taken before it is written, nothing is read or written after, and standard
-    error says so; the status stays where that goes wrong too. So it is with a report behind a read that failed, or a bad line."""
+    error says so; the status stays where that goes wrong too. So it is with a report after a read that failed, or a bad line."""
     cases = [(words, given, 0, part, HITCHES) for words in TASKS for given, part in (*SCRIPTS, (BAD_LINE, PART))]
     cases += [(["report"], SCRIPT, bad_read, PART, HITCHES) for bad_read in (5, 6)]
     cases += [(words, b"", 0, part, TEXT_HITCHES) for words, part in TEXTS]

@@ -24,11 +24,11 @@ is_old() {
     )" ]
 }
 
-# Proves a crate and builds a file of it by the command that follows, in the crate's folder, and shows on a terminal how many of the
-# crates are done, which one is in work, how many functions of it are done, and how long it has taken. Elsewhere nothing is shown. Where
-# the command fails, what it said last stands on standard error. `rt run` says this on standard error, `rt lib` on standard output.
+# Proves a crate and builds a file of it by the command that follows, in the crate's folder. It shows on a terminal how many of the crates
+# are done, which one is in work, how many functions of it are done, and how long it has taken. Elsewhere it shows that once, at the end.
+# Where the command fails, what it said last stands on standard error. `rt run` says this on standard error, `rt lib` on standard output.
 proved() {
-    local top=$1 name=$2 built=$3 begun said all line done=0 crate='' functions='' status=0
+    local top=$1 name=$2 built=$3 begun said all line shown='' done=0 crate='' functions='' status=0
     shift 3
     begun=$(mktemp)
     said=$(mktemp)
@@ -40,11 +40,10 @@ proved() {
             'so far: '*' functions checked'*) functions=", ${line#so far: }" functions=${functions%%;*} ;;
             logic=proved*) done=$((done + 1)) crate='' functions='' ;;
         esac
-        if [ -t 2 ]; then
-            printf '\r\033[K%s' "$done of $all crates proved$crate$functions: $((SECONDS / 60)) min $((SECONDS % 60)) s" >&2
-        fi
+        shown="$done of $all crates proved$crate$functions: $((SECONDS / 60)) min $((SECONDS % 60)) s"
+        [ ! -t 2 ] || printf '\r\033[K%s' "$shown" >&2
     done < <( (cd "$top/crates/$name" && "$@" 2>&1 < /dev/null || echo "failed $?") | tee "$said")
-    if [ -t 2 ]; then printf '\r\033[K' >&2; fi
+    if [ -t 2 ]; then echo >&2; else echo "$shown" >&2; fi
     if [[ $(tail -n 1 "$said") =~ ^failed\ ([0-9]+)$ ]]; then
         status=${BASH_REMATCH[1]}
         tail -n 20 "$said" >&2

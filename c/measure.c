@@ -1,5 +1,5 @@
 /* What calls through vtdm.h cost: nanoseconds of a round, the least and the median of nine turns, each on a manager of its own.
- * `measure ROUNDS [NAME]` measures all lines, or the one of that name alone, so that a profiler sees nothing else: the difference of two
+ * `measure ROUNDS [NAME]` measures all lines, or the one of that name alone, so that a profiler sees nothing else. The difference of two
  * counts of instructions is of nine times as many rounds as they differ by. */
 #define _POSIX_C_SOURCE 200809L
 #include "vtdm.h"
@@ -108,8 +108,8 @@ static double crowded(struct vtdm *manager, const struct crowd *crowd, uint64_t 
     return now() - start;
 }
 
-/* A line: its name, how its domain is, what is mapped before (a page that is remembered, or a page behind a hole of so many), and its
- * rounds, by `run` or among ranges that are live. */
+/* A line: its name, how its domain is, what is mapped before, and its rounds, by `run` or among ranges that are live. Mapped before is a
+ * page that is remembered, or a page behind a hole of so many. */
 static const struct line {
     const char *name;
     bool lazy, wide, mapped;

@@ -35,8 +35,8 @@
  *  - It is not copied. After vtdm_destroy on one copy, the other still has the address, and a call on it would use freed memory.
  *    It may be moved between two calls, since nothing points to it, if the old place is not used again.
  *  - vtdm_destroy is called before the struct goes away. Otherwise its memory is lost: nothing else frees it.
- *  - One call at a time on one manager, readers too, since each call takes the manager out of the struct and puts it back at its end:
- *    take a lock of your own around each call. Any thread may call. Two managers share nothing, and need no common lock.
+ *  - One call at a time on one manager, readers too, since each call takes the manager out of the struct and puts it back at its end.
+ *    Take a lock of your own around each call. Any thread may call. Two managers share nothing, and need no common lock.
  *  - A pointer to a `struct vtdm` is not null and is aligned, since a call reads it at once. `segments` is not null and is aligned
  *    even where `count` is 0, and `count` segments can be read there, also where they are more than VTDM_MOST_SEGMENTS and are
  *    refused. A call writes no segment, and keeps no pointer. `to` of vtdm_words and of vtdm_effects is not null and is aligned in the
@@ -49,10 +49,10 @@
  * MEMORY. The creation of a manager takes all that it ever needs, about 1.8 MiB and VTDM_PAGE_BYTES more for each table frame;
  * vtdm_destroy gives it back, and no other function asks for any. The words of the table frames are one block of it,
  * asked for by one malloc of VTDM_PAGE_BYTES times the frames and written whole before a creation returns. Those of frame F begin
- * F * VTDM_PAGE_BYTES bytes behind those of frame 0, where the block begins. So an allocator that puts this block at host address 0
+ * F * VTDM_PAGE_BYTES bytes after those of frame 0, where the block begins. So an allocator that puts this block at host address 0
  * lets a unit walk the tables in place (see *A unit of your own*). A contract says that the words of one frame lie one after the other.
- * Three more things are how the code is: how the frames lie, that a word is stored at once, and that a table which takes the place of a
- * leaf of 2 MiB is filled before the word that names it.
+ * Three more things are how the code is. The frames lie so. A word is stored at once. A table that takes the place of a leaf of 2 MiB
+ * is filled before the word that names it.
  *
  * IT DOES NOT WEAR OUT. A manager answers VTDM_CALLS_END calls, 2^56, and VTDM_SPENT to each further one, since its counts have 64
  * bits. Nobody gets there: at a billion calls a second it takes more than two years. Readers are not counted; vtdm_detach_all counts
@@ -173,8 +173,8 @@ enum vtdm_cache { VTDM_CACHE_LEAF = 0, VTDM_CACHE_NON_LEAF = 1, VTDM_CACHE_CONTE
 
 /* Makes a manager with VTDM_LEAST_TABLE_FRAMES to VTDM_MOST_TABLE_FRAMES table frames: no domain, no device attached, nothing
  * mapped. The table frames are host frames 0 to frames - 1; no device reaches them, for no map takes them. A domain needs one for
- * its root, a 48-bit domain one more for each 512 GiB of addresses in use, and each domain one for each 1 GiB of them and one for
- * each 2 MiB of them that is not mapped by a leaf of 2 MiB. An unmap takes the last kind away where it covers all its 2 MiB; the
+ * its root, and one for each 1 GiB of addresses in use. It needs one more for each 2 MiB of them that is not mapped by a leaf of 2 MiB,
+ * and with 48 bits one for each 512 GiB. An unmap takes the table of 2 MiB away where it covers them all; the
  * others stay until vtdm_drop.
  * Answers VTDM_OK, or the first of these that holds: VTDM_PRESENT, VTDM_BAD_FRAMES, VTDM_NO_MEMORY. */
 uint64_t vtdm_create(struct vtdm *manager, uint64_t frames);

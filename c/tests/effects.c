@@ -1,6 +1,6 @@
-/* What calls on a driven manager ask, done for a unit that has no more than it is told: after each of some thousand random calls its memory
- * has what the manager's readers say, word for word; its queue got what was sent; at each word that was brought on the way there it found
- * each page as before the call or as after it; and of what it then remembered nothing is left that the call set free. */
+/* What calls on a driven manager ask, done for a unit that has no more than it is told. After each of some thousand random calls its memory
+ * has what the manager's readers say, word for word, and its queue got what was sent. At each word that was brought on the way there it
+ * found each page as before the call or as after it. Of what it then remembered nothing is left that the call set free. */
 #include "check.h"
 #include "unit.h"
 
@@ -78,7 +78,7 @@ static void look(void) {
 
 static struct vtdm_effect effects[VTDM_MOST_EFFECTS];
 
-/* How many effects there were of each kind, how often words came behind a wait, how many calls were refused, and how many waits sent. */
+/* How many effects there were of each kind, how often words came after a wait, how many calls were refused, and how many waits sent. */
 static uint64_t told[VTDM_EFFECT_AWAIT + 1], words_behind, refused, waits_sent;
 
 /* What was sent since there were so many waits is in the queue, oldest first; and a wait, and nothing else, has our status address. */
@@ -293,7 +293,7 @@ static void make(struct vtdm *manager, bool caching) {
     CHECK(vtdm_create_driven(manager, TABLE_FRAMES, caching, STATUS) == VTDM_OK);
 }
 
-/* An unmap takes the table of one span of 2 MiB away and puts one in the place of the next span's leaf: while its words reach memory, no
+/* An unmap takes the table of one span of 2 MiB away and puts one in the place of the next span's leaf. While its words reach memory, no
  * page of the one is found as a page of the other. */
 static void cut_and_split(bool lazy, bool wide) {
     struct vtdm manager = VTDM_INIT;

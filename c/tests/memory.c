@@ -1,6 +1,6 @@
-/* Memory, by an allocator of this test's own, which the linker puts before malloc, realloc and free (--wrap): creation is refused
- * at each of its requests in turn, nothing leaks, a million calls of all functions ask for none, and the table frames' words stand in
- * one block, frame after frame; each of a manager with the library's unit, and of a driven one. */
+/* Memory, by an allocator of this test's own, which the linker puts before malloc, realloc and free (--wrap). Creation is refused at
+ * each of its requests in turn, nothing leaks, and a million calls of all functions ask for none. The table frames' words stand in one
+ * block, frame after frame. Each is tried of a manager with the library's unit, and of a driven one. */
 #include "check.h"
 #include "vtdm.h"
 

@@ -349,7 +349,7 @@ static void check_not_driven(bool caching) {
     vtdm_destroy(&manager);
 }
 
-/* Effects are told once, to the first places, and where those are too few, later still; a refused call has none; and the next call forgets
+/* Effects are told once, to the first places, and where those are too few, later still. A refused call has none. And the next call forgets
  * what nobody took, but for one that is refused before it counts. */
 static void check_effects(void) {
     struct vtdm manager = VTDM_INIT;

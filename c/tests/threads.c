@@ -1,5 +1,5 @@
-/* Threads: two on one manager, under the caller's mutex, each gets the pages that it maps, and any thread may call and end it; and
- * two managers, each with a thread of its own and no lock, share nothing. */
+/* Threads. Of two on one manager, under the caller's mutex, each gets the pages that it maps, and any thread may call and end it. Two
+ * managers, each with a thread of its own and no lock, share nothing. */
 #include "check.h"
 #include "vtdm.h"
 

@@ -215,7 +215,7 @@ static void lazy(void) {
     requests(B, map("map in 2: the address again", 2, 50, 1, 0));
 }
 
-/* An unmap that finds the list full flushes first, and its own words may use a table frame that came free by that: before they are there
+/* An unmap that finds the list full flushes first, and its own words may use a table frame that came free by that. Before they are there
  * the flush's descriptors are done, and the page before isn't reached. In place they are there at once, so the list is flushed by a call
  * of its own. */
 static struct {

@@ -1,11 +1,11 @@
 #!/bin/sh
 # usage: run.sh LIBRARY [NAME..]
 # LIBRARY is the folder that bin/vtdm-c made. Builds the guest, runs it on QEMU's VT-d unit, and prints its last line: how many requests,
-# replies and moments agree with the library's own unit, and how many differ. Ends with status 0 where none differs. A NAME is one of
+# replies and moments agree with the library's own unit, and how many differ. Ends with status 0 where none differs. A NAME is one of:
 #   WIDE                   domains and a unit of 48 bits
 #   CACHING                a unit with Caching Mode
 #   IN_PLACE               the library's own words are the unit's tables, and none is copied
-# and of those that show that the guest can fail:
+# or of those that show that the guest can fail:
 #   WITHOUT_DESCRIPTORS    only waits are queued
 #   WRONG_ORDER            a table is named in the place of a leaf before it is filled
 #   WORDS_LATE             descriptors are done before the words are brought

@@ -286,8 +286,8 @@ fn device_of<B: Owner>(alloc: Global, number: u64, port: Port<B>, share: Share<B
     }
 }
 
-// Whether each host address that a device's port answered is allowed after some front of the events, which is no shorter
-// than the count that came with the answer, and no longer than that of the port's next answer; and these events are legal.
+// Whether each host address that a device's port answered is allowed after some front of the events. It is no shorter than
+// the count that came with the answer, and no longer than that of the port's next answer; and these events are legal.
 fn are_allowed(
     alloc: Global,
     events: &[Event],

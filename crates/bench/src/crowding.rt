@@ -1,14 +1,14 @@
 //! A map and its unmap while the unit's caches are full.
 
-ghost use Rattle.std.specs.Prelude.{◌≡◌, ◌+◌, ◌≤◌};
+ghost use Rattle.std.specs.Prelude.{◌+◌, ◌≤◌};
 
-use crate::driver::{BOTH_RIGHTS, UNALIGNED_FRAME, count};
+use crate::driver::{BOTH_RIGHTS, UNALIGNED_FRAME, ready};
 use crate::timing::Work;
 use crate::trouble::{Trouble, check};
 use dmatypes::{
     Access, DEVICES, MOST_ORDER, MOST_PAGES, Mode, PAGE_BYTES, SPAN_PAGES, Whim, Width,
 };
-use engine::State;
+use engine::{State, Unmapped};
 use std::alloc::Global;
 
 // Enough for two domains with 16 tables of the lowest level each, and one more.
@@ -32,8 +32,6 @@ const SPAN_BYTES: u64 = SPAN_PAGES * PAGE_BYTES;
 pub(crate) struct Crowded {
     state: State,
     domain: u64,
-    made: u64,
-    ghost counted: { state.calls ≡ made },
 }
 
 impl Crowded {
@@ -41,7 +39,6 @@ impl Crowded {
         let mut crowded = Crowded {
             state: State::new(alloc, TABLE_FRAMES)?,
             domain: 0,
-            made: 0,
         };
         crowded.fill_half(0)?;
         crowded.fill_half(HALF_DEVICES)?;
@@ -53,7 +50,7 @@ impl Crowded {
     fn fill_half(&mut self, first: u64) -> Result<(), Trouble>
         requires { first ≤ HALF_DEVICES }
     {
-        count(&mut self.made)?;
+        ready(&self.state)?;
         self.domain = self.state.domain(Mode::Strict, Width::W39)?;
         self.attach_from(first)?;
         self.map_spans()?;
@@ -64,7 +61,7 @@ impl Crowded {
         requires { first ≤ HALF_DEVICES }
     {
         for device in first..first + HALF_DEVICES {
-            count(&mut self.made)?;
+            ready(&self.state)?;
             self.state.attach(device, self.domain)?;
         }
         Ok(())
@@ -74,7 +71,7 @@ impl Crowded {
     fn map_spans(&mut self) -> Result<(), Trouble> {
         for part in 0..2 {
             let frame = UNALIGNED_FRAME + MOST_PAGES * part;
-            count(&mut self.made)?;
+            ready(&self.state)?;
             let mapped = self
                 .state
                 .map(self.domain, frame, MOST_PAGES, MOST_ORDER, BOTH_RIGHTS)?;
@@ -92,7 +89,7 @@ impl Crowded {
                 look: false,
                 fill: true,
             };
-            count(&mut self.made)?;
+            ready(&self.state)?;
             let answer = self.state.dma(
                 first + leaf % HALF_DEVICES,
                 SPAN_BYTES + offset,
@@ -107,13 +104,13 @@ impl Crowded {
 
 impl Work for Crowded {
     fn once(&mut self) -> Result<(), Trouble> {
-        count(&mut self.made)?;
+        ready(&self.state)?;
         let mapped = self
             .state
             .map(self.domain, UNALIGNED_FRAME, 1, 0, BOTH_RIGHTS)?;
         check(mapped == PAGE_BYTES)?;
-        count(&mut self.made)?;
-        let released = self.state.unmap(self.domain, mapped, 1)?;
-        check(released == 0)
+        ready(&self.state)?;
+        let unmapped = self.state.unmap(self.domain, mapped, 1)?;
+        check(unmapped == Unmapped::Free)
     }
 }

@@ -1,11 +1,11 @@
 //! A device driver's side of the manager.
 
-ghost use Rattle.std.specs.Prelude.{◌≡◌, ◌+◌, ◌<◌, OnOk, OnErr};
+ghost use Rattle.std.specs.Prelude.{◌<◌, OnOk};
 
 use crate::trouble::{Trouble, check};
 use arrayvec::ArrayVec;
 use dmatypes::{
-    Access, Fault, LEAST_TABLE_FRAMES, MOST_CALLS, MOST_SEGMENTS, Mode, Progress, Segment, Whim,
+    Access, CALLS_END, Fault, LEAST_TABLE_FRAMES, MOST_SEGMENTS, Mode, Progress, Segment, Whim,
     Width,
 };
 use engine::State;
@@ -16,7 +16,7 @@ pub(crate) const TABLE_FRAMES: u64 = LEAST_TABLE_FRAMES;
 
 const DEVICE: u64 = 3;
 
-/// A host frame behind the table frames that is no multiple of a span's pages: what is mapped from it on has leaves of 4 KiB.
+/// A host frame after the table frames that is no multiple of a span's pages: what is mapped from it on has leaves of 4 KiB.
 pub(crate) const UNALIGNED_FRAME: u64 = 0x1001;
 
 /// The rights to read and to write.
@@ -67,14 +67,11 @@ pub(crate) const LAZY_CACHING: Setting = Setting {
     caching: true,
 };
 
-/// A driver of a device that is attached to a domain of its own, in a state of its own. The state is asked
-/// for no more calls than it takes.
+/// A driver of a device that is attached to a domain of its own, in a state of its own.
 #[derive(Drop)]
 pub(crate) struct Driver {
     state: State,
     domain: u64,
-    made: u64,
-    ghost counted: { state.calls ≡ made },
 }
 
 impl Driver {
@@ -82,17 +79,13 @@ impl Driver {
         let mut state = State::with_caching(alloc, TABLE_FRAMES, setting.caching)?;
         let domain = state.domain(setting.mode, setting.width)?;
         state.attach(DEVICE, domain)?;
-        Ok(Driver {
-            state,
-            domain,
-            made: 2,
-        })
+        Ok(Driver { state, domain })
     }
 
     /// Maps `pages` pages from a host frame on, at a multiple of 2^`order` pages, and answers the byte address
     /// of the first.
     pub(crate) fn map(&mut self, frame: u64, pages: u64, order: u64) -> Result<u64, Trouble> {
-        count(&mut self.made)?;
+        ready(&self.state)?;
         Ok(
             self.state
                 .map(self.domain, frame, pages, order, BOTH_RIGHTS)?,
@@ -106,7 +99,7 @@ impl Driver {
         segments: &ArrayVec<Segment, MOST_SEGMENTS>,
         order: u64,
     ) -> Result<u64, Trouble> {
-        count(&mut self.made)?;
+        ready(&self.state)?;
         Ok(
             self.state
                 .map_list(self.domain, order, BOTH_RIGHTS, segments)?,
@@ -115,19 +108,19 @@ impl Driver {
 
     /// Flushes the domain, and answers how many retired records there were.
     pub(crate) fn flush(&mut self) -> Result<u64, Trouble> {
-        count(&mut self.made)?;
+        ready(&self.state)?;
         Ok(self.state.flush(self.domain)?)
     }
 
     /// Begins a flush of the domain, lets the unit do its two descriptors, and reaps it: how many retired records there were.
     pub(crate) fn flush_in_two_halves(&mut self) -> Result<u64, Trouble> {
-        count(&mut self.made)?;
+        ready(&self.state)?;
         let number = self.state.begin(self.domain)?;
-        count(&mut self.made)?;
+        ready(&self.state)?;
         check(self.state.unit_step() == Progress::Did)?;
-        count(&mut self.made)?;
+        ready(&self.state)?;
         check(self.state.unit_step() == Progress::Did)?;
-        count(&mut self.made)?;
+        ready(&self.state)?;
         match self.state.reap(self.domain, number)? {
             Some(released) => Ok(released),
             None => Err(Trouble::Wrong),
@@ -136,27 +129,24 @@ impl Driver {
 
     /// Unmaps `pages` pages from a byte address on, and answers how many retired records went for it.
     pub(crate) fn unmap(&mut self, address: u64, pages: u64) -> Result<u64, Trouble> {
-        count(&mut self.made)?;
-        Ok(self.state.unmap(self.domain, address, pages)?)
+        ready(&self.state)?;
+        Ok(self.state.unmap(self.domain, address, pages)?.released())
     }
 
     /// The device reads at a byte address: the host byte address, or the fault.
     pub(crate) fn read(&mut self, address: u64, whim: Whim) -> Result<Result<u64, Fault>, Trouble> {
-        count(&mut self.made)?;
+        ready(&self.state)?;
         let answer = self.state.dma(DEVICE, address, Access::Read, whim)?;
         Ok(answer.map(|hit| hit.host))
     }
 }
 
-/// Counts a call that is about to be made, where the state takes it.
-pub(crate) fn count(made: &mut u64) -> Result<(), Trouble>
-    ensures few { OnOk result (made.old < MOST_CALLS) }
-    ensures counted { OnOk result (made.new ≡ made.old + 1) }
-    ensures unchanged { OnErr result (made.new ≡ made.old) }
+/// Whether the state takes one more call.
+pub(crate) fn ready(state: &State) -> Result<(), Trouble>
+    ensures { OnOk result (state.now.calls < CALLS_END) }
 {
-    if *made >= MOST_CALLS {
+    if state.calls() >= CALLS_END {
         return Err(Trouble::TooManyCalls);
     }
-    *made += 1;
     Ok(())
 }

@@ -28,7 +28,7 @@ const BURST: u64 = 255;
 
 /// Which range comes free when another was taken.
 #[derive(Clone, Copy)]
-pub(crate) enum Freed {
+pub(crate) enum Choice {
     /// The oldest.
     Oldest,
     /// One by a fixed sequence of numbers that look random.
@@ -49,7 +49,7 @@ pub(crate) enum Sizes {
 pub(crate) struct Reusing {
     space: Space,
     live: Vec<PageRange>,
-    freed: Freed,
+    choice: Choice,
     sizes: Sizes,
     turn: u64,
     number: u64,
@@ -59,13 +59,13 @@ impl Reusing {
     pub(crate) fn new(
         alloc: Global,
         live: u32,
-        freed: Freed,
+        choice: Choice,
         sizes: Sizes,
     ) -> Result<Reusing, Trouble> {
         let mut reusing = Reusing {
             space: Space::new(alloc, LAST_PAGE)?,
             live: Vec::new(alloc),
-            freed,
+            choice,
             sizes,
             turn: 0,
             number: 1,
@@ -91,9 +91,9 @@ impl Reusing {
 
     // The place of the range that comes free next.
     fn place(&mut self) -> Result<usize, Trouble> {
-        let number = match self.freed {
-            Freed::Oldest => self.turn,
-            Freed::Random => {
+        let number = match self.choice {
+            Choice::Oldest => self.turn,
+            Choice::Random => {
                 self.number = self
                     .number
                     .wrapping_mul(6_364_136_223_846_793_005)

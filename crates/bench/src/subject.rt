@@ -10,7 +10,7 @@ use crate::loading::time_loads;
 use crate::managing::{Locks, time_manager};
 use crate::mapping::{Deferred, Flushing, Listing, Mapping, SelfFlushing, Shape, Splitting};
 use crate::request::Request;
-use crate::reusing::{Askew, Bursts, Freed, Holes, Reusing, Sizes};
+use crate::reusing::{Askew, Bursts, Choice, Holes, Reusing, Sizes};
 use crate::scripting::{Lines, time_script};
 use crate::storming::time_storm;
 use crate::taking::Taking;
@@ -43,7 +43,7 @@ enum Kind {
     // Behind this number of live pieces.
     Take(u32),
     // While this number of ranges are live.
-    Reuse(u32, Freed, Sizes),
+    Reuse(u32, Choice, Sizes),
     TakeBehindHoles,
     TakeBehindAskew,
     TakeBursts,
@@ -189,27 +189,27 @@ pub(crate) const SUBJECTS: [Subject; 68] = [
     },
     Subject {
         name: "take, the oldest of 1 freed",
-        kind: Kind::Reuse(1, Freed::Oldest, Sizes::One),
+        kind: Kind::Reuse(1, Choice::Oldest, Sizes::One),
     },
     Subject {
         name: "take, the oldest of 16 freed",
-        kind: Kind::Reuse(16, Freed::Oldest, Sizes::One),
+        kind: Kind::Reuse(16, Choice::Oldest, Sizes::One),
     },
     Subject {
         name: "take, the oldest of 256 freed",
-        kind: Kind::Reuse(256, Freed::Oldest, Sizes::One),
+        kind: Kind::Reuse(256, Choice::Oldest, Sizes::One),
     },
     Subject {
         name: "take, the oldest of 1000 freed",
-        kind: Kind::Reuse(1000, Freed::Oldest, Sizes::One),
+        kind: Kind::Reuse(1000, Choice::Oldest, Sizes::One),
     },
     Subject {
         name: "take, a random one of 1000 freed",
-        kind: Kind::Reuse(1000, Freed::Random, Sizes::One),
+        kind: Kind::Reuse(1000, Choice::Random, Sizes::One),
     },
     Subject {
         name: "take 1 to 64 pages, the oldest of 256 freed",
-        kind: Kind::Reuse(256, Freed::Oldest, Sizes::Mixed),
+        kind: Kind::Reuse(256, Choice::Oldest, Sizes::Mixed),
     },
     Subject {
         name: "take and release 2 pages behind 500 holes",
@@ -466,8 +466,8 @@ impl Subject {
             }
             Kind::MapSelfFlushing => time(clock, rounds, &mut SelfFlushing::new(alloc)?),
             Kind::Take(live) => time(clock, rounds, &mut Taking::new(alloc, live)?),
-            Kind::Reuse(live, freed, sizes) => {
-                let mut reusing = Reusing::new(alloc, live, freed, sizes)?;
+            Kind::Reuse(live, choice, sizes) => {
+                let mut reusing = Reusing::new(alloc, live, choice, sizes)?;
                 time(clock, rounds, &mut reusing)
             }
             Kind::TakeBehindHoles => time(clock, rounds, &mut Holes::new(alloc)?),

@@ -128,8 +128,8 @@ impl Domain {
         self.live.remove(range.first(), range.pages())
     }
 
-    // The pages of the range leave and become the last record, where there is no room behind the others went. The record's place is made
-    // before a page leaves.
+    // The pages of the range leave and become the last record. Where there was no room for one more, the others went first. The record's
+    // place is made before a page leaves.
     fn put_off(&mut self, alloc: Global, range: PageRange) -> Result<(), AllocError>
         ensures last { OnOk result (domain_of self.new ≡ world.put_off range (world.with_room (domain_of self.old))) }
         ensures kept { OnErr result ((p : ℕ) → target_at self.new.live p ≡ target_at self.old.live p) }

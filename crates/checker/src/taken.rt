@@ -35,7 +35,7 @@ impl Taken {
         Ok(Taken { runs })
     }
 
-    /// A run that left, behind those before.
+    /// A run that left, after those before.
     pub(crate) fn push(&mut self, first: u64, run: Run)
         requires some { 1 ≤ run.pages }
         requires frames { run.frame + run.pages ≤ FRAMES_END }

@@ -10,8 +10,8 @@ use dmatypes::{Event, Refusal, Reply, parse_line, parse_reply};
 /// The most bytes of a line of a trace, its newline left out (own). The longest lines of a script and of a reply are shorter together.
 pub const LONGEST_TRACE_LINE: usize = 600;
 
-/// The event that a line of a trace says, its newline left out: a line of a script, the four bytes ` => `, and the line that
-/// is written for a reply; `None` exactly where it says none, as a line that is too long. A reply that the history is full makes no
+/// The event that a line of a trace says, its newline left out. It is a line of a script, the four bytes ` => `, and the line that
+/// is written for a reply. `None` exactly where it says none, as a line that is too long. A reply that the history is full makes no
 /// event.
 #[tactic(auto, unfolding(crate::specs::Traces::event_said))]
 pub fn parse_event(line: &[u8]) -> Option<Event>

@@ -16,8 +16,8 @@ use Rattle.engine.specs.State.{State}
 use Rattle.engine.specs.Walkable.{table_at}
 use Rattle.driven.specs.declared.effect.Effect.{Effect}
 use Rattle.driven.specs.Effects.{IsBrought}
-use Rattle.driven.specs.Telling.{AreTablesOf, BringsUnmapped, BringsWays, TablesStay}
-use Rattle.driven.specs.Ways.{IsExchanged, IsOnWays}
+use Rattle.driven.specs.Telling.{AreTablesOf, BringsUnmapped, BringsWalks, TablesStay}
+use Rattle.driven.specs.Walks.{IsExchanged, IsOnWalks}
 use Rattle.driven.proofs.Spans.{same_table}
 
 few_levels : (w : Width) → levels w ≤ 4
@@ -35,8 +35,8 @@ module _ (t : State) (d : ℕ) (h h' : Domain) (then : domain_at t.domains d ≡
 
   -- ---- a map
 
-  pub on_ways : (from to : ℕ) (es : List Effect) → BringsWays t.pool (domain_at t.domains d) from to es → (f k : ℕ)
-      → IsOnWays t.pool.words (levels h.width) h.root from to f k → IsBrought es f k
+  pub on_ways : (from to : ℕ) (es : List Effect) → BringsWalks t.pool (domain_at t.domains d) from to es → (f k : ℕ)
+      → IsOnWalks t.pool.words (levels h.width) h.root from to f k → IsBrought es f k
   on_ways from to es brings f k (p, (low, high, (l, at, index))) =
       let few : suc l ≤ levels h.width = deeper (memory t.pool.words) (levels h.width) h.root p (suc l) f at in
       let same : suc l - 1 ≡ l = omega arith in
@@ -69,7 +69,7 @@ module _ (t : State) (d : ℕ) (h h' : Domain) (then : domain_at t.domains d ≡
 
     -- on a way after the unmap
     pub stays_or_came : (to : ℕ) → to ≡ last + 1 → (f k : ℕ) → k < TABLE_ENTRIES → Low f k
-        → IsOnWays t.pool.words (levels h.width) h.root first to f k → IsBrought es f k
+        → IsOnWalks t.pool.words (levels h.width) h.root first to f k → IsBrought es f k
     stays_or_came to end f k inside lowest (p, (low, high, (zero, at, index))) =
         let b = brings.spans p (table_from (memory m.pool.words) (levels h.width) h.root p 1) low (omega (arith, high, end))
         (was m first last before here were p low (omega (arith, high, end))) in

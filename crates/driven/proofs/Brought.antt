@@ -19,7 +19,7 @@ use Rattle.driven.specs.declared.effect.Effect.{Effect}
 use Rattle.driven.specs.declared.effect.Effect.TheVariants.{Barrier, Words}
 use Rattle.driven.specs.Effects.{Brings, EndInBarrier, IsBrought, IsForMemory}
 use Rattle.driven.specs.Telling.{BringsFrames, BringsLevel, BringsLowest, BringsMapped, BringsPart, BringsTable, BringsUnmapped}
-use Rattle.driven.specs.Telling.{BringsUpper, BringsWays, BringsWhole, TablesStay}
+use Rattle.driven.specs.Telling.{BringsUpper, BringsWalks, BringsWhole, TablesStay}
 
 pub brought_left : (xs ys : List Effect) (f k : ℕ) → IsBrought xs f k → IsBrought (xs ++ ys) f k
 brought_left xs ys f k (e, (inside, brings)) = (e, (in_left e xs ys inside, brings))
@@ -171,7 +171,7 @@ last_barrier x y some (inr (earlier, is)) = inr (x ++ earlier, ap (λ es. x ++ e
 
 -- the lowest tables, and then those above them
 pub ways : (pool : Pool) (h : Option Domain) (from last to : ℕ) (x y : List Effect) → to ≡ last + 1 → BringsLevel pool h 1 from last x
-    → BringsUpper pool h from last y → BringsWays pool h from to (x ++ y)
+    → BringsUpper pool h from last y → BringsWalks pool h from to (x ++ y)
 ways pool h from last to x y end lowest above = record {
   ends = last_barrier x y above.begins above.ends;
   for_memory = All-append IsForMemory x y lowest.for_memory above.for_memory;
@@ -204,7 +204,7 @@ mapped_in pool h from last to near frame table e end is low high part = record {
 }
 
 pub mapped_ways : (pool : Pool) (h : Option Domain) (from to near : ℕ) (table : Option ℕ) (es : List Effect)
-    → BringsWays pool h from to es → BringsMapped pool h from to near table es
+    → BringsWalks pool h from to es → BringsMapped pool h from to near table es
 mapped_ways pool h from to near table es brings = record { ends = brings.ends; for_memory = brings.for_memory; brings = inl brings }
 
 -- where all tables of level 1 stay, no more than theirs and a barrier

@@ -18,8 +18,8 @@ use Rattle.engine.specs.Steps.{Does}
 use Rattle.engine.proofs.domains.OneChanged.{both_there}
 use Rattle.quiet.proofs.Calls.{not_bad_list, not_bad_map, some_pages, unmap_pages}
 use Rattle.quiet.specs.Quiet.{IsSound}
-use Rattle.driven.specs.Laws.{CallsChangeTheseWords, IsOfExchanged, IsOnWaysOf, MayChange}
-use Rattle.driven.specs.Ways.{IsExchanged, IsOnWays}
+use Rattle.driven.specs.Laws.{CallsChangeTheseWords, IsOfExchanged, IsOnWalksOf, MayChange}
+use Rattle.driven.specs.Walks.{IsExchanged, IsOnWalks}
 use Rattle.driven.proofs.Changed.{Sound, map_changes, unmap_changes}
 use Rattle.driven.proofs.Cuts.{Cuts, cuts}
 
@@ -49,7 +49,7 @@ module _ (m t : State) (f k : ℕ) (sound : IsSound m) (inside : k < TABLE_ENTRI
 
   module _ (e : ℕ) (h : Domain) (here : domain_at m.domains e ≡ Some h) where
     mapped : (at : Placement) (new : Domain) → 1 ≤ total_pages at.segments → Places m.pool h at t.pool new
-        → IsOnWaysOf m t e at.first (total_pages at.segments) f k
+        → IsOnWalksOf m t e at.first (total_pages at.segments) f k
     mapped at new some places = (
       h,
       (
@@ -60,7 +60,7 @@ module _ (m t : State) (f k : ℕ) (sound : IsSound m) (inside : k < TABLE_ENTRI
     )
 
     abbrev Unmapped_there : Range → Type 0
-    Unmapped_there range = IsOnWaysOf m t e range.first range.pages f k ⊎ IsOfExchanged m t e range.first range.pages f
+    Unmapped_there range = IsOnWalksOf m t e range.first range.pages f k ⊎ IsOfExchanged m t e range.first range.pages f
 
     unmapped : (range : Range) → Cuts m t h range → Unmapped_there range
     unmapped range c =
@@ -68,7 +68,7 @@ module _ (m t : State) (f k : ℕ) (sound : IsSound m) (inside : k < TABLE_ENTRI
         (λ same. differs (ap (λ ws. word ws f k) (sym c.was) ∙ same ∙ ap (λ ws. word ws f k) c.is))) [
           | inl on ↦ inl (
             h,
-            (here, subst (λ ws. IsOnWays ws (levels h.width) h.root range.first (range.first + range.pages) f k) c.is on),
+            (here, subst (λ ws. IsOnWalks ws (levels h.width) h.root range.first (range.first + range.pages) f k) c.is on),
           )
           | inr out ↦ inr (
             h,
@@ -96,7 +96,7 @@ module _ (m t : State) (f k : ℕ) (sound : IsSound m) (inside : k < TABLE_ENTRI
       (not_bad_map sound.of_world.0 e frame pages order rights address (does.steps sound.of_world.0 sound.of_world.1).0) in
       let one : total_pages (record { frame = frame; pages = pages } ∷ []) ≡ pages =
       omega (arith, sum_by-cons (λ (x : Segment). x.pages) (record { frame = frame; pages = pages }) []) in
-      subst (λ n. IsOnWaysOf m t e (address / PAGE_BYTES) n f k) one (mapped e h here _ new some places)
+      subst (λ n. IsOnWalksOf m t e (address / PAGE_BYTES) n f k) one (mapped e h here _ new some places)
   changed (calls.Map e frame pages order rights) _ does is = quiet (ap (λ (x : State). x.pool) is)
   changed (calls.MapList e order rights segments) (Mapped address) does (h, new, here, places, sends, is) =
       mapped e h here _ new

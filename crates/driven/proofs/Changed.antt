@@ -14,9 +14,9 @@ use Rattle.tables.proofs.walks.Onward.{deeper, index_lt, leaf_on}
 use Rattle.tables.proofs.walks.Steps.{same_index, same_or_not, wide_span}
 use Rattle.moments.specs.Moments.{AreFreeZeroed}
 use Rattle.quiet.proofs.WhatIsMet.{used_on}
-use Rattle.driven.specs.Ways.{IsExchanged, IsOnWays}
+use Rattle.driven.specs.Walks.{IsExchanged, IsOnWalks}
 use Rattle.driven.proofs.Entries.{word_fresh, word_named, word_stays}
-use Rattle.driven.proofs.Ways.{meets, page_at, passes, way_of_use}
+use Rattle.driven.proofs.Walks.{meets, page_at, passes, way_of_use}
 
 -- the words of a tree spell its entries before and after, and what is free is zeroed
 pub record Sound (old new : Pool) (level root from to : ℕ) (cut : List ℕ) : Type 0 where
@@ -58,7 +58,7 @@ module _ (old new : Pool) (level root from to : ℕ) where
 
   -- a word on the way of a page whose span below meets one of the pages is on the way of that one
   on_ways : (p l f : ℕ) → Is p (suc l) f → (q : ℕ) × ((from ≤ q) × (q < to) × (p / span l ≡ q / span l))
-      → IsOnWays new.words level root from to f (index_in l p)
+      → IsOnWalks new.words level root from to f (index_in l p)
   on_ways p l f is (q, (low, high, same)) = (
     q,
     (
@@ -135,12 +135,12 @@ module _ (old new : Pool) (level root from to : ℕ) where
     map_upper p l f c lowest at = upper_stays s.before s.after p l f c lowest (λ w d was. maps.tables p (suc w) d was) at
 
     pub map_changes : (f k : ℕ) → k < TABLE_ENTRIES → word old.words f k ≢ word new.words f k
-        → IsOnWays new.words level root from to f k
+        → IsOnWalks new.words level root from to f k
     map_changes f k inside differs =
         ⊎_elim
         (λ (used : 0 < uses (memory new.words) level root f).
         let (p, l, (near, is, index)) = used_place f k used inside in
-        subst (λ i. IsOnWays new.words level root from to f i) index
+        subst (λ i. IsOnWalks new.words level root from to f i) index
         (⊎_elim
         (λ (none : MeetsNone l from to p).
         absurd (differs (subst (λ i. word old.words f i ≡ word new.words f i) index
@@ -192,7 +192,7 @@ module _ (old new : Pool) (level root from to : ℕ) where
         ]) at
 
     abbrev Changed : ℕ → ℕ → Type 0
-    Changed f k = IsOnWays new.words level root from to f k ⊎ IsExchanged old.words new.words level root from to f
+    Changed f k = IsOnWalks new.words level root from to f k ⊎ IsExchanged old.words new.words level root from to f
 
     stood : (p l f k : ℕ) → p / span level ≡ from / span level → Was p (suc l) f → Is p (suc l) f → index_in l p ≡ k
         → word old.words f k ≢ word new.words f k → Changed f k

@@ -14,7 +14,7 @@ use Rattle.tables.proofs.walks.Onward.{index_lt, leaf_on, table_on}
 use Rattle.tables.proofs.walks.Steps.{leaf_under, table_under}
 use Rattle.moments.proofs.ReadWords.{spelled_on}
 use Rattle.tables.proofs.walks.Onward.{deeper}
-use Rattle.driven.proofs.Ways.{leaf_passes, passes}
+use Rattle.driven.proofs.Walks.{leaf_passes, passes}
 
 stands : (level w : ℕ) (e : SsEntry) → Spells level w e → MayStandAt level e
 stands level w Absent s = tt

@@ -1,4 +1,4 @@
-pub mod Ways
+pub mod Walks
 pub mod Entries
 pub mod Changed
 pub mod Splits

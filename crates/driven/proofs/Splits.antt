@@ -19,7 +19,7 @@ use Rattle.tables.proofs.walks.Steps.{leaf_under, same_index, same_or_not, table
 use Rattle.tables.proofs.walks.Words.{memory_at}
 use Rattle.moments.proofs.ReadWords.{spelled_on}
 use Rattle.driven.proofs.Changed.{Sound, map_changes, unmap_stays, unused, used_place}
-use Rattle.driven.proofs.Ways.{meets}
+use Rattle.driven.proofs.Walks.{meets}
 
 -- a word of a table of another level spells no leaf of 2 MiB
 no_large : (l w : ℕ) (e : SsEntry) (x : Target) → Spells l w e → l ≢ 2 → look 2 w ≡ LargeLeaf x → ⊥

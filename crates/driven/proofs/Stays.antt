@@ -18,7 +18,7 @@ use Rattle.quiet.specs.Quiet.{IsSound}
 use Rattle.driven.specs.declared.effect.Effect.{Effect}
 use Rattle.driven.specs.Effects.{IsBrought}
 use Rattle.driven.specs.Telling.{AreTablesOf, BringsMapped, StayInPart, TablesStay}
-use Rattle.driven.specs.Ways.{IsOnWays}
+use Rattle.driven.specs.Walks.{IsOnWalks}
 use Rattle.driven.proofs.BringsAll.{on_ways, there, was}
 use Rattle.driven.proofs.Calls.{map_sound}
 use Rattle.driven.proofs.Changed.{map_upper, unmap_upper}
@@ -39,7 +39,7 @@ module _ (m t : State) (d : ℕ) (h h' : Domain) (here : domain_at m.domains d �
 
     -- the words of the pages in it are all that was changed on their ways
     pub placed_words : (to : ℕ) (es : List Effect) → BringsMapped t.pool (domain_at t.domains d) at.first to near table es → (f k : ℕ)
-        → word m.pool.words f k ≢ word t.pool.words f k → IsOnWays t.pool.words (levels h.width) h.root at.first to f k → IsBrought es f k
+        → word m.pool.words f k ≢ word t.pool.words f k → IsOnWalks t.pool.words (levels h.width) h.root at.first to f k → IsBrought es f k
     placed_words to es brings f k differs on =
         elim brings.brings [
           | inl all ↦ on_ways t d h h' then root width at.first to es all f k on
@@ -49,7 +49,7 @@ module _ (m t : State) (d : ℕ) (h h' : Domain) (here : domain_at m.domains d �
       where
         in_table : (c : ℕ) → table ≡ Some c → ((p : ℕ) → at.first ≤ p → p < to → p / SPAN_PAGES ≡ near / SPAN_PAGES)
             → ((p : ℕ) → at.first ≤ p → p < to → IsBrought es c (index_in 0 p))
-            → IsOnWays t.pool.words (levels h.width) h.root at.first to f k → IsBrought es f k
+            → IsOnWalks t.pool.words (levels h.width) h.root at.first to f k → IsBrought es f k
         in_table c found same told (p, (low, high, (zero, is, index))) =
             let own : c ≡ f = same_Some c f (sym (places.maps.tables p 1 c (had p c found (same p low high))) ∙ is) in
             subst (λ g. IsBrought es g k) own (subst (λ i. IsBrought es c i) index (told p low high))

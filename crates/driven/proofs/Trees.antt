@@ -38,7 +38,7 @@ use Rattle.quiet.specs.Quiet.{IsSound}
 use Rattle.driven.specs.declared.effect.Effect.{Effect}
 use Rattle.driven.specs.Effects.{BringsAll, FillsTables, IsBrought, by_mode, in_mode, in_order}
 use Rattle.driven.specs.Telling.{AreTablesOf, BringsFrames, BringsMapped, BringsUnmapped, StayInPart, TablesStay}
-use Rattle.driven.specs.Ways.{IsOnWays}
+use Rattle.driven.specs.Walks.{IsOnWalks}
 use Rattle.driven.proofs.BringsAll.{exchanged, stays_or_came}
 use Rattle.driven.proofs.Calls.{calls_change}
 use Rattle.driven.proofs.Cuts.{cuts}
@@ -70,7 +70,7 @@ module _ (m t : State) (d frame pages order rights address : ℕ) (sound : IsSou
       (some_pages (record { frame = frame; pages = pages } ∷ []) order rights
       (not_bad_map sound.of_world.0 d frame pages order rights address (does.steps sound.of_world.0 sound.of_world.1).0)) places near table
       looked (address / PAGE_BYTES + pages) es brings f k differs
-      (subst (λ (y : Domain). IsOnWays t.pool.words (levels y.width) y.root (address / PAGE_BYTES) (address / PAGE_BYTES + pages) f k)
+      (subst (λ (y : Domain). IsOnWalks t.pool.words (levels y.width) y.root (address / PAGE_BYTES) (address / PAGE_BYTES + pages) f k)
       (same_Some g h (sym there ∙ here)) on)
 
   pub map_brings : (near : ℕ) (table : Option ℕ) → table ≡ table_at m.pool (domain_at m.domains d) near 1 → (es : List Effect)
@@ -105,7 +105,7 @@ module _ (m t : State) (d order rights address : ℕ) (segments : ArrayVec Segme
       (some_pages segments.items order rights
       (not_bad_list sound.of_world.0 d order rights address segments (does.steps sound.of_world.0 sound.of_world.1).0)) places near table
       looked (address / PAGE_BYTES + total_pages segments.items) es brings f k differs
-      (subst (λ (y : Domain). IsOnWays t.pool.words (levels y.width) y.root (address / PAGE_BYTES)
+      (subst (λ (y : Domain). IsOnWalks t.pool.words (levels y.width) y.root (address / PAGE_BYTES)
       (address / PAGE_BYTES + total_pages segments.items) f k) (same_Some g h (sym there ∙ here)) on)
 
   pub list_brings : (near : ℕ) (table : Option ℕ) → table ≡ table_at m.pool (domain_at m.domains d) near 1 → (es : List Effect)

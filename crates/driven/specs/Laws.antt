@@ -20,13 +20,13 @@ use Rattle.quiet.specs.Quiet.{IsSound}
 use Rattle.driven.specs.declared.effect.Effect.{Effect}
 use Rattle.driven.specs.declared.effect.Effect.TheVariants.{Barrier}
 use Rattle.driven.specs.Effects.{AreEffects, IsBrought, SendsWith}
-use Rattle.driven.specs.Ways.{IsExchanged, IsOnWays}
+use Rattle.driven.specs.Walks.{IsExchanged, IsOnWalks}
 
 -- the word lies on the way of one of so many pages of the domain, from a first one on, after the call
-abbrev pub IsOnWaysOf : State → State → ℕ → ℕ → ℕ → ℕ → ℕ → Type 0
-IsOnWaysOf m t domain first pages frame index =
+abbrev pub IsOnWalksOf : State → State → ℕ → ℕ → ℕ → ℕ → ℕ → Type 0
+IsOnWalksOf m t domain first pages frame index =
     (h : Domain) × ((domain_at m.domains domain ≡ Some h)
-    × IsOnWays t.pool.words (levels h.width) h.root first (first + pages) frame index)
+    × IsOnWalks t.pool.words (levels h.width) h.root first (first + pages) frame index)
 
 -- or in a table of level 1 that came into the domain's tree, or went out of it, on such a way
 abbrev pub IsOfExchanged : State → State → ℕ → ℕ → ℕ → ℕ → Type 0
@@ -38,11 +38,11 @@ IsOfExchanged m t domain first pages frame =
 -- splits a leaf into. A drop may change any word. No other call changes one, nor one that is refused
 abbrev pub MayChange : State → Call → Reply → State → ℕ → ℕ → Type 0
 MayChange m (calls.Map domain frame pages order rights) (Mapped address) t f k =
-    IsOnWaysOf m t domain (address / PAGE_BYTES) pages f k
+    IsOnWalksOf m t domain (address / PAGE_BYTES) pages f k
 MayChange m (calls.MapList domain order rights segments) (Mapped address) t f k =
-    IsOnWaysOf m t domain (address / PAGE_BYTES) (total_pages segments.items) f k
+    IsOnWalksOf m t domain (address / PAGE_BYTES) (total_pages segments.items) f k
 MayChange m (calls.Unmap domain address pages) (Unmapped released) t f k =
-    IsOnWaysOf m t domain (address / PAGE_BYTES) pages f k ⊎ IsOfExchanged m t domain (address / PAGE_BYTES) pages f
+    IsOnWalksOf m t domain (address / PAGE_BYTES) pages f k ⊎ IsOfExchanged m t domain (address / PAGE_BYTES) pages f
 MayChange m (calls.Drop domain) Done t f k = Unit {0}
 MayChange m call reply t f k = ⊥
 

@@ -1,4 +1,4 @@
-pub mod Ways
+pub mod Walks
 pub mod Effects
 pub mod Laws
 pub mod Telling

@@ -88,18 +88,18 @@ TablesStay pool h first last before =
     → (f : ℕ) × ((slice_get before (p / SPAN_PAGES - first / SPAN_PAGES) ≡ Some (Some f)) × (table_at pool h p 1 ≡ Some f))
 
 -- the words on the ways of the pages from one up to another
-pub record BringsWays (pool : Pool) (h : Option Domain) (from to : ℕ) (effects : List Effect) : Type 0 where
+pub record BringsWalks (pool : Pool) (h : Option Domain) (from to : ℕ) (effects : List Effect) : Type 0 where
   pub ends : EndInBarrier effects
   pub for_memory : All IsForMemory effects
   pub brings : (level p f : ℕ) → 1 ≤ level → level ≤ 4 → from ≤ p → p < to → table_at pool h p level ≡ Some f
       → IsBrought effects f (index_in (level - 1) p)
 
--- what a map of the pages from one up to another changed, where this was the table of level 1 on the way of a page near them: where they
+-- what a map of the pages from one up to another changed, where this was the table of level 1 on the way of a page near them. Where they
 -- are all of that page's span, their words in that table alone, else all words on their ways
 pub record BringsMapped (pool : Pool) (h : Option Domain) (from to near : ℕ) (table : Option ℕ) (effects : List Effect) : Type 0 where
   pub ends : EndInBarrier effects
   pub for_memory : All IsForMemory effects
-  pub brings : BringsWays pool h from to effects
+  pub brings : BringsWalks pool h from to effects
       ⊎ ((frame : ℕ) × ((table ≡ Some frame) × ((p : ℕ) → from ≤ p → p < to → p / SPAN_PAGES ≡ near / SPAN_PAGES)
       × ((p : ℕ) → from ≤ p → p < to → IsBrought effects frame (p % TABLE_ENTRIES))))
 

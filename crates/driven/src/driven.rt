@@ -1,9 +1,7 @@
 //! A state that tells what each call asks.
 
 ghost use Rattle.std.specs.Prelude.{◌≡◌, ◌+◌, ◌<◌, ◌≤◌, ◌↔◌, [], length, IfOk, IfSome, IsNone, true, false};
-ghost use Rattle.dmatypes.specs.Conditions.{total_pages};
 ghost use Rattle.dmatypes.specs.declared.call.Call.TheVariants as calls;
-ghost use Rattle.dmatypes.specs.declared.page.TheConstants.{MOST_PAGES};
 ghost use Rattle.dmatypes.specs.declared.limits.TheConstants.{CALLS_END, LEAST_TABLE_FRAMES, MOST_TABLE_FRAMES};
 ghost use Rattle.dmatypes.specs.declared.reply.Reply.TheVariants.{Done, Stepped};
 ghost use Rattle.engine.specs.Hits.{IsHitOf};
@@ -25,7 +23,7 @@ use arrayvec::ArrayVec;
 use dmatypes::{
     Access, Cache, Fault, MOST_SEGMENTS, Mode, PAGE_BYTES, Progress, Refusal, Segment, Whim, Width,
 };
-use engine::{Hit, State};
+use engine::{Hit, State, Unmapped};
 use std::alloc::{AllocError, Global};
 use std::marker::Model;
 
@@ -144,7 +142,7 @@ impl Driven {
         tell_detach(&mut self.effects, state, device)
     }
 
-    /// Detaches a device and then flushes the domain that it had, as Linux does: until then a unit that finds translations by their device
+    /// Detaches a device and then flushes the domain that it had, as Linux does. Until then a unit that finds translations by their device
     /// too, and not by their domain alone, may still reach the domain (own). It is the call `detach` and then the call `flush`, with what
     /// both ask, and counts as two. Answers how many records the flush released. Refuses as `State::detach` does, and is that call alone
     /// then.
@@ -403,15 +401,21 @@ impl Driven {
         let state: &mut State = state;
         state.keeps();
         note_map(effects, noted, state, domain);
-        let address = state.map_list(domain, order, rights, segments)?;
-        let pages = pages_of(segments.as_slice());
-        tell_map(effects, noted, state, domain, address / PAGE_BYTES, pages);
-        Ok(address)
+        let placed = state.map_segments(domain, order, rights, segments.as_slice())?;
+        tell_map(
+            effects,
+            noted,
+            state,
+            domain,
+            placed.address / PAGE_BYTES,
+            placed.pages,
+        );
+        Ok(placed.address)
     }
 
     /// Ends pages, as `State::unmap` does. In a strict domain all words come before the descriptor; where the list of a lazy one was full,
     /// its flush comes first.
-    pub fn unmap(&mut self, domain: u64, address: u64, pages: u64) -> Result<u64, Refusal>
+    pub fn unmap(&mut self, domain: u64, address: u64, pages: u64) -> Result<Unmapped, Refusal>
         requires { self.old.state.calls < CALLS_END }
         ensures does { Does self.old.state (calls.Unmap domain address pages) (unmapped_reply result) self.new.state }
         ensures tells { self.new.tells ≡ self.old.tells }
@@ -426,7 +430,7 @@ impl Driven {
     }
 
     #[inline(never)]
-    fn unmap_and_tell(&mut self, domain: u64, address: u64, pages: u64) -> Result<u64, Refusal>
+    fn unmap_and_tell(&mut self, domain: u64, address: u64, pages: u64) -> Result<Unmapped, Refusal>
         requires { self.old.state.calls < CALLS_END }
         ensures does { Does self.old.state (calls.Unmap domain address pages) (unmapped_reply result) self.new.state }
         ensures tells { self.new.tells ≡ self.old.tells }
@@ -442,10 +446,10 @@ impl Driven {
         let state: &mut State = state;
         state.keeps();
         note_unmap(effects, noted, state, domain, address, pages);
-        let released = state.unmap(domain, address, pages)?;
+        let unmapped = state.unmap(domain, address, pages)?;
         let first = address / PAGE_BYTES;
-        tell_unmap(effects, noted, state, domain, first, released);
-        Ok(released)
+        tell_unmap(effects, noted, state, domain, first, unmapped.released());
+        Ok(unmapped)
     }
 }
 
@@ -459,12 +463,4 @@ fn new_state(alloc: Global, frames: u64, caching: bool) -> Result<Box<State>, Al
 {
     let state = State::with_caching(alloc, frames, caching)?;
     Ok(Box::new(alloc, state)?)
-}
-
-// How many pages the segments have together.
-fn pages_of(segments: &[Segment]) -> u64
-    requires { total_pages segments.now ≤ MOST_PAGES }
-    ensures { result ≡ total_pages segments.now }
-{
-    segments.iter().map(|segment| segment.pages).sum()
 }

@@ -5,8 +5,8 @@ use dmatypes::Frame;
 /// One thing that a call asks, in the order in which it has to be done (own).
 #[derive(Clone, Copy, Debug, Default, PartialEq, Eq)]
 pub enum Effect {
-    /// Bring these words to the memory that the unit reads, each by one store of 64 bits: `count` words from an index of a table frame
-    /// on, and over the frames after it where they are more than are left of it. `State::table_word` has them.
+    /// Bring these words to the memory that the unit reads, each by one store of 64 bits. They are `count` words from an index of a
+    /// table frame on, and over the frames after it where they are more than are left of it. `State::table_word` has them.
     Words {
         frame: Frame,
         first: u64,

@@ -13,8 +13,8 @@ pub fn calls_submit_at_most_one()
     ensures { CallsSubmitAtMostOne }
 {}
 
-/// Whatever of a call's effects has reached memory when a walk reads it, each page is found as before the call or as after it, if only
-/// what is brought after a barrier reaches memory after what is brought before it.
+/// Whatever of a call's effects has reached memory when a walk reads it, each page is found as before the call or as after it. It asks
+/// only that what is brought after a barrier reaches memory after what is brought before it.
 pub fn effects_are_old_or_new()
     ensures { EffectsAreOldOrNew }
 {}

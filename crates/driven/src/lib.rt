@@ -1,5 +1,5 @@
 //! The manager in charge of a unit that isn't its own. A `Driven` is a state that tells after each call what the call asks of whoever
-//! keeps the memory and the queue which the unit reads: words to bring, descriptors to send, and what to wait for.
+//! keeps the memory and the queue which the unit reads. It asks for words to bring, descriptors to send, and what to wait for.
 #![tactic(auto)]
 
 mod detaching;

@@ -6,7 +6,7 @@ ghost use Rattle.engine.specs.Domains.{domain_at};
 ghost use Rattle.engine.specs.Walkable.{table_at};
 ghost use Rattle.driven.specs.Effects.{IsSending};
 ghost use Rattle.driven.specs.Telling.{AreTablesOf, BringsLevel, BringsLowest, BringsPart, BringsTable, BringsUpper, BringsWhole};
-ghost use Rattle.driven.specs.Telling.{BringsFrames, BringsMapped, BringsUnmapped, BringsWays, HasSent, IsSentBy, StayInPart, TablesStay};
+ghost use Rattle.driven.specs.Telling.{BringsFrames, BringsMapped, BringsUnmapped, BringsWalks, HasSent, IsSentBy, StayInPart, TablesStay};
 ghost use Rattle.driven.specs.Telling.{most_tables};
 ghost use Rattle.driven.specs.declared.effect.Effect.{Effect};
 ghost use Rattle.vtdbits.specs.Descriptor.{descriptor_of};
@@ -95,8 +95,8 @@ pub(crate) fn fill_tables(tables: &mut Tables, state: &State, domain: u64, first
     }
 }
 
-/// Tells of each span of the pages from one to another: where its table of level 1 stays, the words of the pages; where it went or
-/// came, all words of the one and of the other. Answers whether each span had a table that stays.
+/// Tells of each span of the pages from one to another. Where its table of level 1 stays, these are the words of the pages. Where
+/// it went or came, all words of the one and of the other. Answers whether each span had a table that stays.
 pub(crate) fn bring_lowest(
     effects: &mut Effects,
     state: &State,
@@ -144,11 +144,11 @@ pub(crate) fn bring_upper(effects: &mut Effects, state: &State, domain: u64, fir
 
 /// Tells the words on the ways of so many pages, from a first one on: the lowest tables first, so that a table is filled before it is
 /// named.
-pub(crate) fn bring_ways(effects: &mut Effects, state: &State, domain: u64, first: u64, pages: u64)
+pub(crate) fn bring_walks(effects: &mut Effects, state: &State, domain: u64, first: u64, pages: u64)
     requires pages { (1 ≤ pages) × (pages ≤ MOST_PAGES) × (first + pages ≤ PAGES_END) }
     requires room { array_vec_len effects.old + 17 ≤ MOST_EFFECTS }
     ensures { (more : List Effect) × (effects.new.items ≡ effects.old.items ++ more) × (length more ≤ 17)
-        × BringsWays state.now.pool (domain_at state.now.domains domain) first (first + pages) more }
+        × BringsWalks state.now.pool (domain_at state.now.domains domain) first (first + pages) more }
 {
     let last = first + pages - 1;
     bring_level(effects, state, domain, 1, first, last);
@@ -156,7 +156,7 @@ pub(crate) fn bring_ways(effects: &mut Effects, state: &State, domain: u64, firs
 }
 
 /// Tells the words of so many pages, from a first one on, that a map changed, where this was the table of level 1 on the way of a page
-/// near them before it: a table that was there stays, and is named by what it was.
+/// near them before it. A table that was there stays, and is named by what it was.
 pub(crate) fn bring_mapped(
     effects: &mut Effects,
     state: &State,
@@ -180,7 +180,7 @@ pub(crate) fn bring_mapped(
             return;
         }
     }
-    bring_ways(effects, state, domain, first, pages);
+    bring_walks(effects, state, domain, first, pages);
 }
 
 /// Tells what an unmap of the pages from one to another changed, of the tables of level 1 that were there before it first. Where all of

@@ -4,6 +4,7 @@ ghost use Rattle.std.specs.Prelude.{◌+◌, ◌<◌, ◌≤◌};
 
 use crate::{Driven, Effect};
 use dmatypes::{Access, Cache, Frame, Mode, Progress, Refusal, Whim, Width};
+use engine::Unmapped;
 use std::test::Fail;
 
 // The words of a descriptor and of the first wait.
@@ -51,7 +52,7 @@ fn effects_of_a_page(rt: HostRuntime) -> Result<(), Fail> {
         ]
         .as_slice()
     );
-    assert_eq!(rt; driven.unmap(1, 0x1000, 1), Ok(0));
+    assert_eq!(rt; driven.unmap(1, 0x1000, 1), Ok(Unmapped::Free));
     assert_eq!(rt;
         driven.effects(),
         [
@@ -69,7 +70,7 @@ fn effects_of_a_page(rt: HostRuntime) -> Result<(), Fail> {
         driven.effects(),
         [word(lowest, 1), Effect::Barrier].as_slice()
     );
-    assert_eq!(rt; driven.unmap(1, 0x1000, 1), Ok(0));
+    assert_eq!(rt; driven.unmap(1, 0x1000, 1), Ok(Unmapped::Free));
     assert_eq!(rt;
         driven.effects(),
         [
@@ -108,7 +109,10 @@ fn a_detach_with_a_flush(rt: HostRuntime) -> Result<(), Fail> {
     assert_eq!(rt; driven.domain(Mode::Lazy, Width::W39), Ok(1));
     assert_eq!(rt; driven.attach(3, 1), Ok(()));
     assert_eq!(rt; driven.map(1, 0x100, 1, 0, 3), Ok(0x1000));
-    assert_eq!(rt; driven.unmap(1, 0x1000, 1), Ok(0));
+    assert_eq!(rt;
+        driven.unmap(1, 0x1000, 1),
+        Ok(Unmapped::Retired { released: 0 })
+    );
     assert_eq!(rt; driven.detach_all(3), Ok(1));
     assert_eq!(rt;
         driven.effects(),

@@ -1,3 +1,4 @@
 pub mod Read
 pub mod Allowed
 pub mod Stepped
+pub mod Detailed

@@ -30,10 +30,12 @@ use Rattle.unit.specs.Filters.{left_by}
 use Rattle.vtdbits.specs.declared.descriptor.Descriptor.{Descriptor}
 use Rattle.vtdbits.specs.declared.descriptor.Descriptor.TheVariants.{IotlbDomain, IotlbPages, Wait}
 use Rattle.vtdbits.specs.declared.number.TheConstants.{MOST_BLOCK_ORDER}
+use Rattle.engine.specs.declared.answer.Unmapped.{Unmapped}
 use Rattle.engine.specs.declared.record.Record.{Record}
 use Rattle.engine.specs.declared.iommu.Iommu.{Iommu}
 use Rattle.engine.specs.declared.iommu.Shown.{Shown}
 use Rattle.engine.specs.declared.iommu.Shown.TheVariants.{Mapped, OneRecord, Records}
+use Rattle.engine.specs.Details.{released_by}
 use Rattle.engine.specs.Domains.{Domain, Operands, held_in}
 
 -- ---- in the tree and the address space
@@ -292,6 +294,7 @@ EndsBy old id range released new =
     ByMode old.domain.mode ((released ≡ 0) × UnmapsStrictly old id range new) (PutsOff old id range released new)
 
 -- what is answered, and what the table frames, the domain and the IOMMU are then
-abbrev pub IsUnmapped : Operands → ℕ → Range → Result ℕ Refusal → Operands → Type 0
-IsUnmapped old id range (Ok released) new = IsJudgedEnd old.pool old.domain range (Ok tt) × EndsBy old id range released new
+abbrev pub IsUnmapped : Operands → ℕ → Range → Result Unmapped Refusal → Operands → Type 0
+IsUnmapped old id range (Ok unmapped) new =
+    IsJudgedEnd old.pool old.domain range (Ok tt) × EndsBy old id range (released_by unmapped) new
 IsUnmapped old id range (Err refusal) new = (new ≡ old) × IsJudgedEnd old.pool old.domain range (Err refusal)

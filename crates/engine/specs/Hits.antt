@@ -1,5 +1,5 @@
--- What a request was answered by, and what is asked of the domains of devices.
-use Rattle.std.specs.Prelude.{◌≡◌, ◌<◌, ◌⊎◌, ℕ, Option, None, Some, IsSomeAnd, Result, Ok, Err}
+-- What an answer says of a world besides its reply, and what is asked of the domains of devices.
+use Rattle.std.specs.Prelude.{◌≡◌, ◌<◌, ◌⊎◌, ℕ, Option, None, Some, IsSomeAnd}
 use Rattle.dmatypes.specs.Allows.{domain_of_device, host_of}
 use Rattle.dmatypes.specs.Page.{page_of}
 use Rattle.dmatypes.specs.Rights.{Permits, bits_of}
@@ -11,13 +11,15 @@ use Rattle.dmatypes.specs.declared.call.Call.TheVariants as calls
 use Rattle.dmatypes.specs.declared.call.Mode.{Mode}
 use Rattle.dmatypes.specs.declared.call.Whim.{Whim}
 use Rattle.dmatypes.specs.declared.limits.TheConstants.{DEVICES}
-use Rattle.dmatypes.specs.declared.refusal.Fault.{Fault}
-use Rattle.dmatypes.specs.declared.refusal.Refusal.{Refusal}
 use Rattle.dmatypes.specs.declared.reply.Reply.{Reply}
 use Rattle.dmatypes.specs.declared.width.Width.{Width}
-use Rattle.dmatypes.specs.declared.reply.Reply.TheVariants.{Host}
+use Rattle.dmatypes.specs.declared.reply.Reply.TheVariants.{Host, Unmapped}
 use Rattle.unit.specs.declared.hit.Hit.{Hit}
 use Rattle.vtdbits.specs.Translation.{target}
+use Rattle.engine.specs.declared.answer.Detail.{Detail}
+use Rattle.engine.specs.declared.answer.Detail.TheVariants as details
+use Rattle.engine.specs.declared.answer.Unmapped as answer
+use Rattle.engine.specs.Details.{mode_by, released_by}
 use Rattle.engine.specs.Domains.{Domain}
 use Rattle.engine.specs.State.{State}
 use Rattle.engine.specs.Quarantine.{Quarantine}
@@ -43,14 +45,20 @@ IsHitIn w (calls.Dma device address access whim) (Host a) None = ⊥
 IsHitIn w (calls.Dma device address access whim) reply hit = hit ≡ None
 IsHitIn w call reply hit = hit ≡ None
 
+-- what became of pages is told exactly where an unmap was done: it has the reply's number, and is by the domain's mode
+unfoldable pub IsDetailIn : World → Call → Reply → Detail → Type 0
+IsDetailIn w (calls.Unmap domain address pages) (Unmapped n) (details.Unmapped unmapped) =
+    (n ≡ released_by unmapped) × IsSomeAnd (w.domains domain) (λ v. v.mode ≡ mode_by unmapped)
+IsDetailIn w (calls.Unmap domain address pages) (Unmapped n) detail = ⊥
+IsDetailIn w call reply detail = (unmapped : answer.Unmapped) → detail ≡ details.Unmapped unmapped → ⊥
+
 -- the call is no request
 abbrev pub IsNoRequest : Call → Type 0
 IsNoRequest call = (device address : ℕ) (access : Access) (whim : Whim) → call ≡ calls.Dma device address access whim → ⊥
 
-abbrev pub hit_in : Result (Result Hit Fault) Refusal → Option Hit
-hit_in (Ok (Ok hit)) = Some hit
-hit_in (Ok (Err fault)) = None
-hit_in (Err refusal) = None
+-- the call is no unmap
+abbrev pub IsNoUnmap : Call → Type 0
+IsNoUnmap call = (domain address pages : ℕ) → call ≡ calls.Unmap domain address pages → ⊥
 
 abbrev pub mode_of : Option Domain → Option Mode
 mode_of None = None

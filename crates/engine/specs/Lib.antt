@@ -1,3 +1,4 @@
+pub mod Details
 pub mod Domains
 pub mod Judged
 pub mod Placing

@@ -115,7 +115,7 @@ pub record IsLawfulTable (words : List ℕ) (i : CachedNonLeaf) (h : Domain) (v 
   pub span : i.pages ≡ span i.level
   pub named : IsTableAt (memory words) (levels h.width) h.root i.first i.level i.frame ⊎ IsHeld words h.records i.first i.pages i.frame
 
-pub record AreLawful (m : State) (w : World) (c : Caches) : Type 0 where
+pub record AreLawfulCaches (m : State) (w : World) (c : Caches) : Type 0 where
   pub leaves : (l : CachedLeaf) → IsIn l c.leaves → InDomain m w l.domain (IsLawfulLeaf m.pool.words l)
   pub tables : (i : CachedNonLeaf) → IsIn i c.non_leaves → InDomain m w i.domain (IsLawfulTable m.pool.words i)
 
@@ -162,7 +162,7 @@ ticket_there t = record { domain = t.domain; number = t.number }
 pub record Quarantine (m : State) (w : World) : Type 0 where
   pub table_frames : w.table_frames ≡ m.pool.frames
   pub domains : (d : ℕ) → MirrorsIfAny m.pool.words (domain_at m.domains d) (w.domains d)
-  pub caches : AreLawful m w m.iommu.unit.caches
+  pub caches : AreLawfulCaches m w m.iommu.unit.caches
   pub faults : (f : CachedFault) → IsIn f m.iommu.unit.caches.faults → IsLawfulFault m.iommu.unit w f
   pub contexts : Attaches m w
   pub frames : PartsFrames m.pool (domain_at m.domains)

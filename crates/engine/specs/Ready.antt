@@ -27,8 +27,8 @@ pub record CanCut (pool : Pool) (domain : Domain) : Type 0 where
   pub there : (p : ℕ) → state_at domain.space.pieces p ≡ Some Live → IsSome (states (memory pool.words) (levels domain.width) domain.root p)
 
 -- the tree of the root states no page of the range
-abbrev pub IsCleared : Pool → Width → ℕ → Range → Type 0
-IsCleared pool width root range = (p : ℕ) → IsWithin range p → states (memory pool.words) (levels width) root p ≡ None
+abbrev pub IsUnstated : Pool → Width → ℕ → Range → Type 0
+IsUnstated pool width root range = (p : ℕ) → IsWithin range p → states (memory pool.words) (levels width) root p ≡ None
 
 -- the tree of the root states each page of the range
 abbrev pub IsStated : Pool → Width → ℕ → Range → Type 0

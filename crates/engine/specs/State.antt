@@ -22,7 +22,7 @@ use Rattle.dmatypes.specs.declared.width.Width.{Width}
 use Rattle.queue.specs.Ring.{ring_of}
 use Rattle.tables.specs.Pool.{Pool, memory, occurs, IsZeroed}
 use Rattle.tables.specs.Tree.{one_if_same}
-use Rattle.unit.specs.Answers.{Answers, IsRemembered}
+use Rattle.unit.specs.Answers.{AnswersRequest, IsRemembered}
 use Rattle.unit.specs.Caches.{nothing, unit_state, without}
 use Rattle.unit.specs.Filters.{after_first, done_after, left_by_first}
 use Rattle.unit.specs.declared.hit.Hit.{Hit}
@@ -32,8 +32,11 @@ use Rattle.dmatypes.specs.Page.{range_at}
 use Rattle.dmatypes.specs.declared.call.Segment.{Segment}
 use Rattle.tables.specs.Segments.{one_segment}
 use Rattle.vtdbits.specs.declared.descriptor.Descriptor.TheVariants.{ContextDevice}
+use Rattle.engine.specs.declared.answer.Placed.{Placed}
+use Rattle.engine.specs.declared.answer.Unmapped as answer
 use Rattle.engine.specs.declared.iommu.Iommu.{Iommu}
 use Rattle.engine.specs.declared.ticket.Ticket.{Ticket}
+use Rattle.engine.specs.Details.{released_by}
 use Rattle.engine.specs.Ending.{Begins, Closes, EndsBy, Flushes, Invalidates, IsJudgedEnd, Reaps, SendsForMap}
 use Rattle.engine.specs.Ready.{last_done}
 use Rattle.engine.specs.Domains.{Domain, Operands, domain_at, new_domain, operands_of}
@@ -190,7 +193,7 @@ Becomes m (calls.Unmap domain address pages) (Unmapped released) t =
 Becomes m (calls.Dma device address access whim) (Refused refusal) t = t ≡ record m { calls = m.calls + 1 }
 Becomes m (calls.Dma device address access whim) reply t =
     (answer : Result Hit Fault) × (reply ≡ reached_reply (host_in answer))
-    × Answers (memory m.pool.words) m.iommu.contexts whim.look whim.fill m.iommu.unit.caching device address access
+    × AnswersRequest (memory m.pool.words) m.iommu.contexts whim.look whim.fill m.iommu.unit.caching device address access
     m.iommu.unit.caches t.iommu.unit.caches answer
     × (IsTrue whim.fill → IfOk answer (IsRemembered t.iommu.unit.caches device address))
     × (t ≡ record m {
@@ -243,8 +246,12 @@ abbrev pub mapped_reply : Result ℕ Refusal → Reply
 mapped_reply (Ok a) = Mapped a
 mapped_reply (Err r) = Refused r
 
-abbrev pub unmapped_reply : Result ℕ Refusal → Reply
-unmapped_reply (Ok n) = Unmapped n
+abbrev pub placed_reply : Result Placed Refusal → Reply
+placed_reply (Ok placed) = Mapped placed.address
+placed_reply (Err r) = Refused r
+
+abbrev pub unmapped_reply : Result answer.Unmapped Refusal → Reply
+unmapped_reply (Ok unmapped) = Unmapped (released_by unmapped)
 unmapped_reply (Err r) = Refused r
 
 abbrev pub flushed_reply : Result ℕ Refusal → Reply

@@ -1,4 +1,4 @@
--- Tickets: flushes that were begun, how far each is, and what the unit has forgotten by then. A begun flush puts its ticket behind the
+-- Tickets: flushes that were begun, how far each is, and what the unit has forgotten by then. A begun flush puts its ticket after the
 -- others (`Becomes`), so they stand in the order in which they were begun.
 use Rattle.std.specs.Prelude.{◌≡◌, ℕ, ◌+◌, ◌<◌, ◌≤◌, List, [], ◌∷◌, ◌++◌, length, map, Option, Some}
 use Rattle.dmatypes.specs.Page.{IsWithin}
@@ -29,7 +29,7 @@ unfoldable pub pairs_of : List Ticket → List Descriptor
 pairs_of [] = []
 pairs_of (t ∷ ts) = IotlbDomain t.domain ∷ wait_of t ∷ pairs_of ts
 
--- their waits are the numbers behind the first up to the last, one after the other
+-- their waits are the numbers after the first up to the last, one after the other
 unfoldable pub Follow : ℕ → List Ticket → ℕ → Type 0
 Follow first [] last = first ≡ last
 Follow first (t ∷ ts) last = (t.wait ≡ first + 1) × Follow (first + 1) ts last
@@ -66,7 +66,7 @@ AreDifferent (t ∷ ts) = ((u : Ticket) → IsIn u ts → u.domain ≡ t.domain 
 -- ---- what the type of a state keeps
 
 -- the waits of some tickets are done, the descriptor of at most one more was taken, and those of the others wait, each with
--- its wait behind it; nothing else waits. The waits that aren't done are the last ones sent. Whatever was there when a
+-- its wait after it; nothing else waits. The waits that aren't done are the last ones sent. Whatever was there when a
 -- flush was begun is forgotten once its descriptor was taken
 pub record AreKept (tickets : List Ticket) (domains : List (Option Domain)) (x : Iommu) : Type 0 where
   pub done : List Ticket

@@ -9,6 +9,7 @@ ghost use Rattle.dmatypes.specs.declared.width.TheConstants.{PAGES_END};
 ghost use Rattle.iova.specs.Space.{AllFree, IsSpace, MayRetire};
 ghost use Rattle.tables.specs.Pool.{IsTree};
 ghost use Rattle.vtdbits.specs.declared.descriptor.Descriptor.TheVariants.{IotlbDomain};
+ghost use Rattle.engine.specs.Details.{mode_by};
 ghost use Rattle.engine.specs.Domains.{AreMadeBefore, new_domain, operands_of};
 ghost use Rattle.engine.specs.Ending.{Closes, Destroys, Flushes, IsJudgedEnd, IsUnmapped, MakesRoom, PutsOff, Releases, ReleasesAll};
 ghost use Rattle.engine.specs.Ending.{FreesEnded, Reaps, RetiresAndUnmaps, SendsForMap, UnmapsAlone, UnmapsStrictly, was_before};
@@ -19,6 +20,7 @@ ghost use Rattle.engine.specs.Ready.{AreInvalidated, AreReleasable, CanCut, CanU
 ghost use Rattle.engine.specs.Ready.{IsFreeable, IsInvalidated, IsReady, IsReleasable};
 ghost use Rattle.engine.specs.Ready.{last_done};
 
+use crate::answer::Unmapped;
 use crate::iommu::Iommu;
 use crate::record::Record;
 use crate::room::Room;
@@ -99,11 +101,11 @@ impl Domain {
         self.tree.root()
     }
 
-    /// Makes the pages of the segments live at the lowest aligned start at or above the domain's floor where they are free, or
-    /// where there is none at the lowest of all, maps them, and answers the first of them. Changes nothing where it refuses:
-    /// `NoRange` where there is no start, else `TooManyPieces` where the
-    /// address space would be cut into too many pieces, else `NoFrames` where the tables that the pages lack are more
-    /// than the free frames. In Caching Mode the unit then forgets that the pages were absent.
+    /// Makes the pages of the segments live, maps them, and answers the first of them. They come at the lowest aligned start
+    /// at or above the domain's floor where they are free, or where there is none at the lowest of all. Changes nothing where
+    /// it refuses. It does with `NoRange` where there is no start, else with `TooManyPieces` where the address space would be
+    /// cut into too many pieces. Else it does with `NoFrames` where the tables that the pages lack are more than the free
+    /// frames. In Caching Mode the unit then forgets that the pages were absent.
     pub(crate) fn map(
         &mut self,
         pool: &mut Pool,
@@ -142,29 +144,32 @@ impl Domain {
         Ok(start.number())
     }
 
-    /// Ends a range of live pages, and answers how many retired records went for it. Refuses, and changes nothing, where
-    /// `may_end` does. In a strict domain the pages are invalidated and free then; in a lazy one they are its last
-    /// record.
+    /// Ends a range of live pages, and answers what became of them. Refuses, and changes nothing, where
+    /// `may_end` does.
     pub(crate) fn unmap(
         &mut self,
         pool: &mut Pool,
         iommu: &mut Iommu,
         id: DomainId,
         range: PageRange,
-    ) -> Result<u64, Refusal>
+    ) -> Result<Unmapped, Refusal>
         requires fits { Fits range self.old.width }
         requires can { CanUnmap pool.old self.old }
         requires made { AreMadeBefore (iommu.old.sent + 1) self.old.records }
         requires ready { IsReady iommu.old }
-        ensures { IsUnmapped (operands_of pool.old self.old iommu.old) id range result (operands_of pool.new self.new iommu.new) }
+        ensures unmapped { IsUnmapped (operands_of pool.old self.old iommu.old) id range result (operands_of pool.new self.new iommu.new) }
+        ensures mode { IfOk result (λ unmapped. mode_by unmapped ≡ self.old.mode) }
     {
         self.may_end(pool, range)?;
         match self.mode {
             Mode::Strict => {
                 self.unmap_strictly(pool, iommu, id, range);
-                Ok(0)
+                Ok(Unmapped::Free)
             }
-            Mode::Lazy => Ok(self.unmap_lazily(pool, iommu, id, range)),
+            Mode::Lazy => {
+                let released = self.unmap_lazily(pool, iommu, id, range);
+                Ok(Unmapped::Retired { released })
+            }
         }
     }
 
@@ -274,8 +279,8 @@ impl Domain {
         }
     }
 
-    // Whether a range may end: `NotLive` where a page of it isn't live, else `TooManyPieces` where the address space would
-    // be cut into too many pieces, else `NoFrames` where the leaves of 2 MiB that are to be split are more than the free
+    // Whether a range may end. `NotLive` where a page of it isn't live, else `TooManyPieces` where the address space would
+    // be cut into too many pieces. Else `NoFrames` where the leaves of 2 MiB that are to be split are more than the free
     // frames.
     fn may_end(&mut self, pool: &Pool, range: PageRange) -> Result<(), Refusal>
         requires tree { IsTree pool.now (levels self.old.width) self.old.root }
@@ -344,26 +349,6 @@ fn floor_of(width: Width) -> u64
     }
 }
 
-/// Releases the pages of a retired record of a domain, and the table frames that were cut with them. The unit has
-/// forgotten them for good: it has done a wait that was sent after the record was made, and before it a descriptor that
-/// covers them.
-#[inline(always)]
-pub(crate) fn release(
-    space: &mut Space,
-    pool: &mut Pool,
-    iommu: &Iommu,
-    id: DomainId,
-    retired: &Record,
-)
-    requires can { IsReleasable pool.old space.old retired.now }
-    requires invalidated { IsInvalidated iommu.now id retired.now }
-    ensures released { Releases pool.old space.old retired.now pool.new space.new }
-    ensures retirable { (other : Range) → MayRetire space.old.pieces other → MayRetire space.new.pieces other }
-    ensures more { length pool.old.free ≤ length pool.new.free }
-{
-    put_back(space, pool, retired);
-}
-
 /// Frees the live pages of a record, and gives the table frames back that were cut with them. The unit has forgotten them for
 /// good, as for a release.
 #[inline(always)]
@@ -376,21 +361,9 @@ fn free(space: &mut Space, pool: &mut Pool, iommu: &Iommu, id: DomainId, ended: 
     pool.give_back(ended.cut.frames());
 }
 
-// Makes the pages of a retired record free, and gives the table frames back that were cut with them.
-#[inline(always)]
-fn put_back(space: &mut Space, pool: &mut Pool, retired: &Record)
-    requires { IsReleasable pool.old space.old retired.now }
-    ensures released { Releases pool.old space.old retired.now pool.new space.new }
-    ensures retirable { (other : Range) → MayRetire space.old.pieces other → MayRetire space.new.pieces other }
-    ensures more { length pool.old.free ≤ length pool.new.free }
-{
-    space.release(retired.range);
-    pool.give_back(retired.cut.frames());
-}
-
 /// Releases the pages of a retired record that was there before the ticket's flush was begun, and the table frames that were
-/// cut with them, in the same way. Its wait is done: before it the unit forgot all that it remembered of the domain, and it
-/// can't have met what is retired since.
+/// cut with them. Its wait is done: before it the unit forgot all that it remembered of the domain, and it can't have met what
+/// is retired since.
 #[inline(always)]
 fn release_by(space: &mut Space, pool: &mut Pool, iommu: &Iommu, ticket: &Ticket, retired: &Record)
     requires can { IsReleasable pool.old space.old retired.now }
@@ -400,7 +373,8 @@ fn release_by(space: &mut Space, pool: &mut Pool, iommu: &Iommu, ticket: &Ticket
     ensures retirable { (other : Range) → MayRetire space.old.pieces other → MayRetire space.new.pieces other }
     ensures more { length pool.old.free ≤ length pool.new.free }
 {
-    put_back(space, pool, retired);
+    space.release(retired.range);
+    pool.give_back(retired.cut.frames());
 }
 
 // Releases those of the records that were there before the ticket's flush was begun, and answers how many.

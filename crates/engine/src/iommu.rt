@@ -9,7 +9,7 @@ ghost use Rattle.dmatypes.specs.declared.reply.Progress.{Progress};
 ghost use Rattle.queue.specs.declared.ring.TheConstants.Ring.{CAPACITY};
 ghost use Rattle.engine.specs.Ending.{Begins, Invalidates, IsSent, SendsForMap, left_by_all, record_shown, shown_of, status_of};
 ghost use Rattle.engine.specs.Ending.{taken_after};
-ghost use Rattle.engine.specs.Ready.{AreReleasable, IsCleared, IsReady, IsFreeable, IsStated, NoneWrites, last_done};
+ghost use Rattle.engine.specs.Ready.{AreReleasable, IsUnstated, IsReady, IsFreeable, IsStated, NoneWrites, last_done};
 ghost use Rattle.queue.specs.Ring.{ring_of};
 ghost use Rattle.unit.specs.Caches.{nothing, unit_state};
 ghost use Rattle.unit.specs.Filters.{after_first, done_after, left_by_first, status_after};
@@ -112,11 +112,11 @@ impl Iommu {
         self.sent
     }
 
-    /// Has the unit forget the pages of a retired record, and what it remembers of the tables that were cut with them: sends
+    /// Has the unit forget the pages of a retired record, and what it remembers of the tables that were cut with them. It sends
     /// the descriptor that covers them and then a wait, and runs the unit until the wait is done. What waits is done before, and
-    /// nothing waits then. The domain's tree states none of the pages any more: a request could bring them back before. They
-    /// are still live in its address space, and the frames that were cut with them still neither free nor used: what comes
-    /// free comes so later.
+    /// nothing waits then. The domain's tree states none of the pages any more: a request could bring them back before. They are
+    /// still live in its address space, and the frames that were cut with them still neither free nor used: what comes free
+    /// comes so later.
     pub(crate) fn invalidate_pages(
         &mut self,
         domain: DomainId,
@@ -126,7 +126,7 @@ impl Iommu {
         space: &Space,
     )
         requires ready { IsReady self.old }
-        requires cleared { IsCleared pool.now tree.now.width tree.now.root ended.now.range }
+        requires cleared { IsUnstated pool.now tree.now.width tree.now.root ended.now.range }
         requires kept { IsFreeable pool.now space.now ended.now }
         ensures { (descriptor : Descriptor) × IsSent domain ended.now.range ended.now.cut descriptor
             × Invalidates self.old descriptor (record_shown tree.now.root ended.now.range (length pool.now.free)) self.new }

@@ -3,8 +3,8 @@
 use dmatypes::PageRange;
 use tables::Cut;
 
-/// Pages that were unmapped and may still be used, with the number of flushes begun when they were unmapped, what the
-/// unmap took out of the tree, and how many waits had been sent by then.
+/// Pages that were unmapped and may still be used, with the number of flushes begun when they were unmapped. Also
+/// what the unmap took out of the tree, and how many waits had been sent by then.
 #[derive(Drop)]
 pub(crate) struct Record {
     pub(crate) range: PageRange,

@@ -2,7 +2,7 @@
 
 ghost use Rattle.std.specs.Prelude.{◌≡◌, ◌+◌, ◌%◌, ◌<◌, ◌≤◌, ◌==◌, ℕ, IfOk, IfSome, IfNone, length, slice_get, replicate};
 ghost use Rattle.std.specs.Prelude.{vec_capacity, vec_len, Some, None, IsSome, IsFalse, IsTrue, ◌↔◌, false};
-ghost use Rattle.dmatypes.specs.Conditions.{IsBadUnmap};
+ghost use Rattle.dmatypes.specs.Conditions.{IsBadUnmap, total_pages};
 ghost use Rattle.dmatypes.specs.Page.{Fits, IsInWindow, IsPageRange, range_at};
 ghost use Rattle.dmatypes.specs.World.{empty};
 ghost use Rattle.dmatypes.specs.declared.limits.TheConstants.{CALLS_END, DEVICES, LEAST_TABLE_FRAMES, MOST_DOMAINS, MOST_SEGMENTS};
@@ -10,14 +10,17 @@ ghost use Rattle.dmatypes.specs.declared.limits.TheConstants.{MOST_TABLE_FRAMES}
 ghost use Rattle.dmatypes.specs.declared.page.TheConstants.{PAGE_BYTES};
 ghost use Rattle.dmatypes.specs.declared.call.Call.TheVariants as calls;
 ghost use Rattle.dmatypes.specs.declared.reply.Reply.TheVariants.{Done};
+ghost use Rattle.engine.specs.Details.{mode_by};
 ghost use Rattle.engine.specs.Domains.{domain_at};
-ghost use Rattle.engine.specs.Hits.{IsHitOf};
-ghost use Rattle.engine.specs.State.{IsNew, done_reply, flushed_reply, unmapped_reply, made_reply, mapped_reply, request_reply};
+ghost use Rattle.engine.specs.Hits.{IsHitOf, mode_of};
+ghost use Rattle.engine.specs.State.{IsNew, done_reply, flushed_reply, unmapped_reply, made_reply, mapped_reply, placed_reply};
+ghost use Rattle.engine.specs.State.{request_reply};
 ghost use Rattle.engine.specs.Quarantine.{Quarantine};
 ghost use Rattle.vtdbits.specs.Context.{attached};
 ghost use Rattle.engine.specs.Steps.{Does};
 ghost use Rattle.engine.specs.Whole.{IsWhole};
 
+use crate::answer::{Placed, Unmapped};
 use crate::domain::Domain;
 use crate::iommu::Iommu;
 use crate::request::judge;
@@ -48,13 +51,6 @@ pub use totals::{DomainTotals, Totals};
 
 // The places for tickets.
 const TICKETS: usize = MOST_TICKETS as usize;
-
-/// What a call answers: its reply, and what a request that reached a host address was answered.
-#[derive(Clone, Copy, Debug, PartialEq, Eq)]
-pub struct Answer {
-    pub reply: Reply,
-    pub hit: Option<Hit>,
-}
 
 /// Table frames, domains and the rooms of those that aren't there, the row of context entries with the ring and the unit,
 /// the tickets of begun flushes, and the number of calls made. Its type keeps that it is a state of some world.
@@ -94,7 +90,7 @@ impl State {
         State::with_caching(alloc, frames, false)
     }
 
-    /// The same, with Caching Mode (bit 7 of the capability register) where `on` says so: then the unit may also remember that
+    /// The same, with Caching Mode (bit 7 of the capability register) where `on` says so. Then the unit may also remember that
     /// a page is absent, and a map has it forget that before it answers.
     // Never inlined: whoever makes a state would have room on the stack for each of its moves.
     #[inline(never)]
@@ -114,8 +110,8 @@ impl State {
         })
     }
 
-    /// The same without the mode, as a state would be after `calls` calls, each with a wait that is done, 2^56 at most: for a
-    /// test of what comes late in a state's life, as wait numbers that pass 2^32 (own).
+    /// The same without the mode, as a state would be after `calls` calls, each with a wait that is done, 2^56 at most. It is
+    /// for a test of what comes late in a state's life, as wait numbers that pass 2^32 (own).
     pub fn after(alloc: Global, frames: u64, calls: u64) -> Result<State, AllocError>
         requires some { LEAST_TABLE_FRAMES ≤ frames }
         requires few { frames ≤ MOST_TABLE_FRAMES }
@@ -217,9 +213,9 @@ impl State {
         Ok(())
     }
 
-    /// Maps 1 to 4,096 pages, from a host frame on, at the lowest free multiple of 2^`order` pages, and answers the byte
-    /// address of the first; a 48-bit domain is served at 512 GiB and above, where there is room. The rights are 1 to read, 2 to
-    /// write, 3 for both. Refuses as `map_list` does.
+    /// Maps 1 to 4,096 pages, from a host frame on, at the lowest free multiple of 2^`order` pages, and answers the byte address
+    /// of the first. A 48-bit domain is served at 512 GiB and above, where there is room. The rights are 1 to read, 2 to write,
+    /// 3 for both. Refuses as `map_list` does.
     pub fn map(
         &mut self,
         domain: u64,
@@ -231,14 +227,15 @@ impl State {
         requires { self.old.calls < CALLS_END }
         ensures { Does self.old (calls.Map domain frame pages order rights) (mapped_reply result) self.new }
     {
-        self.map_segments(domain, order, rights, &[Segment { frame, pages }])
+        let placed = self.map_segments(domain, order, rights, &[Segment { frame, pages }])?;
+        Ok(placed.address)
     }
 
     /// Maps the pages of all segments, 1 to 4,096 together, one segment after the other, where `map` would map as many
-    /// pages, and answers the byte address of the first. Refuses, and maps nothing, with `NoDomain`, `BadRange`
-    /// (what no map can ask for), `FrameOwned` (a segment begins at a table frame), `NoRange`, `TooManyPieces` (the address
-    /// space would be cut into too many), or `NoFrames` (the tables that are lacking are more than the free frames), the
-    /// first of these that stands.
+    /// pages, and answers the byte address of the first. Refuses, and maps nothing, with `NoDomain`, `BadRange` (what no
+    /// map can ask for), `FrameOwned` (a segment begins at a table frame), or `NoRange`. Then come `TooManyPieces` (the
+    /// address space would be cut into too many) and `NoFrames` (the tables that are lacking are more than the free
+    /// frames). The first of these that stands is answered.
     pub fn map_list(
         &mut self,
         domain: u64,
@@ -249,20 +246,23 @@ impl State {
         requires { self.old.calls < CALLS_END }
         ensures { Does self.old (calls.MapList domain order rights segments.now) (mapped_reply result) self.new }
     {
-        self.map_segments(domain, order, rights, segments.as_slice())
+        let placed = self.map_segments(domain, order, rights, segments.as_slice())?;
+        Ok(placed.address)
     }
 
-    // Maps the pages of segments in a domain, where there is one of this id.
-    fn map_segments(
+    /// Maps the pages of segments as `map_list` does, and answers how many they are too.
+    #[inline(always)]
+    pub fn map_segments(
         &mut self,
         domain: u64,
         order: u64,
         rights: u64,
         segments: &[Segment],
-    ) -> Result<u64, Refusal>
+    ) -> Result<Placed, Refusal>
         requires counts { self.old.calls < CALLS_END }
         requires few { length segments.now ≤ MOST_SEGMENTS }
-        ensures { Does self.old (calls.MapList domain order rights (record { items = segments.now })) (mapped_reply result) self.new }
+        ensures does { Does self.old (calls.MapList domain order rights (record { items = segments.now })) (placed_reply result) self.new }
+        ensures pages { IfOk result (λ placed. placed.pages ≡ total_pages segments.now) }
     {
         self.calls += 1;
         let Some(id) = DomainId::new(domain) else {
@@ -273,7 +273,10 @@ impl State {
         };
         let wanted = judge(self.pool.frames(), segments, order, rights)?;
         let first = domain.map(&mut self.pool, &mut self.iommu, id, segments, wanted)?;
-        Ok(PAGE_BYTES * first)
+        Ok(Placed {
+            address: PAGE_BYTES * first,
+            pages: wanted.pages,
+        })
     }
 
     /// A device's request at a byte address: the host byte address with the frame and the rights of its page, or the fault.
@@ -307,14 +310,15 @@ impl State {
         Ok(answer)
     }
 
-    /// Ends `pages` live pages of a domain, from a byte address on, and answers how many retired records went for it. In
-    /// a strict domain the pages are invalidated and free when it answers; in a lazy one they become its last record,
-    /// and where 256 were there, these are flushed first. Refuses, and ends nothing, with `NoDomain`, `BadRange` (no
-    /// multiple of 4,096, or a range that can't be mapped at once), `NotLive`, `TooManyPieces`, or `NoFrames` (more leaves
-    /// of 2 MiB are to be split than frames are free), the first of these that stands.
-    pub fn unmap(&mut self, domain: u64, address: u64, pages: u64) -> Result<u64, Refusal>
+    /// Ends `pages` live pages of a domain, from a byte address on, and answers what became of them. In a strict domain
+    /// the pages are invalidated and free when it answers; in a lazy one they become its last record, and where 256 were
+    /// there, these are flushed first. Refuses, and ends nothing, with `NoDomain`, `BadRange` (no multiple of 4,096, or a
+    /// range that can't be mapped at once), `NotLive` or `TooManyPieces`. Or it does with `NoFrames` (more leaves of 2
+    /// MiB are to be split than frames are free). The first of these that stands is answered.
+    pub fn unmap(&mut self, domain: u64, address: u64, pages: u64) -> Result<Unmapped, Refusal>
         requires { self.old.calls < CALLS_END }
-        ensures { Does self.old (calls.Unmap domain address pages) (unmapped_reply result) self.new }
+        ensures does { Does self.old (calls.Unmap domain address pages) (unmapped_reply result) self.new }
+        ensures mode { IfOk result (λ unmapped. mode_of (domain_at self.old.domains domain) ≡ Some (mode_by unmapped)) }
     {
         self.calls += 1;
         let Some(id) = DomainId::new(domain) else {

@@ -12,7 +12,7 @@ use Rattle.iova.specs.Pieces.{AllIn, IsOrdered, IsRun, piece_of, state_at}
 use Rattle.piece_tree.specs.Pieces.{Holds}
 use Rattle.piece_tree.specs.Laid.{with_piece}
 use Rattle.iova.specs.Space.{Space, IsSpace, MayRetire}
-use Rattle.iova.specs.Changes.{Becomes, FreesRun, LosesRun}
+use Rattle.iova.specs.Changes.{PagesBecome, FreesRun, LosesRun}
 use Rattle.piece_tree.specs.Pieces.{IsPiece}
 use Rattle.iova.proofs.Pieces.{order, put_inside, put_under, put_past}
 use Rattle.iova.proofs.Puts.{StandsAlone}
@@ -127,7 +127,7 @@ space_freed a q sp w run =
 
 -- the run's pages are free, and the others lie as before
 freed_states : (range : Range) (s : PageState) (ps : List Piece) → IsOrdered 1 ps → 1 ≤ range.pages → IsRun (piece_of range s) ps
-    → Becomes ps (with_free (piece_of range s) ps) range Free
+    → PagesBecome ps (with_free (piece_of range s) ps) range Free
 freed_states range s ps o pos run =
     let q : Piece = piece_of range s in
     let j = joined q ps o (omega (arith, pos)) run in

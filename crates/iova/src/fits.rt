@@ -68,7 +68,7 @@ fn fit_from(tree: &PieceTree, sought: Sought) -> Option<u64>
 }
 
 /// A page below which no free piece begins, where none began below the page `low`, once it is known where the lowest pages lie that were
-/// sought: where that was one page anywhere, all free pieces begin there or behind.
+/// sought. Where that was one page anywhere, all free pieces begin there or behind.
 pub(crate) fn low_found(low: u64, start: u64, sought: Sought) -> u64
     requires sought { IsSought sought }
     ensures { (pieces : List Piece) → IsOrdered 1 pieces → NoneFreeBelow low pieces

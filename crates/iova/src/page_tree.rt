@@ -264,7 +264,7 @@ impl PageTree {
             self.freed = Some(pages);
             return;
         }
-        self.put_free(pages);
+        self.free(pages);
     }
 
     /// Puts a piece in use over free pages.
@@ -297,19 +297,9 @@ impl PageTree {
         self.tree.lay_row(row);
     }
 
-    /// Frees a range that is made of whole retired pieces, one after the other, as one release for each of them would.
-    pub(crate) fn release_run(&mut self, range: PageRange)
-        requires { IsRun (piece_of range PageState.Retired) self.old.pieces }
-        ensures freed { FreesRun self.old self.new range PageState.Retired }
-        ensures retirable { (other : Range) → MayRetire self.old.pieces other → MayRetire self.new.pieces other }
-        ensures space { IsSpace self.old × IsSpace self.new }
-    {
-        self.put_free(ends_of(range));
-    }
-
-    // Makes pages free, as one piece with the free ones that they touch.
+    /// Makes pages free, as one piece with the free ones that they touch.
     #[inline(always)]
-    fn put_free(&mut self, pages: Ends)
+    pub(crate) fn free(&mut self, pages: Ends)
         requires some { pages.first ≤ pages.last }
         requires narrow { pages.last < NUMBERS_END }
         requires space { IsSpace self.old
@@ -321,16 +311,5 @@ impl PageTree {
         self.freed = None;
         self.judged = None;
         self.low = freeing::set_free(&mut self.tree, self.low, pages);
-    }
-
-    /// Frees a range that is one piece.
-    #[inline(always)]
-    pub(crate) fn free(&mut self, range: PageRange)
-        requires { (state : PageState) × IsIn (piece_of range state) self.old.pieces }
-        ensures freed { (state : PageState) → IsIn (piece_of range state) self.old.pieces → Frees self.old self.new range state }
-        ensures range { IsPageRange range }
-        ensures space { IsSpace self.old × IsSpace self.new }
-    {
-        self.put_free(ends_of(range));
     }
 }

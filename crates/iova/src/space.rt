@@ -171,9 +171,9 @@ impl Space {
         })
     }
 
-    /// Makes so many free pages, 1 to 4,096, one live piece, and answers the first of them: the lowest at or above the floor
-    /// that is a multiple of 2^order (order 0 to 9), and where there is none the lowest of all. Where it is refused, nothing
-    /// has changed.
+    /// Makes so many free pages, 1 to 4,096, one live piece, and answers the first of them. It is the lowest at or above the
+    /// floor that is a multiple of 2^order (order 0 to 9), and where there is none the lowest of all. Where it is refused,
+    /// nothing has changed.
     pub fn take_from(&mut self, floor: u64, pages: u64, order: u64) -> Result<Page, TakeError>
         requires floor { 1 ≤ floor }
         requires some_pages { 1 ≤ pages }
@@ -382,50 +382,34 @@ impl Space {
         ensures undone { (before : Space) → IsSpace before → Takes before self.old taken → self.new ≡ before }
         ensures space { IsSpace self.old × IsSpace self.new }
     {
-        self.free(taken);
-    }
-
-    /// Frees a range that is one retired piece. What may be retired before it may be retired after it.
-    #[inline(always)]
-    pub fn release(&mut self, range: PageRange)
-        requires { IsIn (piece_of range PageState.Retired) self.old.pieces }
-        ensures freed { Frees self.old self.new range PageState.Retired }
-        ensures retirable { (other : Range) → MayRetire self.old.pieces other → MayRetire self.new.pieces other }
-        ensures space { IsSpace self.old × IsSpace self.new }
-    {
-        self.free(range);
-    }
-
-    /// Frees a range that is made of whole retired pieces, one after the other, as one release for each of them would.
-    pub fn release_run(&mut self, range: PageRange)
-        requires { IsRun (piece_of range PageState.Retired) self.old.pieces }
-        ensures freed { FreesRun self.old self.new range PageState.Retired }
-        ensures retirable { (other : Range) → MayRetire self.old.pieces other → MayRetire self.new.pieces other }
-        ensures space { IsSpace self.old × IsSpace self.new }
-    {
-        let pages = ends_of(range);
-        if let Some(count) = self.carved.run_count(pages) {
-            self.carved.chain.lose_first(count);
+        let pages = ends_of(taken);
+        if self.carved.give_back(pages) {
             return;
         }
         carved::hand_over(&mut self.tree, &mut self.carved);
-        self.tree.release_run(range);
+        self.tree.free(pages);
     }
 
-    // Frees a range that is one piece.
+    /// Frees a range that is one retired piece, or made of whole ones, one after the other, as one release for each of them would.
+    /// What may be retired before it may be retired after it.
     #[inline(always)]
-    fn free(&mut self, range: PageRange)
-        requires { (state : PageState) × IsIn (piece_of range state) self.old.pieces }
-        ensures freed { (state : PageState) → IsIn (piece_of range state) self.old.pieces → Frees self.old self.new range state }
-        ensures range { IsPageRange range }
+    pub fn release(&mut self, range: PageRange)
+        requires { IsRun (piece_of range PageState.Retired) self.old.pieces }
+        ensures freed { FreesRun self.old self.new range PageState.Retired }
+        ensures one { IsIn (piece_of range PageState.Retired) self.old.pieces → Frees self.old self.new range PageState.Retired }
+        ensures retirable { (other : Range) → MayRetire self.old.pieces other → MayRetire self.new.pieces other }
         ensures space { IsSpace self.old × IsSpace self.new }
     {
         let pages = ends_of(range);
         if self.carved.give_back(pages) {
             return;
         }
+        if let Some(count) = self.carved.run_count(pages) {
+            self.carved.chain.lose_first(count);
+            return;
+        }
         carved::hand_over(&mut self.tree, &mut self.carved);
-        self.tree.free(range);
+        self.tree.free(pages);
     }
 }
 

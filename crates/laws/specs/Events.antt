@@ -87,8 +87,8 @@ Unmaps domain page e =
     × IsWithin (range_at address pages) page
 
 -- it unmaps the page, or ends the domain
-abbrev pub TakesAway : ℕ → ℕ → Event → Type 0
-TakesAway domain page e = Unmaps domain page e ⊎ Drops domain e
+abbrev pub EndsPage : ℕ → ℕ → Event → Type 0
+EndsPage domain page e = Unmaps domain page e ⊎ Drops domain e
 
 -- ---- releases
 

@@ -6,7 +6,7 @@ use Rattle.dmatypes.specs.declared.call.Whim.{Whim}
 use Rattle.dmatypes.specs.declared.reply.Event.{Event}
 use Rattle.dmatypes.specs.Page.{page_of}
 use Rattle.dmatypes.specs.History.{IsLegal}
-use Rattle.laws.specs.Events.{Drops, Gives, IsAttached, IsOfMode, IsReleased, Lasts, Maps, Occurs, TakesAway, Unmaps, reaching}
+use Rattle.laws.specs.Events.{Drops, Gives, IsAttached, IsOfMode, IsReleased, Lasts, Maps, Occurs, EndsPage, Unmaps, reaching}
 
 -- A device reaches only frames that a map put into the domain that it is attached to, with a right that the map gave. Of each request
 -- that was answered a host address, the device was attached to a domain, and a map of this domain gives that address. The domain wasn't
@@ -18,7 +18,7 @@ DevicesReachOnlyWhatIsMapped =
     → (domain : ℕ) × IsAttached device domain before
     × Lasts (Gives domain address access host) (Drops domain) before
     × (IsOfMode modes.Strict domain before
-    → Lasts (Gives domain address access host) (TakesAway domain (page_of address)) before)
+    → Lasts (Gives domain address access host) (EndsPage domain (page_of address)) before)
 
 -- After a strict unmap answered, no request of any device reaches those frames by those pages until a map puts them there again. Where
 -- one is answered a host address, a map after the unmap gives that address.
@@ -52,7 +52,7 @@ LiveMapsShareNoPage =
     → IsLegal frames ((before ++ one ∷ between) ++ other ∷ rest)
     → Maps domain page one
     → Maps domain page other
-    → Occurs (TakesAway domain page) between
+    → Occurs (EndsPage domain page) between
 
 -- No page is handed out between its unmap and its release: between the unmap of a page of a lazy domain and a map of it,
 -- what was unmapped is released. In a strict domain the unmap itself releases.

@@ -21,7 +21,7 @@ use crate::manager::History;
 use crate::owner::{Handing, Owner};
 use crate::port::{Port, Rows};
 use crate::report::Report;
-use crate::share::{Share, cut, merged};
+use crate::share::{Share, merged, shares_of};
 use dmatypes::{Call, Event, Reply};
 use engine::{Answer, State};
 use ports::{Desk, Pass};
@@ -39,8 +39,9 @@ pub struct HistoryFull {
 }
 
 /// The state, the history of its calls, and the desk that stores port words and makes the history known. Its type keeps
-/// that the history is legal, that the events which are kept are its end, that the state fits the world after it, that the
-/// history follows states by the state's methods alone, and that every word in the rows is lawful after it.
+/// that the history is legal, that the events which are kept are its end, and that the state fits the world after it. It
+/// also keeps that the history follows states by the state's methods alone, and that every word in the rows is lawful
+/// after it.
 #[derive(Drop)]
 pub struct Book<B: Owner> {
     // In a place of its own, since it is large and whoever has a book moves it.
@@ -101,7 +102,7 @@ impl<B: Owner> Book<B> {
         let (handing, part) = handing.open::<Handing<B>>();
         let kept = Vec::with_capacity(alloc, config.calls() as usize)?;
         let epoch = Epoch::new(alloc, config, part)?;
-        let shares = cut(alloc, whole, passes)?;
+        let shares = shares_of(alloc, whole, passes)?;
         let state = new_state(alloc, config.frames(), config.is_caching())?;
         Ok((
             Book {
@@ -324,11 +325,11 @@ impl<B: Owner> Book<B> {
         let Some(event) = kept.last_mut() else {
             unreachable!()
         };
-        let Answer { reply, hit } = state.perform(&event.call);
+        let Answer { reply, detail } = state.perform(&event.call);
         event.reply = reply;
         // It changes nothing: its contract says what every state keeps.
         state.keeps();
-        enter(desk, &rows.words, state, event, hit);
+        enter(desk, &rows.words, state, event, &detail);
         desk.tell(&rows.words, pass);
         counted.add(part, 1);
         *calls += 1;

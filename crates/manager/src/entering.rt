@@ -1,6 +1,6 @@
 //! How an event enters the history that the devices' ports can see.
 
-ghost use Rattle.std.specs.Prelude.{◌≡◌, ◌≢◌, ◌<◌, ◌↔◌, ◌++◌, ◌∷◌, [], ℕ, length, slice_index, IsSomeAnd, IsTrue};
+ghost use Rattle.std.specs.Prelude.{◌≡◌, ◌≢◌, ◌<◌, ◌↔◌, ◌++◌, ◌∷◌, [], ℕ, length, slice_index, IsTrue};
 ghost use Rattle.std.specs.Int.{bit_at};
 ghost use Rattle.dmatypes.specs.Allows.{domain_of_device};
 ghost use Rattle.dmatypes.specs.History.{IsLegal, after};
@@ -8,7 +8,10 @@ ghost use Rattle.dmatypes.specs.Page.{IsPage, page_of};
 ghost use Rattle.dmatypes.specs.Step.{IsStep, next};
 ghost use Rattle.dmatypes.specs.World.{World};
 ghost use Rattle.dmatypes.specs.declared.limits.TheConstants.{CALLS_END};
-ghost use Rattle.engine.specs.Hits.{Has, IsHitIn};
+ghost use Rattle.engine.specs.Details.{hit_of, mode_by, released_by};
+ghost use Rattle.engine.specs.Hits.{Has, IsHitIn, IsDetailIn};
+ghost use Rattle.engine.specs.declared.answer.Detail.TheVariants as details;
+ghost use Rattle.engine.specs.declared.answer.Unmapped.{Unmapped};
 ghost use Rattle.engine.specs.Quarantine.{Quarantine};
 ghost use Rattle.ports.specs.Cleared.{IsCleared, TakesAway};
 ghost use Rattle.ports.specs.Lawful.{IsLawfulAfter};
@@ -18,55 +21,58 @@ ghost use Rattle.dmatypes.specs.Rights.{bits_of};
 ghost use Rattle.manager.specs.Kept.{EndsWith};
 ghost use Rattle.manager.specs.Words.{AreCleared, AreFilled, IsLastAfter, TellRows};
 
-use dmatypes::{Call, Event, MOST_RECORDS, Mode, PAGE_BYTES, Page, Reply};
-use engine::{Hit, State};
+use dmatypes::{Call, Event, MOST_RECORDS, PAGE_BYTES, Page, Reply};
+use engine::{Detail, Hit, State, Unmapped};
 use ports::{Desk, Rows};
 use vtdbits::{PortWord, Translation};
 
 /// Clears the rows of the devices that an event takes pages away from, appends the event, and fills the word of a request
 /// with what it hit. The state is the one after the event.
 #[inline]
-pub(crate) fn enter(desk: &mut Desk, rows: &Rows, state: &State, event: &Event, hit: Option<Hit>)
+pub(crate) fn enter(desk: &mut Desk, rows: &Rows, state: &State, event: &Event, detail: &Detail)
     requires rows { desk.old.rows ≡ rows.now }
     requires room { length desk.old.history < CALLS_END }
     requires legal { IsLegal desk.old.rows.frames (desk.old.history ++ event.now ∷ []) }
     requires lawful { AreLawful (IsLawfulAfter desk.old.rows.frames) desk.old.history desk.old.last }
     requires state { Quarantine state.now (after desk.old.rows.frames (desk.old.history ++ event.now ∷ [])) }
-    requires hit { IsHitIn (after desk.old.rows.frames desk.old.history) event.now.call event.now.reply hit }
+    requires hit { IsHitIn (after desk.old.rows.frames desk.old.history) event.now.call event.now.reply (hit_of detail.now) }
+    requires unmapped { IsDetailIn (after desk.old.rows.frames desk.old.history) event.now.call event.now.reply detail.now }
     ensures history { desk.new.history ≡ desk.old.history ++ event.now ∷ [] }
     ensures rows { desk.new.rows ≡ desk.old.rows }
     ensures last { IsLastAfter (after desk.old.rows.frames desk.old.history) event.now.call event.now.reply desk.old.last desk.new.last }
     ensures lawful { AreLawful (IsLawfulAfter desk.old.rows.frames) desk.new.history desk.new.last }
 {
-    let devices = rows_to_clear(desk, state, event);
+    let devices = rows_to_clear(desk, state, event, detail);
     clear(desk, rows, devices);
     desk.append(rows, event);
-    fill(desk, rows, event, hit);
+    fill(desk, rows, event, detail.hit());
 }
 
 // The devices whose rows have to be cleared at an event, but for those that are empty.
-fn rows_to_clear(desk: &Desk, state: &State, event: &Event) -> u16
+fn rows_to_clear(desk: &Desk, state: &State, event: &Event, detail: &Detail) -> u16
     ensures { (w : World) → Quarantine state.now (next w event.now.call event.now.reply)
+        → IsDetailIn w event.now.call event.now.reply detail.now
         → TellRows desk.now.last w event.now.call event.now.reply result }
 {
     let filled = desk.filled();
     if filled == 0 {
         return 0;
     }
-    cleared_at(state, event) & filled
+    cleared_at(state, event, detail) & filled
 }
 
 // The devices whose rows are cleared at an event: bit j is device j. The state is the one after it.
-fn cleared_at(state: &State, event: &Event) -> u16
+fn cleared_at(state: &State, event: &Event, detail: &Detail) -> u16
     ensures { (w : World) → Quarantine state.now (next w event.now.call event.now.reply)
+        → IsDetailIn w event.now.call event.now.reply detail.now
         → (device : ℕ) → device < 16 → (bit_at result device ≡ 1) ↔ IsCleared w event.now.call event.now.reply device }
 {
     match (&event.call, event.reply) {
         (Call::Detach { device }, Reply::Done) => only(*device),
         (Call::Flush { domain }, Reply::Flushed(_)) => state.devices_of(*domain),
         (Call::Reap { domain, .. }, Reply::Reaped(_)) => state.devices_of(*domain),
-        (Call::Unmap { domain, .. }, Reply::Unmapped(released)) => {
-            if takes_away(state.mode_of(*domain), released) {
+        (Call::Unmap { domain, .. }, Reply::Unmapped(_)) => {
+            if takes_away(detail) {
                 state.devices_of(*domain)
             } else {
                 0
@@ -83,14 +89,15 @@ fn only(device: u64) -> u16
     if device < 16 { 1 << device } else { 0 }
 }
 
-// Whether an unmap in a domain of this mode took pages away, that released `released` records: in a lazy one all, or none.
-fn takes_away(mode: Option<Mode>, released: u64) -> bool
-    ensures { IsTrue result ↔ IsSomeAnd mode (λ m. TakesAway m released) }
+// Whether an unmap took pages away: in a strict domain its own, in a lazy one those of the records that were released for it.
+fn takes_away(detail: &Detail) -> bool
+    ensures { (unmapped : Unmapped) → detail.now ≡ details.Unmapped unmapped
+        → IsTrue result ↔ TakesAway (mode_by unmapped) (released_by unmapped) }
 {
-    match mode {
-        Some(Mode::Strict) => true,
-        Some(Mode::Lazy) => released == MOST_RECORDS,
-        None => false,
+    match detail {
+        Detail::Unmapped(Unmapped::Free) => true,
+        Detail::Unmapped(Unmapped::Retired { released }) => *released == MOST_RECORDS,
+        Detail::Nothing | Detail::Hit(_) => false,
     }
 }
 

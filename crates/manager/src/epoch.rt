@@ -78,7 +78,7 @@ impl<B: Owner> Epoch<B> {
         self.first + self.events.len() as u64
     }
 
-    /// Forgets the events, and keeps the room and the place behind them.
+    /// Forgets the events, and keeps the room and the place after them.
     pub fn clear(&mut self)
         ensures { self.new ≡ record { first = upto self.old; events = [] } }
     {

@@ -1,5 +1,5 @@
-//! The manager that threads share: a sequential state under a lock, the history of its calls, the shares by which it is called,
-//! and the ports of devices, which are answered without the lock. crates/uses is a whole program over it.
+//! The manager that threads share. It is a sequential state under a lock, the history of its calls, the shares by which it is
+//! called, and the ports of devices, which are answered without the lock. crates/uses is a whole program over it.
 //!
 //! ```rust
 //! // `config` is Config::new(64, 100, 3): 64 table frames, room for 100 calls, three shares. `Brand` gives the manager a type of

@@ -18,6 +18,7 @@ use crate::port::{Port, Rows};
 use crate::share::Share;
 use dmatypes::{Call, Event, Reply};
 use std::alloc::{AllocError, Global};
+use std::hint::spin_loop;
 use std::marker::{Model, PhantomData};
 use std::sync::{Mutex, MutexGuard, Wait};
 use std::thread::yield_now;
@@ -25,7 +26,13 @@ use std::thread::yield_now;
 mod debug;
 
 // How often the lock is asked for again before its thread sleeps.
-const TRIES: u32 = 1_000;
+const TRIES: u32 = 200;
+
+// How many spins the first pause between two tries takes.
+const SPINS: u32 = 4;
+
+// How often a pause is twice as long as the one before.
+const DOUBLINGS: u32 = 6;
 
 /// A book under its lock.
 #[derive(Drop)]
@@ -118,7 +125,7 @@ impl<B: Owner> History<B> {
 }
 
 impl<B: Owner> Manager<B> {
-    /// Makes a manager with an empty history, its port words and ports, its shares and its epoch: no call was made by one, none of
+    /// Makes a manager with an empty history, its port words and ports, its shares and its epoch. No call was made by one, none of
     /// the ports and shares has seen anything, and nothing was handed on.
     pub fn new(alloc: Global, seed: Seed) -> Result<Made<B>, AllocError>
         requires { IsNamedBy seed B.name B.parts B.shares B.room B.frames B.mode B.rows B.most B.handing }
@@ -156,15 +163,15 @@ impl<B: Owner> Manager<B> {
     }
 
     // The book, once the lock is free. A call takes less time than it takes to sleep and to be woken, and whoever sleeps is handed the
-    // lock, for which all others wait then: so it is asked for again for a while before that. Never inlined: beside an atomic step a
+    // lock, for which all others wait then. So it is asked for again for a while before that. Never inlined: beside an atomic step a
     // caller's code would move the call in memory once more.
     #[inline(never)]
     fn book<R: Wait>(&self, rt: &R) -> MutexGuard<'_, Book<B>> {
         if let Some(book) = self.book.try_lock() {
             return book;
         }
-        for _ in 0..TRIES {
-            yield_now();
+        for tried in 0..TRIES {
+            pause(tried);
             if let Some(book) = self.book.try_lock() {
                 return book;
             }
@@ -270,4 +277,16 @@ fn owned<B: Owner>(alloc: Global, ports: Vec<ports::Port>) -> Result<Vec<Port<B>
         })?;
     }
     Ok(owned)
+}
+
+// Waits a moment before the lock is asked for again, at first twice as long at each try, and then lets other threads have the processor
+// too. Each look at the word takes its line from the thread that holds the lock.
+fn pause(tried: u32) {
+    let doublings = tried.min(DOUBLINGS);
+    for _ in 0..SPINS << doublings {
+        spin_loop();
+    }
+    if doublings == DOUBLINGS {
+        yield_now();
+    }
 }

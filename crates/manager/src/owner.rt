@@ -7,9 +7,10 @@ ghost use Rattle.manager.specs.Kept.{no_rows};
 use std::marker::{Brand, PhantomData};
 use std::sync::ledger::Ledger;
 
-/// One manager's numbers: its shares, how many events of its history it keeps at one time, its table frames; whether its unit has
-/// Caching Mode; its rows of port words; the most events that its history may have; and the name of the ledger of what it hands on.
-/// All work on a manager stands in a function that is generic in its owner, takes its seed, and is called once with `Brand`.
+/// One manager's numbers. They are its shares, how many events of its history it keeps at one time, its table frames, and whether
+/// its unit has Caching Mode. Besides there are its rows of port words, the most events that its history may have, and the name of
+/// the ledger of what it hands on. All work on a manager stands in a function that is generic in its owner, takes its seed, and is
+/// called once with `Brand`.
 pub trait Owner: Ledger {
     ghost shares: { ℕ };
 

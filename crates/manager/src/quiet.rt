@@ -12,11 +12,11 @@ use std::sync::atomic::{AtomicU64, Ordering};
 ///
 /// A hit answers a host address without a lock, and whoever has it may still use it after the page was unmapped. So the device's thread
 /// *rests* whenever it uses no host address that its port or the manager has answered: after each use, and now and then while it has
-/// nothing to do. A driver whose strict unmap has the number n in the history may use the memory for something else once the threads of
-/// all devices that were attached to the domain since the page was mapped, detached ones too, are past n: what they were answered before
-/// is out of use, and by `Port::hit` a port that has seen n events answers nothing by the page any more, until a map gives it back. In a
-/// lazy domain n is the number of the event that released the page: a flush, a reap, an unmap that answers 256, or a drop. Each thread
-/// has a `Quiet` of its own. It is of one manager by its type: no count of another's history gets into it.
+/// nothing to do. A driver whose strict unmap has the number n in the history may use the memory for something else once certain threads
+/// are past n. They are those of all devices that were attached to the domain since the page was mapped, detached ones too. What they
+/// were answered before is out of use, and by `Port::hit` a port that has seen n events answers nothing by the page any more, until a
+/// map gives it back. In a lazy domain n is the number of the event that released the page: a flush, a reap, an unmap that answers 256,
+/// or a drop. Each thread has a `Quiet` of its own. It is of one manager by its type: no count of another's history gets into it.
 #[derive(Drop)]
 pub struct Quiet<B: Owner> {
     count: AtomicU64,

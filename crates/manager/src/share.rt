@@ -39,7 +39,7 @@ impl<B: Owner> Share<B> {
 }
 
 /// One share for each part of a ledger, with a pass each.
-pub(crate) fn cut<B: Owner>(
+pub(crate) fn shares_of<B: Owner>(
     alloc: Global,
     whole: ledger::Share<B>,
     passes: Vec<Pass>,

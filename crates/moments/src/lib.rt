@@ -11,8 +11,8 @@ pub fn maps_are_old_or_new()
     ensures { MapsAreOldOrNew }
 {}
 
-/// Whatever words of an unmap have reached memory, each page is found as before it or as after it, if only a table that takes the
-/// place of a leaf of 2 MiB is written before the word that names it.
+/// Whatever words of an unmap have reached memory, each page is found as before it or as after it. It asks only that a table that
+/// takes the place of a leaf of 2 MiB is written before the word that names it.
 pub fn unmaps_are_old_or_new()
     ensures { UnmapsAreOldOrNew }
 {}

@@ -157,7 +157,7 @@ IsAtHand way hand t = IfSome hand (λ held. IsHand way held t)
 -- ---- a change at the end of a way
 
 -- the tree below the root is the one with these pieces at the place, and there is as much room
-pub record Becomes (old new : Slab Node) (root : Top) (path : Above) (pieces : List Piece) : Type 0 where
+pub record WholeBecomes (old new : Slab Node) (root : Top) (path : Above) (pieces : List Piece) : Type 0 where
   pub shape : Shape
   pub here : root ≡ top_of shape
   pub stands : Stands (get new) shape

@@ -8,7 +8,7 @@ ghost use Rattle.piece_tree.specs.Pieces.{IsPiece};
 ghost use Rattle.piece_tree.specs.declared.piece.TheConstants.{MOST_PIECES};
 ghost use Rattle.piece_tree.specs.Stretches.{Covers, LaysOver, pages_of};
 ghost use Rattle.piece_tree.specs.Tree.{Fork, IsWhole, KeepsCount, Shape, items};
-ghost use Rattle.piece_tree.specs.Way.{Above, Becomes, IsHeld, plug};
+ghost use Rattle.piece_tree.specs.Way.{Above, WholeBecomes, IsHeld, plug};
 
 use crate::laying::replace;
 use crate::links::set_piece;
@@ -37,7 +37,7 @@ pub(crate) fn renew(
     requires held { (path : Above) × (p : Piece) × (l : Shape) × (r : Shape) × IsHeld nodes.old root way.now held path p l r }
     requires piece { IsPiece piece }
     ensures becomes { (path : Above) (p : Piece) (l r : Shape) → IsHeld nodes.old root way.now held path p l r
-        → (b : Becomes nodes.old nodes.new result path (items l ++ piece ∷ items r))
+        → (b : WholeBecomes nodes.old nodes.new result path (items l ++ piece ∷ items r))
         × (b.shape ≡ plug path (Fork held.key piece l r)) }
     ensures count { KeepsCount nodes.old nodes.new }
 {
@@ -58,7 +58,7 @@ pub(crate) fn lay_over(
         × IsHeld nodes.old root way.now held path p l r × CanReplace nodes.old held.key first row.now last (Fork held.key p l r) }
     ensures becomes { (path : Above) (p : Piece) (l r : Shape) (first last : ℕ) → IsHeld nodes.old root way.now held path p l r
         → CanReplace nodes.old held.key first row.now last (Fork held.key p l r)
-        → Becomes nodes.old nodes.new result path (with_row first row.now last (items l ++ p ∷ items r)) }
+        → WholeBecomes nodes.old nodes.new result path (with_row first row.now last (items l ++ p ∷ items r)) }
     ensures len { (path : Above) (p : Piece) (l r : Shape) (first last : ℕ) → IsHeld nodes.old root way.now held path p l r
         → CanReplace nodes.old held.key first row.now last (Fork held.key p l r)
         → slab_len nodes.new + length (items l ++ p ∷ items r)

@@ -10,10 +10,10 @@
 //!             1..7 retired             16..20 free
 //! ```
 //!
-//! One way leads down to a page. Pieces are laid over others at the highest of these in the tree: what is left of that one, and of the
-//! trees on its two sides, comes right before them and right behind them (`replace`), and one way back up tells each key what lies below
-//! it now, as far as that is another (`mend`). One way down takes out of a tree what lies on one side of a page (`trim`). Two
-//! trees and a key between them become one: the lower one is hung where the end of the other is as low (`graft`).
+//! One way leads down to a page. Pieces are laid over others at the highest of these in the tree. What is left of that one, and of the
+//! trees on its two sides, comes right before them and right behind them (`replace`). One way back up tells each key what lies below it
+//! now, as far as that is another (`mend`). One way down takes out of a tree what lies on one side of a page (`trim`). Two trees and a
+//! key between them become one: the lower one is hung where the end of the other is as low (`graft`).
 #![tactic(auto)]
 
 mod edits;

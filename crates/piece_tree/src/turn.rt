@@ -10,7 +10,7 @@ use crate::node::{Node, Top};
 use crate::piece::Piece;
 use slab::Slab;
 
-/// Joins a tree on one side of a key with one on its other side that is lower by two: its root is raised over the key, or the root of its
+/// Joins a tree on one side of a key with one on its other side that is lower by two. Its root is raised over the key, or the root of its
 /// inner tree, where that is the higher one.
 pub(crate) fn turn(
     nodes: &mut Slab<Node>,

@@ -140,7 +140,7 @@ pub(crate) fn mend(
 }
 
 /// Brings a tree up to date from the end of a way on, where the tree has the root and the height that it had, and what is longest there is
-/// so long now: up to the first key from which on down as much is longest as it was.
+/// so long now. It goes up to the first key from which on down as much is longest as it was.
 pub(crate) fn lift(
     nodes: &mut Slab<Node>,
     way: &[Step; MOST_HEIGHT],

@@ -7,7 +7,7 @@ ghost use Rattle.quiet.specs.Laws.{CachedDuringIsOldOrNew, CachesStay, CallsAreO
 ghost use Rattle.quiet.specs.Laws.{DropsAreOldOrAbsent, DropsForget, FlushesForget, FullListsForget, MapsForgetFaults};
 ghost use Rattle.quiet.specs.Laws.{MapsOfOneForgetFaults, ReapsForget, StrictUnmapsForgetPages, StrictUnmapsForgetTables};
 
-/// Whatever words of a call have reached memory, a walk finds each page of a domain as before the call or as after it; of the domain that
+/// Whatever words of a call have reached memory, a walk finds each page of a domain as before the call or as after it. Of the domain that
 /// a drop ends, as before or not at all.
 pub fn calls_are_old_or_new()
     ensures calls { CallsAreOldOrNew }

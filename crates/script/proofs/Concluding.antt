@@ -161,7 +161,7 @@ pub nothing_written : (U : Type 0) (output : Output) (size : Size) (old before :
 nothing_written U outputs.Answers size old before pending = no_memory U Written size old before pending
 nothing_written U outputs.Trace size old before pending = no_memory U Traced size old before pending
 nothing_written U (outputs.Report text) size old before pending = nothing_done U (λ report. report) size old before pending
-nothing_written U (outputs.Map text) size old before pending =
+nothing_written U (outputs.Drawing text) size old before pending =
     ([], nothing_done U (λ report. report ++ []) size old before pending)
 
 -- ---- two texts, one behind the other
@@ -211,12 +211,12 @@ concludes_both U x y z a b c text more end middle result p q = ended end p where
       (follows (Err errors.NoMemory)) (follows (Err errors.Write))
   ended (Err errors.Write) p = let failed = follows (Err errors.Write) p.0 in (failed.0, failed.1 ∙ p.1)
 
--- ---- the map
+-- ---- the drawing
 
 -- it was drawn to its end, or a write of it failed
 pub drawn : (U : Type 0) (before after : Option (List ℕ)) (block rest : List ℕ) (end result : Result U RunError) → end ≢ Err errors.Write
     → PutsSome before after block rest → (((result ≡ end) × (rest ≡ [])) ⊎ (result ≡ Err errors.Write))
-    → (map : List ℕ) × Concludes before after block rest map end result
+    → (drawing : List ℕ) × Concludes before after block rest drawing end result
 drawn U before after block rest end result stands put how = (put.0, ended end stands (both how)) where
   both : (((result ≡ end) × (rest ≡ [])) ⊎ (result ≡ Err errors.Write))
       → ((result ≡ end) × (rest ≡ []) × Sent before after block [] put.0)
@@ -264,14 +264,14 @@ report_known U output replies text size old left before pending after after' blo
     rw is (told_known U (λ report. report) size old left before pending after after' block rest book end result
     (subst (λ r. GoneThroughKnown r size old left before pending after book end) (so ∙ ap replies_of is) w) empty made c)
 
-pub map_known : (U : Type 0) (output : Output) (replies : Replies) (text : List ℕ) (size : Size)
+pub drawing_known : (U : Type 0) (output : Output) (replies : Replies) (text : List ℕ) (size : Size)
     (old left before : Option (List ℕ)) (pending : List ℕ) (after middle after' : Option (List ℕ)) (block between rest : List ℕ)
-    (book : Book) (end reported result : Result U RunError) → output ≡ outputs.Map text → replies ≡ replies_of output
+    (book : Book) (end reported result : Result U RunError) → output ≡ outputs.Drawing text → replies ≡ replies_of output
     → GoneThroughKnown replies size old left before pending after book end → IsAllSent block end → end ≢ Err errors.NoMemory
     → Concludes after middle block between (report_text (length book.history) book.state) end reported
-    → ((map : List ℕ) × Concludes middle after' between rest map reported result)
+    → ((drawing : List ℕ) × Concludes middle after' between rest drawing reported result)
     → OutputKnown output size old left before pending after' result
-map_known U output replies text size old left before pending after middle after' block between rest book end reported result is so w
+drawing_known U output replies text size old left before pending after middle after' block between rest book end reported result is so w
     empty made c m = rw is (
       m.0,
       told_known U (λ report. report ++ m.0) size old left before pending after after' block rest book end result

@@ -71,13 +71,13 @@ abbrev pub ReportedKnown : {U : Type 0} → Size → (input left before : Option
     → Type 0
 ReportedKnown size input left before pending after result = ReportedAsKnown (λ report. report) size input left before pending after result
 
--- the report is told, and behind it a map, of which no more is said
-abbrev pub MappedKnown : {U : Type 0} → Size → (input left before : Option (List ℕ)) → List ℕ → Option (List ℕ) → Result U RunError
+-- the report is told, and after it a drawing, of which no more is said
+abbrev pub DrawnKnown : {U : Type 0} → Size → (input left before : Option (List ℕ)) → List ℕ → Option (List ℕ) → Result U RunError
     → Type 0
-MappedKnown size input left before pending after result =
-    (map : List ℕ) × ReportedAsKnown (λ report. report ++ map) size input left before pending after result
+DrawnKnown size input left before pending after result =
+    (drawing : List ℕ) × ReportedAsKnown (λ report. report ++ drawing) size input left before pending after result
 
--- this text was written behind what was still to be written, and the end stands; or a front of these, and the write
+-- this text was written after what was still to be written, and the end stands; or a front of these, and the write
 -- failed. Nothing follows a write that failed before
 abbrev pub Concludes : {U : Type 0} → (before after : Option (List ℕ)) → (block rest text : List ℕ) → (end result : Result U RunError)
     → Type 0
@@ -92,15 +92,15 @@ abbrev pub replies_of : Output → Replies
 replies_of outputs.Answers = Written
 replies_of outputs.Trace = Traced
 replies_of (outputs.Report text) = Silent
-replies_of (outputs.Map text) = Silent
+replies_of (outputs.Drawing text) = Silent
 
--- a script was answered or traced, or its report was written, alone or before a map
+-- a script was answered or traced, or its report was written, alone or before a drawing
 abbrev pub OutputKnown : {U : Type 0} → Output → Size → (input left before : Option (List ℕ)) → List ℕ → Option (List ℕ)
     → Result U RunError → Type 0
 OutputKnown outputs.Answers size input left before pending after result = RanKnown Written size input left before pending after result
 OutputKnown outputs.Trace size input left before pending after result = RanKnown Traced size input left before pending after result
 OutputKnown (outputs.Report text) size input left before pending after result = ReportedKnown size input left before pending after result
-OutputKnown (outputs.Map text) size input left before pending after result = MappedKnown size input left before pending after result
+OutputKnown (outputs.Drawing text) size input left before pending after result = DrawnKnown size input left before pending after result
 
 -- a reader of which no report could be written failed too, and the write's failure is the end
 abbrev pub ReportReaderEnds : {U : Type 0} → Bool → Result U RunError → Type 0
@@ -112,4 +112,4 @@ abbrev pub ReaderEnds : {U : Type 0} → Output → Bool → Result U RunError �
 ReaderEnds outputs.Answers failed result = (failed ≡ true) ↔ IsErrOf result errors.Read
 ReaderEnds outputs.Trace failed result = (failed ≡ true) ↔ IsErrOf result errors.Read
 ReaderEnds (outputs.Report text) failed result = ReportReaderEnds failed result
-ReaderEnds (outputs.Map text) failed result = ReportReaderEnds failed result
+ReaderEnds (outputs.Drawing text) failed result = ReportReaderEnds failed result

@@ -142,7 +142,7 @@ fn fits(reply: Reply)
     }
 }
 
-// Puts what is to be written of a call behind what is still to be written.
+// Puts what is to be written of a call after what is still to be written.
 fn show<W: Sink>(
     replies: Replies,
     writer: &mut Stream<W>,

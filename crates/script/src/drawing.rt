@@ -27,8 +27,8 @@ pub(crate) fn send_drawing<W: Sink>(
     requires { (W.has_failed writer.old.wrapped ≡ true) ↔ IsErrOf end RunError.Write }
     ensures writer { (W.has_failed writer.new.wrapped ≡ true) ↔ IsErrOf result RunError.Write }
     ensures same { (result ≡ Err RunError.Write) ⊎ ((result ≡ end) × (writer.new.block ≡ [])) }
-    ensures sent { (map : List ℕ) × Concludes (W.contents writer.old.wrapped) (W.contents writer.new.wrapped)
-        writer.old.block writer.new.block map end result }
+    ensures sent { (drawing : List ℕ) × Concludes (W.contents writer.old.wrapped) (W.contents writer.new.wrapped)
+        writer.old.block writer.new.block drawing end result }
 {
     if let Err(RunError::Write) = end {
         return end;

@@ -1,5 +1,5 @@
-//! Scripts of calls: a run answers each line of a script on a manager of its own, a trace is what its calls were and what they were
-//! answered, a report writes what is there at its end.
+//! Scripts of calls. A run answers each line of a script on a manager of its own. A trace is what its calls were and what they were
+//! answered, and a report writes what is there at its end.
 //!
 //! ```rust
 //! use script::run;
@@ -23,4 +23,4 @@ mod running;
 
 pub use error::RunError;
 pub use memory::run_in_memory;
-pub use running::{report, report_with_map, run, trace};
+pub use running::{report, report_with_drawing, run, trace};

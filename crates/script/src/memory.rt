@@ -33,7 +33,7 @@ impl Sink for Growing {
     }
 }
 
-/// Runs a script that lies in memory as `run` does, and puts the answers behind the bytes that are there.
+/// Runs a script that lies in memory as `run` does, and puts the answers after the bytes that are there.
 ///
 /// It never answers that a read or a write failed. Where there is no memory for answers, a beginning of them is put there.
 pub fn run_in_memory<T: Wait>(

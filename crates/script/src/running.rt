@@ -3,7 +3,7 @@
 ghost use Rattle.std.specs.Prelude.{◌≡◌, ◌↔◌, ◌≤◌, ◌⊎◌, [], Err, true, false, length, vec_len, All, IfOk, IsErrOf};
 ghost use Rattle.std.specs.Io.KnownBytes.{prepend_known};
 ghost use Rattle.manager.specs.Kept.{IsNamedBy, new_share};
-ghost use Rattle.script.specs.Reported.{Concludes, MappedKnown, OutputKnown, ReaderEnds, ReportedKnown, replies_of};
+ghost use Rattle.script.specs.Reported.{Concludes, DrawnKnown, OutputKnown, ReaderEnds, ReportedKnown, replies_of};
 ghost use Rattle.script.specs.Run.{IsAllSent, RanKnown};
 ghost use Rattle.script.specs.declared.answering.Replies.TheVariants.{Traced, Written};
 
@@ -26,8 +26,8 @@ pub(crate) enum Output {
     Trace,
     /// At its end the report of what the manager holds.
     Report(Report),
-    /// Behind the report the map of its address spaces.
-    Map(Report),
+    /// The report, and then a drawing of its address spaces.
+    Drawing(Report),
 }
 
 /// Reads a script to its first bad line, and writes one line for each line, on a manager of its own. All
@@ -37,7 +37,7 @@ pub(crate) enum Output {
 /// are taken, and what follows is left for the next call, in the reader or in its block. After a failed write a beginning
 /// of the answers is written. With no memory for the manager nothing is read or written.
 ///
-/// With a configuration that hands on, at most `calls` events are kept at one time: where there is no room for one more, those that
+/// With a configuration that hands on, at most `calls` events are kept at one time. Where there is no room for one more, those that
 /// are kept are forgotten, and no call is refused for want of room before the history has 2^56 events. The answers are those of the
 /// whole history, forgotten events too.
 pub fn run<T: Wait, R: Read, W: Write>(
@@ -63,9 +63,9 @@ pub fn run<T: Wait, R: Read, W: Write>(
     work(rt, alloc, reader, writer, config, Output::Answers)
 }
 
-/// Reads a script as `run` does, and writes the trace of its calls in the place of their answers: for each event of the history a
-/// line that `checker::parse_event` reads as this event, the call as it stands in the script, ` => ` and its reply. Of a call that the
-/// full history refuses nothing is written.
+/// Reads a script as `run` does, and writes the trace of its calls in the place of their answers. For each event of the history a line
+/// that `checker::parse_event` reads as this event: the call as it stands in the script, ` => ` and its reply. Of a call that the full
+/// history refuses nothing is written.
 ///
 /// It ends as `run` does.
 pub fn trace<T: Wait, R: Read, W: Write>(
@@ -124,12 +124,12 @@ pub fn report<T: Wait, R: Read, W: Write>(
     work(rt, alloc, reader, writer, config, Output::Report(text))
 }
 
-/// Reads a script as `report` does, and writes behind the report a map: for each domain the runs of its pages, live, retired or
-/// free, with their first and last byte addresses, how many pages they have and a bar of a mark for each binary digit of that
-/// number, and then its retired records, the oldest first, with their marks.
+/// Reads a script as `report` does, and writes after the report a drawing. It has for each domain the runs of its pages, live,
+/// retired or free, with their first and last byte addresses and how many pages they have. Each has a bar of a mark for each
+/// binary digit of that number. Then come its retired records, the oldest first, with their marks.
 ///
-/// It ends as `report` does, and what it writes begins with what `report` writes. What the map says is not part of the contract.
-pub fn report_with_map<T: Wait, R: Read, W: Write>(
+/// It ends as `report` does, and what it writes begins with what `report` writes. What the drawing says is not part of the contract.
+pub fn report_with_drawing<T: Wait, R: Read, W: Write>(
     rt: &T,
     alloc: Global,
     reader: &mut Counted<R>,
@@ -139,7 +139,7 @@ pub fn report_with_map<T: Wait, R: Read, W: Write>(
     requires one { config.shares ≡ 1 }
     requires reader { reader.old.wrapped.failed ≡ false }
     requires writer { writer.old.wrapped.failed ≡ false }
-    ensures written { MappedKnown (record { frames = config.frames; room = config.most; caching = config.caching })
+    ensures written { DrawnKnown (record { frames = config.frames; room = config.most; caching = config.caching })
         (prepend_known reader.old.block (R.remaining reader.old.wrapped.inner))
         (prepend_known reader.new.block (R.remaining reader.new.wrapped.inner))
         (W.contents writer.old.wrapped.inner) writer.old.block (W.contents writer.new.wrapped.inner) result }
@@ -153,7 +153,7 @@ pub fn report_with_map<T: Wait, R: Read, W: Write>(
     let Ok(text) = Report::new(alloc) else {
         return Err(RunError::NoMemory);
     };
-    work(rt, alloc, reader, writer, config, Output::Map(text))
+    work(rt, alloc, reader, writer, config, Output::Drawing(text))
 }
 
 // Makes a manager, and works through the script on it.
@@ -260,7 +260,7 @@ fn work_on<B: Owner, T: Wait, R: Source, W: Sink>(
             book.write_report(&mut text);
             send_report(writer, &text, end)
         }
-        Output::Map(mut text) => {
+        Output::Drawing(mut text) => {
             book.write_report(&mut text);
             let end = send_report(writer, &text, end);
             send_drawing(writer, book.state(), end)
@@ -275,7 +275,7 @@ fn replies_for(output: &Output) -> Replies
     match output {
         Output::Answers => Replies::Written,
         Output::Trace => Replies::Traced,
-        Output::Report(_) | Output::Map(_) => Replies::Silent,
+        Output::Report(_) | Output::Drawing(_) => Replies::Silent,
     }
 }
 

@@ -3,7 +3,7 @@
 ghost use Rattle.std.specs.Prelude.{◌<◌, ◌^◌};
 
 use dmatypes::{Mode, Progress, Refusal, Width};
-use engine::State;
+use engine::{State, Unmapped};
 use std::process::Abort;
 use std::test::Fail;
 
@@ -26,7 +26,10 @@ fn flush_around<R: Abort>(rt: &R, state: &mut State) -> Result<(), Fail>
     assert_eq!(rt; state.map(1, 0x100, 1, 0, 3), Ok(0x1000));
     assert_eq!(rt; state.map(2, 0x100, 1, 0, 3), Ok(0x1000));
     assert_eq!(rt; state.begin(1), Ok(1));
-    assert_eq!(rt; state.unmap(1, 0x1000, 1), Ok(0));
+    assert_eq!(rt;
+        state.unmap(1, 0x1000, 1),
+        Ok(Unmapped::Retired { released: 0 })
+    );
     assert_eq!(rt; state.begin(1), Ok(2));
     assert_eq!(rt; state.reap(1, 1), Ok(None));
     assert_eq!(rt; state.unit_step(), Progress::Did);
@@ -36,7 +39,7 @@ fn flush_around<R: Abort>(rt: &R, state: &mut State) -> Result<(), Fail>
     assert_eq!(rt; state.reap(1, 2), Ok(Some(1)));
     assert_eq!(rt; state.begin(1), Ok(3));
     assert_eq!(rt; state.reap(1, 3), Ok(None));
-    assert_eq!(rt; state.unmap(2, 0x1000, 1), Ok(0));
+    assert_eq!(rt; state.unmap(2, 0x1000, 1), Ok(Unmapped::Free));
     assert_eq!(rt; state.unit_step(), Progress::Idle);
     assert_eq!(rt; state.reap(1, 3), Ok(Some(0)));
     assert_eq!(rt; state.begin(2), Ok(1));

@@ -35,7 +35,7 @@ pub record ReadToEnd {A : Type 0} (said : List ℕ → Option A) (input left : L
   pub lines : LinesSay said input items []
   pub all_read : left ≡ []
 
--- the first bad line has this number. Of that line at most one byte more was taken than a line has at most, and nothing behind it
+-- the first bad line has this number. Of that line at most one byte more was taken than a line has at most, and nothing after it
 pub record ReadToBadLine {A : Type 0} (said : List ℕ → Option A) (most : ℕ) (input left : List ℕ) (items : List A) (number : ℕ) : Type 0
   where
     pub rest : List ℕ

@@ -147,7 +147,7 @@ impl<W: Sink> Stream<W> {
         Ok(())
     }
 
-    /// Puts a text behind what is still to be written, which is written first where there is no room.
+    /// Puts a text after what is still to be written, which is written first where there is no room.
     pub fn put(&mut self, text: &[u8]) -> Result<(), Failed>
         requires short { length text.now ≤ BLOCK_BYTES }
         requires unfailed { W.has_failed self.old.wrapped ≡ false }
@@ -163,7 +163,7 @@ impl<W: Sink> Stream<W> {
         Ok(())
     }
 
-    /// Writes what is still to be written, and a text behind it. Where a write fails, or takes nothing, a front of these
+    /// Writes what is still to be written, and a text after it. Where a write fails, or takes nothing, a front of these
     /// is written.
     pub fn send(&mut self, text: &[u8]) -> Result<(), Failed>
         requires short { length text.now ≤ BLOCK_BYTES }

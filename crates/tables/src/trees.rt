@@ -20,7 +20,7 @@ use crate::entries::{TABLE_ENTRIES, find, table_at};
 use crate::error::NoFrames;
 use crate::frames::Pool;
 use crate::mapping::map_segments;
-use crate::unmapping::{leaves_splitting, release, spans_met, unmap_extents};
+use crate::unmapping::{leaves_splitting, spans_met, take_down, unmap_extents};
 use dmatypes::{FRAMES_END, Frame, Page, PageRange, Rights, SPAN_PAGES, Segment, Width};
 
 // How many levels a tree has, by its width: constants, so that the way down is written out for each.
@@ -310,6 +310,6 @@ impl Tree {
         ensures pool { IsPool pool.new }
     {
         let Tree { root, width } = self;
-        release(pool, width.levels(), root);
+        take_down(pool, width.levels(), root);
     }
 }

@@ -232,8 +232,8 @@ pub(crate) fn spans_met(from: u64, to: u64) -> u64
 }
 
 /// Gives back the frames of a table and of all tables below it.
-#[cycle(releasing)]
-pub(crate) fn release(pool: &mut Pool, level: u64, table: Frame)
+#[cycle(taking_down)]
+pub(crate) fn take_down(pool: &mut Pool, level: u64, table: Frame)
     requires low { 1 ≤ level }
     requires high { level ≤ MOST_LEVELS }
     requires tree { IsTree pool.old level table }
@@ -244,14 +244,14 @@ pub(crate) fn release(pool: &mut Pool, level: u64, table: Frame)
     ensures pool { IsPool pool.new }
 {
     for index in 0..TABLE_ENTRIES {
-        release_entry(pool, level, table, index);
+        take_down_entry(pool, level, table, index);
     }
     pool.give(table);
 }
 
 /// Clears an entry, and gives back what lies below it.
-#[cycle(releasing)]
-fn release_entry(pool: &mut Pool, level: u64, table: Frame, index: u64)
+#[cycle(taking_down)]
+fn take_down_entry(pool: &mut Pool, level: u64, table: Frame, index: u64)
     requires low { 1 ≤ level }
     requires high { level ≤ MOST_LEVELS }
     requires table { table < pool.old.frames }
@@ -267,7 +267,7 @@ fn release_entry(pool: &mut Pool, level: u64, table: Frame, index: u64)
     ensures pool { IsPool pool.new }
 {
     if let SsEntry::Table(below) = entry(pool, level, table, index) {
-        release(pool, level - 1, below);
+        take_down(pool, level - 1, below);
     }
     pool.write(table, index, 0);
 }

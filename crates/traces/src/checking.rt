@@ -25,8 +25,8 @@ pub enum Judgement {
 /// Reads a trace to its end, its first bad line or the first event that is no step, from the world with so many table frames and
 /// nothing else.
 ///
-/// A line of a trace is what `checker::parse_event` reads, and its newline. Of a bad line at most 601 bytes are taken, and behind it,
-/// or behind an event that is no step, nothing is. Memory is taken for what is live or retired, and no more.
+/// A line of a trace is what `checker::parse_event` reads, and its newline. Of a bad line at most 601 bytes are taken, and after it,
+/// or after an event that is no step, nothing is. Memory is taken for what is live or retired, and no more.
 pub fn check<T: Wait, R: Read>(
     rt: &T,
     alloc: Global,

@@ -19,11 +19,11 @@ pub struct Finding {
     pub event: Event,
     /// The refusal that is due, where one is.
     pub due: Option<Refusal>,
-    /// Replies that would have been allowed: the refusal that is due, where one is; else all answers to a device's request, and one to
-    /// any other call, but none to a begin of a flush whose number has no 64 bits.
+    /// Replies that would have been allowed. That is the refusal that is due, where one is. Else they are all answers to a device's
+    /// request, and one to any other call, but none to a begin of a flush whose number has no 64 bits.
     pub allowed: Vec<Reply>,
-    /// The page that it rests on, where it rests on one: of a request the page of its address, of a map's answer a page that isn't
-    /// free, of an unmap a page that isn't live.
+    /// The page that it rests on, where it rests on one. It is of a request the page of its address, of a map's answer a page that
+    /// isn't free, of an unmap a page that isn't live.
     pub page: Option<PageBefore>,
 }
 

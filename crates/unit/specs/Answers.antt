@@ -116,8 +116,8 @@ AnswersWith m x look fill caching address access old new result =
     × Tells t address access result))
 
 -- without one there is only the one fault, and nothing is remembered
-abbrev pub Answers : Memory → List ContextEntry → Bool → Bool → Bool → ℕ → ℕ → Access → Caches → Caches → Result Hit Fault → Type 0
-Answers m row look fill caching device address access old new result =
+abbrev pub AnswersRequest : Memory → List ContextEntry → Bool → Bool → Bool → ℕ → ℕ → Access → Caches → Caches → Result Hit Fault → Type 0
+AnswersRequest m row look fill caching device address access old new result =
     (HasNoContext row old.contexts look device × (result ≡ Err faults.NotAttached) × (new ≡ old))
     ⊎ ((x : CachedContext) × IsContextOf row old.contexts look device x × Gains fill (λ y. y ≡ x) old.contexts new.contexts
     × AnswersWith m x look fill caching address access old new result)

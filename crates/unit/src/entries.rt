@@ -12,7 +12,7 @@ use vtdbits::{DeviceNumber, DomainId, LargeTranslation, Translation};
 
 /// A leaf that a walk met: the pages that it stands for, and what they are mapped to, one frame after the
 /// other.
-// Its fields are as narrow as they can be, as a table's level is, and stand as they take the least room: a unit is moved where it is made,
+// Its fields are as narrow as they can be, as a table's level is, and stand as they take the least room. A unit is moved where it is made,
 // and stands on the stack meanwhile.
 #[derive(Clone, Copy, PartialEq, Eq)]
 pub(crate) struct CachedLeaf {

@@ -2,7 +2,7 @@
 
 ghost use Rattle.std.specs.Prelude.{◌≡◌, ◌↔◌, ◌+◌, ◌^◌, ◌<◌, [], false, not, filter, IfOk, IsTrue};
 ghost use Rattle.tables.specs.Pool.{memory};
-ghost use Rattle.unit.specs.Answers.{Answers, IsRemembered};
+ghost use Rattle.unit.specs.Answers.{AnswersRequest, IsRemembered};
 ghost use Rattle.unit.specs.Caches.{unit_state, nothing, without};
 ghost use Rattle.unit.specs.Filters.{left_by, left_by_first, after_first, done_after};
 
@@ -103,7 +103,7 @@ impl Unit {
         whim: Whim,
     ) -> Result<Hit, Fault>
         requires { device < DEVICES }
-        ensures answers { Answers (memory pool.now.words) contexts.now whim.look whim.fill self.old.caching device address access
+        ensures answers { AnswersRequest (memory pool.now.words) contexts.now whim.look whim.fill self.old.caching device address access
             self.old.caches self.new.caches result }
         ensures remembered { IsTrue whim.fill → IfOk result (IsRemembered self.new.caches device address) }
         ensures steps { self.new.steps ≡ self.old.steps }

@@ -108,7 +108,7 @@ fn releases_a_run(rt: HostRuntime) -> Result<(), Fail> {
     space.may_retire(high)?;
     space.retire(high);
     assert!(rt; space.piece_count() == 4);
-    space.release_run(run);
+    space.release(run);
     assert!(rt; space.piece_count() == 2);
     assert!(rt; takes(&mut space, 14, 0, 2));
     Ok(())

@@ -1,5 +1,6 @@
-// Each call of the ports once, over one history: a strict domain, device 3 attached to it, 17 pages mapped at page 1 to
-// frame 0x100, read only, and two requests of the device, whose pages share a slot. The laws of the ports stand behind them.
+// Each call of the ports once, over one history. It has a strict domain, device 3 attached to it, 17 pages mapped at page 1
+// to frame 0x100, read only, and two requests of the device, whose pages share a slot. The laws of the ports stand behind
+// them.
 
 ghost use Rattle.std.specs.Prelude.{◌≡◌, ◌+◌, ◌<◌, [], ◌∷◌, ◌++◌, length, replicate};
 ghost use Rattle.dmatypes.specs.History.{IsLegal};

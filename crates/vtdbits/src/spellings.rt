@@ -1,4 +1,4 @@
-//! The laws of the codecs, each the contract of a function that does nothing: the words that spell a value
+//! The laws of the codecs, each the contract of a function that does nothing. The words that spell a value
 //! are those that are read as that value, no words spell two values, and no value has two spellings.
 
 ghost use Rattle.std.specs.Prelude.{◌≡◌, ℕ, ◌↔◌};

@@ -24,7 +24,7 @@ answered by:
   detach V              detaches device V from its domain: 'ok'
   map D F N O R         maps N pages of domain D to host frames from F on, where
                         they begin at a multiple of 2^O pages: 'map A'
-  maplist D O R F:N ..  maps 1 to 16 such runs, one behind the other: 'map A'
+  maplist D O R F:N ..  maps 1 to 16 such runs, one after the other: 'map A'
   unmap D A N           unmaps N pages of domain D from address A on:
                         'unmapped C'
   flush D               has the unit forget domain D, and releases what was
@@ -121,7 +121,7 @@ and no line is answered. At its end, or at its first bad line, the report says:
 With --iova the address space of each domain follows, a line for each run of its
 pages: their first and last byte, whether they are live, retired (unmapped, but
 not yet released) or free, how many they are, and a bar that grows by a mark
-where that number doubles. Behind them stand the unmaps that are not yet
+where that number doubles. After them stand the unmaps that are not yet
 released, each with the number of flushes that were begun before it:
 
   iova of domain 1 lazy

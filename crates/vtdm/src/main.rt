@@ -1,6 +1,6 @@
 //! `vtdm`: the program. It answers scripts of calls on a manager of DMA addresses (`run`), reports what is there at a script's end
-//! (`report`), judges what any manager was asked and answered (`check`), and has threads call one manager (`storm`). `vtdm run --help`
-//! explains each line of a script.
+//! (`report`). It judges what any manager was asked and answered (`check`), and has threads call one manager (`storm`). `vtdm run
+//! --help` explains each line of a script.
 //!
 //! ```text
 //! printf 'domain strict\nmap 1 0x100 1 0 rw\n' | vtdm run

@@ -11,7 +11,7 @@ use dmatypes::{LEAST_TABLE_FRAMES, MOST_CALLS, MOST_TABLE_FRAMES};
 use manager::Config;
 use std::alloc::{AllocError, Global};
 
-// The option that asks for the map of the address spaces.
+// The option that has the address spaces drawn.
 const IOVA: &str = "iova";
 
 // The option that asks for a trace in the place of answers.
@@ -43,8 +43,8 @@ pub(crate) enum Answering {
     Trace,
     /// Tell at its end what the manager holds.
     Report,
-    /// The same, and draw its address spaces behind it.
-    Map,
+    /// The same, and draw its address spaces after it.
+    Drawing,
 }
 
 /// How large the manager is to be.
@@ -153,7 +153,7 @@ fn iova<'a>(alloc: Global) -> Arg<'a> {
     Arg::new(alloc, IOVA)
         .long(IOVA)
         .action(ArgAction::SetTrue)
-        .help("Draws each domain's address space behind the report")
+        .help("Draws each domain's address space after the report")
 }
 
 /// What is asked for on the command line, where a command was given.
@@ -180,10 +180,10 @@ fn running(given: &ArgMatches) -> Answering {
     }
 }
 
-// Whether a report is asked for with the map.
+// Whether a report is asked for with a drawing.
 fn reporting(given: &ArgMatches) -> Answering {
     if given.get_flag(IOVA) {
-        Answering::Map
+        Answering::Drawing
     } else {
         Answering::Report
     }

@@ -9,7 +9,7 @@ use crate::options::{Answering, Options, Task, command, config_of, task_of};
 use crate::status::{End, end_of};
 use crate::storming::make_storm;
 use clap::error::ErrorKind;
-use script::{RunError, report, report_with_map, run, trace};
+use script::{RunError, report, report_with_drawing, run, trace};
 use std::alloc::Global;
 use std::io;
 use std::io::{Read, Write};
@@ -152,6 +152,6 @@ fn run_script<T: Wait, R: Read + Drop, W: Write + Drop>(
         Answering::Run => run(rt, alloc, &mut reader, &mut writer, config),
         Answering::Trace => trace(rt, alloc, &mut reader, &mut writer, config),
         Answering::Report => report(rt, alloc, &mut reader, &mut writer, config),
-        Answering::Map => report_with_map(rt, alloc, &mut reader, &mut writer, config),
+        Answering::Drawing => report_with_drawing(rt, alloc, &mut reader, &mut writer, config),
     })
 }

@@ -1,5 +1,5 @@
--- What readers tell C. They find totals, a device's domain, a domain's totals, devices, mode, width and root, a word of a table frame or
--- several, the words of a context entry and of a descriptor that was sent, and how many waits were sent.
+-- What readers tell C. They find totals, a device's domain, a domain's totals, devices, mode, width and root. They also find a word of a
+-- table frame or several, the words of a context entry and of a descriptor that was sent, and how many waits were sent.
 use Rattle.std.specs.Prelude.{◌≡◌, ◌↔◌, ◌+◌, ◌<◌, ◌≤◌, ℕ, List, length, Option, None, Some, slice_get, slice_index}
 use Rattle.std.specs.Int.{bit_at}
 use Rattle.dmatypes.specs.declared.call.Mode.{Mode}

@@ -7,7 +7,7 @@ ghost use Rattle.dmatypes.specs.declared.reply.Reply.TheVariants.{Stepped};
 ghost use Rattle.vtdm_c.specs.Answers.{answer_of, found, lone, told};
 
 use dmatypes::{Fault, Progress, Refusal};
-use engine::Hit;
+use engine::{Hit, Unmapped};
 
 /// A status, and the id, address, count or word that goes with it where the status is 0. A refusal's status is its number, and
 /// a fault's is 32 more than its number; those of the interface itself are named here.
@@ -89,11 +89,20 @@ impl Answer {
     pub(crate) fn number(answer: Result<u64, Refusal>) -> Answer
         ensures made { result ≡ answer_of (made_reply answer) }
         ensures mapped { result ≡ answer_of (mapped_reply answer) }
-        ensures unmapped { result ≡ answer_of (unmapped_reply answer) }
         ensures flushed { result ≡ answer_of (flushed_reply answer) }
     {
         match answer {
             Ok(value) => Answer::told(value),
+            Err(refusal) => Answer::lone(refusal.number()),
+        }
+    }
+
+    /// The answer of an unmap: how many retired records were released for it.
+    pub(crate) fn unmapped(answer: Result<Unmapped, Refusal>) -> Answer
+        ensures { result ≡ answer_of (unmapped_reply answer) }
+    {
+        match answer {
+            Ok(unmapped) => Answer::told(unmapped.released()),
             Err(refusal) => Answer::lone(refusal.number()),
         }
     }

@@ -9,7 +9,7 @@ ghost use Rattle.vtdm_c.specs.declared.answer.TheConstants.Answer.{ABSENT, BAD_A
 ghost use Rattle.vtdm_c.specs.declared.answer.TheConstants.Answer.{MANY_SEGMENTS, NOT_ATTACHED, NOT_DRIVEN, NO_DESCRIPTOR, NO_DEVICE};
 ghost use Rattle.vtdm_c.specs.declared.answer.TheConstants.Answer.{NO_DOMAIN, NO_MEMORY, NO_WAIT, NO_WORD, OK, PENDING, PRESENT, SPENT};
 
-/// A status names one thing: no two refusals have the same, and no two faults; those of refusals lie behind that of a call
+/// A status names one thing: no two refusals have the same, and no two faults. Those of refusals lie behind that of a call
 /// that was done and before those of faults, and these before those of the interface itself, which ascend too. What a reader
 /// doesn't find has the status of the refusal for it.
 pub fn statuses()

@@ -134,7 +134,7 @@ impl Session {
         if self.is_spent() {
             return Answer::lone(Answer::SPENT);
         }
-        Answer::number(self.driven.unmap(domain, address, pages))
+        Answer::unmapped(self.driven.unmap(domain, address, pages))
     }
 
     pub(crate) fn flush(&mut self, domain: u64) -> Answer

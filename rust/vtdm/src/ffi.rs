@@ -98,12 +98,12 @@ pub(crate) mod kinds {
 }
 
 // SAFETY: the functions have these names in libvtdm.a, and the header's types; the gate compares both texts. Those that are `safe` may
-// be called with any arguments of their types. Of what the header has C owe,
-//  - a `Handle` is `Handle::none()` before its creation, since there is no other way to make one, and nothing else writes it;
-//  - it is not copied, but moved, and not between the begin and the end of a call, since the call borrows it;
-//  - there is one call at a time on it, by a `&mut Handle`, which is not null and is aligned;
-//  - malloc, realloc and free are those of the C library that the program is linked with;
-//  - a signal handler, or the child of a fork, gets to a `Handle` that another call has only by other `unsafe` code.
+// be called with any arguments of their types. What the header has C owe holds.
+//  - A `Handle` is `Handle::none()` before its creation, since there is no other way to make one, and nothing else writes it.
+//  - It is not copied, but moved, and not between the begin and the end of a call, since the call borrows it.
+//  - There is one call at a time on it, by a `&mut Handle`, which is not null and is aligned.
+//  - malloc, realloc and free are those of the C library that the program is linked with.
+//  - A signal handler, or the child of a fork, gets to a `Handle` that another call has only by other `unsafe` code.
 // A `Handle` that goes away without `vtdm_destroy` is lost memory, and nothing worse. Every number may be any number. No function calls
 // back into Rust, and none unwinds.
 unsafe extern "C" {

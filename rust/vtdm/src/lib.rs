@@ -33,7 +33,7 @@
 //!
 //! 1. **The device, by the unit's caches**: only in a lazy domain. [`Manager::unmap`] tells it: at [`Unmapped::Free`] no device reaches
 //!    the pages; at [`Unmapped::Retired`] devices may reach them until [`Manager::flush`] returns, or until [`Manager::reap`] has
-//!    released a flush that was begun after the unmap.
+//!    ended a flush that was begun after the unmap.
 //! 2. **Your own code, by a host address that [`Manager::dma`] answered before the unmap**: in either mode. The address holds as long
 //!    as the lock around the manager is held. So the thread that plays the device uses the memory under that lock; or it tells when it
 //!    has done, and whoever unmapped waits for that before the memory is used again. `examples/vmm.rs` does the latter.

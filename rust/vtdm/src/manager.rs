@@ -38,6 +38,8 @@ const OK: u64 = 0;
 pub struct Manager {
     /// It holds a manager but inside `read`.
     handle: Cell<Handle>,
+    /// Bit D is set where domain D is lazy, so that an unmap needn't ask for the mode.
+    lazy: u64,
 }
 
 /// Calls.
@@ -62,7 +64,13 @@ impl Manager {
             Width::W39 => ffi::vtdm_domain(self.handle(), lazy),
             Width::W48 => ffi::vtdm_domain_wide(self.handle(), lazy),
         };
-        answer.value().map(Domain::new)
+        let domain = answer.value().map(Domain::new)?;
+        if lazy {
+            self.lazy |= bit_of(domain);
+        } else {
+            self.lazy &= !bit_of(domain);
+        }
+        Ok(domain)
     }
 
     /// Ends a domain with all its mapped pages and retired ranges, and gives its table frames back. No device may be attached to it, and
@@ -213,9 +221,9 @@ impl Manager {
     ///
     /// # Errors
     ///
-    /// [`Refused::NoDomain`], [`Refused::BadRange`] (also where a member of the range is no page: of the first 4096 bytes, of the
-    /// interrupt address range, or beyond the domain's width), [`Refused::NotLive`], [`Refused::TooManyPieces`], [`Refused::NoFrames`]
-    /// (to split a leaf of 2 MiB).
+    /// [`Refused::NoDomain`], [`Refused::BadRange`], [`Refused::NotLive`], [`Refused::TooManyPieces`], [`Refused::NoFrames`] (to split a
+    /// leaf of 2 MiB). A range is bad too where a member of it is no page: of the first 4096 bytes, of the interrupt address range, or
+    /// beyond the domain's width.
     ///
     /// ```
     /// use vtdm::{Frame, Order, Pages, Rights, Unmapped};
@@ -236,9 +244,10 @@ impl Manager {
     ) -> Result<Unmapped, Refused> {
         let handle = self.handle();
         let released = ffi::vtdm_unmap(handle, domain.get(), address.get(), pages.get()).value()?;
-        Ok(match self.mode_of(domain) {
-            Ok(Mode::Strict) => Unmapped::Free,
-            _ => Unmapped::Retired { released },
+        Ok(if self.lazy & bit_of(domain) == 0 {
+            Unmapped::Free
+        } else {
+            Unmapped::Retired { released }
         })
     }
 
@@ -377,6 +386,11 @@ impl Manager {
     }
 }
 
+/// The bit of a domain, whose id is 1 to 15.
+const fn bit_of(domain: Domain) -> u64 {
+    1 << (domain.get() & 63)
+}
+
 impl Drop for Manager {
     fn drop(&mut self) {
         ffi::vtdm_destroy(self.handle.get_mut());
@@ -403,7 +417,7 @@ impl fmt::Debug for Manager {
 pub(crate) fn made(create: impl FnOnce(&mut Handle) -> u64) -> Result<Manager, Refused> {
     let mut handle = Handle::none();
     check(create(&mut handle))?;
-    Ok(Manager { handle: Cell::new(handle) })
+    Ok(Manager { handle: Cell::new(handle), lazy: 0 })
 }
 
 /// Why a status is a refusal, if it is one.

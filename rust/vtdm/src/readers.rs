@@ -289,7 +289,7 @@ impl Manager {
     /// let count = 2 * (manager.waits()? - before);
     /// for back in (0..count).rev() {
     ///     let descriptor = manager.sent(back)?; // oldest first
-    ///     assert_eq!(descriptor.low & 15, if back == 0 { 5 } else { 2 }); // a wait behind an IOTLB invalidate descriptor
+    ///     assert_eq!(descriptor.low & 15, if back == 0 { 5 } else { 2 }); // a wait after an IOTLB invalidate descriptor
     /// }
     /// # Ok::<(), Refused>(())
     /// ```

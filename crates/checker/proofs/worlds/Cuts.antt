@@ -27,13 +27,13 @@ pub record AreCut (f g : Runs) (first page : ℕ) (r : Run) : Type 0 where
   pub others : (k : ℕ) → k ≢ first → k ≢ page → g k ≡ f k
 
 -- a run of g is the front, the rest, or another
-data Piece (f : Runs) (first page : ℕ) (r : Run) (k : ℕ) (s : Run) : Type 0 where
-  IsFront : k ≡ first → s ≡ front_of first page r → Piece f first page r k s
-  IsRest : k ≡ page → s ≡ rest_of first page r → Piece f first page r k s
-  IsOther : k ≢ first → f k ≡ Some s → Piece f first page r k s
+data Part (f : Runs) (first page : ℕ) (r : Run) (k : ℕ) (s : Run) : Type 0 where
+  IsFront : k ≡ first → s ≡ front_of first page r → Part f first page r k s
+  IsRest : k ≡ page → s ≡ rest_of first page r → Part f first page r k s
+  IsOther : k ≢ first → f k ≡ Some s → Part f first page r k s
 
-piece : (f g : Runs) (first page k : ℕ) (r s : Run) → AreCut f g first page r → g k ≡ Some s → Piece f first page r k s
-piece f g first page k r s cut is =
+part : (f g : Runs) (first page k : ℕ) (r s : Run) → AreCut f g first page r → g k ≡ Some s → Part f first page r k s
+part f g first page k r s cut is =
     elim (same_or_not k first) [
       | inl same ↦ IsFront same (same_Some s (front_of first page r) (sym is ∙ ap g same ∙ cut.front))
       | inr other ↦ elim (same_or_not k page) [
@@ -42,7 +42,7 @@ piece f g first page k r s cut is =
       ]
     ]
 
--- where a piece ends
+-- where a part ends
 front_end : (f g : Runs) (first page k : ℕ) (r s : Run) → AreCut f g first page r → k ≡ first → s ≡ front_of first page r
     → k + s.pages ≡ page
 front_end f g first page k r s cut same is =
@@ -90,19 +90,19 @@ fewer_cut f g first q none others cut = λ k s is less.
     ]
 
 -- nor by the pieces of one
-piece_cut : (f g : Runs) (first page q k : ℕ) (r s : Run) → AreCut f g first page r → IsCutAt f q → Piece f first page r k s → k < q
+part_cut : (f g : Runs) (first page q k : ℕ) (r s : Run) → AreCut f g first page r → IsCutAt f q → Part f first page r k s → k < q
     → k + s.pages ≤ q
-piece_cut f g first page q k r s cut was (IsFront e same) less =
+part_cut f g first page q k r s cut was (IsFront e same) less =
     omega (arith, was first r cut.there (omega (arith, e, less)), cut.below, front_end f g first page k r s cut e same)
-piece_cut f g first page q k r s cut was (IsRest e same) less =
+part_cut f g first page q k r s cut was (IsRest e same) less =
     omega (arith, was first r cut.there (omega (arith, e, less, cut.less)), rest_end f g first page k r s cut e same)
-piece_cut f g first page q k r s cut was (IsOther other is) less = was k s is less
+part_cut f g first page q k r s cut was (IsOther other is) less = was k s is less
 
-pub pieces_cut : (f g : Runs) (first page q : ℕ) (r : Run) → AreCut f g first page r → IsCutAt f q → IsCutAt g q
-pieces_cut f g first page q r cut was = λ k s is less. piece_cut f g first page q k r s cut was (piece f g first page k r s cut is) less
+pub parts_cut : (f g : Runs) (first page q : ℕ) (r : Run) → AreCut f g first page r → IsCutAt f q → IsCutAt g q
+parts_cut f g first page q r cut was = λ k s is less. part_cut f g first page q k r s cut was (part f g first page k r s cut is) less
 
-ends_before : (f g : Runs) (first page k j : ℕ) (r s t : Run) → AreApart f → AreCut f g first page r → Piece f first page r k s
-    → Piece f first page r j t → k < j → k + s.pages ≤ j
+ends_before : (f g : Runs) (first page k j : ℕ) (r s t : Run) → AreApart f → AreCut f g first page r → Part f first page r k s
+    → Part f first page r j t → k < j → k + s.pages ≤ j
 ends_before f g first page k j r s t a cut (IsFront e same) (IsFront d also) less = absurd (omega (arith, e, d, less))
 ends_before f g first page k j r s t a cut (IsFront e same) (IsRest d also) less =
     omega (arith, d, front_end f g first page k r s cut e same)
@@ -130,19 +130,19 @@ ends_before f g first page k j r s t a cut (IsOther other is) (IsRest d also) le
     ]
 ends_before f g first page k j r s t a cut (IsOther other is) (IsOther another there) less = a.apart k j s t is there less
 
-some_of : (f g : Runs) (first page k : ℕ) (r s : Run) → AreApart f → AreCut f g first page r → Piece f first page r k s → 1 ≤ s.pages
+some_of : (f g : Runs) (first page k : ℕ) (r s : Run) → AreApart f → AreCut f g first page r → Part f first page r k s → 1 ≤ s.pages
 some_of f g first page k r s a cut (IsFront e same) = omega (arith, e, cut.less, front_end f g first page k r s cut e same)
 some_of f g first page k r s a cut (IsRest e same) = omega (arith, e, cut.below, rest_end f g first page k r s cut e same)
 some_of f g first page k r s a cut (IsOther other is) = a.some k s is
 
-end_of : (f g : Runs) (first page k : ℕ) (r s : Run) → AreApart f → AreCut f g first page r → Piece f first page r k s
+end_of : (f g : Runs) (first page k : ℕ) (r s : Run) → AreApart f → AreCut f g first page r → Part f first page r k s
     → k + s.pages < 2 ^ 64
 end_of f g first page k r s a cut (IsFront e same) =
     omega (arith, cut.below, a.ends first r cut.there, front_end f g first page k r s cut e same)
 end_of f g first page k r s a cut (IsRest e same) = omega (arith, a.ends first r cut.there, rest_end f g first page k r s cut e same)
 end_of f g first page k r s a cut (IsOther other is) = a.ends k s is
 
-frames_of : (f g : Runs) (first page k : ℕ) (r s : Run) → AreApart f → AreCut f g first page r → Piece f first page r k s
+frames_of : (f g : Runs) (first page k : ℕ) (r s : Run) → AreApart f → AreCut f g first page r → Part f first page r k s
     → s.frame + s.pages ≤ FRAMES_END
 frames_of f g first page k r s a cut (IsFront e same) =
     of_one (λ (x : Run). x.frame + x.pages ≤ FRAMES_END) s (front_of first page r) same
@@ -154,11 +154,11 @@ frames_of f g first page k r s a cut (IsOther other is) = a.frames k s is
 
 pub cut_apart : (f g : Runs) (first page : ℕ) (r : Run) → AreApart f → AreCut f g first page r → AreApart g
 cut_apart f g first page r a cut = record {
-  some = λ k s is. some_of f g first page k r s a cut (piece f g first page k r s cut is);
-  ends = λ k s is. end_of f g first page k r s a cut (piece f g first page k r s cut is);
-  frames = λ k s is. frames_of f g first page k r s a cut (piece f g first page k r s cut is);
+  some = λ k s is. some_of f g first page k r s a cut (part f g first page k r s cut is);
+  ends = λ k s is. end_of f g first page k r s a cut (part f g first page k r s cut is);
+  frames = λ k s is. frames_of f g first page k r s a cut (part f g first page k r s cut is);
   apart = λ k j s t is there less.
-      ends_before f g first page k j r s t a cut (piece f g first page k r s cut is) (piece f g first page j r t cut there) less;
+      ends_before f g first page k j r s t a cut (part f g first page k r s cut is) (part f g first page j r t cut there) less;
 }
 
 -- a page of the run is held by the front or the rest
@@ -195,7 +195,7 @@ holds_piece f g first page p k r s a b cut is h =
 
 -- what holds a page in g had one that held it in f
 held_before : (f g : Runs) (first page p k : ℕ) (r s : Run) → AreApart f → AreCut f g first page r → by_runs f p p ≡ None
-    → Piece f first page r k s → Holds k s p → ⊥
+    → Part f first page r k s → Holds k s p → ⊥
 held_before f g first page p k r s a cut none (IsFront e same) h =
     none_held f a first p r none cut.there
     (omega (arith, e, h.0), omega (arith, h.1, cut.below, front_end f g first page k r s cut e same))
@@ -212,10 +212,10 @@ cut_same f g first page p r a cut =
           let h = held_by f p t is in
           holds_piece f g first page p h.first r h.run a b cut h.there (h.before, h.below) ∙ ap Some (sym h.target)
       | None ↦ λ is. not_held g p (λ k s there h.
-          held_before f g first page p k r s a cut is (piece f g first page k r s cut there) h)
+          held_before f g first page p k r s a cut is (part f g first page k r s cut there) h)
     ] refl
 
-here_by : (f g : Runs) (first page k : ℕ) (r s : Run) → AreApart f → AreCut f g first page r → Piece f first page r k s → k < page
+here_by : (f g : Runs) (first page k : ℕ) (r s : Run) → AreApart f → AreCut f g first page r → Part f first page r k s → k < page
     → k + s.pages ≤ page
 here_by f g first page k r s a cut (IsFront e same) less = omega (arith, front_end f g first page k r s cut e same)
 here_by f g first page k r s a cut (IsRest e same) less = absurd (omega (arith, e, less))
@@ -226,7 +226,7 @@ here_by f g first page k r s a cut (IsOther other is) less =
     ]
 
 pub cut_here : (f g : Runs) (first page : ℕ) (r : Run) → AreApart f → AreCut f g first page r → IsCutAt g page
-cut_here f g first page r a cut = λ k s is less. here_by f g first page k r s a cut (piece f g first page k r s cut is) less
+cut_here f g first page r a cut = λ k s is less. here_by f g first page k r s a cut (part f g first page k r s cut is) less
 
 -- ---- where there was memory
 

@@ -8,7 +8,7 @@ use Rattle.tables.specs.Tree.{IsLeafAt, IsTableAt, leaf_from, table_from}
 use Rattle.unit.specs.Caches.{Caches, CachedLeaf, CachedNonLeaf}
 use Rattle.engine.specs.Domains.{Domain, domain_at}
 use Rattle.engine.specs.State.{State}
-use Rattle.engine.specs.Quarantine.{AreLawful, IsHeld, IsLawfulLeaf, IsLawfulTable}
+use Rattle.engine.specs.Quarantine.{AreLawfulCaches, IsHeld, IsLawfulLeaf, IsLawfulTable}
 use Rattle.dmatypes.specs.Page.{levels}
 
 -- ---- one tree
@@ -57,10 +57,10 @@ keeps_same words words' h v leaves tables held = record {
 -- ---- all domains
 
 -- what is cached stays lawful where each domain of the state keeps that
-pub stay_lawful : (m t : State) (w w' : World) (c : Caches) → AreLawful m w c
+pub stay_lawful : (m t : State) (w w' : World) (c : Caches) → AreLawfulCaches m w c
     → ((d : ℕ) (h : Domain) (v : world.Domain) → domain_at m.domains d ≡ Some h → w.domains d ≡ Some v
     → (h' : Domain) × (v' : world.Domain) × (domain_at t.domains d ≡ Some h') × (w'.domains d ≡ Some v')
-    × KeepsLawful m.pool.words t.pool.words h h' v v') → AreLawful t w' c
+    × KeepsLawful m.pool.words t.pool.words h h' v v') → AreLawfulCaches t w' c
 stay_lawful m t w w' c lawful keeps = record {
   leaves = λ l inside.
       let at = lawful.leaves l inside in
@@ -73,8 +73,8 @@ stay_lawful m t w w' c lawful keeps = record {
 }
 
 -- fewer entries are lawful too
-pub fewer_lawful : (m : State) (w : World) (c c' : Caches) → AreLawful m w c → ((l : CachedLeaf) → IsIn l c'.leaves → IsIn l c.leaves)
-    → ((i : CachedNonLeaf) → IsIn i c'.non_leaves → IsIn i c.non_leaves) → AreLawful m w c'
+pub fewer_lawful : (m : State) (w : World) (c c' : Caches) → AreLawfulCaches m w c → ((l : CachedLeaf) → IsIn l c'.leaves → IsIn l c.leaves)
+    → ((i : CachedNonLeaf) → IsIn i c'.non_leaves → IsIn i c.non_leaves) → AreLawfulCaches m w c'
 fewer_lawful m w c c' lawful leaves tables = record {
   leaves = λ l inside. lawful.leaves l (leaves l inside);
   tables = λ i inside. lawful.tables i (tables i inside);

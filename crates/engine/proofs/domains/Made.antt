@@ -18,7 +18,7 @@ use Rattle.tables.specs.Spelled.{AreSpelled}
 use Rattle.tables.specs.Tree.{one_if_same, leaf_from, stated, table_from, uses}
 use Rattle.engine.specs.Domains.{Domain, domain_at, held_in, new_domain}
 use Rattle.engine.specs.State.{State, Exact, Becomes, TakesRoot}
-use Rattle.engine.specs.Quarantine.{AreLawful, MirrorsIfAny, IsHeld, Quarantine, owned, ticket_there}
+use Rattle.engine.specs.Quarantine.{AreLawfulCaches, MirrorsIfAny, IsHeld, Quarantine, owned, ticket_there}
 use Rattle.engine.specs.Steps.{Does}
 use Rattle.engine.proofs.frames.Owners.{frames_move}
 use Rattle.dmatypes.proofs.histories.Maps.{put_same, put_other, same_or_not}
@@ -89,7 +89,7 @@ with_new m t w mode width i root q many less free grown is_space all domains row
       })
       (λ e k ne there. same_tree m.pool.words t.pool.words k.width k.root grown.roots.words);
   caches =
-      subst (λ u. AreLawful t (record w { domains = put (i + 1) (Some (empty_domain mode width)) w.domains }) u.caches) (sym unit)
+      subst (λ u. AreLawfulCaches t (record w { domains = put (i + 1) (Some (empty_domain mode width)) w.domains }) u.caches) (sym unit)
       (stay_lawful m t w (record w { domains = put (i + 1) (Some (empty_domain mode width)) w.domains }) m.iommu.unit.caches q.caches
       (λ d h v there here. (
         h,

@@ -18,7 +18,7 @@ use Rattle.tables.specs.Tree.{stated, sum_below, uses}
 use Rattle.tables.proofs.sums.Firsts.{sum_below_part}
 use Rattle.engine.specs.declared.record.Record.{Record}
 use Rattle.engine.specs.Ending.{FreesEnded, RetiresAndUnmaps, UnmapsAlone, Releases, ReleasesAll, leaves_split}
-use Rattle.engine.specs.Ready.{AllDiffer, AreReleasable, CanCut, CanUnmap, IsCleared, IsFreeable, IsReleasable}
+use Rattle.engine.specs.Ready.{AllDiffer, AreReleasable, CanCut, CanUnmap, IsUnstated, IsFreeable, IsReleasable}
 use Rattle.engine.specs.Domains.{Domain, held_in, domain_at}
 use Rattle.engine.specs.State.{State}
 use Rattle.engine.specs.Quarantine.{AllApart, AreApart, IsOfSomeWorld, Marked, Mirrors, PartsFrames, marked_here, marked_there, owned}
@@ -229,7 +229,7 @@ cut_freeable pool pool1 h r tree cuts may = record {
 }
 
 -- and the tree states none of its pages
-pub cut_cleared : (pool pool1 : Pool) (h : Domain) (r : Record) → UnmapsAlone pool h r pool1 → IsCleared pool1 h.width h.root r.range
+pub cut_cleared : (pool pool1 : Pool) (h : Domain) (r : Record) → UnmapsAlone pool h r pool1 → IsUnstated pool1 h.width h.root r.range
 cut_cleared pool pool1 h r cuts p inside = ap (stated p) (cuts.unmaps.gone p inside.0 inside.1)
 
 -- what a strict unmap does is what retiring and releasing does

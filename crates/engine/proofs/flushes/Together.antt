@@ -18,10 +18,9 @@ use Rattle.iova.proofs.Among.{in_one}
 use Rattle.tables.specs.Pool.{Pool, IsZeroed, occurs}
 use Rattle.engine.specs.declared.record.Record.{Record}
 use Rattle.engine.specs.Domains.{held_in}
-use Rattle.engine.specs.Ending.{Releases, ReleasesAll}
-use Rattle.engine.specs.Ready.{AllDiffer, AreJoined, AreReleasable, IsRangeOf, IsReleasable, ReleasesLast}
-use Rattle.engine.proofs.flushes.MayRelease.{IsReleasing, first_releasable, piece_some}
-use Rattle.engine.proofs.flushes.OneByOne.{releases_last, releases_none}
+use Rattle.engine.specs.Ending.{ReleasesAll}
+use Rattle.engine.specs.Ready.{AllDiffer, AreJoined, AreReleasable, IsRangeOf, ReleasesLast}
+use Rattle.engine.proofs.flushes.MayRelease.{IsReleasing, piece_some}
 use Rattle.engine.proofs.lists.Membership.{in_left, in_right}
 use Rattle.engine.proofs.unmaps.Pages.{not_within}
 
@@ -192,30 +191,6 @@ released_run pool pool1 space space1 records range are there of is frees retirab
         let k = of.some page (h.0, omega (arith, h.0, h.1, some)) in
         none k.0 k.1 (in_one 1 q (piece_of k.0.range Retired) space.pieces page are.is_space.ordered i (are.pieces k.0 k.1) holds
         (k.2.0, omega (arith, k.2.1)))
-
--- ---- a single one
-
-pub single : (records : List Record) (r : Record) → length records ≡ 1 → records ≡ slice_index_or records 0 r ∷ []
-single [] r one = absurd (omega (arith, one))
-single (x ∷ []) r one = refl
-single (x ∷ y ∷ rest) r one = absurd (omega (arith, one))
-
-pub single_releasable : (pool : Pool) (space : Space) (records : List Record) (r : Record) → length records ≡ 1
-    → AreReleasable pool space records → IsReleasable pool space (slice_index_or records 0 r)
-single_releasable pool space records r one are =
-    first_releasable pool space (slice_index_or records 0 r) [] (subst (λ rs. AreReleasable pool space rs) (single records r one) are)
-
-pub single_among : (records : List Record) (r : Record) → length records ≡ 1 → IsIn (slice_index_or records 0 r) records
-single_among records r one = subst (λ rs. IsIn (slice_index_or records 0 r) rs) (sym (single records r one)) (inl refl)
-
-pub single_released : (pool pool1 : Pool) (space space1 : Space) (records : List Record) (r : Record) → length records ≡ 1
-    → AreReleasable pool space records → Releases pool space (slice_index_or records 0 r) pool1 space1
-    → ((other : Range) → MayRetire space.pieces other → MayRetire space1.pieces other) → length pool.free ≤ length pool1.free
-    → ReleasesAll pool space records pool1 space1
-single_released pool pool1 space space1 records r one are went retirable more =
-    subst (λ rs. ReleasesAll pool space rs pool1 space1) (sym (single records r one))
-    (releases_last pool pool pool1 space space space1 [] (slice_index_or records 0 r) (releases_none pool space records are) went
-    retirable more)
 
 -- ---- the last ones, and then others
 

@@ -18,7 +18,7 @@ use Rattle.tables.specs.Pool.{memory}
 use Rattle.tables.specs.Tree.{leaf_from}
 use Rattle.unit.proofs.caches.Found.{both}
 use Rattle.unit.proofs.caches.Members.{met_is}
-use Rattle.unit.specs.Answers.{Answers, AnswersWith, Entries, IsContextOf, IsRead, IsStart, Tells, entries_of}
+use Rattle.unit.specs.Answers.{AnswersRequest, AnswersWith, Entries, IsContextOf, IsRead, IsStart, Tells, entries_of}
 use Rattle.unit.specs.Caches.{Caches, CachedContext, CachedFault, CachedLeaf, CachedNonLeaf}
 use Rattle.unit.specs.Walking.{met, IsPassed}
 use Rattle.unit.specs.declared.hit.Hit.{Hit}
@@ -27,7 +27,7 @@ use Rattle.vtdbits.specs.declared.context.ContextEntry.TheVariants.{Present}
 use Rattle.engine.specs.Hits.{Has}
 use Rattle.engine.specs.Domains.{Domain, domain_at}
 use Rattle.engine.specs.State.{State, host_in, reached_reply}
-use Rattle.engine.specs.Quarantine.{AreLawful, MirrorsIfAny, InDomain, IsLawfulFault, IsLawfulLeaf, IsLawfulTable, Mirrors}
+use Rattle.engine.specs.Quarantine.{AreLawfulCaches, MirrorsIfAny, InDomain, IsLawfulFault, IsLawfulLeaf, IsLawfulTable, Mirrors}
 use Rattle.engine.specs.Quarantine.{Quarantine}
 use Rattle.vtdbits.specs.Context.{attached}
 use Rattle.engine.proofs.caches.Faults.{AreLawfulFaults}
@@ -126,7 +126,7 @@ module _ (m : State) (w : World) (quarantine : Quarantine m w) where
 
 -- ---- one reading
 
-module _ (m : State) (w : World) (lawful : AreLawful m w m.iommu.unit.caches) (absent : AreLawfulFaults m.iommu.unit w)
+module _ (m : State) (w : World) (lawful : AreLawfulCaches m w m.iommu.unit.caches) (absent : AreLawfulFaults m.iommu.unit w)
     (x : CachedContext) (h : Domain) (v : world.Domain)
     (here : domain_at m.domains x.domain ≡ Some h) (there : w.domains x.domain ≡ Some v) (root : h.root ≡ x.root)
     (wide : h.width ≡ x.width) (mirrors : Mirrors m.pool.words h v)
@@ -207,7 +207,7 @@ module _ (m : State) (w : World) (quarantine : Quarantine m w) (look fill : Bool
     (answer : Result Hit Fault) where
   with_context : (x : CachedContext) → IsContextOf m.iommu.contexts m.iommu.unit.caches.contexts look device x
       → AnswersWith (memory m.pool.words) x look fill m.iommu.unit.caching address access m.iommu.unit.caches new answer
-      → AllowsTo (domain_of_device w x.device) address access (reached_reply (host_in answer)) × AreLawful m w new
+      → AllowsTo (domain_of_device w x.device) address access (reached_reply (host_in answer)) × AreLawfulCaches m w new
       × ((f : CachedFault) → IsIn f new.faults → IsLawfulFault m.iommu.unit w f)
   with_context x is answers =
       let of = of_context m w quarantine x (of_row m w quarantine look device x is) in
@@ -246,7 +246,7 @@ module _ (m : State) (w : World) (quarantine : Quarantine m w) (look fill : Bool
       ]
 
   -- the answer is one that the world allows
-  pub request_allowed : Answers (memory m.pool.words) m.iommu.contexts look fill m.iommu.unit.caching device address access
+  pub request_allowed : AnswersRequest (memory m.pool.words) m.iommu.contexts look fill m.iommu.unit.caching device address access
       m.iommu.unit.caches new answer
       → AllowsTo (domain_of_device w device) address access (reached_reply (host_in answer))
   request_allowed (inl (none, is, same)) =
@@ -257,7 +257,8 @@ module _ (m : State) (w : World) (quarantine : Quarantine m w) (look fill : Bool
 
   -- and one of the page that its domain has
   pub request_hit : (hit : Hit) → answer ≡ Ok hit
-      → Answers (memory m.pool.words) m.iommu.contexts look fill m.iommu.unit.caching device address access m.iommu.unit.caches new answer
+      → AnswersRequest (memory m.pool.words) m.iommu.contexts look fill m.iommu.unit.caching device address access m.iommu.unit.caches
+      new answer
       → IsSomeAnd (domain_of_device w device) (λ v. Has v address access hit)
   request_hit hit ok (inl (none, is, same)) = let clash : Ok hit ≡ Err faults.NotAttached = sym ok ∙ is in absurd cc
   request_hit hit ok (inr (x, is, gains, answers)) =
@@ -276,20 +277,20 @@ module _ (m : State) (w : World) (quarantine : Quarantine m w) (look fill : Bool
       ]
 
   -- what is remembered afterwards is lawful
-  pub request_keeps : Answers (memory m.pool.words) m.iommu.contexts look fill m.iommu.unit.caching device address access
+  pub request_keeps : AnswersRequest (memory m.pool.words) m.iommu.contexts look fill m.iommu.unit.caching device address access
       m.iommu.unit.caches new answer
-      → AreLawful m w new
-  request_keeps (inl (none, is, same)) = subst (AreLawful m w) (sym same) quarantine.caches
+      → AreLawfulCaches m w new
+  request_keeps (inl (none, is, same)) = subst (AreLawfulCaches m w) (sym same) quarantine.caches
   request_keeps (inr (x, is, gains, answers)) = (with_context x is answers).1
 
   -- each page that is remembered as absent isn't live
-  pub request_faults : Answers (memory m.pool.words) m.iommu.contexts look fill m.iommu.unit.caching device address access
+  pub request_faults : AnswersRequest (memory m.pool.words) m.iommu.contexts look fill m.iommu.unit.caching device address access
       m.iommu.unit.caches new answer → (f : CachedFault) → IsIn f new.faults → IsLawfulFault m.iommu.unit w f
   request_faults (inl (none, is, same)) f inside = quarantine.faults f (subst (λ (c : Caches). IsIn f c.faults) same inside)
   request_faults (inr (x, is, gains, answers)) f inside = (with_context x is answers).2 f inside
 
   -- and each context is the row's
-  pub request_contexts : Answers (memory m.pool.words) m.iommu.contexts look fill m.iommu.unit.caching device address access
+  pub request_contexts : AnswersRequest (memory m.pool.words) m.iommu.contexts look fill m.iommu.unit.caching device address access
       m.iommu.unit.caches new answer
       → (y : CachedContext) → IsIn y new.contexts → slice_get m.iommu.contexts y.device ≡ Some (Present y.root y.width y.domain)
   request_contexts (inl (none, is, same)) y inside = quarantine.contexts.cached y (subst (λ (c : Caches). IsIn y c.contexts) same inside)

@@ -15,13 +15,14 @@ use Rattle.dmatypes.specs.declared.refusal.Fault.{Fault}
 use Rattle.dmatypes.specs.declared.refusal.Refusal.{Refusal}
 use Rattle.dmatypes.specs.declared.reply.Reply.{Reply}
 use Rattle.tables.specs.Pool.{memory}
-use Rattle.unit.specs.Answers.{Answers, IsRemembered}
+use Rattle.unit.specs.Answers.{AnswersRequest, IsRemembered}
 use Rattle.unit.specs.Caches.{Caches, CachedContext, CachedFault, unit_state}
 use Rattle.unit.specs.declared.hit.Hit.{Hit}
 use Rattle.vtdbits.specs.declared.context.ContextEntry.TheVariants.{Present}
-use Rattle.engine.specs.Hits.{IsHitIn, IsHitOf, IsNoRequest, hit_in}
+use Rattle.engine.specs.Details.{hit_of, request_detail}
+use Rattle.engine.specs.Hits.{IsHitIn, IsHitOf, IsNoRequest}
 use Rattle.engine.specs.State.{State, Becomes, Exact, host_in, reached_reply, request_reply}
-use Rattle.engine.specs.Quarantine.{AreLawful, IsLawfulFault, Quarantine}
+use Rattle.engine.specs.Quarantine.{AreLawfulCaches, IsLawfulFault, Quarantine}
 use Rattle.engine.specs.Steps.{Does}
 use Rattle.dmatypes.specs.declared.call.Cache.{Cache}
 use Rattle.dmatypes.specs.declared.reply.Reply.TheVariants.{Done, Refused}
@@ -39,7 +40,7 @@ remembering m c steps done calls =
     record m { iommu = record m.iommu { unit = unit_state c steps done m.iommu.unit.caching }; calls = calls }
 
 -- it keeps the quarantine where the caches are lawful
-pub quarantine_remembering : (m : State) (w : World) (c : Caches) (steps done calls : ℕ) → Quarantine m w → AreLawful m w c
+pub quarantine_remembering : (m : State) (w : World) (c : Caches) (steps done calls : ℕ) → Quarantine m w → AreLawfulCaches m w c
     → ((f : CachedFault) → IsIn f c.faults → IsLawfulFault m.iommu.unit w f)
     → ((y : CachedContext) → IsIn y c.contexts → slice_get m.iommu.contexts y.device ≡ Some (Present y.root y.width y.domain))
     → Quarantine (remembering m c steps done calls) w
@@ -73,9 +74,8 @@ exact_request m device address access whim (Ok hit) = tt
 exact_request m device address access whim (Err fault) = tt
 
 becomes_request : (m t : State) (device address : ℕ) (access : Access) (whim : Whim) (answer : Result Hit Fault)
-    → Answers (memory m.pool.words) m.iommu.contexts whim.look whim.fill m.iommu.unit.caching device address access m.iommu.unit.caches
-    t.iommu.unit.caches
-    answer → (IsTrue whim.fill → IfOk answer (IsRemembered t.iommu.unit.caches device address))
+    → AnswersRequest (memory m.pool.words) m.iommu.contexts whim.look whim.fill m.iommu.unit.caching device address access
+    m.iommu.unit.caches t.iommu.unit.caches answer → (IsTrue whim.fill → IfOk answer (IsRemembered t.iommu.unit.caches device address))
     → t ≡ remembering m t.iommu.unit.caches m.iommu.unit.steps m.iommu.unit.done (m.calls + 1)
     → Becomes m (calls.Dma device address access whim) (reached_reply (host_in answer)) t
 unfolding Becomes
@@ -85,9 +85,8 @@ becomes_request m t device address access whim (Err fault) answers filled is = (
 -- a request to the unit does what a request does
 pub request_does : (m t : State) (device address : ℕ) (access : Access) (whim : Whim) (answer : Result Hit Fault) → device < DEVICES
     → (IsInWindow address → ⊥)
-    → Answers (memory m.pool.words) m.iommu.contexts whim.look whim.fill m.iommu.unit.caching device address access m.iommu.unit.caches
-    t.iommu.unit.caches
-    answer → (IsTrue whim.fill → IfOk answer (IsRemembered t.iommu.unit.caches device address))
+    → AnswersRequest (memory m.pool.words) m.iommu.contexts whim.look whim.fill m.iommu.unit.caching device address access
+    m.iommu.unit.caches t.iommu.unit.caches answer → (IsTrue whim.fill → IfOk answer (IsRemembered t.iommu.unit.caches device address))
     → t ≡ remembering m t.iommu.unit.caches m.iommu.unit.steps m.iommu.unit.done (m.calls + 1)
     → Does m (calls.Dma device address access whim) (reached_reply (host_in answer)) t
 request_does m t device address access whim answer small outside answers filled is = record {
@@ -109,8 +108,8 @@ request_does m t device address access whim answer small outside answers filled 
 -- where it is answered a host address, the device's domain has the page so
 pub request_hits : (m : State) (device address : ℕ) (access : Access) (whim : Whim) (new : Caches) (answer : Result Hit Fault)
     → device < DEVICES
-    → Answers (memory m.pool.words) m.iommu.contexts whim.look whim.fill m.iommu.unit.caching device address access m.iommu.unit.caches
-    new answer
+    → AnswersRequest (memory m.pool.words) m.iommu.contexts whim.look whim.fill m.iommu.unit.caching device address access
+    m.iommu.unit.caches new answer
     → IfOk answer (IsHitOf m device address access)
 request_hits m device address access whim new (Ok hit) small answers =
     record { low = small; had = λ w q. request_hit m w q whim.look whim.fill device address access new (Ok hit) hit refl answers }
@@ -118,7 +117,7 @@ request_hits m device address access whim new (Err fault) small answers = tt
 
 hit_in_request : (m : State) (w : World) (device address : ℕ) (access : Access) (whim : Whim) (answer : Result (Result Hit Fault) Refusal)
     → Quarantine m w → IfOk answer (λ a. IfOk a (IsHitOf m device address access))
-    → IsHitIn w (calls.Dma device address access whim) (request_reply answer) (hit_in answer)
+    → IsHitIn w (calls.Dma device address access whim) (request_reply answer) (hit_of (request_detail answer))
 unfolding IsHitIn
 hit_in_request m w device address access whim (Ok (Ok hit)) q is = (refl, is.low, is.had w q)
 hit_in_request m w device address access whim (Ok (Err fault)) q is = refl
@@ -128,9 +127,9 @@ hit_in_request m w device address access whim (Err refusal) q is = refl
 pub hit_of_request : (m : State) (call : Call) (device address : ℕ) (access : Access) (whim : Whim)
     (answer : Result (Result Hit Fault) Refusal) → call ≡ calls.Dma device address access whim
     → IfOk answer (λ a. IfOk a (IsHitOf m device address access))
-    → (w : World) → Quarantine m w → IsHitIn w call (request_reply answer) (hit_in answer)
+    → (w : World) → Quarantine m w → IsHitIn w call (request_reply answer) (hit_of (request_detail answer))
 hit_of_request m call device address access whim answer same is w q =
-    subst (λ (c : Call). IsHitIn w c (request_reply answer) (hit_in answer)) (sym same)
+    subst (λ (c : Call). IsHitIn w c (request_reply answer) (hit_of (request_detail answer))) (sym same)
     (hit_in_request m w device address access whim answer q is)
 
 -- no other call has one

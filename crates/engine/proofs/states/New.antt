@@ -17,7 +17,7 @@ use Rattle.engine.specs.Tickets.{AreDifferent, Follow, KeepsTickets, pairs_of}
 use Rattle.engine.specs.Domains.{Domain, domain_at}
 use Rattle.engine.specs.State.{IsNew, State}
 use Rattle.engine.specs.Whole.{IsWhole}
-use Rattle.engine.specs.Quarantine.{AreLawful, Quarantine, owned, ticket_there}
+use Rattle.engine.specs.Quarantine.{AreLawfulCaches, Quarantine, owned, ticket_there}
 use Rattle.vtdbits.specs.Context.{attached}
 use Rattle.engine.proofs.domains.OneChanged.{domain_of_place}
 use Rattle.dmatypes.specs.declared.limits.TheConstants.{DEVICES, MOST_DOMAINS}
@@ -52,7 +52,7 @@ no_entry_in (suc n) zero root domain width at = cc
 no_entry_in (suc n) (suc v) root domain width at = no_entry_in n v root domain width at
 
 -- nothing is remembered
-nothing_cached : (m : State) (w : World) (c : Caches) → c ≡ nothing → AreLawful m w c
+nothing_cached : (m : State) (w : World) (c : Caches) → c ≡ nothing → AreLawfulCaches m w c
 nothing_cached m w c is = rw is (record { leaves = λ l inside. absurd inside; tables = λ i inside. absurd inside })
 
 pub of_empty_world : (m : State) (frames : ℕ) (caching : Bool) → IsNew frames caching m → Quarantine m (empty frames)

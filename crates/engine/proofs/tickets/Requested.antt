@@ -15,7 +15,7 @@ use Rattle.tables.specs.Pool.{memory, occurs}
 use Rattle.tables.specs.Tree.{leaf_from, uses}
 use Rattle.unit.proofs.caches.Members.{met_is}
 use Rattle.unit.proofs.walks.Used.{table_used}
-use Rattle.unit.specs.Answers.{Answers, AnswersWith, Entries, IsContextOf, IsRead, IsStart, entries_of}
+use Rattle.unit.specs.Answers.{AnswersRequest, AnswersWith, Entries, IsContextOf, IsRead, IsStart, entries_of}
 use Rattle.unit.specs.Caches.{CachedContext, CachedLeaf, CachedNonLeaf}
 use Rattle.unit.specs.Walking.{met, IsPassed}
 use Rattle.unit.specs.declared.hit.Hit.{Hit}
@@ -128,7 +128,7 @@ module _ (m t : State) (w : World) (q : Quarantine m w) (many : length m.domains
         inside old
 
     -- what is forgotten stays so
-    pub request_forgets : Answers (memory m.pool.words) m.iommu.contexts look fill m.iommu.unit.caching device address access
+    pub request_forgets : AnswersRequest (memory m.pool.words) m.iommu.contexts look fill m.iommu.unit.caching device address access
         m.iommu.unit.caches
         t.iommu.unit.caches answer → Forgets m t
     request_forgets (inl (none, is, same)) d g at r inside old = subst (λ c. IsForgotten c d r) (sym same) old

@@ -15,7 +15,9 @@ use Rattle.engine.specs.declared.iommu.Iommu.{Iommu}
 use Rattle.engine.specs.declared.iommu.Shown.{Shown}
 use Rattle.vtdbits.specs.declared.descriptor.Descriptor.{Descriptor}
 use Rattle.vtdbits.specs.declared.descriptor.Descriptor.TheVariants.{IotlbDomain}
-use Rattle.engine.specs.Ending.{ByMode, Invalidates, IsJudgedEnd, IsUnmapped, MakesRoom, PutsOff, RetiresAndUnmaps, UnmapsStrictly}
+use Rattle.engine.specs.declared.answer.Unmapped as answer
+use Rattle.engine.specs.Details.{released_by}
+use Rattle.engine.specs.Ending.{ByMode, EndsBy, Invalidates, IsJudgedEnd, IsUnmapped, MakesRoom, PutsOff, RetiresAndUnmaps, UnmapsStrictly}
 use Rattle.engine.specs.Ending.{domain_shown, record_shown, status_of}
 use Rattle.engine.specs.Domains.{Domain, Operands, domain_at, operands_of}
 use Rattle.engine.specs.State.{Becomes, Exact, State, operands_in, unmapped_reply}
@@ -130,7 +132,8 @@ module _ (m : State) (address pages i released : ℕ) (h new : Domain) (pool : P
   by_mode Strict strict may does = strictly strict does.0 does.1
   by_mode Lazy lazy may does = lazily lazy may does does.room
 
-  unmap_done : IsUnmapped old_operands (i + 1) (range_at address pages) (Ok released) new_operands
+  unmap_done : IsJudgedEnd m.pool h (range_at address pages) (Ok tt)
+      × EndsBy old_operands (i + 1) (range_at address pages) released new_operands
       → Does m (calls.Unmap (i + 1) address pages) (Unmapped released) after
   unfolding Exact Becomes
   unmap_done does = record {
@@ -157,7 +160,8 @@ module _ (m : State) (address pages i released : ℕ) (h new : Domain) (pool : P
         )
   ]
 
-  unmap_whole : IsWhole m.pool.frames m → IsUnmapped old_operands (i + 1) (range_at address pages) (Ok released) new_operands
+  unmap_whole : IsWhole m.pool.frames m → IsJudgedEnd m.pool h (range_at address pages) (Ok tt)
+      × EndsBy old_operands (i + 1) (range_at address pages) released new_operands
       → IsWhole pool.frames after
   unmap_whole is does = elim (quiet_or_sent h.mode does.1) [
     | inl quiet ↦
@@ -171,22 +175,23 @@ module _ (m : State) (address pages i released : ℕ) (h new : Domain) (pool : P
 
 -- ---- both
 
-pub record AnswersUnmap (m : State) (domain address pages : ℕ) (answer : Result ℕ Refusal) (t : State) : Type 0 where
+pub record AnswersUnmap (m : State) (domain address pages : ℕ) (answer : Result answer.Unmapped Refusal) (t : State) : Type 0 where
   pub does : Does m (calls.Unmap domain address pages) (unmapped_reply answer) t
   pub whole : IsWhole t.pool.frames t
 
 pub unmap_answered : (m : State) (domain address pages i : ℕ) (h new : Domain) (pool : Pool) (x : Iommu)
-    (answer : Result ℕ Refusal) → IsWhole m.pool.frames m → i < length m.domains → domain ≡ i + 1 → slice_get m.domains i ≡ Some (Some h)
+    (answer : Result answer.Unmapped Refusal) → IsWhole m.pool.frames m → i < length m.domains → domain ≡ i + 1
+    → slice_get m.domains i ≡ Some (Some h)
     → domain_at m.domains domain ≡ Some h → address % PAGE_BYTES ≡ 0 → IsPageRange (range_at address pages)
     × Fits (range_at address pages) h.width
     → IsUnmapped (operands_in m h) domain (range_at address pages) answer (operands_of pool new x)
     → AnswersUnmap m domain address pages answer (changed m i pool (Some new) x)
-unmap_answered m domain address pages i h new pool x (Ok released) is less id at there whole fits ended =
+unmap_answered m domain address pages i h new pool x (Ok unmapped) is less id at there whole fits ended =
     let there' : domain_at m.domains (i + 1) ≡ Some h = rw id at there in
-    let ended' : IsUnmapped (operands_in m h) (i + 1) (range_at address pages) (Ok released) (operands_of pool new x) = rw id at ended in
+    let ended' : IsUnmapped (operands_in m h) (i + 1) (range_at address pages) (Ok unmapped) (operands_of pool new x) = rw id at ended in
     record {
-      does = rw id (unmap_done m address pages i released h new pool x is.places less there' whole fits ended');
-      whole = unmap_whole m address pages i released h new pool x is.places less there' whole fits is ended';
+      does = rw id (unmap_done m address pages i (released_by unmapped) h new pool x is.places less there' whole fits ended');
+      whole = unmap_whole m address pages i (released_by unmapped) h new pool x is.places less there' whole fits is ended';
     }
 unmap_answered m domain address pages i h new pool x (Err refusal) is less id at there whole fits ended =
     let does = unmap_refused m domain address pages i h new pool x refusal at there whole fits ended in

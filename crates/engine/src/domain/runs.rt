@@ -6,7 +6,6 @@ ghost use Rattle.engine.specs.Domains.{held_in};
 ghost use Rattle.engine.specs.Ending.{ReleasesAll};
 ghost use Rattle.engine.specs.Ready.{AreInvalidated, AreJoined, AreReleasable, IsRangeOf, ReleasesLast};
 
-use super::release;
 use crate::iommu::Iommu;
 use crate::record::Record;
 use dmatypes::PageRange;
@@ -84,11 +83,7 @@ fn release_run(
     requires invalidated { AreInvalidated iommu.now id records.now }
     ensures { ReleasesAll pool.old space.old records.now pool.new space.new }
 {
-    if records.len() == 1 {
-        release(space, pool, iommu, id, &records[0]);
-        return;
-    }
-    space.release_run(range);
+    space.release(range);
     give_back_all(pool, records);
 }
 

@@ -3,13 +3,17 @@
 ghost use Rattle.std.specs.Prelude.{◌≡◌, ◌<◌};
 ghost use Rattle.dmatypes.specs.World.{World};
 ghost use Rattle.dmatypes.specs.declared.limits.TheConstants.{CALLS_END};
-ghost use Rattle.engine.specs.Hits.{IsHitIn, IsNoRequest, hit_in};
+ghost use Rattle.dmatypes.specs.declared.reply.Reply.TheVariants.{Refused};
+ghost use Rattle.engine.specs.Details.{hit_of, request_detail, unmapped_detail};
+ghost use Rattle.engine.specs.Hits.{IsHitIn, IsNoRequest, IsNoUnmap, IsDetailIn};
+ghost use Rattle.engine.specs.declared.answer.Detail.TheVariants.{Nothing};
 ghost use Rattle.engine.specs.Quarantine.{Quarantine};
 ghost use Rattle.engine.specs.State.{begun_reply, done_reply, flushed_reply, made_reply, mapped_reply, reaped_reply, request_reply};
 ghost use Rattle.engine.specs.State.{unmapped_reply};
 ghost use Rattle.engine.specs.Steps.{Does};
 
-use super::{Answer, State};
+use super::State;
+use crate::answer::{Answer, Detail, Unmapped};
 use dmatypes::{Call, Fault, Refusal, Reply};
 use unit::Hit;
 
@@ -19,28 +23,34 @@ impl State {
     pub fn perform(&mut self, call: &Call) -> Answer
         requires { self.old.calls < CALLS_END }
         ensures does { Does self.old call.now result.reply self.new }
-        ensures hit { (w : World) → Quarantine self.old w → IsHitIn w call.now result.reply result.hit }
+        ensures hit { (w : World) → Quarantine self.old w → IsHitIn w call.now result.reply (hit_of result.detail) }
+        ensures unmapped { (w : World) → Quarantine self.old w → IsDetailIn w call.now result.reply result.detail }
     {
-        if let Call::Dma {
-            device,
-            address,
-            access,
-            whim,
-        } = call
-        {
-            return requested(self.dma(*device, *address, *access, *whim));
-        }
-        Answer {
-            reply: self.reply_to(call),
-            hit: None,
+        match call {
+            Call::Dma {
+                device,
+                address,
+                access,
+                whim,
+            } => requested(self.dma(*device, *address, *access, *whim)),
+            Call::Unmap {
+                domain,
+                address,
+                pages,
+            } => unmapped(self.unmap(*domain, *address, *pages)),
+            _ => Answer {
+                reply: self.reply_to(call),
+                detail: Detail::Nothing,
+            },
         }
     }
 
-    // Makes a call that is no request.
+    // Makes a call whose reply says all.
     #[inline(always)]
     fn reply_to(&mut self, call: &Call) -> Reply
         requires counts { self.old.calls < CALLS_END }
-        requires other { IsNoRequest call.now }
+        requires request { IsNoRequest call.now }
+        requires unmap { IsNoUnmap call.now }
         ensures { Does self.old call.now result self.new }
     {
         match call {
@@ -61,16 +71,11 @@ impl State {
                 rights,
                 segments,
             } => mapped(self.map_list(*domain, *order, *rights, segments)),
-            Call::Unmap {
-                domain,
-                address,
-                pages,
-            } => unmapped(self.unmap(*domain, *address, *pages)),
             Call::Flush { domain } => flushed(self.flush(*domain)),
             Call::Begin { domain } => begun(*domain, self.begin(*domain)),
             Call::Unit => Reply::Stepped(self.unit_step()),
             Call::Reap { domain, number } => reaped(self.reap(*domain, *number)),
-            Call::Dma { .. } => unreachable!(),
+            Call::Unmap { .. } | Call::Dma { .. } => unreachable!(),
             Call::Evict { kind, place } => {
                 self.evict(*kind, *place);
                 Reply::Done
@@ -106,12 +111,16 @@ fn mapped(answer: Result<u64, Refusal>) -> Reply
     }
 }
 
-fn unmapped(answer: Result<u64, Refusal>) -> Reply
-    ensures { result ≡ unmapped_reply answer }
+fn unmapped(answer: Result<Unmapped, Refusal>) -> Answer
+    ensures reply { result.reply ≡ unmapped_reply answer }
+    ensures detail { result.detail ≡ unmapped_detail answer }
 {
     match answer {
-        Ok(released) => Reply::Unmapped(released),
-        Err(refusal) => Reply::Refused(refusal),
+        Ok(unmapped) => Answer {
+            reply: Reply::Unmapped(unmapped.released()),
+            detail: Detail::Unmapped(unmapped),
+        },
+        Err(refusal) => refused(refusal),
     }
 }
 
@@ -145,12 +154,26 @@ fn reaped(answer: Result<Option<u64>, Refusal>) -> Reply
 
 fn requested(answer: Result<Result<Hit, Fault>, Refusal>) -> Answer
     ensures reply { result.reply ≡ request_reply answer }
-    ensures hit { result.hit ≡ hit_in answer }
+    ensures detail { result.detail ≡ request_detail answer }
 {
-    let (reply, hit) = match answer {
-        Ok(Ok(hit)) => (Reply::Host(hit.host), Some(hit)),
-        Ok(Err(fault)) => (Reply::Faulted(fault), None),
-        Err(refusal) => (Reply::Refused(refusal), None),
-    };
-    Answer { reply, hit }
+    match answer {
+        Ok(Ok(hit)) => Answer {
+            reply: Reply::Host(hit.host),
+            detail: Detail::Hit(hit),
+        },
+        Ok(Err(fault)) => Answer {
+            reply: Reply::Faulted(fault),
+            detail: Detail::Nothing,
+        },
+        Err(refusal) => refused(refusal),
+    }
+}
+
+fn refused(refusal: Refusal) -> Answer
+    ensures { result ≡ record { reply = Refused refusal; detail = Nothing } }
+{
+    Answer {
+        reply: Reply::Refused(refusal),
+        detail: Detail::Nothing,
+    }
 }

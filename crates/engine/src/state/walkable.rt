@@ -34,9 +34,7 @@ impl State {
     {
         let domains = &self.domains;
         let id = DomainId::new(id)?;
-        let Some(domain) = &domains[place_of(id)] else {
-            return None;
-        };
+        let domain = domains[place_of(id)].as_ref()?;
         domain.table_at(&self.pool, page, level)
     }
 

@@ -9,14 +9,15 @@ use Rattle.piece_tree.specs.declared.piece.PageState.{PageState}
 use Rattle.piece_tree.specs.declared.piece.PageState.TheVariants.{Live}
 use Rattle.piece_tree.specs.declared.piece.Piece.{Piece}
 use Rattle.iova.specs.Carved.{AreCarved, FollowOn, IsCarved, LosesEnd, with_carved, with_pieces}
-use Rattle.iova.specs.Changes.{Frees, FreesLive}
+use Rattle.iova.specs.Changes.{Frees, FreesLive, FreesRun}
 use Rattle.piece_tree.specs.Freed.{with_free}
-use Rattle.iova.specs.Pieces.{piece_of}
+use Rattle.iova.specs.Pieces.{IsRun, piece_of}
 use Rattle.iova.specs.Space.{Space, IsSpace, MayRetire}
 use Rattle.iova.specs.Pieces.{pages_as}
 use Rattle.iova.proofs.Among.{in_append_cases, in_append_left, in_append_right, in_one, in_state}
 use Rattle.iova.proofs.Freed.{frees, one_run}
 use Rattle.iova.proofs.FreedLive.{frees_live}
+use Rattle.iova.proofs.FreedRun.{frees_run}
 use Rattle.iova.proofs.searches.Holding.{may_whole}
 use Rattle.iova.proofs.carvings.Counts.{few_less}
 use Rattle.iova.proofs.carvings.GivenBack.{given_back}
@@ -61,6 +62,14 @@ module _ (a : Space) (sp : IsSpace a) (stock : Stock) (before : List Piece) (pag
       let w : piece_of range s ≡ piece_of range st = in_one 1 (piece_of range s) (piece_of range st) view.pieces range.first
       viewed.ordered i one_there (omega arith, omega (arith, some)) (omega arith, omega (arith, some)) in
       ap (λ (p : Piece). p.state) w
+
+  -- a run of these pages is that one
+  pub run_is : (s : PageState) → IsRun (piece_of range s) (with_pieces (before ++ pages_as pages st ∷ behind) a.pieces) → s ≡ st
+  run_is s run =
+      let p = run range.first (omega arith, omega (arith, some)) in
+      let w : p.0 ≡ piece_of range st = in_one 1 p.0 (piece_of range st) view.pieces range.first viewed.ordered p.1 one_there p.2
+      (omega arith, omega (arith, some)) in
+      sym p.3 ∙ ap (λ (q : Piece). q.state) w
 
   -- its pages are in its state
   pub one_live : MayRetire (with_pieces (before ++ pages_as pages st ∷ behind) a.pieces) range → st ≡ Live
@@ -157,6 +166,13 @@ module _ (a : Space) (sp : IsSpace a) (stock : Stock) (before : List Piece) (pag
     end_freed s i = subst (λ t. Frees view (with_carved (before ++ behind) a) range t) (sym (one_is s i))
         (frees view (with_carved (before ++ behind) a) range st viewed some one_there new_is)
 
+    pub end_freed_run : (s : PageState) → IsRun (piece_of range s) (with_pieces (before ++ pages_as pages st ∷ behind) a.pieces)
+        → FreesRun (with_carved (before ++ pages_as pages st ∷ behind) a) (with_carved (before ++ behind) a) range s
+    end_freed_run s run =
+        frees_run view (with_carved (before ++ behind) a) range s viewed some run
+        (subst (λ t. with_carved (before ++ behind) a ≡ record view { pieces = with_free (piece_of range t) view.pieces })
+        (sym (run_is s run)) new_is)
+
     pub end_freed_live : MayRetire (with_pieces (before ++ pages_as pages st ∷ behind) a.pieces) range
         → FreesLive (with_carved (before ++ pages_as pages st ∷ behind) a) (with_carved (before ++ behind) a) range
     end_freed_live may =
@@ -169,6 +185,7 @@ pub record EndFreed (a old : Space) (now : List Piece) (stock : Option Stock) (r
   pub carved : IsCarved a.pieces now stock
   pub spaces : IsSpace old × IsSpace (with_carved now a)
   pub freed : (s : PageState) → IsIn (piece_of range s) old.pieces → Frees old (with_carved now a) range s
+  pub freed_run : (s : PageState) → IsRun (piece_of range s) old.pieces → FreesRun old (with_carved now a) range s
   pub freed_live : MayRetire old.pieces range → FreesLive old (with_carved now a) range
 
 pub not_empty : (before : List Piece) (e : Piece) (behind : List Piece) → [] ≡ before ++ e ∷ behind → ⊥
@@ -191,6 +208,7 @@ end_freed_in a old chain now (Some stock) pages range sp k was w first last some
         carved_space a stock.pages.first stock.pages.last (w.0 ++ w.2) rest.from rest.end (carving a (w.0 ++ w.2) stock sp rest),
       );
       freed = end_freed a sp stock w.0 pages w.1 w.2 c range first last some w.4;
+      freed_run = end_freed_run a sp stock w.0 pages w.1 w.2 c range first last some w.4;
       freed_live = end_freed_live a sp stock w.0 pages w.1 w.2 c range first last some w.4;
     }))
 

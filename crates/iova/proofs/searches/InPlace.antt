@@ -41,8 +41,8 @@ first_of page ps = first_or (pieces_from page ps) None
 
 -- what is shown first beside what is kept first: the free piece in the place of the one that begins where it does, or the same
 -- piece, which lies apart from the free one
-abbrev Answers : Ends → Option Piece → Option Piece → Type 0
-Answers ends kept shown =
+abbrev ShowsFirst : Ends → Option Piece → Option Piece → Type 0
+ShowsFirst ends kept shown =
     ((p : Piece) × (kept ≡ Some p) × (p.first ≡ ends.first) × (shown ≡ Some (pages_as ends Free)))
     ⊎ ((shown ≡ kept) × ((p : Piece) → kept ≡ Some p → (p.first ≢ ends.first) × IsFirstOrNone ends (p.last + 1)))
 
@@ -60,7 +60,7 @@ module _ (ends : Ends) (ps : List Piece) (o : IsOrdered 1 ps) (new : IsOrdered 1
   new_order = subst (λ l. IsOrdered 1 l) t.now new
 
   module _ (page : ℕ) where
-    answers_under : page ≤ ends.first → Answers ends (first_of page ps) (first_of page (with_freed (Some ends) ps))
+    answers_under : page ≤ ends.first → ShowsFirst ends (first_of page ps) (first_of page (with_freed (Some ends) ps))
     answers_under h =
         let a = ap (first_of page) old_parts ∙ from_before t.before t.first (t.rest ++ t.behind) page None (omega (arith, h, t.begins)) in
         let b = ap (first_of page) t.now ∙ from_before t.before free t.behind page None h in
@@ -76,7 +76,7 @@ module _ (ends : Ends) (ps : List Piece) (o : IsOrdered 1 ps) (new : IsOrdered 1
               )
         ]
 
-    answers_past : ends.last < page → Answers ends (first_of page ps) (first_of page (with_freed (Some ends) ps))
+    answers_past : ends.last < page → ShowsFirst ends (first_of page ps) (first_of page (with_freed (Some ends) ps))
     answers_past h =
         let wide : ends.first ≤ ends.last = some_page 1 t.before free t.behind new_order in
         let a : pieces_from page (t.before ++ t.first ∷ (t.rest ++ t.behind)) ≡ pieces_from page t.behind =
@@ -99,9 +99,9 @@ module _ (ps : List Piece) (page : ℕ) (found : Option Piece) (is : found ≡ f
   abbrev first_shown : Option Ends → Option Piece
   first_shown freed = first_of page (with_freed freed ps)
 
-  found_answers : (ends : Ends) → CanList ps (Some ends) page → Answers ends found (first_shown (Some ends))
+  found_answers : (ends : Ends) → CanList ps (Some ends) page → ShowsFirst ends found (first_shown (Some ends))
   found_answers ends c =
-      subst (λ f. Answers ends f (first_shown (Some ends))) (sym is) (elim c.outside [
+      subst (λ f. ShowsFirst ends f (first_shown (Some ends))) (sym is) (elim c.outside [
         | inl h ↦ answers_under ends ps c.kept c.ordered c.place page h
         | inr h ↦ answers_past ends ps c.kept c.ordered c.place page h
       ])

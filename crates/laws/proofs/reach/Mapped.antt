@@ -8,7 +8,7 @@ use Rattle.dmatypes.specs.declared.reply.Event.{Event}
 use Rattle.dmatypes.specs.Page.{page_of}
 use Rattle.dmatypes.specs.World.{Domain, IsIn, IsRetired, Retired, empty}
 use Rattle.dmatypes.specs.History.{after, IsLegal}
-use Rattle.laws.specs.Events.{Drops, Gives, IsAttached, IsOfMode, Lasts, TakesAway, reaching}
+use Rattle.laws.specs.Events.{Drops, Gives, IsAttached, IsOfMode, Lasts, EndsPage, reaching}
 use Rattle.laws.proofs.lists.Courses.{lasts_as, lasts_less}
 use Rattle.laws.proofs.reach.Reached.{IsReached, gives, reached_after}
 use Rattle.laws.proofs.worlds.Attached.{attached_by}
@@ -31,7 +31,7 @@ pub reaches_mapped : (frames : ℕ) (before rest : List Event) (device address :
     → (domain : ℕ) × IsAttached device domain before
     × Lasts (Gives domain address access host) (Drops domain) before
     × (IsOfMode modes.Strict domain before
-    → Lasts (Gives domain address access host) (TakesAway domain (page_of address)) before)
+    → Lasts (Gives domain address access host) (EndsPage domain (page_of address)) before)
 reaches_mapped frames before rest device address access whim host legal = (r.id, attached, put, strictly)
   where
     r : IsReached (after frames before) device address access host
@@ -52,18 +52,18 @@ reaches_mapped frames before rest device address access whim host legal = (r.id,
         (gives r.id address access host r.domain r.by) before
         (elim r.by.held [
           | inl live ↦
-              lasts_less (WasPut r.id (page_of address) r.by.target) (TakesAway r.id (page_of address)) (Drops r.id)
+              lasts_less (WasPut r.id (page_of address) r.by.target) (EndsPage r.id (page_of address)) (Drops r.id)
               (λ e drops. inr drops) before (kept.live r.domain r.by.target r.there live)
           | inr retired ↦ kept.retired r.domain r.by.target r.there retired
         ])
 
     strictly : IsOfMode modes.Strict r.id before
-        → Lasts (Gives r.id address access host) (TakesAway r.id (page_of address)) before
+        → Lasts (Gives r.id address access host) (EndsPage r.id (page_of address)) before
     strictly strict =
         let mode = mode_after frames before modes.Strict r.id legal_before strict in
         let same : mode.domain ≡ r.domain = same_Some mode.domain r.domain (sym mode.there ∙ r.there) in
         let bare : r.domain.retired ≡ [] = ap (λ (v : Domain). v.retired) (sym same) ∙ mode.bare refl in
-        lasts_as (WasPut r.id (page_of address) r.by.target) (Gives r.id address access host) (TakesAway r.id (page_of address))
+        lasts_as (WasPut r.id (page_of address) r.by.target) (Gives r.id address access host) (EndsPage r.id (page_of address))
         (gives r.id address access host r.domain r.by) before
         (elim r.by.held [
           | inl live ↦ kept.live r.domain r.by.target r.there live

@@ -8,7 +8,7 @@ use Rattle.dmatypes.specs.Page.{page_of}
 use Rattle.dmatypes.specs.World.{World, empty}
 use Rattle.dmatypes.specs.Step.{next}
 use Rattle.dmatypes.specs.History.{after, after_from, IsLegal}
-use Rattle.laws.specs.Events.{Drops, Gives, IsAttached, Occurs, TakesAway, reaching}
+use Rattle.laws.specs.Events.{Drops, Gives, IsAttached, Occurs, EndsPage, reaching}
 use Rattle.laws.proofs.lists.Courses.{lasts_occurs, occurs_as}
 use Rattle.laws.proofs.reach.Reached.{IsReached, gives, reached_after}
 use Rattle.laws.proofs.worlds.Attached.{attached_after}
@@ -23,7 +23,7 @@ given d address access host w device between r same kept =
     occurs_as (WasPut d (page_of address) r.by.target) (Gives d address access host) (gives d address access host r.domain r.by) between
     (elim r.by.held [
       | inl live ↦
-          lasts_occurs (WasPut d (page_of address) r.by.target) (TakesAway d (page_of address)) between
+          lasts_occurs (WasPut d (page_of address) r.by.target) (EndsPage d (page_of address)) between
           (kept.live r.domain r.by.target there live)
       | inr retired ↦
           lasts_occurs (WasPut d (page_of address) r.by.target) (Drops d) between (kept.retired r.domain r.by.target there retired)

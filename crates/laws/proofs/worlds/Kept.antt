@@ -19,7 +19,7 @@ use Rattle.dmatypes.specs.Step.{IsStep, next}
 use Rattle.dmatypes.specs.History.{event}
 use Rattle.dmatypes.proofs.lists.Filtered.{in_filter}
 use Rattle.dmatypes.proofs.numbers.Ranges.{within_is, within_not, within_or_not}
-use Rattle.laws.specs.Events.{Drops, Lasts, MapsAll, MapsTo, TakesAway, Unmaps}
+use Rattle.laws.specs.Events.{Drops, Lasts, MapsAll, MapsTo, EndsPage, Unmaps}
 use Rattle.laws.proofs.lists.Courses.{lasts_less, lasts_now, lasts_still}
 use Rattle.laws.proofs.lists.Kinds.{Kind, kind}
 use Rattle.laws.proofs.lists.Options.{either_of, in_either}
@@ -31,21 +31,21 @@ abbrev pub WasPut : ℕ → ℕ → Target → Event → Type 0
 WasPut d p t e = MapsTo d p t.frame t.rights e
 
 pub record IsExplained (d p : ℕ) (es : List Event) (o : Option Domain) : Type 0 where
-  pub live : (v : Domain) (t : Target) → o ≡ Some v → v.live p ≡ Some t → Lasts (WasPut d p t) (TakesAway d p) es
+  pub live : (v : Domain) (t : Target) → o ≡ Some v → v.live p ≡ Some t → Lasts (WasPut d p t) (EndsPage d p) es
   pub retired : (v : Domain) (t : Target) → o ≡ Some v → IsRetired v p t → Lasts (WasPut d p t) (Drops d) es
 
 -- ---- which events take a page away
 
-takes_named : (d p : ℕ) (e : Event) → TakesAway d p e → named_by e ≡ Some d
+takes_named : (d p : ℕ) (e : Event) → EndsPage d p e → named_by e ≡ Some d
 takes_named d p e (inl unmaps) = ap named_by unmaps.3
 takes_named d p e (inr drops) = ap named_by drops
 
-takes_kind : (d p : ℕ) (e : Event) → TakesAway d p e → (kind e ≡ Kind.unmaps) ⊎ (kind e ≡ Kind.drops)
+takes_kind : (d p : ℕ) (e : Event) → EndsPage d p e → (kind e ≡ Kind.unmaps) ⊎ (kind e ≡ Kind.drops)
 takes_kind d p e (inl unmaps) = inl (ap kind unmaps.3)
 takes_kind d p e (inr drops) = inr (ap kind drops)
 
 -- an event of another kind doesn't
-not_taken : (d p : ℕ) (e : Event) (n : Kind) → kind e ≡ n → (n ≡ Kind.unmaps → ⊥) → (n ≡ Kind.drops → ⊥) → TakesAway d p e → ⊥
+not_taken : (d p : ℕ) (e : Event) (n : Kind) → kind e ≡ n → (n ≡ Kind.unmaps → ⊥) → (n ≡ Kind.drops → ⊥) → EndsPage d p e → ⊥
 not_taken d p e n is unmap drop takes =
     elim (takes_kind d p e takes) [ inl at ↦ unmap (sym is ∙ at) | inr at ↦ drop (sym is ∙ at) ]
 
@@ -54,7 +54,7 @@ pub maps_kind : (d : ℕ) (ss : List Segment) (rights address : ℕ) (e : Event)
 maps_kind d ss rights address e (inl one) = inl (ap kind one.4)
 maps_kind d ss rights address e (inr list) = inr (ap kind list.3)
 
-not_taken_by_map : (d p : ℕ) (e : Event) (ss : List Segment) (rights address : ℕ) → MapsAll d ss rights address e → TakesAway d p e → ⊥
+not_taken_by_map : (d p : ℕ) (e : Event) (ss : List Segment) (rights address : ℕ) → MapsAll d ss rights address e → EndsPage d p e → ⊥
 not_taken_by_map d p e ss rights address of = elim (maps_kind d ss rights address e of) [
   | inl at ↦ not_taken d p e Kind.maps at (λ x. cc) (λ x. cc)
   | inr at ↦ not_taken d p e Kind.maps_list at (λ x. cc) (λ x. cc)
@@ -64,13 +64,13 @@ not_taken_by_map d p e ss rights address of = elim (maps_kind d ss rights addres
 
 -- a domain that has no page live and none in a record that it hadn't before, at an event that doesn't take the page away
 kept_less : (d p : ℕ) (es : List Event) (e : Event) (o : Option Domain) (v : Domain) (new : Option Domain) (u : Domain)
-    → IsExplained d p es o → o ≡ Some v → new ≡ Some u → (TakesAway d p e → ⊥)
+    → IsExplained d p es o → o ≡ Some v → new ≡ Some u → (EndsPage d p e → ⊥)
     → ((t : Target) → u.live p ≡ Some t → v.live p ≡ Some t) → ((t : Target) → IsRetired u p t → IsRetired v p t)
     → IsExplained d p (es ++ e ∷ []) new
 kept_less d p es e o v new u old there is keeps lives retires = record {
   live = λ x t at live.
       let same : u ≡ x = same_Some u x (sym is ∙ at) in
-      lasts_still (WasPut d p t) (TakesAway d p) es e keeps
+      lasts_still (WasPut d p t) (EndsPage d p) es e keeps
       (old.live v t there (lives t (ap (λ (y : Domain). y.live p) same ∙ live)));
   retired = λ x t at retired.
       let same : u ≡ x = same_Some u x (sym is ∙ at) in
@@ -89,10 +89,10 @@ kept_mapped d p es e o v ss rights address old there of = record {
       elim (either_of (placed ss (page_of address) rights p) (v.live p) t (ap (λ (y : Domain). y.live p) same ∙ live)) [
         | inl now ↦
             let m = member_of ss (page_of address) rights p t now in
-            lasts_now (WasPut d p t) (TakesAway d p) es e
+            lasts_now (WasPut d p t) (EndsPage d p) es e
             (ss, address, m.number, subst (λ (r : ℕ). MapsAll d ss r address e) (sym m.right) of, m.is, m.has)
         | inr before ↦
-            lasts_still (WasPut d p t) (TakesAway d p) es e (not_taken_by_map d p e ss rights address of) (old.live v t there before.1)
+            lasts_still (WasPut d p t) (EndsPage d p) es e (not_taken_by_map d p e ss rights address of) (old.live v t there before.1)
       ];
   retired = λ x t at retired.
       let same : mapped ss (page_of address) rights v ≡ x = same_Some _ x at in
@@ -140,7 +140,7 @@ kept_unmapped d p es e o v mode range old there stays within = record {
       elim (within_or_not range p) [
         | inl here ↦ absurd (let both : None ≡ Some t = sym (without_here range v.live p here) ∙ left in cc)
         | inr past ↦
-            lasts_still (WasPut d p t) (TakesAway d p) es e (still past)
+            lasts_still (WasPut d p t) (EndsPage d p) es e (still past)
             (old.live v t there (sym (without_else range v.live p past) ∙ left))
       ];
   retired = λ x t at retired.
@@ -148,11 +148,11 @@ kept_unmapped d p es e o v mode range old there stays within = record {
       lasts_still (WasPut d p t) (Drops d) es e stays
       (elim (unmapped_retired mode range v p t (subst (λ (y : Domain). IsRetired y p t) (sym same) retired)) [
         | inl before ↦ old.retired v t there before
-        | inr live ↦ lasts_less (WasPut d p t) (TakesAway d p) (Drops d) (λ x drops. inr drops) es (old.live v t there live)
+        | inr live ↦ lasts_less (WasPut d p t) (EndsPage d p) (Drops d) (λ x drops. inr drops) es (old.live v t there live)
       ]);
 }
   where
-    still : ((p < range.first) ⊎ (range.first + range.pages ≤ p)) → TakesAway d p e → ⊥
+    still : ((p < range.first) ⊎ (range.first + range.pages ≤ p)) → EndsPage d p e → ⊥
     still past (inr drops) = stays drops
     still (inl below) (inl unmaps) = omega (arith, below, (within unmaps).0)
     still (inr behind) (inl unmaps) = omega (arith, behind, (within unmaps).1)
@@ -175,7 +175,7 @@ kept_turn : (w : World) (d p : ℕ) (es : List Event) (e : Event) (new : Option 
     → IsExplained d p (es ++ e ∷ []) new
 kept_turn w d p es e new old (Turn.stays same unnamed) = record {
   live = λ v t at live.
-      lasts_still (WasPut d p t) (TakesAway d p) es e (λ takes. unnamed (takes_named d p e takes)) (old.live v t (sym same ∙ at) live);
+      lasts_still (WasPut d p t) (EndsPage d p) es e (λ takes. unnamed (takes_named d p e takes)) (old.live v t (sym same ∙ at) live);
   retired = λ v t at retired.
       lasts_still (WasPut d p t) (Drops d) es e (λ drops. unnamed (ap named_by drops)) (old.retired v t (sym same ∙ at) retired);
 }

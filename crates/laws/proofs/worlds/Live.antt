@@ -14,7 +14,7 @@ use Rattle.dmatypes.specs.Conditions.{total_pages}
 use Rattle.dmatypes.specs.Step.{IsStep, next}
 use Rattle.dmatypes.specs.History.{after, after_from, IsLegal}
 use Rattle.dmatypes.proofs.numbers.Ranges.{within_is, within_not, within_or_not}
-use Rattle.laws.specs.Events.{Maps, Occurs, TakesAway}
+use Rattle.laws.specs.Events.{Maps, Occurs, EndsPage}
 use Rattle.laws.proofs.lists.Courses.{occurs_left, occurs_last}
 use Rattle.laws.proofs.worlds.Placed.{frame_below, placed_there}
 use Rattle.laws.proofs.worlds.Runs.{carried, legal_from, legal_front, legal_rest}
@@ -46,7 +46,7 @@ still_some None l x e = (x, e)
 still_some (Some y) l x e = (y, refl)
 
 live_turn : (w : World) (d p : ℕ) (e : Event) (new : Option Domain) → IsLiveIn (w.domains d) p → Turn w d e new
-    → TakesAway d p e ⊎ IsLiveIn new p
+    → EndsPage d p e ⊎ IsLiveIn new p
 live_turn w d p e new live (Turn.stays same unnamed) = inr (live.0, live.1, same ∙ live.2, live.3)
 live_turn w d p e new live (Turn.made mode width none is of) = absurd (let both : None ≡ Some live.0 = sym none ∙ live.2 in cc)
 live_turn w d p e new live (Turn.dropped none of) = inl (inr of)
@@ -73,14 +73,14 @@ live_turn w d p e new live (Turn.reaps v number there is of) =
     inr (reaped number v, live.1, is, ap (λ (u : Domain). u.live p) (same_Some v live.0 (sym there ∙ live.2)) ∙ live.3)
 
 abbrev IsLiveOrTaken : ℕ → ℕ → List Event → World → Type 0
-IsLiveOrTaken d p es w = Occurs (TakesAway d p) es ⊎ IsLiveIn (w.domains d) p
+IsLiveOrTaken d p es w = Occurs (EndsPage d p) es ⊎ IsLiveIn (w.domains d) p
 
 live_step : (d p : ℕ) (es : List Event) (w : World) (e : Event) → IsLiveOrTaken d p es w → IsStep w e.call e.reply
     → IsLiveOrTaken d p (es ++ e ∷ []) (next w e.call e.reply)
-live_step d p es w e (inl taken) step = inl (occurs_left (TakesAway d p) es (e ∷ []) taken)
+live_step d p es w e (inl taken) step = inl (occurs_left (EndsPage d p) es (e ∷ []) taken)
 live_step d p es w e (inr live) step =
     elim (live_turn w d p e ((next w e.call e.reply).domains d) live (turn w e.call e.reply d step)) [
-      | inl takes ↦ inl (occurs_last (TakesAway d p) es e takes)
+      | inl takes ↦ inl (occurs_last (EndsPage d p) es e takes)
       | inr still ↦ inr still
     ]
 
@@ -116,7 +116,7 @@ not_put_in_twice w e d p step m live =
     cc
 
 pub taken_between : (frames : ℕ) (before between rest : List Event) (one other : Event) (d p : ℕ)
-    → IsLegal frames ((before ++ one ∷ between) ++ other ∷ rest) → Maps d p one → Maps d p other → Occurs (TakesAway d p) between
+    → IsLegal frames ((before ++ one ∷ between) ++ other ∷ rest) → Maps d p one → Maps d p other → Occurs (EndsPage d p) between
 taken_between frames before between rest one other d p legal first second =
     let w = after frames before in
     let from_one = legal_from (empty frames) before one between (other ∷ rest) legal in

@@ -1,25 +1,25 @@
 -- Which rows are cleared at an event, as the bits of a number.
 use Rattle.std.proofs.Common.{◌≡◌, ◌*◌, ◌^◌, ◌%◌, ◌<◌, ◌↔◌, ℕ, inl, inr, refl, sym, ap, subst, ◌∙◌, arith, Bool, true, false, List, Option}
-use Rattle.std.proofs.Common.{None, Some, IsSomeAnd, slice_get, bit_or, w16}
+use Rattle.std.proofs.Common.{None, Some, IsSomeAnd, IsTrue, slice_get, bit_or, w16}
 use Rattle.std.specs.Int.{bit_at}
 use Rattle.std.proofs.lemmas.Nat.Bits.{bit_at_set_same, bit_at_set_other, bit_at-zero}
-use Rattle.std.specs.Prelude.{if◌then◌else◌}
 use Rattle.dmatypes.specs.declared.call.Call.{Call}
 use Rattle.dmatypes.specs.declared.call.Call.TheVariants as calls
 use Rattle.dmatypes.specs.declared.call.Mode.{Mode}
-use Rattle.dmatypes.specs.declared.call.Mode.TheVariants as modes
 use Rattle.dmatypes.specs.declared.reply.Reply.{Reply}
 use Rattle.dmatypes.specs.declared.reply.Reply.TheVariants.{Done, Flushed, Reaped, Unmapped}
-use Rattle.dmatypes.specs.Page.{Range, range_at}
 use Rattle.dmatypes.specs.Step.{next}
-use Rattle.dmatypes.specs.World.{World, change_of, flushed, is_full, unmapped_by}
+use Rattle.dmatypes.specs.World.{World}
 use Rattle.dmatypes.specs.World as world
-use Rattle.engine.specs.Domains.{Domain, domain_at}
-use Rattle.engine.specs.Hits.{mode_of}
-use Rattle.engine.specs.Quarantine.{MirrorsIfAny, Quarantine}
+use Rattle.engine.specs.declared.answer.Detail.{Detail}
+use Rattle.engine.specs.declared.answer.Detail.TheVariants as details
+use Rattle.engine.specs.declared.answer.Unmapped as answer
+use Rattle.engine.specs.Details.{mode_by, released_by}
+use Rattle.engine.specs.Hits.{IsDetailIn}
+use Rattle.engine.specs.Quarantine.{Quarantine}
 use Rattle.vtdbits.specs.Context.{attached}
 use Rattle.engine.specs.State.{State}
-use Rattle.dmatypes.proofs.histories.Maps.{put_same, same_or_not}
+use Rattle.dmatypes.proofs.histories.Maps.{same_or_not}
 use Rattle.ports.specs.Cleared.{IsCleared, TakesAway}
 
 -- the bits are those of the devices whose rows are cleared
@@ -97,67 +97,51 @@ reap_cleared w domain number _ other is = absurd is
 
 -- ---- at an unmap
 
-abbrev world_mode : Option world.Domain → Option Mode
-world_mode None = None
-world_mode (Some v) = Some v.mode
+takes_by : (o : Option world.Domain) (unmapped : answer.Unmapped) (n : ℕ) → n ≡ released_by unmapped
+    → IsSomeAnd o (λ v. v.mode ≡ mode_by unmapped)
+    → TakesAway (mode_by unmapped) (released_by unmapped) ↔ IsSomeAnd o (λ v. TakesAway v.mode n)
+takes_by None unmapped n count of_mode = absurd of_mode
+takes_by (Some v) unmapped n count of_mode =
+    subst (λ (mode : Mode). TakesAway (mode_by unmapped) (released_by unmapped) ↔ TakesAway mode n) (sym of_mode)
+    (subst (λ k. TakesAway (mode_by unmapped) (released_by unmapped) ↔ TakesAway (mode_by unmapped) k) (sym count) (λ is. is, λ is. is))
 
-mirrored_mode : (words : List ℕ) (h : Option Domain) (o : Option world.Domain) → MirrorsIfAny words h o → mode_of h ≡ world_mode o
-mirrored_mode words None None both = refl
-mirrored_mode words None (Some v) both = absurd both
-mirrored_mode words (Some h) None both = absurd both
-mirrored_mode words (Some h) (Some v) both = ap Some both.ids.mode
+-- what became of the pages says whether any were taken away
+takes_at : (w : World) (domain address pages n : ℕ) (detail : Detail)
+    → IsDetailIn w (calls.Unmap domain address pages) (Unmapped n) detail
+    → (unmapped : answer.Unmapped) × (detail ≡ details.Unmapped unmapped)
+    × (TakesAway (mode_by unmapped) (released_by unmapped) ↔ IsSomeAnd (w.domains domain) (λ v. TakesAway v.mode n))
+unfolding IsDetailIn
+takes_at w domain address pages n (details.Unmapped unmapped) is =
+    (unmapped, refl, takes_by (w.domains domain) unmapped n is.0 is.1)
+takes_at w domain address pages n details.Nothing is = absurd is
+takes_at w domain address pages n (details.Hit hit) is = absurd is
 
-room_mode : (full : Bool) (v : world.Domain) → (if full then flushed v else v).mode ≡ v.mode
-room_mode true v = refl
-room_mode false v = refl
+-- whether an unmap took pages away is told exactly
+abbrev pub TellsTaken : Detail → Bool → Type 0
+TellsTaken detail takes = (unmapped : answer.Unmapped) → detail ≡ details.Unmapped unmapped
+    → IsTrue takes ↔ TakesAway (mode_by unmapped) (released_by unmapped)
 
-unmapped_mode : (mode : Mode) (range : Range) (v : world.Domain) → (unmapped_by mode range v).mode ≡ v.mode
-unmapped_mode modes.Strict range v = refl
-unmapped_mode modes.Lazy range v = room_mode (is_full v) v
-
-changed_mode : (range : Range) (o : Option world.Domain) → world_mode (change_of (λ v. unmapped_by v.mode range v) o) ≡ world_mode o
-changed_mode range None = refl
-changed_mode range (Some v) = ap Some (unmapped_mode v.mode range v)
-
-takes_by_mode : (o : Option world.Domain) (n : ℕ) → IsSomeAnd (world_mode o) (λ mode. TakesAway mode n)
-    ↔ IsSomeAnd o (λ v. TakesAway v.mode n)
-takes_by_mode None n = (λ is. is, λ is. is)
-takes_by_mode (Some v) n = (λ is. is, λ is. is)
-
--- the mode that the state tells is the one of the world at the call
-mode_at : (m : State) (w : World) (domain address pages n : ℕ) → Quarantine m (next w (calls.Unmap domain address pages) (Unmapped n))
-    → mode_of (domain_at m.domains domain) ≡ world_mode (w.domains domain)
-unfolding next
-mode_at m w domain address pages n q =
-    let change = change_of (λ v. unmapped_by v.mode (range_at address pages) v) (w.domains domain) in
-    mirrored_mode m.pool.words (domain_at m.domains domain) _ (q.domains domain) ∙ ap world_mode (put_same domain change w.domains)
-    ∙ changed_mode (range_at address pages) (w.domains domain)
-
-takes_at : (m : State) (w : World) (domain address pages n : ℕ) → Quarantine m (next w (calls.Unmap domain address pages) (Unmapped n))
-    → IsSomeAnd (mode_of (domain_at m.domains domain)) (λ mode. TakesAway mode n) ↔ IsSomeAnd (w.domains domain) (λ v. TakesAway v.mode n)
-takes_at m w domain address pages n q =
-    subst (λ (o : Option Mode). IsSomeAnd o (λ mode. TakesAway mode n) ↔ IsSomeAnd (w.domains domain) (λ v. TakesAway v.mode n))
-    (sym (mode_at m w domain address pages n q)) (takes_by_mode (w.domains domain) n)
-
-pub told_unmap : (m : State) (w : World) (domain address pages n bits : ℕ)
+pub told_unmap : (m : State) (w : World) (domain address pages n bits : ℕ) (detail : Detail)
     → Quarantine m (next w (calls.Unmap domain address pages) (Unmapped n))
-    → IsSomeAnd (mode_of (domain_at m.domains domain)) (λ mode. TakesAway mode n)
+    → IsDetailIn w (calls.Unmap domain address pages) (Unmapped n) detail → TellsTaken detail true
     → ((v : ℕ) → v < 16 → (bit_at bits v ≡ 1) ↔ (attached (slice_get m.iommu.contexts v) ≡ Some domain))
     → TellCleared w (calls.Unmap domain address pages) (Unmapped n) bits
 unfolding IsCleared next
-told_unmap m w domain address pages n bits q takes is device low =
-    let same : w.devices device ≡ attached (slice_get m.iommu.contexts device) = q.contexts.devices device in (
-      λ one. (same ∙ (is device low).0 one, (takes_at m w domain address pages n q).0 takes),
+told_unmap m w domain address pages n bits detail q of_domain takes is device low =
+    let same : w.devices device ≡ attached (slice_get m.iommu.contexts device) = q.contexts.devices device in
+    let taken = takes_at w domain address pages n detail of_domain in (
+      λ one. (same ∙ (is device low).0 one, taken.2.0 ((takes taken.0 taken.1).0 refl)),
       λ there. (is device low).1 (sym same ∙ there.0),
     )
 
 -- an unmap that takes nothing away
-pub unmap_keeps : (m : State) (w : World) (domain address pages n : ℕ)
-    → Quarantine m (next w (calls.Unmap domain address pages) (Unmapped n))
-    → (IsSomeAnd (mode_of (domain_at m.domains domain)) (λ mode. TakesAway mode n) → ⊥)
+pub unmap_keeps : (w : World) (domain address pages n : ℕ) (detail : Detail)
+    → IsDetailIn w (calls.Unmap domain address pages) (Unmapped n) detail → TellsTaken detail false
     → (device : ℕ) → IsCleared w (calls.Unmap domain address pages) (Unmapped n) device → ⊥
 unfolding IsCleared
-unmap_keeps m w domain address pages n q keeps device is = keeps ((takes_at m w domain address pages n q).1 is.1)
+unmap_keeps w domain address pages n detail of_domain takes device is =
+    let taken = takes_at w domain address pages n detail of_domain in
+    let both : false ≡ true = (takes taken.0 taken.1).1 (taken.2.1 is.1) in cc
 
 pub unmap_cleared : (w : World) (domain address pages : ℕ) (reply : Reply) (other : ℕ)
     → IsCleared w (calls.Unmap domain address pages) reply other → (n : ℕ) × (reply ≡ Unmapped n)

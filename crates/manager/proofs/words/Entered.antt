@@ -11,7 +11,8 @@ use Rattle.dmatypes.specs.History.{IsLegal, IsLegalFrom, after, after_from}
 use Rattle.dmatypes.specs.Step.{IsStep, next}
 use Rattle.dmatypes.specs.World.{World, empty}
 use Rattle.dmatypes.proofs.histories.Entered.{after_from-push}
-use Rattle.engine.specs.Hits.{IsHitIn}
+use Rattle.engine.specs.declared.answer.Detail.{Detail}
+use Rattle.engine.specs.Hits.{IsHitIn, IsDetailIn}
 use Rattle.engine.specs.Quarantine.{Quarantine}
 use Rattle.engine.specs.State.{State}
 use Rattle.dmatypes.proofs.histories.Maps.{same_or_not}
@@ -112,10 +113,12 @@ hit_after frames history e hit is =
 module _ (s : State) (frames : ℕ) (history : List Event) (e : Event) (bits : ℕ) (last last' : List ℕ)
     (legal : IsLegal frames (history ++ e ∷ []))
     (lawful : AreLawful (IsLawfulAfter frames) history last) (state : Quarantine s (after frames (history ++ e ∷ [])))
-    (tells : (w : World) → Quarantine s (next w e.call e.reply) → TellRows last w e.call e.reply bits)
+    (detail : Detail) (of_domain : IsDetailIn (after frames history) e.call e.reply detail)
+    (tells : (w : World) → Quarantine s (next w e.call e.reply) → IsDetailIn w e.call e.reply detail
+    → TellRows last w e.call e.reply bits)
     (emptied : AreEmptied bits last last') where
   tells_here : TellRows last (after frames history) e.call e.reply bits
-  tells_here = tells (after frames history) (subst (Quarantine s) (after_from-push (empty frames) history e) state)
+  tells_here = tells (after frames history) (subst (Quarantine s) (after_from-push (empty frames) history e) state) of_domain
 
   pub words_lawful : AreLawful (IsLawfulAfter frames) (history ++ e ∷ []) last'
   words_lawful = lawful_cleared frames history e bits last last' legal lawful tells_here emptied

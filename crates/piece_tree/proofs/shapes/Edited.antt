@@ -11,7 +11,7 @@ use Rattle.piece_tree.specs.Graft.{Makes}
 use Rattle.piece_tree.specs.Pieces.{IsPiece}
 use Rattle.piece_tree.specs.Tree.{Shape, Fork, items, height_of, uses, top_of, joint}
 use Rattle.piece_tree.specs.Tree.{Stands, IsWhole, free_pages}
-use Rattle.piece_tree.specs.Way.{Above, plug, uses_above, AreSteps, CanLift, CanMend, Mends, Becomes, IsHeld}
+use Rattle.piece_tree.specs.Way.{Above, plug, uses_above, AreSteps, CanLift, CanMend, Mends, WholeBecomes, IsHeld}
 use Rattle.piece_tree.proofs.shapes.Apart.{IsApart, apart-same, apart-still, used-there}
 use Rattle.piece_tree.proofs.shapes.Forks.{one-same, differs, same_stands}
 use Rattle.piece_tree.proofs.shapes.Mended.{plug_stands, plug-high, plug-uses, same_above, steps_few}
@@ -36,7 +36,7 @@ module _ (old mid : Slab Node) (root : Top) (way : List Step) (depth : ℕ) (pat
   edit-once k = omega (arith, w.once k, plug-uses path was k)
 
   pub edit-done : (now : Slab Node) (result : Top) → ((k : ℕ) → uses_above path k + uses new k ≤ 1)
-      → Mends (get mid) (get now) result path was new → now.capacity ≡ old.capacity → Becomes old now result path (items new)
+      → Mends (get mid) (get now) result path was new → now.capacity ≡ old.capacity → WholeBecomes old now result path (items new)
   edit-done now result once m c = record {
     shape = m.shape;
     here = m.here;
@@ -100,7 +100,7 @@ module _ (nodes : Slab Node) (root : Top) (way : List Step) (held : Held) (path 
         }
 
     pub renew-done : (end : Slab Node) (result : Top) → Mends (get mid) (get end) result path was new → end.capacity ≡ nodes.capacity
-        → (b : Becomes nodes end result path (items l ++ q ∷ items r)) × (b.shape ≡ plug path new)
+        → (b : WholeBecomes nodes end result path (items l ++ q ∷ items r)) × (b.shape ≡ plug path new)
     unfolding edit-done
     renew-done end result m c = (
       edit-done nodes mid root way held.depth path was new (top_of new) h.whole h.steps end result renew-once m c,
@@ -126,7 +126,7 @@ module _ {nodes : Slab Node} {root : Top} {way : List Step} {held : Held} {path 
         m.tree.stands (apart-still m beside).once (low_tree (get mid) m.shape m.tree.stands m.tree.few)
 
     pub laid-done : (now : Slab Node) (result : Top) → Mends (get mid) (get now) result path here m.shape
-        → now.capacity ≡ mid.capacity → Becomes nodes now result path pieces
-    laid-done now result w c = subst (λ ps. Becomes nodes now result path ps) m.all
+        → now.capacity ≡ mid.capacity → WholeBecomes nodes now result path pieces
+    laid-done now result w c = subst (λ ps. WholeBecomes nodes now result path ps) m.all
         (edit-done nodes mid root way held.depth path here m.shape top h.whole h.steps now result (apart-still m beside).once w
         (c ∙ m.capacity))

@@ -13,7 +13,7 @@ use Rattle.piece_tree.specs.Laid.{IsRow, rest_above, with_row}
 use Rattle.piece_tree.specs.Pieces.{AreSorted, HasAny, piece_at}
 use Rattle.piece_tree.specs.Stretches.{Covers}
 use Rattle.piece_tree.specs.Tree.{Shape, Fork, items, IsWhole, KeepsCount, pieces_of}
-use Rattle.piece_tree.specs.Way.{among, front, back, plug, AreSteps, Becomes, IsHeld, Leads, Lies}
+use Rattle.piece_tree.specs.Way.{among, front, back, plug, AreSteps, WholeBecomes, IsHeld, Leads, Lies}
 use Rattle.piece_tree.proofs.shapes.Covered.{above-none, below-none, row-at, row-within, with_row-sorted}
 use Rattle.piece_tree.proofs.shapes.Led.{Roots, lies-at}
 use Rattle.piece_tree.proofs.shapes.Mended.{plug-items, plug-uses, plug_stands}
@@ -132,7 +132,7 @@ module _ (first : ℕ) (row : List Piece) (last : ℕ) {nodes : Slab Node} {root
       in-order : AreSorted 0 (with_row first row last (items t))
       in-order = with_row-sorted 0 first last row (items t) w.sorted (omega arith) fine narrow
 
-      module _ {new : Slab Node} {result : Top} (m : Becomes nodes new result q.path (with_row first row last (items sub)))
+      module _ {new : Slab Node} {result : Top} (m : WholeBecomes nodes new result q.path (with_row first row last (items sub)))
           (len : slab_len new + length (items sub) ≡ slab_len nodes + length (with_row first row last (items sub))) where
         count : slab_len new ≡ length (with_row first row last (items t))
         count = omega (
@@ -156,7 +156,8 @@ module _ (first : ℕ) (row : List Piece) (last : ℕ) {nodes : Slab Node} {root
 
       -- it has all the pages of the highest one
       module _ (starts : n.piece.first ≡ first) (ends : n.piece.last ≡ last) {new : Slab Node} {result : Top}
-          (m : Becomes nodes new result q.path (items x.l ++ (row ++ items x.r))) (c : KeepsCount nodes new) (one : length row ≡ 1) where
+          (m : WholeBecomes nodes new result q.path (items x.l ++ (row ++ items x.r))) (c : KeepsCount nodes new)
+          (one : length row ≡ 1) where
         same : with_row first row last (items sub) ≡ items x.l ++ (row ++ items x.r)
         same =
             let order = sorted_there q.path (items sub) 0 sub-sorted in

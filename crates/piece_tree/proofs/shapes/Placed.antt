@@ -11,7 +11,7 @@ use Rattle.piece_tree.specs.declared.piece.TheConstants.{MOST_PIECES}
 use Rattle.piece_tree.specs.declared.node.Node.{Node}
 use Rattle.piece_tree.specs.Pieces.{AreSorted, Holds, piece_at}
 use Rattle.piece_tree.specs.Tree.{Shape, Fork, items, IsWhole, pieces_of}
-use Rattle.piece_tree.specs.Way.{Above, plug, among, front, back, Lies, Becomes}
+use Rattle.piece_tree.specs.Way.{Above, plug, among, front, back, Lies, WholeBecomes}
 use Rattle.piece_tree.proofs.shapes.Led.{Roots, lies-at}
 use Rattle.piece_tree.proofs.shapes.Beside.{none_empty}
 use Rattle.piece_tree.proofs.shapes.Mended.{plug-items}
@@ -25,7 +25,7 @@ parts path xs p ys = plug-parts path (xs ++ p ∷ ys) ∙ simp append_assoc
 -- ---- the whole then
 
 module _ (old new : Slab Node) (root result : Top) (t : Shape) (w : IsWhole old root t) (path : Above) (ps all : List Piece)
-    (b : Becomes old new result path ps) (e : among path ps ≡ all) (s : AreSorted 0 all) (len : slab_len new ≡ length all)
+    (b : WholeBecomes old new result path ps) (e : among path ps ≡ all) (s : AreSorted 0 all) (len : slab_len new ≡ length all)
     (few : length all ≤ MOST_PIECES) where
   pub whole-all : items b.shape ≡ all
   whole-all = b.all ∙ e

@@ -106,7 +106,7 @@ fn are_set_up(events: &[Event], devices: u64) -> bool {
         })
 }
 
-// A driver maps its frame in its domain at each odd call, and unmaps that page at the even one behind.
+// A driver maps its frame in its domain at each odd call, and unmaps that page at the even one after it.
 fn are_driven(events: &[Event], driver: u64, calls: u64) -> bool {
     let domain = 1 + driver % 2;
     let map = Call::Map {

@@ -81,7 +81,7 @@ fn calls_by_turns(rt: HostRuntime) -> Result<(), Fail> {
     called_by_turns::<Brand, _>(&rt, rt.alloc(), seed, plan)
 }
 
-// A call is made between its two calls of the gate, and not under the lock before them: so all workers come to the gate at once,
+// A call is made between its two calls of the gate, and not under the lock before them. So all workers come to the gate at once,
 // and the history has their calls in the order of the rounds.
 fn called_by_turns<B: Owner + Send + Sync, R: Threads + Wait + Abort + Sync>(
     rt: &R,

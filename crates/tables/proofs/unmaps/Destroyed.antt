@@ -76,15 +76,15 @@ uses_level pool level l t f up =
     (λ i lt. sym (used_child pool l t f i))))
 
 -- the first entries are cleared and their tables free, and the others are as they were
-pub record IsReleasing (old cur : Pool) (level t i : ℕ) : Type 0 where
+pub record IsTakingDown (old cur : Pool) (level t i : ℕ) : Type 0 where
   pub free : (f : ℕ) → occurs f cur.free ≡ occurs f old.free + sum_below (used_at old level t f) i
   pub cleared : (k : ℕ) → k < i → word cur.words t k ≡ 0
   pub others : (f k : ℕ) → k < TABLE_ENTRIES → f ≢ t → sum_below (used_at old level t f) i ≡ 0 → word cur.words f k ≡ word old.words f k
   pub row : (k : ℕ) → k < TABLE_ENTRIES → i ≤ k → word cur.words t k ≡ word old.words t k
   pub frames : cur.frames ≡ old.frames
 
-pub releasing_start : (pool : Pool) (level t : ℕ) → IsReleasing pool pool level t 0
-releasing_start pool level t = record {
+pub taking_down_start : (pool : Pool) (level t : ℕ) → IsTakingDown pool pool level t 0
+taking_down_start pool level t = record {
   free = λ f. omega (arith, sum_below-zero (used_at pool level t f));
   cleared = λ k lt. absurd (omega (arith, lt));
   others = λ f k k_in ne none. refl;
@@ -101,19 +101,20 @@ part_of pool level l t f i up lt =
     omega (arith, uses_level pool level l t f up, sum_below-suc (used_at pool level t f) i)
 
 -- the root is not among the frames given back before
-pub root_left : (old cur : Pool) (level l t i : ℕ) → level ≡ suc l → i ≤ SPAN_PAGES → IsTree old level t → IsReleasing old cur level t i
+pub root_left : (old cur : Pool) (level l t i : ℕ) → level ≡ suc l → i ≤ SPAN_PAGES → IsTree old level t → IsTakingDown old cur level t i
     → occurs t cur.free ≡ 0
 root_left old cur level l t i up le tree r =
     let most : sum_below (used_at old level t t) i ≤ sum_below (used_at old level t t) TABLE_ENTRIES =
     sum_below_le_more (used_at old level t t) i SPAN_PAGES le in
     omega (arith, r.free t, tree.once t, uses_level old level l t t up, one_if_same-self t)
 
-entry_left : (old cur : Pool) (level t i : ℕ) → i < TABLE_ENTRIES → IsReleasing old cur level t i
+entry_left : (old cur : Pool) (level t i : ℕ) → i < TABLE_ENTRIES → IsTakingDown old cur level t i
     → memory cur.words level t i ≡ memory old.words level t i
 entry_left old cur level t i lt r = same_entry old.words cur.words level t i (r.row i lt (omega arith))
 
 -- what lies under the next entry is as it was
-same_below : (old cur : Pool) (level l t i c f : ℕ) → level ≡ suc l → i < TABLE_ENTRIES → IsTree old level t → IsReleasing old cur level t i
+same_below : (old cur : Pool) (level l t i c f : ℕ) → level ≡ suc l → i < TABLE_ENTRIES → IsTree old level t
+    → IsTakingDown old cur level t i
     → memory old.words level t i ≡ Table c → uses (memory cur.words) (level - 1) c f ≡ uses (memory old.words) (level - 1) c f
 same_below old cur level l t i c f up lt tree r is =
     uses_agree (memory old.words) (memory cur.words) (level - 1) c f
@@ -126,7 +127,7 @@ same_below old cur level l t i c f up lt tree r is =
     (omega (arith, part, used, tree.once g)))))
 
 pub used_left : (old cur : Pool) (level l t i f : ℕ) → level ≡ suc l → i < TABLE_ENTRIES → IsTree old level t
-    → IsReleasing old cur level t i → used_at cur level t f i ≡ used_at old level t f i
+    → IsTakingDown old cur level t i → used_at cur level t f i ≡ used_at old level t f i
 used_left old cur level l t i f up lt tree r = by_entry (memory old.words level t i) refl
   where
     by_entry : (e : SsEntry) → memory old.words level t i ≡ e → used_at cur level t f i ≡ used_at old level t f i
@@ -143,13 +144,14 @@ used_left old cur level l t i f up lt tree r = by_entry (memory old.words level 
         used_none cur level t f i (LargeLeaf x) (entry_left old cur level t i lt r ∙ is) (λ below. refl)
         ∙ sym (used_none old level t f i (LargeLeaf x) is (λ below. refl))
 
-pub taken_left : (old cur : Pool) (level l t i : ℕ) → level ≡ suc l → i < TABLE_ENTRIES → IsTree old level t → IsReleasing old cur level t i
+pub taken_left : (old cur : Pool) (level l t i : ℕ) → level ≡ suc l → i < TABLE_ENTRIES → IsTree old level t
+    → IsTakingDown old cur level t i
     → occurs t cur.free + used_at cur level t t i ≡ 0
 taken_left old cur level l t i up lt tree r =
     omega (arith, used_left old cur level l t i t up lt tree r, part_of old level l t t i up lt, tree.once t, one_if_same-self t, r.free t)
 
 pub below_left : (old cur : Pool) (level l t i c : ℕ) → level ≡ suc l → i < TABLE_ENTRIES → IsTree old level t
-    → IsReleasing old cur level t i → memory cur.words level t i ≡ Table c → IsTree cur (level - 1) c
+    → IsTakingDown old cur level t i → memory cur.words level t i ≡ Table c → IsTree cur (level - 1) c
 below_left old cur level l t i c up lt tree r is =
     let was : memory old.words level t i ≡ Table c = sym (entry_left old cur level t i lt r) ∙ is in
     record {
@@ -176,12 +178,12 @@ below_left old cur level l t i c up lt tree r is =
     }
 
 -- one more entry
-pub releasing_more : (old cur new : Pool) (level l t i : ℕ) → level ≡ suc l → i < TABLE_ENTRIES → IsTree old level t
-    → IsReleasing old cur level t i → ((f : ℕ) → occurs f new.free ≡ occurs f cur.free + used_at cur level t f i) → word new.words t i ≡ 0
+pub taking_down_more : (old cur new : Pool) (level l t i : ℕ) → level ≡ suc l → i < TABLE_ENTRIES → IsTree old level t
+    → IsTakingDown old cur level t i → ((f : ℕ) → occurs f new.free ≡ occurs f cur.free + used_at cur level t f i) → word new.words t i ≡ 0
     → ((k : ℕ) → k < TABLE_ENTRIES → k ≢ i → word new.words t k ≡ word cur.words t k)
     → ((f k : ℕ) → k < TABLE_ENTRIES → f ≢ t → used_at cur level t f i ≡ 0 → word new.words f k ≡ word cur.words f k)
-    → new.frames ≡ cur.frames → IsReleasing old new level t (i + 1)
-releasing_more old cur new level l t i up lt tree r free cleared row others frames = record {
+    → new.frames ≡ cur.frames → IsTakingDown old new level t (i + 1)
+taking_down_more old cur new level l t i up lt tree r free cleared row others frames = record {
   free = λ f. omega (arith, free f, r.free f, used_left old cur level l t i f up lt tree r, next f);
   cleared = λ k k_in. ⊎_elim
       (λ (e : k ≡ i). subst (λ j. word new.words t j ≡ 0) (sym e) cleared)

@@ -37,8 +37,8 @@ const BOTH: Whim = Whim {
     fill: true,
 };
 
-// A tree of a 39-bit domain in which, to be read alone, pages 0x200 to 0x3ff are one large leaf from frame 0x400 on, and
-// pages 0x400 and 0x401 small ones of frames 0x600 and 0x601.
+// A tree of a 39-bit domain, to be read alone. Pages 0x200 to 0x3ff are one large leaf from frame 0x400 on, and pages 0x400 and
+// 0x401 small ones of frames 0x600 and 0x601.
 fn mapped_tree(rt: &impl Abort, alloc: Global) -> Result<(Pool, Tree), AllocError>
     ensures { IfOk result (λ made. IsTree made.0 (levels made.1.width) made.1.root) }
 {

@@ -102,10 +102,10 @@ pub(super) fn unit_of(
     }
 }
 
-// A unit that remembers, of domain 1: pages 0x200, 0x3ff and 0x400 by small leaves, pages 0x600 to 0x7ff by a
-// large one, tables of level 1 and 2 over page 0x200, one of level 1 from page 0x400 on and one of level 3 from page 2^27
-// on, and pages 0x300, 0x400 and 2^27 as absent; of domain 2: page 0x200 and a table over it, and page 0x300 as absent; and
-// the contexts of device 3 in domain 1 and of devices 4 and 5 in domain 2.
+// A unit that remembers entries of two domains. Of domain 1 it has pages 0x200, 0x3ff and 0x400 by small leaves, and pages 0x600 to
+// 0x7ff by a large one. It has tables of level 1 and 2 over page 0x200, one of level 1 from page 0x400 on and one of level 3 from
+// page 2^27 on. Pages 0x300, 0x400 and 2^27 are absent. Of domain 2 it has page 0x200 and a table over it, and page 0x300 as
+// absent. It has the contexts of device 3 in domain 1 and of devices 4 and 5 in domain 2.
 fn filled_unit(rt: &impl Abort) -> Unit {
     let mut leaves = ArrayVec::new();
     for leaf in [

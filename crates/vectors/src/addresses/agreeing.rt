@@ -168,7 +168,7 @@ impl Pair {
     /// Releases at once the retired pieces that lie side by side from a page on, if one begins there.
     fn release_run(&mut self, alloc: Global, first: u64, enough: u64) -> Result<(), Fail> {
         if let Some(range) = retired_run(&self.space, first, enough) {
-            self.space.release_run(range);
+            self.space.release(range);
             self.list
                 .free(alloc, range.first(), range.first() + (range.pages() - 1))?;
         }

@@ -1,7 +1,7 @@
 use Rattle.std.proofs.Common.{◌≡◌, ℕ, ◌<◌, List, [], ◌∷◌, ◌++◌, get_or, length, arith, length-append, refl, ap, subst, ◌∙◌, inl, inr}
 use Rattle.std.proofs.Math.Seq.{get_or-append_seam}
 use Rattle.manager.specs.Kept.{Share, new_share}
-use Rattle.script.proofs.Concluding.{answers_known, map_known, nothing_written, report_known, trace_known}
+use Rattle.script.proofs.Concluding.{answers_known, drawing_known, nothing_written, report_known, trace_known}
 use Rattle.script.proofs.running.work_on.Goals as goal
 
 -- what all have, the last one has
@@ -36,11 +36,11 @@ returns-in-Answers-clause-written g c =
 
 pub returns-clause-written : goal.returns-clause-written
 returns-clause-written g c =
-    map_known _ c.args.output c.replies_for.result _ _ _ _ _ _ _ _ _ c.answer_lines-end.new.writer.block
+    drawing_known _ c.args.output c.replies_for.result _ _ _ _ _ _ _ _ _ c.answer_lines-end.new.writer.block
     c.send_report-end.new.writer.block c.send_drawing.new.writer.block c.answer_lines-end.new.book c.answer_lines-end.result
-    c.send_report-end.result c.send_drawing.result c.in-Map.is c.replies_for.ensures c.answer_lines-end.ensures.written
+    c.send_report-end.result c.send_drawing.result c.in-Drawing.is c.replies_for.ensures c.answer_lines-end.ensures.written
     c.answer_lines-end.ensures.all_sent (λ e. c.answer_lines-end.ensures.memory (rw e refl))
-    (rw c.write_report-in-Map.ensures at c.send_report-end.ensures.sent) c.send_drawing.ensures.sent
+    (rw c.write_report-in-Drawing.ensures at c.send_report-end.ensures.sent) c.send_drawing.ensures.sent
 
 pub returns-in-Report-clause-written : goal.returns-in-Report-clause-written
 returns-in-Report-clause-written g c =

@@ -4,7 +4,7 @@ use Rattle.std.specs.BTreeMap as tree
 use Rattle.std.specs.BTreeMap.{BTreeMap, Updates}
 use Rattle.std.specs.Ordering.{nat_cmp}
 use Rattle.checker.specs.declared.run.Run.{Run}
-use Rattle.checker.proofs.worlds.Cuts.{AreCut, cut_apart, cut_same, front_of, pieces_cut, rest_of}
+use Rattle.checker.proofs.worlds.Cuts.{AreCut, cut_apart, cut_same, front_of, parts_cut, rest_of}
 use Rattle.checker.proofs.worlds.Entries.{always_put, other_run}
 use Rattle.checker.proofs.pages.Pages.cut_run.Goals as goal
 
@@ -57,6 +57,6 @@ returns-clause-others c = λ q.
     let old = c.args.self.now.runs in
     let mid = c.insert.new.self in
     let new = c.insert-2.new.self in
-    pieces_cut (tree.get nat_cmp old) (tree.get nat_cmp new) c.args.first c.args.page q c.args.run
+    parts_cut (tree.get nat_cmp old) (tree.get nat_cmp new) c.args.first c.args.page q c.args.run
     (cut_of old mid new c.args.first c.args.page c.args.run c.requires.there c.requires.less c.requires.below
     c.in_ok-insert.ensures.updates c.in_ok-insert-2.ensures.updates)

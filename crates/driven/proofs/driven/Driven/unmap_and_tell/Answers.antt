@@ -6,6 +6,7 @@ use Rattle.dmatypes.specs.Page.{IsPageRange, range_at}
 use Rattle.dmatypes.specs.declared.call.Call.TheVariants as calls
 use Rattle.dmatypes.specs.declared.page.TheConstants.{MOST_PAGES, PAGE_BYTES, SPAN_PAGES}
 use Rattle.dmatypes.specs.declared.reply.Reply.TheVariants as replies
+use Rattle.engine.specs.Details.{released_by}
 use Rattle.engine.specs.Domains.{domain_at}
 use Rattle.engine.specs.State.{State}
 use Rattle.engine.specs.Steps.{Does}
@@ -66,31 +67,34 @@ module _ (m t : State) (d address pages released : ℕ) (sound : IsSound m) (tic
         | inr some' ↦ flushed some' ∙ sym (flushed_first m t d address pages released sound does some' es more)
       ]) is refl sent tt
 
-pub returns-in_err-released-clause-effects : goal.returns-in_err-released-clause-effects
-returns-in_err-released-clause-effects c =
+pub returns-in_err-unmapped-clause-effects : goal.returns-in_err-unmapped-clause-effects
+returns-in_err-unmapped-clause-effects c =
     let p = err_from_is_err_and c.from_residual.result c.from_residual.ensures.1 in
     rw (p.1, p.2, ← c.self.view_is, ← c.deref_mut-state.ensures.value, c.note_unmap.ensures.none)
     (refused c.deref_mut-state.result.now c.unmap.new.self (calls.Unmap c.args.domain c.args.address c.args.pages)
-    c.in_err-released.field-0.0 c.in_err-released.ensures)
+    c.in_err-unmapped.field-0.0 c.in_err-unmapped.ensures.does)
 
 pub tell_unmap-requires-clause-pages : goal.tell_unmap-requires-clause-pages
 tell_unmap-requires-clause-pages c =
     let sound : IsSound c.deref_mut-state.result.now = record { of_world = c.keeps.ensures.of_world; places = c.keeps.ensures.places } in
-    stays c.deref_mut-state.result.now c.unmap.new.self c.args.domain c.args.address c.args.pages c.in_ok-released.released sound
-    c.keeps.ensures.tickets c.in_ok-released.ensures c.note_unmap.new.noted.tables.items c.note_unmap.new.noted.last
+    stays c.deref_mut-state.result.now c.unmap.new.self c.args.domain c.args.address c.args.pages
+    (released_by c.in_ok-unmapped.unmapped) sound c.keeps.ensures.tickets c.in_ok-unmapped.ensures.does
+    c.note_unmap.new.noted.tables.items c.note_unmap.new.noted.last
     c.note_unmap.ensures.some
 
 pub tell_unmap-requires-clause-sent : goal.tell_unmap-requires-clause-sent
 tell_unmap-requires-clause-sent c =
     rw c.note_unmap.ensures.waits
     (has_sent c.deref_mut-state.result.now c.unmap.new.self (calls.Unmap c.args.domain c.args.address c.args.pages) (replies.Unmapped
-    c.in_ok-released.released) c.keeps.ensures.tickets c.in_ok-released.ensures)
+    (released_by c.in_ok-unmapped.unmapped)) c.keeps.ensures.tickets c.in_ok-unmapped.ensures.does)
 
 pub returns-clause-effects : goal.returns-clause-effects
 returns-clause-effects c =
     let sound : IsSound c.deref_mut-state.result.now = record { of_world = c.keeps.ensures.of_world; places = c.keeps.ensures.places } in
     rw (← c.self.view_is, ← c.deref_mut-state.ensures.value)
-    (asked c.deref_mut-state.result.now c.unmap.new.self c.args.domain c.args.address c.args.pages c.in_ok-released.released sound
-    c.keeps.ensures.tickets c.in_ok-released.ensures c.note_unmap.new.noted.tables.items c.note_unmap.new.noted.waits
+    (asked c.deref_mut-state.result.now c.unmap.new.self c.args.domain c.args.address c.args.pages
+    (released_by c.in_ok-unmapped.unmapped) sound c.keeps.ensures.tickets c.in_ok-unmapped.ensures.does
+    c.note_unmap.new.noted.tables.items c.note_unmap.new.noted.waits
     c.note_unmap.ensures.waits
-    c.note_unmap.new.noted.last c.note_unmap.ensures.some c.note_unmap.ensures.no_pages c.tell_unmap.new.effects.items c.tell_unmap.ensures)
+    c.note_unmap.new.noted.last c.note_unmap.ensures.some c.note_unmap.ensures.no_pages c.tell_unmap.new.effects.items
+    (rw c.released.ensures at c.tell_unmap.ensures))

@@ -20,14 +20,14 @@ use Rattle.engine.proofs.states.Refused.{whole_quiet}
 use Rattle.engine.proofs.state.State.map_segments.Goals as goal
 use Rattle.engine.proofs.state.State.map_segments.Goals.{In_ok-first}
 
-pub returns-in_default : goal.returns-in_default
-returns-in_default c =
+pub returns-in_default-clause-does : goal.returns-in_default-clause-does
+returns-in_default-clause-does c =
     rw (← c.self.view_is) (map_no_domain _ _ c.args.domain c.args.order c.args.rights (record { items = c.args.segments.now }) refl
     (no_id_no_domain c.self.inside.domains.items c.args.domain c.self.invariant.0.places
     (λ id. let some = c.in_default.ensures.some.1 id in absurd cc)))
 
-pub returns-in_default-index_mut : goal.returns-in_default-index_mut
-returns-in_default-index_mut c =
+pub returns-in_default-index_mut-clause-does : goal.returns-in_default-index_mut-clause-does
+returns-in_default-index_mut-clause-does c =
     let found =
     finds c.self.invariant.0 c.in-Some.ensures.value c.place_of.ensures.place c.place_of.ensures.low c.index_mut.ensures.value
     c.in_default-index_mut.is in
@@ -44,8 +44,8 @@ invariant_of-self-in_default-index_mut c =
 
 -- ---- a map that is refused for what it asks
 
-pub returns-in_err-wanted : goal.returns-in_err-wanted
-returns-in_err-wanted c =
+pub returns-in_err-wanted-clause-does : goal.returns-in_err-wanted-clause-does
+returns-in_err-wanted-clause-does c =
     let found =
     finds c.self.invariant.0 c.in-Some.ensures.value c.place_of.ensures.place c.place_of.ensures.low c.index_mut.ensures.value
     c.in-Some-index_mut.is in
@@ -103,8 +103,8 @@ refuses c =
     (subst (λ n. AreOwned n c.args.segments.now → ⊥) c.frames.ensures c.in_ok-wanted.ensures.1) c.in_ok-wanted.ensures.2
     c.in_err-first.ensures.refused c.in_err-first.ensures.pool c.in_err-first.ensures.domain c.in_err-first.ensures.quiet refl
 
-pub returns-in_err-first : goal.returns-in_err-first
-returns-in_err-first c =
+pub returns-in_err-first-clause-does : goal.returns-in_err-first-clause-does
+returns-in_err-first-clause-does c =
     let p = err_from_is_err_and c.from_residual-in_err-first.result c.from_residual-in_err-first.ensures.1 in
     rw (p.1, p.2, ← c.self.view_is) (refuses c)
 
@@ -150,8 +150,8 @@ does c =
     (subst (λ n. AreOwned n c.args.segments.now → ⊥) c.frames.ensures c.in_ok-wanted.ensures.1) c.in_ok-wanted.ensures.2
     c.in_ok-first.ensures.placed (sends c) refl
 
-pub returns : goal.returns
-returns c = rw (← c.self.view_is) (does c)
+pub returns-clause-does : goal.returns-clause-does
+returns-clause-does c = rw (← c.self.view_is) (does c)
 
 pub invariant_of-self-2 : goal.invariant_of-self-2
 invariant_of-self-2 c = (

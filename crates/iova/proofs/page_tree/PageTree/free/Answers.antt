@@ -1,19 +1,50 @@
-use Rattle.std.proofs.Common.{◌∙◌, ap, subst, sym}
+use Rattle.std.proofs.Common.{◌≡◌, ◌∙◌, ap, subst, sym}
 use Rattle.piece_tree.specs.declared.piece.PageState.TheVariants.{Free}
 use Rattle.piece_tree.specs.Freed.{with_free}
-use Rattle.iova.specs.Pieces.{piece_of}
+use Rattle.iova.specs.Pieces.{pages_as}
 use Rattle.iova.specs.Space.{Space, IsSpace}
-use Rattle.iova.proofs.Freed.{frees, space_freed}
+use Rattle.iova.specs.Stored.{stored}
 use Rattle.iova.proofs.page_tree.PageTree.free.Goals as goal
 
-pub put_free-requires-clause-space : goal.put_free-requires-clause-space
-put_free-requires-clause-space c sp =
-    let was : Space = c.args.self.now in
-    subst (λ p. IsSpace (record was { pieces = with_free p was.pieces })) (sym (c.ends_of.ensures.piece Free))
-    (space_freed was (piece_of c.args.range c.requires.0) sp c.requires.1)
+pub set_free-self-inside-requires-clause-space : goal.set_free-self-inside-requires-clause-space
+set_free-self-inside-requires-clause-space c =
+    let a : Space = stored c.self.inside.last c.put_freed.new.tree in
+    let sp : IsSpace a = c.put_freed.ensures.space c.self.inside.last c.self.invariant.0 in
+    let view : a ≡ c.args.self.now = ap (λ ps. stored c.self.inside.last ps) c.put_freed.ensures.pieces ∙ c.self.view_is in (
+      c.self.inside.last,
+      sp,
+      subst (λ (v : Space). IsSpace v → IsSpace (record v { pieces = with_free (pages_as c.args.pages Free) v.pieces })) (sym view)
+          c.requires.space sp,
+    )
 
-pub returns-clause-freed : goal.returns-clause-freed
-returns-clause-freed c state among =
-    let was : Space = c.args.self.now in
-    frees was c.put_free.new.self c.args.range state c.put_free.ensures.space.0 c.ends_of.ensures.range.some among
-    (c.put_free.ensures.is ∙ ap (λ p. record was { pieces = with_free p was.pieces }) (c.ends_of.ensures.piece Free))
+pub invariant_of-self : goal.invariant_of-self
+invariant_of-self c =
+    let a : Space = stored c.self.inside.last c.put_freed.new.tree in
+    let sp : IsSpace a = c.put_freed.ensures.space c.self.inside.last c.self.invariant.0 in
+    let view : a ≡ c.args.self.now = ap (λ ps. stored c.self.inside.last ps) c.put_freed.ensures.pieces ∙ c.self.view_is in
+    let space =
+    subst (λ (v : Space). IsSpace v → IsSpace (record v { pieces = with_free (pages_as c.args.pages Free) v.pieces })) (sym view)
+    c.requires.space sp in (
+      subst (λ ps. IsSpace (stored c.self.inside.last ps)) (sym c.set_free-self-inside.ensures.tree) space,
+      c.set_free-self-inside.ensures.low,
+      tt,
+      tt,
+    )
+
+pub returns-clause-is : goal.returns-clause-is
+returns-clause-is c =
+    let a : Space = stored c.self.inside.last c.put_freed.new.tree in
+    let view : a ≡ c.args.self.now = ap (λ ps. stored c.self.inside.last ps) c.put_freed.ensures.pieces ∙ c.self.view_is in
+    ap (λ ps. stored c.self.inside.last ps) c.set_free-self-inside.ensures.tree
+    ∙ ap (λ (v : Space). record v { pieces = with_free (pages_as c.args.pages Free) v.pieces }) view
+
+pub returns-clause-space : goal.returns-clause-space
+returns-clause-space c =
+    let a : Space = stored c.self.inside.last c.put_freed.new.tree in
+    let sp : IsSpace a = c.put_freed.ensures.space c.self.inside.last c.self.invariant.0 in
+    let view : a ≡ c.args.self.now = ap (λ ps. stored c.self.inside.last ps) c.put_freed.ensures.pieces ∙ c.self.view_is in (
+      subst (λ v. IsSpace v) view sp,
+      subst (λ ps. IsSpace (stored c.self.inside.last ps)) (sym c.set_free-self-inside.ensures.tree)
+          (subst (λ (v : Space). IsSpace v → IsSpace (record v { pieces = with_free (pages_as c.args.pages Free) v.pieces })) (sym view)
+          c.requires.space sp),
+    )

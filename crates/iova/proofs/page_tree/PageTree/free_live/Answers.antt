@@ -88,8 +88,8 @@ invariant_of-self-else-seek_live c =
     (sym c.seek_live.ensures.unchanged)
     (c.put_freed.ensures.space c.self.inside.last c.self.invariant.0, c.put_freed.ensures.low, tt, tt)
 
-pub put_free-requires-clause-space : goal.put_free-requires-clause-space
-put_free-requires-clause-space c _ =
+pub free-requires-clause-space : goal.free-requires-clause-space
+free-requires-clause-space c _ =
     let last = c.self.inside.last in
     let a : Space = stored last c.put_freed.new.tree in
     let sp : IsSpace a = c.put_freed.ensures.space last c.self.invariant.0 in
@@ -107,5 +107,5 @@ returns-clause-freed c =
     let view : a ≡ c.args.self.now = ap (λ ps. stored last ps) c.put_freed.ensures.pieces ∙ c.self.view_is in
     let pages = c.ends_of-pages.result in
     let e = c.ends_of-pages.ensures in
-    comes_free a c.args.self.now c.args.range pages Free view sp e.range.some (e.piece Free) c.requires c.put_free.new.self
-    (c.put_free.ensures.is ∙ ap (λ l. stored last (with_free (pages_as pages Free) l)) c.seek_live.ensures.unchanged)
+    comes_free a c.args.self.now c.args.range pages Free view sp e.range.some (e.piece Free) c.requires c.free.new.self
+    (c.free.ensures.is ∙ ap (λ l. stored last (with_free (pages_as pages Free) l)) c.seek_live.ensures.unchanged)

@@ -8,7 +8,7 @@ use Rattle.tables.proofs.trees.Tree.destroy.Goals as goal
 pub returns-clause-others : goal.returns-clause-others
 returns-clause-others c level table tree apart =
     let m = memory c.args.pool.now.words in
-    given_stays c.args.pool.now c.release.new.pool (levels c.args.self.width) c.args.self.root level table c.requires
-    (λ f. c.release.ensures.free f ∙ ap (λ l. occurs f c.args.pool.now.free + uses m l c.args.self.root f) c.levels.ensures.exact)
-    (λ f k less none. c.release.ensures.others f k less (ap (λ l. uses m l c.args.self.root f) c.levels.ensures.exact ∙ none))
-    c.release.ensures.frames tree apart
+    given_stays c.args.pool.now c.take_down.new.pool (levels c.args.self.width) c.args.self.root level table c.requires
+    (λ f. c.take_down.ensures.free f ∙ ap (λ l. occurs f c.args.pool.now.free + uses m l c.args.self.root f) c.levels.ensures.exact)
+    (λ f k less none. c.take_down.ensures.others f k less (ap (λ l. uses m l c.args.self.root f) c.levels.ensures.exact ∙ none))
+    c.take_down.ensures.frames tree apart

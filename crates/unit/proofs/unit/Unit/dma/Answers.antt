@@ -2,7 +2,7 @@ use Rattle.std.proofs.Common.{inl, inr, ap, subst, refl, arith, List, Err}
 use Rattle.dmatypes.specs.Page.{IsBeyond, addresses_end}
 use Rattle.dmatypes.specs.declared.refusal.Fault.TheVariants as faults
 use Rattle.tables.specs.Pool.{memory}
-use Rattle.unit.specs.Answers.{Answers, IsContextOf, HasNoContext}
+use Rattle.unit.specs.Answers.{AnswersRequest, IsContextOf, HasNoContext}
 use Rattle.unit.specs.Caches.{CachedContext, UnitState, caches}
 use Rattle.dmatypes.specs.World.{IsIn}
 use Rattle.unit.proofs.caches.Remembered.{told_remembered}
@@ -13,8 +13,8 @@ returns-in_default-clause-answers c =
     let without : HasNoContext c.args.contexts.now c.self.inside.contexts.items c.args.whim.look c.args.device =
     c.in_default.ensures.none in
     subst (λ (u : UnitState).
-    Answers (memory c.args.pool.now.words) c.args.contexts.now c.args.whim.look c.args.whim.fill u.caching c.args.device c.args.address
-    c.args.access u.caches (caches c.self.inside.leaves c.self.inside.non_leaves.items c.context_of.new.cached.items
+    AnswersRequest (memory c.args.pool.now.words) c.args.contexts.now c.args.whim.look c.args.whim.fill u.caching c.args.device
+    c.args.address c.args.access u.caches (caches c.self.inside.leaves c.self.inside.non_leaves.items c.context_of.new.cached.items
     c.self.inside.faults.items) (Err faults.NotAttached))
     c.self.view_is
     (inl (
@@ -31,8 +31,8 @@ returns-then-address-end-clause-answers c =
     let wide = ap (λ (x : CachedContext). addresses_end x.width) c.context.view_is in
     let beyond : IsBeyond c.in-Some.context.width c.args.address = omega (arith, wide, c.addresses_end-end.ensures) in
     subst (λ (u : UnitState).
-    Answers (memory c.args.pool.now.words) c.args.contexts.now c.args.whim.look c.args.whim.fill u.caching c.args.device c.args.address
-    c.args.access u.caches (caches c.self.inside.leaves c.self.inside.non_leaves.items c.context_of.new.cached.items
+    AnswersRequest (memory c.args.pool.now.words) c.args.contexts.now c.args.whim.look c.args.whim.fill u.caching c.args.device
+    c.args.address c.args.access u.caches (caches c.self.inside.leaves c.self.inside.non_leaves.items c.context_of.new.cached.items
     c.self.inside.faults.items)
     (Err faults.BeyondWidth))
     c.self.view_is
@@ -45,8 +45,8 @@ returns-clause-answers c =
     let wide = ap (λ (x : CachedContext). addresses_end x.width) c.context.view_is in
     let within : IsBeyond c.in-Some.context.width c.args.address → ⊥ = λ b. absurd (omega (arith, b, wide, c.addresses_end-end.ensures)) in
     subst (λ (u : UnitState).
-    Answers (memory c.args.pool.now.words) c.args.contexts.now c.args.whim.look c.args.whim.fill u.caching c.args.device c.args.address
-    c.args.access u.caches
+    AnswersRequest (memory c.args.pool.now.words) c.args.contexts.now c.args.whim.look c.args.whim.fill u.caching c.args.device
+    c.args.address c.args.access u.caches
     (caches c.translation_of-to.new.leaves c.translation_of-to.new.tables.items c.context_of.new.cached.items
     c.translation_of-to.new.faults.items) c.tell.result)
     c.self.view_is

@@ -1,6 +1,6 @@
 use Rattle.std.proofs.Common.{◌≡◌, ◌+◌, [], All, vec_len}
 use Rattle.manager.specs.Kept.{new_share}
-use Rattle.manager.proofs.share.cut.Given as goal
+use Rattle.manager.proofs.share.shares_of.Given as goal
 
 abbrev pub invariant-loop-pass : goal.invariant-loop-pass
 invariant-loop-pass g l =

@@ -3,7 +3,7 @@ use Rattle.std.proofs.lemmas.List.{append_assoc, length-append}
 use Rattle.engine.specs.Domains.{domain_at}
 use Rattle.driven.proofs.Brought.{ways}
 use Rattle.driven.proofs.Levels.{nine_tables}
-use Rattle.driven.proofs.telling.bring_ways.Goals as goal
+use Rattle.driven.proofs.telling.bring_walks.Goals as goal
 
 pub bring_level-requires-clause-room : goal.bring_level-requires-clause-room
 bring_level-requires-clause-room c =

@@ -6,16 +6,16 @@ use Rattle.tables.specs.Pool.{memory, word, occurs}
 use Rattle.tables.specs.Under.{used_at}
 use Rattle.tables.proofs.sums.OneFrame.{one_if_same-self}
 use Rattle.tables.proofs.walks.Levels.{root_in_level}
-use Rattle.tables.proofs.unmaps.Destroyed.{releasing_start, releasing_more, root_left, taken_left}
+use Rattle.tables.proofs.unmaps.Destroyed.{taking_down_start, taking_down_more, root_left, taken_left}
 use Rattle.tables.proofs.unmaps.Destroyed.{IsFreed, below_left, nothing_freed, table_freed, uses_level}
-use Rattle.tables.proofs.unmapping.+releasing.Goals as goal
-use Rattle.tables.proofs.unmapping.+releasing.Goals.{release_entry-in-Table, release_entry-in_default}
+use Rattle.tables.proofs.unmapping.+taking_down.Goals as goal
+use Rattle.tables.proofs.unmapping.+taking_down.Goals.{take_down_entry-in-Table, take_down_entry-in_default}
 
-pub release-loop-index-init : goal.release-loop-index-init
-release-loop-index-init t c = releasing_start c.args.pool.now c.args.level c.args.table
+pub take_down-loop-index-init : goal.take_down-loop-index-init
+take_down-loop-index-init t c = taking_down_start c.args.pool.now c.args.level c.args.table
 
-pub release-release_entry-requires : goal.release-release_entry-requires
-release-release_entry-requires t c = (
+pub take_down-take_down_entry-requires : goal.take_down-take_down_entry-requires
+take_down-take_down_entry-requires t c = (
   omega arith,
   (
     c.requires.low,
@@ -42,27 +42,27 @@ release-release_entry-requires t c = (
   ),
 )
 
-pub release-loop-index-preserved : goal.release-loop-index-preserved
-release-loop-index-preserved t c =
-    releasing_more c.args.pool.now c.loop-index.pool c.release_entry.new.pool c.args.level (c.args.level - 1) c.args.table
-    c.loop-index.index (omega arith) c.loop-index-test.true c.requires.tree c.loop-index.invariant c.release_entry.ensures.free
-    c.release_entry.ensures.cleared c.release_entry.ensures.row c.release_entry.ensures.others c.release_entry.ensures.frames
+pub take_down-loop-index-preserved : goal.take_down-loop-index-preserved
+take_down-loop-index-preserved t c =
+    taking_down_more c.args.pool.now c.loop-index.pool c.take_down_entry.new.pool c.args.level (c.args.level - 1) c.args.table
+    c.loop-index.index (omega arith) c.loop-index-test.true c.requires.tree c.loop-index.invariant c.take_down_entry.ensures.free
+    c.take_down_entry.ensures.cleared c.take_down_entry.ensures.row c.take_down_entry.ensures.others c.take_down_entry.ensures.frames
 
-pub release-give-requires-clause-within : goal.release-give-requires-clause-within
-release-give-requires-clause-within t c =
+pub take_down-give-requires-clause-within : goal.take_down-give-requires-clause-within
+take_down-give-requires-clause-within t c =
     omega (
       arith,
       root_in_level c.args.pool.now (c.args.level - 1) c.args.table c.args.level (omega arith) c.requires.tree,
       c.loop-index.invariant.frames,
     )
 
-pub release-give-requires-clause-taken : goal.release-give-requires-clause-taken
-release-give-requires-clause-taken t c =
+pub take_down-give-requires-clause-taken : goal.take_down-give-requires-clause-taken
+take_down-give-requires-clause-taken t c =
     root_left c.args.pool.now c.loop-index.pool c.args.level (c.args.level - 1) c.args.table c.loop-index.index (omega arith)
     (omega (arith, c.loop-index.auto.index-end)) c.requires.tree c.loop-index.invariant
 
-pub release-returns-clause-free : goal.release-returns-clause-free
-release-returns-clause-free t c f =
+pub take_down-returns-clause-free : goal.take_down-returns-clause-free
+take_down-returns-clause-free t c f =
     let done : c.loop-index.index ≡ SPAN_PAGES = omega (arith, c.loop-index.auto.index-end, c.loop-index-test.false) in
     let all : sum_below (used_at c.args.pool.now c.args.level c.args.table f) c.loop-index.index
     ≡ sum_below (used_at c.args.pool.now c.args.level c.args.table f) TABLE_ENTRIES =
@@ -75,8 +75,8 @@ release-returns-clause-free t c f =
       uses_level c.args.pool.now c.args.level (c.args.level - 1) c.args.table f (omega arith),
     )
 
-pub release-returns-clause-others : goal.release-returns-clause-others
-release-returns-clause-others t c f k k_in none =
+pub take_down-returns-clause-others : goal.take_down-returns-clause-others
+take_down-returns-clause-others t c f k k_in none =
     let done : c.loop-index.index ≡ SPAN_PAGES = omega (arith, c.loop-index.auto.index-end, c.loop-index-test.false) in
     let all : sum_below (used_at c.args.pool.now c.args.level c.args.table f) c.loop-index.index
     ≡ sum_below (used_at c.args.pool.now c.args.level c.args.table f) TABLE_ENTRIES =
@@ -97,21 +97,21 @@ release-returns-clause-others t c f k k_in none =
     ))
     (omega (arith, all, whole, none))
 
-pub release_entry-write-requires-clause-taken : goal.release_entry-write-requires-clause-taken
-release_entry-write-requires-clause-taken t c =
+pub take_down_entry-write-requires-clause-taken : goal.take_down_entry-write-requires-clause-taken
+take_down_entry-write-requires-clause-taken t c =
     let freed : IsFreed c.args.pool.now c.match-entry.pool c.args.level c.args.table c.args.index = elim c.match-entry.branch [
-      | release_entry-in-Table w ↦ table_freed _ _ _ _ _ _ _ w.pool-is w.in-Table.ensures.is w.release.ensures.free w.release.ensures.others
-          w.release.ensures.frames
-      | release_entry-in_default w ↦ nothing_freed _ _ _ _ _ _ w.pool-is c.entry.ensures.is w.in_default.not-Table
+      | take_down_entry-in-Table w ↦ table_freed _ _ _ _ _ _ _ w.pool-is w.in-Table.ensures.is w.take_down.ensures.free
+          w.take_down.ensures.others w.take_down.ensures.frames
+      | take_down_entry-in_default w ↦ nothing_freed _ _ _ _ _ _ w.pool-is c.entry.ensures.is w.in_default.not-Table
     ] in
     omega (arith, freed.free c.args.table, c.requires.taken)
 
-pub release_entry-returns : goal.release_entry-returns
-release_entry-returns t c =
+pub take_down_entry-returns : goal.take_down_entry-returns
+take_down_entry-returns t c =
     let freed : IsFreed c.args.pool.now c.match-entry.pool c.args.level c.args.table c.args.index = elim c.match-entry.branch [
-      | release_entry-in-Table w ↦ table_freed _ _ _ _ _ _ _ w.pool-is w.in-Table.ensures.is w.release.ensures.free w.release.ensures.others
-          w.release.ensures.frames
-      | release_entry-in_default w ↦ nothing_freed _ _ _ _ _ _ w.pool-is c.entry.ensures.is w.in_default.not-Table
+      | take_down_entry-in-Table w ↦ table_freed _ _ _ _ _ _ _ w.pool-is w.in-Table.ensures.is w.take_down.ensures.free
+          w.take_down.ensures.others w.take_down.ensures.frames
+      | take_down_entry-in_default w ↦ nothing_freed _ _ _ _ _ _ w.pool-is c.entry.ensures.is w.in_default.not-Table
     ] in
     record {
       free = λ f. ap (occurs f) c.write.ensures.free ∙ freed.free f;
