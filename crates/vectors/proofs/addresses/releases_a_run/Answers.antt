@@ -6,8 +6,8 @@ use Rattle.iova.specs.Pieces.{piece_of}
 use Rattle.iova.proofs.Pieces.{order}
 use Rattle.vectors.proofs.addresses.releases_a_run.Goals as goal
 
-pub release_run-requires : goal.release_run-requires
-release_run-requires g c page h =
+pub release-requires : goal.release-requires
+release-requires g c page h =
     let low : c.in_ok-low.low ≡ record { first = 2; pages = 1 } = search rules in
     let high : c.in_ok-high.high ≡ record { first = 3; pages = 3 } = search rules in
     let run' : c.in_ok-run.run' ≡ record { first = 2; pages = 4 } = search rules in

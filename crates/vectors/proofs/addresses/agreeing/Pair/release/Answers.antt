@@ -1,0 +1,7 @@
+use Rattle.piece_tree.specs.declared.piece.PageState.TheVariants.{Retired}
+use Rattle.iova.specs.Pieces.{piece_of}
+use Rattle.iova.proofs.Freed.{one_run}
+use Rattle.vectors.proofs.addresses.agreeing.Pair.release.Goals as goal
+
+pub release-requires : goal.release-requires
+release-requires c = one_run (piece_of c.in-Some.range Retired) c.args.self.now.space.pieces c.in-Some.ensures
