@@ -28,10 +28,12 @@ is_old() {
 # are done, which one is in work, how many functions of it are done, and how long it has taken. Elsewhere it shows that once, at the end.
 # Where the command fails, what it said last stands on standard error. `rt run` says this on standard error, `rt lib` on standard output.
 proved() {
-    local top=$1 name=$2 built=$3 begun said all line shown='' done=0 crate='' functions='' status=0
+    local top=$1 name=$2 built=$3 place all line shown='' done=0 crate='' functions='' status=0
     shift 3
-    begun=$(mktemp)
-    said=$(mktemp)
+    place=$(mktemp -d)
+    # It goes too where this is interrupted.
+    trap "rm -rf '$place'" EXIT
+    touch "$place/begun"
     all=$(crates_below "$name" "$top/crates.txt")
     SECONDS=0
     while IFS= read -r line; do
@@ -42,15 +44,16 @@ proved() {
         esac
         shown="$done of $all crates proved$crate$functions: $((SECONDS / 60)) min $((SECONDS % 60)) s"
         [ ! -t 2 ] || printf '\r\033[K%s' "$shown" >&2
-    done < <( (cd "$top/crates/$name" && "$@" 2>&1 < /dev/null || echo "failed $?") | tee "$said")
+    done < <( (cd "$top/crates/$name" && "$@" 2>&1 < /dev/null || echo "failed $?") | tee "$place/said")
     if [ -t 2 ]; then echo >&2; else echo "$shown" >&2; fi
-    if [[ $(tail -n 1 "$said") =~ ^failed\ ([0-9]+)$ ]]; then
+    if [[ $(tail -n 1 "$place/said") =~ ^failed\ ([0-9]+)$ ]]; then
         status=${BASH_REMATCH[1]}
-        tail -n 20 "$said" >&2
+        tail -n 20 "$place/said" >&2
     else
         # Sources that were changed during the build are newer than what was built.
-        touch -r "$begun" "$built"
+        touch -r "$place/begun" "$built"
     fi
-    rm -f "$begun" "$said"
+    rm -rf "$place"
+    trap - EXIT
     return "$status"
 }
