@@ -1,5 +1,6 @@
 //! An example: a driver that uses memory again once the thread of a device uses none of its old addresses.
 
+ghost use Rattle.std.specs.Prelude.{◌≤◌};
 ghost use Rattle.manager.specs.Kept.{IsNamedBy};
 
 use super::{map_of, request_of, seed_of};
@@ -9,7 +10,7 @@ use std::alloc::Global;
 use std::marker::Brand;
 use std::process::Abort;
 use std::sync::Wait;
-use std::sync::atomic::{AtomicBool, AtomicU64, Ordering};
+use std::sync::atomic::{AtomicBool, AtomicU64, Ordering, Rule};
 use std::test::Fail;
 use std::thread::{Threads, join, yield_now};
 
@@ -38,11 +39,18 @@ const UNMAP: Call = Call::Unmap {
     pages: 1,
 };
 
+// What is said of a count at which the device's thread rests: a rule that all numbers meet.
+struct AnyCount;
+
+impl Rule for AnyCount {
+    ghost invariant = { λ count. 0 ≤ count };
+}
+
 // What both threads see beside the manager: the memory of the frame, how far the device's thread is, and whether the driver is done.
 #[derive(Drop)]
-struct Seen<B: Owner> {
+struct Seen {
     memory: AtomicU64,
-    quiet: Quiet<B>,
+    quiet: Quiet<AnyCount>,
     is_over: AtomicBool,
 }
 
@@ -51,7 +59,7 @@ fn read_meanwhile<B: Owner, R: Wait>(
     rt: &R,
     manager: &Manager<B>,
     rows: &Rows<B>,
-    seen: &Seen<B>,
+    seen: &Seen,
     mut port: Port<B>,
     mut share: Share<B>,
 ) -> bool {
@@ -69,7 +77,7 @@ fn read_meanwhile<B: Owner, R: Wait>(
             yield_now();
             is_right &= seen.memory.load(Ordering::SeqCst) == BUFFER;
         }
-        seen.quiet.rest(rows, &mut port);
+        seen.quiet.rest(port.count(rows));
     }
     false
 }
@@ -87,7 +95,7 @@ fn use_again<B: Owner, R: Wait>(
     rt: &R,
     manager: &Manager<B>,
     rows: &Rows<B>,
-    seen: &Seen<B>,
+    seen: &Seen,
     mut mine: Share<B>,
 ) -> bool {
     for _ in 0..TIMES {
@@ -107,7 +115,7 @@ fn use_again<B: Owner, R: Wait>(
 }
 
 // Waits until the thread is past a number.
-fn is_quiet<B: Owner>(quiet: &Quiet<B>, number: u64) -> bool {
+fn is_quiet(quiet: &Quiet<AnyCount>, number: u64) -> bool {
     for _ in 0..TURNS {
         if quiet.is_past(number) {
             return true;
