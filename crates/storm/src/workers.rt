@@ -93,7 +93,9 @@ struct Caller<B: Owner> {
 }
 
 impl<B: Owner> Caller<B> {
-    // Makes the call of this number through the gate. No reply where the history has no room.
+    // Makes the call of this number through the gate. No reply where the history has no room. Inlined, as the calls are: of one whose
+    // kind is known no more is moved than it has.
+    #[inline(always)]
     fn make<G: Gate, R: Wait>(
         &mut self,
         rt: &R,
@@ -111,6 +113,7 @@ impl<B: Owner> Caller<B> {
     }
 
     // Makes the device's read of this number. Its port has been asked for this read too.
+    #[inline(always)]
     fn read<G: Gate, R: Wait>(
         &mut self,
         rt: &R,
@@ -149,6 +152,7 @@ fn drive<B: Owner, G: Gate, R: Wait>(
 }
 
 /// An odd call maps a page. An even one unmaps what the call before mapped, or flushes the domain where that mapped none.
+#[inline(always)]
 pub(crate) fn driver_call(domain: u64, frame: u64, number: u64, mapped: Option<u64>) -> Call {
     if number % 2 == 1 {
         return Call::Map {
@@ -201,6 +205,7 @@ fn address_of(number: u64) -> u64
 }
 
 // A device's read, which the unit's caches may answer, and which is remembered.
+#[inline(always)]
 fn read_call(device: u64, address: u64) -> Call {
     Call::Dma {
         device,
