@@ -1,14 +1,12 @@
 //! Entries of tables, and walks along them.
 
 ghost use Rattle.std.specs.Prelude.{◌≡◌, ◌-◌, ◌/◌, ◌%◌, ◌^◌, ◌<◌, ◌≤◌};
-ghost use Rattle.dmatypes.specs.Rights.{AreRights, bits_of};
-ghost use Rattle.vtdbits.specs.Entry.{look, MayStandAt};
-ghost use Rattle.vtdbits.specs.Translation.{target};
+ghost use Rattle.vtdbits.specs.Entry.{MayStandAt};
 ghost use Rattle.tables.specs.Tree.{span, index_in, states, leaf_from, table_from, is_large_leaf};
 ghost use Rattle.tables.specs.Pool.{memory, IsTree};
 
 use crate::frames::Pool;
-use dmatypes::{FRAMES_END, Frame, MOST_LEVELS, Rights, SPAN_PAGES};
+use dmatypes::{Frame, MOST_LEVELS, SPAN_PAGES};
 use vtdbits::{SsEntry, Translation};
 
 /// Entries of a table, one a word of its frame; those of a lowest table have a page each (second-stage paging).
@@ -57,15 +55,6 @@ pub(crate) fn entry(pool: &Pool, level: u64, table: Frame, index: u64) -> SsEntr
     ensures stands { MayStandAt level result }
 {
     SsEntry::decode(level, pool.word_of(table, index)).unwrap_or(SsEntry::Absent)
-}
-
-/// The word of a leaf of one page.
-pub(crate) fn leaf_word(frame: u64, rights: Rights) -> u64
-    requires frame { frame < FRAMES_END }
-    requires rights { AreRights (bits_of rights) }
-    ensures { look 1 result ≡ SsEntry.Leaf (target frame (bits_of rights)) }
-{
-    SsEntry::Leaf(Translation::new(Frame::new(frame).unwrap(), rights)).encode()
 }
 
 /// What a table of the level states of a page. A loop, so that it can be inlined where a walk begins.

@@ -8,12 +8,12 @@ ghost use Rattle.vtdbits.specs.Translation.{target};
 ghost use Rattle.tables.specs.Tree.{one_if_same};
 ghost use Rattle.tables.specs.Pool.{word, occurs, IsZeroed, IsWrite, KeepsOtherWords, IsPool};
 
-use crate::entries::{TABLE_ENTRIES, leaf_word};
+use crate::entries::TABLE_ENTRIES;
 use dmatypes::{FRAMES_END, Frame, Rights};
 use std::alloc::{AllocError, Global};
 use std::fmt;
 use std::marker::Model;
-use vtdbits::SsEntry;
+use vtdbits::{SsEntry, Translation};
 
 /// Frames for tables, of a word for each entry. Some of them are free, and these are zeroed; the others are of trees, or
 /// were cut from one and not given back.
@@ -242,7 +242,13 @@ fn spell_leaves(words: &mut [u64], first: u64, rights: Rights)
     ensures leaves { (k : ℕ) → k < length words.old
         → look 1 (slice_index words.new k) ≡ SsEntry.Leaf (target (first + k) (bits_of rights)) }
 {
-    for (k, word) in words.iter_mut().enumerate() {
-        *word = leaf_word(first + k as u64, rights);
+    // Where there is a word, the first frame is one.
+    let Some(frame) = Frame::new(first) else {
+        return;
+    };
+    let mut word = SsEntry::Leaf(Translation::new(frame, rights)).encode();
+    for place in words.iter_mut() {
+        *place = word;
+        word = SsEntry::leaf_after(word);
     }
 }

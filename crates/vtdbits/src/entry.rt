@@ -27,7 +27,11 @@ const FRAME: u32 = 12;
 const PAGE_SIZE: u64 = 1 << 7;
 
 impl SsEntry {
+    ghost use Rattle.std.specs.Prelude.{◌+◌};
+    ghost use Rattle.dmatypes.specs.Page.{IsFrame};
     ghost use Rattle.vtdbits.specs.Entry.{Spells, MayStandAt, entry_of, look};
+    ghost use Rattle.dmatypes.specs.World.{Target};
+    ghost use Rattle.vtdbits.specs.Translation.{target};
 
     /// The entry that a word spells in a table of a level, if it spells one.
     #[inline]
@@ -72,5 +76,14 @@ impl SsEntry {
                 u64::from(pages.rights().bits()) + PAGE_SIZE + (pages.frame().number() << FRAME)
             }
         }
+    }
+
+    /// The word of a leaf of 4 KiB like the one that this word spells, but of the frame after its frame.
+    #[inline]
+    pub fn leaf_after(word: u64) -> u64
+        ensures { (leaf : Target) → Spells 1 word (SsEntry.Leaf leaf) → IsFrame (leaf.frame + 1)
+            → Spells 1 result (SsEntry.Leaf (target (leaf.frame + 1) leaf.rights)) }
+    {
+        word.wrapping_add(1 << FRAME)
     }
 }
