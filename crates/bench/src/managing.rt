@@ -165,9 +165,9 @@ struct Guarded<'a, B: Owner> {
 
 impl<'a, B: Owner> Work for Guarded<'a, B> {
     fn once(&mut self) -> Result<(), Trouble> {
-        let answer = self.book.call(self.rows, self.mine, MAP);
+        let answer = self.book.map(self.rows, self.mine, 1, UNALIGNED_FRAME, 1, 0, BOTH_RIGHTS);
         check_reply(answer, Reply::Mapped(ADDRESS))?;
-        let answer = self.book.call(self.rows, self.mine, UNMAP);
+        let answer = self.book.unmap(self.rows, self.mine, 1, ADDRESS, 1);
         check_reply(answer, Reply::Unmapped(0))
     }
 }

@@ -1,3 +1,4 @@
+pub mod Called
 pub mod Kept
 pub mod Report
 pub mod Words

@@ -28,6 +28,7 @@
 #![tactic(auto)]
 
 mod book;
+mod calls;
 mod config;
 mod entering;
 mod epoch;

@@ -12,6 +12,7 @@ use std::sync::Wait;
 use std::test::Fail;
 use std::thread::{Threads, join};
 
+mod by_name;
 mod device_thread;
 mod emptied;
 mod full;

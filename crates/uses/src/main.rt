@@ -4,7 +4,7 @@
 
 ghost use Rattle.manager.specs.Kept.{IsNamedBy};
 
-use dmatypes::{Access, Call, Reply, parse_line};
+use dmatypes::{Access, Reply, parse_line};
 use manager::{Config, Manager, Owner, Rows, Seed, Share};
 use std::alloc::Global;
 use std::io::{self, Write};
@@ -89,13 +89,7 @@ fn map_page<B: Owner, R: Wait>(
     rows: &Rows<B>,
     mut mine: Share<B>,
 ) -> Share<B> {
-    let map = Call::Map {
-        domain: 1,
-        frame: 0x100,
-        pages: 1,
-        order: 0,
-        rights: 3,
-    };
-    let _ = manager.call(rt, rows, &mut mine, map);
+    // In domain 1 the page of host frame 0x100, at the lowest free address, to read and to write.
+    let _ = manager.lock(rt).map(rows, &mut mine, 1, 0x100, 1, 0, 3);
     mine
 }
