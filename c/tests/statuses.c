@@ -383,6 +383,15 @@ static void check_effects(void) {
     ANSWERS(vtdm_effects(&manager, effects, 0), VTDM_OK, 0);
     ANSWERS(vtdm_detach_all(&manager, 7), VTDM_NOT_ATTACHED, 0);
     ANSWERS(vtdm_effects(&manager, effects, 0), VTDM_OK, 0);
+    /* What a map asks is told when it is asked for: the same after too few places, and no more once the next call was refused. */
+    ANSWERS(vtdm_map(&manager, 1, 0x100, 1, 0, VTDM_READ), VTDM_OK, 0x1000);
+    for (size_t few = 0; few < 5; few++)
+        ANSWERS(vtdm_effects(&manager, effects, few), VTDM_FEW_PLACES, 0);
+    ANSWERS(vtdm_effects(&manager, effects, 5), VTDM_OK, 5);
+    ANSWERS(vtdm_effects(&manager, effects, 5), VTDM_OK, 0);
+    ANSWERS(vtdm_unmap(&manager, 1, 0x1000, 1), VTDM_OK, 0);
+    ANSWERS(vtdm_unmap(&manager, 1, 0x1000, 1), VTDM_NOT_LIVE, 0);
+    ANSWERS(vtdm_effects(&manager, effects, VTDM_MOST_EFFECTS), VTDM_OK, 0);
     vtdm_destroy(&manager);
     ANSWERS(vtdm_effects(&manager, effects, VTDM_MOST_EFFECTS), VTDM_ABSENT, 0);
 }

@@ -1,5 +1,5 @@
 -- What a call asks, from what is told of it.
-use Rattle.std.proofs.Common.{◌≡◌, ◌⊎◌, inl, inr, ℕ, Bool, List, [], ◌∷◌, refl, subst, slice_set, sym}
+use Rattle.std.proofs.Common.{◌≡◌, ◌⊎◌, inl, inr, ℕ, Bool, Option, List, [], ◌∷◌, refl, subst, slice_set, sym}
 use Rattle.std.specs.List.{All}
 use Rattle.std.proofs.lemmas.List.Elements.{All-append}
 use Rattle.dmatypes.specs.World.{IsIn}
@@ -13,6 +13,9 @@ use Rattle.engine.specs.Tickets.{KeepsTickets}
 use Rattle.quiet.specs.Quiet.{IsSound}
 use Rattle.driven.specs.declared.effect.Effect.{Effect}
 use Rattle.driven.specs.declared.effect.Effect.TheVariants.{Barrier, Context}
+use Rattle.driven.specs.declared.untold.Untold.{Untold}
+use Rattle.driven.specs.declared.untold.Untold.TheVariants as untold
+use Rattle.driven.specs.Driven.{Tells}
 use Rattle.driven.specs.Effects.{AreEffects, BringsAll, EndInBarrier, IsForMemory, IsQuiet, Sends, in_order, waited}
 use Rattle.driven.specs.Laws.{MayChange}
 use Rattle.driven.specs.Telling.{IsSentBy, with_wait}
@@ -94,3 +97,10 @@ module _ (m t : State) (call : Call) (reply : Reply) (tickets : KeepsTickets m) 
     sends = sent_part m t call reply tickets does awaits more by (subst (λ n. IsSentBy t n awaits more) were sent);
     ordered = is;
   }
+
+-- ---- what can be told where all is told
+
+pub all_told : (m : State) (told : List Effect) (tables : List (Option ℕ)) (u : Untold) (P : List Effect → Type 0) → u ≡ untold.Nothing
+    → P told → (effects : List Effect) → Tells m told tables u effects → P effects
+all_told m told tables u P none holds effects tells =
+    let same : effects ≡ told = subst (λ v. Tells m told tables v effects) none tells in subst P (sym same) holds

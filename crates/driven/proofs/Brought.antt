@@ -14,6 +14,7 @@ use Rattle.tables.specs.declared.entries.TheConstants.{TABLE_ENTRIES}
 use Rattle.tables.specs.Pool.{Pool}
 use Rattle.tables.specs.Tree.{index_in}
 use Rattle.engine.specs.Domains.{Domain}
+use Rattle.engine.specs.Walkable.{table_at}
 use Rattle.engine.proofs.lists.Membership.{in_left, in_right}
 use Rattle.driven.specs.declared.effect.Effect.{Effect}
 use Rattle.driven.specs.declared.effect.Effect.TheVariants.{Barrier, Words}
@@ -185,27 +186,28 @@ ways pool h from last to x y end lowest above = record {
       (cases_lt level 2);
 }
 
--- a page of one table, and a barrier
-pub mapped_in : (pool : Pool) (h : Option Domain) (from last to near frame : ℕ) (table : Option ℕ) (e : Effect) → to ≡ last + 1
-    → table ≡ Some frame → from / TABLE_ENTRIES ≡ near / TABLE_ENTRIES → last / TABLE_ENTRIES ≡ near / TABLE_ENTRIES
-    → BringsPart frame from last e → BringsMapped pool h from to near table (e ∷ Barrier ∷ [])
-mapped_in pool h from last to near frame table e end is low high part = record {
+-- the pages of one table that was there, and a barrier
+pub mapped_in : (pool : Pool) (h : Option Domain) (from last to frame : ℕ) (grew : Bool) (e : Effect) → to ≡ last + 1 → grew ≡ false
+    → table_at pool h from 1 ≡ Some frame → from / TABLE_ENTRIES ≡ last / TABLE_ENTRIES → BringsPart frame from last e
+    → BringsMapped pool h from to grew (e ∷ Barrier ∷ [])
+mapped_in pool h from last to frame grew e end stays is near part = record {
   ends = inr (e ∷ [], refl);
   for_memory = All-append IsForMemory (e ∷ []) (Barrier ∷ []) (one_for_memory e part.0) (one_for_memory Barrier tt);
   brings = inr (
     frame,
     (
+      stays,
       is,
-      (λ p a b. omega (arith, a, b, end, low, high)),
+      (λ p a b. omega (arith, a, b, end, near)),
       (λ p a b. brought_left (e ∷ []) (Barrier ∷ []) frame (p % TABLE_ENTRIES)
           (brought_one e frame (p % TABLE_ENTRIES) (part.1 p a (omega (arith, b, end))))),
     ),
   );
 }
 
-pub mapped_ways : (pool : Pool) (h : Option Domain) (from to near : ℕ) (table : Option ℕ) (es : List Effect)
-    → BringsWalks pool h from to es → BringsMapped pool h from to near table es
-mapped_ways pool h from to near table es brings = record { ends = brings.ends; for_memory = brings.for_memory; brings = inl brings }
+pub mapped_ways : (pool : Pool) (h : Option Domain) (from to : ℕ) (grew : Bool) (es : List Effect) → BringsWalks pool h from to es
+    → BringsMapped pool h from to grew es
+mapped_ways pool h from to grew es brings = record { ends = brings.ends; for_memory = brings.for_memory; brings = inl brings }
 
 -- where all tables of level 1 stay, no more than theirs and a barrier
 pub unmapped_in : (pool : Pool) (h : Option Domain) (first last : ℕ) (before : List (Option ℕ)) (x : List Effect)

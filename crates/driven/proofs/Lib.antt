@@ -12,8 +12,10 @@ pub mod Told
 pub mod Rows
 pub mod BringsAll
 pub mod Asked
+pub mod Steady
 pub mod Stays
 pub mod Trees
+pub mod Known
 pub mod Fills
 pub mod Moments
 pub mod Detached

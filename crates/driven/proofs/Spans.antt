@@ -13,7 +13,7 @@ use Rattle.engine.specs.Domains.{Domain}
 use Rattle.engine.specs.Walkable.{table_at}
 use Rattle.driven.specs.declared.effect.Effect.{Effect}
 use Rattle.driven.specs.Effects.{IsBrought}
-use Rattle.driven.specs.Telling.{BringsTable, IsLowest}
+use Rattle.driven.specs.Telling.{AreTablesOf, BringsTable, IsLowest, StayInPart}
 use Rattle.driven.proofs.Brought.{brought_either, brought_left, brought_right, none_brought}
 use Rattle.driven.proofs.Levels.{near_at_level}
 
@@ -52,6 +52,16 @@ same_table pool h p q same = by_tables (table_at pool h p 1) (table_at pool h q 
     by_tables None None at there = refl
     by_tables None (Some c) at there = absurd (none-some c (sym at ∙ near_at_level pool h q p 1 c (sym near) there))
     by_tables (Some c) b at there = sym (near_at_level pool h p q 1 c near at) ∙ there
+
+-- tables that are there now stay
+pub stays_now : (pool : Pool) (h : Option Domain) (first last : ℕ) (tables : List (Option ℕ)) → AreTablesOf pool h first last tables
+    → StayInPart pool h first last tables
+stays_now pool h first last tables are p f low high partly at =
+    let k : ℕ = p / SPAN_PAGES - first / SPAN_PAGES in
+    let same : (first / SPAN_PAGES + k) * SPAN_PAGES / SPAN_PAGES ≡ p / SPAN_PAGES = omega (arith, low) in
+    sym (same_table pool h ((first / SPAN_PAGES + k) * SPAN_PAGES) p same)
+    ∙ same_Some (table_at pool h ((first / SPAN_PAGES + k) * SPAN_PAGES) 1) (Some f)
+    (sym (are.each k (omega (arith, low, high, are.count))) ∙ at)
 
 module _ (pool : Pool) (h : Option Domain) (first last : ℕ) (before : List (Option ℕ)) where
   pub told_none : Told pool h first last before [] (first / SPAN_PAGES)

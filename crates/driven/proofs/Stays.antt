@@ -1,5 +1,6 @@
 -- That no word above the lowest tables is changed where these stay.
-use Rattle.std.proofs.Common.{◌≡◌, ◌≢◌, inl, inr, ℕ, zero, suc, ◌+◌, ◌-◌, ◌/◌, ◌<◌, ◌≤◌, List, Option, Some, sym, ap, subst, ◌∙◌, arith}
+use Rattle.std.proofs.Common.{◌≡◌, ◌≢◌, inl, inr, ℕ, zero, suc, ◌+◌, ◌-◌, ◌/◌, ◌<◌, ◌≤◌, List, Option, Some, sym, ap, subst}
+use Rattle.std.proofs.Common.{◌∙◌, Bool, false, length, arith}
 use Rattle.std.specs.Prelude.{slice_get}
 use Rattle.std.proofs.lemmas.Option.{same_Some}
 use Rattle.dmatypes.specs.Conditions.{total_pages}
@@ -24,39 +25,42 @@ use Rattle.driven.proofs.Calls.{map_sound}
 use Rattle.driven.proofs.Changed.{map_upper, unmap_upper}
 use Rattle.driven.proofs.Cuts.{Cuts}
 use Rattle.driven.proofs.Spans.{same_table}
+use Rattle.driven.proofs.Steady.{placed_stays}
 
 module _ (m t : State) (d : ℕ) (h h' : Domain) (here : domain_at m.domains d ≡ Some h) (then : domain_at t.domains d ≡ Some h')
     (root : h'.root ≡ h.root) (width : h'.width ≡ h.width) where
   -- ---- a map
 
   module _ (sound : IsSound m) (new : Domain) (at : Placement) (some : 1 ≤ total_pages at.segments) (places : Places m.pool h at t.pool new)
-      (near : ℕ) (table : Option ℕ) (looked : table ≡ table_at m.pool (domain_at m.domains d) near 1) where
-    -- the table that a page of the near one's span had
-    had : (p c : ℕ) → table ≡ Some c → p / SPAN_PAGES ≡ near / SPAN_PAGES
+      (grew : Bool) (same_count : grew ≡ false → length t.pool.free ≡ length m.pool.free) where
+    -- the table that a page of the first one's span had, where no table was made
+    had : (p c : ℕ) → grew ≡ false → table_at t.pool (domain_at t.domains d) at.first 1 ≡ Some c → p / SPAN_PAGES ≡ at.first / SPAN_PAGES
         → table_from (memory m.pool.words) (levels h.width) h.root p 1 ≡ Some c
-    had p c found same =
-        sym (ap (λ o. table_at m.pool o p 1) here) ∙ same_table m.pool (domain_at m.domains d) p near same ∙ sym looked ∙ found
+    had p c stays found same =
+        sym (placed_stays m t sound d h here (same_count stays) new at places p) ∙ sym (there t d h h' then root width p 1)
+        ∙ same_table t.pool (domain_at t.domains d) p at.first same ∙ found
 
     -- the words of the pages in it are all that was changed on their ways
-    pub placed_words : (to : ℕ) (es : List Effect) → BringsMapped t.pool (domain_at t.domains d) at.first to near table es → (f k : ℕ)
+    pub placed_words : (to : ℕ) (es : List Effect) → BringsMapped t.pool (domain_at t.domains d) at.first to grew es → (f k : ℕ)
         → word m.pool.words f k ≢ word t.pool.words f k → IsOnWalks t.pool.words (levels h.width) h.root at.first to f k → IsBrought es f k
     placed_words to es brings f k differs on =
         elim brings.brings [
           | inl all ↦ on_ways t d h h' then root width at.first to es all f k on
-          | inr one ↦ in_table one.0 one.1.0 one.1.1
-              (λ p low high. subst (λ i. IsBrought es one.0 i) (sym (index-zero p)) (one.1.2 p low high)) on
+          | inr one ↦ in_table one.0 one.1.0 one.1.1 one.1.2
+              (λ p low high. subst (λ i. IsBrought es one.0 i) (sym (index-zero p)) (one.1.3 p low high)) on
         ]
       where
-        in_table : (c : ℕ) → table ≡ Some c → ((p : ℕ) → at.first ≤ p → p < to → p / SPAN_PAGES ≡ near / SPAN_PAGES)
+        in_table : (c : ℕ) → grew ≡ false → table_at t.pool (domain_at t.domains d) at.first 1 ≡ Some c
+            → ((p : ℕ) → at.first ≤ p → p < to → p / SPAN_PAGES ≡ at.first / SPAN_PAGES)
             → ((p : ℕ) → at.first ≤ p → p < to → IsBrought es c (index_in 0 p))
             → IsOnWalks t.pool.words (levels h.width) h.root at.first to f k → IsBrought es f k
-        in_table c found same told (p, (low, high, (zero, is, index))) =
-            let own : c ≡ f = same_Some c f (sym (places.maps.tables p 1 c (had p c found (same p low high))) ∙ is) in
+        in_table c stays found same told (p, (low, high, (zero, is, index))) =
+            let own : c ≡ f = same_Some c f (sym (places.maps.tables p 1 c (had p c stays found (same p low high))) ∙ is) in
             subst (λ g. IsBrought es g k) own (subst (λ i. IsBrought es c i) index (told p low high))
-        in_table c found same told (p, (low, high, (suc l, is, index))) =
+        in_table c stays found same told (p, (low, high, (suc l, is, index))) =
             absurd (differs (subst (λ i. word m.pool.words f i ≡ word t.pool.words f i) index
             (map_upper m.pool t.pool (levels h.width) h.root at.first (at.first + total_pages at.segments) _
-            (map_sound m t sound d h here at new some places) places.maps p l f c (had p c found (same p low high)) is)))
+            (map_sound m t sound d h here at new some places) places.maps p l f c (had p c stays found (same p low high)) is)))
 
   -- ---- an unmap
 

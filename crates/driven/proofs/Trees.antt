@@ -1,6 +1,6 @@
 -- What is told of a call that changes tables brings all that it changed.
 use Rattle.std.proofs.Common.{◌≡◌, ◌≢◌, inl, inr, ⊎_elim, ℕ, suc, ◌+◌, ◌-◌, ◌/◌, ◌<◌, ◌≤◌, List, [], ◌∷◌, ◌++◌, Option, Some, refl, sym, ap}
-use Rattle.std.proofs.Common.{subst, ◌∙◌, arith}
+use Rattle.std.proofs.Common.{subst, ◌∙◌, arith, Bool, false, length}
 use Rattle.std.proofs.lemmas.Bool.{cases_lt}
 use Rattle.std.proofs.lemmas.List.{append-nil}
 use Rattle.std.proofs.lemmas.List.Sums.{sum_by-cons}
@@ -58,28 +58,28 @@ module _ (m t : State) (d frame pages order rights address : ℕ) (sound : IsSou
       (some_pages (record { frame = frame; pages = pages } ∷ []) order rights
       (not_bad_map sound.of_world.0 d frame pages order rights address (does.steps sound.of_world.0 sound.of_world.1).0)) places es
 
-  map_words : Becomes m (calls.Map d frame pages order rights) (Mapped address) t → (near : ℕ) (table : Option ℕ)
-      → table ≡ table_at m.pool (domain_at m.domains d) near 1 → (es : List Effect)
-      → BringsMapped t.pool (domain_at t.domains d) (address / PAGE_BYTES) (address / PAGE_BYTES + pages) near table es → (f k : ℕ)
+  map_words : Becomes m (calls.Map d frame pages order rights) (Mapped address) t → (grew : Bool)
+      → (grew ≡ false → length t.pool.free ≡ length m.pool.free) → (es : List Effect)
+      → BringsMapped t.pool (domain_at t.domains d) (address / PAGE_BYTES) (address / PAGE_BYTES + pages) grew es → (f k : ℕ)
       → k < TABLE_ENTRIES → word m.pool.words f k ≢ word t.pool.words f k → IsBrought es f k
   unfolding Becomes
-  map_words (h, new, here, places, sent, is) near table looked es brings f k inside differs =
+  map_words (h, new, here, places, sent, is) grew same es brings f k inside differs =
       let (g, (there, on)) = calls_change m t (calls.Map d frame pages order rights) (Mapped address) f k sound does inside differs in
       let o = onward m t d h sound here (calls.Map d frame pages order rights) (Mapped address) does does.becomes (λ is done. cc) in
       placed_words m t d h o.0 here o.1 o.2.root o.2.width sound new _
       (some_pages (record { frame = frame; pages = pages } ∷ []) order rights
-      (not_bad_map sound.of_world.0 d frame pages order rights address (does.steps sound.of_world.0 sound.of_world.1).0)) places near table
-      looked (address / PAGE_BYTES + pages) es brings f k differs
+      (not_bad_map sound.of_world.0 d frame pages order rights address (does.steps sound.of_world.0 sound.of_world.1).0)) places grew same
+      (address / PAGE_BYTES + pages) es brings f k differs
       (subst (λ (y : Domain). IsOnWalks t.pool.words (levels y.width) y.root (address / PAGE_BYTES) (address / PAGE_BYTES + pages) f k)
       (same_Some g h (sym there ∙ here)) on)
 
-  pub map_brings : (near : ℕ) (table : Option ℕ) → table ≡ table_at m.pool (domain_at m.domains d) near 1 → (es : List Effect)
-      → BringsMapped t.pool (domain_at t.domains d) (address / PAGE_BYTES) (address / PAGE_BYTES + pages) near table es
+  pub map_brings : (grew : Bool) → (grew ≡ false → length t.pool.free ≡ length m.pool.free) → (es : List Effect)
+      → BringsMapped t.pool (domain_at t.domains d) (address / PAGE_BYTES) (address / PAGE_BYTES + pages) grew es
       → BringsAll m t es
-  map_brings near table looked es brings = record {
+  map_brings grew same es brings = record {
     for_memory = brings.for_memory;
     ends = brings.ends;
-    words = map_words does.becomes near table looked es brings;
+    words = map_words does.becomes grew same es brings;
     contexts = whole_row m t (rows m t (calls.Map d frame pages order rights) (Mapped address) does.becomes) es;
     fills = map_fill does.becomes es;
   }
@@ -93,28 +93,28 @@ module _ (m t : State) (d order rights address : ℕ) (segments : ArrayVec Segme
       (some_pages segments.items order rights
       (not_bad_list sound.of_world.0 d order rights address segments (does.steps sound.of_world.0 sound.of_world.1).0)) places es
 
-  list_words : Becomes m (calls.MapList d order rights segments) (Mapped address) t → (near : ℕ) (table : Option ℕ)
-      → table ≡ table_at m.pool (domain_at m.domains d) near 1 → (es : List Effect)
-      → BringsMapped t.pool (domain_at t.domains d) (address / PAGE_BYTES) (address / PAGE_BYTES + total_pages segments.items) near table es
+  list_words : Becomes m (calls.MapList d order rights segments) (Mapped address) t → (grew : Bool)
+      → (grew ≡ false → length t.pool.free ≡ length m.pool.free) → (es : List Effect)
+      → BringsMapped t.pool (domain_at t.domains d) (address / PAGE_BYTES) (address / PAGE_BYTES + total_pages segments.items) grew es
       → (f k : ℕ) → k < TABLE_ENTRIES → word m.pool.words f k ≢ word t.pool.words f k → IsBrought es f k
   unfolding Becomes
-  list_words (h, new, here, places, sent, is) near table looked es brings f k inside differs =
+  list_words (h, new, here, places, sent, is) grew same es brings f k inside differs =
       let (g, (there, on)) = calls_change m t (calls.MapList d order rights segments) (Mapped address) f k sound does inside differs in
       let o = onward m t d h sound here (calls.MapList d order rights segments) (Mapped address) does does.becomes (λ is done. cc) in
       placed_words m t d h o.0 here o.1 o.2.root o.2.width sound new _
       (some_pages segments.items order rights
-      (not_bad_list sound.of_world.0 d order rights address segments (does.steps sound.of_world.0 sound.of_world.1).0)) places near table
-      looked (address / PAGE_BYTES + total_pages segments.items) es brings f k differs
+      (not_bad_list sound.of_world.0 d order rights address segments (does.steps sound.of_world.0 sound.of_world.1).0)) places grew same
+      (address / PAGE_BYTES + total_pages segments.items) es brings f k differs
       (subst (λ (y : Domain). IsOnWalks t.pool.words (levels y.width) y.root (address / PAGE_BYTES)
       (address / PAGE_BYTES + total_pages segments.items) f k) (same_Some g h (sym there ∙ here)) on)
 
-  pub list_brings : (near : ℕ) (table : Option ℕ) → table ≡ table_at m.pool (domain_at m.domains d) near 1 → (es : List Effect)
-      → BringsMapped t.pool (domain_at t.domains d) (address / PAGE_BYTES) (address / PAGE_BYTES + total_pages segments.items) near table es
+  pub list_brings : (grew : Bool) → (grew ≡ false → length t.pool.free ≡ length m.pool.free) → (es : List Effect)
+      → BringsMapped t.pool (domain_at t.domains d) (address / PAGE_BYTES) (address / PAGE_BYTES + total_pages segments.items) grew es
       → BringsAll m t es
-  list_brings near table looked es brings = record {
+  list_brings grew same es brings = record {
     for_memory = brings.for_memory;
     ends = brings.ends;
-    words = list_words does.becomes near table looked es brings;
+    words = list_words does.becomes grew same es brings;
     contexts = whole_row m t (rows m t (calls.MapList d order rights segments) (Mapped address) does.becomes) es;
     fills = list_fill does.becomes es;
   }

@@ -1,6 +1,6 @@
 -- What a call asks of whoever keeps the memory and the queue that a unit reads.
 use Rattle.std.specs.Prelude.{◌≡◌, ◌≢◌, ◌⊎◌, ℕ, ◌+◌, ◌*◌, ◌<◌, ◌≤◌, List, [], ◌∷◌, ◌++◌, All, Option, None, Some, slice_get, take}
-use Rattle.std.specs.Prelude.{Bool, Result, IfErr, IfOk}
+use Rattle.std.specs.Prelude.{Result, IfErr, IfOk}
 use Rattle.dmatypes.specs.World.{IsIn, Target}
 use Rattle.dmatypes.specs.declared.call.Call.{Call}
 use Rattle.dmatypes.specs.declared.call.Call.TheVariants as calls
@@ -23,12 +23,6 @@ use Rattle.engine.specs.State.{State}
 use Rattle.engine.specs.Steps.{Does}
 use Rattle.driven.specs.declared.effect.Effect.{Effect}
 use Rattle.driven.specs.declared.effect.Effect.TheVariants.{Await, Barrier, Context, Send, Words}
-
--- what contracts see: the state, what the last call asks, and whether it is told what maps and unmaps ask
-pub record Driven : Type 0 where
-  pub state : State
-  pub effects : List Effect
-  pub tells : Bool
 
 -- ---- what is brought to memory
 

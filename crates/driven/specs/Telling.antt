@@ -1,6 +1,6 @@
 -- What the parts of a call's effects bring and send.
 use Rattle.std.specs.Prelude.{◌≡◌, ◌≢◌, ◌⊎◌, ℕ, ◌+◌, ◌-◌, ◌*◌, ◌/◌, ◌%◌, ◌<◌, ◌≤◌}
-use Rattle.std.specs.Prelude.{Bool, true, false, List, [], ◌∷◌, ◌++◌, All, length, Option, Some}
+use Rattle.std.specs.Prelude.{Bool, true, false, List, [], ◌∷◌, ◌++◌, All, length, Option, None, Some}
 use Rattle.std.specs.Prelude.{slice_get}
 use Rattle.dmatypes.specs.declared.page.TheConstants.{SPAN_PAGES}
 use Rattle.vtdbits.specs.declared.descriptor.Descriptor.{Descriptor}
@@ -59,6 +59,12 @@ pub record AreTablesOf (pool : Pool) (h : Option Domain) (first last : ℕ) (tab
   pub count : length tables ≡ last / SPAN_PAGES + 1 - first / SPAN_PAGES
   pub each : (k : ℕ) → k < length tables → slice_get tables k ≡ Some (table_at pool h ((first / SPAN_PAGES + k) * SPAN_PAGES) 1)
 
+-- no table is taken for one that was on those ways
+abbrev pub AreLeftOut : ℕ → ℕ → List (Option ℕ) → Type 0
+AreLeftOut first last tables =
+    (length tables ≡ last / SPAN_PAGES + 1 - first / SPAN_PAGES)
+    × ((k : ℕ) → k < length tables → slice_get tables k ≡ Some None)
+
 -- the frame is the table of level 1 of a page, after the call or, as these tell, before it
 abbrev pub IsLowest : Pool → Option Domain → ℕ → ℕ → List (Option ℕ) → ℕ → ℕ → Type 0
 IsLowest pool h first last before p f =
@@ -94,13 +100,14 @@ pub record BringsWalks (pool : Pool) (h : Option Domain) (from to : ℕ) (effect
   pub brings : (level p f : ℕ) → 1 ≤ level → level ≤ 4 → from ≤ p → p < to → table_at pool h p level ≡ Some f
       → IsBrought effects f (index_in (level - 1) p)
 
--- what a map of the pages from one up to another changed, where this was the table of level 1 on the way of a page near them. Where they
--- are all of that page's span, their words in that table alone, else all words on their ways
-pub record BringsMapped (pool : Pool) (h : Option Domain) (from to near : ℕ) (table : Option ℕ) (effects : List Effect) : Type 0 where
+-- what a map of the pages from one up to another changed. Where it made no table and they are of one span that has its table, their words
+-- in that table alone, else all words on their ways
+pub record BringsMapped (pool : Pool) (h : Option Domain) (from to : ℕ) (grew : Bool) (effects : List Effect) : Type 0 where
   pub ends : EndInBarrier effects
   pub for_memory : All IsForMemory effects
   pub brings : BringsWalks pool h from to effects
-      ⊎ ((frame : ℕ) × ((table ≡ Some frame) × ((p : ℕ) → from ≤ p → p < to → p / SPAN_PAGES ≡ near / SPAN_PAGES)
+      ⊎ ((frame : ℕ) × ((grew ≡ false) × (table_at pool h from 1 ≡ Some frame)
+      × ((p : ℕ) → from ≤ p → p < to → p / SPAN_PAGES ≡ from / SPAN_PAGES)
       × ((p : ℕ) → from ≤ p → p < to → IsBrought effects frame (p % TABLE_ENTRIES))))
 
 -- what an unmap of the pages from one to another changed, where these were the tables of level 1 on their ways. Where all of these stay,

@@ -10,18 +10,20 @@ ghost use Rattle.engine.specs.State.{unmapped_reply};
 ghost use Rattle.engine.specs.Steps.{Does};
 ghost use Rattle.engine.specs.Quarantine.{Quarantine};
 ghost use Rattle.dmatypes.specs.World.{empty};
+ghost use Rattle.driven.specs.Driven.{Asks, HasTold, having_told};
+ghost use Rattle.driven.specs.declared.untold.Untold.TheVariants.{Nothing};
 ghost use Rattle.driven.specs.Effects.{AreEffects, DetachesAll};
 ghost use Rattle.driven.specs.UpTo.{DoesUpTo};
 ghost use Rattle.driven.specs.declared.telling.TheConstants.{MOST_EFFECTS};
 
 use crate::detaching::{tell_detach, tell_flush};
 use crate::effect::Effect;
-use crate::noting::{Noted, note_map, note_unmap, tell_map, tell_unmap};
 use crate::stepping::do_oldest;
-use crate::telling::{Effects, bring_frames, send};
+use crate::telling::{Effects, Tables, bring_frames, send};
+use crate::untold::{Before, Untold, forget, note, tell};
 use arrayvec::ArrayVec;
 use dmatypes::{
-    Access, Cache, Fault, MOST_SEGMENTS, Mode, PAGE_BYTES, Progress, Refusal, Segment, Whim, Width,
+    Access, Cache, Fault, MOST_SEGMENTS, Mode, Progress, Refusal, Segment, Whim, Width,
 };
 use engine::{Hit, State, Unmapped};
 use std::alloc::{AllocError, Global};
@@ -35,16 +37,26 @@ pub struct Driven {
     // In a place of its own, since it is large and whoever has a driven state moves it.
     state: Box<State>,
     effects: Effects,
-    noted: Noted,
+    // What the last call asks besides, told by this and by the tables once somebody asks.
+    untold: Untold,
+    tables: Tables,
     tells: bool,
 }
 
 impl Model for Driven {
-    ghost use Rattle.driven.specs.Effects.{Driven};
+    ghost use Rattle.driven.specs.Driven.{CanTell, Driven};
 
     ghost Value = { Driven };
 
-    ghost view = { λ d. record { state = d.state.value; effects = d.effects.items; tells = d.tells } };
+    ghost view = { λ d. record {
+      state = d.state.value;
+      effects = d.effects.items;
+      untold = d.untold;
+      tables = d.tables.items;
+      tells = d.tells;
+    } };
+
+    ghost invariant = { λ d. CanTell d.state.value d.tables.items d.untold };
 }
 
 impl Driven {
@@ -55,13 +67,13 @@ impl Driven {
         requires few { frames ≤ MOST_TABLE_FRAMES }
         ensures new { IfOk result (λ d. IsNew frames caching d.state) }
         ensures empty { IfOk result (λ d. Quarantine d.state (empty frames)) }
-        ensures quiet { IfOk result (λ d. d.effects ≡ []) }
+        ensures quiet { IfOk result (λ d. Asks d (λ effects. effects ≡ [])) }
         ensures tells { IfOk result (λ d. d.tells ≡ true) }
     {
         Driven::made(alloc, frames, caching, true)
     }
 
-    /// The same, for whoever has no other unit: its maps and unmaps tell nothing, and cost what the state's do.
+    /// The same, for whoever has no other unit: its maps and unmaps tell nothing, and keep nothing to tell.
     pub fn silent(alloc: Global, frames: u64, caching: bool) -> Result<Driven, AllocError>
         requires some { LEAST_TABLE_FRAMES ≤ frames }
         requires few { frames ≤ MOST_TABLE_FRAMES }
@@ -77,13 +89,14 @@ impl Driven {
         requires few { frames ≤ MOST_TABLE_FRAMES }
         ensures new { IfOk result (λ d. IsNew frames caching d.state) }
         ensures empty { IfOk result (λ d. Quarantine d.state (empty frames)) }
-        ensures quiet { IfOk result (λ d. d.effects ≡ []) }
+        ensures quiet { IfOk result (λ d. Asks d (λ effects. effects ≡ [])) }
         ensures tells { IfOk result (λ d. d.tells ≡ tells) }
     {
         Ok(Driven {
             state: new_state(alloc, frames, caching)?,
             effects: Effects::new(),
-            noted: Noted::new(),
+            untold: Untold::Nothing,
+            tables: Tables::new(),
             tells,
         })
     }
@@ -102,8 +115,23 @@ impl Driven {
         &self.state
     }
 
-    /// What the last call asks, in order.
+    /// Tells what the last call asks, so that `effects` has it. A map and an unmap only keep what it is told by.
+    pub fn tell(&mut self)
+        ensures { HasTold self.old self.new }
+    {
+        let Driven {
+            state,
+            effects,
+            untold,
+            tables,
+            ..
+        } = self;
+        tell(effects, untold, tables, state);
+    }
+
+    /// What the last call asks, in order, once that is told: before it there is no such list.
     pub fn effects(&self) -> &[Effect]
+        requires { self.now.untold ≡ Nothing }
         ensures effects { result.now ≡ self.now.effects }
         ensures few { length result.now ≤ MOST_EFFECTS }
     {
@@ -112,9 +140,9 @@ impl Driven {
 
     /// Forgets what the last call asks, once it is done.
     pub fn forget_effects(&mut self)
-        ensures { self.new ≡ record { state = self.old.state; effects = []; tells = self.old.tells } }
+        ensures { self.new ≡ having_told self.old [] self.old.tables }
     {
-        self.effects.clear();
+        forget(&mut self.effects, &mut self.untold);
     }
 
     /// Makes a domain, as `State::domain` does.
@@ -122,9 +150,10 @@ impl Driven {
         requires { self.old.state.calls < CALLS_END }
         ensures does { Does self.old.state (calls.Domain mode width) (made_reply result) self.new.state }
         ensures tells { self.new.tells ≡ self.old.tells }
-        ensures effects { AreEffects self.old.state (calls.Domain mode width) (made_reply result) self.new.state self.new.effects }
+        ensures effects { Asks self.new (AreEffects self.old.state (calls.Domain mode width) (made_reply result) self.new.state) }
+        ensures quiet { Asks self.new (λ effects. effects ≡ []) }
     {
-        self.effects.clear();
+        forget(&mut self.effects, &mut self.untold);
         let state: &mut State = &mut self.state;
         state.keeps();
         state.domain(mode, width)
@@ -135,9 +164,9 @@ impl Driven {
         requires { self.old.state.calls < CALLS_END }
         ensures does { Does self.old.state (calls.Detach device) (done_reply result) self.new.state }
         ensures tells { self.new.tells ≡ self.old.tells }
-        ensures effects { AreEffects self.old.state (calls.Detach device) (done_reply result) self.new.state self.new.effects }
+        ensures effects { Asks self.new (AreEffects self.old.state (calls.Detach device) (done_reply result) self.new.state) }
     {
-        self.effects.clear();
+        forget(&mut self.effects, &mut self.untold);
         let state: &mut State = &mut self.state;
         tell_detach(&mut self.effects, state, device)
     }
@@ -148,10 +177,10 @@ impl Driven {
     /// then.
     pub fn detach_all(&mut self, device: u64) -> Result<u64, Refusal>
         requires { self.old.state.calls + 1 < CALLS_END }
-        ensures detaches { DetachesAll self.old.state device result self.new.state self.new.effects }
+        ensures detaches { Asks self.new (DetachesAll self.old.state device result self.new.state) }
         ensures tells { self.new.tells ≡ self.old.tells }
     {
-        self.effects.clear();
+        forget(&mut self.effects, &mut self.untold);
         let state: &mut State = &mut self.state;
         let domain = state.domain_of(device);
         state.keeps();
@@ -165,9 +194,9 @@ impl Driven {
         requires { self.old.state.calls < CALLS_END }
         ensures does { Does self.old.state (calls.Flush domain) (flushed_reply result) self.new.state }
         ensures tells { self.new.tells ≡ self.old.tells }
-        ensures effects { AreEffects self.old.state (calls.Flush domain) (flushed_reply result) self.new.state self.new.effects }
+        ensures effects { Asks self.new (AreEffects self.old.state (calls.Flush domain) (flushed_reply result) self.new.state) }
     {
-        self.effects.clear();
+        forget(&mut self.effects, &mut self.untold);
         let state: &mut State = &mut self.state;
         tell_flush(&mut self.effects, state, domain)
     }
@@ -177,9 +206,9 @@ impl Driven {
         requires { self.old.state.calls < CALLS_END }
         ensures does { Does self.old.state (calls.Attach device domain) (done_reply result) self.new.state }
         ensures tells { self.new.tells ≡ self.old.tells }
-        ensures effects { AreEffects self.old.state (calls.Attach device domain) (done_reply result) self.new.state self.new.effects }
+        ensures effects { Asks self.new (AreEffects self.old.state (calls.Attach device domain) (done_reply result) self.new.state) }
     {
-        self.effects.clear();
+        forget(&mut self.effects, &mut self.untold);
         let state: &mut State = &mut self.state;
         state.keeps();
         state.attach(device, domain)?;
@@ -193,9 +222,9 @@ impl Driven {
         requires { self.old.state.calls < CALLS_END }
         ensures does { Does self.old.state (calls.Begin domain) (begun_reply domain result) self.new.state }
         ensures tells { self.new.tells ≡ self.old.tells }
-        ensures effects { AreEffects self.old.state (calls.Begin domain) (begun_reply domain result) self.new.state self.new.effects }
+        ensures effects { Asks self.new (AreEffects self.old.state (calls.Begin domain) (begun_reply domain result) self.new.state) }
     {
-        self.effects.clear();
+        forget(&mut self.effects, &mut self.untold);
         let state: &mut State = &mut self.state;
         state.keeps();
         let waits = state.waits();
@@ -209,9 +238,10 @@ impl Driven {
         requires { self.old.state.calls < CALLS_END }
         ensures does { Does self.old.state (calls.Reap domain number) (reaped_reply result) self.new.state }
         ensures tells { self.new.tells ≡ self.old.tells }
-        ensures effects { AreEffects self.old.state (calls.Reap domain number) (reaped_reply result) self.new.state self.new.effects }
+        ensures effects { Asks self.new (AreEffects self.old.state (calls.Reap domain number) (reaped_reply result) self.new.state) }
+        ensures quiet { Asks self.new (λ effects. effects ≡ []) }
     {
-        self.effects.clear();
+        forget(&mut self.effects, &mut self.untold);
         let state: &mut State = &mut self.state;
         state.keeps();
         state.reap(domain, number)
@@ -222,9 +252,10 @@ impl Driven {
         requires { self.old.state.calls < CALLS_END }
         ensures does { Does self.old.state calls.Unit (Stepped result) self.new.state }
         ensures tells { self.new.tells ≡ self.old.tells }
-        ensures effects { AreEffects self.old.state calls.Unit (Stepped result) self.new.state self.new.effects }
+        ensures effects { Asks self.new (AreEffects self.old.state calls.Unit (Stepped result) self.new.state) }
+        ensures quiet { Asks self.new (λ effects. effects ≡ []) }
     {
-        self.effects.clear();
+        forget(&mut self.effects, &mut self.untold);
         let state: &mut State = &mut self.state;
         state.keeps();
         state.unit_step()
@@ -238,9 +269,14 @@ impl Driven {
         ensures same { IsNone result → self.new ≡ self.old }
         ensures does { IfSome result (λ steps. DoesUpTo self.old.state wait steps self.new.state) }
         ensures tells { self.new.tells ≡ self.old.tells }
-        ensures quiet { IfSome result (λ steps. self.new.effects ≡ []) }
+        ensures quiet { IfSome result (λ steps. Asks self.new (λ effects. effects ≡ [])) }
     {
-        let Driven { state, effects, .. } = self;
+        let Driven {
+            state,
+            effects,
+            untold,
+            ..
+        } = self;
         let state: &mut State = state;
         state.keeps();
         let later = state.waits().checked_sub(wait)?;
@@ -248,7 +284,7 @@ impl Driven {
         let steps = state.totals().pending.saturating_sub(2 * later);
         do_oldest(state, steps);
         state.keeps();
-        effects.clear();
+        forget(effects, untold);
         Some(steps)
     }
 
@@ -265,10 +301,11 @@ impl Driven {
         ensures does { Does self.old.state (calls.Dma device address access whim) (request_reply result) self.new.state }
         ensures tells { self.new.tells ≡ self.old.tells }
         ensures hit { IfOk result (λ answer. IfOk answer (IsHitOf self.old.state device address access)) }
-        ensures effects { AreEffects self.old.state (calls.Dma device address access whim) (request_reply result)
-            self.new.state self.new.effects }
+        ensures effects { Asks self.new (AreEffects self.old.state (calls.Dma device address access whim) (request_reply result)
+            self.new.state) }
+        ensures quiet { Asks self.new (λ effects. effects ≡ []) }
     {
-        self.effects.clear();
+        forget(&mut self.effects, &mut self.untold);
         let state: &mut State = &mut self.state;
         state.keeps();
         state.dma(device, address, access, whim)
@@ -280,9 +317,10 @@ impl Driven {
         requires { self.old.state.calls < CALLS_END }
         ensures does { Does self.old.state (calls.Evict kind place) Done self.new.state }
         ensures tells { self.new.tells ≡ self.old.tells }
-        ensures effects { AreEffects self.old.state (calls.Evict kind place) Done self.new.state self.new.effects }
+        ensures effects { Asks self.new (AreEffects self.old.state (calls.Evict kind place) Done self.new.state) }
+        ensures quiet { Asks self.new (λ effects. effects ≡ []) }
     {
-        self.effects.clear();
+        forget(&mut self.effects, &mut self.untold);
         let state: &mut State = &mut self.state;
         state.keeps();
         state.evict(kind, place);
@@ -293,9 +331,9 @@ impl Driven {
         requires { self.old.state.calls < CALLS_END }
         ensures does { Does self.old.state (calls.Drop domain) (done_reply result) self.new.state }
         ensures tells { self.new.tells ≡ self.old.tells }
-        ensures effects { AreEffects self.old.state (calls.Drop domain) (done_reply result) self.new.state self.new.effects }
+        ensures effects { Asks self.new (AreEffects self.old.state (calls.Drop domain) (done_reply result) self.new.state) }
     {
-        self.effects.clear();
+        forget(&mut self.effects, &mut self.untold);
         let state: &mut State = &mut self.state;
         state.keeps();
         let waits = state.waits();
@@ -318,42 +356,23 @@ impl Driven {
         ensures does { Does self.old.state (calls.Map domain frame pages order rights) (mapped_reply result) self.new.state }
         ensures tells { self.new.tells ≡ self.old.tells }
         ensures effects { self.old.tells ≡ true
-            → AreEffects self.old.state (calls.Map domain frame pages order rights) (mapped_reply result)
-            self.new.state self.new.effects }
-    {
-        if self.tells {
-            return self.map_and_tell(domain, frame, pages, order, rights);
-        }
-        self.state.map(domain, frame, pages, order, rights)
-    }
-
-    // Never inlined, as the two below: who tells nothing only asks whether to.
-    #[inline(never)]
-    fn map_and_tell(
-        &mut self,
-        domain: u64,
-        frame: u64,
-        pages: u64,
-        order: u64,
-        rights: u64,
-    ) -> Result<u64, Refusal>
-        requires { self.old.state.calls < CALLS_END }
-        ensures does { Does self.old.state (calls.Map domain frame pages order rights) (mapped_reply result) self.new.state }
-        ensures tells { self.new.tells ≡ self.old.tells }
-        ensures effects { AreEffects self.old.state (calls.Map domain frame pages order rights) (mapped_reply result)
-            self.new.state self.new.effects }
+            → Asks self.new (AreEffects self.old.state (calls.Map domain frame pages order rights) (mapped_reply result) self.new.state) }
     {
         let Driven {
             state,
             effects,
-            noted,
+            untold,
+            tells,
             ..
         } = self;
         let state: &mut State = state;
+        forget(effects, untold);
         state.keeps();
-        note_map(effects, noted, state, domain);
+        let before = Before::of(state);
         let address = state.map(domain, frame, pages, order, rights)?;
-        tell_map(effects, noted, state, domain, address / PAGE_BYTES, pages);
+        if *tells {
+            *untold = Untold::Map(before.mapped(state, domain, address, pages));
+        }
         Ok(address)
     }
 
@@ -369,47 +388,24 @@ impl Driven {
         ensures does { Does self.old.state (calls.MapList domain order rights segments.now) (mapped_reply result) self.new.state }
         ensures tells { self.new.tells ≡ self.old.tells }
         ensures effects { self.old.tells ≡ true
-            → AreEffects self.old.state (calls.MapList domain order rights segments.now) (mapped_reply result)
-            self.new.state self.new.effects }
-    {
-        if self.tells {
-            return self.map_list_and_tell(domain, order, rights, segments);
-        }
-        self.state.map_list(domain, order, rights, segments)
-    }
-
-    #[inline(never)]
-    fn map_list_and_tell(
-        &mut self,
-        domain: u64,
-        order: u64,
-        rights: u64,
-        segments: &ArrayVec<Segment, MOST_SEGMENTS>,
-    ) -> Result<u64, Refusal>
-        requires { self.old.state.calls < CALLS_END }
-        ensures does { Does self.old.state (calls.MapList domain order rights segments.now) (mapped_reply result) self.new.state }
-        ensures tells { self.new.tells ≡ self.old.tells }
-        ensures effects { AreEffects self.old.state (calls.MapList domain order rights segments.now) (mapped_reply result)
-            self.new.state self.new.effects }
+            → Asks self.new (AreEffects self.old.state (calls.MapList domain order rights segments.now) (mapped_reply result)
+            self.new.state) }
     {
         let Driven {
             state,
             effects,
-            noted,
+            untold,
+            tells,
             ..
         } = self;
         let state: &mut State = state;
+        forget(effects, untold);
         state.keeps();
-        note_map(effects, noted, state, domain);
+        let before = Before::of(state);
         let placed = state.map_segments(domain, order, rights, segments.as_slice())?;
-        tell_map(
-            effects,
-            noted,
-            state,
-            domain,
-            placed.address / PAGE_BYTES,
-            placed.pages,
-        );
+        if *tells {
+            *untold = Untold::Map(before.mapped(state, domain, placed.address, placed.pages));
+        }
         Ok(placed.address)
     }
 
@@ -420,35 +416,27 @@ impl Driven {
         ensures does { Does self.old.state (calls.Unmap domain address pages) (unmapped_reply result) self.new.state }
         ensures tells { self.new.tells ≡ self.old.tells }
         ensures effects { self.old.tells ≡ true
-            → AreEffects self.old.state (calls.Unmap domain address pages) (unmapped_reply result)
-            self.new.state self.new.effects }
-    {
-        if self.tells {
-            return self.unmap_and_tell(domain, address, pages);
-        }
-        self.state.unmap(domain, address, pages)
-    }
-
-    #[inline(never)]
-    fn unmap_and_tell(&mut self, domain: u64, address: u64, pages: u64) -> Result<Unmapped, Refusal>
-        requires { self.old.state.calls < CALLS_END }
-        ensures does { Does self.old.state (calls.Unmap domain address pages) (unmapped_reply result) self.new.state }
-        ensures tells { self.new.tells ≡ self.old.tells }
-        ensures effects { AreEffects self.old.state (calls.Unmap domain address pages) (unmapped_reply result)
-            self.new.state self.new.effects }
+            → Asks self.new (AreEffects self.old.state (calls.Unmap domain address pages) (unmapped_reply result) self.new.state) }
     {
         let Driven {
             state,
             effects,
-            noted,
-            ..
+            untold,
+            tables,
+            tells,
         } = self;
         let state: &mut State = state;
+        forget(effects, untold);
         state.keeps();
-        note_unmap(effects, noted, state, domain, address, pages);
+        let before = Before::of(state);
+        if *tells {
+            note(tables, state, domain, address, pages);
+        }
         let unmapped = state.unmap(domain, address, pages)?;
-        let first = address / PAGE_BYTES;
-        tell_unmap(effects, noted, state, domain, first, unmapped.released());
+        if *tells {
+            let released = unmapped.released();
+            *untold = Untold::Unmap(before.ended(state, domain, address, pages, released));
+        }
         Ok(unmapped)
     }
 }

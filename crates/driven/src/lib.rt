@@ -6,11 +6,11 @@ mod detaching;
 mod driven;
 mod effect;
 pub mod laws;
-mod noting;
 mod stepping;
 mod telling;
 #[cfg(test)]
 mod tests;
+mod untold;
 
 pub use driven::Driven;
 pub use effect::Effect;

@@ -5,8 +5,8 @@ ghost use Rattle.arrayvec.specs.ArrayVec.{array_vec_len};
 ghost use Rattle.engine.specs.Domains.{domain_at};
 ghost use Rattle.engine.specs.Walkable.{table_at};
 ghost use Rattle.driven.specs.Effects.{IsSending};
-ghost use Rattle.driven.specs.Telling.{AreTablesOf, BringsLevel, BringsLowest, BringsPart, BringsTable, BringsUpper, BringsWhole};
-ghost use Rattle.driven.specs.Telling.{BringsFrames, BringsMapped, BringsUnmapped, BringsWalks, HasSent, IsSentBy, StayInPart, TablesStay};
+ghost use Rattle.driven.specs.Telling.{AreLeftOut, AreTablesOf, BringsLevel, BringsLowest, BringsPart, BringsTable, BringsUpper};
+ghost use Rattle.driven.specs.Telling.{BringsFrames, BringsWhole, BringsMapped, BringsUnmapped, BringsWalks, HasSent, IsSentBy, StayInPart, TablesStay};
 ghost use Rattle.driven.specs.Telling.{most_tables};
 ghost use Rattle.driven.specs.declared.effect.Effect.{Effect};
 ghost use Rattle.vtdbits.specs.Descriptor.{descriptor_of};
@@ -95,6 +95,17 @@ pub(crate) fn fill_tables(tables: &mut Tables, state: &State, domain: u64, first
     }
 }
 
+/// Takes no table for one that was there before.
+pub(crate) fn leave_out_tables(tables: &mut Tables, first: u64, last: u64)
+    requires { (first ≤ last) × (last / SPAN_PAGES < first / SPAN_PAGES + MOST_SPANS) }
+    ensures { AreLeftOut first last tables.new.items }
+{
+    tables.clear();
+    for _span in first / SPAN_PAGES..last / SPAN_PAGES + 1 {
+        tables.push(None);
+    }
+}
+
 /// Tells of each span of the pages from one to another. Where its table of level 1 stays, these are the words of the pages. Where
 /// it went or came, all words of the one and of the other. Answers whether each span had a table that stays.
 pub(crate) fn bring_lowest(
@@ -155,26 +166,23 @@ pub(crate) fn bring_walks(effects: &mut Effects, state: &State, domain: u64, fir
     bring_upper(effects, state, domain, first, last);
 }
 
-/// Tells the words of so many pages, from a first one on, that a map changed, where this was the table of level 1 on the way of a page
-/// near them before it. A table that was there stays, and is named by what it was.
+/// Tells the words of so many pages, from a first one on, that a map changed, which made a table or didn't.
 pub(crate) fn bring_mapped(
     effects: &mut Effects,
     state: &State,
     domain: u64,
     first: u64,
     pages: u64,
-    near: u64,
-    table: Option<Frame>,
+    grew: bool,
 )
     requires pages { (1 ≤ pages) × (pages ≤ MOST_PAGES) × (first + pages ≤ PAGES_END) }
     requires room { array_vec_len effects.old + 17 ≤ MOST_EFFECTS }
     ensures { (more : List Effect) × (effects.new.items ≡ effects.old.items ++ more) × (length more ≤ 17)
-        × BringsMapped state.now.pool (domain_at state.now.domains domain) first (first + pages) near table more }
+        × BringsMapped state.now.pool (domain_at state.now.domains domain) first (first + pages) grew more }
 {
     let last = first + pages - 1;
-    if let Some(frame) = table {
-        let span = near / SPAN_PAGES;
-        if first / SPAN_PAGES == span && last / SPAN_PAGES == span {
+    if !grew && first / SPAN_PAGES == last / SPAN_PAGES {
+        if let Some(frame) = state.table_at(domain, first, 1) {
             effects.push(part(frame, first, last));
             effects.push(Effect::Barrier);
             return;

@@ -31,8 +31,10 @@ fn word(frame: Frame, first: u64) -> Effect {
 fn effects_of_a_page(rt: HostRuntime) -> Result<(), Fail> {
     let mut driven = Driven::new(rt.alloc(), 16, false)?;
     assert_eq!(rt; driven.domain(Mode::Strict, Width::W39), Ok(1));
+    driven.tell();
     assert!(rt; driven.effects().is_empty());
     assert_eq!(rt; driven.attach(3, 1), Ok(()));
+    driven.tell();
     assert_eq!(rt;
         driven.effects(),
         [Effect::Context { device: 3 }, Effect::Barrier].as_slice()
@@ -41,6 +43,7 @@ fn effects_of_a_page(rt: HostRuntime) -> Result<(), Fail> {
     let lowest = driven.state().table_at(1, 1, 1).expect(&rt, "a table");
     let middle = driven.state().table_at(1, 1, 2).expect(&rt, "a table");
     let root = driven.state().table_at(1, 1, 3).expect(&rt, "a table");
+    driven.tell();
     assert_eq!(rt;
         driven.effects(),
         [
@@ -53,6 +56,7 @@ fn effects_of_a_page(rt: HostRuntime) -> Result<(), Fail> {
         .as_slice()
     );
     assert_eq!(rt; driven.unmap(1, 0x1000, 1), Ok(Unmapped::Free));
+    driven.tell();
     assert_eq!(rt;
         driven.effects(),
         [
@@ -66,11 +70,13 @@ fn effects_of_a_page(rt: HostRuntime) -> Result<(), Fail> {
     );
     // The tables are there now.
     assert_eq!(rt; driven.map(1, 0x100, 1, 0, 3), Ok(0x1000));
+    driven.tell();
     assert_eq!(rt;
         driven.effects(),
         [word(lowest, 1), Effect::Barrier].as_slice()
     );
     assert_eq!(rt; driven.unmap(1, 0x1000, 1), Ok(Unmapped::Free));
+    driven.tell();
     assert_eq!(rt;
         driven.effects(),
         [
@@ -83,7 +89,51 @@ fn effects_of_a_page(rt: HostRuntime) -> Result<(), Fail> {
         .as_slice()
     );
     assert!(rt; driven.unmap(1, 0x1000, 1).is_err());
+    driven.tell();
     assert!(rt; driven.effects().is_empty());
+    Ok(())
+}
+
+// All words of a table frame.
+fn whole(frame: Frame) -> Effect {
+    Effect::Words {
+        frame,
+        first: 0,
+        count: 512,
+    }
+}
+
+#[test]
+fn effects_where_tables_come_and_go(rt: HostRuntime) -> Result<(), Fail> {
+    let mut driven = Driven::new(rt.alloc(), 16, false)?;
+    assert_eq!(rt; driven.domain(Mode::Strict, Width::W39), Ok(1));
+    // A leaf of 2 MiB.
+    assert_eq!(rt; driven.map(1, 0x200, 512, 9, 3), Ok(0x20_0000));
+    let middle = driven.state().table_at(1, 512, 2).expect(&rt, "a table");
+    driven.tell();
+    assert_eq!(rt; driven.effects().len(), 4);
+    assert_eq!(rt; driven.effects().get(1), Some(&word(middle, 1)));
+    // It is split: the table that comes is brought whole before it is named.
+    assert_eq!(rt; driven.unmap(1, 0x20_1000, 1), Ok(Unmapped::Free));
+    let lowest = driven.state().table_at(1, 512, 1).expect(&rt, "a table");
+    driven.tell();
+    assert_eq!(rt; driven.effects().len(), 8);
+    assert_eq!(rt; driven.effects().get(0), Some(&whole(lowest)));
+    assert_eq!(rt; driven.effects().get(1), Some(&Effect::Barrier));
+    assert_eq!(rt; driven.effects().get(2), Some(&word(middle, 1)));
+    // A span of leaves of 4 KiB: its table goes with it, and is cleared.
+    assert_eq!(rt; driven.map(1, 0x801, 512, 9, 3), Ok(0x40_0000));
+    let gone = driven.state().table_at(1, 1024, 1).expect(&rt, "a table");
+    assert_eq!(rt; driven.unmap(1, 0x40_0000, 512), Ok(Unmapped::Free));
+    driven.tell();
+    assert_eq!(rt; driven.effects().get(0), Some(&whole(gone)));
+    assert_eq!(rt; driven.effects().get(2), Some(&word(middle, 2)));
+    assert_eq!(rt; driven.state().table_at(1, 1024, 1), None);
+    // In a table that stays the page's word alone.
+    assert_eq!(rt; driven.unmap(1, 0x20_2000, 1), Ok(Unmapped::Free));
+    driven.tell();
+    assert_eq!(rt; driven.effects().get(0), Some(&word(lowest, 2)));
+    assert_eq!(rt; driven.effects().len(), 5);
     Ok(())
 }
 
@@ -114,6 +164,7 @@ fn a_detach_with_a_flush(rt: HostRuntime) -> Result<(), Fail> {
         Ok(Unmapped::Retired { released: 0 })
     );
     assert_eq!(rt; driven.detach_all(3), Ok(1));
+    driven.tell();
     assert_eq!(rt;
         driven.effects(),
         [
@@ -130,6 +181,7 @@ fn a_detach_with_a_flush(rt: HostRuntime) -> Result<(), Fail> {
     );
     assert_eq!(rt; driven.state().domain_of(3), None);
     assert_eq!(rt; driven.detach_all(3), Err(Refusal::NotAttached));
+    driven.tell();
     assert!(rt; driven.effects().is_empty());
     Ok(())
 }
@@ -146,9 +198,11 @@ fn requests_and_evictions_ask_nothing(rt: HostRuntime) -> Result<(), Fail> {
     };
     let answer = driven.dma(3, 0x1234, Access::Read, whim);
     assert!(rt; matches!(answer, Ok(Ok(hit)) if hit.host == 0x10_0234));
+    driven.tell();
     assert!(rt; driven.effects().is_empty());
     assert_eq!(rt; driven.attach(4, 1), Ok(()));
     driven.evict(Cache::Leaf, 0);
+    driven.tell();
     assert!(rt; driven.effects().is_empty());
     Ok(())
 }
@@ -173,8 +227,10 @@ fn what_waits_is_done_up_to_a_wait(rt: HostRuntime) -> Result<(), Fail> {
     assert_eq!(rt; driven.begin(1), Ok(3));
     // What the last call asks stays where the wait was never sent.
     assert_eq!(rt; done(&mut driven, 4), None);
+    driven.tell();
     assert_eq!(rt; driven.effects().len(), 2);
     assert_eq!(rt; done(&mut driven, 0), Some(0));
+    driven.tell();
     assert!(rt; driven.effects().is_empty());
     assert_eq!(rt; done(&mut driven, 1), Some(2));
     assert_eq!(rt; driven.reap(1, 2), Ok(None));

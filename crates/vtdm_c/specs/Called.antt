@@ -11,7 +11,9 @@ use Rattle.engine.specs.Quarantine.{Quarantine}
 use Rattle.engine.specs.State.{IsNew, State, flushed_reply}
 use Rattle.engine.specs.Steps.{Does}
 use Rattle.dmatypes.specs.declared.refusal.Refusal.{Refusal}
+use Rattle.driven.specs.Driven.{Asks, IsTold, having_told}
 use Rattle.driven.specs.Effects.{AreEffects, DetachesAll}
+use Rattle.driven.specs.declared.effect.Effect as driven
 use Rattle.driven.specs.UpTo.{DoesUpTo}
 use Rattle.driven.specs.declared.telling.TheConstants.{MOST_EFFECTS}
 use Rattle.vtdm_c.specs.Answers.{answer_of, lone, told}
@@ -30,10 +32,10 @@ state_of s = s.driven.state
 abbrev pub IsSame : Session → Session → Type 0
 IsSame s t = (t.driven.tells ≡ s.driven.tells) × (t.status ≡ s.status)
 
--- the state makes the call; where that is told, these are its effects
+-- the state makes the call; where that is told, what it asks are its effects
 pub record Makes (s : Session) (call : Call) (reply : Reply) (t : Session) : Type 0 where
   pub does : Does (state_of s) call reply (state_of t)
-  pub asks : s.driven.tells ≡ true → AreEffects (state_of s) call reply (state_of t) t.driven.effects
+  pub asks : s.driven.tells ≡ true → Asks t.driven (AreEffects (state_of s) call reply (state_of t))
   pub same : IsSame s t
 
 -- a state that has answered all calls that it can stays as it is; any other makes the call, and the answer says its reply
@@ -46,7 +48,11 @@ pub record AnsweredAll (s : Session) (device : ℕ) (answer : Answer) (t : Sessi
   pub spent : CALLS_END ≤ (state_of s).calls + 1 → (answer ≡ lone SPENT) × (t ≡ s)
   pub does : (state_of s).calls + 1 < CALLS_END
       → (result : Result ℕ Refusal) × (answer ≡ answer_of (flushed_reply result))
-      × DetachesAll (state_of s) device result (state_of t) t.driven.effects × IsSame s t
+      × Asks t.driven (DetachesAll (state_of s) device result (state_of t)) × IsSame s t
+
+-- nothing is asked
+abbrev pub AreNone : List driven.Effect → Type 0
+AreNone effects = effects ≡ []
 
 -- what waits up to a wait that was sent is done, where a call for each that waits can be answered still. After it nothing is asked
 pub record AnsweredUpTo (s : Session) (wait : ℕ) (answer : Answer) (t : Session) : Type 0 where
@@ -54,16 +60,22 @@ pub record AnsweredUpTo (s : Session) (wait : ℕ) (answer : Answer) (t : Sessio
   pub none : (state_of s).calls + length (state_of s).iommu.ring.waiting ≤ CALLS_END → (state_of s).iommu.sent < wait
       → (answer ≡ lone NO_WAIT) × (t ≡ s)
   pub does : (state_of s).calls + length (state_of s).iommu.ring.waiting ≤ CALLS_END → wait ≤ (state_of s).iommu.sent
-      → (steps : ℕ) × (answer ≡ told steps) × DoesUpTo (state_of s) wait steps (state_of t) × (t.driven.effects ≡ []) × IsSame s t
+      → (steps : ℕ) × (answer ≡ told steps) × DoesUpTo (state_of s) wait steps (state_of t) × Asks t.driven AreNone × IsSame s t
 
--- what the last call asks is told once; where there are fewer places for it, it can be told still
+-- these effects are told, and that once; where there are fewer places for them, they can be told still
+pub record TakesThese (effects : List driven.Effect) (s : Session) (old : List Effect) (answer : Answer) (new : List Effect) (t : Session)
+    : Type 0 where
+  pub few : length old < length effects
+      → (answer ≡ lone FEW_PLACES) × (new ≡ old) × (t.driven ≡ having_told s.driven effects t.driven.tables) × (t.status ≡ s.status)
+  pub told : length effects ≤ length old
+      → (answer ≡ told (length effects)) × AreTold s.status effects old new × (state_of t ≡ state_of s) × IsSame s t × Asks t.driven AreNone
+  pub enough : MOST_EFFECTS ≤ length old → answer.status ≡ OK
+
+-- what the last call asks is told
 pub record Takes (s : Session) (old : List Effect) (answer : Answer) (new : List Effect) (t : Session) : Type 0 where
   pub alone : s.driven.tells ≡ false → (answer ≡ lone NOT_DRIVEN) × (new ≡ old) × (t ≡ s)
-  pub few : s.driven.tells ≡ true → length old < length s.driven.effects → (answer ≡ lone FEW_PLACES) × (new ≡ old) × (t ≡ s)
-  pub told : s.driven.tells ≡ true → length s.driven.effects ≤ length old
-      → (answer ≡ told (length s.driven.effects)) × AreTold s.status s.driven.effects old new × (state_of t ≡ state_of s) × IsSame s t
-      × (t.driven.effects ≡ [])
-  pub enough : s.driven.tells ≡ true → MOST_EFFECTS ≤ length old → answer.status ≡ OK
+  pub takes : s.driven.tells ≡ true
+      → (effects : List driven.Effect) × (IsTold s.driven effects × TakesThese effects s old answer new t)
 
 -- a handle with no manager stays one, and a manager stays at its handle and answers
 abbrev pub Calls : Option Session → Call → Answer → Option Session → Type 0
@@ -113,7 +125,7 @@ pub record IsNewState (frames : ℕ) (caching : Bool) (m : State) : Type 0 where
 abbrev pub IsNewSession : ℕ → Bool → Option ℕ → Session → Type 0
 IsNewSession frames caching None s = IsNewState frames caching (state_of s) × (s.driven.tells ≡ false)
 IsNewSession frames caching (Some address) s =
-    IsNewState frames caching (state_of s) × (s.driven.tells ≡ true) × (s.driven.effects ≡ []) × (s.status ≡ address)
+    IsNewState frames caching (state_of s) × (s.driven.tells ≡ true) × Asks s.driven AreNone × (s.status ≡ address)
 
 -- a status is of 32 bits, at a multiple of 4
 abbrev pub IsAddress : Option ℕ → Type 0

@@ -201,13 +201,14 @@ impl Session {
         Answer::lone(Answer::OK)
     }
 
-    /// Tells what the last call asks, and that once: after it nothing is asked. With fewer places nothing is told.
+    /// Hands out what the last call asks, and that once: after it nothing is asked. With fewer places it hands out nothing.
     pub(crate) fn take_effects(&mut self, to: &mut [Effect]) -> Answer
         ensures { Takes self.old to.old result to.new self.new }
     {
         if !self.driven.tells() {
             return Answer::lone(Answer::NOT_DRIVEN);
         }
+        self.driven.tell();
         let effects = self.driven.effects();
         let count = effects.len();
         if to.len() < count {

@@ -39,6 +39,13 @@ impl State {
         self.calls
     }
 
+    /// How many table frames are free. It changes nothing, and isn't counted as a call.
+    pub fn free_frames(&self) -> u64
+        ensures { result ≡ length self.now.pool.free }
+    {
+        self.pool.free_count()
+    }
+
     /// What is free, used, held, open and waiting, over all domains. It changes nothing, and isn't counted as a call.
     pub fn totals(&self) -> Totals
         ensures { result ≡ totals_of self.now }

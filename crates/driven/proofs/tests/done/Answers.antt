@@ -2,7 +2,7 @@ use Rattle.std.proofs.Common.{◌≡◌, ℕ, ◌+◌, ◌≤◌, Option, None, 
 use Rattle.std.specs.Prelude.{IfSome, IsNone}
 use Rattle.engine.specs.Tickets.{KeepsTickets}
 use Rattle.engine.proofs.caches.ReadyToSend.{waiting_few}
-use Rattle.driven.specs.Effects.{Driven}
+use Rattle.driven.specs.Driven.{Driven}
 use Rattle.driven.specs.UpTo.{DoesUpTo}
 use Rattle.driven.proofs.Stepped.{left_after}
 use Rattle.driven.proofs.tests.done.Goals as goal

@@ -9,7 +9,7 @@ use Rattle.engine.specs.Steps.{Does}
 use Rattle.engine.specs.Tickets.{KeepsTickets}
 use Rattle.quiet.specs.Quiet.{IsSound}
 use Rattle.driven.specs.Effects.{AreEffects}
-use Rattle.driven.proofs.Asked.{nothing, sends_none}
+use Rattle.driven.proofs.Asked.{all_told, nothing, sends_none}
 use Rattle.driven.proofs.Rows.{rows}
 use Rattle.driven.proofs.Told.{refused}
 use Rattle.driven.proofs.driven.Driven.domain.Goals as goal
@@ -30,9 +30,10 @@ asked m t mode width (Err r) sound tickets does = refused m t (calls.Domain mode
 
 pub returns-clause-effects : goal.returns-clause-effects
 returns-clause-effects c =
+    all_told _ _ _ _ _ c.forget.ensures.all (
     let sound : IsSound c.deref_mut-state.result.now = record { of_world = c.keeps.ensures.of_world; places = c.keeps.ensures.places } in
     subst (λ es. AreEffects c.args.self.now.state (calls.Domain c.args.mode c.args.width) (made_reply c.domain.result) c.domain.new.self es)
-    (sym c.clear.ensures)
+    (sym c.forget.ensures.told)
     (rw (← c.self.view_is, ← c.deref_mut-state.ensures.value)
     (asked c.deref_mut-state.result.now c.domain.new.self c.args.mode c.args.width c.domain.result sound
-    c.keeps.ensures.tickets c.domain.ensures))
+    c.keeps.ensures.tickets c.domain.ensures)))

@@ -8,7 +8,7 @@ use Rattle.engine.specs.Steps.{Does}
 use Rattle.engine.specs.Tickets.{KeepsTickets}
 use Rattle.quiet.specs.Quiet.{IsSound}
 use Rattle.driven.specs.Effects.{AreEffects, IsQuiet}
-use Rattle.driven.proofs.Asked.{nothing, sends_none}
+use Rattle.driven.proofs.Asked.{all_told, nothing, sends_none}
 use Rattle.driven.proofs.Rows.{rows}
 use Rattle.driven.proofs.Told.{refused}
 use Rattle.driven.proofs.driven.Driven.reap.Goals as goal
@@ -32,7 +32,8 @@ asked m t d n (Err r) sound tickets does = refused m t (calls.Reap d n) r does
 
 pub returns-clause-effects : goal.returns-clause-effects
 returns-clause-effects c =
+    all_told _ _ _ _ _ c.forget.ensures.all (
     let sound : IsSound c.deref_mut-state.result.now = record { of_world = c.keeps.ensures.of_world; places = c.keeps.ensures.places } in
-    rw (← c.self.view_is, ← c.deref_mut-state.ensures.value, c.clear.ensures)
+    rw (← c.self.view_is, ← c.deref_mut-state.ensures.value, c.forget.ensures.told)
     (asked c.deref_mut-state.result.now c.reap.new.self c.args.domain c.args.number c.reap.result sound c.keeps.ensures.tickets
-    c.reap.ensures)
+    c.reap.ensures))
