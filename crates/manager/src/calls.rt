@@ -1,5 +1,6 @@
-//! A book's calls by name, for whoever knows what it calls: each is `Book::call` of that call, and no call is made in memory to be moved
-//! or looked at. What each does and which reasons it refuses with, `engine::State` says at the method of the same name.
+//! A book's calls by name, for whoever knows what it calls: each is `Book::call` of that call. They are inlined, so that no call is looked
+//! at by its kind, and of a call only the segments of `map_list` are made in memory and moved. What each does and which reasons it refuses
+//! with, `engine::State` says at the method of the same name.
 
 ghost use Rattle.dmatypes.specs.declared.call.Call.TheVariants as calls;
 ghost use Rattle.manager.specs.Called.{IsCalled};
