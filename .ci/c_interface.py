@@ -37,6 +37,7 @@ FLAVOURS = {
 PROGRAMS = {
     "rows": (["answers.c", "script.c"], [], [ADDRESS, VALGRIND]),
     "statuses": (["statuses.c"], [], [ADDRESS, VALGRIND]),
+    "bases": (["bases.c"], [], [ADDRESS, VALGRIND]),
     "walk": (["walk.c"], [], [ADDRESS, VALGRIND]),
     "effects": (["effects.c", "unit.c"], [], [ADDRESS, VALGRIND]),
     "memory": (["memory.c"], ["-Wl,--wrap=malloc,--wrap=realloc,--wrap=free"], [ADDRESS]),

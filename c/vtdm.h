@@ -50,9 +50,9 @@
  * vtdm_destroy gives it back, and no other function asks for any. The words of the table frames are one block of it,
  * asked for by one malloc of VTDM_PAGE_BYTES times the frames and written whole before a creation returns. Those of frame F begin
  * F * VTDM_PAGE_BYTES bytes after those of frame 0, where the block begins. So an allocator that puts this block at host address 0
- * lets a unit walk the tables in place (see *A unit of your own*). A contract says that the words of one frame lie one after the other.
- * Three more things are how the code is. The frames lie so. A word is stored at once. A table that takes the place of a leaf of 2 MiB
- * is filled before the word that names it.
+ * lets a unit walk the tables in place, where the base is 0 (see *A unit of your own*). A contract says that the words of one frame lie
+ * one after the other. Three more things are how the code is. The frames lie so. A word is stored at once. A table that takes the place of
+ * a leaf of 2 MiB is filled before the word that names it.
  *
  * IT DOES NOT WEAR OUT. A manager answers VTDM_CALLS_END calls, 2^56, and VTDM_SPENT to each further one, since its counts have 64
  * bits. Nobody gets there: at a billion calls a second it takes more than two years. Readers are not counted; vtdm_detach_all counts
@@ -126,7 +126,7 @@ enum vtdm_status {
     VTDM_BUSY = 3,              /* the device is attached; or a device is attached to the domain, or one of its tickets is open */
     VTDM_NOT_ATTACHED = 4,      /* the device is attached to no domain */
     VTDM_BAD_RANGE = 5,         /* pages, frames, order, rights or address are outside their limits, or a page to unmap is none */
-    VTDM_FRAME_OWNED = 6,       /* a segment begins at a table frame */
+    VTDM_FRAME_OWNED = 6,       /* a segment has a table frame */
     VTDM_NO_RANGE = 7,          /* no free range is long enough, which does not happen with the limits above at either width */
     VTDM_NO_FRAMES = 8,         /* too few table frames are free */
     VTDM_TOO_MANY_PIECES = 9,   /* the range cuts a piece of the address space, and there are VTDM_MOST_PIECES - 1 or more */
@@ -156,7 +156,8 @@ enum vtdm_status {
     VTDM_NOT_DRIVEN = 74,    /* vtdm_effects: the manager was not made by vtdm_create_driven */
     VTDM_FEW_PLACES = 75,    /* vtdm_effects: there are more effects than places */
     VTDM_BAD_ADDRESS = 76,   /* vtdm_create_driven: the status address is no multiple of 4 */
-    VTDM_NO_WAIT = 77        /* vtdm_done_up_to: fewer waits than this number were sent */
+    VTDM_NO_WAIT = 77,       /* vtdm_done_up_to: fewer waits than this number were sent */
+    VTDM_BAD_BASE = 78       /* vtdm_create_driven: the base is no multiple of 512, or a table frame would be none of host memory */
 };
 
 /* What a device may do with a page: one of these, or both by `|`. */
@@ -185,9 +186,11 @@ uint64_t vtdm_create(struct vtdm *manager, uint64_t frames);
 uint64_t vtdm_create_caching(struct vtdm *manager, uint64_t frames);
 
 /* Makes a manager for a unit of your own, with Caching Mode or without it: vtdm_effects tells after each call what it asks (see *A unit
- * of your own*). `status` is the host address of 4 bytes of yours, which hold 0 at first: the unit writes the status of each wait there.
- * Otherwise as vtdm_create. VTDM_BAD_ADDRESS is judged after VTDM_BAD_FRAMES and before VTDM_NO_MEMORY. */
-uint64_t vtdm_create_driven(struct vtdm *manager, uint64_t frames, bool caching, uint64_t status);
+ * of your own*). Its table frames are host frames `base` to base + frames - 1, all below VTDM_FRAMES_END, and `base` is a multiple of 512,
+ * which is 2 MiB: table frame F is host frame base + F. `status` is the host address of 4 bytes of yours, which hold 0 at first: the unit
+ * writes the status of each wait there. Otherwise as vtdm_create. VTDM_BAD_ADDRESS and then VTDM_BAD_BASE are judged after VTDM_BAD_FRAMES
+ * and before VTDM_NO_MEMORY. */
+uint64_t vtdm_create_driven(struct vtdm *manager, uint64_t frames, uint64_t base, bool caching, uint64_t status);
 
 /* Ends the manager, if there is one, and frees its memory. Then the struct is as at VTDM_INIT and can be used again. */
 void vtdm_destroy(struct vtdm *manager);
@@ -313,8 +316,8 @@ struct vtdm_answer vtdm_mode_of(struct vtdm *manager, uint64_t domain);
 struct vtdm_answer vtdm_width_of(struct vtdm *manager, uint64_t domain);
 
 /* ---- A unit of your own, emulated or real, which a manager of vtdm_create_driven is in charge of. It reads the tables, word I of table
- * frame F at host address F * VTDM_PAGE_BYTES + 8 * I; the context entries; and the descriptors in its queue. examples/qemu/unit.c does
- * all of this.
+ * frame F at host address (base + F) * VTDM_PAGE_BYTES + 8 * I; the context entries; and the descriptors in its queue.
+ * examples/qemu/unit.c does all of this.
  *
  * WHAT IT HAS. By its capability registers: second-stage tables of the widths that you use (SAGAW), leaves of 2 MiB, queued
  * invalidation (QI) and page-selective invalidation (PSI) of up to 2^9 pages (MAMV). It drains writes and reads (DWD, DRD). Say by
@@ -331,9 +334,10 @@ struct vtdm_answer vtdm_width_of(struct vtdm *manager, uint64_t domain);
  *  3. Take its effects (vtdm_effects), and do what each asks, one after the other.
  *  4. Release the lock. Now what the call set free may be used for something else, and not before.
  *
- * TABLES IN PLACE. Where the unit walks the library's own words (MEMORY, above), pass over VTDM_EFFECT_WORDS: they are there already. The
- * other effects stay. But an unmap that flushes first may then use a table frame before the flush is done. So never unmap there in a
- * domain with VTDM_MOST_RECORDS retired ranges (vtdm_domain_totals): call vtdm_flush before, with its effects.
+ * TABLES IN PLACE. Where the unit walks the library's own words (MEMORY, above), pass over VTDM_EFFECT_WORDS: they are there already. That
+ * takes a base of 0, since the library's own words count host frames from the base. The other effects stay. But an unmap that flushes
+ * first may then use a table frame before the flush is done. So never unmap there in a domain with VTDM_MOST_RECORDS retired ranges
+ * (vtdm_domain_totals): call vtdm_flush before, with its effects.
  *
  * WHERE A CALL NEEDS MORE.
  *  - vtdm_dma, vtdm_evict, vtdm_unit and vtdm_done_up_to are of the library's own unit here too. They have no effects.
@@ -389,8 +393,8 @@ struct vtdm_answer vtdm_effects(struct vtdm *manager, struct vtdm_effect *to, si
 struct vtdm_answer vtdm_root_of(struct vtdm *manager, uint64_t domain);
 
 /* The word of a table frame at an index, 0 to 511. In a table it is a second-stage entry, 0 where nothing is present. Else bit 0 is
- * the right to read, bit 1 the right to write, and bit 7 says that it is a leaf of 2 MiB. Bits 12 and up are the frame of the next
- * table or of the first page. The words of a frame that no table uses mean nothing. VTDM_NO_WORD. */
+ * the right to read, bit 1 the right to write, and bit 7 says that it is a leaf of 2 MiB. Bits 12 and up are the host frame of the next
+ * table or of the first page: table frame F is host frame base + F. The words of a frame that no table uses mean nothing. VTDM_NO_WORD. */
 struct vtdm_answer vtdm_table_word(struct vtdm *manager, uint64_t frame, uint64_t index);
 
 /* Copies `count` words of a table frame from index `first` on to `to`: up to all 512, and none where `count` is 0. Each is what
@@ -398,7 +402,7 @@ struct vtdm_answer vtdm_table_word(struct vtdm *manager, uint64_t frame, uint64_
 uint64_t vtdm_words(struct vtdm *manager, uint64_t frame, uint64_t first, uint64_t *to, size_t count);
 
 /* The two words of the context entry of a device, in legacy mode, both 0 where it is attached to no domain. Else bit 0 of the low word
- * is set, and its bits 12 and up are the root's frame. The high word has the address width (AGAW) in bits 0 to 2 and the id of the
+ * is set, and its bits 12 and up are the root's host frame. The high word has the address width (AGAW) in bits 0 to 2 and the id of the
  * domain in bits 8 to 23. The width is 1 (39 bits, the root is a table of level 3) or 2 (48 bits, level 4). VTDM_NO_DEVICE. */
 struct vtdm_context_answer {
     uint64_t status;

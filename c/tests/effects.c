@@ -8,6 +8,9 @@
 
 enum { DOMAINS = 4, CALLS = 4000, MOST_LIVE = 80, TICKETS = 32, PROBES = 12, LEAST = 20, LEAST_OF_A_KIND = 100 };
 
+/* Where table frame 0 is, in half of the runs: among the host frames that are mapped. */
+static const uint64_t BASE = 0x2000;
+
 /* Where a unit of our own writes the status of a wait, and where the library's does; and what says that a descriptor is a wait. */
 static const uint64_t STATUS = UINT64_C(0x123456784), STATUS_OF_LIBRARY = UINT64_C(1) << 36;
 enum { KIND = 15, WAIT = 5 };
@@ -284,20 +287,20 @@ static void call_some(struct vtdm *manager) {
 }
 
 /* A manager, and a unit that was told nothing yet. */
-static void make(struct vtdm *manager, bool caching) {
-    unit_begin(caching);
+static void make(struct vtdm *manager, bool caching, uint64_t base) {
+    unit_begin(caching, base);
     unit_meanwhile = look;
     memset(told, 0, sizeof told);
     waits_sent = words_behind = refused = unmaps_that_flushed = reaped = 0;
     count = begun = 0;
-    CHECK(vtdm_create_driven(manager, TABLE_FRAMES, caching, STATUS) == VTDM_OK);
+    CHECK(vtdm_create_driven(manager, TABLE_FRAMES, base, caching, STATUS) == VTDM_OK);
 }
 
 /* An unmap takes the table of one span of 2 MiB away and puts one in the place of the next span's leaf. While its words reach memory, no
  * page of the one is found as a page of the other. */
-static void cut_and_split(bool lazy, bool wide) {
+static void cut_and_split(bool lazy, bool wide, uint64_t base) {
     struct vtdm manager = VTDM_INIT;
-    make(&manager, false);
+    make(&manager, false, base);
     ANSWERS(followed(&manager, wide ? vtdm_domain_wide(&manager, lazy) : vtdm_domain(&manager, lazy)), VTDM_OK, 1);
     ANSWERS(followed(&manager, vtdm_attach(&manager, 3, 1)), VTDM_OK, 0);
     uint64_t small = followed(&manager, vtdm_map(&manager, 1, 0x101, TABLE_WORDS, 9, RIGHTS)).value;
@@ -310,9 +313,9 @@ static void cut_and_split(bool lazy, bool wide) {
     vtdm_destroy(&manager);
 }
 
-static void random_calls(bool caching, bool is_patient) {
+static void random_calls(bool caching, bool is_patient, uint64_t base) {
     struct vtdm manager = VTDM_INIT;
-    make(&manager, caching);
+    make(&manager, caching, base);
     patient = is_patient;
     for (uint64_t domain = 1; domain <= DOMAINS; domain++)
         ANSWERS(followed(&manager, make_domain(&manager, domain)), VTDM_OK, domain);
@@ -331,8 +334,9 @@ static void random_calls(bool caching, bool is_patient) {
 
 int main(void) {
     for (int i = 0; i < 4; i++) {
-        cut_and_split(i % 2, i / 2);
-        random_calls(i % 2, i / 2);
+        const uint64_t base = i == 1 || i == 2 ? BASE : 0;
+        cut_and_split(i % 2, i / 2, base);
+        random_calls(i % 2, i / 2, base);
     }
     return check_end();
 }

@@ -61,11 +61,16 @@ void __wrap_free(void *block) {
 /* How a manager is made: without Caching Mode, with it, and either for a unit of one's own. */
 enum creation { PLAIN, CACHING, DRIVEN, DRIVEN_CACHING, CREATIONS };
 
+/* Where the table frames begin then. */
+static uint64_t base_of(enum creation how) {
+    return how == DRIVEN_CACHING ? TABLE_WORDS : 0;
+}
+
 static uint64_t create(struct vtdm *manager, uint64_t frames, enum creation how) {
     switch (how) {
     case PLAIN: return vtdm_create(manager, frames);
     case CACHING: return vtdm_create_caching(manager, frames);
-    default: return vtdm_create_driven(manager, frames, how == DRIVEN_CACHING, 0x8000);
+    default: return vtdm_create_driven(manager, frames, base_of(how), how == DRIVEN_CACHING, 0x8000);
     }
 }
 
@@ -96,8 +101,9 @@ static void judge_before(void) {
     struct vtdm manager = VTDM_INIT;
     asked = 0;
     refused = 1;
-    CHECK(vtdm_create_driven(&manager, 64, false, 0x8001) == VTDM_BAD_ADDRESS);
-    CHECK(vtdm_create_driven(&manager, 15, false, 0x8000) == VTDM_BAD_FRAMES);
+    CHECK(vtdm_create_driven(&manager, 64, 0, false, 0x8001) == VTDM_BAD_ADDRESS);
+    CHECK(vtdm_create_driven(&manager, 64, 1, false, 0x8000) == VTDM_BAD_BASE);
+    CHECK(vtdm_create_driven(&manager, 15, 0, false, 0x8000) == VTDM_BAD_FRAMES);
     CHECK(asked == 0 && held == 0);
     refused = 0;
 }
@@ -126,13 +132,15 @@ static void create_and_destroy(void) {
     CHECK(same);
 }
 
-/* Whether each word of the table frames stands at its place in the block, and how many are present. */
-static bool is_in_order(struct vtdm *manager, uint64_t frames, uint64_t *present) {
+/* Whether each word of the table frames stands at its place in the block, where frames are counted from the base; and how many are
+ * present. */
+static bool is_in_order(struct vtdm *manager, uint64_t frames, uint64_t base, uint64_t *present) {
     bool same = true;
     *present = 0;
     for (uint64_t place = 0; place < frames * TABLE_WORDS; place++) {
         struct vtdm_answer word = vtdm_table_word(manager, place / TABLE_WORDS, place % TABLE_WORDS);
-        same = same && word.status == VTDM_OK && word.value == block_found[place];
+        uint64_t found = block_found[place] ? block_found[place] + base * VTDM_PAGE_BYTES : 0;
+        same = same && word.status == VTDM_OK && word.value == found;
         *present += word.value != 0;
     }
     return same;
@@ -147,13 +155,13 @@ static void words_in_order(uint64_t frames, enum creation how) {
     CHECK(create(&manager, frames, how) == VTDM_OK);
     sought = 0;
     if (CHECK(blocks_found == 1)) {
-        CHECK(is_in_order(&manager, frames, &present) && present == 0);
+        CHECK(is_in_order(&manager, frames, base_of(how), &present) && present == 0);
         ANSWERS(vtdm_domain(&manager, false), VTDM_OK, 1);
         ANSWERS(vtdm_domain_wide(&manager, true), VTDM_OK, 2);
         CHECK(vtdm_map(&manager, 1, 0x8000, 1024, 9, VTDM_READ).status == VTDM_OK);
         CHECK(vtdm_map(&manager, 1, 0x2000, 5, 0, VTDM_READ | VTDM_WRITE).status == VTDM_OK);
         CHECK(vtdm_map(&manager, 2, 0x3001, 600, 0, VTDM_WRITE).status == VTDM_OK);
-        CHECK(is_in_order(&manager, frames, &present) && present > 600);
+        CHECK(is_in_order(&manager, frames, base_of(how), &present) && present > 600);
     }
     vtdm_destroy(&manager);
 }

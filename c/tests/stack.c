@@ -38,7 +38,7 @@ static void *make(void *place) {
     use(&manager, tried);
     expect(tried, vtdm_create_caching(&manager, TABLE_FRAMES) == VTDM_OK);
     use(&manager, tried);
-    expect(tried, vtdm_create_driven(&manager, TABLE_FRAMES, true, 0) == VTDM_OK);
+    expect(tried, vtdm_create_driven(&manager, TABLE_FRAMES, 2 * PAGES, true, 0) == VTDM_OK);
     use(&manager, tried);
     return NULL;
 }

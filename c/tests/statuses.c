@@ -357,7 +357,7 @@ static void check_effects(void) {
     struct vtdm_effect effects[VTDM_MOST_EFFECTS];
     for (size_t i = 0; i < VTDM_MOST_EFFECTS; i++)
         effects[i] = none;
-    CHECK(vtdm_create_driven(&manager, 64, false, 0) == VTDM_OK);
+    CHECK(vtdm_create_driven(&manager, 64, 0, false, 0) == VTDM_OK);
     ANSWERS(vtdm_effects(&manager, effects, 0), VTDM_OK, 0);
     ANSWERS(vtdm_domain(&manager, false), VTDM_OK, 1);
     ANSWERS(vtdm_effects(&manager, effects, 0), VTDM_OK, 0);
@@ -399,7 +399,7 @@ static void check_effects(void) {
 /* What waits is done up to a wait: some of it, all, nothing where that is done already or where the wait was never sent. */
 static void check_done_up_to(void) {
     struct vtdm manager = VTDM_INIT;
-    CHECK(vtdm_create_driven(&manager, 64, false, 0) == VTDM_OK);
+    CHECK(vtdm_create_driven(&manager, 64, 0, false, 0) == VTDM_OK);
     ANSWERS(vtdm_domain(&manager, true), VTDM_OK, 1);
     ANSWERS(vtdm_done_up_to(&manager, 0), VTDM_OK, 0);
     ANSWERS(vtdm_done_up_to(&manager, 1), VTDM_NO_WAIT, 0);
@@ -430,18 +430,18 @@ static bool is_empty(const struct vtdm *manager) {
     return manager->at == NULL && !manager->live;
 }
 
-/* A driven manager's table frames, and then the address of its status, are judged before it is made. */
+/* A driven manager's table frames, then the address of its status and then its base are judged before it is made. */
 static void check_addresses(void) {
     static const uint64_t good[] = {0, 4, UINT64_C(1) << 36, UINT64_MAX - 3};
     struct vtdm manager = VTDM_INIT;
     for (size_t i = 0; i < sizeof good / sizeof good[0]; i++) {
         for (uint64_t more = 1; more < 4; more++) {
-            CHECK(vtdm_create_driven(&manager, 64, more % 2, good[i] + more) == VTDM_BAD_ADDRESS && is_empty(&manager));
-            CHECK(vtdm_create_driven(&manager, 15, more % 2, good[i] + more) == VTDM_BAD_FRAMES && is_empty(&manager));
+            CHECK(vtdm_create_driven(&manager, 64, more, more % 2, good[i] + more) == VTDM_BAD_ADDRESS && is_empty(&manager));
+            CHECK(vtdm_create_driven(&manager, 15, more, more % 2, good[i] + more) == VTDM_BAD_FRAMES && is_empty(&manager));
         }
-        CHECK(vtdm_create_driven(&manager, 15, true, good[i]) == VTDM_BAD_FRAMES && is_empty(&manager));
-        CHECK(vtdm_create_driven(&manager, 64, i % 2, good[i]) == VTDM_OK && !is_empty(&manager));
-        CHECK(vtdm_create_driven(&manager, UINT64_MAX, false, UINT64_MAX) == VTDM_PRESENT);
+        CHECK(vtdm_create_driven(&manager, 15, 0, true, good[i]) == VTDM_BAD_FRAMES && is_empty(&manager));
+        CHECK(vtdm_create_driven(&manager, 64, 0, i % 2, good[i]) == VTDM_OK && !is_empty(&manager));
+        CHECK(vtdm_create_driven(&manager, UINT64_MAX, UINT64_MAX, false, UINT64_MAX) == VTDM_PRESENT);
         CHECK(vtdm_create(&manager, 64) == VTDM_PRESENT);
         vtdm_destroy(&manager);
         CHECK(is_empty(&manager));
@@ -459,7 +459,7 @@ int main(void) {
     CHECK(vtdm_create(&manager, 64) == VTDM_PRESENT);
     CHECK(vtdm_create(&manager, 0) == VTDM_PRESENT);
     CHECK(vtdm_create_caching(&manager, 64) == VTDM_PRESENT);
-    CHECK(vtdm_create_driven(&manager, 0, false, 1) == VTDM_PRESENT);
+    CHECK(vtdm_create_driven(&manager, 0, 1, false, 1) == VTDM_PRESENT);
     CHECK(vtdm_create(&other, 4096) == VTDM_OK);
     check_edges();
     check_caching_mode(false);

@@ -19,6 +19,9 @@ void (*unit_meanwhile)(void);
 
 static bool caching_mode;
 
+/* The host frame of table frame 0. */
+static uint64_t first_frame;
+
 /* The status that the last wait wrote. */
 static uint32_t status;
 
@@ -40,7 +43,8 @@ uint64_t pick(uint64_t below) {
     return (seed >> 33) % below;
 }
 
-void unit_begin(bool caching) {
+void unit_begin(bool caching, uint64_t base) {
+    first_frame = base;
     memset(&unit_memory, 0, sizeof unit_memory);
     memset(cached, 0, sizeof cached);
     unit_head = unit_tail = unit_waits = 0;
@@ -56,15 +60,15 @@ static int lowest(int level) {
     return 12 + 9 * (level - 1);
 }
 
-/* A walk from a root of so many levels on. */
+/* A walk from a root, by its host frame, of so many levels on. */
 static uint64_t walk_from(const struct memory *memory, uint64_t table, int levels, uint64_t address) {
     uint64_t rights = RIGHTS;
     if (address >> lowest(levels + 1))
         return 0;
     for (int level = levels; level > 0; level--) {
-        if (table >= TABLE_FRAMES)
+        if (table - first_frame >= TABLE_FRAMES)
             return WILD;
-        uint64_t word = memory->words[table][address >> lowest(level) & (TABLE_WORDS - 1)];
+        uint64_t word = memory->words[table - first_frame][address >> lowest(level) & (TABLE_WORDS - 1)];
         rights &= word;
         if (!rights)
             return 0;
@@ -112,7 +116,8 @@ bool unit_remembers_right(struct vtdm *manager, const struct memory *said) {
         struct vtdm_answer root = vtdm_root_of(manager, domain);
         if (root.status != VTDM_OK)
             return false;
-        uint64_t now = walk_from(said, root.value, vtdm_width_of(manager, domain).value == 48 ? 4 : 3, cached[i].page * PAGE);
+        int levels = vtdm_width_of(manager, domain).value == 48 ? 4 : 3;
+        uint64_t now = walk_from(said, first_frame + root.value, levels, cached[i].page * PAGE);
         bool retired = found && !now && vtdm_domain_totals(manager, domain).retired;
         if (found != now && !retired)
             return false;

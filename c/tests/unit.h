@@ -37,8 +37,8 @@ extern uint64_t unit_head, unit_tail, unit_waits;
 /* Called at each word that becomes another. */
 extern void (*unit_meanwhile)(void);
 
-/* The unit is as one that was told nothing yet, with Caching Mode or without it. */
-void unit_begin(bool caching);
+/* The unit is as one that was told nothing yet, with Caching Mode or without it. Table frame 0 is this host frame. */
+void unit_begin(bool caching, uint64_t base);
 
 /* Does what an effect asks of it. An effect that can't be done is answered by false. */
 bool unit_follow(struct vtdm *manager, const struct vtdm_effect *effect);

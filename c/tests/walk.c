@@ -1,9 +1,13 @@
 /* The tables, walked by their words alone as a unit with empty caches does: after each kind of call that changes them, and of random
- * domains, where each walk agrees with what the manager answers. */
+ * domains, where each walk agrees with what the manager answers. All of it where the table frames begin at host frame 0, in the midst of
+ * the frames that are mapped, and behind them at the last place where they can. */
 #include "check.h"
 #include "vtdm.h"
 
 enum { DOMAINS = 4, STEPS = 20000, MOST_LIVE = 400, LEAST_REACHED = 1000, TABLE_FRAMES = 64 };
+
+/* A host frame among those that are mapped. */
+enum { AMONG = 0x2000 };
 
 /* Tables of second-stage paging: their words, the bytes of a page, and the bit of a leaf of 2 MiB. */
 enum { TABLE_WORDS = 512, PAGE = 4096, LARGE = 0x80 };
@@ -11,6 +15,9 @@ enum { TABLE_WORDS = 512, PAGE = 4096, LARGE = 0x80 };
 /* The address width in a context entry's high word: its bits, its numbers for 39 and for 48 bits of address, and how many levels of
  * tables a walk has more than its number. */
 enum { AGAW = 7, AGAW_39 = 1, AGAW_48 = 2, LEVELS_OVER_AGAW = 2 };
+
+/* The host frame of table frame 0. */
+static uint64_t base;
 
 static uint64_t seed = 20;
 
@@ -24,8 +31,13 @@ static int lowest(int level) {
     return 12 + 9 * (level - 1);
 }
 
+/* The word for an address in the table at a host frame. */
 static uint64_t word_at(struct vtdm *manager, uint64_t table, uint64_t address, int level) {
-    return vtdm_table_word(manager, table, address >> lowest(level) & (TABLE_WORDS - 1)).value;
+    return vtdm_table_word(manager, table - base, address >> lowest(level) & (TABLE_WORDS - 1)).value;
+}
+
+static uint64_t root_of(struct vtdm *manager, uint64_t domain) {
+    return base + vtdm_root_of(manager, domain).value;
 }
 
 /* What a unit that remembers nothing reads for a request: the host byte address, or a fault by its status. */
@@ -56,17 +68,17 @@ static bool is_wide(struct vtdm *manager, uint64_t domain) {
 
 /* The word of level 2 for an address, of a domain that has tables there. */
 static uint64_t word_of_2_mib(struct vtdm *manager, uint64_t domain, uint64_t address) {
-    uint64_t table = vtdm_root_of(manager, domain).value;
+    uint64_t table = root_of(manager, domain);
     for (int level = is_wide(manager, domain) ? 4 : 3; level > 2; level--)
         table = word_at(manager, table, address, level) >> 12;
     return word_at(manager, table, address, 2);
 }
 
-/* How many words of a table are present. */
+/* How many words of the table at a host frame are present. */
 static int present(struct vtdm *manager, uint64_t table) {
     int count = 0;
     for (uint64_t index = 0; index < TABLE_WORDS; index++)
-        count += vtdm_table_word(manager, table, index).value != 0;
+        count += vtdm_table_word(manager, table - base, index).value != 0;
     return count;
 }
 
@@ -74,8 +86,13 @@ static struct vtdm_answer make_domain(struct vtdm *manager, bool lazy, bool wide
     return wide ? vtdm_domain_wide(manager, lazy) : vtdm_domain(manager, lazy);
 }
 
+static void create(struct vtdm *manager) {
+    uint64_t status = base ? vtdm_create_driven(manager, TABLE_FRAMES, base, false, 0) : vtdm_create(manager, TABLE_FRAMES);
+    CHECK(status == VTDM_OK);
+}
+
 static void make(struct vtdm *manager, bool lazy, bool wide) {
-    CHECK(vtdm_create(manager, TABLE_FRAMES) == VTDM_OK);
+    create(manager);
     ANSWERS(make_domain(manager, lazy, wide), VTDM_OK, 1);
     ANSWERS(vtdm_attach(manager, 3, 1), VTDM_OK, 0);
 }
@@ -110,11 +127,11 @@ static void unmap_splits(bool wide) {
     ANSWERS(walk(&manager, 3, at + 0x1008, true), VTDM_OK, 0x401008);
     ANSWERS(vtdm_unmap(&manager, 1, at + PAGE, 1), VTDM_OK, 0);
     uint64_t word = word_of_2_mib(&manager, 1, at), table = word >> 12;
-    CHECK((word & (PAGE - 1)) == (VTDM_READ | VTDM_WRITE) && table < TABLE_FRAMES);
+    CHECK((word & (PAGE - 1)) == (VTDM_READ | VTDM_WRITE) && table - base < TABLE_FRAMES);
     CHECK(present(&manager, table) == TABLE_WORDS - 1);
     for (uint64_t index = 0; index < TABLE_WORDS; index++) {
         uint64_t wanted = index == 1 ? 0 : (0x400 + index) << 12 | VTDM_READ | VTDM_WRITE;
-        ANSWERS(vtdm_table_word(&manager, table, index), VTDM_OK, wanted);
+        ANSWERS(vtdm_table_word(&manager, table - base, index), VTDM_OK, wanted);
     }
     ANSWERS(walk(&manager, 3, at + 0x1008, true), VTDM_FAULT_WRITE, 0);
     ANSWERS(walk(&manager, 3, at + 0x2008, true), VTDM_OK, 0x402008);
@@ -126,7 +143,7 @@ static void unmap_splits(bool wide) {
 static void drop(bool wide) {
     struct vtdm manager = VTDM_INIT;
     make(&manager, true, wide);
-    uint64_t root = vtdm_root_of(&manager, 1).value;
+    uint64_t root = root_of(&manager, 1);
     mapped(&manager, 0x101, TABLE_WORDS, 0, VTDM_READ);
     uint64_t at = mapped(&manager, 0x101, TABLE_WORDS, 9, VTDM_READ);
     CHECK(present(&manager, root) == 1);
@@ -138,7 +155,7 @@ static void drop(bool wide) {
     CHECK(vtdm_totals(&manager).free == TABLE_FRAMES && vtdm_totals(&manager).held == 0);
     for (uint64_t domain = 1; domain <= VTDM_MOST_DOMAINS; domain++) {
         ANSWERS(make_domain(&manager, false, domain % 2), VTDM_OK, domain);
-        CHECK(present(&manager, vtdm_root_of(&manager, domain).value) == 0);
+        CHECK(present(&manager, root_of(&manager, domain)) == 0);
     }
     ANSWERS(vtdm_attach(&manager, 3, 1), VTDM_OK, 0);
     ANSWERS(walk(&manager, 3, 0x1234, false), VTDM_FAULT_READ, 0);
@@ -173,13 +190,16 @@ struct live {
 static struct live lives[MOST_LIVE];
 static size_t count;
 
-/* How many requests reached a host address. */
-static int reached;
+/* How many requests reached a host address, and how many maps were refused since they had a table frame. */
+static int reached, owned;
 
 static void map_some(struct vtdm *manager) {
     uint64_t order = pick(10), pages = 1 + pick(pick(2) ? 8 : 1200);
     uint64_t frame = pick(2) ? 0x1000 + 512 * pick(64) : 0x1000 + pick(9999), domain = 1 + pick(DOMAINS);
     struct vtdm_answer at = vtdm_map(manager, domain, frame, pages, order, 1 + pick(3));
+    bool own = frame < base + TABLE_FRAMES && base < frame + pages;
+    CHECK((at.status == VTDM_FRAME_OWNED) == own);
+    owned += own;
     if (at.status == VTDM_OK && count < MOST_LIVE)
         lives[count++] = (struct live){domain, at.value, pages};
 }
@@ -236,7 +256,7 @@ static void check_contexts(struct vtdm *manager) {
     for (uint64_t device = 0; device < VTDM_DEVICES; device++) {
         struct vtdm_context_answer context = vtdm_context(manager, device);
         struct vtdm_answer domain = vtdm_domain_of(manager, device);
-        uint64_t root = domain.status == VTDM_OK ? vtdm_root_of(manager, domain.value).value : 0;
+        uint64_t root = domain.status == VTDM_OK ? root_of(manager, domain.value) : 0;
         uint64_t width = is_wide(manager, domain.value) ? AGAW_48 : AGAW_39;
         CHECK(context.low == (domain.status == VTDM_OK ? root << 12 | 1 : 0));
         CHECK(context.high == (domain.status == VTDM_OK ? domain.value << 8 | width : 0));
@@ -245,7 +265,10 @@ static void check_contexts(struct vtdm *manager) {
 
 static void random_domains(void) {
     struct vtdm manager = VTDM_INIT;
-    CHECK(vtdm_create(&manager, TABLE_FRAMES) == VTDM_OK);
+    create(&manager);
+    count = 0;
+    reached = 0;
+    owned = 0;
     for (uint64_t domain = 1; domain <= DOMAINS; domain++)
         ANSWERS(make_domain(&manager, domain % 2, domain > DOMAINS / 2), VTDM_OK, domain);
     for (uint64_t device = 0; device < VTDM_DEVICES - 2; device++)
@@ -259,16 +282,21 @@ static void random_domains(void) {
         }
     }
     CHECK(reached > LEAST_REACHED);
+    CHECK((owned > 0) == (base == AMONG));
     vtdm_destroy(&manager);
 }
 
 int main(void) {
-    for (int wide = 0; wide < 2; wide++) {
-        detach(wide);
-        unmap_splits(wide);
-        drop(wide);
-        flush(wide);
+    static const uint64_t bases[] = {0, AMONG, VTDM_FRAMES_END - TABLE_WORDS};
+    for (size_t i = 0; i < sizeof bases / sizeof bases[0]; i++) {
+        base = bases[i];
+        for (int wide = 0; wide < 2; wide++) {
+            detach(wide);
+            unmap_splits(wide);
+            drop(wide);
+            flush(wide);
+        }
+        random_domains();
     }
-    random_domains();
     return check_end();
 }

@@ -14,6 +14,13 @@ enum { BROUGHT = 0 };
 enum { BROUGHT = TABLE_FRAMES };
 #endif
 
+/* The host frame of table frame 0. */
+#ifdef BASE
+enum { FIRST_TABLE = 0x4200 };
+#else
+enum { FIRST_TABLE = 0 };
+#endif
+
 /* ---- Calls, each followed by the unit */
 
 static uint64_t called(const char *what, struct vtdm_answer answer) {
@@ -68,10 +75,10 @@ static struct {
 
 /* What the words in memory, or those of the manager, say of a page: the leaf's word for it, or 0. */
 static uint64_t walk(uint64_t page, bool in_memory) {
-    uint64_t table = vtdm_root_of(&manager, watched.domain).value;
+    uint64_t table = FIRST_TABLE + vtdm_root_of(&manager, watched.domain).value;
     for (int level = vtdm_width_of(&manager, watched.domain).value == 48 ? 4 : 3; level > 0; level--) {
         uint64_t index = page >> 9 * (level - 1) & 511;
-        uint64_t word = in_memory ? *word64(table * PAGE + 8 * index) : vtdm_table_word(&manager, table, index).value;
+        uint64_t word = in_memory ? *word64(table * PAGE + 8 * index) : vtdm_table_word(&manager, table - FIRST_TABLE, index).value;
         if (!(word & 3) || level == 1)
             return word;
         if (word & 0x80)
@@ -324,8 +331,8 @@ static bool begin(void) {
 #else
     bool caching = false;
 #endif
-    unit_on(BROUGHT, OWN_PAGES);
-    return vtdm_create_driven(&manager, TABLE_FRAMES, caching, unit_status()) == VTDM_OK;
+    unit_on(BROUGHT, FIRST_TABLE, OWN_PAGES);
+    return vtdm_create_driven(&manager, TABLE_FRAMES, FIRST_TABLE, caching, unit_status()) == VTDM_OK;
 }
 
 void run(void) {

@@ -4,6 +4,7 @@
 # replies and moments agree with the library's own unit, and how many differ. Ends with status 0 where none differs. A NAME is one of:
 #   WIDE                   domains and a unit of 48 bits
 #   CACHING                a unit with Caching Mode
+#   BASE                   the table frames begin behind the guest, and not at host frame 0
 #   IN_PLACE               the library's own words are the unit's tables, and none is copied
 # or of those that show that the guest can fail:
 #   WITHOUT_DESCRIPTORS    only waits are queued
@@ -27,7 +28,7 @@ for name in "$@"; do
     case $name in
         WIDE) width=48 ;;
         CACHING) caching=on ;;
-        IN_PLACE | WITHOUT_DESCRIPTORS | WRONG_ORDER | WORDS_LATE | WRONG_HALVES | DETACH_ALONE) ;;
+        BASE | IN_PLACE | WITHOUT_DESCRIPTORS | WRONG_ORDER | WORDS_LATE | WRONG_HALVES | DETACH_ALONE) ;;
         *)
             echo "run.sh: $name is no name" >&2
             exit 2

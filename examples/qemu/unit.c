@@ -19,7 +19,7 @@ static const uint32_t TRANSLATE = 1u << 31, SET_ROOT = 1u << 30, QUEUED = 1u << 
 enum { WORDS = 512, PLACES = 256, WAIT = 5, WAIT_WRITES = 0x25 };
 
 static struct {
-    uint64_t frames, contexts, queue, status;
+    uint64_t frames, base, contexts, queue, status;
     uint32_t command;
     uint32_t tail; /* of the queue in memory; what the unit was told of is in its register */
     uint64_t own;  /* waits of our own */
@@ -98,12 +98,13 @@ void unit_forget_absence(uint64_t device) {
 
 /* ---- On and off */
 
-void unit_on(uint64_t frames, uint64_t own) {
+void unit_on(uint64_t frames, uint64_t base, uint64_t own) {
     unit.frames = frames;
+    unit.base = base;
     unit.contexts = own + PAGE;
     unit.queue = own + 2 * PAGE;
     unit.status = own + 3 * PAGE;
-    clear(0, frames * PAGE);
+    clear(base * PAGE, frames * PAGE);
     clear(own, 4 * PAGE);
     *word64(own) = unit.contexts | 1; /* bus 0 */
     *word64(REGISTERS + ROOT_TABLE) = own;
@@ -147,7 +148,7 @@ static void bring_words(struct vtdm *manager, struct vtdm_effect it) {
         uint64_t count = left < WORDS - first ? left : WORDS - first;
         vtdm_words(manager, frame, first, words, count);
         for (uint64_t i = 0; i < count; i++)
-            bring(frame * PAGE + 8 * (first + i), words[i]);
+            bring((unit.base + frame) * PAGE + 8 * (first + i), words[i]);
         left -= count;
     }
 }

@@ -8,10 +8,10 @@
 #include <stdbool.h>
 #include <stdint.h>
 
-/* Turns the unit on over tables from host address 0 on, which hold no words yet. The words of table frames are brought there: of so many
- * that the manager is made with, or of none where its own words lie there. Four pages from `own` on are for the root table, the context
- * table, the queue and the status that waits write, whose address is unit_status. */
-void unit_on(uint64_t frames, uint64_t own);
+/* Turns the unit on over tables from the host frame `base` on, which hold no words yet. The words of table frames are brought there: of so
+ * many that the manager is made with, or of none where its own words lie there. Four pages from `own` on are for the root table, the
+ * context table, the queue and the status that waits write, whose address is unit_status. */
+void unit_on(uint64_t frames, uint64_t base, uint64_t own);
 uint64_t unit_status(void);
 
 /* Turns translation off: devices then reach memory by its own addresses. */

@@ -17,12 +17,14 @@ use Rattle.driven.specs.declared.effect.Effect as driven
 use Rattle.driven.specs.UpTo.{DoesUpTo}
 use Rattle.driven.specs.declared.telling.TheConstants.{MOST_EFFECTS}
 use Rattle.vtdm_c.specs.Answers.{answer_of, lone, told}
+use Rattle.vtdm_c.specs.Base.{IsBase, by_hosts, by_numbers}
 use Rattle.vtdm_c.specs.Effects.{AreTold}
 use Rattle.vtdm_c.specs.Segments.{named}
 use Rattle.vtdm_c.specs.declared.answer.Answer.{Answer}
-use Rattle.vtdm_c.specs.declared.answer.TheConstants.Answer.{ABSENT, BAD_ADDRESS, BAD_CACHE, BAD_FRAMES, FEW_PLACES, MANY_SEGMENTS}
-use Rattle.vtdm_c.specs.declared.answer.TheConstants.Answer.{NOT_DRIVEN, NO_MEMORY, NO_WAIT, OK, PRESENT, SPENT}
+use Rattle.vtdm_c.specs.declared.answer.TheConstants.Answer.{ABSENT, BAD_ADDRESS, BAD_BASE, BAD_CACHE, BAD_FRAMES, FEW_PLACES}
+use Rattle.vtdm_c.specs.declared.answer.TheConstants.Answer.{MANY_SEGMENTS, NOT_DRIVEN, NO_MEMORY, NO_WAIT, OK, PRESENT, SPENT}
 use Rattle.vtdm_c.specs.declared.effect.Effect.{Effect}
+use Rattle.vtdm_c.specs.declared.life.DrivenUnit.{DrivenUnit}
 use Rattle.vtdm_c.specs.declared.segments.Segment.{Segment}
 use Rattle.vtdm_c.specs.declared.session.Session.{Session}
 
@@ -30,7 +32,7 @@ abbrev pub state_of : Session → State
 state_of s = s.driven.state
 
 abbrev pub IsSame : Session → Session → Type 0
-IsSame s t = (t.driven.tells ≡ s.driven.tells) × (t.status ≡ s.status)
+IsSame s t = (t.driven.tells ≡ s.driven.tells) × (t.base ≡ s.base) × (t.status ≡ s.status)
 
 -- the state makes the call; where that is told, what it asks are its effects
 pub record Makes (s : Session) (call : Call) (reply : Reply) (t : Session) : Type 0 where
@@ -38,10 +40,12 @@ pub record Makes (s : Session) (call : Call) (reply : Reply) (t : Session) : Typ
   pub asks : s.driven.tells ≡ true → Asks t.driven (AreEffects (state_of s) call reply (state_of t))
   pub same : IsSame s t
 
--- a state that has answered all calls that it can stays as it is; any other makes the call, and the answer says its reply
+-- a state that has answered all calls that it can stays as it is; any other makes the call by its numbers of host frames, and the answer
+-- says its reply
 pub record Answered (s : Session) (call : Call) (answer : Answer) (t : Session) : Type 0 where
   pub spent : CALLS_END ≤ (state_of s).calls → (answer ≡ lone SPENT) × (t ≡ s)
-  pub does : (state_of s).calls < CALLS_END → (reply : Reply) × (answer ≡ answer_of reply) × Makes s call reply t
+  pub does : (state_of s).calls < CALLS_END
+      → (reply : Reply) × (answer ≡ answer_of (by_hosts s.base.first call reply)) × Makes s (by_numbers s.base.first call) reply t
 
 -- the same of a detach and the flush of the domain that follows it, where two calls can be answered still
 pub record AnsweredAll (s : Session) (device : ℕ) (answer : Answer) (t : Session) : Type 0 where
@@ -66,7 +70,8 @@ pub record AnsweredUpTo (s : Session) (wait : ℕ) (answer : Answer) (t : Sessio
 pub record TakesThese (effects : List driven.Effect) (s : Session) (old : List Effect) (answer : Answer) (new : List Effect) (t : Session)
     : Type 0 where
   pub few : length old < length effects
-      → (answer ≡ lone FEW_PLACES) × (new ≡ old) × (t.driven ≡ having_told s.driven effects t.driven.tables) × (t.status ≡ s.status)
+      → (answer ≡ lone FEW_PLACES) × (new ≡ old) × (t.driven ≡ having_told s.driven effects t.driven.tables)
+      × (t.base ≡ s.base) × (t.status ≡ s.status)
   pub told : length effects ≤ length old
       → (answer ≡ told (length effects)) × AreTold s.status effects old new × (state_of t ≡ state_of s) × IsSame s t × Asks t.driven AreNone
   pub enough : MOST_EFFECTS ≤ length old → answer.status ≡ OK
@@ -116,31 +121,50 @@ abbrev pub Reads : {A : Type 0} → A → (State → A → Type 0) → Option Se
 Reads absent Finds None answer after = (answer ≡ absent) × (after ≡ None)
 Reads absent Finds (Some s) answer after = Finds (state_of s) answer × (after ≡ Some s)
 
+-- the same of a reader of words, which name host frames
+abbrev pub ReadsWords : {A : Type 0} → A → (ℕ → State → A → Type 0) → Option Session → A → Option Session → Type 0
+ReadsWords absent Finds None answer after = (answer ≡ absent) × (after ≡ None)
+ReadsWords absent Finds (Some s) answer after = Finds s.base.first (state_of s) answer × (after ≡ Some s)
+
 -- it is new, its unit has Caching Mode or not as was asked, and it is a state of the empty world
 pub record IsNewState (frames : ℕ) (caching : Bool) (m : State) : Type 0 where
   pub new : IsNew frames caching m
   pub empty : Quarantine m (empty frames)
 
--- it tells nothing; or it tells what calls ask, which is nothing yet, and its waits write their status to this address
-abbrev pub IsNewSession : ℕ → Bool → Option ℕ → Session → Type 0
-IsNewSession frames caching None s = IsNewState frames caching (state_of s) × (s.driven.tells ≡ false)
-IsNewSession frames caching (Some address) s =
-    IsNewState frames caching (state_of s) × (s.driven.tells ≡ true) × Asks s.driven AreNone × (s.status ≡ address)
+-- where the table frames begin
+abbrev pub first_of : Option DrivenUnit → ℕ
+first_of None = 0
+first_of (Some unit) = unit.base
+
+-- Where no other unit is, it tells nothing, and its table frames begin at host frame 0. For a unit of C's it tells what calls ask, which is
+-- nothing yet; its table frames begin at this base, and its waits write their status to this address
+abbrev pub IsNewSession : ℕ → Bool → Option DrivenUnit → Session → Type 0
+IsNewSession frames caching None s = IsNewState frames caching (state_of s) × (s.driven.tells ≡ false) × (s.base.first ≡ first_of None)
+IsNewSession frames caching (Some unit) s =
+    IsNewState frames caching (state_of s) × (s.driven.tells ≡ true) × Asks s.driven AreNone
+    × (s.base.first ≡ first_of (Some unit)) × (s.status ≡ unit.status)
 
 -- a status is of 32 bits, at a multiple of 4
-abbrev pub IsAddress : Option ℕ → Type 0
-IsAddress None = Unit {0}
-IsAddress (Some address) = address % 4 ≡ 0
+abbrev pub WritesStatus : Option DrivenUnit → Type 0
+WritesStatus None = Unit {0}
+WritesStatus (Some unit) = unit.status % 4 ≡ 0
 
--- a manager is made where there is none, the number of its table frames is one that it can have, and the address one of a status, unless
--- memory is lacking
-pub record MakesManager (frames : ℕ) (caching : Bool) (address : Option ℕ) (status : ℕ) (after : Option Session) : Type 0 where
+-- its table frames can begin there
+abbrev pub HasBase : ℕ → Option DrivenUnit → Type 0
+HasBase frames None = Unit {0}
+HasBase frames (Some unit) = IsBase frames unit.base
+
+-- a manager is made where there is none, the number of its table frames is one that it can have, and a unit of C's can write its status and
+-- have the table frames where it says, unless memory is lacking
+pub record MakesManager (frames : ℕ) (caching : Bool) (unit : Option DrivenUnit) (status : ℕ) (after : Option Session) : Type 0 where
   pub bad : (frames < LEAST_TABLE_FRAMES) ⊎ (MOST_TABLE_FRAMES < frames) → (status ≡ BAD_FRAMES) × (after ≡ None)
-  pub askew : LEAST_TABLE_FRAMES ≤ frames → frames ≤ MOST_TABLE_FRAMES → (IsAddress address → ⊥) → (status ≡ BAD_ADDRESS) × (after ≡ None)
-  pub good : LEAST_TABLE_FRAMES ≤ frames → frames ≤ MOST_TABLE_FRAMES → IsAddress address
+  pub askew : LEAST_TABLE_FRAMES ≤ frames → frames ≤ MOST_TABLE_FRAMES → (WritesStatus unit → ⊥) → (status ≡ BAD_ADDRESS) × (after ≡ None)
+  pub nowhere : LEAST_TABLE_FRAMES ≤ frames → frames ≤ MOST_TABLE_FRAMES → WritesStatus unit → (HasBase frames unit → ⊥)
+      → (status ≡ BAD_BASE) × (after ≡ None)
+  pub good : LEAST_TABLE_FRAMES ≤ frames → frames ≤ MOST_TABLE_FRAMES → WritesStatus unit → HasBase frames unit
       → ((status ≡ NO_MEMORY) × (after ≡ None))
-      ⊎ ((status ≡ OK) × (s : Session) × (after ≡ Some s) × IsNewSession frames caching address s)
+      ⊎ ((status ≡ OK) × (s : Session) × (after ≡ Some s) × IsNewSession frames caching unit s)
 
-abbrev pub Creates : Option Session → ℕ → Bool → Option ℕ → ℕ → Option Session → Type 0
-Creates (Some s) frames caching address status after = (status ≡ PRESENT) × (after ≡ Some s)
-Creates None frames caching address status after = MakesManager frames caching address status after
+abbrev pub Creates : Option Session → ℕ → Bool → Option DrivenUnit → ℕ → Option Session → Type 0
+Creates (Some s) frames caching unit status after = (status ≡ PRESENT) × (after ≡ Some s)
+Creates None frames caching unit status after = MakesManager frames caching unit status after

@@ -22,6 +22,7 @@ use Rattle.tables.specs.Pool.{word}
 use Rattle.tables.specs.declared.entries.TheConstants.{TABLE_ENTRIES}
 use Rattle.vtdbits.specs.declared.words.Words.{Words}
 use Rattle.vtdm_c.specs.Answers.{found, lone, told}
+use Rattle.vtdm_c.specs.Base.{word_of, words_of}
 use Rattle.vtdm_c.specs.declared.answer.Answer.{Answer}
 use Rattle.vtdm_c.specs.declared.answer.TheConstants.Answer.{NO_DESCRIPTOR, NO_DEVICE, NO_DOMAIN, NO_WORD, NOT_ATTACHED, OK}
 use Rattle.vtdm_c.specs.declared.told.Context.{Context}
@@ -108,22 +109,23 @@ FindsWidth domain m answer = answer ≡ width_told (width_of (domain_at m.domain
 abbrev pub FindsRoot : ℕ → State → Answer → Type 0
 FindsRoot domain m answer = answer ≡ found (root_of (domain_at m.domains domain)) NO_DOMAIN
 
--- the word of a frame of the pool at an index
-pub record FindsWord (frame index : ℕ) (m : State) (answer : Answer) : Type 0 where
-  pub there : frame < m.pool.frames → index < TABLE_ENTRIES → answer ≡ told (word m.pool.words frame index)
+-- the word of a frame of the pool at an index, with host frames
+pub record FindsWord (frame index base : ℕ) (m : State) (answer : Answer) : Type 0 where
+  pub there : frame < m.pool.frames → index < TABLE_ENTRIES → answer ≡ told (word_of base (word m.pool.words frame index))
   pub no_frame : m.pool.frames ≤ frame → answer ≡ lone NO_WORD
   pub no_index : TABLE_ENTRIES ≤ index → answer ≡ lone NO_WORD
 
--- the words of a device's entry in the row of contexts
-pub record FindsContext (device : ℕ) (m : State) (answer : Context) : Type 0 where
-  pub words : device < DEVICES → (w : Words) × (answer ≡ context_told w) × SpellsContext m device w
+-- the words of a device's entry in the row of contexts, with host frames
+pub record FindsContext (device base : ℕ) (m : State) (answer : Context) : Type 0 where
+  pub words : device < DEVICES → (w : Words) × (answer ≡ context_told (words_of base w)) × SpellsContext m device w
   pub none : DEVICES ≤ device → answer ≡ no_context NO_DEVICE
 
--- the words of a frame of the pool from an index on, as many as there is room for; where they aren't all of the frame, what was there stays
-pub record FindsWords (frame first : ℕ) (old new : List ℕ) (m : State) (status : ℕ) : Type 0 where
+-- the words of a frame of the pool from an index on, with host frames, as many as there is room for; where they aren't all of the frame,
+-- what was there stays
+pub record FindsWords (frame first : ℕ) (old new : List ℕ) (base : ℕ) (m : State) (status : ℕ) : Type 0 where
   pub there : frame < m.pool.frames → first + length old ≤ TABLE_ENTRIES → status ≡ OK
   pub room : length new ≡ length old
-  pub words : status ≡ OK → (k : ℕ) → k < length old → slice_index new k ≡ word m.pool.words frame (first + k)
+  pub words : status ≡ OK → (k : ℕ) → k < length old → slice_index new k ≡ word_of base (word m.pool.words frame (first + k))
   pub no_frame : m.pool.frames ≤ frame → (status ≡ NO_WORD) × (new ≡ old)
   pub no_index : TABLE_ENTRIES < first + length old → (status ≡ NO_WORD) × (new ≡ old)
 

@@ -5,7 +5,9 @@ ghost use Rattle.engine.specs.State.{begun_reply, done_reply, flushed_reply, mad
 ghost use Rattle.engine.specs.State.{unmapped_reply};
 ghost use Rattle.dmatypes.specs.declared.reply.Reply.TheVariants.{Stepped};
 ghost use Rattle.vtdm_c.specs.Answers.{answer_of, found, lone, told};
+ghost use Rattle.vtdm_c.specs.Base.{at_host};
 
+use crate::base::Base;
 use dmatypes::{Fault, Progress, Refusal};
 use engine::{Hit, Unmapped};
 
@@ -57,6 +59,8 @@ impl Answer {
     pub const BAD_ADDRESS: u64 = 76;
     /// Fewer waits than this number were sent.
     pub const NO_WAIT: u64 = 77;
+    /// The table frames can't begin at this host frame.
+    pub const BAD_BASE: u64 = 78;
 
     /// A status with no number.
     pub(crate) fn lone(status: u64) -> Answer
@@ -145,12 +149,12 @@ impl Answer {
         }
     }
 
-    /// The answer of a request.
-    pub(crate) fn requested(answer: Result<Result<Hit, Fault>, Refusal>) -> Answer
-        ensures { result ≡ answer_of (request_reply answer) }
+    /// The answer of a request, where the table frames begin there.
+    pub(crate) fn requested(answer: Result<Result<Hit, Fault>, Refusal>, base: Base) -> Answer
+        ensures { result ≡ answer_of (at_host base.first (request_reply answer)) }
     {
         match answer {
-            Ok(Ok(hit)) => Answer::told(hit.host),
+            Ok(Ok(hit)) => Answer::told(base.address_of(hit.host)),
             Ok(Err(fault)) => Answer::lone(Answer::FAULTS + fault.number()),
             Err(refusal) => Answer::lone(refusal.number()),
         }

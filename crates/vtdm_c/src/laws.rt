@@ -1,13 +1,16 @@
-//! Laws of the statuses that C is answered by. Each function does nothing: its contract is the law.
+//! Laws of the statuses that C is answered by, and of a base of the table frames. Each function does nothing: its contract is the law.
 
 ghost use Rattle.std.specs.Prelude.{◌≡◌, ◌+◌, ◌<◌};
 ghost use Rattle.dmatypes.specs.Numbers.{fault_number, refusal_number};
 ghost use Rattle.dmatypes.specs.declared.refusal.Fault.{Fault};
 ghost use Rattle.dmatypes.specs.declared.refusal.Refusal.{Refusal};
 ghost use Rattle.dmatypes.specs.declared.refusal.Refusal.TheVariants as refusals;
-ghost use Rattle.vtdm_c.specs.declared.answer.TheConstants.Answer.{ABSENT, BAD_ADDRESS, BAD_CACHE, BAD_FRAMES, FAULTS, FEW_PLACES};
-ghost use Rattle.vtdm_c.specs.declared.answer.TheConstants.Answer.{MANY_SEGMENTS, NOT_ATTACHED, NOT_DRIVEN, NO_DESCRIPTOR, NO_DEVICE};
-ghost use Rattle.vtdm_c.specs.declared.answer.TheConstants.Answer.{NO_DOMAIN, NO_MEMORY, NO_WAIT, NO_WORD, OK, PENDING, PRESENT, SPENT};
+ghost use Rattle.vtdm_c.specs.Hosts.{ContextsNameHostFrames, FramesAreJudgedAlike, FramesAreReached, LeavesStayAligned, NothingMovesAt0};
+ghost use Rattle.vtdm_c.specs.Hosts.{WalksFindHostFrames, WordsNameHostFrames};
+ghost use Rattle.vtdm_c.specs.declared.answer.TheConstants.Answer.{ABSENT, BAD_ADDRESS, BAD_BASE, BAD_CACHE, BAD_FRAMES, FAULTS};
+ghost use Rattle.vtdm_c.specs.declared.answer.TheConstants.Answer.{FEW_PLACES, MANY_SEGMENTS, NOT_ATTACHED, NOT_DRIVEN, NO_DESCRIPTOR};
+ghost use Rattle.vtdm_c.specs.declared.answer.TheConstants.Answer.{NO_DEVICE, NO_DOMAIN, NO_MEMORY, NO_WAIT, NO_WORD, OK, PENDING, PRESENT};
+ghost use Rattle.vtdm_c.specs.declared.answer.TheConstants.Answer.{SPENT};
 
 /// A status names one thing: no two refusals have the same, and no two faults. Those of refusals lie behind that of a call
 /// that was done and before those of faults, and these before those of the interface itself, which ascend too. What a reader
@@ -20,8 +23,28 @@ pub fn statuses()
     ensures own { (ABSENT < SPENT) × (SPENT < PRESENT) × (PRESENT < BAD_FRAMES) × (BAD_FRAMES < NO_MEMORY)
         × (NO_MEMORY < MANY_SEGMENTS) × (MANY_SEGMENTS < PENDING) × (PENDING < NO_WORD) × (NO_WORD < BAD_CACHE)
         × (BAD_CACHE < NO_DESCRIPTOR) × (NO_DESCRIPTOR < NOT_DRIVEN) × (NOT_DRIVEN < FEW_PLACES) × (FEW_PLACES < BAD_ADDRESS)
-        × (BAD_ADDRESS < NO_WAIT) }
+        × (BAD_ADDRESS < NO_WAIT) × (NO_WAIT < BAD_BASE) }
     ensures domain { NO_DOMAIN ≡ refusal_number refusals.NoDomain }
     ensures device { NO_DEVICE ≡ refusal_number refusals.NoDevice }
     ensures attached { NOT_ATTACHED ≡ refusal_number refusals.NotAttached }
+{}
+
+/// By its numbers the manager refuses exactly the host frames that it has to, and what a device reaches is what was mapped. A leaf of 2 MiB
+/// is one for both. Where the table frames begin at host frame 0 the numbers are the host frames.
+pub fn frames_by_numbers()
+    ensures judged { FramesAreJudgedAlike }
+    ensures reached { FramesAreReached }
+    ensures aligned { LeavesStayAligned }
+    ensures same { NothingMovesAt0 }
+{}
+
+/// The words that are told name host frames, those of tables and those of contexts alike.
+pub fn words_name_host_frames()
+    ensures entries { WordsNameHostFrames }
+    ensures contexts { ContextsNameHostFrames }
+{}
+
+/// A unit that walks such words finds at each page what the manager's own walk finds, with its host frame.
+pub fn walks_find_host_frames()
+    ensures { WalksFindHostFrames }
 {}

@@ -15,6 +15,7 @@
 #![tactic(auto)]
 
 mod answer;
+mod base;
 mod domains;
 mod driving;
 mod effect;

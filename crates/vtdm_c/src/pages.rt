@@ -6,7 +6,7 @@ ghost use Rattle.vtdm_c.specs.Called.{Calls, MapsList};
 
 use crate::answer::Answer;
 use crate::handle::Handle;
-use crate::segments::{Segment, list_of};
+use crate::segments::Segment;
 use std::alloc::Global;
 
 /// Maps `pages` pages, from a host frame on, and answers the byte address of the first.
@@ -64,10 +64,7 @@ pub extern "C" fn vtdm_map_list(
     let Some(mut session) = handle.take(alloc) else {
         return Answer::lone(Answer::ABSENT);
     };
-    let answer = match list_of(segments) {
-        Some(list) => session.map_list(domain, order, rights, &list),
-        None => Answer::lone(Answer::MANY_SEGMENTS),
-    };
+    let answer = session.map_list(domain, order, rights, segments);
     handle.put(session);
     answer
 }

@@ -2,7 +2,7 @@
 
 ghost use Rattle.std.specs.Prelude.{◌≡◌, ◌≢◌};
 ghost use Rattle.vtdm_c.specs.Answers.{lone};
-ghost use Rattle.vtdm_c.specs.Called.{Reads};
+ghost use Rattle.vtdm_c.specs.Called.{Reads, ReadsWords};
 ghost use Rattle.vtdm_c.specs.Told.{FindsContext, FindsDevices, FindsDomainOf, FindsDomainTotals, FindsMode, FindsRoot, FindsSent};
 ghost use Rattle.vtdm_c.specs.Told.{FindsTotals, FindsWaits, FindsWidth, FindsWord, FindsWords};
 ghost use Rattle.vtdm_c.specs.Told.{no_context, no_domain_totals, no_sent, no_totals};
@@ -117,7 +117,7 @@ pub extern "C" fn vtdm_table_word(
     frame: u64,
     index: u64,
 ) -> Answer
-    ensures { Reads (lone ABSENT) (FindsWord frame index) handle.old.slot.held result handle.new.slot.held }
+    ensures { ReadsWords (lone ABSENT) (FindsWord frame index) handle.old.slot.held result handle.new.slot.held }
 {
     let Some(session) = handle.take(alloc) else {
         return Answer::lone(Answer::ABSENT);
@@ -130,7 +130,7 @@ pub extern "C" fn vtdm_table_word(
 /// The two words of the context entry of a device, 0 to 15.
 #[unsafe(no_mangle)]
 pub extern "C" fn vtdm_context(alloc: Global, handle: &mut Handle, device: u64) -> Context
-    ensures { Reads (no_context ABSENT) (FindsContext device) handle.old.slot.held result handle.new.slot.held }
+    ensures { ReadsWords (no_context ABSENT) (FindsContext device) handle.old.slot.held result handle.new.slot.held }
 {
     let Some(session) = handle.take(alloc) else {
         return Context::none(Answer::ABSENT);
@@ -149,7 +149,7 @@ pub extern "C" fn vtdm_words(
     first: u64,
     to: &mut [u64],
 ) -> u64
-    ensures reads { Reads ABSENT (FindsWords frame first to.old to.new) handle.old.slot.held result handle.new.slot.held }
+    ensures reads { ReadsWords ABSENT (FindsWords frame first to.old to.new) handle.old.slot.held result handle.new.slot.held }
     ensures kept { result ≢ OK → to.new ≡ to.old }
 {
     let Some(session) = handle.take(alloc) else {

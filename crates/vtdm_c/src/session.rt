@@ -2,32 +2,41 @@
 
 ghost use Rattle.std.specs.Prelude.{◌≡◌, ◌+◌, ◌<◌, ◌≤◌, ◌↔◌, IsTrue, length};
 ghost use Rattle.dmatypes.specs.declared.call.Call.TheVariants as calls;
-ghost use Rattle.dmatypes.specs.declared.limits.TheConstants.{CALLS_END};
+ghost use Rattle.dmatypes.specs.declared.limits.TheConstants.{CALLS_END, MOST_SEGMENTS};
 
 use crate::answer::Answer;
+use crate::base::Base;
 use crate::effect::{Effect, tell};
-use arrayvec::ArrayVec;
-use dmatypes::{Access, CALLS_END, Cache, MOST_SEGMENTS, Mode, Segment, Whim, Width};
+use crate::segments::{Segment, list_of};
+use dmatypes::{Access, CALLS_END, Cache, Mode, Whim, Width};
 use driven::Driven;
 
 mod reading;
 
-/// What a handle holds: a state that tells what calls ask, or one that doesn't, and the host address to which the unit writes the status
-/// of a wait. Each method is refused where the state has answered all that it can, but `detach_all` and `done_up_to` where it could not
-/// answer all of theirs, and then changes nothing.
+/// What a handle holds: a state that tells what calls ask, or one that doesn't; the host frame at which its table frames begin; and the
+/// host address to which the unit writes the status of a wait. Each method is refused where the state has answered all that it can, but
+/// `detach_all` and `done_up_to` where it could not answer all of theirs, and then changes nothing.
 #[derive(Drop)]
 pub struct Session {
     driven: Driven,
+    base: Base,
     status: u64,
 }
 
 impl Session {
+    ghost use Rattle.vtdm_c.specs.Answers.{lone};
     ghost use Rattle.vtdm_c.specs.Called.{Answered, AnsweredAll, AnsweredUpTo, Takes, state_of};
+    ghost use Rattle.vtdm_c.specs.Segments.{named};
+    ghost use Rattle.vtdm_c.specs.declared.answer.TheConstants.Answer.{MANY_SEGMENTS};
 
-    pub(crate) fn new(driven: Driven, status: u64) -> Session
-        ensures { (result.driven ≡ driven) × (result.status ≡ status) }
+    pub(crate) fn new(driven: Driven, base: Base, status: u64) -> Session
+        ensures { (result.driven ≡ driven) × (result.base ≡ base) × (result.status ≡ status) }
     {
-        Session { driven, status }
+        Session {
+            driven,
+            base,
+            status,
+        }
     }
 
     // Whether the state has answered all calls that it can.
@@ -110,7 +119,8 @@ impl Session {
         if self.is_spent() {
             return Answer::lone(Answer::SPENT);
         }
-        Answer::number(self.driven.map(domain, frame, pages, order, rights))
+        let number = self.base.number_of(frame, pages);
+        Answer::number(self.driven.map(domain, number, pages, order, rights))
     }
 
     pub(crate) fn map_list(
@@ -118,14 +128,19 @@ impl Session {
         domain: u64,
         order: u64,
         rights: u64,
-        segments: &ArrayVec<Segment, MOST_SEGMENTS>,
+        segments: &[Segment],
     ) -> Answer
-        ensures { Answered self.old (calls.MapList domain order rights segments.now) result self.new }
+        ensures many { MOST_SEGMENTS < length segments.now → (result ≡ lone MANY_SEGMENTS) × (self.new ≡ self.old) }
+        ensures few { length segments.now ≤ MOST_SEGMENTS
+            → Answered self.old (calls.MapList domain order rights (record { items = named segments.now })) result self.new }
     {
+        let Some(list) = list_of(segments, self.base) else {
+            return Answer::lone(Answer::MANY_SEGMENTS);
+        };
         if self.is_spent() {
             return Answer::lone(Answer::SPENT);
         }
-        Answer::number(self.driven.map_list(domain, order, rights, segments))
+        Answer::number(self.driven.map_list(domain, order, rights, &list))
     }
 
     pub(crate) fn unmap(&mut self, domain: u64, address: u64, pages: u64) -> Answer
@@ -188,7 +203,7 @@ impl Session {
         if self.is_spent() {
             return Answer::lone(Answer::SPENT);
         }
-        Answer::requested(self.driven.dma(device, address, access, whim))
+        Answer::requested(self.driven.dma(device, address, access, whim), self.base)
     }
 
     pub(crate) fn evict(&mut self, kind: Cache, place: u64) -> Answer

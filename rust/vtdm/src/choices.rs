@@ -177,7 +177,7 @@ pub struct DomainTotals {
 /// The context entry of a device, in legacy mode: both words are 0 where it is attached to no domain.
 #[derive(Clone, Copy, Debug, PartialEq, Eq, Hash)]
 pub struct Context {
-    /// Bit 0 is set, and bits 12 and up are the root's frame.
+    /// Bit 0 is set, and bits 12 and up are the root's host frame.
     pub low: u64,
     /// Bits 0 to 2 are the address width (1 for 39 bits, 2 for 48), and bits 8 to 23 the id of the domain.
     pub high: u64,

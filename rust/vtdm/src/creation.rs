@@ -2,7 +2,7 @@
 
 use crate::ffi;
 use crate::manager::{Manager, made};
-use crate::numbers::HostAddress;
+use crate::numbers::{Frame, HostAddress};
 use crate::refused::Refused;
 
 /// Begin and end. The end is [`Drop`].
@@ -56,24 +56,33 @@ impl Manager {
     /// Makes a manager for a unit of your own, with Caching Mode or without it: [`Manager::effects`] tells after each call what it asks.
     /// Where a method says that no device reaches something, that is so of your unit's once what the call asks is done.
     ///
-    /// `status` is the host address of 4 bytes of yours, which hold 0 at first: the unit writes the status of each wait there, and nothing
-    /// of this crate reads or writes them. Otherwise as [`Manager::new`].
+    /// The table frames are host frames from `base` on, a multiple of 512: table frame F is host frame base + F. `status` is the host address
+    /// of 4 bytes of yours, which hold 0 at first: the unit writes the status of each wait there, and nothing of this crate reads or writes
+    /// them. Otherwise as [`Manager::new`].
     ///
     /// # Errors
     ///
-    /// [`Refused::BadFrames`], [`Refused::BadAddress`], [`Refused::NoMemory`].
+    /// [`Refused::BadFrames`], [`Refused::BadAddress`], [`Refused::BadBase`], [`Refused::NoMemory`].
     ///
     /// ```
     /// use vtdm::{Frame, HostAddress, Manager, Mode, Order, Pages, Refused, Rights, Width};
     ///
-    /// let mut manager = Manager::driven(64, false, HostAddress::new(0x8000))?;
+    /// let mut manager = Manager::driven(64, Frame::new(0x4200), false, HostAddress::new(0x8000))?;
     /// let domain = manager.domain(Mode::Strict, Width::W39)?;
     /// manager.map(domain, Frame::new(0x100), Pages::new(1), Order::PAGE, Rights::READ)?;
     /// assert!(!manager.effects()?.is_empty());
-    /// assert_eq!(Manager::driven(64, false, HostAddress::new(0x8002)).unwrap_err(), Refused::BadAddress);
+    /// let below = manager.table_word(manager.root_of(domain)?, 0)? >> 12; // the host frame of the table below the root
+    /// assert!((0x4200..0x4240).contains(&below));
+    /// let status = HostAddress::new(0x8002);
+    /// assert_eq!(Manager::driven(64, Frame::new(0), false, status).unwrap_err(), Refused::BadAddress);
     /// # Ok::<(), Refused>(())
     /// ```
-    pub fn driven(frames: u64, caching: bool, status: HostAddress) -> Result<Manager, Refused> {
-        made(|handle| ffi::vtdm_create_driven(handle, frames, caching, status.get()))
+    pub fn driven(
+        frames: u64,
+        base: Frame,
+        caching: bool,
+        status: HostAddress,
+    ) -> Result<Manager, Refused> {
+        made(|handle| ffi::vtdm_create_driven(handle, frames, base.get(), caching, status.get()))
     }
 }

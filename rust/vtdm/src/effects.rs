@@ -56,9 +56,9 @@ impl Effect {
 /// What a call asks, in the order in which it is to be done: at most 32 effects. It is a slice of them, and takes no memory.
 ///
 /// ```
-/// use vtdm::{Effect, HostAddress, Manager, Mode, Width};
+/// use vtdm::{Effect, Frame, HostAddress, Manager, Mode, Width};
 ///
-/// let mut manager = Manager::driven(64, false, HostAddress::new(0x8000))?;
+/// let mut manager = Manager::driven(64, Frame::new(0), false, HostAddress::new(0x8000))?;
 /// let domain = manager.domain(Mode::Strict, Width::W39)?;
 /// assert!(manager.effects()?.is_empty());
 /// manager.attach(3.into(), domain)?;

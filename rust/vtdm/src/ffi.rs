@@ -112,6 +112,7 @@ unsafe extern "C" {
     pub(crate) safe fn vtdm_create_driven(
         manager: &mut Handle,
         frames: u64,
+        base: u64,
         caching: bool,
         status: u64,
     ) -> u64;

@@ -117,8 +117,8 @@ impl Manager {
 }
 
 /// For a unit of your own, emulated or real, which a manager of [`Manager::driven`] is in charge of. It reads the tables, word I of table
-/// frame F at host address F × 4096 + 8 × I; the context entries; and the descriptors in its queue. Clear the memory of the table frames
-/// before the unit is on. Around each call:
+/// frame F at host address (base + F) × 4096 + 8 × I; the context entries; and the descriptors in its queue. Clear the memory of the
+/// table frames before the unit is on. Around each call:
 ///
 /// 1. Take your lock.
 /// 2. Make the call.
@@ -150,7 +150,7 @@ impl Manager {
     /// ```
     /// use vtdm::{Device, Effect, Frame, HostAddress, Manager, Mode, Order, Refused, Rights, Width};
     ///
-    /// let mut manager = Manager::driven(64, false, HostAddress::new(0x8000))?;
+    /// let mut manager = Manager::driven(64, Frame::new(0), false, HostAddress::new(0x8000))?;
     /// // What the unit reads. Here it is memory of Rust's own.
     /// let mut memory = vec![0; 64 * 512];
     /// let mut contexts = [(0, 0); 16];
@@ -230,8 +230,8 @@ impl Manager {
     }
 
     /// The word of a table frame at an index, 0 to 511. In a table it is a second-stage entry, 0 where nothing is present. Else bit 0 is
-    /// the right to read, bit 1 the right to write, and bit 7 says that it is a leaf of 2 MiB. Bits 12 and up are the frame of the next
-    /// table or of the first page. The words of a frame that no table uses mean nothing. [`Manager::root_of`] shows it.
+    /// the right to read, bit 1 the right to write, and bit 7 says that it is a leaf of 2 MiB. Bits 12 and up are the host frame of the
+    /// next table or of the first page. The words of a frame that no table uses mean nothing. [`Manager::root_of`] shows it.
     ///
     /// # Errors
     ///

@@ -33,7 +33,7 @@ pub enum Refused {
     NotAttached = 4,
     /// Pages, frames, order, rights or address are outside their limits, or a page to unmap is none.
     BadRange = 5,
-    /// A segment begins at a table frame.
+    /// A segment has a table frame.
     FrameOwned = 6,
     /// No free range is long enough, which does not happen with the limits of today.
     NoRange = 7,
@@ -90,6 +90,8 @@ pub enum Refused {
     BadAddress = 76,
     /// Fewer waits than this number were sent.
     NoWait = 77,
+    /// The base is no multiple of 512, or a table frame would be none of host memory.
+    BadBase = 78,
 
     /// The library answered a number that this crate doesn't know: it was made from another header.
     Unknown = u64::MAX,
@@ -97,7 +99,7 @@ pub enum Refused {
 
 impl Refused {
     /// All that the header names.
-    pub const ALL: [Refused; 32] = [
+    pub const ALL: [Refused; 33] = [
         Refused::NoDomain,
         Refused::NoDevice,
         Refused::Busy,
@@ -130,6 +132,7 @@ impl Refused {
         Refused::FewPlaces,
         Refused::BadAddress,
         Refused::NoWait,
+        Refused::BadBase,
     ];
 
     /// Its number in `enum vtdm_status` of the header.
@@ -197,6 +200,7 @@ impl Refused {
             Refused::FewPlaces => "more effects than places",
             Refused::BadAddress => "bad address of a status",
             Refused::NoWait => "no such wait",
+            Refused::BadBase => "bad base of the table frames",
             Refused::Unknown => "a number of another header",
         }
     }

@@ -8,19 +8,21 @@ mod unit;
 
 use play::Play;
 use unit::{STATUS, TABLE_FRAMES, TABLE_WORDS, sent};
-use vtdm::limits::{DEVICES, MOST_RECORDS};
+use vtdm::limits::{DEVICES, FRAMES_END, MOST_RECORDS};
 use vtdm::{
     Access, Address, Descriptor, Device, Domain, Effect, Frame, HostAddress, Manager, Mode, Order,
     Pages, Progress, Reaped, Refused, Rights, Segment, Unmapped, Whim, Width,
 };
 
 const DEVICE: Device = Device::new(3);
+/// Where the table frames of these tests begin, but for those of random calls.
+const BASE: Frame = Frame::new(0);
 /// The bit of a leaf of 2 MiB.
 const LARGE: u64 = 0x80;
 
 /// A driven manager without Caching Mode, and a domain of it.
 fn begun(mode: Mode, width: Width) -> (Manager, Domain) {
-    let mut manager = Manager::driven(TABLE_FRAMES, false, STATUS).unwrap();
+    let mut manager = Manager::driven(TABLE_FRAMES, BASE, false, STATUS).unwrap();
     let domain = manager.domain(mode, width).unwrap();
     (manager, domain)
 }
@@ -126,7 +128,7 @@ fn a_map_over_two_tables_asks_words_of_both() {
 
 #[test]
 fn with_caching_mode_a_map_asks_for_a_wait() {
-    let mut manager = Manager::driven(TABLE_FRAMES, true, STATUS).unwrap();
+    let mut manager = Manager::driven(TABLE_FRAMES, BASE, true, STATUS).unwrap();
     let domain = manager.domain(Mode::Lazy, Width::W39).unwrap();
     let segments = [1, 2].map(|pages| Segment::new(Frame::new(0x100), Pages::new(pages)));
     let at = manager.map_list(domain, Order::PAGE, Rights::READ, &segments).unwrap();
@@ -333,7 +335,8 @@ fn a_manager_with_the_unit_of_the_library_tells_none() {
 
 #[test]
 fn the_address_of_a_status_is_a_multiple_of_4() {
-    let driven = |frames, status| Manager::driven(frames, false, HostAddress::new(status)).err();
+    let driven =
+        |frames, status| Manager::driven(frames, BASE, false, HostAddress::new(status)).err();
     for status in [0, 4, 1 << 40, u64::MAX - 3] {
         assert_eq!(driven(TABLE_FRAMES, status), None);
     }
@@ -344,9 +347,57 @@ fn the_address_of_a_status_is_a_multiple_of_4() {
 }
 
 #[test]
+fn the_table_frames_begin_at_a_base() {
+    let driven = |frames, base| Manager::driven(frames, Frame::new(base), false, STATUS).err();
+    for base in [0, 512, 0x4200, FRAMES_END - 512] {
+        assert_eq!(driven(512, base), None);
+    }
+    for base in [1, 511, 0x4100, FRAMES_END - 511, FRAMES_END, u64::MAX] {
+        assert_eq!(driven(TABLE_FRAMES, base), Some(Refused::BadBase));
+        assert_eq!(driven(15, base), Some(Refused::BadFrames));
+    }
+    assert_eq!(driven(513, FRAMES_END - 512), Some(Refused::BadBase));
+}
+
+/// Words and answers name host frames, and a map has no table frame.
+#[test]
+fn host_frames_are_those_of_the_machine_at_each_base() {
+    const AT: u64 = 0x4200;
+    let mut manager = Manager::driven(TABLE_FRAMES, Frame::new(AT), false, STATUS).unwrap();
+    let domain = manager.domain(Mode::Strict, Width::W39).unwrap();
+    manager.attach(DEVICE, domain).unwrap();
+    let root = manager.root_of(domain).unwrap().get();
+    assert_eq!(manager.context(DEVICE).unwrap().low, (AT + root) << 12 | 1);
+    let own = [(AT, 1), (AT + TABLE_FRAMES - 1, 1), (AT - 1, 2)];
+    for (frame, pages) in own {
+        let segment = Segment::new(Frame::new(frame), Pages::new(pages));
+        let mapped = manager.map_list(domain, Order::PAGE, Rights::READ, &[segment]);
+        assert_eq!(mapped, Err(Refused::FrameOwned));
+    }
+    for frame in [0, AT - 1, AT + TABLE_FRAMES, FRAMES_END - 1] {
+        let at = map(&mut manager, domain, frame, 1, Order::PAGE);
+        let host = manager.dma(DEVICE, at, Access::Read, Whim::CACHED).unwrap();
+        assert_eq!(host.frame(), Frame::new(frame));
+        let mut table = root;
+        for level in (0..3).rev() {
+            let index = at.page().get() >> (9 * level) & (TABLE_WORDS - 1);
+            let word = manager.table_word(Frame::new(table), index).unwrap();
+            assert_eq!(word & 0xfff, 3);
+            if level == 0 {
+                assert_eq!(word >> 12, frame);
+            } else {
+                table = (word >> 12) - AT;
+                assert!(table < TABLE_FRAMES);
+            }
+        }
+    }
+}
+
+#[test]
 fn a_unit_that_does_what_is_asked_has_what_the_manager_has() {
     for caching in [false, true] {
-        let mut play = Play::new(caching);
+        let base = Frame::new(if caching { 0x400 } else { 0 });
+        let mut play = Play::new(caching, base);
         for _ in 0..Play::CALLS {
             play.step();
         }

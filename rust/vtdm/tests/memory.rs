@@ -4,7 +4,7 @@
 use std::env;
 use std::process::Command;
 use vtdm::limits::MOST_TABLE_FRAMES;
-use vtdm::{HostAddress, Manager, Mode, Refused, Width};
+use vtdm::{Frame, HostAddress, Manager, Mode, Refused, Width};
 
 /// KiB of address space: a manager with the most table frames takes about 18,200.
 const ADDRESS_SPACE: u64 = 400_000;
@@ -49,7 +49,7 @@ fn creations_until_one_is_refused() {
     }
     managers.pop();
     assert!(Manager::with_caching_mode(MOST_TABLE_FRAMES).is_ok());
-    assert!(Manager::driven(MOST_TABLE_FRAMES, true, HostAddress::new(0)).is_ok());
+    assert!(Manager::driven(MOST_TABLE_FRAMES, Frame::new(512), true, HostAddress::new(0)).is_ok());
 }
 
 #[test]

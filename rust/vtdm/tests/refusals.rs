@@ -88,7 +88,9 @@ fn of_tickets_and_requests() -> Vec<Refused> {
 
 /// What is refused of a unit of one's own.
 fn of_driven_managers() -> Vec<Refused> {
-    let mut all = vec![Manager::driven(64, true, HostAddress::new(0x8001)).unwrap_err()];
+    let driven = |base, status| Manager::driven(64, base, true, status).unwrap_err();
+    let (base, status) = (Frame::new(0), HostAddress::new(0x8001));
+    let mut all = vec![driven(base, status), driven(Frame::new(1), HostAddress::new(0x8000))];
     all.extend(begun(64).effects().err());
     all.extend(begun(64).done_up_to(1).err());
     all
@@ -137,7 +139,7 @@ fn any_number_is_answered() {
     assert_eq!(manager.context(device), Err(Refused::NoDevice));
     assert_eq!(manager.sent(MOST), Err(Refused::NoDescriptor));
     assert_eq!(Manager::with_caching_mode(MOST).unwrap_err(), Refused::BadFrames);
-    let driven = Manager::driven(MOST, true, HostAddress::new(MOST));
+    let driven = Manager::driven(MOST, Frame::new(MOST), true, HostAddress::new(MOST));
     assert_eq!(driven.unwrap_err(), Refused::BadFrames);
     assert_eq!(manager.domain_totals(ONE).unwrap().live, 0);
 }

@@ -69,19 +69,17 @@ impl Session {
     }
 
     pub(crate) fn table_word(&self, frame: u64, index: u64) -> Answer
-        ensures { FindsWord frame index (state_of self.now) result }
+        ensures { FindsWord frame index self.now.base.first (state_of self.now) result }
     {
-        Answer::found(
-            self.driven.state().table_word(frame, index),
-            Answer::NO_WORD,
-        )
+        let word = self.driven.state().table_word(frame, index);
+        Answer::found(word.map(|word| self.base.word_of(word)), Answer::NO_WORD)
     }
 
     pub(crate) fn context(&self, device: u64) -> Context
-        ensures { FindsContext device (state_of self.now) result }
+        ensures { FindsContext device self.now.base.first (state_of self.now) result }
     {
         match self.driven.state().context_words(device) {
-            Some(words) => Context::of(words),
+            Some(words) => Context::of(self.base.words_of(words)),
             None => Context::none(Answer::NO_DEVICE),
         }
     }
@@ -89,7 +87,7 @@ impl Session {
     /// Copies words of a table frame, from an index on, as many as there is room for. Its answer is a status; where that isn't 0,
     /// nothing is copied.
     pub(crate) fn words(&self, frame: u64, first: u64, to: &mut [u64]) -> u64
-        ensures { FindsWords frame first to.old to.new (state_of self.now) result }
+        ensures { FindsWords frame first to.old to.new self.now.base.first (state_of self.now) result }
     {
         let Some(words) = self.driven.state().table_words(frame) else {
             return Answer::NO_WORD;
@@ -98,7 +96,7 @@ impl Session {
             return Answer::NO_WORD;
         }
         let start = first as usize;
-        to.copy_from_slice(&words[start..start + to.len()]);
+        self.base.copy_words(&words[start..start + to.len()], to);
         Answer::OK
     }
 

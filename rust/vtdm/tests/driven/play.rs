@@ -3,8 +3,8 @@
 use crate::unit::{STATUS, TABLE_FRAMES, Unit, sent};
 use vtdm::limits::{DEVICES, MOST_EFFECTS};
 use vtdm::{
-    Access, Address, Cache, Device, Domain, Effect, Manager, Mode, Order, Reaped, Refused, Rights,
-    Segment, Ticket, Whim, Width,
+    Access, Address, Cache, Device, Domain, Effect, Frame, Manager, Mode, Order, Reaped, Refused,
+    Rights, Segment, Ticket, Whim, Width,
 };
 
 struct Random(u64);
@@ -35,8 +35,8 @@ impl Play {
     /// Domains to which devices are attached, and of which flushes are begun. The others are dropped now and then.
     const LASTING: u64 = 4;
 
-    pub(crate) fn new(caching: bool) -> Play {
-        let mut manager = Manager::driven(TABLE_FRAMES, caching, STATUS).unwrap();
+    pub(crate) fn new(caching: bool, base: Frame) -> Play {
+        let mut manager = Manager::driven(TABLE_FRAMES, base, caching, STATUS).unwrap();
         for (mode, width) in [
             (Mode::Strict, Width::W39),
             (Mode::Lazy, Width::W39),

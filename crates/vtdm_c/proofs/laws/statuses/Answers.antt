@@ -22,6 +22,7 @@ returns c = record {
     omega arith,
     omega arith,
     omega arith,
+    omega arith,
   );
   domain = refl;
   device = refl;
