@@ -187,9 +187,10 @@ uint64_t vtdm_create_caching(struct vtdm *manager, uint64_t frames);
 
 /* Makes a manager for a unit of your own, with Caching Mode or without it: vtdm_effects tells after each call what it asks (see *A unit
  * of your own*). Its table frames are host frames `base` to base + frames - 1, all below VTDM_FRAMES_END, and `base` is a multiple of 512,
- * which is 2 MiB: table frame F is host frame base + F. `status` is the host address of 4 bytes of yours, which hold 0 at first: the unit
- * writes the status of each wait there. Otherwise as vtdm_create. VTDM_BAD_ADDRESS and then VTDM_BAD_BASE are judged after VTDM_BAD_FRAMES
- * and before VTDM_NO_MEMORY. */
+ * which is 2 MiB: table frame F is host frame base + F. `status` is the host address of 4 bytes of yours, in no table frame, which hold 0
+ * at first: the unit writes the status of each wait there. No map takes a table frame of this manager; it is yours to map none of
+ * another's, and nothing of the unit's own memory (below). Otherwise as vtdm_create. VTDM_BAD_ADDRESS and then VTDM_BAD_BASE are judged
+ * after VTDM_BAD_FRAMES and before VTDM_NO_MEMORY. */
 uint64_t vtdm_create_driven(struct vtdm *manager, uint64_t frames, uint64_t base, bool caching, uint64_t status);
 
 /* Ends the manager, if there is one, and frees its memory. Then the struct is as at VTDM_INIT and can be used again. */

@@ -26,7 +26,7 @@ static void judge_bases(void) {
 static void map_around_a_base(void) {
     enum { BASE = 0x4200, LAST = VTDM_FRAMES_END - 1 };
     struct vtdm manager = VTDM_INIT;
-    const struct vtdm_segment good[] = {{BASE - 1, 1}, {BASE + 64, 1}, {0, 1}};
+    const struct vtdm_segment good[] = {{BASE - 1, 1}, {BASE + 64, 1}, {LAST, 1}, {0, 1}};
     const struct vtdm_segment owned[] = {{0, 1}, {BASE - 1, 2}}, beyond[] = {{0, 1}, {LAST, 2}};
     CHECK(vtdm_create_driven(&manager, 64, BASE, false, 0) == VTDM_OK);
     ANSWERS(vtdm_domain(&manager, false), VTDM_OK, 1);
@@ -35,6 +35,7 @@ static void map_around_a_base(void) {
     CHECK(table < 64 && vtdm_context(&manager, 3).low == ((BASE + table) << 12 | 1));
     ANSWERS(vtdm_map(&manager, 1, BASE, 1, 0, VTDM_READ), VTDM_FRAME_OWNED, 0);
     ANSWERS(vtdm_map(&manager, 1, BASE + 63, 1, 0, VTDM_READ), VTDM_FRAME_OWNED, 0);
+    ANSWERS(vtdm_map(&manager, 1, BASE + 63, 2, 0, VTDM_READ), VTDM_FRAME_OWNED, 0);
     ANSWERS(vtdm_map(&manager, 1, BASE - 1, 2, 0, VTDM_READ), VTDM_FRAME_OWNED, 0);
     ANSWERS(vtdm_map(&manager, 1, BASE - 4000, 4096, 0, VTDM_READ), VTDM_FRAME_OWNED, 0);
     ANSWERS(vtdm_map(&manager, 1, LAST, 2, 0, VTDM_READ), VTDM_BAD_RANGE, 0);
@@ -42,9 +43,8 @@ static void map_around_a_base(void) {
     ANSWERS(vtdm_map(&manager, 1, BASE - 1, 0, 0, VTDM_READ), VTDM_BAD_RANGE, 0);
     ANSWERS(vtdm_map_list(&manager, 1, 0, VTDM_READ, owned, 2), VTDM_FRAME_OWNED, 0);
     ANSWERS(vtdm_map_list(&manager, 1, 0, VTDM_READ, beyond, 2), VTDM_BAD_RANGE, 0);
-    ANSWERS(vtdm_map_list(&manager, 1, 0, VTDM_READ, good, 3), VTDM_OK, 0x1000);
-    ANSWERS(vtdm_map(&manager, 1, LAST, 1, 0, VTDM_READ), VTDM_OK, 0x4000);
-    const uint64_t hosts[] = {BASE - 1, BASE + 64, 0, LAST};
+    ANSWERS(vtdm_map_list(&manager, 1, 0, VTDM_READ, good, 4), VTDM_OK, 0x1000);
+    const uint64_t hosts[] = {BASE - 1, BASE + 64, LAST, 0};
     for (uint64_t i = 0; i < 4; i++)
         ANSWERS(vtdm_dma(&manager, 3, 0x1008 + i * 0x1000, false, true, true), VTDM_OK, hosts[i] << 12 | 8);
     /* The root, a table below it, and one below that, which has the pages' words. */

@@ -14,11 +14,16 @@ enum { BROUGHT = 0 };
 enum { BROUGHT = TABLE_FRAMES };
 #endif
 
-/* The host frame of table frame 0. */
-#ifdef BASE
+/* The host frame of table frame 0: before those that devices may reach, or behind them. */
+#if defined BASE
 enum { FIRST_TABLE = 0x4200 };
+#elif defined BASE_BEHIND
+enum { FIRST_TABLE = FIRST_FRAME + FRAMES };
 #else
 enum { FIRST_TABLE = 0 };
+#endif
+#if defined IN_PLACE && (defined BASE || defined BASE_BEHIND)
+#error "the library's own words count host frames from the base"
 #endif
 
 /* ---- Calls, each followed by the unit */

@@ -4,13 +4,14 @@
 # replies and moments agree with the library's own unit, and how many differ. Ends with status 0 where none differs. A NAME is one of:
 #   WIDE                   domains and a unit of 48 bits
 #   CACHING                a unit with Caching Mode
-#   BASE                   the table frames begin behind the guest, and not at host frame 0
+#   BASE, BASE_BEHIND      the table frames don't begin at host frame 0, but before what devices may reach, or behind it
 #   IN_PLACE               the library's own words are the unit's tables, and none is copied
 # or of those that show that the guest can fail:
 #   WITHOUT_DESCRIPTORS    only waits are queued
 #   WRONG_ORDER            a table is named in the place of a leaf before it is filled
 #   WORDS_LATE             descriptors are done before the words are brought
 #   WRONG_HALVES           a context entry is present before its domain is there, and until its domain is gone
+#   WITHOUT_BASE           words of context entries name the root by its number, and not by its host frame
 #   DETACH_ALONE           a detach sends what the library sends, and no IOTLB descriptor
 # LOG, where it is set, is a file for all that the guest says.
 set -eu
@@ -28,7 +29,7 @@ for name in "$@"; do
     case $name in
         WIDE) width=48 ;;
         CACHING) caching=on ;;
-        BASE | IN_PLACE | WITHOUT_DESCRIPTORS | WRONG_ORDER | WORDS_LATE | WRONG_HALVES | DETACH_ALONE) ;;
+        BASE | BASE_BEHIND | IN_PLACE | WITHOUT_DESCRIPTORS | WRONG_ORDER | WORDS_LATE | WRONG_HALVES | WITHOUT_BASE | DETACH_ALONE) ;;
         *)
             echo "run.sh: $name is no name" >&2
             exit 2

@@ -156,6 +156,9 @@ static void bring_words(struct vtdm *manager, struct vtdm_effect it) {
 /* The low word has the bit that makes an entry present: it is brought last, and cleared first. */
 static void bring_context(struct vtdm *manager, uint64_t device) {
     struct vtdm_context_answer entry = vtdm_context(manager, device);
+#ifdef WITHOUT_BASE
+    entry.low -= entry.low ? unit.base * PAGE : 0;
+#endif
     uint64_t at = unit.contexts + 16 * (device << 3); /* function 0 */
     bool low_first = !entry.low;
 #ifdef WRONG_HALVES

@@ -6,7 +6,7 @@ ghost use Rattle.dmatypes.specs.declared.refusal.Fault.{Fault};
 ghost use Rattle.dmatypes.specs.declared.refusal.Refusal.{Refusal};
 ghost use Rattle.dmatypes.specs.declared.refusal.Refusal.TheVariants as refusals;
 ghost use Rattle.vtdm_c.specs.Hosts.{ContextsNameHostFrames, FramesAreJudgedAlike, FramesAreReached, LeavesStayAligned, NothingMovesAt0};
-ghost use Rattle.vtdm_c.specs.Hosts.{WalksFindHostFrames, WordsNameHostFrames};
+ghost use Rattle.vtdm_c.specs.Hosts.{PagesAreFoundInHostFrames, TablesBeginThere, WalksFindHostFrames, WordsNameHostFrames};
 ghost use Rattle.vtdm_c.specs.declared.answer.TheConstants.Answer.{ABSENT, BAD_ADDRESS, BAD_BASE, BAD_CACHE, BAD_FRAMES, FAULTS};
 ghost use Rattle.vtdm_c.specs.declared.answer.TheConstants.Answer.{FEW_PLACES, MANY_SEGMENTS, NOT_ATTACHED, NOT_DRIVEN, NO_DESCRIPTOR};
 ghost use Rattle.vtdm_c.specs.declared.answer.TheConstants.Answer.{NO_DEVICE, NO_DOMAIN, NO_MEMORY, NO_WAIT, NO_WORD, OK, PENDING, PRESENT};
@@ -29,12 +29,14 @@ pub fn statuses()
     ensures attached { NOT_ATTACHED ≡ refusal_number refusals.NotAttached }
 {}
 
-/// By its numbers the manager refuses exactly the host frames that it has to, and what a device reaches is what was mapped. A leaf of 2 MiB
-/// is one for both. Where the table frames begin at host frame 0 the numbers are the host frames.
+/// By its numbers the manager refuses exactly the host frames that it has to, for the same reason, and an address that it tells leads back
+/// to them. A leaf of 2 MiB is one for both, and table frames follow one another from the base on. Where they begin at host frame 0 the
+/// numbers are the host frames.
 pub fn frames_by_numbers()
     ensures judged { FramesAreJudgedAlike }
     ensures reached { FramesAreReached }
     ensures aligned { LeavesStayAligned }
+    ensures tables { TablesBeginThere }
     ensures same { NothingMovesAt0 }
 {}
 
@@ -44,7 +46,9 @@ pub fn words_name_host_frames()
     ensures contexts { ContextsNameHostFrames }
 {}
 
-/// A unit that walks such words finds at each page what the manager's own walk finds, with its host frame.
+/// A unit that walks such words, each read at its own moment, finds the tables, leaves and pages that a walk through the manager's own
+/// words finds, by their host frames.
 pub fn walks_find_host_frames()
-    ensures { WalksFindHostFrames }
+    ensures walks { WalksFindHostFrames }
+    ensures pages { PagesAreFoundInHostFrames }
 {}

@@ -56,9 +56,10 @@ impl Manager {
     /// Makes a manager for a unit of your own, with Caching Mode or without it: [`Manager::effects`] tells after each call what it asks.
     /// Where a method says that no device reaches something, that is so of your unit's once what the call asks is done.
     ///
-    /// The table frames are host frames from `base` on, a multiple of 512: table frame F is host frame base + F. `status` is the host address
-    /// of 4 bytes of yours, which hold 0 at first: the unit writes the status of each wait there, and nothing of this crate reads or writes
-    /// them. Otherwise as [`Manager::new`].
+    /// The table frames are host frames from `base` on, a multiple of 512, all below 2^24: table frame F is host frame base + F. `status` is
+    /// the host address of 4 bytes of yours, in no table frame, which hold 0 at first: the unit writes the status of each wait there, and
+    /// nothing of this crate reads or writes them. No map takes a table frame of this manager; it is yours to map none of another's, and
+    /// nothing of the unit's. Otherwise as [`Manager::new`].
     ///
     /// # Errors
     ///

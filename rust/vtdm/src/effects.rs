@@ -3,7 +3,7 @@
 use crate::choices::Descriptor;
 use crate::ffi::{self, kinds};
 use crate::limits::MOST_EFFECTS;
-use crate::numbers::{Device, Frame};
+use crate::numbers::{Device, TableFrame};
 use crate::refused::Refused;
 use std::array;
 use std::fmt;
@@ -21,7 +21,7 @@ pub enum Effect {
     /// at once.
     Words {
         /// The table frame where they begin.
-        frame: Frame,
+        frame: TableFrame,
         /// The index of the first word there.
         first: u64,
         /// How many. They go on over the frames behind it where they are more than are left of it.
@@ -43,7 +43,9 @@ impl Effect {
     fn of(told: ffi::Effect) -> Result<Effect, Refused> {
         let ffi::Effect { kind, number, first, count, low, high } = told;
         match kind {
-            kinds::EFFECT_WORDS => Ok(Effect::Words { frame: Frame::new(number), first, count }),
+            kinds::EFFECT_WORDS => {
+                Ok(Effect::Words { frame: TableFrame::new(number), first, count })
+            }
             kinds::EFFECT_BARRIER => Ok(Effect::Barrier),
             kinds::EFFECT_CONTEXT => Ok(Effect::Context(Device::new(number))),
             kinds::EFFECT_SEND => Ok(Effect::Send(Descriptor { low, high })),
@@ -151,7 +153,7 @@ mod tests {
             kinds::EFFECT_AWAIT,
         ];
         let wanted = [
-            Effect::Words { frame: Frame::new(3), first: 5, count: 7 },
+            Effect::Words { frame: TableFrame::new(3), first: 5, count: 7 },
             Effect::Barrier,
             Effect::Context(Device::new(3)),
             Effect::Send(Descriptor { low: 11, high: 13 }),

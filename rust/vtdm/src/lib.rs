@@ -106,7 +106,8 @@ pub use choices::{
 pub use effects::{Effect, Effects};
 pub use manager::Manager;
 pub use numbers::{
-    Address, Device, Devices, Domain, Frame, HostAddress, Order, Page, Pages, Segment, Ticket,
+    Address, Device, Devices, Domain, Frame, HostAddress, Order, Page, Pages, Segment, TableFrame,
+    Ticket,
 };
 pub use refused::Refused;
 pub use rights::Rights;

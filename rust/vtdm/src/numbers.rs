@@ -91,6 +91,11 @@ number! {
 }
 
 number! {
+    /// The number of a table frame, from 0 on. Its host frame is as far behind the base of the manager ([`TableFrame::host`]).
+    TableFrame "{}"
+}
+
+number! {
     /// A length in pages, of addresses or of memory.
     Pages "{}"
 }
@@ -158,6 +163,23 @@ impl Frame {
     pub const fn address(self) -> Option<HostAddress> {
         match self.0.checked_mul(PAGE_BYTES) {
             Some(address) => Some(HostAddress(address)),
+            None => None,
+        }
+    }
+}
+
+impl TableFrame {
+    /// Its host frame, where table frame 0 is that host frame, and 64 bits hold it.
+    ///
+    /// ```
+    /// use vtdm::{Frame, TableFrame};
+    ///
+    /// assert_eq!(TableFrame::new(3).host(Frame::new(0x4200)), Some(Frame::new(0x4203)));
+    /// ```
+    #[must_use]
+    pub const fn host(self, base: Frame) -> Option<Frame> {
+        match base.0.checked_add(self.0) {
+            Some(frame) => Some(Frame(frame)),
             None => None,
         }
     }
@@ -289,6 +311,7 @@ mod tests {
     #[test]
     fn what_64_bits_do_not_hold_is_none() {
         let end = u64::MAX / PAGE_BYTES + 1;
+        assert_eq!(TableFrame::new(u64::MAX).host(Frame::new(1)), None);
         assert_eq!(Page::new(end).address(), None);
         assert_eq!(Frame::new(end).address(), None);
         assert_eq!(Pages::new(end).bytes(), None);

@@ -4,7 +4,7 @@ use crate::choices::{Context, Descriptor, DomainTotals, Mode, Totals, Width};
 use crate::effects::{Effects, PLACES};
 use crate::ffi;
 use crate::manager::{Manager, check};
-use crate::numbers::{Device, Devices, Domain, Frame};
+use crate::numbers::{Device, Devices, Domain, TableFrame};
 use crate::refused::Refused;
 
 /// Readers. They change nothing and are not counted as calls.
@@ -148,7 +148,7 @@ impl Manager {
     /// [`Refused::NotDriven`].
     ///
     /// ```
-    /// use vtdm::{Device, Effect, Frame, HostAddress, Manager, Mode, Order, Refused, Rights, Width};
+    /// use vtdm::{Device, Effect, Frame, HostAddress, Manager, Mode, Order, Refused, Rights, TableFrame, Width};
     ///
     /// let mut manager = Manager::driven(64, Frame::new(0), false, HostAddress::new(0x8000))?;
     /// // What the unit reads. Here it is memory of Rust's own.
@@ -163,7 +163,7 @@ impl Manager {
     ///         Effect::Words { frame, first, count } => {
     ///             let from = 512 * frame.get() + first;
     ///             for place in from..from + count {
-    ///                 memory[place as usize] = manager.table_word(Frame::new(place / 512), place % 512)?;
+    ///                 memory[place as usize] = manager.table_word((place / 512).into(), place % 512)?;
     ///             }
     ///         }
     ///         Effect::Barrier => (), // one thread sees its own stores in order
@@ -222,11 +222,11 @@ impl Manager {
     /// manager.attach(Device::new(3), domain)?;
     /// let root = manager.root_of(domain)?;
     /// assert_eq!(manager.table_word(root, 0)?, 0); // nothing is mapped
-    /// assert_eq!(manager.context(Device::new(3))?.low, root.get() << 12 | 1);
+    /// assert_eq!(manager.context(Device::new(3))?.low, root.get() << 12 | 1); // the base is 0
     /// # Ok::<(), Refused>(())
     /// ```
-    pub fn root_of(&self, domain: Domain) -> Result<Frame, Refused> {
-        self.read(|handle| ffi::vtdm_root_of(handle, domain.get())).value().map(Frame::new)
+    pub fn root_of(&self, domain: Domain) -> Result<TableFrame, Refused> {
+        self.read(|handle| ffi::vtdm_root_of(handle, domain.get())).value().map(TableFrame::new)
     }
 
     /// The word of a table frame at an index, 0 to 511. In a table it is a second-stage entry, 0 where nothing is present. Else bit 0 is
@@ -236,7 +236,7 @@ impl Manager {
     /// # Errors
     ///
     /// [`Refused::NoWord`].
-    pub fn table_word(&self, frame: Frame, index: u64) -> Result<u64, Refused> {
+    pub fn table_word(&self, frame: TableFrame, index: u64) -> Result<u64, Refused> {
         self.read(|handle| ffi::vtdm_table_word(handle, frame.get(), index)).value()
     }
 
@@ -258,7 +258,7 @@ impl Manager {
     /// assert_eq!(words.first().copied(), Some(manager.table_word(root, 0)?));
     /// # Ok::<(), Refused>(())
     /// ```
-    pub fn words(&self, frame: Frame, first: u64, to: &mut [u64]) -> Result<(), Refused> {
+    pub fn words(&self, frame: TableFrame, first: u64, to: &mut [u64]) -> Result<(), Refused> {
         check(self.read(|handle| ffi::words(handle, frame.get(), first, to)))
     }
 

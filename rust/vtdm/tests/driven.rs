@@ -11,7 +11,7 @@ use unit::{STATUS, TABLE_FRAMES, TABLE_WORDS, sent};
 use vtdm::limits::{DEVICES, FRAMES_END, MOST_RECORDS};
 use vtdm::{
     Access, Address, Descriptor, Device, Domain, Effect, Frame, HostAddress, Manager, Mode, Order,
-    Pages, Progress, Reaped, Refused, Rights, Segment, Unmapped, Whim, Width,
+    Pages, Progress, Reaped, Refused, Rights, Segment, TableFrame, Unmapped, Whim, Width,
 };
 
 const DEVICE: Device = Device::new(3);
@@ -36,7 +36,7 @@ fn asked(manager: &mut Manager) -> Vec<Effect> {
 }
 
 /// The words on the way of a page, down to a leaf of 2 MiB where there is one: the tables, the root first, and the index in each.
-fn way_of(manager: &Manager, domain: Domain, address: Address) -> Vec<(Frame, u64)> {
+fn way_of(manager: &Manager, domain: Domain, address: Address) -> Vec<(TableFrame, u64)> {
     let levels = if manager.width_of(domain) == Ok(Width::W39) { 3 } else { 4 };
     let mut table = manager.root_of(domain).unwrap();
     let mut way = Vec::new();
@@ -47,17 +47,17 @@ fn way_of(manager: &Manager, domain: Domain, address: Address) -> Vec<(Frame, u6
         if word & LARGE != 0 {
             break;
         }
-        table = Frame::new(word >> 12);
+        table = TableFrame::new(word >> 12);
     }
     way
 }
 
-fn words(frame: Frame, first: u64, count: u64) -> Effect {
+fn words(frame: TableFrame, first: u64, count: u64) -> Effect {
     Effect::Words { frame, first, count }
 }
 
 /// So many words in the lowest table of a way, and then one in each table above it, between two barriers.
-fn brought(way: &[(Frame, u64)], count: u64) -> Vec<Effect> {
+fn brought(way: &[(TableFrame, u64)], count: u64) -> Vec<Effect> {
     let (lowest, upper) = way.split_last().unwrap();
     let mut effects = vec![words(lowest.0, lowest.1, count), Effect::Barrier];
     effects.extend(upper.iter().rev().map(|(frame, index)| words(*frame, *index, 1)));
@@ -66,7 +66,7 @@ fn brought(way: &[(Frame, u64)], count: u64) -> Vec<Effect> {
 }
 
 /// So many words in the lowest table of a way, which stays: then no table above it is another.
-fn kept(way: &[(Frame, u64)], count: u64) -> Vec<Effect> {
+fn kept(way: &[(TableFrame, u64)], count: u64) -> Vec<Effect> {
     let (lowest, _) = way.split_last().unwrap();
     vec![words(lowest.0, lowest.1, count), Effect::Barrier]
 }
@@ -280,7 +280,7 @@ fn a_drop_brings_all_words_once_its_wait_is_done() {
     let (mut manager, domain) = begun(Mode::Lazy, Width::W39);
     map(&mut manager, domain, 0x100, 1, Order::PAGE);
     manager.drop_domain(domain).unwrap();
-    let all = [words(Frame::new(0), 0, TABLE_FRAMES * TABLE_WORDS), Effect::Barrier];
+    let all = [words(TableFrame::new(0), 0, TABLE_FRAMES * TABLE_WORDS), Effect::Barrier];
     assert_eq!(asked(&mut manager), [&sent_last(&manager)[..], &all].concat());
 }
 
@@ -381,7 +381,7 @@ fn host_frames_are_those_of_the_machine_at_each_base() {
         let mut table = root;
         for level in (0..3).rev() {
             let index = at.page().get() >> (9 * level) & (TABLE_WORDS - 1);
-            let word = manager.table_word(Frame::new(table), index).unwrap();
+            let word = manager.table_word(TableFrame::new(table), index).unwrap();
             assert_eq!(word & 0xfff, 3);
             if level == 0 {
                 assert_eq!(word >> 12, frame);

@@ -3,7 +3,7 @@
 use vtdm::limits::PAGE_BYTES;
 use vtdm::{
     Access, Address, Descriptor, Device, Devices, Domain, Frame, HostAddress, Manager, Mode, Order,
-    Pages, Refused, Rights, Whim, Width,
+    Pages, Refused, Rights, TableFrame, Whim, Width,
 };
 
 /// The bit of a leaf of 2 MiB.
@@ -28,7 +28,7 @@ fn walk(manager: &Manager, device: Device, address: Address) -> Result<HostAddre
     if address >> lowest(levels + 1) != 0 {
         return Err(Refused::FaultBeyondWidth);
     }
-    let mut table = Frame::new(context.low >> 12);
+    let mut table = TableFrame::new(context.low >> 12);
     for level in (1..=levels).rev() {
         let word = manager.table_word(table, address >> lowest(level) & 511)?;
         if word & Rights::READ.bits() == 0 {
@@ -38,7 +38,7 @@ fn walk(manager: &Manager, device: Device, address: Address) -> Result<HostAddre
             let offset = address & ((1 << lowest(level)) - 1);
             return Ok(HostAddress::new((word >> 12 << 12) + offset));
         }
-        table = Frame::new(word >> 12);
+        table = TableFrame::new(word >> 12);
     }
     Err(Refused::FaultRead)
 }
@@ -76,7 +76,7 @@ fn they_take_a_shared_reference() {
     let (one, other): (&Manager, &Manager) = (&manager, &manager);
     assert_eq!(one.mode_of(domain), Ok(Mode::Lazy));
     assert_eq!(other.totals(), one.totals());
-    assert!(one.root_of(domain).unwrap() < Frame::new(64));
+    assert!(one.root_of(domain).unwrap() < TableFrame::new(64));
 }
 
 #[test]
@@ -122,8 +122,8 @@ fn a_domain_that_there_is_not_has_nothing() {
     assert_eq!(manager.width_of(domain), Err(Refused::NoDomain));
     assert_eq!(manager.root_of(domain), Err(Refused::NoDomain));
     assert_eq!(manager.domain_totals(domain), Err(Refused::NoDomain));
-    assert_eq!(manager.table_word(Frame::new(0), 512), Err(Refused::NoWord));
-    assert!(manager.table_word(Frame::new(63), 511).is_ok());
+    assert_eq!(manager.table_word(TableFrame::new(0), 512), Err(Refused::NoWord));
+    assert!(manager.table_word(TableFrame::new(63), 511).is_ok());
 }
 
 #[test]
@@ -141,7 +141,7 @@ fn words_at_once_are_those_read_alone() {
     assert_eq!(few, words[510..]);
     few = [7; 2];
     assert_eq!(manager.words(root, 511, &mut few), Err(Refused::NoWord));
-    assert_eq!(manager.words(Frame::new(64), 0, &mut few), Err(Refused::NoWord));
+    assert_eq!(manager.words(TableFrame::new(64), 0, &mut few), Err(Refused::NoWord));
     assert_eq!(few, [7; 2]);
     assert_eq!(manager.words(root, 512, &mut []), Ok(()));
 }

@@ -4,7 +4,7 @@ use std::collections::HashSet;
 use vtdm::limits::*;
 use vtdm::{
     Access, Address, Cache, Device, Domain, Frame, HostAddress, Manager, Mode, Order, Pages,
-    Reaped, Refused, Rights, Segment, Ticket, Unmapped, Whim, Width,
+    Reaped, Refused, Rights, Segment, TableFrame, Ticket, Unmapped, Whim, Width,
 };
 
 const ONE: Domain = Domain::new(1);
@@ -62,7 +62,7 @@ fn of_pages() -> Vec<Refused> {
     all.extend(map(&mut manager, 0x100, 0, 0).err());
     all.extend(map(&mut manager, 63, 1, 0).err());
     all.extend(unmap(&mut manager, 0x1000, 1).err());
-    all.extend(manager.table_word(Frame::new(64), 0).err());
+    all.extend(manager.table_word(TableFrame::new(64), 0).err());
     all.extend(manager.sent(0).err());
     all.extend((0..MOST_PIECES).find_map(|_| map(&mut manager, 0x100, 2, 1).err()));
     all
@@ -134,8 +134,8 @@ fn any_number_is_answered() {
         assert_eq!(manager.evict(cache, MOST), Ok(()));
     }
     assert_eq!(manager.domain_totals(domain), Err(Refused::NoDomain));
-    assert_eq!(manager.table_word(Frame::new(MOST), MOST), Err(Refused::NoWord));
-    assert_eq!(manager.words(Frame::new(MOST), MOST, &mut [0]), Err(Refused::NoWord));
+    assert_eq!(manager.table_word(TableFrame::new(MOST), MOST), Err(Refused::NoWord));
+    assert_eq!(manager.words(TableFrame::new(MOST), MOST, &mut [0]), Err(Refused::NoWord));
     assert_eq!(manager.context(device), Err(Refused::NoDevice));
     assert_eq!(manager.sent(MOST), Err(Refused::NoDescriptor));
     assert_eq!(Manager::with_caching_mode(MOST).unwrap_err(), Refused::BadFrames);

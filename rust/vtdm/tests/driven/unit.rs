@@ -2,7 +2,7 @@
 
 use std::collections::VecDeque;
 use vtdm::limits::DEVICES;
-use vtdm::{Context, Descriptor, Device, Effect, Frame, HostAddress, Manager};
+use vtdm::{Context, Descriptor, Device, Effect, HostAddress, Manager, TableFrame};
 
 /// Where its waits write their status.
 pub(crate) const STATUS: HostAddress = HostAddress::new(0x8004);
@@ -56,7 +56,8 @@ impl Unit {
             Effect::Words { frame, first, count } => {
                 let from = frame.get() * TABLE_WORDS + first;
                 for place in from..from + count {
-                    let (frame, index) = (Frame::new(place / TABLE_WORDS), place % TABLE_WORDS);
+                    let (frame, index) =
+                        (TableFrame::new(place / TABLE_WORDS), place % TABLE_WORDS);
                     self.words[place as usize] = manager.table_word(frame, index).unwrap();
                 }
             }
@@ -78,7 +79,7 @@ impl Unit {
     pub(crate) fn agrees(&self, manager: &Manager) {
         let mut words = [0; TABLE_WORDS as usize];
         for (frame, own) in (0..).zip(self.words.chunks(words.len())) {
-            manager.words(Frame::new(frame), 0, &mut words).unwrap();
+            manager.words(TableFrame::new(frame), 0, &mut words).unwrap();
             assert!(words == own, "table frame {frame}");
         }
         for (device, own) in (0..).zip(&self.contexts) {
