@@ -2,8 +2,8 @@
 
 use vtdm::limits::PAGE_BYTES;
 use vtdm::{
-    Access, Address, Descriptor, Device, Devices, Domain, Frame, HostAddress, Manager, Mode, Order,
-    Pages, Refused, Rights, TableFrame, Whim, Width,
+    Access, Address, Descriptor, Device, Devices, Domain, HostAddress, Manager, Mode, Order, Pages,
+    Refused, Rights, TableFrame, Whim, Width,
 };
 
 /// The bit of a leaf of 2 MiB.
