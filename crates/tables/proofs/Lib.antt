@@ -5,3 +5,4 @@ pub mod maps
 pub mod counts
 pub mod unmaps
 pub mod spelled
+pub mod trails

@@ -5,6 +5,7 @@ pub mod Pool
 pub mod Under
 pub mod Spelled
 pub mod Changes
+pub mod Trail
 pub mod Segments
 pub mod Lacks
 pub mod ByEntries

@@ -1,4 +1,4 @@
--- A pool of table frames: its words, the frames that are free, and how many frames it has. A tree is sound (`IsTree`) where each of its
+-- A pool of table frames: its words, the frames that are free, how many frames it has, and the memories that its words went through. A tree is sound (`IsTree`) where each of its
 -- tables is used once and none is free. The free frames are zeroed (`IsPool`).
 use Rattle.std.specs.Prelude.{◌≡◌, ℕ, ◌+◌, ◌*◌, ◌<◌, ◌≤◌, ◌==◌, List, length, slice_index, count_by}
 use Rattle.dmatypes.specs.declared.limits.TheConstants.{MOST_TABLE_FRAMES}
@@ -10,6 +10,8 @@ pub record Pool : Type 0 where
   pub words : List ℕ
   pub free : List ℕ
   pub frames : ℕ
+  -- the words after each write, the first first
+  pub trail : List (List ℕ)
 
 -- the word of a table at an index
 unfoldable pub word : List ℕ → ℕ → ℕ → ℕ

@@ -1,6 +1,6 @@
 //! The pool of table frames.
 
-ghost use Rattle.std.specs.Prelude.{◌≡◌, ℕ, ◌+◌, ◌<◌, ◌≤◌, ◌^◌, length, slice_index, IfOk};
+ghost use Rattle.std.specs.Prelude.{◌≡◌, ℕ, ◌+◌, ◌<◌, ◌≤◌, ◌^◌, [], ◌∷◌, ◌++◌, length, slice_index, IfOk};
 ghost use Rattle.dmatypes.specs.Rights.{AreRights, bits_of};
 ghost use Rattle.dmatypes.specs.declared.limits.TheConstants.{LEAST_TABLE_FRAMES, MOST_TABLE_FRAMES};
 ghost use Rattle.vtdbits.specs.Entry.{look};
@@ -9,6 +9,7 @@ ghost use Rattle.tables.specs.Tree.{one_if_same};
 ghost use Rattle.tables.specs.Pool.{word, occurs, IsZeroed, IsWrite, KeepsOtherWords, IsPool};
 
 use crate::entries::TABLE_ENTRIES;
+use crate::trail::Trail;
 use dmatypes::{FRAMES_END, Frame, Rights};
 use std::alloc::{AllocError, Global};
 use std::fmt;
@@ -28,6 +29,7 @@ pub struct Pool {
     // The free frames come first, in no order.
     slots: Vec<Frame>,
     free: usize,
+    trail: Trail,
 }
 
 impl Model for Pool {
@@ -36,10 +38,12 @@ impl Model for Pool {
 
     ghost Value = { Pool };
 
-    ghost view = { λ a. record { words = a.words.items; free = take a.free a.slots.items; frames = length a.slots.items } };
+    ghost view = { λ a. record { words = a.words.items; free = take a.free a.slots.items; frames = length a.slots.items;
+        trail = a.trail.memories } };
 
     ghost invariant = { λ a.
-        IsPool (record { words = a.words.items; free = take a.free a.slots.items; frames = length a.slots.items })
+        IsPool (record { words = a.words.items; free = take a.free a.slots.items; frames = length a.slots.items;
+        trail = a.trail.memories })
         × (a.free ≤ length a.slots.items) };
 }
 
@@ -64,6 +68,7 @@ impl Pool {
             words,
             slots,
             free: frames as usize,
+            trail: Trail::new(),
         })
     }
 
@@ -120,11 +125,13 @@ impl Pool {
         requires index { index < TABLE_ENTRIES }
         requires taken { occurs frame self.old.free ≡ 0 }
         ensures wrote { IsWrite self.old.words self.new.words frame index value }
+        ensures trail { self.new.trail ≡ self.old.trail ++ self.new.words ∷ [] }
         ensures free { self.new.free ≡ self.old.free }
         ensures frames { self.new.frames ≡ self.old.frames }
         ensures pool { IsPool self.new }
     {
         self.words[(frame.number() * TABLE_ENTRIES + index) as usize] = value;
+        self.trail = self.trail.and(&self.words);
     }
 
     /// Clears `count` words of a frame that isn't free, from an index on.
@@ -134,12 +141,14 @@ impl Pool {
         requires taken { occurs frame self.old.free ≡ 0 }
         ensures cleared { (k : ℕ) → k < count → word self.new.words frame (from + k) ≡ 0 }
         ensures rest { KeepsOtherWords self.old.words self.new.words frame from count }
+        ensures trail { self.new.trail ≡ self.old.trail ++ self.new.words ∷ [] }
         ensures free { self.new.free ≡ self.old.free }
         ensures frames { self.new.frames ≡ self.old.frames }
         ensures pool { IsPool self.new }
     {
         let start = (frame.number() * TABLE_ENTRIES + from) as usize;
         self.words[start..start + count as usize].fill(0);
+        self.trail = self.trail.and(&self.words);
     }
 
     /// Spells leaves of one page each in `count` words of a frame that isn't free, from an index on: host frames that
@@ -160,6 +169,7 @@ impl Pool {
         ensures leaves { (k : ℕ) → k < count
             → look 1 (word self.new.words frame (from + k)) ≡ SsEntry.Leaf (target (first + k) (bits_of rights)) }
         ensures rest { KeepsOtherWords self.old.words self.new.words frame from count }
+        ensures trail { self.new.trail ≡ self.old.trail ++ self.new.words ∷ [] }
         ensures free { self.new.free ≡ self.old.free }
         ensures frames { self.new.frames ≡ self.old.frames }
         ensures pool { IsPool self.new }
@@ -170,6 +180,7 @@ impl Pool {
             first,
             rights,
         );
+        self.trail = self.trail.and(&self.words);
     }
 
     /// Takes a free frame.
@@ -180,6 +191,7 @@ impl Pool {
         ensures count { length self.new.free + 1 ≡ length self.old.free }
         ensures zeroed { IsZeroed self.new.words result }
         ensures words { self.new.words ≡ self.old.words }
+        ensures trail { self.new.trail ≡ self.old.trail }
         ensures frames { self.new.frames ≡ self.old.frames }
         ensures old_pool { IsPool self.old }
         ensures pool { IsPool self.new }
@@ -196,6 +208,7 @@ impl Pool {
         ensures free { (f : ℕ) → occurs f self.new.free ≡ occurs f self.old.free + one_if_same frame f }
         ensures count { length self.new.free ≡ length self.old.free + 1 }
         ensures words { self.new.words ≡ self.old.words }
+        ensures trail { self.new.trail ≡ self.old.trail }
         ensures frames { self.new.frames ≡ self.old.frames }
         ensures pool { IsPool self.new }
     {
@@ -211,6 +224,7 @@ impl Pool {
         ensures free { (f : ℕ) → occurs f self.new.free ≡ occurs f self.old.free + occurs f frames.now }
         ensures count { length self.new.free ≡ length self.old.free + length frames.now }
         ensures words { self.new.words ≡ self.old.words }
+        ensures trail { self.new.trail ≡ self.old.trail }
         ensures frames { self.new.frames ≡ self.old.frames }
         ensures pool { IsPool self.new }
     {

@@ -30,6 +30,7 @@ mod frames;
 pub mod laws;
 mod mapping;
 mod segments;
+mod trail;
 mod trees;
 mod unmapping;
 

@@ -1,7 +1,7 @@
 //! Pages mapped to host frames, in trees of up to 4 levels, and so of up to 2^36 pages.
 
-ghost use Rattle.std.specs.Prelude.{◌≡◌, ℕ, Bool, ◌+◌, ◌-◌, ◌*◌, ◌/◌, ◌%◌, ◌^◌, ◌<◌, ◌≤◌, [], length, if◌then◌else◌, false, None, IsSome};
-ghost use Rattle.std.specs.Prelude.{IsErr, OnOk, OnErr, true, ◌↔◌};
+ghost use Rattle.std.specs.Prelude.{◌≡◌, ℕ, Bool, ◌+◌, ◌-◌, ◌*◌, ◌/◌, ◌%◌, ◌^◌, ◌<◌, ◌≤◌, [], ◌∷◌, ◌++◌, length, if◌then◌else◌, false, None};
+ghost use Rattle.std.specs.Prelude.{IsSome, IsErr, OnOk, OnErr, true, ◌↔◌};
 ghost use Rattle.dmatypes.specs.Conditions.{total_pages};
 ghost use Rattle.dmatypes.specs.Rights.{AreRights, bits_of};
 ghost use Rattle.dmatypes.specs.World.{placed};
@@ -25,6 +25,7 @@ pub(crate) fn write_run(pool: &mut Pool, table: Frame, extent: Extent)
     requires table { table < pool.old.frames }
     requires taken { occurs table pool.old.free ≡ 0 }
     ensures run { WritesEntries pool.old.words pool.new.words table extent.from extent.to (leaf_at extent) }
+    ensures trail { pool.new.trail ≡ pool.old.trail ++ pool.new.words ∷ [] }
     ensures free { pool.new.free ≡ pool.old.free }
     ensures frames { pool.new.frames ≡ pool.old.frames }
     ensures pool { IsPool pool.new }

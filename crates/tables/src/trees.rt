@@ -14,6 +14,7 @@ ghost use Rattle.tables.specs.Changes.{KeepsSpellings};
 ghost use Rattle.tables.specs.Spelled.{AreSpelled};
 ghost use Rattle.tables.specs.Segments.{AreSegments, is_large_at, one_segment};
 ghost use Rattle.tables.specs.Lacks.{frames_to_map, leaves_splitting};
+ghost use Rattle.tables.specs.Trail.{WritesInOrder};
 
 use crate::cut::Cut;
 use crate::entries::{TABLE_ENTRIES, find, table_at};
@@ -271,6 +272,7 @@ impl Tree {
         ensures spelled { KeepsSpellings pool.old pool.new (levels self.old.width) self.old.root }
         ensures unmaps { UnmapsPages pool.old pool.new (levels self.old.width) self.old.root range.first (range.first + range.pages)
             result.frames }
+        ensures order { WritesInOrder pool.old pool.new }
         ensures split { IsTrue result.split
             ↔ (0 < leaves_splitting (memory pool.old.words) (levels self.old.width) self.old.root range.first (range.first + range.pages)) }
         ensures whole { (p : ℕ) (x : LeafEntry) → IsWithin range p → result.split ≡ false

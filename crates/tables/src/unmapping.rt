@@ -1,13 +1,14 @@
 //! Pages unmapped, and tables given back, in trees of up to 4 levels, and so of up to 2^36 pages.
 
-ghost use Rattle.std.specs.Prelude.{◌≡◌, ◌≢◌, ℕ, ◌+◌, ◌-◌, ◌*◌, ◌/◌, ◌%◌, ◌^◌, ◌<◌, ◌≤◌, [], false, length, if◌then◌else◌, IsSome, IsTrue};
-ghost use Rattle.std.specs.Prelude.{◌↔◌};
+ghost use Rattle.std.specs.Prelude.{◌≡◌, ◌≢◌, ℕ, ◌+◌, ◌-◌, ◌*◌, ◌/◌, ◌%◌, ◌^◌, ◌<◌, ◌≤◌, [], ◌∷◌, ◌++◌, false, length};
+ghost use Rattle.std.specs.Prelude.{if◌then◌else◌, IsSome, IsTrue, ◌↔◌};
 ghost use Rattle.tables.specs.Tree.{Memory, span, index_in, leaf_from, uses};
 ghost use Rattle.tables.specs.Pool.{word, memory, occurs, IsPool, IsTree, IsWrite};
 ghost use Rattle.vtdbits.specs.Entry.{look};
 ghost use Rattle.vtdbits.specs.Translation.{target};
 ghost use Rattle.tables.specs.Changes.{TakesAndGivesFrames, KeepsSpellings, UnmapsPages};
 ghost use Rattle.tables.specs.Lacks.{splits_leaf, leaves_splitting};
+ghost use Rattle.tables.specs.Trail.{WritesInOrder};
 ghost use Rattle.tables.specs.Under.{IsSplit, used_at};
 ghost use Rattle.tables.specs.Extents.{WritesEntries, cut_of, was_split, extent_splits};
 
@@ -38,6 +39,7 @@ fn clear_run(pool: &mut Pool, table: Frame, from: u64, to: u64)
     requires taken { occurs table pool.old.free ≡ 0 }
     ensures run { WritesEntries pool.old.words pool.new.words table from to (λ p. SsEntry.Absent) }
     ensures zeroed { (p : ℕ) → from ≤ p → p < to → word pool.new.words table (p % SPAN_PAGES) ≡ 0 }
+    ensures order { WritesInOrder pool.old pool.new }
     ensures free { pool.new.free ≡ pool.old.free }
     ensures frames { pool.new.frames ≡ pool.old.frames }
     ensures pool { IsPool pool.new }
@@ -59,6 +61,7 @@ fn split(pool: &mut Pool, table: Frame, page: u64, leaf: LargeTranslation) -> Fr
     ensures moves { TakesAndGivesFrames pool.old pool.new 2 table [] }
     ensures spelled { KeepsSpellings pool.old pool.new 2 table }
     ensures split { IsSplit pool.old pool.new table (index_in 1 page) page result leaf }
+    ensures order { WritesInOrder pool.old pool.new }
     ensures count { length pool.new.free + 1 ≡ length pool.old.free }
     ensures pool { IsPool pool.new }
 {
@@ -71,24 +74,9 @@ fn split(pool: &mut Pool, table: Frame, page: u64, leaf: LargeTranslation) -> Fr
         rights: leaf.rights(),
     };
     write_run(pool, below, extent);
-    link(pool, table, page, below, leaf);
-    below
-}
-
-/// Writes the entry of a table in the place of a leaf of 512 pages, once its 512 entries spell what the leaf does.
-#[inline(always)]
-fn link(pool: &mut Pool, table: Frame, page: u64, below: Frame, leaf: LargeTranslation)
-    requires table { table < pool.old.frames }
-    requires taken { occurs table pool.old.free ≡ 0 }
-    requires leaf { memory pool.old.words 2 table (index_in 1 page) ≡ SsEntry.LargeLeaf leaf }
-    requires filled { (i : ℕ) → i < TABLE_ENTRIES → memory pool.old.words 1 below i ≡ SsEntry.Leaf (target (leaf.frame + i) leaf.rights) }
-    ensures wrote { (value : ℕ) × IsWrite pool.old.words pool.new.words table (index_in 1 page) value
-        × (look 2 value ≡ SsEntry.Table below) }
-    ensures free { pool.new.free ≡ pool.old.free }
-    ensures frames { pool.new.frames ≡ pool.old.frames }
-    ensures pool { IsPool pool.new }
-{
+    // Not sooner: a unit may walk the words where they lie.
     pool.write(table, index_of(2, page), SsEntry::Table(below).encode());
+    below
 }
 
 /// Unmaps an extent in a table of level 2.
@@ -102,6 +90,7 @@ fn clear_span(pool: &mut Pool, table: Frame, from: u64, to: u64) -> Cleared
     ensures moves { TakesAndGivesFrames pool.old pool.new 2 table (cut_of result) }
     ensures spelled { KeepsSpellings pool.old pool.new 2 table }
     ensures unmaps { UnmapsPages pool.old pool.new 2 table from to (cut_of result) }
+    ensures order { WritesInOrder pool.old pool.new }
     ensures split { (if was_split result then 1 else 0) ≡ extent_splits (memory pool.old.words) 2 table from to }
     ensures count { length pool.new.free + extent_splits (memory pool.old.words) 2 table from to ≡ length pool.old.free }
     ensures cut { SPAN_PAGES * length (cut_of result) ≤ to - from }
@@ -145,6 +134,7 @@ fn clear_extent(pool: &mut Pool, level: u64, table: Frame, from: u64, to: u64) -
     ensures moves { TakesAndGivesFrames pool.old pool.new level table (cut_of result) }
     ensures spelled { KeepsSpellings pool.old pool.new level table }
     ensures unmaps { UnmapsPages pool.old pool.new level table from to (cut_of result) }
+    ensures order { WritesInOrder pool.old pool.new }
     ensures split { (if was_split result then 1 else 0) ≡ extent_splits (memory pool.old.words) level table from to }
     ensures count { length pool.new.free + extent_splits (memory pool.old.words) level table from to ≡ length pool.old.free }
     ensures cut { SPAN_PAGES * length (cut_of result) ≤ to - from }
@@ -174,6 +164,7 @@ pub(crate) fn unmap_extents(pool: &mut Pool, level: u64, root: Frame, from: u64,
     ensures moves { TakesAndGivesFrames pool.old pool.new level root result.frames }
     ensures spelled { KeepsSpellings pool.old pool.new level root }
     ensures unmaps { UnmapsPages pool.old pool.new level root from to result.frames }
+    ensures order { WritesInOrder pool.old pool.new }
     ensures split { IsTrue result.split ↔ (0 < leaves_splitting (memory pool.old.words) level root from to) }
     ensures count { length pool.new.free + leaves_splitting (memory pool.old.words) level root from to ≡ length pool.old.free }
     ensures pool { IsPool pool.new }

@@ -104,9 +104,9 @@ wrote words frames t i w fit t_in i_in =
           (λ e. let one : (f ≡ t) × (k ≡ i) = one_place t i f k i_in k_in e in other one.0 one.1),
     )
 
-pub write_keeps : (pool : Pool) (t i w : ℕ) → IsPool pool → t < pool.frames → i < TABLE_ENTRIES → occurs t pool.free ≡ 0
-    → IsPool (record pool { words = set pool.words (t * TABLE_ENTRIES + i) w })
-write_keeps pool t i w ok t_in i_in taken = record {
+pub write_keeps : (pool : Pool) (t i w : ℕ) (trail : List (List ℕ)) → IsPool pool → t < pool.frames → i < TABLE_ENTRIES
+    → occurs t pool.free ≡ 0 → IsPool (record pool { words = set pool.words (t * TABLE_ENTRIES + i) w; trail = trail })
+write_keeps pool t i w trail ok t_in i_in taken = record {
   fit = length-set pool.words (t * TABLE_ENTRIES + i) w ∙ ok.fit;
   few = ok.few;
   once = ok.once;

@@ -79,22 +79,23 @@ slots_given limit n k xs ys new =
     take limit (take n ys ++ (new ++ drop (n + k - n) (drop n ys)) ++ drop (length (take n ys ++ (new ++ drop (n + k - n) (drop n ys)))) xs)
 
 -- what a pool is then
-abbrev pub IsGiven : List ℕ → ℕ → ℕ → ℕ → List ℕ → List ℕ → List ℕ → List ℕ → Type 0
-IsGiven words limit n k xs ys new given =
+abbrev pub IsGiven : List ℕ → List (List ℕ) → ℕ → ℕ → ℕ → List ℕ → List ℕ → List ℕ → List ℕ → Type 0
+IsGiven words trail limit n k xs ys new given =
     IsPool (record {
       words = words;
       free = take (n + k) (slots_given limit n k xs ys new);
       frames = length (slots_given limit n k xs ys new);
+      trail = trail;
     })
     × (n + k ≤ length (slots_given limit n k xs ys new))
     × (take (n + k) (slots_given limit n k xs ys new) ≡ take n xs ++ given)
 
-given_same : (words : List ℕ) (limit n : ℕ) (xs given : List ℕ) → limit ≡ length xs → n ≤ length xs
-    → IsPool (record { words = words; free = take n xs; frames = length xs })
+given_same : (words : List ℕ) (trail : List (List ℕ)) (limit n : ℕ) (xs given : List ℕ) → limit ≡ length xs → n ≤ length xs
+    → IsPool (record { words = words; free = take n xs; frames = length xs; trail = trail })
     → ((f : ℕ) → occurs f (take n xs) + occurs f given ≤ 1) → ((f : ℕ) → 0 < occurs f given → f < length xs)
-    → ((f : ℕ) → 0 < occurs f given → IsZeroed words f) → IsGiven words limit n (length given) xs xs given given
-given_same words limit n xs given e short ok once within zeroed =
-    let pool : Pool = record { words = words; free = take n xs; frames = length xs } in
+    → ((f : ℕ) → 0 < occurs f given → IsZeroed words f) → IsGiven words trail limit n (length given) xs xs given given
+given_same words trail limit n xs given e short ok once within zeroed =
+    let pool : Pool = record { words = words; free = take n xs; frames = length xs; trail = trail } in
     let k : ℕ = length given in
     let front : List ℕ = take n xs ++ (given ++ drop (n + k - n) (drop n xs)) in
     let fits : length (take n xs) + k ≤ length xs = given_fits pool given ok once within in
@@ -110,17 +111,17 @@ given_same words limit n xs given e short ok once within zeroed =
     let same : length (slots_given limit n k xs xs given) ≡ length xs = length_given limit xs front e front_long in
     let free : take (n + k) (slots_given limit n k xs xs given) ≡ take n xs ++ given =
     front_given n limit xs given (drop (n + k - n) (drop n xs)) (drop (length front) xs) short (omega arith) in (
-      subst (λ (s : ℕ). IsPool (record { words = words; free = take (n + k) (slots_given limit n k xs xs given); frames = s })) (sym same)
+      subst (λ (s : ℕ). IsPool (record { words = words; free = take (n + k) (slots_given limit n k xs xs given); frames = s; trail = trail })) (sym same)
           (given_keeps pool given (take (n + k) (slots_given limit n k xs xs given)) ok once within zeroed free),
       omega arith,
       free,
     )
 
-pub given_state : (words : List ℕ) (limit n : ℕ) (xs ys new given : List ℕ) → ys ≡ xs → new ≡ given → limit ≡ length xs → n ≤ length xs
-    → IsPool (record { words = words; free = take n xs; frames = length xs })
+pub given_state : (words : List ℕ) (trail : List (List ℕ)) (limit n : ℕ) (xs ys new given : List ℕ) → ys ≡ xs → new ≡ given → limit ≡ length xs → n ≤ length xs
+    → IsPool (record { words = words; free = take n xs; frames = length xs; trail = trail })
     → ((f : ℕ) → occurs f (take n xs) + occurs f given ≤ 1) → ((f : ℕ) → 0 < occurs f given → f < length xs)
-    → ((f : ℕ) → 0 < occurs f given → IsZeroed words f) → IsGiven words limit n (length given) xs ys new given
-given_state words limit n xs ys new given ey en e short ok once within zeroed =
-    subst (λ (zs : List ℕ). IsGiven words limit n (length given) xs zs new given) (sym ey)
-    (subst (λ (zs : List ℕ). IsGiven words limit n (length given) xs xs zs given) (sym en)
-    (given_same words limit n xs given e short ok once within zeroed))
+    → ((f : ℕ) → 0 < occurs f given → IsZeroed words f) → IsGiven words trail limit n (length given) xs ys new given
+given_state words trail limit n xs ys new given ey en e short ok once within zeroed =
+    subst (λ (zs : List ℕ). IsGiven words trail limit n (length given) xs zs new given) (sym ey)
+    (subst (λ (zs : List ℕ). IsGiven words trail limit n (length given) xs xs zs given) (sym en)
+    (given_same words trail limit n xs given e short ok once within zeroed))

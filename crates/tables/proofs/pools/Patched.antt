@@ -61,7 +61,7 @@ read_above a b i xs new le within long high =
 
 -- in a pool a run of words of a frame in use was replaced
 pub record IsPatch (pool : Pool) (new : List ℕ) (table from : ℕ) (run : List ℕ) : Type 0 where
-  pub keeps : IsPool (record pool { words = new })
+  pub keeps : (trail : List (List ℕ)) → IsPool (record pool { words = new; trail = trail })
   pub inside : (k : ℕ) → k < length run → word new table (from + k) ≡ get_or run k 0
   pub rest : KeepsOtherWords pool.words new table from (length run)
 
@@ -93,7 +93,7 @@ patch limit n t i count pool ys run at same all ok t_in taken i_in long =
     (cases_lt (f * TABLE_ENTRIES + k) b))
     (cases_lt (f * TABLE_ENTRIES + k) a) in
     subst (λ zs. IsPatch pool zs t i run) (sym is) (record {
-      keeps = record {
+      keeps = λ trail. record {
         fit = length_put a b xs run low within size ∙ ok.fit;
         few = ok.few;
         once = ok.once;

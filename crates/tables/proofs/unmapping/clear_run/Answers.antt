@@ -5,6 +5,7 @@ use Rattle.vtdbits.specs.declared.entry.SsEntry.TheVariants.{Absent}
 use Rattle.vtdbits.proofs.Entries.{look-zero}
 use Rattle.tables.specs.Pool.{word}
 use Rattle.tables.proofs.maps.Runs.{run_of}
+use Rattle.tables.proofs.trails.Steps.{clears_word, clears_words}
 use Rattle.tables.proofs.unmapping.clear_run.Goals as goal
 
 pub returns-then-to-from-eq1-clause-run : goal.returns-then-to-from-eq1-clause-run
@@ -25,3 +26,11 @@ pub returns-else-to-from-eq1-clause-zeroed : goal.returns-else-to-from-eq1-claus
 returns-else-to-from-eq1-clause-zeroed c p low high =
     let place : p % SPAN_PAGES ≡ c.args.from % SPAN_PAGES + (p - c.args.from) = omega (arith, c.requires.one_span) in
     ap (λ k. word c.clear.new.self.words c.args.table k) place ∙ c.clear.ensures.cleared (p - c.args.from) (omega arith)
+
+pub returns-then-to-from-eq1-clause-order : goal.returns-then-to-from-eq1-clause-order
+returns-then-to-from-eq1-clause-order c =
+    clears_word c.args.pool.now c.write.new.self c.args.table _ c.write.ensures.trail c.write.ensures.wrote
+
+pub returns-else-to-from-eq1-clause-order : goal.returns-else-to-from-eq1-clause-order
+returns-else-to-from-eq1-clause-order c =
+    clears_words c.args.pool.now c.clear.new.self c.args.table _ _ c.clear.ensures.trail c.clear.ensures.rest c.clear.ensures.cleared

@@ -23,6 +23,7 @@ use Rattle.tables.proofs.maps.Runs.{run_moves}
 use Rattle.tables.proofs.spelled.Runs.{run_spelled}
 use Rattle.tables.proofs.spelled.UnderEntry.{leaf_spelled, through_spelled}
 use Rattle.tables.proofs.unmaps.SplitLeaf.{split_unmaps, leaves_splitting_whole, leaves_splitting_table, leaves_splitting_large}
+use Rattle.tables.proofs.trails.Steps.{after, clears_word}
 use Rattle.tables.proofs.unmapping.clear_span.Goals as goal
 use Rattle.tables.proofs.unmapping.clear_span.Goals.{After-write, After-write-then-is_whole, After-clear_run-in-LargeLeaf}
 
@@ -301,3 +302,19 @@ unreachable-requires c =
           (c.requires.there c.args.from (omega arith) c.requires.some)
       | inr (x, e) ↦ let wrong = subst (λ y. MayStandAt 2 y) e c.entry.ensures.stands in omega arith
     ]
+
+-- in which order
+pub returns-else-not-is_whole-clause-order : goal.returns-else-not-is_whole-clause-order
+returns-else-not-is_whole-clause-order c =
+    after c.args.pool.now c.clear_run.new.pool c.write.new.self c.clear_run.ensures.order
+    (clears_word c.clear_run.new.pool c.write.new.self c.args.table c.index_of-index.result c.write.ensures.trail c.write.ensures.wrote)
+
+pub returns-then-is_whole-clause-order : goal.returns-then-is_whole-clause-order
+returns-then-is_whole-clause-order c =
+    clears_word c.args.pool.now c.write-then-is_whole.new.self c.args.table c.index_of-index.result c.write-then-is_whole.ensures.trail
+    c.write-then-is_whole.ensures.wrote
+
+pub returns-else-is_whole-clause-order : goal.returns-else-is_whole-clause-order
+returns-else-is_whole-clause-order c =
+    after c.args.pool.now c.split-below.new.pool c.clear_run-in-LargeLeaf.new.pool c.split-below.ensures.order
+    c.clear_run-in-LargeLeaf.ensures.order

@@ -1,16 +1,18 @@
-use Rattle.std.proofs.Common.{◌≡◌, ℕ, ◌+◌, ◌-◌, ◌*◌, ◌/◌, ◌%◌, ◌<◌, ◌≤◌, [], ap, ap₂, arith}
+use Rattle.std.proofs.Common.{◌≡◌, ℕ, ◌+◌, ◌-◌, ◌*◌, ◌/◌, ◌%◌, ◌<◌, ◌≤◌, [], ap, ap₂, subst, arith}
 use Rattle.dmatypes.specs.declared.page.TheConstants.{SPAN_PAGES}
 use Rattle.dmatypes.specs.World.{Target}
 use Rattle.vtdbits.specs.Translation.{target}
 use Rattle.vtdbits.specs.declared.entry.SsEntry.TheVariants.{Leaf}
 use Rattle.tables.specs.Tree.{index_in}
-use Rattle.tables.specs.Pool.{occurs}
+use Rattle.tables.specs.Pool.{IsWrite, occurs}
 use Rattle.tables.proofs.sums.OneFrame.{one_if_same-self}
 use Rattle.tables.proofs.unmaps.SplitLeaf.{leaf_stays, spells_leaf, splits}
 use Rattle.tables.proofs.unmaps.UnderEntry.{root_in, root_taken, under_moves}
 use Rattle.tables.proofs.walks.Onward.{index_lt}
 use Rattle.tables.proofs.spelled.Runs.{split_spelled}
+use Rattle.tables.proofs.trails.Steps.{after, fills, names, stays}
 use Rattle.tables.proofs.unmapping.split.Goals as goal
+use Rattle.tables.proofs.unmapping.split.Goals.{After-write}
 
 pub write_run-requires-clause-taken : goal.write_run-requires-clause-taken
 write_run-requires-clause-taken c =
@@ -29,41 +31,60 @@ leaves page number rights x frame same p low high =
     let offset : number + (p - page / SPAN_PAGES * SPAN_PAGES) ≡ x.frame + p % SPAN_PAGES = omega arith in
     ap₂ (λ f r. Leaf (target f r)) offset same
 
-pub link-requires : goal.link-requires
-link-requires c = record {
-  table = omega (arith, root_in c.args.pool.now 1 c.args.table c.requires.tree, c.take-below.ensures.frames, c.write_run.ensures.frames);
-  taken =
-      omega (
-        arith,
-        root_taken c.args.pool.now 1 c.args.table c.requires.tree,
-        c.take-below.ensures.free c.args.table,
-        ap (occurs c.args.table) c.write_run.ensures.free,
-      );
-  leaf =
-      leaf_stays c.args.pool.now c.take-below.new.self c.write_run.new.pool c.args.table (index_in 1 c.args.page) c.args.page
-      c.take-below.result _ c.args.leaf c.requires.tree (index_lt 1 c.args.page) c.requires.leaf c.take-below.ensures.free
-      c.take-below.ensures.words c.write_run.ensures.run;
-  filled =
-      spells_leaf c.take-below.new.self c.write_run.new.pool c.args.page c.take-below.result _ c.args.leaf c.write_run.ensures.run
-      (leaves c.args.page c.number.result c.rights.result.0 c.args.leaf (omega (arith, c.number.ensures.value, c.frame.ensures.value))
-      c.rights.ensures.value);
-}
+pub write-requires-clause-frame : goal.write-requires-clause-frame
+write-requires-clause-frame c =
+    omega (arith, root_in c.args.pool.now 1 c.args.table c.requires.tree, c.take-below.ensures.frames, c.write_run.ensures.frames)
+
+pub write-requires-clause-taken : goal.write-requires-clause-taken
+write-requires-clause-taken c =
+    omega (
+      arith,
+      root_taken c.args.pool.now 1 c.args.table c.requires.tree,
+      c.take-below.ensures.free c.args.table,
+      ap (occurs c.args.table) c.write_run.ensures.free,
+    )
+
+-- the table is named
+named : (c : After-write) → IsWrite c.write_run.new.pool.words c.write.new.self.words c.args.table (index_in 1 c.args.page) c.encode.result
+named c =
+    subst (λ i. IsWrite c.write_run.new.pool.words c.write.new.self.words c.args.table i c.encode.result) c.index_of.ensures.exact
+    c.write.ensures.wrote
 
 pub returns-clause-split : goal.returns-clause-split
 returns-clause-split c =
-    splits c.args.pool.now c.take-below.new.self c.write_run.new.pool c.link.new.pool c.args.table (index_in 1 c.args.page) c.args.page
-    c.take-below.result c.link.ensures.wrote.0 _ c.args.leaf c.requires.tree (index_lt 1 c.args.page) c.requires.leaf
+    splits c.args.pool.now c.take-below.new.self c.write_run.new.pool c.write.new.self c.args.table (index_in 1 c.args.page) c.args.page
+    c.take-below.result c.encode.result _ c.args.leaf c.requires.tree (index_lt 1 c.args.page) c.requires.leaf
     c.take-below.ensures.free c.take-below.ensures.words c.take-below.ensures.frames c.write_run.ensures.run c.write_run.ensures.free
-    c.write_run.ensures.frames c.link.ensures.wrote.1 c.link.ensures.free c.link.ensures.frames c.link.ensures.wrote.2
+    c.write_run.ensures.frames (named (goal.at.returns-clause-split c).After-write) c.write.ensures.free c.write.ensures.frames
+    (c.encode.ensures.looked 2 (omega arith, omega arith))
     (leaves c.args.page c.number.result c.rights.result.0 c.args.leaf (omega (arith, c.number.ensures.value, c.frame.ensures.value))
     c.rights.ensures.value)
 
 pub returns-clause-moves : goal.returns-clause-moves
 returns-clause-moves c =
-    under_moves c.args.pool.now c.link.new.pool 1 c.args.table (index_in 1 c.args.page) [] c.requires.tree (index_lt 1 c.args.page)
+    under_moves c.args.pool.now c.write.new.self 1 c.args.table (index_in 1 c.args.page) [] c.requires.tree (index_lt 1 c.args.page)
     (returns-clause-split c).under
 
 pub returns-clause-spelled : goal.returns-clause-spelled
 returns-clause-spelled c =
-    split_spelled c.args.pool.now c.link.new.pool c.args.table (index_in 1 c.args.page) c.args.page c.take-below.result c.args.leaf
+    split_spelled c.args.pool.now c.write.new.self c.args.table (index_in 1 c.args.page) c.args.page c.take-below.result c.args.leaf
     c.requires.tree (index_lt 1 c.args.page) (returns-clause-split c)
+
+pub returns-clause-order : goal.returns-clause-order
+returns-clause-order c =
+    let leaf =
+    leaf_stays c.args.pool.now c.take-below.new.self c.write_run.new.pool c.args.table (index_in 1 c.args.page) c.args.page
+    c.take-below.result _ c.args.leaf c.requires.tree (index_lt 1 c.args.page) c.requires.leaf c.take-below.ensures.free
+    c.take-below.ensures.words c.write_run.ensures.run in
+    let filled =
+    spells_leaf c.take-below.new.self c.write_run.new.pool c.args.page c.take-below.result _ c.args.leaf c.write_run.ensures.run
+    (leaves c.args.page c.number.result c.rights.result.0 c.args.leaf (omega (arith, c.number.ensures.value, c.frame.ensures.value))
+    c.rights.ensures.value) in
+    after c.args.pool.now c.write_run.new.pool c.write.new.self
+    (after c.args.pool.now c.take-below.new.self c.write_run.new.pool
+    (stays c.args.pool.now c.take-below.new.self c.take-below.ensures.trail c.take-below.ensures.words)
+    (fills c.take-below.new.self c.write_run.new.pool c.take-below.result c.write_run.ensures.trail c.take-below.ensures.zeroed
+    (λ f k k_in ne. c.write_run.ensures.run.rest f k k_in (λ e p _ _ _. ne e))))
+    (names c.write_run.new.pool c.write.new.self c.args.table (index_in 1 c.args.page) c.encode.result c.take-below.result c.args.leaf
+    c.write.ensures.trail (named (goal.at.returns-clause-order c).After-write) (c.encode.ensures.looked 2 (omega arith, omega arith))
+    leaf filled)

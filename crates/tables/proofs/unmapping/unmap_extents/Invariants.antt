@@ -2,6 +2,7 @@ use Rattle.std.proofs.Common.{◌≡◌, ◌+◌, ◌-◌, ◌*◌, ◌%◌, ◌
 use Rattle.dmatypes.specs.declared.page.TheConstants.{SPAN_PAGES}
 use Rattle.tables.specs.Pool.{IsPool}
 use Rattle.tables.specs.Changes.{TakesAndGivesFrames, KeepsSpellings, UnmapsPages}
+use Rattle.tables.specs.Trail.{WritesInOrder}
 use Rattle.tables.proofs.sums.OverSpans.{split_so_far}
 use Rattle.tables.proofs.unmapping.unmap_extents.Given as goal
 
@@ -18,6 +19,7 @@ invariant-loop-place l = record {
   split : l.cut.split ≡ true → 0 < split_so_far l.initial.pool l.level l.root l.from l.to l.place;
   none : l.cut.split ≡ false → split_so_far l.initial.pool l.level l.root l.from l.to l.place ≡ 0;
   pool : l.from < l.place → IsPool l.pool;
+  order : WritesInOrder l.initial.pool l.pool;
 }
 
 abbrev pub decreases-loop-place : goal.decreases-loop-place

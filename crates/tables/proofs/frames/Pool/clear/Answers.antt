@@ -12,6 +12,7 @@ cleared : (c : After-fill)
       words = c.self.inside.words.items;
       free = take c.self.inside.free c.self.inside.slots.items;
       frames = length c.self.inside.slots.items;
+      trail = c.self.inside.trail.memories;
     })
     (patched c.self.inside.words.len (c.number.result * TABLE_ENTRIES + c.args.from)
     (c.number.result * TABLE_ENTRIES + c.args.from + c.args.count) c.self.inside.words.items c.deref_mut.result.now c.fill.new.self)
@@ -25,11 +26,12 @@ cleared c =
       words = c.self.inside.words.items;
       free = take c.self.inside.free c.self.inside.slots.items;
       frames = length c.self.inside.slots.items;
+      trail = c.self.inside.trail.memories;
     }) c.deref_mut.result.now c.fill.new.self c.number.ensures.value c.deref_mut.ensures.value (omega arith) c.self.invariant.0
     (omega arith) taken c.requires.within (omega arith) c.fill.ensures.len
 
 pub invariant_of-self : goal.invariant_of-self
-invariant_of-self c = ((cleared (goal.at.invariant_of-self c).After-fill).1.keeps, c.self.invariant.1)
+invariant_of-self c = ((cleared (goal.at.invariant_of-self c).After-fill).1.keeps _, c.self.invariant.1)
 
 pub returns-clause-cleared : goal.returns-clause-cleared
 returns-clause-cleared c k k_in =
@@ -45,4 +47,4 @@ returns-clause-rest c f k k_in other =
     ∙ ap (λ (p : Pool). word p.words f k) c.self.view_is
 
 pub returns-clause-pool : goal.returns-clause-pool
-returns-clause-pool c = (cleared (goal.at.returns-clause-pool c).After-fill).1.keeps
+returns-clause-pool c = (cleared (goal.at.returns-clause-pool c).After-fill).1.keeps _

@@ -12,6 +12,7 @@ spelled : (c : After-spell_leaves)
       words = c.self.inside.words.items;
       free = take c.self.inside.free c.self.inside.slots.items;
       frames = length c.self.inside.slots.items;
+      trail = c.self.inside.trail.memories;
     })
     (patched c.self.inside.words.len (c.number.result * TABLE_ENTRIES + c.args.from)
     (c.number.result * TABLE_ENTRIES + c.args.from + c.args.count) c.self.inside.words.items c.deref_mut.result.now
@@ -26,11 +27,12 @@ spelled c =
       words = c.self.inside.words.items;
       free = take c.self.inside.free c.self.inside.slots.items;
       frames = length c.self.inside.slots.items;
+      trail = c.self.inside.trail.memories;
     }) c.deref_mut.result.now c.spell_leaves.new.words c.number.ensures.value c.deref_mut.ensures.value (omega arith) c.self.invariant.0
     (omega arith) taken c.requires.within (omega arith) c.spell_leaves.ensures.length
 
 pub invariant_of-self : goal.invariant_of-self
-invariant_of-self c = ((spelled (goal.at.invariant_of-self c).After-spell_leaves).1.keeps, c.self.invariant.1)
+invariant_of-self c = ((spelled (goal.at.invariant_of-self c).After-spell_leaves).1.keeps _, c.self.invariant.1)
 
 pub returns-clause-leaves : goal.returns-clause-leaves
 returns-clause-leaves c k k_in =
@@ -46,4 +48,4 @@ returns-clause-rest c f k k_in other =
     ∙ ap (λ (p : Pool). word p.words f k) c.self.view_is
 
 pub returns-clause-pool : goal.returns-clause-pool
-returns-clause-pool c = (spelled (goal.at.returns-clause-pool c).After-spell_leaves).1.keeps
+returns-clause-pool c = (spelled (goal.at.returns-clause-pool c).After-spell_leaves).1.keeps _
