@@ -257,8 +257,26 @@ fn take_down_entry(pool: &mut Pool, level: u64, table: Frame, index: u64)
     ensures frames { pool.new.frames ≡ pool.old.frames }
     ensures pool { IsPool pool.new }
 {
-    if let SsEntry::Table(below) = entry(pool, level, table, index) {
-        take_down(pool, level - 1, below);
-    }
+    let named = entry(pool, level, table, index);
+    // The word goes first: a unit that walks the words where they lie must not meet a table that is free already.
     pool.write(table, index, 0);
+    if let SsEntry::Table(below) = named {
+        take_down_below(pool, level - 1, below, table, index);
+    }
+}
+
+/// Takes down a table that an entry named, once the word of that entry is cleared.
+#[cycle(taking_down)]
+fn take_down_below(pool: &mut Pool, level: u64, below: Frame, _table: Frame, _index: u64)
+    requires low { 1 ≤ level }
+    requires high { level ≤ MOST_LEVELS }
+    requires cleared { word pool.old.words _table _index ≡ 0 }
+    requires tree { IsTree pool.old level below }
+    ensures free { (f : ℕ) → occurs f pool.new.free ≡ occurs f pool.old.free + uses (memory pool.old.words) level below f }
+    ensures others { (f k : ℕ) → k < TABLE_ENTRIES → uses (memory pool.old.words) level below f ≡ 0
+        → word pool.new.words f k ≡ word pool.old.words f k }
+    ensures frames { pool.new.frames ≡ pool.old.frames }
+    ensures pool { IsPool pool.new }
+{
+    take_down(pool, level, below);
 }

@@ -6,7 +6,7 @@ use Rattle.vtdbits.specs.declared.entry.SsEntry.{SsEntry}
 use Rattle.vtdbits.specs.declared.entry.SsEntry.TheVariants.{Absent, Table, Leaf, LargeLeaf}
 use Rattle.tables.specs.Tree.{sum_below, one_if_same, entry_uses, uses}
 use Rattle.tables.specs.Under.{used_by_entry, used_at}
-use Rattle.tables.specs.Pool.{Pool, word, memory, occurs, IsTree}
+use Rattle.tables.specs.Pool.{Pool, word, memory, occurs, IsTree, IsWrite}
 use Rattle.tables.proofs.sums.Firsts.{sum_below_same, sum_below-suc, sum_below-zero, sum_below_le_more}
 use Rattle.tables.proofs.sums.OneFrame.{one_if_same-self}
 use Rattle.tables.proofs.walks.Words.{same_entry}
@@ -31,31 +31,67 @@ used_none pool level t f i e is none =
 
 -- ---- one entry
 
--- what lay below it came free, and nothing else changed
-pub record IsFreed (old cur : Pool) (level t i : ℕ) : Type 0 where
-  pub free : (f : ℕ) → occurs f cur.free ≡ occurs f old.free + used_at old level t f i
-  pub others : (f k : ℕ) → k < TABLE_ENTRIES → used_at old level t f i ≡ 0 → word cur.words f k ≡ word old.words f k
-  pub frames : cur.frames ≡ old.frames
+-- a word of a table was cleared: what a tree below uses is the same, where that table is not of the tree
+apart_uses : (old new : Pool) (t i l c f : ℕ) → IsWrite old.words new.words t i 0 → uses (memory old.words) l c t ≡ 0
+    → uses (memory new.words) l c f ≡ uses (memory old.words) l c f
+apart_uses old new t i l c f wrote none =
+    uses_agree (memory old.words) (memory new.words) l c f
+    (to_agree (memory old.words) (memory new.words) l c (λ g some l' k k_in.
+    same_entry old.words new.words l' g k (wrote.1 g k k_in (λ e _.
+    let own : uses (memory old.words) l c g ≡ uses (memory old.words) l c t = ap (λ x. uses (memory old.words) l c x) e in
+    omega (arith, own, none, some)))))
 
-pub table_freed : (old new cur : Pool) (level t i c : ℕ) → cur ≡ new → memory old.words level t i ≡ Table c
-    → ((f : ℕ) → occurs f new.free ≡ occurs f old.free + uses (memory old.words) (level - 1) c f)
-    → ((f k : ℕ) → k < TABLE_ENTRIES → uses (memory old.words) (level - 1) c f ≡ 0 → word new.words f k ≡ word old.words f k)
-    → new.frames ≡ old.frames → IsFreed old cur level t i
-table_freed old new cur level t i c same is free others frames =
-    subst (λ p. IsFreed old p level t i) (sym same) (record {
-      free = λ f. omega (arith, free f, used_table old level t f i c is);
-      others = λ f k k_in none. others f k k_in (omega (arith, none, used_table old level t f i c is));
-      frames = frames;
-    })
+-- and the tree that the entry there named is sound still
+pub tree_apart : (old : Pool) (level t i c : ℕ) → memory old.words level t i ≡ Table c → occurs t old.free + used_at old level t t i ≡ 0
+    → IsTree old (level - 1) c → (new : Pool) → IsWrite old.words new.words t i 0 → new.free ≡ old.free → new.frames ≡ old.frames
+    → IsTree new (level - 1) c
+tree_apart old level t i c is taken tree new wrote free frames =
+    let none : uses (memory old.words) (level - 1) c t ≡ 0 = omega (arith, taken, used_table old level t t i c is) in
+    let same : (f : ℕ) → uses (memory new.words) (level - 1) c f ≡ uses (memory old.words) (level - 1) c f =
+    λ f. apart_uses old new t i (level - 1) c f wrote none in
+    let as_free : (f : ℕ) → occurs f new.free ≡ occurs f old.free = λ f. ap (occurs f) free in
+    record {
+      once = λ f. omega (arith, same f, as_free f, tree.once f);
+      within = λ f past. omega (arith, same f, as_free f, tree.within f (omega (arith, frames)));
+    }
 
-pub nothing_freed : (old cur : Pool) (level t i : ℕ) (e : SsEntry) → cur ≡ old → memory old.words level t i ≡ e
-    → ((c : ℕ) → e ≡ Table c → ⊥) → IsFreed old cur level t i
-nothing_freed old cur level t i e same is other =
-    subst (λ p. IsFreed old p level t i) (sym same) (record {
-      free = λ f. omega (arith, used_none old level t f i e is (by_entry e other));
-      others = λ f k k_in none. refl;
-      frames = refl;
-    })
+-- its word is 0, what lay below it came free, and nothing else changed
+pub record IsFreed (old new : Pool) (level t i : ℕ) : Type 0 where
+  pub free : (f : ℕ) → occurs f new.free ≡ occurs f old.free + used_at old level t f i
+  pub cleared : word new.words t i ≡ 0
+  pub row : (k : ℕ) → k < TABLE_ENTRIES → k ≢ i → word new.words t k ≡ word old.words t k
+  pub others : (f k : ℕ) → k < TABLE_ENTRIES → f ≢ t → used_at old level t f i ≡ 0 → word new.words f k ≡ word old.words f k
+  pub frames : new.frames ≡ old.frames
+
+-- the word is cleared first, and then what it named is taken down
+pub table_freed : (old mid new : Pool) (level t i c : ℕ) → i < TABLE_ENTRIES → memory old.words level t i ≡ Table c
+    → occurs t old.free + used_at old level t t i ≡ 0 → IsWrite old.words mid.words t i 0 → mid.free ≡ old.free
+    → mid.frames ≡ old.frames → ((f : ℕ) → occurs f new.free ≡ occurs f mid.free + uses (memory mid.words) (level - 1) c f)
+    → ((f k : ℕ) → k < TABLE_ENTRIES → uses (memory mid.words) (level - 1) c f ≡ 0 → word new.words f k ≡ word mid.words f k)
+    → new.frames ≡ mid.frames → IsFreed old new level t i
+table_freed old mid new level t i c i_in is taken wrote mid_free mid_frames free others frames =
+    let none : uses (memory old.words) (level - 1) c t ≡ 0 = omega (arith, taken, used_table old level t t i c is) in
+    let same : (f : ℕ) → uses (memory mid.words) (level - 1) c f ≡ used_at old level t f i =
+    λ f. apart_uses old mid t i (level - 1) c f wrote none ∙ sym (used_table old level t f i c is) in
+    let own : uses (memory mid.words) (level - 1) c t ≡ 0 = omega (arith, same t, taken) in
+    record {
+      free = λ f. omega (arith, free f, ap (occurs f) mid_free, same f);
+      cleared = others t i i_in own ∙ wrote.0;
+      row = λ k k_in ne. others t k k_in own ∙ wrote.1 t k k_in (λ _ e. ne e);
+      others = λ f k k_in ne unused. others f k k_in (same f ∙ unused) ∙ wrote.1 f k k_in (λ e _. ne e);
+      frames = frames ∙ mid_frames;
+    }
+
+pub nothing_freed : (old new : Pool) (level t i : ℕ) (e : SsEntry) → memory old.words level t i ≡ e
+    → ((c : ℕ) → e ≡ Table c → ⊥) → IsWrite old.words new.words t i 0 → new.free ≡ old.free → new.frames ≡ old.frames
+    → IsFreed old new level t i
+nothing_freed old new level t i e is other wrote free frames = record {
+  free = λ f. omega (arith, ap (occurs f) free, used_none old level t f i e is (by_entry e other));
+  cleared = wrote.0;
+  row = λ k k_in ne. wrote.1 t k k_in (λ _ e. ne e);
+  others = λ f k k_in ne unused. wrote.1 f k k_in (λ e _. ne e);
+  frames = frames;
+}
   where
     by_entry : (e : SsEntry) → ((c : ℕ) → e ≡ Table c → ⊥) → (below : ℕ → ℕ) → entry_uses e below ≡ 0
     by_entry Absent other below = refl

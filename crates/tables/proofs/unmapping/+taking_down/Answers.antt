@@ -1,15 +1,14 @@
-use Rattle.std.proofs.Common.{◌≡◌, ◌-◌, ap, ◌∙◌, arith}
+use Rattle.std.proofs.Common.{◌≡◌, ◌-◌, ap, ◌∙◌, arith, rules}
 use Rattle.dmatypes.specs.declared.page.TheConstants.{SPAN_PAGES}
 use Rattle.tables.specs.declared.entries.TheConstants.{TABLE_ENTRIES}
 use Rattle.tables.specs.Tree.{sum_below, uses}
-use Rattle.tables.specs.Pool.{memory, word, occurs}
+use Rattle.tables.specs.Pool.{memory, word}
 use Rattle.tables.specs.Under.{used_at}
 use Rattle.tables.proofs.sums.OneFrame.{one_if_same-self}
 use Rattle.tables.proofs.walks.Levels.{root_in_level}
 use Rattle.tables.proofs.unmaps.Destroyed.{taking_down_start, taking_down_more, root_left, taken_left}
-use Rattle.tables.proofs.unmaps.Destroyed.{IsFreed, below_left, nothing_freed, table_freed, uses_level}
+use Rattle.tables.proofs.unmaps.Destroyed.{below_left, nothing_freed, table_freed, tree_apart, uses_level}
 use Rattle.tables.proofs.unmapping.+taking_down.Goals as goal
-use Rattle.tables.proofs.unmapping.+taking_down.Goals.{take_down_entry-in-Table, take_down_entry-in_default}
 
 pub take_down-loop-index-init : goal.take_down-loop-index-init
 take_down-loop-index-init t c = taking_down_start c.args.pool.now c.args.level c.args.table
@@ -97,29 +96,38 @@ take_down-returns-clause-others t c f k k_in none =
     ))
     (omega (arith, all, whole, none))
 
-pub take_down_entry-write-requires-clause-taken : goal.take_down_entry-write-requires-clause-taken
-take_down_entry-write-requires-clause-taken t c =
-    let freed : IsFreed c.args.pool.now c.match-entry.pool c.args.level c.args.table c.args.index = elim c.match-entry.branch [
-      | take_down_entry-in-Table w ↦ table_freed _ _ _ _ _ _ _ w.pool-is w.in-Table.ensures.is w.take_down.ensures.free
-          w.take_down.ensures.others w.take_down.ensures.frames
-      | take_down_entry-in_default w ↦ nothing_freed _ _ _ _ _ _ w.pool-is c.entry.ensures.is w.in_default.not-Table
-    ] in
-    omega (arith, freed.free c.args.table, c.requires.taken)
+pub take_down_entry-take_down_below-requires : goal.take_down_entry-take_down_below-requires
+take_down_entry-take_down_below-requires t c =
+    let tree = c.requires.below c.in-Table.below c.in-Table.ensures.is in
+    let apart =
+    tree_apart c.args.pool.now c.args.level c.args.table c.args.index c.in-Table.below c.in-Table.ensures.is c.requires.taken tree in
+    (omega arith, (search rules, (omega arith, (search rules, search apart))))
 
-pub take_down_entry-returns : goal.take_down_entry-returns
-take_down_entry-returns t c =
-    let freed : IsFreed c.args.pool.now c.match-entry.pool c.args.level c.args.table c.args.index = elim c.match-entry.branch [
-      | take_down_entry-in-Table w ↦ table_freed _ _ _ _ _ _ _ w.pool-is w.in-Table.ensures.is w.take_down.ensures.free
-          w.take_down.ensures.others w.take_down.ensures.frames
-      | take_down_entry-in_default w ↦ nothing_freed _ _ _ _ _ _ w.pool-is c.entry.ensures.is w.in_default.not-Table
-    ] in
+pub take_down_entry-returns-in-Table : goal.take_down_entry-returns-in-Table
+take_down_entry-returns-in-Table t c =
+    let freed =
+    table_freed c.args.pool.now c.write.new.self c.take_down_below.new.pool c.args.level c.args.table c.args.index c.in-Table.below
+    c.requires.index c.in-Table.ensures.is c.requires.taken c.write.ensures.wrote c.write.ensures.free c.write.ensures.frames
+    c.take_down_below.ensures.free c.take_down_below.ensures.others c.take_down_below.ensures.frames in
     record {
-      free = λ f. ap (occurs f) c.write.ensures.free ∙ freed.free f;
-      cleared = c.write.ensures.wrote.0;
-      row = λ k k_in ne.
-          c.write.ensures.wrote.1 c.args.table k k_in (λ _ e. ne e)
-          ∙ freed.others c.args.table k k_in (omega (arith, c.requires.taken));
-      others = λ f k k_in ne none. c.write.ensures.wrote.1 f k k_in (λ e _. ne e) ∙ freed.others f k k_in none;
-      frames = c.write.ensures.frames ∙ freed.frames;
+      free = freed.free;
+      cleared = freed.cleared;
+      row = freed.row;
+      others = freed.others;
+      frames = freed.frames;
+      pool = c.take_down_below.ensures.pool;
+    }
+
+pub take_down_entry-returns-in_default : goal.take_down_entry-returns-in_default
+take_down_entry-returns-in_default t c =
+    let freed =
+    nothing_freed c.args.pool.now c.write.new.self c.args.level c.args.table c.args.index c.entry-named.result c.entry-named.ensures.is
+    c.in_default.not-Table c.write.ensures.wrote c.write.ensures.free c.write.ensures.frames in
+    record {
+      free = freed.free;
+      cleared = freed.cleared;
+      row = freed.row;
+      others = freed.others;
+      frames = freed.frames;
       pool = c.write.ensures.pool;
     }
