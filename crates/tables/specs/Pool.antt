@@ -1,5 +1,5 @@
--- A pool of table frames: its words, the frames that are free, how many frames it has, and the memories that its words went through. A tree is sound (`IsTree`) where each of its
--- tables is used once and none is free. The free frames are zeroed (`IsPool`).
+-- A pool of table frames: its words, the frames that are free, how many frames it has, and the memories that its words went through. A
+-- tree is sound (`IsTree`) where each of its tables is used once and none is free. The free frames are zeroed (`IsPool`).
 use Rattle.std.specs.Prelude.{◌≡◌, ℕ, ◌+◌, ◌*◌, ◌<◌, ◌≤◌, ◌==◌, List, length, slice_index, count_by}
 use Rattle.dmatypes.specs.declared.limits.TheConstants.{MOST_TABLE_FRAMES}
 use Rattle.tables.specs.declared.entries.TheConstants.{TABLE_ENTRIES}

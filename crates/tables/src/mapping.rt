@@ -1,7 +1,7 @@
 //! Pages mapped to host frames, in trees of up to 4 levels, and so of up to 2^36 pages.
 
-ghost use Rattle.std.specs.Prelude.{◌≡◌, ℕ, Bool, ◌+◌, ◌-◌, ◌*◌, ◌/◌, ◌%◌, ◌^◌, ◌<◌, ◌≤◌, [], ◌∷◌, ◌++◌, length, if◌then◌else◌, false, None};
-ghost use Rattle.std.specs.Prelude.{IsSome, IsErr, OnOk, OnErr, true, ◌↔◌};
+ghost use Rattle.std.specs.Prelude.{◌≡◌, ℕ, Bool, ◌+◌, ◌-◌, ◌*◌, ◌/◌, ◌%◌, ◌^◌, ◌<◌, ◌≤◌, [], ◌∷◌, ◌++◌, length, false, None};
+ghost use Rattle.std.specs.Prelude.{if◌then◌else◌, IsSome, IsErr, OnOk, OnErr, true, ◌↔◌};
 ghost use Rattle.dmatypes.specs.Conditions.{total_pages};
 ghost use Rattle.dmatypes.specs.Rights.{AreRights, bits_of};
 ghost use Rattle.dmatypes.specs.World.{placed};

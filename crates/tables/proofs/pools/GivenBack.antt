@@ -111,13 +111,15 @@ given_same words trail limit n xs given e short ok once within zeroed =
     let same : length (slots_given limit n k xs xs given) ≡ length xs = length_given limit xs front e front_long in
     let free : take (n + k) (slots_given limit n k xs xs given) ≡ take n xs ++ given =
     front_given n limit xs given (drop (n + k - n) (drop n xs)) (drop (length front) xs) short (omega arith) in (
-      subst (λ (s : ℕ). IsPool (record { words = words; free = take (n + k) (slots_given limit n k xs xs given); frames = s; trail = trail })) (sym same)
+      subst (λ (s : ℕ).
+          IsPool (record { words = words; free = take (n + k) (slots_given limit n k xs xs given); frames = s; trail = trail })) (sym same)
           (given_keeps pool given (take (n + k) (slots_given limit n k xs xs given)) ok once within zeroed free),
       omega arith,
       free,
     )
 
-pub given_state : (words : List ℕ) (trail : List (List ℕ)) (limit n : ℕ) (xs ys new given : List ℕ) → ys ≡ xs → new ≡ given → limit ≡ length xs → n ≤ length xs
+pub given_state : (words : List ℕ) (trail : List (List ℕ)) (limit n : ℕ) (xs ys new given : List ℕ) → ys ≡ xs → new ≡ given
+    → limit ≡ length xs → n ≤ length xs
     → IsPool (record { words = words; free = take n xs; frames = length xs; trail = trail })
     → ((f : ℕ) → occurs f (take n xs) + occurs f given ≤ 1) → ((f : ℕ) → 0 < occurs f given → f < length xs)
     → ((f : ℕ) → 0 < occurs f given → IsZeroed words f) → IsGiven words trail limit n (length given) xs ys new given

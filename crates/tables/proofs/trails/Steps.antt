@@ -1,5 +1,6 @@
 -- Calls write in order: what one write owes, and two calls after each other.
-use Rattle.std.proofs.Common.{◌≡◌, ◌⊎◌, inl, inr, ℕ, ◌+◌, ◌-◌, ◌<◌, ◌≤◌, List, [], ◌∷◌, ◌++◌, refl, ap, sym, ◌∙◌, subst, ⊎_elim, append_assoc, append-nil, arith}
+use Rattle.std.proofs.Common.{◌≡◌, ◌⊎◌, inl, inr, ℕ, ◌+◌, ◌-◌, ◌<◌, ◌≤◌, List, [], ◌∷◌, ◌++◌, refl, ap, sym, ◌∙◌, subst}
+use Rattle.std.proofs.Common.{⊎_elim, append_assoc, append-nil, arith}
 use Rattle.std.proofs.lemmas.Bool.{cases_eq, cases_lt}
 use Rattle.tables.specs.declared.entries.TheConstants.{TABLE_ENTRIES}
 use Rattle.dmatypes.specs.World.{Target}
@@ -108,7 +109,8 @@ names old new t i value c x trail write names_it was filled =
     ⊎_elim
     (λ e. ⊎_elim
     (λ at.
-    let one : memory old.words 2 table index ≡ memory old.words 2 t i = ap (λ f. memory old.words 2 f index) e ∙ ap (memory old.words 2 t) at in
+    let one : memory old.words 2 table index ≡ memory old.words 2 t i =
+    ap (λ f. memory old.words 2 f index) e ∙ ap (memory old.words 2 t) at in
     let next : memory new.words 2 table index ≡ Table c =
     ap (λ f. memory new.words 2 f index) e ∙ ap (memory new.words 2 t) at ∙ ap (look 2) write.0 ∙ names_it in
     let leaves : leaf ≡ x = same_leaf leaf x (sym large ∙ one ∙ was) in

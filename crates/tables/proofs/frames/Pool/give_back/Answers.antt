@@ -30,7 +30,8 @@ slice_bounds-copy_from_slice-end c =
 pub invariant_of-self : goal.invariant_of-self
 invariant_of-self c =
     let all =
-    given_state c.self.inside.words.items c.self.inside.trail.memories c.self.inside.slots.len c.self.inside.free c.self.inside.slots.items c.deref_mut.result.now
+    given_state c.self.inside.words.items c.self.inside.trail.memories c.self.inside.slots.len c.self.inside.free
+    c.self.inside.slots.items c.deref_mut.result.now
     c.copy_from_slice.new.self c.args.frames.now c.deref_mut.ensures.value c.copy_from_slice.ensures.after (omega arith)
     c.self.invariant.1 c.self.invariant.0
     (subst (λ (p : Pool). (f : ℕ) → occurs f p.free + occurs f c.args.frames.now ≤ 1) (sym c.self.view_is) c.requires.once)
@@ -41,7 +42,8 @@ invariant_of-self c =
 pub returns-clause-free : goal.returns-clause-free
 returns-clause-free c f =
     let all =
-    given_state c.self.inside.words.items c.self.inside.trail.memories c.self.inside.slots.len c.self.inside.free c.self.inside.slots.items c.deref_mut.result.now
+    given_state c.self.inside.words.items c.self.inside.trail.memories c.self.inside.slots.len c.self.inside.free
+    c.self.inside.slots.items c.deref_mut.result.now
     c.copy_from_slice.new.self c.args.frames.now c.deref_mut.ensures.value c.copy_from_slice.ensures.after (omega arith)
     c.self.invariant.1 c.self.invariant.0
     (subst (λ (p : Pool). (f : ℕ) → occurs f p.free + occurs f c.args.frames.now ≤ 1) (sym c.self.view_is) c.requires.once)
