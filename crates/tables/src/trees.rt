@@ -85,12 +85,12 @@ impl Tree {
             (λ to. root_states (memory pool.now.words) self.now.width self.now.root page ≡ Some (target to.0 (bits_of to.1))) }
         ensures none { IfNone result (root_states (memory pool.now.words) self.now.width self.now.root page ≡ None) }
     {
-        if page.number() >= self.width.pages_end() {
-            return None;
-        }
+        let number = page.number();
         let to = match self.width {
-            Width::W39 => find(pool, NARROW, self.root, page.number()),
-            Width::W48 => find(pool, WIDE, self.root, page.number()),
+            Width::W39 if number >= Width::W39.pages_end() => return None,
+            Width::W39 => find(pool, NARROW, self.root, number),
+            // No page is beyond this width.
+            Width::W48 => find(pool, WIDE, self.root, number),
         };
         to.map(|to| (to.frame(), to.rights()))
     }

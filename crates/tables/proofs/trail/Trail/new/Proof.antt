@@ -1,7 +1,6 @@
 -- The empty struct is made, and its memories are picked as the clause names them. Assumes `Logic`.
 use Rattle.std.proofs.Common.{[], ◌∷◌, refl}
 use Rattle.std.proofs.raw_atomic.Walks.{proved}
-use base.Logic.{SProp}
 use types.Kit.{‵, raw, ◌⊛◌, ◌$◌, ◌∵◌, !, qed, done, drop, keep, move, split, fjoin, suffices}
 use types.Part.{agg}
 use types.Run.{enter, returns, no_more}
