@@ -50,9 +50,9 @@
  * vtdm_destroy gives it back, and no other function asks for any. The words of the table frames are one block of it,
  * asked for by one malloc of VTDM_PAGE_BYTES times the frames and written whole before a creation returns. Those of frame F begin
  * F * VTDM_PAGE_BYTES bytes after those of frame 0, where the block begins. So an allocator that puts this block at host address 0
- * lets a unit walk the tables in place, where the base is 0 (see *A unit of your own*). A contract says that the words of one frame lie
- * one after the other. Three more things are how the code is. The frames lie so. A word is stored at once. A table that takes the place of
- * a leaf of 2 MiB is filled before the word that names it.
+ * lets a unit walk the tables in place, where the base is 0 (see *A unit of your own*). Contracts say that the words of one frame lie one
+ * after the other, and that a table that takes the place of a leaf of 2 MiB is filled before the word that names it. Two more things are
+ * how the code is. The frames lie so. A word is stored at once.
  *
  * IT DOES NOT WEAR OUT. A manager answers VTDM_CALLS_END calls, 2^56, and VTDM_SPENT to each further one, since its counts have 64
  * bits. Nobody gets there: at a billion calls a second it takes more than two years. Readers are not counted; vtdm_detach_all counts

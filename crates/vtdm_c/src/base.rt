@@ -82,6 +82,10 @@ impl Base {
         ensures length { length to.new ≡ length to.old }
         ensures words { (k : ℕ) → k < length to.old → slice_index to.new k ≡ word_of self.first (slice_index words.now k) }
     {
+        if self.first == 0 {
+            to.copy_from_slice(words);
+            return;
+        }
         for (at, word) in words.iter().enumerate() {
             to[at] = self.word_of(*word);
         }
