@@ -38,12 +38,20 @@ impl Model for Pool {
 
     ghost Value = { Pool };
 
-    ghost view = { λ a. record { words = a.words.items; free = take a.free a.slots.items; frames = length a.slots.items;
-        trail = a.trail.memories } };
+    ghost view = { λ a. record {
+      words = a.words.items;
+      free = take a.free a.slots.items;
+      frames = length a.slots.items;
+      trail = a.trail.memories;
+    } };
 
     ghost invariant = { λ a.
-        IsPool (record { words = a.words.items; free = take a.free a.slots.items; frames = length a.slots.items;
-        trail = a.trail.memories })
+        IsPool (record {
+          words = a.words.items;
+          free = take a.free a.slots.items;
+          frames = length a.slots.items;
+          trail = a.trail.memories;
+        })
         × (a.free ≤ length a.slots.items) };
 }
 

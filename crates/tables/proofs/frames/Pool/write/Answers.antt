@@ -16,9 +16,11 @@ invariant_of-self c =
       frames = length c.self.inside.slots.items;
       trail = c.and-self-inside.result.memories;
     }) × (c.self.inside.free ≤ length c.self.inside.slots.items))
-    (sym c.number.ensures.value)
-    (write_keeps _ c.args.frame c.args.index c.args.value c.and-self-inside.result.memories c.self.invariant.0
-    (omega arith) c.requires.index taken, c.self.invariant.1)
+    (sym c.number.ensures.value) (
+      write_keeps _ c.args.frame c.args.index c.args.value c.and-self-inside.result.memories c.self.invariant.0
+          (omega arith) c.requires.index taken,
+      c.self.invariant.1,
+    )
 
 pub returns-clause-wrote : goal.returns-clause-wrote
 returns-clause-wrote c =
