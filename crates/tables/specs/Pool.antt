@@ -1,17 +1,26 @@
--- A pool of table frames: its words, the frames that are free, how many frames it has, and the memories that its words went through. A
--- tree is sound (`IsTree`) where each of its tables is used once and none is free. The free frames are zeroed (`IsPool`).
+-- A pool of table frames: its words, the frames that are free, how many frames it has, and the moments that it went through. A tree is
+-- sound (`IsTree`) where each of its tables is used once and none is free. The free frames are zeroed (`IsPool`).
 use Rattle.std.specs.Prelude.{◌≡◌, ℕ, ◌+◌, ◌*◌, ◌<◌, ◌≤◌, ◌==◌, List, length, slice_index, count_by}
 use Rattle.dmatypes.specs.declared.limits.TheConstants.{MOST_TABLE_FRAMES}
 use Rattle.tables.specs.declared.entries.TheConstants.{TABLE_ENTRIES}
 use Rattle.vtdbits.specs.Entry.{look}
 use Rattle.tables.specs.Tree.{Memory, uses}
 
+-- the words and the free frames at one time
+pub record Moment : Type 0 where
+  pub words : List ℕ
+  pub free : List ℕ
+
 pub record Pool : Type 0 where
   pub words : List ℕ
   pub free : List ℕ
   pub frames : ℕ
-  -- the words after each write, the first first
-  pub trail : List (List ℕ)
+  -- how it was after each write, and each time that a tree gave a table back: the first first
+  pub trail : List Moment
+
+-- how it is now
+abbrev pub moment_of : Pool → Moment
+moment_of pool = record { words = pool.words; free = pool.free }
 
 -- the word of a table at an index
 unfoldable pub word : List ℕ → ℕ → ℕ → ℕ

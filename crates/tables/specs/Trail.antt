@@ -1,25 +1,37 @@
--- In which order a call writes the words of a pool. A unit that walks them where they lie reads each memory that they go through.
-use Rattle.std.specs.Prelude.{◌≡◌, ℕ, ◌+◌, ◌<◌, List, [], ◌∷◌, ◌++◌}
+-- In which order a call writes the words of a pool. A unit that walks them where they lie reads them as they are at each moment.
+use Rattle.std.specs.Prelude.{◌≡◌, ◌⊎◌, ℕ, ◌+◌, ◌<◌, ◌≤◌, List, [], ◌∷◌, ◌++◌}
 use Rattle.tables.specs.declared.entries.TheConstants.{TABLE_ENTRIES}
 use Rattle.dmatypes.specs.World.{Target}
 use Rattle.vtdbits.specs.Translation.{target}
 use Rattle.vtdbits.specs.declared.entry.SsEntry.TheVariants.{LargeLeaf, Leaf, Table}
-use Rattle.tables.specs.Pool.{Pool, memory}
+use Rattle.tables.specs.Pool.{Moment, Pool, memory, moment_of, occurs, word}
 
--- from these words to those: where a table takes the place of a leaf of 2 MiB, it states each page as the leaf does before it is named
-abbrev pub NamesFilled : List ℕ → List ℕ → Type 0
-NamesFilled words next =
-    (table index below k : ℕ) (leaf : Target) → index < TABLE_ENTRIES → k < TABLE_ENTRIES
-    → memory words 2 table index ≡ LargeLeaf leaf → memory next 2 table index ≡ Table below
-    → memory words 1 below k ≡ Leaf (target (leaf.frame + k) leaf.rights)
+-- a word that states a leaf of 2 MiB names a table in its place, which isn't free and states each page as the leaf does
+pub record IsNamed (m n : Moment) (frame index : ℕ) : Type 0 where
+  pub leaf : Target
+  pub table : ℕ
+  pub was : memory m.words 2 frame index ≡ LargeLeaf leaf
+  pub is : memory n.words 2 frame index ≡ Table table
+  pub taken : occurs table n.free ≡ 0
+  pub filled : (k : ℕ) → k < TABLE_ENTRIES → memory n.words 1 table k ≡ Leaf (target (leaf.frame + k) leaf.rights)
 
--- from words on through each of these memories, of which the last is this one
-unfoldable pub GoesThrough : List ℕ → List (List ℕ) → List ℕ → Type 0
-GoesThrough words [] last = words ≡ last
-GoesThrough words (next ∷ rest) last = NamesFilled words next × GoesThrough next rest last
+-- From one moment to another no frame comes free. Of a frame that isn't free each word stays, or is cleared, or names such a table
+pub record GoesOn (m n : Moment) : Type 0 where
+  pub fewer : (f : ℕ) → occurs f n.free ≤ occurs f m.free
+  pub words : (f k : ℕ) → k < TABLE_ENTRIES → occurs f m.free ≡ 0
+      → (word n.words f k ≡ word m.words f k) ⊎ ((word n.words f k ≡ 0) ⊎ IsNamed m n f k)
 
--- the memories of a call, in the order in which it writes
+-- no word changes, and no frame comes free
+abbrev pub Rests : Moment → Moment → Type 0
+Rests m n = (n.words ≡ m.words) × ((f : ℕ) → occurs f n.free ≤ occurs f m.free)
+
+-- from one moment through these to a last one
+unfoldable pub GoesThrough : Moment → List Moment → Moment → Type 0
+GoesThrough m [] last = Rests m last
+GoesThrough m (next ∷ rest) last = GoesOn m next × GoesThrough next rest last
+
+-- the moments of a call, in the order in which it writes
 pub record WritesInOrder (old new : Pool) : Type 0 where
-  pub memories : List (List ℕ)
-  pub trail : new.trail ≡ old.trail ++ memories
-  pub through : GoesThrough old.words memories new.words
+  pub moments : List Moment
+  pub trail : new.trail ≡ old.trail ++ moments
+  pub through : GoesThrough (moment_of old) moments (moment_of new)

@@ -6,7 +6,7 @@ ghost use Rattle.dmatypes.specs.declared.limits.TheConstants.{LEAST_TABLE_FRAMES
 ghost use Rattle.vtdbits.specs.Entry.{look};
 ghost use Rattle.vtdbits.specs.Translation.{target};
 ghost use Rattle.tables.specs.Tree.{one_if_same};
-ghost use Rattle.tables.specs.Pool.{word, occurs, IsZeroed, IsWrite, KeepsOtherWords, IsPool};
+ghost use Rattle.tables.specs.Pool.{word, occurs, moment_of, IsZeroed, IsWrite, KeepsOtherWords, IsPool};
 
 use crate::entries::TABLE_ENTRIES;
 use crate::trail::Trail;
@@ -42,7 +42,7 @@ impl Model for Pool {
       words = a.words.items;
       free = take a.free a.slots.items;
       frames = length a.slots.items;
-      trail = a.trail.memories;
+      trail = a.trail.moments;
     } };
 
     ghost invariant = { λ a.
@@ -50,7 +50,7 @@ impl Model for Pool {
           words = a.words.items;
           free = take a.free a.slots.items;
           frames = length a.slots.items;
-          trail = a.trail.memories;
+          trail = a.trail.moments;
         })
         × (a.free ≤ length a.slots.items) };
 }
@@ -133,13 +133,13 @@ impl Pool {
         requires index { index < TABLE_ENTRIES }
         requires taken { occurs frame self.old.free ≡ 0 }
         ensures wrote { IsWrite self.old.words self.new.words frame index value }
-        ensures trail { self.new.trail ≡ self.old.trail ++ self.new.words ∷ [] }
+        ensures trail { self.new.trail ≡ self.old.trail ++ moment_of self.new ∷ [] }
         ensures free { self.new.free ≡ self.old.free }
         ensures frames { self.new.frames ≡ self.old.frames }
         ensures pool { IsPool self.new }
     {
         self.words[(frame.number() * TABLE_ENTRIES + index) as usize] = value;
-        self.trail = self.trail.and(&self.words);
+        self.trail = self.trail.and(&self.words, &self.slots, self.free);
     }
 
     /// Clears `count` words of a frame that isn't free, from an index on.
@@ -149,14 +149,14 @@ impl Pool {
         requires taken { occurs frame self.old.free ≡ 0 }
         ensures cleared { (k : ℕ) → k < count → word self.new.words frame (from + k) ≡ 0 }
         ensures rest { KeepsOtherWords self.old.words self.new.words frame from count }
-        ensures trail { self.new.trail ≡ self.old.trail ++ self.new.words ∷ [] }
+        ensures trail { self.new.trail ≡ self.old.trail ++ moment_of self.new ∷ [] }
         ensures free { self.new.free ≡ self.old.free }
         ensures frames { self.new.frames ≡ self.old.frames }
         ensures pool { IsPool self.new }
     {
         let start = (frame.number() * TABLE_ENTRIES + from) as usize;
         self.words[start..start + count as usize].fill(0);
-        self.trail = self.trail.and(&self.words);
+        self.trail = self.trail.and(&self.words, &self.slots, self.free);
     }
 
     /// Spells leaves of one page each in `count` words of a frame that isn't free, from an index on: host frames that
@@ -177,7 +177,7 @@ impl Pool {
         ensures leaves { (k : ℕ) → k < count
             → look 1 (word self.new.words frame (from + k)) ≡ SsEntry.Leaf (target (first + k) (bits_of rights)) }
         ensures rest { KeepsOtherWords self.old.words self.new.words frame from count }
-        ensures trail { self.new.trail ≡ self.old.trail ++ self.new.words ∷ [] }
+        ensures trail { self.new.trail ≡ self.old.trail ++ moment_of self.new ∷ [] }
         ensures free { self.new.free ≡ self.old.free }
         ensures frames { self.new.frames ≡ self.old.frames }
         ensures pool { IsPool self.new }
@@ -188,7 +188,7 @@ impl Pool {
             first,
             rights,
         );
-        self.trail = self.trail.and(&self.words);
+        self.trail = self.trail.and(&self.words, &self.slots, self.free);
     }
 
     /// Takes a free frame.
@@ -216,12 +216,13 @@ impl Pool {
         ensures free { (f : ℕ) → occurs f self.new.free ≡ occurs f self.old.free + one_if_same frame f }
         ensures count { length self.new.free ≡ length self.old.free + 1 }
         ensures words { self.new.words ≡ self.old.words }
-        ensures trail { self.new.trail ≡ self.old.trail }
+        ensures trail { self.new.trail ≡ self.old.trail ++ moment_of self.new ∷ [] }
         ensures frames { self.new.frames ≡ self.old.frames }
         ensures pool { IsPool self.new }
     {
         self.slots[self.free] = frame;
         self.free += 1;
+        self.trail = self.trail.and(&self.words, &self.slots, self.free);
     }
 
     /// Makes frames free: different zeroed frames of the pool, neither free nor of a tree.

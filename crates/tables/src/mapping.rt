@@ -6,7 +6,7 @@ ghost use Rattle.dmatypes.specs.Conditions.{total_pages};
 ghost use Rattle.dmatypes.specs.Rights.{AreRights, bits_of};
 ghost use Rattle.dmatypes.specs.World.{placed};
 ghost use Rattle.tables.specs.Tree.{Memory, span, index_in, states, leaf_from, table_from};
-ghost use Rattle.tables.specs.Pool.{memory, occurs, IsPool, IsTree, IsZeroed};
+ghost use Rattle.tables.specs.Pool.{memory, moment_of, occurs, IsPool, IsTree, IsZeroed};
 ghost use Rattle.tables.specs.Changes.{TakesAndGivesFrames, KeepsSpellings, MapsPages, MakesTables};
 ghost use Rattle.tables.specs.Segments.{is_large_at, AreSegments};
 ghost use Rattle.tables.specs.Lacks.{lacks_table, tables_lacking, tables_lacking_at, frames_to_map, sum_spans};
@@ -25,7 +25,7 @@ pub(crate) fn write_run(pool: &mut Pool, table: Frame, extent: Extent)
     requires table { table < pool.old.frames }
     requires taken { occurs table pool.old.free ≡ 0 }
     ensures run { WritesEntries pool.old.words pool.new.words table extent.from extent.to (leaf_at extent) }
-    ensures trail { pool.new.trail ≡ pool.old.trail ++ pool.new.words ∷ [] }
+    ensures trail { pool.new.trail ≡ pool.old.trail ++ moment_of pool.new ∷ [] }
     ensures free { pool.new.free ≡ pool.old.free }
     ensures frames { pool.new.frames ≡ pool.old.frames }
     ensures pool { IsPool pool.new }

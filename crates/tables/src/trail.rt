@@ -1,15 +1,18 @@
-//! The memories that the words of a pool go through.
+//! The moments that a pool goes through.
 
-ghost use Rattle.std.specs.Prelude.{◌≡◌, ℕ, List, [], ◌∷◌, ◌++◌};
+ghost use Rattle.std.specs.Prelude.{◌≡◌, List, [], ◌∷◌, ◌++◌, take};
 ghost use Rattle.std.specs.Borrow.{ftrue};
+ghost use Rattle.tables.specs.Pool.{Moment};
+ghost use Rattle.tables.specs.Moments.{moments_code};
 
+use dmatypes::Frame;
 use std::marker::Model;
 
-/// The words as they were after each write, the first first. Contracts alone see it: it takes no bytes, and no code reads it. What it
-/// says of the words holds as far as each function that writes them adds them here.
+/// How a pool was after each write, and each time that a tree gave a table back, the first first. Contracts alone see it: it takes no
+/// bytes, and no code reads it. What it says of the pool holds as far as each function of a pool that does so adds how it is then.
 #[derive(Drop)]
 pub(crate) struct Trail {
-    pub(crate) ghost memories: { List (List ℕ) },
+    pub(crate) ghost moments: { List Moment } by { moments_code },
 }
 
 impl Model for Trail {
@@ -20,17 +23,17 @@ impl Model for Trail {
 unsafe impl Send for Trail {}
 
 impl Trail {
-    /// Of words that nobody wrote yet.
+    /// Of a pool that is new.
     pub(crate) fn new() -> Trail
-        ensures { result.memories ≡ [] }
+        ensures { result.moments ≡ [] }
     {
         Trail {}
     }
 
-    /// With the words as they are now at its end.
+    /// With these words and free frames at its end: the first `_free` slots.
     #[inline(always)]
-    pub(crate) fn and(&self, _words: &Vec<u64>) -> Trail
-        ensures { result.memories ≡ self.now.memories ++ _words.now.items ∷ [] }
+    pub(crate) fn and(&self, _words: &Vec<u64>, _slots: &Vec<Frame>, _free: usize) -> Trail
+        ensures { result.moments ≡ self.now.moments ++ record { words = _words.now.items; free = take _free _slots.now.items } ∷ [] }
     {
         Trail {}
     }

@@ -7,7 +7,7 @@ use Rattle.std.proofs.lemmas.Bool.{cases_lt}
 use Rattle.std.proofs.lemmas.Bool.Decides.{eqb_tells}
 use Rattle.tables.specs.declared.entries.TheConstants.{TABLE_ENTRIES}
 use Rattle.tables.specs.Tree.{sum_below, one_if_same}
-use Rattle.tables.specs.Pool.{Pool, word, occurs, IsZeroed, IsPool, IsWrite}
+use Rattle.tables.specs.Pool.{Moment, Pool, word, occurs, IsZeroed, IsPool, IsWrite}
 use Rattle.tables.proofs.sums.Firsts.{sum_below_same, sum_below_change, sum_below-zeros}
 use Rattle.tables.proofs.sums.OneFrame.{one_if_same-self, one_if_same-other, one_if_same_le}
 
@@ -104,7 +104,7 @@ wrote words frames t i w fit t_in i_in =
           (λ e. let one : (f ≡ t) × (k ≡ i) = one_place t i f k i_in k_in e in other one.0 one.1),
     )
 
-pub write_keeps : (pool : Pool) (t i w : ℕ) (trail : List (List ℕ)) → IsPool pool → t < pool.frames → i < TABLE_ENTRIES
+pub write_keeps : (pool : Pool) (t i w : ℕ) (trail : List Moment) → IsPool pool → t < pool.frames → i < TABLE_ENTRIES
     → occurs t pool.free ≡ 0 → IsPool (record pool { words = set pool.words (t * TABLE_ENTRIES + i) w; trail = trail })
 write_keeps pool t i w trail ok t_in i_in taken = record {
   fit = length-set pool.words (t * TABLE_ENTRIES + i) w ∙ ok.fit;
@@ -129,10 +129,10 @@ fewer_keeps pool free ok le = record {
 }
 
 -- a pool with one more free frame
-pub more_keeps : (pool : Pool) (frame : ℕ) (free : List ℕ) → IsPool pool → frame < pool.frames → occurs frame pool.free ≡ 0
-    → IsZeroed pool.words frame → ((f : ℕ) → occurs f free ≡ occurs f pool.free + one_if_same frame f)
-    → IsPool (record pool { free = free })
-more_keeps pool frame free ok inside none zero_words is = record {
+pub more_keeps : (pool : Pool) (frame : ℕ) (free : List ℕ) (trail : List Moment) → IsPool pool → frame < pool.frames
+    → occurs frame pool.free ≡ 0 → IsZeroed pool.words frame
+    → ((f : ℕ) → occurs f free ≡ occurs f pool.free + one_if_same frame f) → IsPool (record pool { free = free; trail = trail })
+more_keeps pool frame free trail ok inside none zero_words is = record {
   fit = ok.fit;
   few = ok.few;
   once = λ f. omega (arith, is f, at_most pool.free frame f (ok.once f) none);

@@ -5,7 +5,7 @@ use Rattle.std.proofs.lemmas.List.{take-append-le, take-take}
 use Rattle.std.proofs.lemmas.List.Sums.{sum_by-append}
 use Rattle.std.proofs.Math.Seq.{take-append-add, take-append_seam}
 use Rattle.tables.specs.Tree.{one_if_same}
-use Rattle.tables.specs.Pool.{Pool, occurs, IsZeroed, IsPool}
+use Rattle.tables.specs.Pool.{Moment, Pool, occurs, IsZeroed, IsPool}
 use Rattle.tables.proofs.pools.FreeList.{longest}
 
 pub occurs-append : (f : ℕ) (xs ys : List ℕ) → occurs f (xs ++ ys) ≡ occurs f xs + occurs f ys
@@ -79,7 +79,7 @@ slots_given limit n k xs ys new =
     take limit (take n ys ++ (new ++ drop (n + k - n) (drop n ys)) ++ drop (length (take n ys ++ (new ++ drop (n + k - n) (drop n ys)))) xs)
 
 -- what a pool is then
-abbrev pub IsGiven : List ℕ → List (List ℕ) → ℕ → ℕ → ℕ → List ℕ → List ℕ → List ℕ → List ℕ → Type 0
+abbrev pub IsGiven : List ℕ → List Moment → ℕ → ℕ → ℕ → List ℕ → List ℕ → List ℕ → List ℕ → Type 0
 IsGiven words trail limit n k xs ys new given =
     IsPool (record {
       words = words;
@@ -90,7 +90,7 @@ IsGiven words trail limit n k xs ys new given =
     × (n + k ≤ length (slots_given limit n k xs ys new))
     × (take (n + k) (slots_given limit n k xs ys new) ≡ take n xs ++ given)
 
-given_same : (words : List ℕ) (trail : List (List ℕ)) (limit n : ℕ) (xs given : List ℕ) → limit ≡ length xs → n ≤ length xs
+given_same : (words : List ℕ) (trail : List Moment) (limit n : ℕ) (xs given : List ℕ) → limit ≡ length xs → n ≤ length xs
     → IsPool (record { words = words; free = take n xs; frames = length xs; trail = trail })
     → ((f : ℕ) → occurs f (take n xs) + occurs f given ≤ 1) → ((f : ℕ) → 0 < occurs f given → f < length xs)
     → ((f : ℕ) → 0 < occurs f given → IsZeroed words f) → IsGiven words trail limit n (length given) xs xs given given
@@ -118,7 +118,7 @@ given_same words trail limit n xs given e short ok once within zeroed =
       free,
     )
 
-pub given_state : (words : List ℕ) (trail : List (List ℕ)) (limit n : ℕ) (xs ys new given : List ℕ) → ys ≡ xs → new ≡ given
+pub given_state : (words : List ℕ) (trail : List Moment) (limit n : ℕ) (xs ys new given : List ℕ) → ys ≡ xs → new ≡ given
     → limit ≡ length xs → n ≤ length xs
     → IsPool (record { words = words; free = take n xs; frames = length xs; trail = trail })
     → ((f : ℕ) → occurs f (take n xs) + occurs f given ≤ 1) → ((f : ℕ) → 0 < occurs f given → f < length xs)

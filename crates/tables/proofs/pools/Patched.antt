@@ -5,7 +5,7 @@ use Rattle.std.proofs.Math.Seq.{take-length}
 use Rattle.std.proofs.lemmas.List.{take-append-le, length-take-le, get_or-take, get_or-drop, get_or_append_left, get_or-append_right}
 use Rattle.std.proofs.lemmas.Bool.{cases_lt}
 use Rattle.tables.specs.declared.entries.TheConstants.{TABLE_ENTRIES}
-use Rattle.tables.specs.Pool.{Pool, word, occurs, IsPool, KeepsOtherWords}
+use Rattle.tables.specs.Pool.{Moment, Pool, word, occurs, IsPool, KeepsOtherWords}
 
 -- a list whose elements from a up to b were lent, and came back as others
 abbrev pub put_back : ℕ → ℕ → List ℕ → List ℕ → List ℕ
@@ -61,7 +61,7 @@ read_above a b i xs new le within long high =
 
 -- in a pool a run of words of a frame in use was replaced
 pub record IsPatch (pool : Pool) (new : List ℕ) (table from : ℕ) (run : List ℕ) : Type 0 where
-  pub keeps : (trail : List (List ℕ)) → IsPool (record pool { words = new; trail = trail })
+  pub keeps : (trail : List Moment) → IsPool (record pool { words = new; trail = trail })
   pub inside : (k : ℕ) → k < length run → word new table (from + k) ≡ get_or run k 0
   pub rest : KeepsOtherWords pool.words new table from (length run)
 

@@ -29,8 +29,9 @@ returns-else-to-from-eq1-clause-zeroed c p low high =
 
 pub returns-then-to-from-eq1-clause-order : goal.returns-then-to-from-eq1-clause-order
 returns-then-to-from-eq1-clause-order c =
-    clears_word c.args.pool.now c.write.new.self c.args.table _ c.write.ensures.trail c.write.ensures.wrote
+    clears_word c.args.pool.now c.write.new.self c.args.table _ c.write.ensures.trail c.write.ensures.free c.write.ensures.wrote
 
 pub returns-else-to-from-eq1-clause-order : goal.returns-else-to-from-eq1-clause-order
 returns-else-to-from-eq1-clause-order c =
-    clears_words c.args.pool.now c.clear.new.self c.args.table _ _ c.clear.ensures.trail c.clear.ensures.rest c.clear.ensures.cleared
+    clears_words c.args.pool.now c.clear.new.self c.args.table _ _ c.clear.ensures.trail c.clear.ensures.free
+    c.clear.ensures.rest c.clear.ensures.cleared

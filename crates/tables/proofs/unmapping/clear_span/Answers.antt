@@ -307,12 +307,13 @@ unreachable-requires c =
 pub returns-else-not-is_whole-clause-order : goal.returns-else-not-is_whole-clause-order
 returns-else-not-is_whole-clause-order c =
     after c.args.pool.now c.clear_run.new.pool c.write.new.self c.clear_run.ensures.order
-    (clears_word c.clear_run.new.pool c.write.new.self c.args.table c.index_of-index.result c.write.ensures.trail c.write.ensures.wrote)
+    (clears_word c.clear_run.new.pool c.write.new.self c.args.table c.index_of-index.result c.write.ensures.trail c.write.ensures.free
+    c.write.ensures.wrote)
 
 pub returns-then-is_whole-clause-order : goal.returns-then-is_whole-clause-order
 returns-then-is_whole-clause-order c =
     clears_word c.args.pool.now c.write-then-is_whole.new.self c.args.table c.index_of-index.result c.write-then-is_whole.ensures.trail
-    c.write-then-is_whole.ensures.wrote
+    c.write-then-is_whole.ensures.free c.write-then-is_whole.ensures.wrote
 
 pub returns-else-is_whole-clause-order : goal.returns-else-is_whole-clause-order
 returns-else-is_whole-clause-order c =

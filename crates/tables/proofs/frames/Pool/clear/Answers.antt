@@ -12,7 +12,7 @@ cleared : (c : After-fill)
       words = c.self.inside.words.items;
       free = take c.self.inside.free c.self.inside.slots.items;
       frames = length c.self.inside.slots.items;
-      trail = c.self.inside.trail.memories;
+      trail = c.self.inside.trail.moments;
     })
     (patched c.self.inside.words.len (c.number.result * TABLE_ENTRIES + c.args.from)
     (c.number.result * TABLE_ENTRIES + c.args.from + c.args.count) c.self.inside.words.items c.deref_mut.result.now c.fill.new.self)
@@ -26,7 +26,7 @@ cleared c =
       words = c.self.inside.words.items;
       free = take c.self.inside.free c.self.inside.slots.items;
       frames = length c.self.inside.slots.items;
-      trail = c.self.inside.trail.memories;
+      trail = c.self.inside.trail.moments;
     }) c.deref_mut.result.now c.fill.new.self c.number.ensures.value c.deref_mut.ensures.value (omega arith) c.self.invariant.0
     (omega arith) taken c.requires.within (omega arith) c.fill.ensures.len
 

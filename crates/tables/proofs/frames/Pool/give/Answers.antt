@@ -29,7 +29,7 @@ invariant_of-self c =
       shorter (take n slots) (length slots) c.args.frame c.self.invariant.0.once c.self.invariant.0.within (omega arith) taken,
       length-take n slots,
     ) in (
-      rw length-set (more_keeps _ c.args.frame (take (n + 1) (set slots n c.args.frame)) c.self.invariant.0 (omega arith) taken
+      rw length-set (more_keeps _ c.args.frame (take (n + 1) (set slots n c.args.frame)) _ c.self.invariant.0 (omega arith) taken
           (subst (λ w. IsZeroed w c.args.frame) words c.requires.zeroed) (λ f. occurs_given slots n c.args.frame f room)),
       rw length-set (omega arith),
     )

@@ -10,7 +10,7 @@ slice_bounds-copy_from_slice-end c =
       words = c.self.inside.words.items;
       free = take c.self.inside.free c.self.inside.slots.items;
       frames = length c.self.inside.slots.items;
-      trail = c.self.inside.trail.memories;
+      trail = c.self.inside.trail.moments;
     } in
     let stored : pool ≡ c.args.self.now = c.self.view_is in
     let once : (f : ℕ) → occurs f pool.free + occurs f c.args.frames.now ≤ 1 =
@@ -30,7 +30,7 @@ slice_bounds-copy_from_slice-end c =
 pub invariant_of-self : goal.invariant_of-self
 invariant_of-self c =
     let all =
-    given_state c.self.inside.words.items c.self.inside.trail.memories c.self.inside.slots.len c.self.inside.free
+    given_state c.self.inside.words.items c.self.inside.trail.moments c.self.inside.slots.len c.self.inside.free
     c.self.inside.slots.items c.deref_mut.result.now
     c.copy_from_slice.new.self c.args.frames.now c.deref_mut.ensures.value c.copy_from_slice.ensures.after (omega arith)
     c.self.invariant.1 c.self.invariant.0
@@ -42,7 +42,7 @@ invariant_of-self c =
 pub returns-clause-free : goal.returns-clause-free
 returns-clause-free c f =
     let all =
-    given_state c.self.inside.words.items c.self.inside.trail.memories c.self.inside.slots.len c.self.inside.free
+    given_state c.self.inside.words.items c.self.inside.trail.moments c.self.inside.slots.len c.self.inside.free
     c.self.inside.slots.items c.deref_mut.result.now
     c.copy_from_slice.new.self c.args.frames.now c.deref_mut.ensures.value c.copy_from_slice.ensures.after (omega arith)
     c.self.invariant.1 c.self.invariant.0

@@ -14,10 +14,10 @@ invariant_of-self c =
       words = set c.self.inside.words.items (f * TABLE_ENTRIES + c.args.index) c.args.value;
       free = take c.self.inside.free c.self.inside.slots.items;
       frames = length c.self.inside.slots.items;
-      trail = c.and-self-inside.result.memories;
+      trail = c.and-self-inside.result.moments;
     }) × (c.self.inside.free ≤ length c.self.inside.slots.items))
     (sym c.number.ensures.value) (
-      write_keeps _ c.args.frame c.args.index c.args.value c.and-self-inside.result.memories c.self.invariant.0
+      write_keeps _ c.args.frame c.args.index c.args.value c.and-self-inside.result.moments c.self.invariant.0
           (omega arith) c.requires.index taken,
       c.self.invariant.1,
     )

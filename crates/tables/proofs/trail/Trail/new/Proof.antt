@@ -1,4 +1,4 @@
--- The empty struct is made, and its memories are picked as the clause names them. Assumes `Logic`.
+-- The empty struct is made, and its moments are picked as the clause names them. Assumes `Logic`.
 use Rattle.std.proofs.Common.{[], ◌∷◌, refl}
 use Rattle.std.proofs.raw_atomic.Walks.{proved}
 use types.Kit.{‵, raw, ◌⊛◌, ◌$◌, ◌∵◌, !, qed, done, drop, keep, move, split, fjoin, suffices}
@@ -25,7 +25,7 @@ new_spec 𝓤 𝓛 𝓜 𝓡 wired =
     proved 𝓛 f.ended stayed c 𝓜 𝓡 tt f.Key.name code.function (code.unfolded 𝓤 𝓛.H 𝓜 𝓡 wired) (λ κs. tt) (λ κs. tt)
     (λ κs qs bounds a n are.
     let y : W.Ghost = ((κs, qs, bounds, a, tt), n) in
-    let picked : (Trail.the_row).Denot = record { memories = [] } in
+    let picked : (Trail.the_row).Denot = record { moments = [] } in
     qed 𝓛 ((raw (alive 𝓛 f.ended.signature κs qs) ⊛ ‵ (owns (types_at f.ended.signature.params κs) a tt))
     ∷ raw ((c κs a).requires n) ∷ []) ∵
     keep ! (0 ∷ []) $ split ! $ move ! (1 ∷ []) $ drop ! $
