@@ -7,3 +7,4 @@ pub mod Matters
 pub mod Others
 pub mod Walks
 pub mod ReadWords
+pub mod InPlace

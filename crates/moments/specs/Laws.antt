@@ -5,11 +5,12 @@ use Rattle.dmatypes.specs.World.{Target}
 use Rattle.dmatypes.specs.declared.width.Width.{Width}
 use Rattle.vtdbits.specs.declared.entry.SsEntry.TheVariants.{LargeLeaf, Table}
 use Rattle.tables.specs.Tree.{index_in, root_states, table_from}
-use Rattle.tables.specs.Pool.{Pool, memory}
+use Rattle.tables.specs.Pool.{IsTree, Pool, memory}
+use Rattle.tables.specs.Trail.{WritesInOrder}
 use Rattle.tables.specs.Changes.{IsApart, TakesAndGivesFrames}
 use Rattle.tables.specs.Spelled.{AreSpelled}
 use Rattle.moments.specs.Moments.{FillsFirst, GoesDown, IsDestroyed, IsFilledFirst, IsMap, IsOldOrAbsent, IsOldOrNew, IsUnmap, Place}
-use Rattle.moments.specs.Moments.{Reached, ReadsSpelled, meanwhile, reached_by}
+use Rattle.moments.specs.Moments.{Reached, ReadsSpelled, in_place, meanwhile, reached_by}
 
 -- Whatever words of a map have reached memory when a walk reads them, each level at its own moment, each page is found as before the
 -- map or as after it. No order is asked of the words.
@@ -27,6 +28,17 @@ UnmapsAreOldOrNew =
     → IsUnmap old new width root range cut
     → IsFilledFirst old.words new.words reached
     → IsOldOrNew old.words new.words reached width root page
+
+-- A walk that reads the words where they lie while an unmap writes them, each level at a moment no sooner than that of the level above,
+-- finds each page as before the unmap or as after it. The order in which it writes is `Tree::unmap`'s.
+abbrev pub UnmapsInPlaceAreOldOrNew : Type 0
+UnmapsInPlaceAreOldOrNew =
+    (old new : Pool) (order : WritesInOrder old new) (width : Width) (root : ℕ) (moment : ℕ → ℕ) (page : ℕ)
+    → IsTree old (levels width) root
+    → AreSpelled old.words (levels width) root
+    → GoesDown moment
+    → (root_states (in_place old.words order.moments moment) width root page ≡ root_states (memory old.words) width root page)
+    ⊎ (root_states (in_place old.words order.moments moment) width root page ≡ root_states (memory new.words) width root page)
 
 -- Say that the words of the tree spell its entries before the call and after it, as they do in every tree of a state. Then each word
 -- that a walk reads meanwhile spells what the walk sees there. So a unit that reads more into words than entries finds no more by it.

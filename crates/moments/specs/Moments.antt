@@ -1,7 +1,7 @@
 -- The memory that a walk reads while the words of one call reach it. A walk reads one word in a table of each level, each at a moment of
 -- its own.
-use Rattle.std.specs.Prelude.{◌≡◌, ◌⊎◌, ℕ, suc, ◌+◌, ◌<◌, ◌≤◌, ◌==◌, ◌&&◌, ◌||◌, Bool, true, false, if◌then◌else◌, List, [], ◌∷◌, take}
-use Rattle.std.specs.Prelude.{Option, None, Some}
+use Rattle.std.specs.Prelude.{◌≡◌, ◌⊎◌, ℕ, zero, suc, ◌+◌, ◌<◌, ◌≤◌, ◌==◌, ◌&&◌, ◌||◌, Bool, true, false, if◌then◌else◌, List, []}
+use Rattle.std.specs.Prelude.{◌∷◌, take, Option, None, Some}
 use Rattle.dmatypes.specs.Page.{IsWithin, Range, levels, pages_end}
 use Rattle.dmatypes.specs.World.{Target}
 use Rattle.dmatypes.specs.declared.width.Width.{Width}
@@ -9,7 +9,7 @@ use Rattle.vtdbits.specs.Entry.{Spells, look}
 use Rattle.vtdbits.specs.declared.entry.SsEntry.TheVariants.{LargeLeaf, Table}
 use Rattle.tables.specs.declared.entries.TheConstants.{TABLE_ENTRIES}
 use Rattle.tables.specs.Tree.{Memory, index_in, leaf_from, root_states, states, table_from, uses}
-use Rattle.tables.specs.Pool.{IsZeroed, Pool, memory, occurs, word}
+use Rattle.tables.specs.Pool.{IsZeroed, Moment, Pool, memory, occurs, word}
 use Rattle.tables.specs.Changes.{MapsPages, UnmapsPages}
 
 -- ---- the calls, as their contracts promise them
@@ -123,3 +123,15 @@ FillsFirst old new order =
     → memory old 2 table index ≡ LargeLeaf leaf → memory new 2 table index ≡ Table below
     → is_written (take written order) table index ≡ true
     → (is_written (take written order) below k ≡ true) ⊎ (word new below k ≡ word old below k)
+
+-- ---- words that a walk reads where they lie
+
+-- the words after so many of the moments, and after all of them for any greater number
+unfoldable pub words_at : List ℕ → List Moment → ℕ → List ℕ
+words_at words [] n = words
+words_at words (m ∷ ms) zero = words
+words_at words (m ∷ ms) (suc n) = words_at m.words ms n
+
+-- what a walk sees there that reads each level after so many of them
+unfoldable pub in_place : List ℕ → List Moment → (ℕ → ℕ) → Memory
+in_place words moments moment level table index = look level (word (words_at words moments (moment level)) table index)
