@@ -14,7 +14,15 @@ import tempfile
 TOP = os.path.dirname(os.path.dirname(os.path.abspath(__file__)))
 # The names that run.sh takes: of runs that agree, and of runs that show that the guest can fail.
 AGREE = [[], ["WIDE"], ["CACHING"], ["WIDE", "CACHING"], ["BASE"], ["WIDE", "BASE_BEHIND"], ["IN_PLACE"]]
-DIFFER = [["WITHOUT_DESCRIPTORS"], ["WRONG_ORDER"], ["WORDS_LATE"], ["WRONG_HALVES"], ["BASE", "WITHOUT_BASE"], ["DETACH_ALONE"]]
+DIFFER = [
+    ["WITHOUT_DESCRIPTORS"],
+    ["WRONG_ORDER"],
+    ["WORDS_LATE"],
+    ["WRONG_HALVES"],
+    ["BASE", "WITHOUT_BASE"],
+    ["DETACH_ALONE"],
+    ["IN_PLACE", "WITHOUT_DESCRIPTORS"],
+]
 # How many comparisons a run makes; with WIDE two fewer, of requests beyond 39 bits. Another number would be of a guest that ended early or
 # leaves a case out.
 COMPARISONS = 140

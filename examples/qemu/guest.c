@@ -7,7 +7,8 @@ enum { TABLE_FRAMES = 32, OWN_PAGES = 0x4100 * PAGE };
 enum { RW = VTDM_READ | VTDM_WRITE, SPAN = 512, BEYOND = 1 << 27 };
 enum { A, B };
 
-/* The table frames whose words are brought to the unit: none where the library's own words are its tables. */
+/* The table frames whose words are brought to the unit: none where the library's own words are its tables. They change during the call
+ * then, and a device that is at work while its effects are followed meets them as after it. */
 #ifdef IN_PLACE
 enum { BROUGHT = 0 };
 #else

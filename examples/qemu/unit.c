@@ -1,5 +1,6 @@
 #include "unit.h"
 #include "machine.h"
+#include "requests.h"
 
 /* ---- Registers (VT-d, register descriptions) */
 
@@ -146,7 +147,8 @@ static void bring_words(struct vtdm *manager, struct vtdm_effect it) {
     uint64_t left = unit.frames ? it.count : 0;
     for (uint64_t frame = it.number, first = it.first; left; frame++, first = 0) {
         uint64_t count = left < WORDS - first ? left : WORDS - first;
-        vtdm_words(manager, frame, first, words, count);
+        if (vtdm_words(manager, frame, first, words, count) != VTDM_OK)
+            verdict(false);
         for (uint64_t i = 0; i < count; i++)
             bring((unit.base + frame) * PAGE + 8 * (first + i), words[i]);
         left -= count;
