@@ -1,5 +1,6 @@
 pub mod UnderEntry
 pub mod Destroyed
+pub mod Ending
 pub mod Unmapped
 pub mod Cleared
 pub mod CutTable

@@ -1,9 +1,10 @@
 -- In which order a call writes the words of a pool. A unit that walks them where they lie reads them as they are at each moment.
-use Rattle.std.specs.Prelude.{◌≡◌, ◌⊎◌, ℕ, ◌+◌, ◌<◌, ◌≤◌, List, [], ◌∷◌, ◌++◌}
+use Rattle.std.specs.Prelude.{◌≡◌, ◌⊎◌, ℕ, ◌+◌, ◌<◌, ◌≤◌, Some, List, [], ◌∷◌, ◌++◌, All}
 use Rattle.tables.specs.declared.entries.TheConstants.{TABLE_ENTRIES}
 use Rattle.dmatypes.specs.World.{Target}
 use Rattle.vtdbits.specs.Translation.{target}
 use Rattle.vtdbits.specs.declared.entry.SsEntry.TheVariants.{LargeLeaf, Leaf, Table}
+use Rattle.tables.specs.Tree.{table_from}
 use Rattle.tables.specs.Pool.{Moment, Pool, memory, moment_of, occurs, word}
 
 -- a word that states a leaf of 2 MiB names a table in its place, which isn't free and states each page as the leaf does
@@ -35,3 +36,18 @@ pub record WritesInOrder (old new : Pool) : Type 0 where
   pub moments : List Moment
   pub trail : new.trail ≡ old.trail ++ moments
   pub through : GoesThrough (moment_of old) moments (moment_of new)
+
+-- what holds at each moment of a call
+pub record AtEachMoment (old new : Pool) (P : Moment → Type 0) : Type 0 where
+  pub moments : List Moment
+  pub trail : new.trail ≡ old.trail ++ moments
+  pub holds : All P moments
+
+-- no table that the tree still has below its root is free
+abbrev pub NamesNoneFree : Moment → ℕ → ℕ → Type 0
+NamesNoneFree m level root =
+    (page w table : ℕ) → w < level → table_from (memory m.words) level root page w ≡ Some table → occurs table m.free ≡ 0
+
+-- the moments of a tree's end: the word that names a table is cleared before the table is given back
+abbrev pub EndsInOrder : Pool → Pool → ℕ → ℕ → Type 0
+EndsInOrder old new level root = AtEachMoment old new (λ m. NamesNoneFree m level root)

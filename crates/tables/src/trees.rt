@@ -14,7 +14,7 @@ ghost use Rattle.tables.specs.Changes.{KeepsSpellings};
 ghost use Rattle.tables.specs.Spelled.{AreSpelled};
 ghost use Rattle.tables.specs.Segments.{AreSegments, is_large_at, one_segment};
 ghost use Rattle.tables.specs.Lacks.{frames_to_map, leaves_splitting};
-ghost use Rattle.tables.specs.Trail.{WritesInOrder};
+ghost use Rattle.tables.specs.Trail.{WritesInOrder, EndsInOrder};
 
 use crate::cut::Cut;
 use crate::entries::{TABLE_ENTRIES, find, table_at};
@@ -307,6 +307,7 @@ impl Tree {
             ≡ occurs f pool.old.free + uses (memory pool.old.words) (levels self.width) self.root f }
         ensures words { (f k : ℕ) → k < TABLE_ENTRIES → uses (memory pool.old.words) (levels self.width) self.root f ≡ 0
             → word pool.new.words f k ≡ word pool.old.words f k }
+        ensures order { EndsInOrder pool.old pool.new (levels self.width) self.root }
         ensures others { KeepsOthers pool.old pool.new (levels self.width) self.root }
         ensures size { pool.new.frames ≡ pool.old.frames }
         ensures pool { IsPool pool.new }

@@ -8,8 +8,9 @@ ghost use Rattle.vtdbits.specs.Entry.{look};
 ghost use Rattle.vtdbits.specs.Translation.{target};
 ghost use Rattle.tables.specs.Changes.{TakesAndGivesFrames, KeepsSpellings, UnmapsPages};
 ghost use Rattle.tables.specs.Lacks.{splits_leaf, leaves_splitting};
-ghost use Rattle.tables.specs.Trail.{WritesInOrder};
+ghost use Rattle.tables.specs.Trail.{WritesInOrder, AtEachMoment};
 ghost use Rattle.tables.specs.Under.{IsSplit, used_at};
+ghost use Rattle.tables.specs.Ending.{IsEnding, IsEndingUnder};
 ghost use Rattle.tables.specs.Extents.{WritesEntries, cut_of, was_split, extent_splits};
 
 use crate::cut::Cut;
@@ -231,6 +232,7 @@ pub(crate) fn take_down(pool: &mut Pool, level: u64, table: Frame)
     ensures free { (f : ℕ) → occurs f pool.new.free ≡ occurs f pool.old.free + uses (memory pool.old.words) level table f }
     ensures others { (f k : ℕ) → k < TABLE_ENTRIES → uses (memory pool.old.words) level table f ≡ 0
         → word pool.new.words f k ≡ word pool.old.words f k }
+    ensures moments { AtEachMoment pool.old pool.new (λ m. IsEnding pool.old m level table) }
     ensures frames { pool.new.frames ≡ pool.old.frames }
     ensures pool { IsPool pool.new }
 {
@@ -254,6 +256,7 @@ fn take_down_entry(pool: &mut Pool, level: u64, table: Frame, index: u64)
     ensures row { (k : ℕ) → k < TABLE_ENTRIES → k ≢ index → word pool.new.words table k ≡ word pool.old.words table k }
     ensures others { (f k : ℕ) → k < TABLE_ENTRIES → f ≢ table → used_at pool.old level table f index ≡ 0
         → word pool.new.words f k ≡ word pool.old.words f k }
+    ensures moments { AtEachMoment pool.old pool.new (λ m. IsEndingUnder pool.old m level table index) }
     ensures frames { pool.new.frames ≡ pool.old.frames }
     ensures pool { IsPool pool.new }
 {
@@ -261,22 +264,6 @@ fn take_down_entry(pool: &mut Pool, level: u64, table: Frame, index: u64)
     // The word goes first: a unit that walks the words where they lie must not meet a table that is free already.
     pool.write(table, index, 0);
     if let SsEntry::Table(below) = named {
-        take_down_below(pool, level - 1, below, table, index);
+        take_down(pool, level - 1, below);
     }
-}
-
-/// Takes down a table that an entry named, once the word of that entry is cleared.
-#[cycle(taking_down)]
-fn take_down_below(pool: &mut Pool, level: u64, below: Frame, _table: Frame, _index: u64)
-    requires low { 1 ≤ level }
-    requires high { level ≤ MOST_LEVELS }
-    requires cleared { word pool.old.words _table _index ≡ 0 }
-    requires tree { IsTree pool.old level below }
-    ensures free { (f : ℕ) → occurs f pool.new.free ≡ occurs f pool.old.free + uses (memory pool.old.words) level below f }
-    ensures others { (f k : ℕ) → k < TABLE_ENTRIES → uses (memory pool.old.words) level below f ≡ 0
-        → word pool.new.words f k ≡ word pool.old.words f k }
-    ensures frames { pool.new.frames ≡ pool.old.frames }
-    ensures pool { IsPool pool.new }
-{
-    take_down(pool, level, below);
 }

@@ -1,8 +1,9 @@
 -- One step of a walk, and of the count of frames.
-use Rattle.std.proofs.Common.{◌≡◌, ◌≢◌, ℕ, suc, ◌+◌, ◌*◌, ◌/◌, ◌%◌, ◌<◌, ◌≤◌, ◌⊎◌, inl, inr, cond, eqb, true, false, Option, Some, None}
-use Rattle.std.proofs.Common.{refl, sym, ap, ◌∙◌, arith, mul_comm}
+use Rattle.std.proofs.Common.{◌≡◌, ◌≢◌, ℕ, zero, suc, ◌+◌, ◌*◌, ◌/◌, ◌%◌, ◌<◌, ◌≤◌, ◌⊎◌, inl, inr, ⊎_elim, cond, eqb, true, false}
+use Rattle.std.proofs.Common.{Option, Some, None, refl, sym, ap, subst, ◌∙◌, arith, mul_comm}
 use Rattle.std.proofs.Math.Nat.{div-div-eq-div-mul, div-one}
 use Rattle.std.proofs.lemmas.Bool.Decides.{nat_tests, eqb_tells}
+use Rattle.std.proofs.lemmas.Option.{none-some, same_Some}
 use Rattle.dmatypes.specs.declared.page.TheConstants.{SPAN_PAGES}
 use Rattle.tables.specs.declared.entries.TheConstants.{TABLE_ENTRIES}
 use Rattle.vtdbits.specs.declared.entry.SsEntry.{SsEntry}
@@ -11,7 +12,8 @@ use Rattle.tables.specs.Under.{used_by_entry}
 use Rattle.tables.specs.Tree.{Memory, span, index_in, leaf_of, table_of, leaf_from, table_from, sum_below, one_if_same, entry_uses, uses}
 use Rattle.tables.proofs.sums.Firsts.{sum_below_part, sum_below_two, sum_below-none}
 use Rattle.tables.proofs.sums.OneFrame.{one_if_same-self}
-use Rattle.tables.proofs.walks.Onward.{IsBare, deeper}
+use Rattle.tables.proofs.walks.Onward.{IsBare, deeper, index_lt}
+use Rattle.tables.proofs.walks.Agreeing.{root_used, under}
 
 pub leaf-suc : (m : Memory) (l t p : ℕ) → leaf_from m (suc l) t p ≡ leaf_of (m (suc l) t (index_in l p)) l (λ c. leaf_from m l c p)
 unfolding leaf_from
@@ -75,6 +77,24 @@ child_use m l t f i inside = omega (arith, uses-suc m l t f, sum_below_part (use
 pub two_uses : (m : Memory) (l t f i j : ℕ) → i < TABLE_ENTRIES → j < TABLE_ENTRIES → j ≢ i
     → used_by_entry m l t f i + used_by_entry m l t f j ≤ uses m (suc l) t f
 two_uses m l t f i j a b ne = omega (arith, uses-suc m l t f, sum_below_two (used_by_entry m l t f) TABLE_ENTRIES i j a b ne)
+
+-- what a walk finds is used
+pub found_used : (m : Memory) (l t p w c : ℕ) → table_from m l t p w ≡ Some c → 0 < uses m l t c
+found_used m zero t p w c found = absurd (none-some c (sym (table-zero m t p w) ∙ found))
+found_used m (suc l) t p w c found =
+    ⊎_elim
+    (λ (top : w ≡ suc l). let same : t ≡ c = same_Some t c (sym (table_top m l t p w top) ∙ found) in
+    subst (λ f. 0 < uses m (suc l) t f) same (root_used m l t))
+    (λ (lower : w ≢ suc l). by_entry (λ b h. found_used m l b p w c h) (m (suc l) t (index_in l p)) refl
+    (sym (table_under m l t p w (m (suc l) t (index_in l p)) lower refl) ∙ found))
+    (same_or_not w (suc l))
+  where
+    by_entry : ((b : ℕ) → table_from m l b p w ≡ Some c → 0 < uses m l b c) → (e : SsEntry) → m (suc l) t (index_in l p) ≡ e
+        → table_of e (λ b. table_from m l b p w) ≡ Some c → 0 < uses m (suc l) t c
+    by_entry below Absent is h = absurd (none-some c h)
+    by_entry below (Table b) is h = under m l t (index_in l p) b c (index_lt l p) is (below b h)
+    by_entry below (Leaf s) is h = absurd (none-some c h)
+    by_entry below (LargeLeaf s) is h = absurd (none-some c h)
 
 -- a bare table uses itself alone
 pub uses-bare : (m : Memory) (l t f : ℕ) → IsBare m t → uses m (suc l) t f ≡ one_if_same t f

@@ -1,8 +1,11 @@
-use Rattle.std.proofs.Common.{◌+◌, ap, ◌∙◌}
+use Rattle.std.proofs.Common.{◌+◌, ap, subst, ◌∙◌}
 use Rattle.dmatypes.specs.Page.{levels}
 use Rattle.tables.specs.Pool.{memory, occurs}
 use Rattle.tables.specs.Tree.{uses}
+use Rattle.tables.specs.Ending.{IsEnding}
+use Rattle.tables.specs.Trail.{EndsInOrder, NamesNoneFree}
 use Rattle.tables.proofs.pools.Kept.{given_stays}
+use Rattle.tables.proofs.trails.Each.{moments_say}
 use Rattle.tables.proofs.trees.Tree.destroy.Goals as goal
 
 pub returns-clause-others : goal.returns-clause-others
@@ -12,3 +15,12 @@ returns-clause-others c level table tree apart =
     (λ f. c.take_down.ensures.free f ∙ ap (λ l. occurs f c.args.pool.now.free + uses m l c.args.self.root f) c.levels.ensures.exact)
     (λ f k less none. c.take_down.ensures.others f k less (ap (λ l. uses m l c.args.self.root f) c.levels.ensures.exact ∙ none))
     c.take_down.ensures.frames tree apart
+
+pub returns-clause-order : goal.returns-clause-order
+returns-clause-order c =
+    let old = c.args.pool.now in
+    let new = c.take_down.new.pool in
+    let root = c.args.self.root in
+    subst (λ l. EndsInOrder old new l root) c.levels.ensures.exact
+    (moments_say old new (λ m. IsEnding old m c.levels.result root) (λ m. NamesNoneFree m c.levels.result root) (λ m e. e.named)
+    c.take_down.ensures.moments)
