@@ -144,7 +144,7 @@ many (suc n) = omega (arith, length-append (frames_up n) (n ∷ []), many n)
 
 pub new_state : ℕ → Bool → State
 new_state frames caching = record {
-  pool = record { words = replicate (frames * TABLE_ENTRIES) 0; free = frames_up frames; frames = frames };
+  pool = record { words = replicate (frames * TABLE_ENTRIES) 0; free = frames_up frames; frames = frames; trail = [] };
   domains = replicate MOST_DOMAINS None;
   iommu = record {
     contexts = replicate DEVICES Absent;
