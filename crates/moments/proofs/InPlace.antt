@@ -72,7 +72,7 @@ joined u v w (inr e) (inl h) = inr (h ∙ e)
 joined u v w first (inr h) = inr h
 
 -- at the end
-pub ends : (m last : Moment) (ms : List Moment) (f k : ℕ) → GoesThrough m ms last → k < TABLE_ENTRIES → occurs f m.free ≡ 0
+pub ends : (m last : Moment) (ms : List Moment) (f k : ℕ) → GoesThrough GoesOn m ms last → k < TABLE_ENTRIES → occurs f m.free ≡ 0
     → IsSmall (word m.words f k) → (word last.words f k ≡ word m.words f k) ⊎ (word last.words f k ≡ 0)
 unfolding GoesThrough
 ends m last [] f k rest inside taken small = inl (ap (λ ws. word ws f k) rest.0)
@@ -87,7 +87,7 @@ StaysOrGoes m ms last j f k =
     (word (words_at m.words ms j) f k ≡ word m.words f k)
     ⊎ ((word (words_at m.words ms j) f k ≡ 0) × (word last.words f k ≡ 0))
 
-pub evolves : (m last : Moment) (ms : List Moment) (j f k : ℕ) → GoesThrough m ms last → k < TABLE_ENTRIES → occurs f m.free ≡ 0
+pub evolves : (m last : Moment) (ms : List Moment) (j f k : ℕ) → GoesThrough GoesOn m ms last → k < TABLE_ENTRIES → occurs f m.free ≡ 0
     → IsSmall (word m.words f k) → StaysOrGoes m ms last j f k
 unfolding GoesThrough words_at
 evolves m last [] j f k rest inside taken small = inl refl
@@ -113,7 +113,7 @@ pub record IsSplitBy (m : Moment) (ms : List Moment) (last : Moment) (j f k : �
   pub table : ℕ
   pub soon : since ≤ j
   pub same : (n : ℕ) → since ≤ n → words_at m.words ms n ≡ words_at named.words rest (n - since)
-  pub through : GoesThrough named rest last
+  pub through : GoesThrough GoesOn named rest last
   pub is : look 2 (word named.words f k) ≡ Table table
   pub frame : occurs f named.free ≡ 0
   pub taken : occurs table named.free ≡ 0
@@ -125,7 +125,7 @@ unfolding words_at
 one_on m n ns zero some = absurd (omega arith)
 one_on m n ns (suc j) some = let e : j ≡ suc j - 1 = omega arith in ap (words_at n.words ns) e
 
-pub splits : (m last : Moment) (ms : List Moment) (j f k : ℕ) (leaf : Target) → GoesThrough m ms last → k < TABLE_ENTRIES
+pub splits : (m last : Moment) (ms : List Moment) (j f k : ℕ) (leaf : Target) → GoesThrough GoesOn m ms last → k < TABLE_ENTRIES
     → occurs f m.free ≡ 0 → look 2 (word m.words f k) ≡ LargeLeaf leaf
     → StaysOrGoes m ms last j f k ⊎ IsSplitBy m ms last j f k leaf
 unfolding GoesThrough words_at memory
@@ -179,7 +179,7 @@ splits m last (n ∷ ns) (suc j) f k leaf on inside taken is =
 
 -- ---- the walk
 
-module _ (old : Pool) (last : Moment) (ms : List Moment) (through : GoesThrough (moment_of old) ms last) (t : ℕ → ℕ)
+module _ (old : Pool) (last : Moment) (ms : List Moment) (through : GoesThrough GoesOn (moment_of old) ms last) (t : ℕ → ℕ)
     (down : GoesDown t) where
   abbrev Seen : Memory
   Seen = in_place old.words ms t

@@ -1,3 +1,5 @@
 pub mod Made
+pub mod Through
 pub mod Steps
+pub mod Fills
 pub mod Each

@@ -22,20 +22,33 @@ pub record GoesOn (m n : Moment) : Type 0 where
   pub words : (f k : ℕ) → k < TABLE_ENTRIES → occurs f m.free ≡ 0
       → (word n.words f k ≡ word m.words f k) ⊎ ((word n.words f k ≡ 0) ⊎ IsNamed m n f k)
 
+-- From one moment to another no frame comes free, and a word changes only where it was 0. So none changes twice
+pub record FillsIn (m n : Moment) : Type 0 where
+  pub fewer : (f : ℕ) → occurs f n.free ≤ occurs f m.free
+  pub words : (f k : ℕ) → k < TABLE_ENTRIES → (word n.words f k ≡ word m.words f k) ⊎ (word m.words f k ≡ 0)
+
 -- no word changes, and no frame comes free
 abbrev pub Rests : Moment → Moment → Type 0
 Rests m n = (n.words ≡ m.words) × ((f : ℕ) → occurs f n.free ≤ occurs f m.free)
 
--- from one moment through these to a last one
-unfoldable pub GoesThrough : Moment → List Moment → Moment → Type 0
-GoesThrough m [] last = Rests m last
-GoesThrough m (next ∷ rest) last = GoesOn m next × GoesThrough next rest last
+-- from one moment through these to a last one, by steps
+unfoldable pub GoesThrough : (Moment → Moment → Type 0) → Moment → List Moment → Moment → Type 0
+GoesThrough Step m [] last = Rests m last
+GoesThrough Step m (next ∷ rest) last = Step m next × GoesThrough Step next rest last
 
--- the moments of a call, in the order in which it writes
-pub record WritesInOrder (old new : Pool) : Type 0 where
+-- the moments of a call, in the order in which it writes, each a step on from the one before
+pub record WritesBySteps (old new : Pool) (Step : Moment → Moment → Type 0) : Type 0 where
   pub moments : List Moment
   pub trail : new.trail ≡ old.trail ++ moments
-  pub through : GoesThrough (moment_of old) moments (moment_of new)
+  pub through : GoesThrough Step (moment_of old) moments (moment_of new)
+
+-- those of an unmap
+abbrev pub WritesInOrder : Pool → Pool → Type 0
+WritesInOrder old new = WritesBySteps old new GoesOn
+
+-- those of a map
+abbrev pub FillsInOrder : Pool → Pool → Type 0
+FillsInOrder old new = WritesBySteps old new FillsIn
 
 -- what holds at each moment of a call
 pub record AtEachMoment (old new : Pool) (P : Moment → Type 0) : Type 0 where

@@ -8,6 +8,8 @@ ghost use Rattle.dmatypes.specs.World.{placed};
 ghost use Rattle.tables.specs.Tree.{Memory, span, index_in, states, leaf_from, table_from};
 ghost use Rattle.tables.specs.Pool.{memory, moment_of, occurs, IsPool, IsTree, IsZeroed};
 ghost use Rattle.tables.specs.Changes.{TakesAndGivesFrames, KeepsSpellings, MapsPages, MakesTables};
+ghost use Rattle.tables.specs.Spelled.{AreSpelled};
+ghost use Rattle.tables.specs.Trail.{FillsInOrder};
 ghost use Rattle.tables.specs.Segments.{is_large_at, AreSegments};
 ghost use Rattle.tables.specs.Lacks.{lacks_table, tables_lacking, tables_lacking_at, frames_to_map, sum_spans};
 ghost use Rattle.tables.specs.Extents.{extent_states, is_large, WritesEntries, leaf_at};
@@ -49,6 +51,7 @@ fn add_table(pool: &mut Pool, level: u64, table: Frame, index: u64) -> Frame
     requires room { 0 < length pool.old.free }
     ensures moves { TakesAndGivesFrames pool.old pool.new level table [] }
     ensures spelled { KeepsSpellings pool.old pool.new level table }
+    ensures order { AreSpelled pool.old.words level table → FillsInOrder pool.old pool.new }
     ensures maps { (from to : ℕ) → from < to → index_in (level - 1) from ≡ index
         → MapsPages pool.old pool.new level table from to (states (memory pool.old.words) level table) }
     ensures leaves { (p : ℕ) → leaf_from (memory pool.new.words) level table p ≡ leaf_from (memory pool.old.words) level table p }
@@ -72,6 +75,7 @@ pub(crate) fn map_extent(pool: &mut Pool, level: u64, table: Frame, extent: &Ext
     requires room { tables_lacking_at (memory pool.old.words) level table (is_large extent.now) extent.now.from ≤ length pool.old.free }
     ensures moves { TakesAndGivesFrames pool.old pool.new level table [] }
     ensures spelled { KeepsSpellings pool.old pool.new level table }
+    ensures order { AreSpelled pool.old.words level table → FillsInOrder pool.old pool.new }
     ensures maps { MapsPages pool.old pool.new level table extent.now.from extent.now.to (extent_states extent.now) }
     ensures made { (w : ℕ) → 1 ≤ w → w < level → (w ≡ 1 → is_large extent.now ≡ false)
         → IsSome (table_from (memory pool.new.words) level table extent.now.from w) }
@@ -110,6 +114,7 @@ fn write_large(pool: &mut Pool, table: Frame, index: u64, extent: &Extent)
     requires large { is_large extent.now ≡ true }
     ensures moves { TakesAndGivesFrames pool.old pool.new 2 table [] }
     ensures spelled { KeepsSpellings pool.old pool.new 2 table }
+    ensures order { AreSpelled pool.old.words 2 table → FillsInOrder pool.old pool.new }
     ensures maps { MapsPages pool.old pool.new 2 table extent.now.from extent.now.to (extent_states extent.now) }
     ensures tables { (p w : ℕ) → table_from (memory pool.new.words) 2 table p w ≡ table_from (memory pool.old.words) 2 table p w }
     ensures free { pool.new.free ≡ pool.old.free }
@@ -241,6 +246,7 @@ fn map_extents(
     requires room { frames_to_map pool.old level root segments.now first ≤ length pool.old.free }
     ensures moves { TakesAndGivesFrames pool.old pool.new level root [] }
     ensures spelled { KeepsSpellings pool.old pool.new level root }
+    ensures order { AreSpelled pool.old.words level root → FillsInOrder pool.old pool.new }
     ensures maps { MapsPages pool.old pool.new level root first (first + total_pages segments.now)
         (placed segments.now first (bits_of rights)) }
     ensures makes { MakesTables pool.old pool.new level root first (first + total_pages segments.now) (is_large_at segments.now first) }
@@ -283,6 +289,7 @@ pub(crate) fn map_segments(
     ensures unchanged { OnErr result (pool.new ≡ pool.old) }
     ensures moves { TakesAndGivesFrames pool.old pool.new level root [] }
     ensures spelled { KeepsSpellings pool.old pool.new level root }
+    ensures order { AreSpelled pool.old.words level root → FillsInOrder pool.old pool.new }
     ensures maps { OnOk result
         (MapsPages pool.old pool.new level root first (first + total_pages segments.now) (placed segments.now first (bits_of rights))) }
     ensures makes { OnOk result

@@ -22,6 +22,8 @@ impl Model for Trail {
 // It owns nothing.
 unsafe impl Send for Trail {}
 
+unsafe impl Sync for Trail {}
+
 impl Trail {
     /// Of a pool that is new.
     pub(crate) fn new() -> Trail

@@ -14,7 +14,7 @@ ghost use Rattle.tables.specs.Changes.{KeepsSpellings};
 ghost use Rattle.tables.specs.Spelled.{AreSpelled};
 ghost use Rattle.tables.specs.Segments.{AreSegments, is_large_at, one_segment};
 ghost use Rattle.tables.specs.Lacks.{frames_to_map, leaves_splitting};
-ghost use Rattle.tables.specs.Trail.{WritesInOrder, EndsInOrder};
+ghost use Rattle.tables.specs.Trail.{FillsInOrder, WritesInOrder, EndsInOrder};
 
 use crate::cut::Cut;
 use crate::entries::{TABLE_ENTRIES, find, table_at};
@@ -124,6 +124,7 @@ impl Tree {
         ensures root { self.new ≡ self.old }
         ensures moves { TakesAndGivesFrames pool.old pool.new (levels self.old.width) self.old.root [] }
         ensures spelled { KeepsSpellings pool.old pool.new (levels self.old.width) self.old.root }
+        ensures order { AreSpelled pool.old.words (levels self.old.width) self.old.root → FillsInOrder pool.old pool.new }
         ensures maps { OnOk result (MapsPages pool.old pool.new (levels self.old.width) self.old.root range.first
             (range.first + range.pages)
             (λ p. Some (target (frame + (p - range.first)) (bits_of rights)))) }
@@ -170,6 +171,7 @@ impl Tree {
         ensures root { self.new ≡ self.old }
         ensures moves { TakesAndGivesFrames pool.old pool.new (levels self.old.width) self.old.root [] }
         ensures spelled { KeepsSpellings pool.old pool.new (levels self.old.width) self.old.root }
+        ensures order { AreSpelled pool.old.words (levels self.old.width) self.old.root → FillsInOrder pool.old pool.new }
         ensures maps { OnOk result (MapsPages pool.old pool.new (levels self.old.width) self.old.root start
             (start + total_pages segments.now)
             (placed segments.now start (bits_of rights))) }
@@ -214,6 +216,7 @@ impl Tree {
         ensures root { self.new ≡ self.old }
         ensures moves { TakesAndGivesFrames pool.old pool.new (levels self.old.width) self.old.root [] }
         ensures spelled { KeepsSpellings pool.old pool.new (levels self.old.width) self.old.root }
+        ensures order { AreSpelled pool.old.words (levels self.old.width) self.old.root → FillsInOrder pool.old pool.new }
         ensures maps { OnOk result (MapsPages pool.old pool.new (levels self.old.width) self.old.root start
             (start + total_pages segments.now)
             (placed segments.now start (bits_of rights))) }

@@ -1,14 +1,18 @@
 -- The words of a table spell its entries where they are 0, and where they did so and stay.
-use Rattle.std.proofs.Common.{◌≡◌, ℕ, zero, suc, ◌<◌, List, refl, sym, subst, ◌∙◌}
+use Rattle.std.proofs.Common.{◌≡◌, ℕ, zero, suc, ◌<◌, ◌%◌, List, None, refl, sym, ap, subst, ◌∙◌, arith}
+use Rattle.std.proofs.lemmas.Option.{none-some}
+use Rattle.dmatypes.specs.declared.page.TheConstants.{SPAN_PAGES}
 use Rattle.tables.specs.declared.entries.TheConstants.{TABLE_ENTRIES}
 use Rattle.vtdbits.specs.Entry.{Spells, look}
 use Rattle.vtdbits.specs.declared.entry.SsEntry.{SsEntry}
 use Rattle.vtdbits.specs.declared.entry.SsEntry.TheVariants.{Absent, Table, Leaf, LargeLeaf}
 use Rattle.vtdbits.proofs.Entries.{spelled_of-look}
-use Rattle.tables.specs.Tree.{uses}
+use Rattle.tables.specs.Tree.{index_in, leaf_from, uses}
 use Rattle.tables.specs.Pool.{word, memory, IsZeroed}
 use Rattle.tables.specs.Spelled.{AreSpelled}
 use Rattle.tables.proofs.walks.Agreeing.{root_used, under}
+use Rattle.tables.proofs.walks.Onward.{index_lt}
+use Rattle.tables.proofs.walks.Steps.{index-zero, leaf_under}
 use Rattle.tables.proofs.walks.Words.{memory_at, same_entry, zeroed_bare}
 
 -- a word of a table spells its entry, and so do those of the table that it names
@@ -24,6 +28,37 @@ to_spelled words l t h = h
 pub spelled_at : (words : List ℕ) (l t k : ℕ) → AreSpelled words (suc l) t → k < TABLE_ENTRIES → IsSpelledAt words l t k
 unfolding AreSpelled
 spelled_at words l t k s k_in = s k k_in
+
+-- the table that an entry names
+pub named_spelled : (words : List ℕ) (level l t k c : ℕ) → level ≡ suc l → AreSpelled words level t → k < TABLE_ENTRIES
+    → memory words level t k ≡ Table c → AreSpelled words l c
+named_spelled words level l t k c up s k_in names =
+    (spelled_at words l t k (subst (λ n. AreSpelled words n t) up s) k_in).1 c (subst (λ n. memory words n t k ≡ Table c) up names)
+
+-- where an entry is absent, its word is 0
+pub absent_blank : (words : List ℕ) (level l t k : ℕ) → level ≡ suc l → AreSpelled words level t → k < TABLE_ENTRIES
+    → memory words level t k ≡ Absent → word words t k ≡ 0
+absent_blank words level l t k up s k_in absent =
+    subst (λ e. Spells (suc l) (word words t k) e) (subst (λ n. memory words n t k ≡ Absent) up absent)
+    (spelled_at words l t k (subst (λ n. AreSpelled words n t) up s) k_in).0
+
+-- where a table of level 1 states nothing of a page, its word is 0
+pub page_blank : (words : List ℕ) (level t p : ℕ) → level ≡ 1 → AreSpelled words level t → leaf_from (memory words) level t p ≡ None
+    → word words t (p % SPAN_PAGES) ≡ 0
+page_blank words level t p up s none =
+    ap (word words t) (sym (index-zero p))
+    ∙ by_entry (memory words 1 t i) refl (subst (λ n. leaf_from (memory words) n t p ≡ None) up none)
+    (spelled_at words 0 t i (subst (λ n. AreSpelled words n t) up s) (index_lt 0 p)).0
+  where
+    i : ℕ
+    i = index_in 0 p
+
+    by_entry : (e : SsEntry) → memory words 1 t i ≡ e → leaf_from (memory words) 1 t p ≡ None → Spells 1 (word words t i) e
+        → word words t i ≡ 0
+    by_entry Absent is none h = h
+    by_entry (Table c) is none h = absurd (omega (arith, h.0))
+    by_entry (Leaf x) is none h = absurd (none-some _ (sym none ∙ leaf_under (memory words) 0 t p (Leaf x) is))
+    by_entry (LargeLeaf x) is none h = absurd (none-some _ (sym none ∙ leaf_under (memory words) 0 t p (LargeLeaf x) is))
 
 -- below a table of level 1 there is nothing
 pub nothing_below : (words : List ℕ) (t : ℕ) → AreSpelled words 0 t

@@ -1,20 +1,10 @@
--- Calls write in order: what one write owes, and two calls after each other.
-use Rattle.std.proofs.Common.{◌≡◌, inl, inr, ℕ, ◌+◌, ◌-◌, ◌<◌, ◌≤◌, List, [], ◌∷◌, ◌++◌, refl, ap, sym, ◌∙◌, ⊎_elim, append_assoc}
-use Rattle.std.proofs.Common.{append-nil, arith}
+-- An unmap writes in order: what one write owes, and two calls after each other.
+use Rattle.std.proofs.Common.{◌≡◌, inl, inr, ℕ, ◌+◌, ◌-◌, ◌<◌, ◌≤◌, [], ◌∷◌, ◌++◌, ap, sym, ◌∙◌, ⊎_elim, arith}
 use Rattle.std.proofs.lemmas.Bool.{cases_eq, cases_lt}
 use Rattle.tables.specs.declared.entries.TheConstants.{TABLE_ENTRIES}
 use Rattle.tables.specs.Pool.{IsWrite, KeepsOtherWords, Moment, Pool, moment_of, occurs, word}
-use Rattle.tables.specs.Trail.{GoesOn, GoesThrough, IsNamed, Rests, WritesInOrder}
-
--- nothing is written
-pub rests : (old new : Pool) → new.trail ≡ old.trail → Rests (moment_of old) (moment_of new) → WritesInOrder old new
-unfolding GoesThrough
-rests old new trail rest = record { moments = []; trail = trail ∙ sym (append-nil old.trail); through = rest }
-
--- one write
-pub writes : (old new : Pool) → new.trail ≡ old.trail ++ moment_of new ∷ [] → GoesOn (moment_of old) (moment_of new) → WritesInOrder old new
-unfolding GoesThrough
-writes old new trail on = record { moments = moment_of new ∷ []; trail = trail; through = (on, (refl, λ f. omega arith)) }
+use Rattle.tables.specs.Trail.{GoesOn, IsNamed, Rests, WritesInOrder}
+use Rattle.tables.proofs.trails.Through.{one_step, steps_after}
 
 -- what rests first goes on as well
 rests_first : (l m n : Moment) → Rests l m → GoesOn m n → GoesOn l n
@@ -35,25 +25,14 @@ rests_first l m n rest on = record {
       (on.words f k k_in (omega (arith, rest.1 f)));
 }
 
-goes_on : (l m n : Moment) (before after : List Moment) → GoesThrough l before m → GoesThrough m after n → GoesThrough l (before ++ after) n
-unfolding GoesThrough
-goes_on l m n [] [] rest then = (then.0 ∙ rest.0, λ f. omega (arith, rest.1 f, then.1 f))
-goes_on l m n [] (x ∷ xs) rest then = (rests_first l m x rest then.0, then.1)
-goes_on l m n (x ∷ xs) after first then = (first.0, goes_on x m n xs after first.1 then)
-
 -- one call after another
 pub after : (old between new : Pool) → WritesInOrder old between → WritesInOrder between new → WritesInOrder old new
-after old between new first second = record {
-  moments = first.moments ++ second.moments;
-  trail = second.trail ∙ ap (λ ms. ms ++ second.moments) first.trail ∙ append_assoc old.trail first.moments second.moments;
-  through =
-      goes_on (moment_of old) (moment_of between) (moment_of new) first.moments second.moments first.through second.through;
-}
+after = steps_after GoesOn rests_first
 
 -- a word is cleared
 pub clears_word : (old new : Pool) (t i : ℕ) → new.trail ≡ old.trail ++ moment_of new ∷ [] → new.free ≡ old.free
     → IsWrite old.words new.words t i 0 → WritesInOrder old new
-clears_word old new t i trail free write = writes old new trail (record {
+clears_word old new t i trail free write = one_step GoesOn old new trail (record {
   fewer = λ f. omega (arith, ap (occurs f) free);
   words = λ f k k_in none.
       ⊎_elim
@@ -68,7 +47,7 @@ clears_word old new t i trail free write = writes old new trail (record {
 -- words of a table are cleared
 pub clears_words : (old new : Pool) (t from count : ℕ) → new.trail ≡ old.trail ++ moment_of new ∷ [] → new.free ≡ old.free
     → KeepsOtherWords old.words new.words t from count → ((k : ℕ) → k < count → word new.words t (from + k) ≡ 0) → WritesInOrder old new
-clears_words old new t from count trail free rest cleared = writes old new trail (record {
+clears_words old new t from count trail free rest cleared = one_step GoesOn old new trail (record {
   fewer = λ f. omega (arith, ap (occurs f) free);
   words = λ f k k_in none.
       ⊎_elim
@@ -89,7 +68,7 @@ clears_words old new t from count trail free rest cleared = writes old new trail
 pub fills : (old new : Pool) (t : ℕ) → new.trail ≡ old.trail ++ moment_of new ∷ [] → ((f : ℕ) → occurs f new.free ≤ occurs f old.free)
     → 0 < occurs t old.free → ((f k : ℕ) → k < TABLE_ENTRIES → (f ≡ t → ⊥) → word new.words f k ≡ word old.words f k)
     → WritesInOrder old new
-fills old new t trail fewer was rest = writes old new trail (record {
+fills old new t trail fewer was rest = one_step GoesOn old new trail (record {
   fewer = fewer;
   words = λ f k k_in none. inl (rest f k k_in (λ e. let same : occurs f old.free ≡ occurs t old.free = ap (λ x. occurs x old.free) e in
       omega arith));
@@ -98,7 +77,7 @@ fills old new t trail fewer was rest = writes old new trail (record {
 -- a table is named in the place of a leaf
 pub names : (old new : Pool) (t i value : ℕ) → new.trail ≡ old.trail ++ moment_of new ∷ [] → new.free ≡ old.free
     → IsWrite old.words new.words t i value → IsNamed (moment_of old) (moment_of new) t i → WritesInOrder old new
-names old new t i value trail free write named = writes old new trail (record {
+names old new t i value trail free write named = one_step GoesOn old new trail (record {
   fewer = λ f. omega (arith, ap (occurs f) free);
   words = λ f k k_in none.
       ⊎_elim

@@ -16,7 +16,9 @@ use Rattle.tables.proofs.maps.Mapped.{maps_over, moves_then}
 use Rattle.tables.proofs.maps.Runs.{run_moves, run_maps}
 use Rattle.tables.proofs.unmaps.UnderEntry.{moved_tree}
 use Rattle.tables.proofs.spelled.Runs.{run_spelled}
+use Rattle.tables.proofs.spelled.Stays.{named_spelled, page_blank}
 use Rattle.tables.proofs.spelled.UnderEntry.{through_spelled}
+use Rattle.tables.proofs.trails.Fills.{fills_after, fills_run}
 use Rattle.tables.proofs.walks.Words.{zeroed_bare}
 use Rattle.tables.proofs.mapping.+map_extent.Goals as goal
 use Rattle.tables.proofs.mapping.+map_extent.Goals.{After-add_table-below, After-map_extent-else-level-eq2}
@@ -342,3 +344,23 @@ returns-else-level-eq2-clause-count t c =
     count_through n c.args.level l c.args.table c.index_of-index.result c.add_table-below.result c.args.extent.now.from
     (is_large c.args.extent.now) (omega arith) some c.index_of-index.ensures.exact c.add_table-below.ensures.names in
     omega (arith, added, below, c.add_table-below.ensures.count, c.map_extent-else-level-eq2.ensures.count)
+
+-- in which order
+pub returns-then-level-eq1-clause-order : goal.returns-then-level-eq1-clause-order
+returns-then-level-eq1-clause-order t c s =
+    fills_run c.args.pool.now c.write_run.new.pool c.args.table c.args.extent.now.from c.args.extent.now.to _ c.write_run.ensures.trail
+    c.write_run.ensures.free c.write_run.ensures.run c.args.extent.now.one_span (λ p low high.
+    page_blank c.args.pool.now.words c.args.level c.args.table p c.if-level-eq1.true s (c.requires.absent p low high))
+
+pub returns-in-Table-clause-order : goal.returns-in-Table-clause-order
+returns-in-Table-clause-order t c s =
+    c.map_extent.ensures.order (named_spelled c.args.pool.now.words c.args.level (c.args.level - 1) c.args.table c.index_of-index.result
+    c.in-Table.below (omega arith) s c.index_of-index.ensures.inside c.in-Table.ensures.is)
+
+pub returns-else-level-eq2-clause-order : goal.returns-else-level-eq2-clause-order
+returns-else-level-eq2-clause-order t c s =
+    let mid = c.add_table-below.new.pool in
+    fills_after c.args.pool.now mid c.map_extent-else-level-eq2.new.pool (c.add_table-below.ensures.order s)
+    (c.map_extent-else-level-eq2.ensures.order (named_spelled mid.words c.args.level (c.args.level - 1) c.args.table
+    c.index_of-index.result c.add_table-below.result (omega arith) (c.add_table-below.ensures.spelled s)
+    c.index_of-index.ensures.inside c.add_table-below.ensures.names))

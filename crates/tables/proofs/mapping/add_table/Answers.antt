@@ -1,6 +1,9 @@
-use Rattle.std.proofs.Common.{◌≡◌, ◌-◌, suc, sym, subst, arith}
+use Rattle.std.proofs.Common.{◌≡◌, ◌-◌, suc, [], ◌∷◌, ◌++◌, sym, ap, subst, ◌∙◌, arith}
 use Rattle.tables.specs.Tree.{index_in}
+use Rattle.tables.specs.Pool.{IsWrite, moment_of, occurs}
 use Rattle.tables.proofs.maps.AddedTable.{AddsTable, adds_table}
+use Rattle.tables.proofs.spelled.Stays.{absent_blank}
+use Rattle.tables.proofs.trails.Fills.{fills_word}
 use Rattle.tables.proofs.walks.Levels.{root_in_level, root_taken_level}
 use Rattle.tables.proofs.mapping.add_table.Goals as goal
 use Rattle.tables.proofs.mapping.add_table.Goals.{After-write}
@@ -48,3 +51,13 @@ returns-clause-maps c from to some is =
 
 pub returns-clause-spelled : goal.returns-clause-spelled
 returns-clause-spelled c = (added (goal.at.returns-clause-spelled c).After-write).spelled
+
+pub returns-clause-order : goal.returns-clause-order
+returns-clause-order c s =
+    fills_word c.args.pool.now c.write.new.self c.args.table c.args.index c.encode.result
+    (c.write.ensures.trail ∙ ap (λ ms. ms ++ moment_of c.write.new.self ∷ []) c.take-below.ensures.trail)
+    (λ f. omega (arith, ap (occurs f) c.write.ensures.free, c.take-below.ensures.free f))
+    (subst (λ ws. IsWrite ws c.write.new.self.words c.args.table c.args.index c.encode.result) c.take-below.ensures.words
+    c.write.ensures.wrote)
+    (absent_blank c.args.pool.now.words c.args.level (c.args.level - 1) c.args.table c.args.index (omega arith) s c.requires.index
+    c.requires.absent)

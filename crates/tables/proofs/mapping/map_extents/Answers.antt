@@ -16,6 +16,7 @@ use Rattle.tables.proofs.counts.ByExtents.{Placed, lacks_least, lacks_step, lack
 use Rattle.tables.proofs.maps.LargeExtents.{small_extent, short_extent}
 use Rattle.tables.proofs.maps.TablesMade.{no_makes, makes_then}
 use Rattle.tables.proofs.maps.Mapped.{no_moves, no_maps, moves_then, maps_then, maps_said}
+use Rattle.tables.proofs.trails.Fills.{fills_after, no_fill}
 use Rattle.tables.proofs.walks.Near.{span_pos}
 use Rattle.tables.proofs.sums.OverSpans.{div_mono}
 use Rattle.tables.proofs.maps.Placed.{none_passed, not_large, rest_below, still_passed}
@@ -49,6 +50,7 @@ loop-extent-init c = record {
   high = omega arith;
   moves = no_moves c.args.pool.now c.args.level c.args.root;
   spelled = λ s. s;
+  order = λ s. no_fill c.args.pool.now;
   maps = no_maps c.args.pool.now c.args.level c.args.root c.args.first (placed c.args.segments.now c.args.first (bits_of c.args.rights));
   count = refl;
   inner =
@@ -131,6 +133,9 @@ loop-extent-preserved c =
       high = far;
       moves = moves_then c.args.pool.now cur new c.args.level c.args.root [] [] c.loop-extent.invariant.moves c.map_extent.ensures.moves;
       spelled = λ s. c.map_extent.ensures.spelled (c.loop-extent.invariant.spelled s);
+      order = λ s.
+          fills_after c.args.pool.now cur new (c.loop-extent.invariant.order s)
+          (c.map_extent.ensures.order (c.loop-extent.invariant.spelled s));
       maps =
           maps_then c.args.pool.now cur new c.args.level c.args.root c.args.first x.from x.to says_it near some
           (λ p low high. wide p low (omega arith)) c.loop-extent.invariant.moves before

@@ -6,6 +6,8 @@ use Rattle.dmatypes.specs.World.{placed}
 use Rattle.tables.specs.Pool.{memory, IsPool}
 use Rattle.tables.specs.Changes.{TakesAndGivesFrames, KeepsSpellings, MapsPages, MakesTables}
 use Rattle.tables.specs.Segments.{ArePassed, is_large_at}
+use Rattle.tables.specs.Spelled.{AreSpelled}
+use Rattle.tables.specs.Trail.{FillsInOrder}
 use Rattle.tables.specs.Lacks.{tables_lacking, frames_to_map}
 use Rattle.tables.proofs.mapping.map_extents.Given as goal
 
@@ -15,6 +17,7 @@ invariant-loop-extent l = record {
   high : l.place ≤ l.first + total_pages l.segments;
   moves : TakesAndGivesFrames l.initial.pool l.pool l.level l.root [];
   spelled : KeepsSpellings l.initial.pool l.pool l.level l.root;
+  order : AreSpelled l.initial.pool.words l.level l.root → FillsInOrder l.initial.pool l.pool;
   maps : MapsPages l.initial.pool l.pool l.level l.root l.first l.place (placed l.segments l.first (bits_of l.rights));
   count : length l.pool.free + frames_to_map l.initial.pool l.level l.root l.segments l.first
       ≡ length l.initial.pool.free

@@ -8,9 +8,11 @@ use Rattle.dmatypes.specs.Rights.{bits_of}
 use Rattle.tables.specs.Changes.{TakesAndGivesFrames, KeepsSpellings, MapsPages}
 use Rattle.tables.specs.Extents.{extent_states}
 use Rattle.tables.specs.Tree.{table_from}
-use Rattle.tables.specs.Pool.{memory}
+use Rattle.tables.specs.Pool.{memory, occurs}
 use Rattle.tables.proofs.maps.Large.{large_maps}
 use Rattle.tables.proofs.maps.LargeExtents.{large_from}
+use Rattle.tables.proofs.spelled.Stays.{absent_blank}
+use Rattle.tables.proofs.trails.Fills.{fills_word}
 use Rattle.tables.proofs.unmaps.UnderEntry.{root_in, root_taken}
 use Rattle.tables.proofs.walks.Words.{memory_at}
 use Rattle.tables.proofs.walks.Onward.{index_lt}
@@ -22,6 +24,13 @@ write-requires-clause-frame c = root_in c.args.pool.now 1 c.args.table c.require
 
 pub write-requires-clause-taken : goal.write-requires-clause-taken
 write-requires-clause-taken c = root_taken c.args.pool.now 1 c.args.table c.requires.tree
+
+pub returns-clause-order : goal.returns-clause-order
+returns-clause-order c s =
+    let inside : c.args.index < TABLE_ENTRIES = omega (arith, index_lt 1 c.args.extent.now.from, c.requires.index) in
+    fills_word c.args.pool.now c.write.new.self c.args.table c.args.index c.encode.result c.write.ensures.trail
+    (λ f. omega (arith, ap (occurs f) c.write.ensures.free)) c.write.ensures.wrote
+    (absent_blank c.args.pool.now.words 2 1 c.args.table c.args.index refl s inside c.requires.absent)
 
 -- what the one word that was written changed
 written : (c : After-write)

@@ -12,7 +12,9 @@ use Rattle.tables.proofs.walks.Near.{span_pos}
 use Rattle.tables.proofs.walks.Sizes.{leaf_ahead, extent_is}
 use Rattle.tables.proofs.sums.OverSpans.{div_mono, split_so_far, split_so_far-start, split_so_far-step, split_so_far-end, split_so_far-most}
 use Rattle.tables.proofs.unmaps.Unmapped.{no_unmaps, unmaps_then}
-use Rattle.tables.proofs.trails.Steps.{after, rests}
+use Rattle.tables.specs.Trail.{GoesOn}
+use Rattle.tables.proofs.trails.Steps.{after}
+use Rattle.tables.proofs.trails.Through.{no_step}
 use Rattle.tables.proofs.unmapping.unmap_extents.Goals as goal
 use Rattle.tables.proofs.unmapping.unmap_extents.Goals.{After-min-next}
 
@@ -77,7 +79,7 @@ loop-place-init c = record {
   split = λ e. absurd (true_false (sym e ∙ c.none-cut.ensures.split));
   none = λ e. split_so_far-start c.args.pool.now c.args.level c.args.root c.args.from c.args.to;
   pool = λ lt. absurd (omega (arith, lt));
-  order = rests c.args.pool.now c.args.pool.now refl (refl, λ f. omega arith);
+  order = no_step GoesOn c.args.pool.now c.args.pool.now refl (refl, λ f. omega arith);
 }
 
 -- what was there is there yet

@@ -1,0 +1,37 @@
+-- Calls write by steps, whatever a step keeps: what one write owes, and two calls after each other.
+use Rattle.std.proofs.Common.{◌≡◌, List, [], ◌∷◌, ◌++◌, refl, ap, sym, ◌∙◌, append_assoc, append-nil, arith}
+use Rattle.tables.specs.Pool.{Moment, Pool, moment_of}
+use Rattle.tables.specs.Trail.{GoesThrough, Rests, WritesBySteps}
+
+-- what rests first makes the step as well
+abbrev pub MayRestFirst : (Moment → Moment → Type 0) → Type 0
+MayRestFirst Step = (l m n : Moment) → Rests l m → Step m n → Step l n
+
+-- nothing is written
+pub no_step : (Step : Moment → Moment → Type 0) (old new : Pool) → new.trail ≡ old.trail → Rests (moment_of old) (moment_of new)
+    → WritesBySteps old new Step
+unfolding GoesThrough
+no_step Step old new trail rest = record { moments = []; trail = trail ∙ sym (append-nil old.trail); through = rest }
+
+-- one write
+pub one_step : (Step : Moment → Moment → Type 0) (old new : Pool) → new.trail ≡ old.trail ++ moment_of new ∷ []
+    → Step (moment_of old) (moment_of new) → WritesBySteps old new Step
+unfolding GoesThrough
+one_step Step old new trail on = record { moments = moment_of new ∷ []; trail = trail; through = (on, (refl, λ f. omega arith)) }
+
+goes_on : (Step : Moment → Moment → Type 0) → MayRestFirst Step → (l m n : Moment) (before after : List Moment)
+    → GoesThrough Step l before m → GoesThrough Step m after n → GoesThrough Step l (before ++ after) n
+unfolding GoesThrough
+goes_on Step may l m n [] [] rest then = (then.0 ∙ rest.0, λ f. omega (arith, rest.1 f, then.1 f))
+goes_on Step may l m n [] (x ∷ xs) rest then = (may l m x rest then.0, then.1)
+goes_on Step may l m n (x ∷ xs) after first then = (first.0, goes_on Step may x m n xs after first.1 then)
+
+-- one call after another
+pub steps_after : (Step : Moment → Moment → Type 0) → MayRestFirst Step → (old between new : Pool) → WritesBySteps old between Step
+    → WritesBySteps between new Step → WritesBySteps old new Step
+steps_after Step may old between new first second = record {
+  moments = first.moments ++ second.moments;
+  trail = second.trail ∙ ap (λ ms. ms ++ second.moments) first.trail ∙ append_assoc old.trail first.moments second.moments;
+  through =
+      goes_on Step may (moment_of old) (moment_of between) (moment_of new) first.moments second.moments first.through second.through;
+}
