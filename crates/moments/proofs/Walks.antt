@@ -32,7 +32,7 @@ pub near : (w : Width) (range : Range) (page : ℕ) → IsBelowEnd range w → p
 near w range page below small = one_span w page small ∙ sym (one_span w range.first (omega (arith, below.0, below.1)))
 
 -- what a root states is by its width alone
-by_width : (w : Width) (a b c : Memory) (root page : ℕ)
+pub by_width : (w : Width) (a b c : Memory) (root page : ℕ)
     → (page < pages_end w → (leaf_from a (levels w) root page ≡ leaf_from b (levels w) root page)
     ⊎ (leaf_from a (levels w) root page ≡ leaf_from c (levels w) root page))
     → (root_states a w root page ≡ root_states b w root page) ⊎ (root_states a w root page ≡ root_states c w root page)

@@ -6,7 +6,7 @@ use Rattle.dmatypes.specs.declared.width.Width.{Width}
 use Rattle.vtdbits.specs.declared.entry.SsEntry.TheVariants.{LargeLeaf, Table}
 use Rattle.tables.specs.Tree.{index_in, root_states, table_from}
 use Rattle.tables.specs.Pool.{IsTree, Pool, memory}
-use Rattle.tables.specs.Trail.{WritesInOrder}
+use Rattle.tables.specs.Trail.{FillsInOrder, WritesInOrder}
 use Rattle.tables.specs.Changes.{IsApart, TakesAndGivesFrames}
 use Rattle.tables.specs.Spelled.{AreSpelled}
 use Rattle.moments.specs.Moments.{FillsFirst, GoesDown, IsDestroyed, IsFilledFirst, IsMap, IsOldOrAbsent, IsOldOrNew, IsUnmap, Place}
@@ -28,6 +28,17 @@ UnmapsAreOldOrNew =
     → IsUnmap old new width root range cut
     → IsFilledFirst old.words new.words reached
     → IsOldOrNew old.words new.words reached width root page
+
+-- A walk that reads the words where they lie while a map writes them, each level at a moment of its own, finds each page as before the
+-- map or as after it. The order in which it writes is that of `Tree`'s maps. No order is asked of the moments: a level may be read sooner
+-- than the level above.
+abbrev pub MapsInPlaceAreOldOrNew : Type 0
+MapsInPlaceAreOldOrNew =
+    (old new : Pool) (order : FillsInOrder old new) (width : Width) (root : ℕ) (range : Range) (says : ℕ → Option Target)
+    (moment : ℕ → ℕ) (page : ℕ)
+    → IsMap old new width root range says
+    → (root_states (in_place old.words order.moments moment) width root page ≡ root_states (memory old.words) width root page)
+    ⊎ (root_states (in_place old.words order.moments moment) width root page ≡ root_states (memory new.words) width root page)
 
 -- A walk that reads the words where they lie while an unmap writes them, each level at a moment no sooner than that of the level above,
 -- finds each page as before the unmap or as after it. The order in which it writes is `Tree::unmap`'s.

@@ -3,8 +3,8 @@
 //! proof is from the public contracts of `tables` alone.
 #![tactic(auto)]
 
-ghost use Rattle.moments.specs.Laws.{DestroysAreOldOrAbsent, MapsAreOldOrNew, OneOrderMatters, OneOrderSuffices, OthersAreSteady};
-ghost use Rattle.moments.specs.Laws.{UnmapsAreOldOrNew, UnmapsInPlaceAreOldOrNew, WordsReadAreSpelled};
+ghost use Rattle.moments.specs.Laws.{DestroysAreOldOrAbsent, MapsAreOldOrNew, MapsInPlaceAreOldOrNew, OneOrderMatters, OneOrderSuffices};
+ghost use Rattle.moments.specs.Laws.{OthersAreSteady, UnmapsAreOldOrNew, UnmapsInPlaceAreOldOrNew, WordsReadAreSpelled};
 
 /// Whatever words of a map have reached memory, each page is found as before it or as after it.
 pub fn maps_are_old_or_new()
@@ -15,6 +15,12 @@ pub fn maps_are_old_or_new()
 /// takes the place of a leaf of 2 MiB is written before the word that names it.
 pub fn unmaps_are_old_or_new()
     ensures { UnmapsAreOldOrNew }
+{}
+
+/// A walk that reads the words where they lie while a map writes them, each level at any moment, finds each page as before it or as
+/// after it.
+pub fn maps_in_place_are_old_or_new()
+    ensures { MapsInPlaceAreOldOrNew }
 {}
 
 /// A walk that reads the words where they lie while an unmap writes them, each level no sooner than the level above, finds each page as
