@@ -51,8 +51,8 @@
  * asked for by one malloc of VTDM_PAGE_BYTES times the frames and written whole before a creation returns. Those of frame F begin
  * F * VTDM_PAGE_BYTES bytes after those of frame 0, where the block begins. So an allocator that puts this block at host address 0
  * lets a unit walk the tables in place, where the base is 0 (see *A unit of your own*). Contracts say that the words of one frame lie one
- * after the other, and that whoever walks them during an unmap finds each page as before it or as after it. Three more things are how the
- * code is. The frames lie so. A word is stored at once. A map stores each word once.
+ * after the other, and that whoever walks them during a map or an unmap finds each page as before it or as after it. Two more things are
+ * how the code is. The frames lie so. A word is stored at once.
  *
  * IT DOES NOT WEAR OUT. A manager answers VTDM_CALLS_END calls, 2^56, and VTDM_SPENT to each further one, since its counts have 64
  * bits. Nobody gets there: at a billion calls a second it takes more than two years. Readers are not counted; vtdm_detach_all counts
@@ -354,7 +354,7 @@ struct vtdm_answer vtdm_width_of(struct vtdm *manager, uint64_t domain);
  *
  * WHAT IS PROVED, of a unit that does what docs/PROVED.md takes for granted (crates/moments, crates/quiet, crates/driven). The effects
  * bring each word and each context entry that the call has changed, and send all its descriptors in their order. Whatever of them has
- * reached memory, the unit finds each page as before the call or as after it; in place, so during an unmap (MEMORY). After the last of
+ * reached memory, the unit finds each page as before the call or as after it; in place, so during a map or an unmap (MEMORY). After the last of
  * them it has nothing cached of what the call set free. That you do what they ask is yours, and so is the order of a context entry's
  * words. */
 
